@@ -1,0 +1,11 @@
+pub mod Answer
+pub mod Branch
+pub mod Bytes
+pub mod Call
+pub mod Code
+pub mod HeldBranch
+pub mod Refusal
+pub mod Standing
+pub mod StateTable
+pub mod Xid
+pub mod XidText

@@ -1,0 +1,64 @@
+-- Identifiers of transaction branches.
+use Rattle.std.specs.Prelude.{◌≡◌, ℕ, ◌&&◌, ◌++◌, codes, nat_eq, nat_le, Bool, if◌then◌else◌, ℤ, List, length, Result, Ok, Err, negsuc, FitsSigned}
+use Rattle.std.specs.Fmt.{signed_decimal}
+use Rattle.std.specs.Int.{w32}
+use Rattle.hex.specs.Hex.{IsBytes, encode_lower}
+use Rattle.std.specs.declared.cmp.Ordering.{Ordering}
+use Rattle.std.specs.Ordering.{int_eq, int_cmp, nat_cmp, on, then_cmp, eq_by_cmp, eq_of_both}
+use Rattle.std.specs.Cmp.{IsEquivalence, and_equiv, on_equiv, int_eq_equiv}
+use Rattle.std.specs.Cmp.Lexicographic.{slice_cmp, pointwise, nat_list_eq_equiv}
+use Rattle.xa_base.specs.declared.fault.XidFault.{XidFault}
+use Rattle.xa_base.specs.declared.fault.XidFault.TheVariants.{NullFormat, GtridLength, BqualLength}
+
+-- a format number, a global transaction's identifier and a branch qualifier
+pub record Xid : Type 0 where
+  pub format : ℤ
+  pub gtrid : List ℕ
+  pub bqual : List ℕ
+
+-- the format of the null identifier
+abbrev pub null_format : ℤ
+null_format = negsuc 0
+
+-- whether either part has an allowed length
+abbrev pub has_part_length : List ℕ → Bool
+has_part_length part = nat_le 1 (length part) && nat_le (length part) 64
+
+-- an identifier of these parts, or the first fault that they have
+abbrev pub xid_of : ℤ → List ℕ → List ℕ → Result Xid XidFault
+xid_of format gtrid bqual =
+    if int_eq format null_format then Err NullFormat
+    else if has_part_length gtrid then if has_part_length bqual then Ok (record { format = format; gtrid = gtrid; bqual = bqual }) else Err BqualLength
+    else Err GtridLength
+
+-- the parts are numbers of their types
+pub record IsInRange (x : Xid) : Type 0 where
+  pub format : FitsSigned w32 x.format
+  pub gtrid : IsBytes x.gtrid
+  pub bqual : IsBytes x.bqual
+
+-- the parts are those of an identifier
+pub record IsXid (x : Xid) : Type 0 where
+  pub in_range : IsInRange x
+  pub faultless : xid_of x.format x.gtrid x.bqual ≡ Ok x
+
+-- the text of parts: the format in decimal, and the bytes of each part in lower case hexadecimal
+abbrev pub text_of : Xid → List ℕ
+text_of x = signed_decimal x.format ++ codes ":" ++ encode_lower x.gtrid ++ codes ":" ++ encode_lower x.bqual
+
+-- the order of identifiers: by format, then by the bytes of either part
+abbrev pub xid_cmp : Xid → Xid → Ordering
+xid_cmp = then_cmp (on (λ x. x.format) int_cmp) (then_cmp (on (λ x. x.gtrid) (slice_cmp nat_cmp)) (on (λ x. x.bqual) (slice_cmp nat_cmp)))
+
+-- whether two identifiers have the same parts
+abbrev pub same_parts : Xid → Xid → Bool
+same_parts = eq_of_both (on (λ x. x.format) int_eq) (eq_of_both (on (λ x. x.gtrid) (pointwise nat_eq)) (on (λ x. x.bqual) (pointwise nat_eq)))
+
+pub same_parts_equiv : IsEquivalence same_parts
+same_parts_equiv =
+    and_equiv (on_equiv (λ (x : Xid). x.format) int_eq_equiv)
+    (and_equiv (on_equiv (λ (x : Xid). x.gtrid) nat_list_eq_equiv) (on_equiv (λ (x : Xid). x.bqual) nat_list_eq_equiv))
+
+-- whether two identifiers are the same
+abbrev pub xid_eq : Xid → Xid → Bool
+xid_eq = eq_by_cmp xid_cmp

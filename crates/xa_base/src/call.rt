@@ -1,0 +1,179 @@
+//! Calls to a resource manager and its answers.
+ghost use Rattle.std.specs.Prelude.{◌≡◌, Ok, IfOk, IfErr};
+ghost use Rattle.std.specs.Option.{option_copied};
+ghost use Rattle.xa_base.specs.declared.code.Code.TheVariants.{Invalid};
+
+use crate::flags::WHOLE_SCAN;
+use crate::{
+    Code, TMENDRSCAN, TMFAIL, TMJOIN, TMNOFLAGS, TMONEPHASE, TMSTARTRSCAN, TMSUCCESS, Xid,
+};
+
+/// A call to a resource manager.
+#[derive(PartialEq, Eq, Debug, Drop)]
+pub enum Call {
+    OpenRm,
+    CloseRm,
+    Start {
+        xid: Xid,
+        join: bool,
+    },
+    End {
+        xid: Xid,
+        fail: bool,
+    },
+    Prepare {
+        xid: Xid,
+    },
+    Commit {
+        xid: Xid,
+        one_phase: bool,
+    },
+    Rollback {
+        xid: Xid,
+    },
+    Forget {
+        xid: Xid,
+    },
+    Recover {
+        count: i64,
+        start_scan: bool,
+        end_scan: bool,
+    },
+}
+
+/// Which call it is.
+#[derive(Clone, Copy, Debug, PartialEq, Eq)]
+pub enum CallKind {
+    OpenRm,
+    CloseRm,
+    Start,
+    End,
+    Prepare,
+    Commit,
+    Rollback,
+    Forget,
+    Recover,
+}
+
+impl Call {
+    ghost use Rattle.xa_base.specs.Call.{IsCallOf, flags_of, xid_in, kind_of};
+    ghost use Rattle.xa_base.specs.declared.call.Call.{Call};
+
+    /// The call of these parts. It is refused where the kind of call takes no such flags, or must or can't have an identifier or a count.
+    pub fn of(
+        kind: CallKind,
+        xid: Option<Xid>,
+        flags: u32,
+        count: Option<i64>,
+    ) -> Result<Call, Code>
+        ensures inverse { (call : Call) → IsCallOf kind xid flags count call → result ≡ Ok call }
+        ensures made { IfOk result (IsCallOf kind xid flags count) }
+        ensures refused { IfErr result (λ code. code ≡ Invalid) }
+    {
+        let call = match (kind, xid, count) {
+            (CallKind::OpenRm, None, None) => Call::OpenRm,
+            (CallKind::CloseRm, None, None) => Call::CloseRm,
+            (CallKind::Start, Some(xid), None) => Call::Start {
+                xid,
+                join: flags == TMJOIN,
+            },
+            (CallKind::End, Some(xid), None) => Call::End {
+                xid,
+                fail: flags == TMFAIL,
+            },
+            (CallKind::Prepare, Some(xid), None) => Call::Prepare { xid },
+            (CallKind::Commit, Some(xid), None) => Call::Commit {
+                xid,
+                one_phase: flags == TMONEPHASE,
+            },
+            (CallKind::Rollback, Some(xid), None) => Call::Rollback { xid },
+            (CallKind::Forget, Some(xid), None) => Call::Forget { xid },
+            (CallKind::Recover, None, Some(count)) => Call::Recover {
+                count,
+                start_scan: flags == TMSTARTRSCAN || flags == WHOLE_SCAN,
+                end_scan: flags == TMENDRSCAN || flags == WHOLE_SCAN,
+            },
+            _ => return Err(Code::Invalid),
+        };
+        if call.flags() == flags {
+            Ok(call)
+        } else {
+            Err(Code::Invalid)
+        }
+    }
+
+    /// The call's flags, as one number.
+    pub fn flags(&self) -> u32
+        ensures { result ≡ flags_of self.now }
+    {
+        match self {
+            Call::Start { join: true, .. } => TMJOIN,
+            Call::End { fail: false, .. } => TMSUCCESS,
+            Call::End { fail: true, .. } => TMFAIL,
+            Call::Commit {
+                one_phase: true,
+                ..
+            } => TMONEPHASE,
+            Call::Recover {
+                start_scan,
+                end_scan,
+                ..
+            } => match (start_scan, end_scan) {
+                (false, false) => TMNOFLAGS,
+                (false, true) => TMENDRSCAN,
+                (true, false) => TMSTARTRSCAN,
+                (true, true) => WHOLE_SCAN,
+            },
+            _ => TMNOFLAGS,
+        }
+    }
+
+    /// The branch that the call names.
+    pub fn xid(&self) -> Option<&Xid>
+        ensures { option_copied result ≡ xid_in self.now }
+    {
+        match self {
+            Call::Start { xid, .. }
+            | Call::End { xid, .. }
+            | Call::Prepare { xid }
+            | Call::Commit { xid, .. }
+            | Call::Rollback { xid }
+            | Call::Forget { xid } => Some(xid),
+            Call::OpenRm | Call::CloseRm | Call::Recover { .. } => None,
+        }
+    }
+
+    /// The same call. No memory is taken.
+    pub fn copy(&self) -> Call
+        ensures { result ≡ self.now }
+    {
+        match self {
+            Call::OpenRm => Call::OpenRm,
+            Call::CloseRm => Call::CloseRm,
+            Call::Start { xid, join } => Call::Start {
+                xid: xid.copy(),
+                join: *join,
+            },
+            Call::End { xid, fail } => Call::End {
+                xid: xid.copy(),
+                fail: *fail,
+            },
+            Call::Prepare { xid } => Call::Prepare { xid: xid.copy() },
+            Call::Commit { xid, one_phase } => Call::Commit {
+                xid: xid.copy(),
+                one_phase: *one_phase,
+            },
+            Call::Rollback { xid } => Call::Rollback { xid: xid.copy() },
+            Call::Forget { xid } => Call::Forget { xid: xid.copy() },
+            Call::Recover {
+                count,
+                start_scan,
+                end_scan,
+            } => Call::Recover {
+                count: *count,
+                start_scan: *start_scan,
+                end_scan: *end_scan,
+            },
+        }
+    }
+}

@@ -1,0 +1,45 @@
+//! Replies to steps, and the events that steps and replies make.
+
+use crate::{Answer, Call, Gtrid, Refusal, Step};
+
+/// What the system replies to a step.
+#[derive(PartialEq, Eq, Debug, Drop)]
+pub enum Reply {
+    /// A transaction was begun.
+    Begun(Gtrid),
+    /// The call waits on its line.
+    Issued,
+    /// The resource manager took this call and gave this answer.
+    Took(Call, Answer),
+    /// The manager heard this answer to this call.
+    Heard(Call, Answer),
+    /// Nothing waits on the line.
+    Nothing,
+    /// It is done.
+    Noted,
+    /// The transaction is claimed.
+    Claimed,
+    /// The transaction is decided.
+    Decided,
+    /// So many calls were issued.
+    Resolved(usize),
+    /// The part has crashed.
+    Crashed,
+    /// The resource manager is up.
+    RmRestarted,
+    /// The manager is up in this incarnation, with so many rows of either kind in its log.
+    Restarted {
+        incarnation: u64,
+        decisions: usize,
+        heuristics: usize,
+    },
+    /// The step was refused.
+    Refused(Refusal),
+}
+
+/// A step and its reply.
+#[derive(PartialEq, Eq, Debug, Drop)]
+pub struct Event {
+    pub step: Step,
+    pub reply: Reply,
+}
