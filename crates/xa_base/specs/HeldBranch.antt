@@ -1,6 +1,8 @@
 -- What a resource manager holds of one branch, and what calls, scripts and breaks make of it.
-use Rattle.std.specs.Prelude.{ℕ, ◌-◌, ◌==◌, Bool, if◌then◌else◌}
-use Rattle.xa_base.specs.StateTable.{Kind, Kind.Start, Kind.Commit, State, State.S0, state_of, answer, moved, broken, completed}
+use Rattle.std.specs.Prelude.{ℕ, ◌-◌, ◌==◌, Bool, if◌then◌else◌, Option, Some, None}
+use Rattle.xa_base.specs.StateTable.{Kind, Kind.Start, Kind.Commit, State, State.S0, state_of, asks_of, answer, moved, broken, completed}
+use Rattle.xa_base.specs.Xid.{Xid, xid_eq}
+use Rattle.xa_base.specs.declared.call.Call.{Call}
 use Rattle.xa_base.specs.declared.code.Code.{Code}
 use Rattle.xa_base.specs.declared.code.Code.TheVariants as Codes
 use Rattle.xa_base.specs.declared.code.How.{How}
@@ -42,6 +44,22 @@ called thread kind b = record {
   vote = b.vote;
   retries = retries_after (answer_of b kind) b.retries;
 }
+
+-- the branch of an identifier after a thread's call: as before, where the call names no branch or another
+abbrev pub held_by : (thread : ℕ) → Option (Kind × Xid) → Xid → HeldBranch → HeldBranch
+held_by thread None x b = b
+held_by thread (Some (kind, named)) x b = if xid_eq named x then called thread kind b else b
+
+abbrev pub held_after : (thread : ℕ) → Call → Xid → HeldBranch → HeldBranch
+held_after thread call = held_by thread (asks_of call)
+
+-- the answer to a call, by the branch that it names; xa_open and xa_close name none, and answer XA_OK
+abbrev pub code_by : (Xid → HeldBranch) → Option (Kind × Xid) → Code
+code_by held None = Codes.Success
+code_by held (Some (kind, named)) = answer_of (held named) kind
+
+abbrev pub code_for : (Xid → HeldBranch) → Call → Code
+code_for held call = code_by held (asks_of call)
 
 -- the branch after a line of this thread broke
 abbrev pub broken_by : (thread : ℕ) → HeldBranch → HeldBranch

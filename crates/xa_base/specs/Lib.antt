@@ -4,7 +4,9 @@ pub mod Bytes
 pub mod Call
 pub mod Code
 pub mod HeldBranch
+pub mod Recover
 pub mod Refusal
+pub mod Scan
 pub mod Standing
 pub mod StateTable
 pub mod Xid
