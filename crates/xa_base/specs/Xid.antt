@@ -1,12 +1,12 @@
 -- Identifiers of transaction branches.
-use Rattle.std.specs.Prelude.{◌≡◌, ℕ, ◌&&◌, ◌++◌, codes, nat_eq, nat_le, Bool, if◌then◌else◌, ℤ, List, length, Result, Ok, Err, negsuc, FitsSigned}
+use Rattle.std.specs.Prelude.{◌≡◌, refl, ℕ, ◌&&◌, ◌++◌, codes, nat_eq, nat_le, Bool, if◌then◌else◌, ℤ, List, length, Result, Ok, Err, negsuc, FitsSigned}
 use Rattle.std.specs.Fmt.{signed_decimal}
 use Rattle.std.specs.Int.{w32}
 use Rattle.hex.specs.Hex.{IsBytes, encode_lower}
 use Rattle.std.specs.declared.cmp.Ordering.{Ordering}
-use Rattle.std.specs.Ordering.{int_eq, int_cmp, nat_cmp, on, then_cmp, eq_by_cmp, eq_of_both}
-use Rattle.std.specs.Cmp.{IsEquivalence, and_equiv, on_equiv, int_eq_equiv}
-use Rattle.std.specs.Cmp.Lexicographic.{slice_cmp, pointwise, nat_list_eq_equiv}
+use Rattle.std.specs.Ordering.{int_eq, int_cmp, nat_cmp, on, then_cmp, eq_by_cmp, eq_of_both, as_partial_cmp}
+use Rattle.std.specs.Cmp.{IsEquivalence, and_equiv, on_equiv, int_eq_equiv, IsTotalOrder, then_total, on_total, int_cmp_total, IsPartialOrder, partial_order_from_agreeing_total, both_tied}
+use Rattle.std.specs.Cmp.Lexicographic.{slice_cmp, pointwise, nat_list_eq_equiv, nat_list_cmp_total, texts_ties}
 use Rattle.xa_base.specs.declared.fault.XidFault.{XidFault}
 use Rattle.xa_base.specs.declared.fault.XidFault.TheVariants.{NullFormat, GtridLength, BqualLength}
 
@@ -54,11 +54,28 @@ xid_cmp = then_cmp (on (λ x. x.format) int_cmp) (then_cmp (on (λ x. x.gtrid) (
 abbrev pub same_parts : Xid → Xid → Bool
 same_parts = eq_of_both (on (λ x. x.format) int_eq) (eq_of_both (on (λ x. x.gtrid) (pointwise nat_eq)) (on (λ x. x.bqual) (pointwise nat_eq)))
 
+-- whether two identifiers are the same, as their order tells
+abbrev pub xid_eq : Xid → Xid → Bool
+xid_eq = eq_by_cmp xid_cmp
+
+-- ** the laws that comparisons of identifiers owe
+
 pub same_parts_equiv : IsEquivalence same_parts
 same_parts_equiv =
     and_equiv (on_equiv (λ (x : Xid). x.format) int_eq_equiv)
     (and_equiv (on_equiv (λ (x : Xid). x.gtrid) nat_list_eq_equiv) (on_equiv (λ (x : Xid). x.bqual) nat_list_eq_equiv))
 
--- whether two identifiers are the same
-abbrev pub xid_eq : Xid → Xid → Bool
-xid_eq = eq_by_cmp xid_cmp
+pub xid_cmp_total : IsTotalOrder xid_cmp
+xid_cmp_total =
+    then_total (on_total (λ (x : Xid). x.format) int_cmp_total)
+    (then_total (on_total (λ (x : Xid). x.gtrid) nat_list_cmp_total) (on_total (λ (x : Xid). x.bqual) nat_list_cmp_total))
+
+-- those with the same parts, and no others, tie
+pub xid_ties : (x y : Xid) → same_parts x y ≡ xid_eq x y
+xid_ties x y =
+    both_tied (int_eq x.format y.format) _ (int_cmp x.format y.format) _ refl
+    (both_tied (pointwise nat_eq x.gtrid y.gtrid) (pointwise nat_eq x.bqual y.bqual) (slice_cmp nat_cmp x.gtrid y.gtrid) (slice_cmp nat_cmp x.bqual y.bqual)
+        (texts_ties x.gtrid y.gtrid) (texts_ties x.bqual y.bqual))
+
+pub xid_partial_order : IsPartialOrder same_parts (as_partial_cmp xid_cmp)
+xid_partial_order = partial_order_from_agreeing_total xid_cmp xid_cmp_total (λ x y. refl) xid_ties
