@@ -75,7 +75,7 @@ pub xid_ties : (x y : Xid) → same_parts x y ≡ xid_eq x y
 xid_ties x y =
     both_tied (int_eq x.format y.format) _ (int_cmp x.format y.format) _ refl
     (both_tied (pointwise nat_eq x.gtrid y.gtrid) (pointwise nat_eq x.bqual y.bqual) (slice_cmp nat_cmp x.gtrid y.gtrid) (slice_cmp nat_cmp x.bqual y.bqual)
-        (texts_ties x.gtrid y.gtrid) (texts_ties x.bqual y.bqual))
+    (texts_ties x.gtrid y.gtrid) (texts_ties x.bqual y.bqual))
 
 pub xid_partial_order : IsPartialOrder same_parts (as_partial_cmp xid_cmp)
 xid_partial_order = partial_order_from_agreeing_total xid_cmp xid_cmp_total (λ x y. refl) xid_ties

@@ -27,14 +27,15 @@ impl Page {
     pub fn new(xids: Vec<Xid>) -> Page
         ensures { result ≡ xids.items }
     {
-        Page { xids }
+        Self { xids }
     }
 
     /// The identifiers that the page lists, in its order. No memory is taken.
     pub fn into_xids(self) -> Vec<Xid>
         ensures { result.items ≡ self }
     {
-        self.xids
+        let Page { xids } = self;
+        xids
     }
 
     /// The identifiers that the page lists, in its order.

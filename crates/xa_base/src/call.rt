@@ -1,4 +1,4 @@
-//! Calls to a resource manager and its answers.
+//! Calls to a resource manager (XA, chapter 5, Reference Manual Pages).
 ghost use Rattle.std.specs.Prelude.{◌≡◌, Ok, IfOk, IfErr};
 ghost use Rattle.std.specs.Option.{option_copied};
 ghost use Rattle.xa_base.specs.declared.code.Code.TheVariants.{Invalid};
@@ -8,32 +8,42 @@ use crate::{
     Code, TMENDRSCAN, TMFAIL, TMJOIN, TMNOFLAGS, TMONEPHASE, TMSTARTRSCAN, TMSUCCESS, Xid,
 };
 
-/// A call to a resource manager.
+/// A call to a resource manager, with its flags and all that it is given (XA, chapter 5).
 #[derive(PartialEq, Eq, Debug, Drop)]
 pub enum Call {
+    /// xa_open.
     OpenRm,
+    /// xa_close.
     CloseRm,
+    /// xa_start, with TMJOIN where `join`.
     Start {
         xid: Xid,
         join: bool,
     },
+    /// xa_end, with TMFAIL where `fail`, else with TMSUCCESS.
     End {
         xid: Xid,
         fail: bool,
     },
+    /// xa_prepare.
     Prepare {
         xid: Xid,
     },
+    /// xa_commit, with TMONEPHASE where `one_phase`.
     Commit {
         xid: Xid,
         one_phase: bool,
     },
+    /// xa_rollback.
     Rollback {
         xid: Xid,
     },
+    /// xa_forget.
     Forget {
         xid: Xid,
     },
+    /// xa_recover of at most `count` branches, with TMSTARTRSCAN where `start_scan` and TMENDRSCAN where `end_scan`. A
+    /// negative count makes a call too, to which the resource manager answers XAER_INVAL.
     Recover {
         count: i64,
         start_scan: bool,
@@ -41,7 +51,7 @@ pub enum Call {
     },
 }
 
-/// Which call it is.
+/// The name of a call, without its flags.
 #[derive(Clone, Copy, Debug, PartialEq, Eq)]
 pub enum CallKind {
     OpenRm,
@@ -59,7 +69,8 @@ impl Call {
     ghost use Rattle.xa_base.specs.Call.{IsCallOf, flags_of, xid_in, kind_of};
     ghost use Rattle.xa_base.specs.declared.call.Call.{Call};
 
-    /// The call of these parts. It is refused where the kind of call takes no such flags, or must or can't have an identifier or a count.
+    /// The call of these parts. It is XAER_INVAL where the kind of call doesn't take these flags (XA, section 4.4), where
+    /// it has no identifier and needs one or has one and takes none, and likewise with the count. No memory is taken.
     pub fn of(
         kind: CallKind,
         xid: Option<Xid>,
@@ -102,7 +113,7 @@ impl Call {
         }
     }
 
-    /// The call's flags, as one number.
+    /// The call's flags, as one word (XA, section 4.4).
     pub fn flags(&self) -> u32
         ensures { result ≡ flags_of self.now }
     {
@@ -128,7 +139,7 @@ impl Call {
         }
     }
 
-    /// The branch that the call names.
+    /// The identifier of the branch that the call names, if it names one.
     pub fn xid(&self) -> Option<&Xid>
         ensures { option_copied result ≡ xid_in self.now }
     {

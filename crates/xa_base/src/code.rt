@@ -1,48 +1,72 @@
-//! Return codes, votes and heuristic ends.
+//! Return codes (XA, section 4.5, Return Codes).
 ghost use Rattle.std.specs.Prelude.{◌≡◌, Some, IfSome};
 ghost use Rattle.xa_base.specs.Code.{code_number, rb_number, how_number};
 ghost use Rattle.xa_base.specs.declared.code.Code.{Code};
 ghost use Rattle.xa_base.specs.declared.code.RbCode.{RbCode};
 
-/// Why a resource manager rolled a branch back.
+/// Why a resource manager rolled a branch back: the codes from XA_RBBASE to XA_RBEND (XA, section 4.5).
 #[derive(Clone, Copy, Debug, PartialEq, Eq)]
 pub enum RbCode {
+    /// XA_RBROLLBACK, 100: for no reason that is told.
     Rollback,
+    /// XA_RBCOMMFAIL, 101: a communication failed.
     CommFail,
+    /// XA_RBDEADLOCK, 102: a deadlock was found.
     Deadlock,
+    /// XA_RBINTEGRITY, 103: the resource would have become inconsistent.
     Integrity,
+    /// XA_RBOTHER, 104: another reason.
     Other,
+    /// XA_RBPROTO, 105: a protocol error inside the resource manager.
     Proto,
+    /// XA_RBTIMEOUT, 106: the branch took too long.
     Timeout,
+    /// XA_RBTRANSIENT, 107: the branch may be tried again.
     Transient,
 }
 
-/// How a resource manager ended a prepared branch by itself: it committed or rolled back, did both in parts, or can't tell.
+/// How a resource manager ended a prepared branch by itself (XA, section 2.3.3, Heuristic Branch Completion).
 #[derive(Clone, Copy, Debug, PartialEq, Eq)]
 pub enum How {
+    /// XA_HEURCOM, 7: it committed the branch.
     Com,
+    /// XA_HEURRB, 6: it rolled the branch back.
     Rb,
+    /// XA_HEURMIX, 5: it did both, in parts.
     Mix,
+    /// XA_HEURHAZ, 8: it may have done either.
     Haz,
 }
 
-/// The return code of a call.
+/// The return code of a call (XA, section 4.5). XA_NOMIGRATE, XAER_ASYNC and XAER_OUTSIDE aren't used here.
 #[derive(Clone, Copy, Debug, PartialEq, Eq)]
 pub enum Code {
+    /// XA_RBROLLBACK to XA_RBTRANSIENT, 100 to 107: the branch is rolled back, or can only be rolled back.
     RolledBack(RbCode),
+    /// XA_HEURMIX to XA_HEURHAZ, 5 to 8: the resource manager ended the branch by itself.
     Heuristic(How),
+    /// XA_RETRY, 4: the branch can't be committed yet.
     Retry,
+    /// XA_RDONLY, 3: the branch changed nothing, and is over.
     ReadOnly,
+    /// XA_OK, 0.
     Success,
+    /// XAER_RMERR, -3: the resource manager failed at the call.
     RmError,
+    /// XAER_NOTA, -4: no branch has the identifier.
     NotAnXid,
+    /// XAER_INVAL, -5: the arguments aren't those of the call.
     Invalid,
+    /// XAER_PROTO, -6: the call isn't for the state that the branch is in.
     Protocol,
+    /// XAER_RMFAIL, -7: the resource manager isn't there.
     RmFailed,
+    /// XAER_DUPID, -8: a branch has the identifier already.
     DuplicateXid,
 }
 
 impl RbCode {
+    /// The code's number in XA, 100 to 107.
     pub fn number(self) -> i32
         ensures { result ≡ rb_number self }
     {
@@ -60,6 +84,7 @@ impl RbCode {
 }
 
 impl How {
+    /// The number of the heuristic code in XA, 5 to 8.
     pub fn number(self) -> i32
         ensures { result ≡ how_number self }
     {
@@ -73,6 +98,7 @@ impl How {
 }
 
 impl Code {
+    /// The code's number in XA, -8 to 107.
     pub fn number(self) -> i32
         ensures { result ≡ code_number self }
     {
@@ -91,7 +117,7 @@ impl Code {
         }
     }
 
-    /// The code of a number, if there is one.
+    /// The code of a number, or none where no code of this table has it.
     pub fn from_number(number: i32) -> Option<Code>
         ensures inverse { (code : Code) → code_number code ≡ number → result ≡ Some code }
         ensures found { IfSome result (λ code. code_number code ≡ number) }
