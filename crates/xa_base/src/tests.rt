@@ -131,36 +131,27 @@ fn numbers_codes_as_xa_does(rt: HostRuntime) {
     }
 }
 
+/// The flags that each kind of call takes.
+const TAKEN: [(CallKind, u32); 15] = [
+    (CallKind::OpenRm, 0),
+    (CallKind::CloseRm, 0),
+    (CallKind::Start, 0),
+    (CallKind::Start, 0x0020_0000),
+    (CallKind::End, 0x0400_0000),
+    (CallKind::End, 0x2000_0000),
+    (CallKind::Prepare, 0),
+    (CallKind::Commit, 0),
+    (CallKind::Commit, 0x4000_0000),
+    (CallKind::Rollback, 0),
+    (CallKind::Forget, 0),
+    (CallKind::Recover, 0),
+    (CallKind::Recover, 0x0080_0000),
+    (CallKind::Recover, 0x0100_0000),
+    (CallKind::Recover, 0x0180_0000),
+];
+
 #[test]
 fn takes_the_flags_of_xa(rt: HostRuntime) {
-    let taken = [
-        (CallKind::OpenRm, 0),
-        (CallKind::CloseRm, 0),
-        (CallKind::Start, 0),
-        (CallKind::Start, 0x0020_0000),
-        (CallKind::End, 0x0400_0000),
-        (CallKind::End, 0x2000_0000),
-        (CallKind::Prepare, 0),
-        (CallKind::Commit, 0),
-        (CallKind::Commit, 0x4000_0000),
-        (CallKind::Rollback, 0),
-        (CallKind::Forget, 0),
-        (CallKind::Recover, 0),
-        (CallKind::Recover, 0x0080_0000),
-        (CallKind::Recover, 0x0100_0000),
-        (CallKind::Recover, 0x0180_0000),
-    ];
-    let kinds = [
-        CallKind::OpenRm,
-        CallKind::CloseRm,
-        CallKind::Start,
-        CallKind::End,
-        CallKind::Prepare,
-        CallKind::Commit,
-        CallKind::Rollback,
-        CallKind::Forget,
-        CallKind::Recover,
-    ];
     let words = [
         0,
         0x0020_0000,
@@ -175,9 +166,9 @@ fn takes_the_flags_of_xa(rt: HostRuntime) {
         0x2400_0000,
         0x4000_0000,
     ];
-    for kind in kinds {
+    for (kind, _) in TAKEN {
         for flags in words {
-            let is_taken = taken.contains(&(kind, flags));
+            let is_taken = TAKEN.contains(&(kind, flags));
             assert_eq!(rt;
                 call_of(kind, flags).is_ok(),
                 is_taken,
