@@ -1,5 +1,5 @@
 -- Identifiers of transaction branches.
-use Rattle.std.specs.Prelude.{◌≡◌, refl, ℕ, ◌&&◌, ◌++◌, codes, nat_eq, nat_le, Bool, if◌then◌else◌, ℤ, List, length, Result, Ok, Err, negsuc, FitsSigned}
+use Rattle.std.specs.Prelude.{◌≡◌, refl, ℕ, ◌&&◌, not, ◌++◌, codes, nat_eq, nat_le, Bool, if◌then◌else◌, ℤ, List, length, Result, Ok, Err, negsuc, FitsSigned}
 use Rattle.std.specs.Fmt.{signed_decimal}
 use Rattle.std.specs.Int.{w32}
 use Rattle.hex.specs.Hex.{IsBytes, encode_lower}
@@ -28,8 +28,9 @@ has_part_length part = nat_le 1 (length part) && nat_le (length part) 64
 abbrev pub xid_of : ℤ → List ℕ → List ℕ → Result Xid XidFault
 xid_of format gtrid bqual =
     if int_eq format null_format then Err NullFormat
-    else if has_part_length gtrid then if has_part_length bqual then Ok (record { format = format; gtrid = gtrid; bqual = bqual }) else Err BqualLength
-    else Err GtridLength
+    else if not (has_part_length gtrid) then Err GtridLength
+    else if not (has_part_length bqual) then Err BqualLength
+    else Ok (record { format = format; gtrid = gtrid; bqual = bqual })
 
 -- the parts are numbers of their types
 pub record IsInRange (x : Xid) : Type 0 where

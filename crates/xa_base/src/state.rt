@@ -39,8 +39,8 @@ pub enum Fate {
     Heuristic(How),
 }
 
-/// Where a branch stands: in one of the states or, where it doesn't exist, at its last end. Of both the state and the
-/// fate are read off.
+/// Where a branch stands: in one of the states or, where it doesn't exist, at its last end. Its state and its fate are
+/// both read off this.
 #[derive(Clone, Copy, Debug, PartialEq, Eq)]
 pub enum Standing {
     /// It never was.
