@@ -1,0 +1,4 @@
+pub mod CallLemmas
+pub mod PageLemmas
+pub mod ScanLemmas
+pub mod TableLemmas

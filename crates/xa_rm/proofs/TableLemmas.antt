@@ -1,0 +1,195 @@
+-- The table of branches and its index.
+use Rattle.std.proofs.Common.{◌≡◌, ◌==◌, ℕ, ℤ, ◌&&◌, ◌||◌, Bool, true, false, if◌then◌else◌, cond, List, [], ◌∷◌, map, Option, Some, None, IsSome, Result, Ok, Err, OnOk, OnErr, refl, sym, ◌∙◌, ap, subst}
+use Rattle.std.specs.Prelude.{Contains, ◌↔◌, ◌≢◌}
+use Rattle.std.specs.List.{list_any}
+use Rattle.std.specs.BTreeMap as tree
+use Rattle.std.specs.BTreeMap.{BTreeMap, is_at}
+use Rattle.std.specs.BTreeSet as sorted
+use Rattle.std.specs.BTreeSet.{BTreeSet, contains}
+use Rattle.std.specs.Map.{lookup}
+use Rattle.std.specs.Option.{option_map}
+use Rattle.std.specs.Ordering.{int_eq}
+use Rattle.std.proofs.lemmas.Map.Made.{lookup-map_values}
+use Rattle.std.proofs.lemmas.Map.Views.{All-found, btree_set_contains_iff}
+use Rattle.std.proofs.lemmas.Bool.Decides.{Decides-int_eq}
+use Rattle.std.proofs.lemmas.List.Elements.{All-contains}
+use Rattle.std.proofs.lemmas.List.Folds.{Any-from_list_any}
+use Rattle.xa_base.proofs.XidOrder.{xid_cmp_exact, xid_eq-same}
+use Rattle.xa_base.specs.Xid.{xid_cmp_total, Xid, xid_cmp}
+use Rattle.xa_base.specs.HeldBranch.{HeldBranch, new_branch, broken_by, crashed}
+use Rattle.xa_base.specs.Recover.{IsInDoubtList}
+use Rattle.xa_base.specs.Standing.{is_in_doubt, fate_of}
+use Rattle.xa_base.specs.StateTable.{broken}
+use Rattle.xa_base.specs.declared.state.Fate.TheVariants as Fates
+use Rattle.xa_base.specs.declared.state.Standing.{Standing}
+use Rattle.xa_base.specs.declared.state.Standing.TheVariants.{Unstarted, Active, Idle, Prepared, RollbackOnly, Completed, Committed, RolledBack, Lost, ReadOnly, Forgotten}
+use Rattle.xa_rm.specs.Branches.{IsIndex, held_at, branch_or_new}
+use Rattle.xa_rm.specs.Held.{held_branch, was_started}
+use Rattle.xa_rm.specs.ResourceManager.{HoldsFormat, HoldsNoFormat}
+use Rattle.xa_rm.specs.declared.held.Held.{Held}
+
+-- ** the list of the index
+
+flipped : {A B : Type 0} → A ↔ B → B ↔ A
+flipped e = (e.1, e.0)
+
+-- an index in order lists what is in doubt
+pub index_list : (table : BTreeMap Xid Held) (index : BTreeSet Xid) → IsIndex table index → sorted.IsOrdered xid_cmp index
+    → IsInDoubtList (held_at table) index.keys
+index_list table index is_index ordered = record {
+  in_order = ordered;
+  listed = λ x.
+      subst (λ (b : Bool). Contains index.keys x ↔ (b ≡ true)) (is_index.indexed x)
+      (flipped (btree_set_contains_iff xid_cmp_total xid_cmp_exact index x));
+}
+
+-- ** one branch is put in the table
+
+put_at : (t b : Bool) (had : Bool) (h : Held) (o : Option Held) → b ≡ is_in_doubt h.standing → had ≡ is_in_doubt (branch_or_new o).standing
+    → cond t b had ≡ is_in_doubt (branch_or_new (cond t (Some h) o)).standing
+put_at true b had h o e f = e
+put_at false b had h o e f = f
+
+-- the index goes along
+pub index_after_put : (table new_table : BTreeMap Xid Held) (index new_index : BTreeSet Xid) (x : Xid) (h : Held) (b : Bool) → IsIndex table index
+    → tree.Updates xid_cmp table new_table x (Some h) → sorted.Updates xid_cmp index new_index x b → b ≡ is_in_doubt h.standing
+    → IsIndex new_table new_index
+index_after_put table new_table index new_index x h b is_index put listed e = record {
+  indexed = λ q.
+      listed.0 q
+      ∙ put_at (is_at (xid_cmp x) q) b (contains xid_cmp index q) h (tree.get xid_cmp table q) e (is_index.indexed q)
+      ∙ ap (λ (o : Option Held). is_in_doubt (branch_or_new o).standing) (sym (put.0 q));
+}
+
+-- what can't fail was done
+pub sure : {T E : Type 0} {P Q : Type 0} (r : Result T E) → OnOk r P → OnErr r Q → (Q → ⊥) → P
+sure (Ok v) done failed never = done
+sure (Err e) done failed never = absurd (never failed)
+
+pub found : {X : Type 0} (o : Option X) → IsSome o → o ≡ None → ⊥
+found None some none = let no : ⊥ = cc in no
+found (Some x) some none = let no : ⊥ = cc in no
+
+-- ** every branch is changed
+
+at_entry : (g : Held → Held) (f : HeldBranch → HeldBranch) → ((h : Held) → held_branch (g h) ≡ f (held_branch h)) → new_branch ≡ f new_branch
+    → (o : Option Held) → branch_or_new (option_map g o) ≡ f (branch_or_new o)
+at_entry g f same none None = none
+at_entry g f same none (Some h) = same h
+
+-- a change of all entries is a change of all branches
+pub held_after_map : (g : Held → Held) (f : HeldBranch → HeldBranch) → ((h : Held) → held_branch (g h) ≡ f (held_branch h)) → new_branch ≡ f new_branch
+    → (table new_table : BTreeMap Xid Held) → new_table.entries ≡ map (λ (e : Xid × Held). (e.0, g e.1)) table.entries
+    → (x : Xid) → held_at new_table x ≡ f (held_at table x)
+held_after_map g f same none table new_table e x =
+    ap (λ (es : List (Xid × Held)). branch_or_new (lookup (is_at (xid_cmp x)) es)) e
+    ∙ ap branch_or_new (lookup-map_values g (is_at (xid_cmp x)) table.entries)
+    ∙ at_entry g f same none (lookup (is_at (xid_cmp x)) table.entries)
+
+-- a change that moves no branch in or out of doubt leaves the index
+pub index_after_map : (f : HeldBranch → HeldBranch) → ((b : HeldBranch) → is_in_doubt (f b).standing ≡ is_in_doubt b.standing)
+    → (table new_table : BTreeMap Xid Held) (index : BTreeSet Xid) → ((x : Xid) → held_at new_table x ≡ f (held_at table x))
+    → IsIndex table index → IsIndex new_table index
+index_after_map f keeps table new_table index changed is_index = record {
+  indexed = λ x.
+      is_index.indexed x ∙ sym (keeps (held_at table x)) ∙ ap (λ (b : HeldBranch). is_in_doubt b.standing) (sym (changed x));
+}
+
+-- ** breaks
+
+broken_in_doubt : (s : Standing) → is_in_doubt (broken s) ≡ is_in_doubt s
+broken_in_doubt Active = refl
+broken_in_doubt _ = refl
+
+pub crashed_in_doubt : (b : HeldBranch) → is_in_doubt (crashed b).standing ≡ is_in_doubt b.standing
+crashed_in_doubt b = broken_in_doubt b.standing
+
+pub broken_by_in_doubt : (thread : ℕ) (b : HeldBranch) → is_in_doubt (broken_by thread b).standing ≡ is_in_doubt b.standing
+broken_by_in_doubt thread b =
+    elim (b.starter == thread) as
+    (λ t. is_in_doubt (if t then record b { standing = broken b.standing } else b).standing ≡ is_in_doubt b.standing) [
+      | true ↦ broken_in_doubt b.standing
+      | false ↦ refl
+    ]
+
+-- an entry after all lines broke
+abbrev pub crashed_held : Held → Held
+crashed_held h = record h { standing = broken h.standing }
+
+-- an entry after a line of this thread broke
+abbrev pub broken_held : ℕ → Held → Held
+broken_held thread h = if h.starter == thread then crashed_held h else h
+
+pub broken_held-branch : (thread : ℕ) (h : Held) → held_branch (broken_held thread h) ≡ broken_by thread (held_branch h)
+broken_held-branch thread h =
+    elim (h.starter == thread) as
+    (λ t. held_branch (if t then crashed_held h else h) ≡ (if t then crashed (held_branch h) else held_branch h)) [ true ↦ refl | false ↦ refl ]
+
+pub broken_new : (thread : ℕ) → new_branch ≡ broken_by thread new_branch
+broken_new thread =
+    elim (0 == thread) as (λ t. new_branch ≡ (if t then crashed new_branch else new_branch)) [ true ↦ refl | false ↦ refl ]
+
+-- ** formats
+
+-- whether an entry is of this format, and its branch ever was
+abbrev pub is_of_format : ℤ → Xid × Held → Bool
+is_of_format z e = int_eq e.0.format z && was_started e.1.standing
+
+started_fate : (s : Standing) → was_started s ≡ true → fate_of s ≢ Fates.Unstarted
+started_fate Unstarted e = let no : ⊥ = cc in absurd no
+started_fate Active e = λ f. let no : ⊥ = cc in no
+started_fate Idle e = λ f. let no : ⊥ = cc in no
+started_fate Prepared e = λ f. let no : ⊥ = cc in no
+started_fate RollbackOnly e = λ f. let no : ⊥ = cc in no
+started_fate (Completed how) e = λ f. let no : ⊥ = cc in no
+started_fate Committed e = λ f. let no : ⊥ = cc in no
+started_fate RolledBack e = λ f. let no : ⊥ = cc in no
+started_fate Lost e = λ f. let no : ⊥ = cc in no
+started_fate ReadOnly e = λ f. let no : ⊥ = cc in no
+started_fate (Forgotten how) e = λ f. let no : ⊥ = cc in no
+
+unstarted_fate : (s : Standing) → was_started s ≡ false → fate_of s ≡ Fates.Unstarted
+unstarted_fate Unstarted e = refl
+unstarted_fate _ e = let no : ⊥ = cc in absurd no
+
+and-both : (a b : Bool) → (a && b) ≡ true → (a ≡ true) × (b ≡ true)
+and-both true b e = (refl, e)
+and-both false b e = let no : ⊥ = cc in absurd no
+
+and-second : (a b : Bool) → a ≡ true → (a && b) ≡ false → b ≡ false
+and-second true b h e = e
+and-second false b h e = let no : ⊥ = cc in absurd no
+
+or-neither : (a b : Bool) → (a || b) ≡ false → (a ≡ false) × (b ≡ false)
+or-neither true b e = let no : ⊥ = cc in absurd no
+or-neither false b e = (refl, e)
+
+-- an entry of the format that was started is of a branch that was
+pub format_held : (table : BTreeMap Xid Held) → tree.IsOrdered xid_cmp table → (z : ℤ) → list_any (is_of_format z) table.entries ≡ true → HoldsFormat (held_at table) z
+format_held table ordered z e =
+    let some = Any-from_list_any (is_of_format z) table.entries e in
+    let entry = some.1 in
+    let found_there = All-contains (λ (p : Xid × Held). tree.get xid_cmp table p.0 ≡ Some p.1) table.entries entry (All-found xid_cmp_total table ordered) (some.0, some.2, some.3) in
+    let both = and-both (int_eq entry.0.format z) (was_started entry.1.standing) some.4 in
+    record {
+      xid = entry.0;
+      format = (Decides-int_eq entry.0.format z).0 both.0;
+      started = subst (λ (o : Option Held). fate_of (branch_or_new o).standing ≢ Fates.Unstarted) (sym found_there) (started_fate entry.1.standing both.1);
+    }
+
+unstarted_at : (x : Xid) (z : ℤ) → x.format ≡ z → (es : List (Xid × Held)) → list_any (is_of_format z) es ≡ false
+    → fate_of (branch_or_new (lookup (is_at (xid_cmp x)) es)).standing ≡ Fates.Unstarted
+unstarted_at x z of [] none = refl
+unstarted_at x z of (e ∷ es) none =
+    let neither = or-neither (is_of_format z e) (list_any (is_of_format z) es) none in
+    elim (is_at (xid_cmp x) e.0) as
+    (λ t. is_at (xid_cmp x) e.0 ≡ t → fate_of (branch_or_new (cond t (Some e.1) (lookup (is_at (xid_cmp x)) es))).standing ≡ Fates.Unstarted) [
+      | true ↦ λ at. unstarted_fate e.1.standing
+          (and-second (int_eq e.0.format z) (was_started e.1.standing)
+          ((Decides-int_eq e.0.format z).1 (ap (λ (y : Xid). y.format) (sym (xid_eq-same x e.0 at)) ∙ of)) neither.0)
+      | false ↦ λ at. unstarted_at x z of es neither.1
+    ] refl
+
+-- where there is no such entry, no branch of the format ever was
+pub format_not_held : (table : BTreeMap Xid Held) (z : ℤ) → list_any (is_of_format z) table.entries ≡ false → HoldsNoFormat (held_at table) z
+format_not_held table z none = record { unstarted = λ x of. unstarted_at x z of table.entries none }

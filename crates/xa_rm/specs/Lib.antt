@@ -1,0 +1,5 @@
+pub mod Branches
+pub mod Held
+pub mod Pages
+pub mod ResourceManager
+pub mod Scans

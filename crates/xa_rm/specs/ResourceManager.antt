@@ -1,0 +1,77 @@
+-- What calls, scripts and scans do at a resource manager: to the branch of each identifier, and to the scan of each thread.
+use Rattle.std.specs.Prelude.{◌≡◌, ◌≢◌, ◌==◌, ℕ, ℤ, Bool, true, false, if◌then◌else◌, List, Option, Some, None}
+use Rattle.xa_base.specs.HeldBranch.{HeldBranch, code_for}
+use Rattle.xa_base.specs.Recover.{xid_page, page_answer}
+use Rattle.xa_base.specs.Scan.{Scan, scan_after}
+use Rattle.xa_base.specs.Standing.{fate_of}
+use Rattle.xa_base.specs.Xid.{Xid, xid_eq}
+use Rattle.xa_base.specs.declared.answer.Answer.{Answer}
+use Rattle.xa_base.specs.declared.answer.Answer.TheVariants.{Ret}
+use Rattle.xa_base.specs.declared.call.Call.{Call}
+use Rattle.xa_base.specs.declared.call.Call.TheVariants.{OpenRm, CloseRm, Recover}
+use Rattle.xa_base.specs.declared.state.Fate.TheVariants as Fates
+use Rattle.xa_base.specs.declared.state.Standing.{Standing}
+use Rattle.xa_base.specs.declared.state.Standing.TheVariants.{Prepared}
+use Rattle.xa_base.specs.declared.vote.Vote.{Vote}
+
+-- ** calls
+
+-- the answer to a call, where these branches are held and these identifiers are in doubt, and the caller's scan stands so
+abbrev pub answer_to : (Xid → HeldBranch) → Scan Xid → (in_doubt : List Xid) → Call → Answer
+answer_to held scan in_doubt (Recover count start end) = page_answer (xid_page scan count start in_doubt)
+answer_to held scan in_doubt call = Ret (code_for held call)
+
+-- the caller's scan after its call: only xa_recover moves it
+abbrev pub scan_after_own : Call → (in_doubt : List Xid) → Scan Xid → Scan Xid
+scan_after_own (Recover count start end) in_doubt scan = scan_after scan start end (xid_page scan count start in_doubt)
+scan_after_own call in_doubt scan = scan
+
+-- the scan of thread t after a call of `thread`: as before, where that is another
+abbrev pub scan_after_call : (thread : ℕ) → Call → (in_doubt : List Xid) → (t : ℕ) → Scan Xid → Scan Xid
+scan_after_call thread call in_doubt t scan = if t == thread then scan_after_own call in_doubt scan else scan
+
+-- whether a call opens or closes the line on which it comes, and so names no branch
+abbrev pub is_of_line : Call → Bool
+is_of_line OpenRm = true
+is_of_line CloseRm = true
+is_of_line _ = false
+
+-- the xa_recover with these flags; none, where they are other than TMSTARTRSCAN, TMENDRSCAN and both together
+abbrev pub recover_of : (count : ℤ) → (flags : ℕ) → Option Call
+recover_of count flags =
+    if flags == 0 then Some (Recover count false false)
+    else if flags == 0x0080_0000 then Some (Recover count false true)
+    else if flags == 0x0100_0000 then Some (Recover count true false)
+    else if flags == 0x0180_0000 then Some (Recover count true true)
+    else None
+
+-- ** scripts
+
+-- whether a branch that stands so is prepared: S3
+abbrev pub is_prepared : Standing → Bool
+is_prepared Prepared = true
+is_prepared _ = false
+
+-- the branch of x after the named branch changed so: as before, where that is another
+abbrev pub changed_at : (named : Xid) → (HeldBranch → HeldBranch) → (x : Xid) → HeldBranch → HeldBranch
+changed_at named change x b = if xid_eq named x then change b else b
+
+-- the branch after its vote was set
+abbrev pub voting : Vote → HeldBranch → HeldBranch
+voting vote b = record b { vote = vote }
+
+-- the branch after it was set how many commits are still put off
+abbrev pub retrying : (times : ℕ) → HeldBranch → HeldBranch
+retrying times b = record b { retries = times }
+
+-- ** formats
+
+-- some branch of this format was ever started
+pub record HoldsFormat (held : Xid → HeldBranch) (z : ℤ) : Type 0 where
+  pub xid : Xid
+  pub format : xid.format ≡ z
+  pub started : fate_of (held xid).standing ≢ Fates.Unstarted
+
+-- no branch of this format ever was
+pub record HoldsNoFormat (held : Xid → HeldBranch) (z : ℤ) : Type 0 where
+  pub unstarted : (x : Xid) → x.format ≡ z → fate_of (held x).standing ≡ Fates.Unstarted

@@ -1,0 +1,151 @@
+//! The table of branches, and the index of those in doubt.
+
+ghost use Rattle.xa_rm.specs.Branches.{IsIndex};
+
+use crate::held::Held;
+use crate::scans::Cursor;
+use std::alloc::Global;
+use std::collections::{BTreeMap, BTreeSet};
+use std::ops::Bound;
+use xa_base::{Call, Code, Memory, Xid};
+
+/// The branches that were ever named, with an index of those in doubt: the prepared and the heuristically completed.
+#[derive(Drop)]
+pub(crate) struct Branches {
+    table: BTreeMap<Xid, Held>,
+    index: BTreeSet<Xid>,
+    ghost indexed: { IsIndex table index },
+}
+
+impl Branches {
+    ghost use Rattle.std.specs.Prelude.{◌≡◌, ℕ, [], true, false, if◌then◌else◌, length, take, IsSome, IfOk, IsOk, OnOk, OnErr};
+    ghost use Rattle.std.specs.BTreeMap.{get};
+    ghost use Rattle.xa_base.specs.HeldBranch.{new_branch, code_for, held_after, broken_by, crashed};
+    ghost use Rattle.xa_base.specs.Recover.{IsInDoubtList};
+    ghost use Rattle.xa_base.specs.Scan.{behind};
+    ghost use Rattle.xa_base.specs.Standing.{is_in_doubt};
+    ghost use Rattle.xa_base.specs.Xid.{Xid, xid_cmp, xid_eq};
+    ghost use Rattle.xa_rm.specs.Branches.{held_at};
+    ghost use Rattle.xa_rm.specs.Held.{held_branch};
+    ghost use Rattle.xa_rm.specs.ResourceManager.{HoldsFormat, HoldsNoFormat, is_of_line};
+    ghost use Rattle.xa_rm.specs.Scans.{place_of};
+
+    pub(crate) fn new(alloc: Global) -> Branches
+        ensures table { (x : Xid) → held_at result.table x ≡ new_branch }
+        ensures index { result.index.keys ≡ [] }
+    {
+        Branches {
+            table: BTreeMap::new(alloc),
+            index: BTreeSet::new(alloc),
+        }
+    }
+
+    /// What is held of a branch.
+    pub(crate) fn get(&self, xid: &Xid) -> Held
+        ensures { held_branch result ≡ held_at self.now.table xid.now }
+    {
+        match self.table.get(xid) {
+            Some(held) => *held,
+            None => Held::NEW,
+        }
+    }
+
+    /// Puts this in the place of what is held of a branch.
+    ///
+    /// A branch that isn't in the table can't go in doubt at once. So at most one of the table and the index grows.
+    pub(crate) fn set(&mut self, xid: &Xid, held: Held) -> Result<(), Memory>
+        requires { is_in_doubt held.standing ≡ true → IsSome (get xid_cmp self.old.table xid.now) }
+        ensures ok { OnOk result ((x : Xid) → held_at self.new.table x ≡
+            (if xid_eq xid.now x then held_branch held else held_at self.old.table x)) }
+        ensures err { OnErr result ((x : Xid) → held_at self.new.table x ≡ held_at self.old.table x) }
+    {
+        if held.is_in_doubt() {
+            self.index.insert(xid.copy())?;
+            self.table.insert(xid.copy(), held)?;
+            Ok(())
+        } else {
+            self.table.insert(xid.copy(), held)?;
+            self.index.remove(xid);
+            Ok(())
+        }
+    }
+
+    /// Answers a thread's call, other than xa_recover.
+    pub(crate) fn apply(&mut self, thread: u32, call: &Call) -> Result<Code, Memory>
+        ensures answer { IfOk result (λ code. code ≡ code_for (held_at self.old.table) call.now) }
+        ensures held { OnOk result ((x : Xid) → held_at self.new.table x ≡ held_after thread call.now x (held_at self.old.table x)) }
+        ensures err { OnErr result ((x : Xid) → held_at self.new.table x ≡ held_at self.old.table x) }
+        ensures line { is_of_line call.now ≡ true → IsOk result }
+    {
+        let Some(xid) = call.xid() else {
+            return Ok(Code::Success);
+        };
+        let mut held = self.get(xid);
+        let code = held.apply(thread, call);
+        if code != Code::NotAnXid {
+            self.set(xid, held)?;
+        }
+        Ok(code)
+    }
+
+    /// A line of the thread broke. It moves no branch in or out of doubt.
+    pub(crate) fn break_line(&mut self, thread: u32)
+        ensures { (x : Xid) → held_at self.new.table x ≡ broken_by thread (held_at self.old.table x) }
+    {
+        // Keeps each entry: `values_mut` has no contract on what is written.
+        self.table.retain(|_, held| {
+            if held.starter == thread {
+                held.break_line();
+            }
+            true
+        });
+    }
+
+    /// All lines broke. It moves no branch in or out of doubt.
+    pub(crate) fn crash(&mut self)
+        ensures { (x : Xid) → held_at self.new.table x ≡ crashed (held_at self.old.table x) }
+    {
+        // Keeps each entry, as above.
+        self.table.retain(|_, held| {
+            held.break_line();
+            true
+        });
+    }
+
+    /// Whether a branch of this format was ever started.
+    pub(crate) fn holds_format(&self, format: i32) -> bool
+        ensures held { result ≡ true → HoldsFormat (held_at self.now.table) format }
+        ensures clear { result ≡ false → HoldsNoFormat (held_at self.now.table) format }
+    {
+        self.table
+            .iter()
+            .any(|(xid, held)| xid.format() == format && held.was_started())
+    }
+
+    /// How many identifiers are in doubt.
+    pub(crate) fn in_doubt_len(&self) -> usize
+        ensures len { result ≡ length self.now.index.keys }
+        ensures in_doubt { IsInDoubtList (held_at self.now.table) self.now.index.keys }
+    {
+        self.index.len()
+    }
+
+    /// The first `count` identifiers in doubt behind the cursor.
+    pub(crate) fn page(
+        &self,
+        alloc: Global,
+        cursor: &Cursor,
+        count: usize,
+    ) -> Result<Vec<Xid>, Memory>
+        ensures page { IfOk result (λ page. page.items ≡ take count (behind xid_cmp (place_of cursor.now) self.now.index.keys)) }
+        ensures in_doubt { IsInDoubtList (held_at self.now.table) self.now.index.keys }
+    {
+        let page = self
+            .index
+            .range((cursor.bound(), Bound::Unbounded))
+            .take(count)
+            .map(|xid| xid.copy())
+            .collect(alloc)?;
+        Ok(page)
+    }
+}

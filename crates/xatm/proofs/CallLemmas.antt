@@ -1,0 +1,95 @@
+-- The one call of some parts.
+use Rattle.std.proofs.Common.{◌≡◌, ℕ, ◌==◌, ℤ, Bool, true, false, List, [], ◌∷◌, Option, Some, None, Result, Ok, Err, IfOk, cond, refl, sym, arith}
+use Rattle.std.proofs.lemmas.Bool.Decides.{nat_tests}
+use Rattle.std.specs.List.{find}
+use Rattle.std.specs.Result.{result_ok}
+use Rattle.xa_base.specs.Call.{IsCallOf, kind_of, xid_in, count_in, flags_of}
+use Rattle.xa_base.specs.Xid.{Xid}
+use Rattle.xa_base.specs.declared.call.Call.{Call}
+use Rattle.xa_base.specs.declared.call.Call.TheVariants.{OpenRm, CloseRm, Start, End, Prepare, Commit, Rollback, Forget, Recover}
+use Rattle.xa_base.specs.declared.call.CallKind.{CallKind}
+use Rattle.xa_base.specs.declared.call.CallKind.TheVariants as Kind
+use Rattle.xa_base.specs.declared.code.Code.{Code}
+use Rattle.xatm.specs.CallEntry.{calls_with, call_with}
+
+-- a call is the one of its own parts
+own : (call : Call) → call_with (kind_of call) (xid_in call) (flags_of call) (count_in call) ≡ Some call
+own OpenRm = refl
+own CloseRm = refl
+own (Start xid true) = refl
+own (Start xid false) = refl
+own (End xid true) = refl
+own (End xid false) = refl
+own (Prepare xid) = refl
+own (Commit xid true) = refl
+own (Commit xid false) = refl
+own (Rollback xid) = refl
+own (Forget xid) = refl
+own (Recover n true true) = refl
+own (Recover n true false) = refl
+own (Recover n false true) = refl
+own (Recover n false false) = refl
+
+-- a call of these parts is found by them
+pub made_is_with : (k : CallKind) (x : Option Xid) (f : ℕ) (n : Option ℤ) (call : Call) → IsCallOf k x f n call → call_with k x f n ≡ Some call
+made_is_with k x f n call h = rw (← h.kind, ← h.xid, ← h.flags, ← h.count) (own call)
+
+-- each of the calls in a list
+abbrev Each : (Call → Type 0) → List Call → Type 0
+Each Q [] = Unit {0}
+Each Q (call ∷ calls) = Q call × Each Q calls
+
+-- the call has these parts but for its flags
+record HasParts (k : CallKind) (x : Option Xid) (n : Option ℤ) (call : Call) : Type 0 where
+  kind : kind_of call ≡ k
+  xid : xid_in call ≡ x
+  count : count_in call ≡ n
+
+own_parts : (call : Call) → HasParts (kind_of call) (xid_in call) (count_in call) call
+own_parts call = record { kind = refl; xid = refl; count = refl }
+
+-- the calls with these parts have them
+have_parts : (k : CallKind) (x : Option Xid) (n : Option ℤ) → Each (HasParts k x n) (calls_with k x n)
+have_parts Kind.OpenRm None None = (own_parts OpenRm, tt)
+have_parts Kind.CloseRm None None = (own_parts CloseRm, tt)
+have_parts Kind.Start (Some xid) None = (own_parts (Start xid false), (own_parts (Start xid true), tt))
+have_parts Kind.End (Some xid) None = (own_parts (End xid false), (own_parts (End xid true), tt))
+have_parts Kind.Prepare (Some xid) None = (own_parts (Prepare xid), tt)
+have_parts Kind.Commit (Some xid) None = (own_parts (Commit xid false), (own_parts (Commit xid true), tt))
+have_parts Kind.Rollback (Some xid) None = (own_parts (Rollback xid), tt)
+have_parts Kind.Forget (Some xid) None = (own_parts (Forget xid), tt)
+have_parts Kind.Recover None (Some n) =
+    (own_parts (Recover n false false), (own_parts (Recover n false true), (own_parts (Recover n true false), (own_parts (Recover n true true), tt))))
+have_parts _ _ _ = tt
+
+-- what is found has what each has, and passes
+found_here : (Q : Call → Type 0) (p : Call → Bool) (first : Call) (calls : List Call) (call : Call) (passes : Bool) → p first ≡ passes
+    → Q first → Each Q calls → (find p calls ≡ Some call → (p call ≡ true) × Q call)
+    → cond passes (Some first) (find p calls) ≡ Some call → (p call ≡ true) × Q call
+found_here Q p first calls call true is here others later h = let same : first ≡ call = cc in (rw (← same) is, rw (← same) here)
+found_here Q p first calls call false is here others later h = later h
+
+found : (Q : Call → Type 0) (p : Call → Bool) (calls : List Call) (call : Call) → Each Q calls → find p calls ≡ Some call → (p call ≡ true) × Q call
+found Q p [] call each h = let no : ⊥ = cc in absurd no
+found Q p (first ∷ calls) call each h = found_here Q p first calls call (p first) refl each.0 each.1 (found Q p calls call each.1) h
+
+same_number : (a b : ℕ) → (a == b) ≡ true → a ≡ b
+same_number a b h = grind (arith, nat_tests)
+
+-- what is found by parts has them
+pub with_is_made : (k : CallKind) (x : Option Xid) (f : ℕ) (n : Option ℤ) (call : Call) → call_with k x f n ≡ Some call → IsCallOf k x f n call
+with_is_made k x f n call h =
+    let parts = found (HasParts k x n) (λ c. flags_of c == f) (calls_with k x n) call (have_parts k x n) h in
+    record { kind = parts.1.kind; xid = parts.1.xid; flags = same_number (flags_of call) f parts.0; count = parts.1.count }
+
+-- an answer that is no call, where no call has the parts
+refused : (k : CallKind) (x : Option Xid) (f : ℕ) (n : Option ℤ) (code : Code) (o : Option Call)
+    → ((call : Call) → IsCallOf k x f n call → ◌≡◌ {A = Result Call Code} (Err code) (Ok call)) → call_with k x f n ≡ o → None ≡ o
+refused k x f n code None inverse is = refl
+refused k x f n code (Some call) inverse is = let no = inverse call (with_is_made k x f n call is) in cc
+
+-- an answer that is the call of the parts wherever there is one
+pub is_with : (k : CallKind) (x : Option Xid) (f : ℕ) (n : Option ℤ) (r : Result Call Code)
+    → ((call : Call) → IsCallOf k x f n call → r ≡ Ok call) → IfOk r (IsCallOf k x f n) → result_ok r ≡ call_with k x f n
+is_with k x f n (Ok call) inverse made = sym (made_is_with k x f n call made)
+is_with k x f n (Err code) inverse made = refused k x f n code (call_with k x f n) inverse refl

@@ -1,0 +1,11 @@
+pub mod CallLemmas
+pub mod CallsMade
+pub mod EntryLemmas
+pub mod FlagLemmas
+pub mod LineLemmas
+pub mod ListedLemmas
+pub mod MadeLemmas
+pub mod RequestLemmas
+pub mod RunLemmas
+pub mod TableLemmas
+pub mod TextFaults

@@ -1,0 +1,14 @@
+use Rattle.std.proofs.lemmas.Result.{err_from_is_err_and}
+use Rattle.xatm.specs.Scenarios.{scenario_of}
+use Rattle.xatm.proofs.RunLemmas.{explains, ends_with}
+use Rattle.xatm.proofs.run.check_scenario.Goals as goal
+
+pub returns-in_err-plan-clause-fault : goal.returns-in_err-plan-clause-fault
+returns-in_err-plan-clause-fault g c =
+    let p = err_from_is_err_and c.from_residual.result c.from_residual.ensures.1 in
+    rw (p.1, p.2) (explains c.in_err-plan.field-0.0 c.args.text.now c.in_err-plan.ensures)
+
+pub returns-in_err-plan-clause-refused : goal.returns-in_err-plan-clause-refused
+returns-in_err-plan-clause-refused g c =
+    let p = err_from_is_err_and c.from_residual.result c.from_residual.ensures.1 in
+    λ e known. rw (p.1, p.2) (ends_with c.in_err-plan.field-0.0 e (scenario_of c.args.text.now) c.in_err-plan.ensures known)

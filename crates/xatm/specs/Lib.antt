@@ -1,0 +1,12 @@
+pub mod CallEntry
+pub mod Fates
+pub mod Faults
+pub mod Fields
+pub mod Flags
+pub mod Headers
+pub mod Listed
+pub mod Requests
+pub mod Runs
+pub mod Scenarios
+pub mod Tables
+pub mod Words

@@ -1,0 +1,88 @@
+//! Why the program ends with a status other than 0.
+
+ghost use Rattle.std.specs.Prelude.{◌≡◌};
+ghost use Rattle.xatm.specs.Faults.{fault_status};
+ghost use Rattle.xatm.specs.declared.fault.RunFault.TheVariants as Faults;
+ghost use Rattle.xatm.specs.declared.failure.Failure.TheVariants.{Run};
+
+use crate::fault::RunFault;
+use std::alloc::AllocError;
+use std::io;
+use std::io::ErrorKind;
+
+/// Why the program ends early.
+#[derive(Debug, Drop)]
+pub enum Failure {
+    /// The parser refuses the command line.
+    CommandLine(clap::Error),
+    /// The words of the command line can't be read.
+    Words,
+    /// The file can't be read.
+    NotReadable,
+    /// The work on the file ended early.
+    Run(RunFault),
+}
+
+impl Failure {
+    /// This failure, or want of memory, where that is the cause.
+    pub fn caused_by(self, error: &io::Error) -> Failure {
+        match error.kind() {
+            ErrorKind::OutOfMemory => Failure::Run(RunFault::Memory),
+            _ => self,
+        }
+    }
+
+    /// The status that the program ends with.
+    pub fn status(&self) -> u8 {
+        match self {
+            Failure::CommandLine(_) | Failure::Words => 3,
+            Failure::NotReadable => 1,
+            Failure::Run(fault) => status_of(*fault),
+        }
+    }
+
+    /// Prints the text of the failure.
+    pub fn print<R: Print + Eprint>(&self, rt: &R) -> io::Result<()> {
+        match self {
+            Failure::CommandLine(error) => error.print(rt),
+            Failure::Words => eprintln!(rt; "xatm: command line"),
+            Failure::NotReadable => eprintln!(rt; "xatm: scenario: not readable"),
+            Failure::Run(fault) => eprintln!(rt; "{fault}"),
+        }
+    }
+}
+
+/// The status of a fault: 1 where the file is refused, 2 where the work on it fails.
+fn status_of(fault: RunFault) -> u8
+    ensures { result ≡ fault_status fault }
+{
+    match fault {
+        RunFault::NotToml | RunFault::Header | RunFault::Step(_) | RunFault::Job(_) => 1,
+        RunFault::Log | RunFault::Memory | RunFault::Work | RunFault::Output => 2,
+    }
+}
+
+impl From<RunFault> for Failure {
+    ghost from_gives = { λ fault failure. failure ≡ Run fault };
+
+    fn from(fault: RunFault) -> Failure {
+        Failure::Run(fault)
+    }
+}
+
+impl From<AllocError> for Failure {
+    ghost from_gives = { λ _ failure. failure ≡ Run Faults.Memory };
+
+    fn from(_error: AllocError) -> Failure {
+        Failure::Run(RunFault::Memory)
+    }
+}
+
+impl From<clap::Error> for Failure {
+    fn from(error: clap::Error) -> Failure {
+        match error.kind() {
+            clap::error::ErrorKind::OutOfMemory => Failure::Run(RunFault::Memory),
+            _ => Failure::CommandLine(error),
+        }
+    }
+}

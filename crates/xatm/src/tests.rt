@@ -1,0 +1,399 @@
+//! Whole files, with what is printed of them.
+
+use crate::fault::RunFault;
+use crate::run::{check_scenario, run_scenario};
+use std::alloc::Global;
+use std::io;
+use std::io::{ErrorKind, Write};
+use std::test::Fail;
+
+/// A system of one thread and one resource manager, and nothing to do.
+const EMPTY: &str = "threads = 1\nrms = 1\n";
+
+/// One transaction at one resource manager, committed in one phase.
+const FIRST: &str = "threads = 1\nrms = 1
+[[step]]\ndo = \"begin\"\nthread = 0\ntx = \"a\"
+[[step]]\ndo = \"call\"\nthread = 0\nrm = 0\nxa = \"xa_open\"
+[[step]]\ndo = \"call\"\nthread = 0\nrm = 0\nxa = \"xa_start\"\ntx = \"a\"
+[[step]]\ndo = \"call\"\nthread = 0\nrm = 0\nxa = \"xa_end\"\ntx = \"a\"\nflags = [\"TMSUCCESS\"]
+[[step]]\ndo = \"call\"\nthread = 0\nrm = 0\nxa = \"xa_commit\"\ntx = \"a\"\nflags = [\"TMONEPHASE\"]\n";
+
+const FIRST_OUTPUT: &str = "7:00000000000000010000000000000001:0000000000000000 committed\n";
+
+/// The same, where the resource manager votes against it.
+const VOTE_NO: &str = "threads = 1\nrms = 1
+[[step]]\ndo = \"begin\"\nthread = 0\ntx = \"a\"
+[[step]]\ndo = \"vote\"\nrm = 0\ntx = \"a\"\nvote = \"102\"
+[[step]]\ndo = \"call\"\nthread = 0\nrm = 0\nxa = \"xa_open\"
+[[step]]\ndo = \"call\"\nthread = 0\nrm = 0\nxa = \"xa_start\"\ntx = \"a\"
+[[step]]\ndo = \"call\"\nthread = 0\nrm = 0\nxa = \"xa_end\"\ntx = \"a\"\nflags = [\"TMSUCCESS\"]
+[[step]]\ndo = \"call\"\nthread = 0\nrm = 0\nxa = \"xa_prepare\"\ntx = \"a\"\n";
+
+/// The keys of a begin, and of calls, as they stand behind `do`.
+const BEGIN: &str = "\"begin\"\nthread = 0\ntx = \"a\"\n";
+
+const START: &str = "\"call\"\nthread = 0\nrm = 0\nxa = \"xa_start\"\ntx = \"a\"\n";
+
+const END: &str = "\"call\"\nthread = 0\nrm = 0\nxa = \"xa_end\"\ntx = \"a\"\n";
+
+/// A writer in memory that fails at a call.
+#[derive(Drop)]
+struct Failing {
+    held: Vec<u8>,
+    calls_left: usize,
+}
+
+impl Write for Failing {
+    fn write(&mut self, buf: &[u8]) -> io::Result<usize> {
+        if self.calls_left == 0 {
+            return Err(io::Error::from(ErrorKind::BrokenPipe));
+        }
+        self.calls_left -= 1;
+        self.held.extend_from_slice(buf)?;
+        Ok(buf.len())
+    }
+
+    fn flush(&mut self) -> io::Result<()> {
+        Ok(())
+    }
+}
+
+/// What a run of a text prints, or its fault.
+fn run_of(alloc: Global, text: &str) -> Result<String, RunFault> {
+    let mut out = Vec::new(alloc);
+    run_scenario(alloc, text.as_bytes(), &mut out)?;
+    String::from_utf8(out).map_err(|_| RunFault::Output)
+}
+
+/// What a check of a text prints, or its fault.
+fn check_of(alloc: Global, text: &str) -> Result<String, RunFault> {
+    let mut out = Vec::new(alloc);
+    check_scenario(alloc, text.as_bytes(), &mut out)?;
+    String::from_utf8(out).map_err(|_| RunFault::Output)
+}
+
+/// The fault with which both a run and a check of a text end, having printed nothing.
+fn fault_of(alloc: Global, text: &str) -> Option<RunFault> {
+    let mut out = Vec::new(alloc);
+    let run = run_scenario(alloc, text.as_bytes(), &mut out).err();
+    let check = check_scenario(alloc, text.as_bytes(), &mut out).err();
+    if run == check && out.is_empty() {
+        run
+    } else {
+        None
+    }
+}
+
+#[test]
+fn prints_fates(rt: HostRuntime) -> Result<(), Fail> {
+    let alloc = rt.alloc();
+    assert_eq!(rt; run_of(alloc, EMPTY)?.as_str(), "");
+    assert_eq!(rt; check_of(alloc, EMPTY)?.as_str(), "ok 1 1 0\n");
+    assert_eq!(rt; run_of(alloc, FIRST)?.as_str(), FIRST_OUTPUT);
+    assert_eq!(rt; check_of(alloc, FIRST)?.as_str(), "ok 1 1 5\n");
+    assert_eq!(rt;
+        run_of(alloc, VOTE_NO)?.as_str(),
+        "7:00000000000000010000000000000001:0000000000000000 rolled-back\n"
+    );
+    assert_eq!(rt; check_of(alloc, VOTE_NO)?.as_str(), "ok 1 1 6\n");
+    Ok(())
+}
+
+/// Of two branches the one with the lower identifier comes first, also where it was started last.
+#[test]
+fn prints_in_order(rt: HostRuntime) -> Result<(), Fail> {
+    let alloc = rt.alloc();
+    let text = format!(in alloc;
+        "{EMPTY}[[step]]\ndo = {BEGIN}[[step]]\ndo = \"begin\"\nthread = 0\ntx = \"b-2\"\n\
+        [[step]]\ndo = \"call\"\nthread = 0\nrm = 0\nxa = \"xa_start\"\ntx = \"b-2\"\n[[step]]\ndo = {START}\
+        [[step]]\ndo = {END}flags = [\"TMFAIL\"]\n"
+    )?;
+    assert_eq!(rt;
+        run_of(alloc, text.as_str())?.as_str(),
+        "7:00000000000000010000000000000001:0000000000000000 rollback-only\n\
+        7:00000000000000010000000000000002:0000000000000000 active\n"
+    );
+    Ok(())
+}
+
+/// What becomes of a branch by the entries behind its `begin`.
+#[test]
+fn prints_each_fate(rt: HostRuntime) -> Result<(), Fail> {
+    let alloc = rt.alloc();
+    let join =
+        "\"call\"\nthread = 0\nrm = 0\nxa = \"xa_start\"\ntx = \"a\"\nflags = [\"TMJOIN\"]\n";
+    let success =
+        "\"call\"\nthread = 0\nrm = 0\nxa = \"xa_end\"\ntx = \"a\"\nflags = [\"TMSUCCESS\"]\n";
+    let prepare = "\"call\"\nthread = 0\nrm = 0\nxa = \"xa_prepare\"\ntx = \"a\"\n";
+    let commit = "\"call\"\nthread = 0\nrm = 0\nxa = \"xa_commit\"\ntx = \"a\"\n";
+    let rollback = "\"call\"\nthread = 0\nrm = 0\nxa = \"xa_rollback\"\ntx = \"a\"\n";
+    let read_only = "\"vote\"\nrm = 0\ntx = \"a\"\nvote = \"ro\"\n";
+    let no = "\"vote\"\nrm = 0\ntx = \"a\"\nvote = \"100\"\n";
+    let cases: [(&[&str], &str); 7] = [
+        (&[join], "unstarted"),
+        (&[START, join], "active"),
+        (&[START, success], "idle"),
+        (&[START, success, prepare], "prepared"),
+        (&[START, success, prepare, no, commit], "committed"),
+        (&[no, read_only, START, success, prepare], "read-only"),
+        (&[START, success, rollback], "rolled-back"),
+    ];
+    for (entries, fate) in cases {
+        let mut text = format!(in alloc; "{EMPTY}[[step]]\ndo = {BEGIN}")?;
+        for entry in entries {
+            text.push_str("[[step]]\ndo = ")?;
+            text.push_str(entry)?;
+        }
+        let line = format!(in alloc;
+            "7:00000000000000010000000000000001:0000000000000000 {fate}\n"
+        )?;
+        assert_eq!(rt;
+            run_of(alloc, text.as_str())?.as_str(),
+            line.as_str(),
+            "{text}"
+        );
+    }
+    Ok(())
+}
+
+/// Other threads and resource managers than the one of each take no part.
+#[test]
+fn leaves_others_out(rt: HostRuntime) -> Result<(), Fail> {
+    let alloc = rt.alloc();
+    for line in ["thread = 1\nrm = 0", "thread = 0\nrm = 1"] {
+        let text = format!(in alloc;
+            "{EMPTY}[[step]]\ndo = {BEGIN}[[step]]\ndo = \"call\"\n{line}\nxa = \"xa_start\"\ntx = \"a\"\nof = 0\n"
+        )?;
+        assert_eq!(rt; run_of(alloc, text.as_str())?.as_str(), "", "{text}");
+    }
+    Ok(())
+}
+
+/// Each front of the file is a scenario itself, or is refused and prints nothing.
+#[test]
+fn cut_at_each_byte(rt: HostRuntime) -> Result<(), Fail> {
+    let text = FIRST.as_bytes();
+    for cut in 0..text.len() {
+        let mut out = Vec::new(rt.alloc());
+        match run_scenario(rt.alloc(), &text[..cut], &mut out) {
+            Ok(()) => {}
+            Err(fault) => {
+                assert!(rt; out.is_empty(), "cut at {cut}");
+                assert!(rt;
+                    fault != RunFault::Memory && fault != RunFault::Output,
+                    "cut at {cut}"
+                );
+            }
+        }
+    }
+    Ok(())
+}
+
+/// What a failing writer holds begins the whole output.
+#[test]
+fn writer_fails_at_each_call(rt: HostRuntime) -> Result<(), Fail> {
+    let alloc = rt.alloc();
+    let whole = FIRST_OUTPUT.as_bytes();
+    for calls in 0..100usize {
+        let mut out = Failing {
+            held: Vec::new(alloc),
+            calls_left: calls,
+        };
+        match run_scenario(alloc, FIRST.as_bytes(), &mut out) {
+            Ok(()) => {
+                assert_eq!(rt; out.held.as_slice(), whole);
+                assert!(rt; calls > 0);
+                return Ok(());
+            }
+            Err(fault) => {
+                assert_eq!(rt; fault, RunFault::Output);
+                assert!(rt; whole.starts_with(&out.held), "at call {calls}");
+            }
+        }
+    }
+    assert!(rt; false, "no run went through");
+    Ok(())
+}
+
+#[test]
+fn refuses_headers(rt: HostRuntime) {
+    for (text, fault) in [
+        ("", RunFault::Header),
+        ("[[step", RunFault::NotToml),
+        ("threads = 1\nrms = 1\nrms = 1\n", RunFault::NotToml),
+        ("threads = 0\nrms = 1\n", RunFault::Header),
+        ("threads = 2\nrms = 1\n", RunFault::Header),
+        ("threads = 1\nrms = 9\n", RunFault::Header),
+        ("threads = 1\n", RunFault::Header),
+        ("threads = 1\nrms = 1\nother = 1\n", RunFault::Header),
+        ("threads = 1\nrms = 1\nstep = 1\n", RunFault::Header),
+        ("threads = 1\nrms = 1\nstep = [1]\n", RunFault::Header),
+    ] {
+        assert_eq!(rt; fault_of(rt.alloc(), text), Some(fault), "{text}");
+    }
+}
+
+#[test]
+fn refuses_steps(rt: HostRuntime) -> Result<(), Fail> {
+    let alloc = rt.alloc();
+    let ten = "0123456789";
+    let longest = format!(in alloc; "\"begin\"\nthread = 0\ntx = \"{ten}{ten}{ten}-a\"\n")?;
+    let too_long = format!(in alloc; "\"begin\"\nthread = 0\ntx = \"{ten}{ten}{ten}-ab\"\n")?;
+    let cases: [(&str, &str, Option<RunFault>); 14] = [
+        (BEGIN, longest.as_str(), None),
+        (BEGIN, too_long.as_str(), Some(RunFault::Step(2))),
+        (BEGIN, BEGIN, Some(RunFault::Step(2))),
+        (START, BEGIN, Some(RunFault::Step(1))),
+        (
+            "\"begin\"\nthread = 0\ntx = \"A\"\n",
+            BEGIN,
+            Some(RunFault::Step(1)),
+        ),
+        (
+            "\"begin\"\nthread = 0\ntx = \"\"\n",
+            BEGIN,
+            Some(RunFault::Step(1)),
+        ),
+        ("\"begin\"\nthread = 4294967295\ntx = \"b\"\n", BEGIN, None),
+        (
+            "\"begin\"\nthread = 4294967296\ntx = \"b\"\n",
+            BEGIN,
+            Some(RunFault::Step(1)),
+        ),
+        (
+            "\"begin\"\nthread = 0\ntx = \"b\"\nrm = 0\n",
+            BEGIN,
+            Some(RunFault::Step(1)),
+        ),
+        (
+            "\"take\"\nthread = 0\nrm = 0\n",
+            BEGIN,
+            Some(RunFault::Step(1)),
+        ),
+        (
+            BEGIN,
+            "\"vote\"\nrm = 0\ntx = \"a\"\nvote = \"108\"\n",
+            Some(RunFault::Step(2)),
+        ),
+        (
+            BEGIN,
+            "\"vote\"\nrm = 0\ntx = \"a\"\nof = 7\nvote = \"ro\"\n",
+            None,
+        ),
+        (
+            "\"call\"\nthread = 0\nrm = 0\nxa = \"xa_open\"\nflags = [\"TMSUSPEND\"]\n",
+            BEGIN,
+            Some(RunFault::Step(1)),
+        ),
+        (
+            "\"call\"\nthread = 0\nrm = 0\nxa = \"xa_open\"\nof = 0\n",
+            BEGIN,
+            Some(RunFault::Step(1)),
+        ),
+    ];
+    for (first, second, fault) in cases {
+        let text = format!(in alloc; "{EMPTY}[[step]]\ndo = {first}[[step]]\ndo = {second}")?;
+        match fault {
+            Some(_) => assert_eq!(rt; fault_of(alloc, text.as_str()), fault, "{text}"),
+            None => assert!(rt; check_of(alloc, text.as_str()).is_ok(), "{text}"),
+        }
+    }
+    Ok(())
+}
+
+/// Calls with their flags and counts, the branch being begun.
+#[test]
+fn refuses_calls(rt: HostRuntime) -> Result<(), Fail> {
+    let alloc = rt.alloc();
+    for (xa, rest, made) in [
+        ("xa_start", "tx = \"a\"", true),
+        (
+            "xa_start",
+            "tx = \"a\"\nflags = [\"TMNOFLAGS\", \"TMJOIN\"]",
+            true,
+        ),
+        (
+            "xa_start",
+            "tx = \"a\"\nflags = [\"TMJOIN\", \"TMJOIN\"]",
+            false,
+        ),
+        ("xa_start", "tx = \"a\"\nflags = [\"TMRESUME\"]", false),
+        ("xa_start", "", false),
+        ("xa_end", "tx = \"a\"", false),
+        (
+            "xa_end",
+            "tx = \"a\"\nflags = [\"TMSUCCESS\", \"TMFAIL\"]",
+            false,
+        ),
+        ("xa_open", "tx = \"a\"", false),
+        ("xa_prepare", "tx = \"a\"\ncount = 1", false),
+        ("xa_recover", "count = -9223372036854775808", true),
+        (
+            "xa_recover",
+            "count = 8\nflags = [\"TMSTARTRSCAN\", \"TMENDRSCAN\"]",
+            true,
+        ),
+        ("xa_recover", "", false),
+        ("xa_complete", "", false),
+    ] {
+        let text = format!(in alloc;
+            "{EMPTY}[[step]]\ndo = {BEGIN}[[step]]\ndo = \"call\"\nthread = 0\nrm = 0\nxa = \"{xa}\"\n{rest}\n"
+        )?;
+        if made {
+            assert_eq!(rt;
+                check_of(alloc, text.as_str())?.as_str(),
+                "ok 1 1 2\n",
+                "{text}"
+            );
+        } else {
+            assert_eq!(rt;
+                fault_of(alloc, text.as_str()),
+                Some(RunFault::Step(2)),
+                "{text}"
+            );
+        }
+    }
+    Ok(())
+}
+
+/// At most 1,000 transactions and 10,000 entries.
+#[test]
+fn refuses_what_is_too_much(rt: HostRuntime) -> Result<(), Fail> {
+    let alloc = rt.alloc();
+    let mut text = EMPTY.to_string(alloc)?;
+    for i in 0..1000u32 {
+        text.push_str(format!(in alloc;
+            "[[step]]\ndo = \"begin\"\nthread = 0\ntx = \"t{i}\"\n"
+        )?.as_str())?;
+    }
+    assert_eq!(rt; check_of(alloc, text.as_str())?.as_str(), "ok 1 1 1000\n");
+    let more = format!(in alloc; "{text}[[step]]\ndo = {BEGIN}")?;
+    assert_eq!(rt; fault_of(alloc, more.as_str()), Some(RunFault::Step(1001)));
+    for _ in 0..9000u32 {
+        text.push_str("[[step]]\ndo = \"call\"\nthread = 0\nrm = 0\nxa = \"xa_open\"\n")?;
+    }
+    assert_eq!(rt; check_of(alloc, text.as_str())?.as_str(), "ok 1 1 10000\n");
+    text.push_str("[[step]]\ndo = \"call\"\nthread = 0\nrm = 0\nxa = \"xa_open\"\n")?;
+    assert_eq!(rt;
+        fault_of(alloc, text.as_str()),
+        Some(RunFault::Step(10_001))
+    );
+    Ok(())
+}
+
+#[test]
+fn displays_faults(rt: HostRuntime) -> Result<(), Fail> {
+    for (fault, text) in [
+        (RunFault::NotToml, "xatm: scenario: not TOML"),
+        (RunFault::Header, "xatm: scenario: header"),
+        (RunFault::Step(12), "xatm: scenario: step 12"),
+        (RunFault::Job(3), "xatm: scenario: job 3"),
+        (RunFault::Log, "xatm: log"),
+        (RunFault::Memory, "xatm: memory"),
+        (RunFault::Work, "xatm: work"),
+        (RunFault::Output, "xatm: output"),
+    ] {
+        assert_eq!(rt; format!(in rt.alloc(); "{fault}")?.as_str(), text);
+    }
+    Ok(())
+}
