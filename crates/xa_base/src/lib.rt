@@ -1,4 +1,10 @@
-//! The vocabulary of an XA transaction manager: identifiers, calls, codes, votes, states, fates, steps and replies.
+//! The vocabulary of an XA transaction manager: identifiers, calls, codes, votes, states, fates, steps and replies. And
+//! the model over it: what a list of events says, and what follows where each reply is the one that its history demands.
+//!
+//! The definitions of the model stand in `specs`: `Trace` has what may happen, `Facts` what a history says, `Demanded`
+//! which replies it allows, `Agreement` and `AgreementInvariant` what is proved. Its theorems are the contracts of functions
+//! that do nothing: [`agreement`], [`agreement_invariant`], [`demanded`], [`one_more_event`], [`names`] and
+//! [`recovery_completes`].
 //!
 //! "XA" in these pages is X/Open CAE Specification C193, "Distributed Transaction Processing: The XA Specification"
 //! (1991). Steps, replies and refusals are this manager's own words.
@@ -10,7 +16,11 @@ mod call;
 mod code;
 mod fault;
 mod flags;
+mod headline;
+mod histories;
+mod identifiers;
 mod parse;
+mod recovery;
 mod refusal;
 mod reply;
 mod state;
@@ -26,6 +36,10 @@ pub use call::{Call, CallKind};
 pub use code::{Code, How, RbCode};
 pub use fault::{Memory, XidFault};
 pub use flags::{TMENDRSCAN, TMFAIL, TMJOIN, TMNOFLAGS, TMONEPHASE, TMSTARTRSCAN, TMSUCCESS};
+pub use headline::{agreement, agreement_invariant};
+pub use histories::{demanded, one_more_event};
+pub use identifiers::names;
+pub use recovery::recovery_completes;
 pub use refusal::Refusal;
 pub use reply::{Event, Reply};
 pub use state::{BranchState, Fate, Standing};

@@ -1,0 +1,88 @@
+-- Words for worked histories.
+use Rattle.std.proofs.Common.{ℕ, zero, suc, ℤ, pos, negsuc, List, [], ◌∷◌, ◌++◌, Bool, false}
+use Rattle.xa_base.specs.HeldBranch.{new_branch}
+use Rattle.xa_base.specs.Scan.{Scan.NotOpen}
+use Rattle.xa_base.specs.Xid.{Xid}
+use Rattle.xa_base.specs.declared.code.Code.TheVariants as Codes
+use Rattle.xa_base.specs.Steps.{Asked, Asked.AskOpen, Asked.AskClose, Asked.Ask, Asked.AskRecover, Step, Reply}
+use Rattle.xa_base.specs.Trace.{Gtrid, Branch, How, Name.Ours, Kind.Start, Kind.End, Call, Call.On, Call.OpenRm, Call.CloseRm, Call.Recover, Answer, Answer.Ret, Row, Recorded, Origin}
+
+-- ** starts
+
+-- a fresh log, and resource managers that hold nothing
+abbrev pub fresh : (threads rms : ℕ) → Origin
+fresh threads rms = record {
+  threads = threads;
+  rms = rms;
+  incarnation = 1;
+  rows = [];
+  heuristic_rows = [];
+  held = λ r x. new_branch;
+  in_doubt = λ r. [];
+  scans = λ r. NotOpen;
+}
+
+abbrev pub gtrid : (incarnation sequence : ℕ) → Gtrid
+gtrid incarnation sequence = record { incarnation = incarnation; sequence = sequence }
+
+-- a branch of a transaction of the first incarnation
+abbrev pub own : (sequence thread rm : ℕ) → Branch
+own sequence thread rm = record { gtrid = gtrid 1 sequence; thread = thread; rm = rm }
+
+abbrev pub row : Gtrid → List Branch → Row
+row g participants = record { gtrid = g; participants = participants }
+
+abbrev pub recorded_so : Branch → How → Recorded
+recorded_so b how = record { branch = b; how = how }
+
+-- a log of before, whose row has no participants
+abbrev pub with_old_row : Origin
+with_old_row = record (fresh 1 1) { incarnation = 2; rows = row (gtrid 1 1) [] ∷ [] }
+
+-- an identifier of another manager, and a start that has some in doubt
+abbrev pub foreign : ℤ → List ℕ → Xid
+foreign format bqual = record { format = format; gtrid = 1 ∷ []; bqual = bqual }
+
+abbrev pub with_foreign : Origin
+with_foreign = record (fresh 1 1) { in_doubt = λ r. foreign (pos 1) (2 ∷ 1 ∷ []) ∷ foreign (pos 8) (2 ∷ []) ∷ foreign (negsuc 1) (9 ∷ []) ∷ foreign (pos 1) (2 ∷ []) ∷ [] }
+
+-- ** steps
+
+abbrev pub asking : Call → Asked
+asking (On k b) = Ask k (Ours b)
+asking OpenRm = AskOpen
+asking CloseRm = AskClose
+asking (Recover n start end) = AskRecover n start end
+
+abbrev pub once : Step → Reply → List (Step × Reply)
+once step reply = (step, reply) ∷ []
+
+-- a call that waits is taken, and its answer heard
+abbrev pub answered : (thread rm : ℕ) → Call → Answer → List (Step × Reply)
+answered t r c a = (Step.Take t r, Reply.Took c a) ∷ (Step.Hear t r, Reply.Heard c a) ∷ []
+
+-- a call is issued, taken and answered
+abbrev pub called : (thread rm : ℕ) → Call → Answer → List (Step × Reply)
+called t r c a = (Step.Issue t r (asking c), Reply.Issued) ∷ answered t r c a
+
+-- the work of a branch: xa_start and xa_end
+abbrev pub worked : (thread rm : ℕ) → Branch → List (Step × Reply)
+worked t r b = called t r (On Start b) (Ret Codes.Success) ++ called t r (On (End false) b) (Ret Codes.Success)
+
+-- xa_open, and the work of a branch of the first thread
+abbrev pub ready : (rm : ℕ) → Branch → List (Step × Reply)
+ready r b = called 0 r OpenRm (Ret Codes.Success) ++ worked 0 r b
+
+-- xa_recover
+abbrev pub scanned : (rm : ℕ) → (count : ℤ) → (start end : Bool) → Answer → List (Step × Reply)
+scanned r n start end a = (Step.Recover r n start end, Reply.Issued) ∷ answered 0 r (Recover n start end) a
+
+-- a call is issued so many times
+abbrev pub issued_times : ℕ → Call → List (Step × Reply)
+issued_times zero c = []
+issued_times (suc n) c = (Step.Issue 0 0 (asking c), Reply.Issued) ∷ issued_times n c
+
+-- and is taken so many times
+abbrev pub taken_times : ℕ → Call → List (Step × Reply)
+taken_times zero c = []
+taken_times (suc n) c = (Step.Take 0 0, Reply.Took c (Ret Codes.Success)) ∷ taken_times n c

@@ -1,0 +1,205 @@
+-- Worked histories with crashes of the manager or of a resource manager: each reply is the demanded one, and the fates and the log
+-- at the end are as told.
+use Rattle.std.proofs.Common.{◌≡◌, pos, List, [], ◌∷◌, ◌++◌, true, refl}
+use Rattle.xa_base.specs.declared.code.Code.TheVariants as Codes
+use Rattle.xa_base.specs.declared.refusal.Refusal.TheVariants as Refusal
+use Rattle.xa_base.specs.declared.state.Fate.TheVariants as Fate
+use Rattle.xa_base.specs.declared.step.Outcome.TheVariants as Outcome
+use Rattle.xa_base.specs.declared.step.Part.TheVariants as Part
+use Rattle.xa_base.specs.declared.step.Side.TheVariants as Side
+use Rattle.xa_base.specs.Demanded.{with_steps, AllDemanded}
+use Rattle.xa_base.specs.Facts.{log, fate}
+use Rattle.xa_base.specs.Steps.{Step, Reply}
+use Rattle.xa_base.specs.Trace.{Name.Ours, Kind.Prepare, Kind.Commit, Kind.OnePhase, Kind.Rollback, Call.On, Call.OpenRm, Answer.Ret, Answer.Page, Trace.From}
+use Rattle.xa_base.proofs.Computed.{computed}
+use Rattle.xa_base.proofs.Worked.{fresh, gtrid, own, row, with_old_row, asking, once, answered, called, ready, scanned}
+
+-- The answer to a commit in one phase is lost with its line; the branch is committed all the same.
+unfoldable pub lost_answer : List (Step × Reply)
+lost_answer =
+    once (Step.Begin 0) (Reply.Begun (gtrid 1 1))
+    ++ ready 0 (own 1 0 0)
+    ++ once (Step.Issue 0 0 (asking (On OnePhase (own 1 0 0)))) Reply.Issued
+    ++ once (Step.Take 0 0) (Reply.Took (On OnePhase (own 1 0 0)) (Ret Codes.Success))
+    ++ once (Step.Crash (Part.Line 0 0)) Reply.Crashed
+    ++ called 0 0 OpenRm (Ret Codes.Success)
+    ++ called 0 0 (On Rollback (own 1 0 0)) (Ret Codes.NotAnXid)
+
+lost_answer-demanded : AllDemanded (From (fresh 1 1)) lost_answer
+unfolding lost_answer
+lost_answer-demanded = computed (From (fresh 1 1)) lost_answer refl
+
+lost_answer-fates : fate (with_steps (From (fresh 1 1)) lost_answer) (own 1 0 0) ≡ Fate.Committed
+unfolding lost_answer
+lost_answer-fates = refl
+
+lost_answer-log : log (with_steps (From (fresh 1 1)) lost_answer) ≡ []
+unfolding lost_answer
+lost_answer-log = refl
+
+-- The manager crashes before it decides. No row is found, so the prepared branch is rolled back.
+unfoldable pub presumed_rollback : List (Step × Reply)
+presumed_rollback =
+    once (Step.Begin 0) (Reply.Begun (gtrid 1 1))
+    ++ ready 0 (own 1 0 0)
+    ++ called 0 0 (On Prepare (own 1 0 0)) (Ret Codes.Success)
+    ++ once (Step.Crash Part.Manager) Reply.Crashed
+    ++ once (Step.Restart Side.Manager) (Reply.Restarted 2 0 0)
+    ++ called 0 0 OpenRm (Ret Codes.Success)
+    ++ scanned 0 (pos 8) true true (Page (Ours (own 1 0 0) ∷ []))
+    ++ once (Step.Resolve 0) (Reply.Resolved 1)
+    ++ answered 0 0 (On Rollback (own 1 0 0)) (Ret Codes.Success)
+
+presumed_rollback-demanded : AllDemanded (From (fresh 1 1)) presumed_rollback
+unfolding presumed_rollback
+presumed_rollback-demanded = computed (From (fresh 1 1)) presumed_rollback refl
+
+presumed_rollback-fates : fate (with_steps (From (fresh 1 1)) presumed_rollback) (own 1 0 0) ≡ Fate.RolledBack
+unfolding presumed_rollback
+presumed_rollback-fates = refl
+
+presumed_rollback-log : log (with_steps (From (fresh 1 1)) presumed_rollback) ≡ []
+unfolding presumed_rollback
+presumed_rollback-log = refl
+
+-- The manager crashes after it decided. The row is found, so both branches are committed. The row of the older incarnation
+-- leaves once both have acknowledged anew.
+unfoldable pub decided_before_crash : List (Step × Reply)
+decided_before_crash =
+    once (Step.Begin 0) (Reply.Begun (gtrid 1 1))
+    ++ ready 0 (own 1 0 0)
+    ++ ready 1 (own 1 0 1)
+    ++ called 0 0 (On Prepare (own 1 0 0)) (Ret Codes.Success)
+    ++ called 0 1 (On Prepare (own 1 0 1)) (Ret Codes.Success)
+    ++ once (Step.Decide (gtrid 1 1) Outcome.Commit) Reply.Decided
+    ++ once (Step.Crash Part.Manager) Reply.Crashed
+    ++ once (Step.Restart Side.Manager) (Reply.Restarted 2 1 0)
+    ++ called 0 0 OpenRm (Ret Codes.Success)
+    ++ scanned 0 (pos 8) true true (Page (Ours (own 1 0 0) ∷ []))
+    ++ once (Step.Resolve 0) (Reply.Resolved 1)
+    ++ answered 0 0 (On Commit (own 1 0 0)) (Ret Codes.Success)
+    ++ called 0 1 OpenRm (Ret Codes.Success)
+    ++ scanned 1 (pos 8) true true (Page (Ours (own 1 0 1) ∷ []))
+    ++ once (Step.Resolve 1) (Reply.Resolved 1)
+    ++ answered 0 1 (On Commit (own 1 0 1)) (Ret Codes.Success)
+    ++ once (Step.Done (gtrid 1 1)) Reply.Noted
+
+decided_before_crash-demanded : AllDemanded (From (fresh 1 2)) decided_before_crash
+unfolding decided_before_crash
+decided_before_crash-demanded = computed (From (fresh 1 2)) decided_before_crash refl
+
+decided_before_crash-fates : (fate (with_steps (From (fresh 1 2)) decided_before_crash) (own 1 0 0) ≡ Fate.Committed) × (fate (with_steps (From (fresh 1 2)) decided_before_crash) (own 1 0 1) ≡ Fate.Committed)
+unfolding decided_before_crash
+decided_before_crash-fates = (refl, refl)
+
+decided_before_crash-log : log (with_steps (From (fresh 1 2)) decided_before_crash) ≡ []
+unfolding decided_before_crash
+decided_before_crash-log = refl
+
+-- The same with one of the two acknowledgements: the row stays, with both participants.
+unfoldable pub acknowledged_later : List (Step × Reply)
+acknowledged_later =
+    once (Step.Begin 0) (Reply.Begun (gtrid 1 1))
+    ++ ready 0 (own 1 0 0)
+    ++ ready 1 (own 1 0 1)
+    ++ called 0 0 (On Prepare (own 1 0 0)) (Ret Codes.Success)
+    ++ called 0 1 (On Prepare (own 1 0 1)) (Ret Codes.Success)
+    ++ once (Step.Decide (gtrid 1 1) Outcome.Commit) Reply.Decided
+    ++ once (Step.Crash Part.Manager) Reply.Crashed
+    ++ once (Step.Restart Side.Manager) (Reply.Restarted 2 1 0)
+    ++ called 0 0 OpenRm (Ret Codes.Success)
+    ++ scanned 0 (pos 8) true true (Page (Ours (own 1 0 0) ∷ []))
+    ++ once (Step.Resolve 0) (Reply.Resolved 1)
+    ++ answered 0 0 (On Commit (own 1 0 0)) (Ret Codes.Success)
+    ++ once (Step.Done (gtrid 1 1)) (Reply.Refused Refusal.Busy)
+
+acknowledged_later-demanded : AllDemanded (From (fresh 1 2)) acknowledged_later
+unfolding acknowledged_later
+acknowledged_later-demanded = computed (From (fresh 1 2)) acknowledged_later refl
+
+acknowledged_later-fates : (fate (with_steps (From (fresh 1 2)) acknowledged_later) (own 1 0 0) ≡ Fate.Committed) × (fate (with_steps (From (fresh 1 2)) acknowledged_later) (own 1 0 1) ≡ Fate.Prepared)
+unfolding acknowledged_later
+acknowledged_later-fates = (refl, refl)
+
+acknowledged_later-log : log (with_steps (From (fresh 1 2)) acknowledged_later) ≡ (row (gtrid 1 1) (own 1 0 1 ∷ own 1 0 0 ∷ []) ∷ [])
+unfolding acknowledged_later
+acknowledged_later-log = refl
+
+-- An acknowledgement heard before the crash does not count after it: the branch is told to commit again, and is not known.
+unfoldable pub acknowledged_anew : List (Step × Reply)
+acknowledged_anew =
+    once (Step.Begin 0) (Reply.Begun (gtrid 1 1))
+    ++ ready 0 (own 1 0 0)
+    ++ ready 1 (own 1 0 1)
+    ++ called 0 0 (On Prepare (own 1 0 0)) (Ret Codes.Success)
+    ++ called 0 1 (On Prepare (own 1 0 1)) (Ret Codes.Success)
+    ++ once (Step.Decide (gtrid 1 1) Outcome.Commit) Reply.Decided
+    ++ called 0 0 (On Commit (own 1 0 0)) (Ret Codes.Success)
+    ++ once (Step.Crash Part.Manager) Reply.Crashed
+    ++ once (Step.Restart Side.Manager) (Reply.Restarted 2 1 0)
+    ++ called 0 1 OpenRm (Ret Codes.Success)
+    ++ scanned 1 (pos 8) true true (Page (Ours (own 1 0 1) ∷ []))
+    ++ once (Step.Resolve 1) (Reply.Resolved 1)
+    ++ answered 0 1 (On Commit (own 1 0 1)) (Ret Codes.Success)
+    ++ once (Step.Done (gtrid 1 1)) (Reply.Refused Refusal.Busy)
+    ++ called 0 0 OpenRm (Ret Codes.Success)
+    ++ called 0 0 (On Commit (own 1 0 0)) (Ret Codes.NotAnXid)
+    ++ once (Step.Done (gtrid 1 1)) Reply.Noted
+    ++ once (Step.Issue 0 0 (asking (On Commit (own 1 0 0)))) (Reply.Refused Refusal.UnknownTransaction)
+
+acknowledged_anew-demanded : AllDemanded (From (fresh 1 2)) acknowledged_anew
+unfolding acknowledged_anew
+acknowledged_anew-demanded = computed (From (fresh 1 2)) acknowledged_anew refl
+
+acknowledged_anew-fates : (fate (with_steps (From (fresh 1 2)) acknowledged_anew) (own 1 0 0) ≡ Fate.Committed) × (fate (with_steps (From (fresh 1 2)) acknowledged_anew) (own 1 0 1) ≡ Fate.Committed)
+unfolding acknowledged_anew
+acknowledged_anew-fates = (refl, refl)
+
+acknowledged_anew-log : log (with_steps (From (fresh 1 2)) acknowledged_anew) ≡ []
+unfolding acknowledged_anew
+acknowledged_anew-log = refl
+
+-- A row without participants, from a log of before: it is never settled. Another of its incarnation is not known.
+unfoldable pub migrated_log : List (Step × Reply)
+migrated_log =
+    once (Step.Done (gtrid 1 1)) (Reply.Refused Refusal.Busy)
+    ++ once (Step.Done (gtrid 1 2)) (Reply.Refused Refusal.UnknownTransaction)
+
+migrated_log-demanded : AllDemanded (From (with_old_row)) migrated_log
+unfolding migrated_log
+migrated_log-demanded = computed (From (with_old_row)) migrated_log refl
+
+migrated_log-log : log (with_steps (From (with_old_row)) migrated_log) ≡ (row (gtrid 1 1) [] ∷ [])
+unfolding migrated_log
+migrated_log-log = refl
+
+-- A resource manager crashes between the two commits. The transaction is done only when it has committed too.
+unfoldable pub resource_manager_crash : List (Step × Reply)
+resource_manager_crash =
+    once (Step.Begin 0) (Reply.Begun (gtrid 1 1))
+    ++ ready 0 (own 1 0 0)
+    ++ ready 1 (own 1 0 1)
+    ++ called 0 0 (On Prepare (own 1 0 0)) (Ret Codes.Success)
+    ++ called 0 1 (On Prepare (own 1 0 1)) (Ret Codes.Success)
+    ++ once (Step.Decide (gtrid 1 1) Outcome.Commit) Reply.Decided
+    ++ called 0 0 (On Commit (own 1 0 0)) (Ret Codes.Success)
+    ++ once (Step.Crash (Part.Rm 1)) Reply.Crashed
+    ++ once (Step.Done (gtrid 1 1)) (Reply.Refused Refusal.Busy)
+    ++ once (Step.Restart (Side.Rm 1)) Reply.RmRestarted
+    ++ called 0 1 OpenRm (Ret Codes.Success)
+    ++ scanned 1 (pos 8) true true (Page (Ours (own 1 0 1) ∷ []))
+    ++ once (Step.Resolve 1) (Reply.Resolved 1)
+    ++ answered 0 1 (On Commit (own 1 0 1)) (Ret Codes.Success)
+    ++ once (Step.Done (gtrid 1 1)) Reply.Noted
+
+resource_manager_crash-demanded : AllDemanded (From (fresh 1 2)) resource_manager_crash
+unfolding resource_manager_crash
+resource_manager_crash-demanded = computed (From (fresh 1 2)) resource_manager_crash refl
+
+resource_manager_crash-fates : (fate (with_steps (From (fresh 1 2)) resource_manager_crash) (own 1 0 0) ≡ Fate.Committed) × (fate (with_steps (From (fresh 1 2)) resource_manager_crash) (own 1 0 1) ≡ Fate.Committed)
+unfolding resource_manager_crash
+resource_manager_crash-fates = (refl, refl)
+
+resource_manager_crash-log : log (with_steps (From (fresh 1 2)) resource_manager_crash) ≡ []
+unfolding resource_manager_crash
+resource_manager_crash-log = refl
