@@ -1,5 +1,6 @@
 -- What calls, scripts and scans do at a resource manager: to the branch of each identifier, and to the scan of each thread.
 use Rattle.std.specs.Prelude.{◌≡◌, ◌≢◌, ◌==◌, ℕ, ℤ, Bool, true, false, if◌then◌else◌, List, Option, Some, None}
+use Rattle.std.specs.Option.{option_map_or}
 use Rattle.xa_base.specs.HeldBranch.{HeldBranch, code_for}
 use Rattle.xa_base.specs.Recover.{xid_page, page_answer}
 use Rattle.xa_base.specs.Scan.{Scan, scan_after}
@@ -9,6 +10,7 @@ use Rattle.xa_base.specs.declared.answer.Answer.{Answer}
 use Rattle.xa_base.specs.declared.answer.Answer.TheVariants.{Ret}
 use Rattle.xa_base.specs.declared.call.Call.{Call}
 use Rattle.xa_base.specs.declared.call.Call.TheVariants.{OpenRm, CloseRm, Recover}
+use Rattle.xa_base.specs.declared.code.Code.TheVariants.{Invalid}
 use Rattle.xa_base.specs.declared.state.Fate.TheVariants as Fates
 use Rattle.xa_base.specs.declared.state.Standing.{Standing}
 use Rattle.xa_base.specs.declared.state.Standing.TheVariants.{Prepared}
@@ -44,6 +46,16 @@ recover_of count flags =
     else if flags == 0x0100_0000 then Some (Recover count true false)
     else if flags == 0x0180_0000 then Some (Recover count true true)
     else None
+
+-- the answer to an xa_recover with these flags, and XAER_INVAL where there is none
+abbrev pub answer_to_recover : (Xid → HeldBranch) → Scan Xid → (in_doubt : List Xid) → (count : ℤ) → (flags : ℕ) → Answer
+answer_to_recover held scan in_doubt count flags =
+    option_map_or (answer_to held scan in_doubt) (recover_of count flags) (Ret Invalid)
+
+-- the scan of thread t after an xa_recover of `thread` with these flags: as before, where there is none
+abbrev pub scan_after_recover : (thread : ℕ) → (count : ℤ) → (flags : ℕ) → (in_doubt : List Xid) → (t : ℕ) → Scan Xid → Scan Xid
+scan_after_recover thread count flags in_doubt t scan =
+    option_map_or (λ call. scan_after_call thread call in_doubt t scan) (recover_of count flags) scan
 
 -- ** scripts
 

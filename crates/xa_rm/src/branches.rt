@@ -18,7 +18,7 @@ pub(crate) struct Branches {
 }
 
 impl Branches {
-    ghost use Rattle.std.specs.Prelude.{◌≡◌, ℕ, [], true, false, if◌then◌else◌, length, take, IsSome, IfOk, IsOk, OnOk, OnErr};
+    ghost use Rattle.std.specs.Prelude.{◌≡◌, [], true, false, if◌then◌else◌, length, take, IsSome, IfOk, IsOk, OnOk, OnErr};
     ghost use Rattle.std.specs.BTreeMap.{get};
     ghost use Rattle.xa_base.specs.HeldBranch.{new_branch, code_for, held_after, broken_by, crashed};
     ghost use Rattle.xa_base.specs.Recover.{IsInDoubtList};
@@ -73,7 +73,8 @@ impl Branches {
     /// Answers a thread's call, other than xa_recover.
     pub(crate) fn apply(&mut self, thread: u32, call: &Call) -> Result<Code, Memory>
         ensures answer { IfOk result (λ code. code ≡ code_for (held_at self.old.table) call.now) }
-        ensures held { OnOk result ((x : Xid) → held_at self.new.table x ≡ held_after thread call.now x (held_at self.old.table x)) }
+        ensures held { OnOk result ((x : Xid) →
+            held_at self.new.table x ≡ held_after thread call.now x (held_at self.old.table x)) }
         ensures err { OnErr result ((x : Xid) → held_at self.new.table x ≡ held_at self.old.table x) }
         ensures line { is_of_line call.now ≡ true → IsOk result }
     {
@@ -137,7 +138,8 @@ impl Branches {
         cursor: &Cursor,
         count: usize,
     ) -> Result<Vec<Xid>, Memory>
-        ensures page { IfOk result (λ page. page.items ≡ take count (behind xid_cmp (place_of cursor.now) self.now.index.keys)) }
+        ensures page { IfOk result (λ page.
+            page.items ≡ take count (behind xid_cmp (place_of cursor.now) self.now.index.keys)) }
         ensures in_doubt { IsInDoubtList (held_at self.now.table) self.now.index.keys }
     {
         let page = self

@@ -15,7 +15,7 @@ pub(crate) struct Held {
 }
 
 impl Held {
-    ghost use Rattle.xa_base.specs.HeldBranch.{answer_of, called, crashed};
+    ghost use Rattle.xa_base.specs.HeldBranch.{answer_of, called};
     ghost use Rattle.xa_base.specs.StateTable.{Kind, asks_of, broken};
     ghost use Rattle.xa_base.specs.Standing.{is_in_doubt};
     ghost use Rattle.xa_base.specs.Xid.{Xid};
@@ -128,7 +128,8 @@ impl Held {
     /// xa_end, with TMFAIL or TMSUCCESS.
     fn end(&mut self, fail: bool) -> Code
         ensures answer { result ≡ answer_of (held_branch self.old) (Kind.End fail) }
-        ensures held { (thread : ℕ) → held_branch self.new ≡ called thread (Kind.End fail) (held_branch self.old) }
+        ensures held { (thread : ℕ) →
+            held_branch self.new ≡ called thread (Kind.End fail) (held_branch self.old) }
     {
         match (self.standing, fail) {
             (Standing::Active, false) => self.go(Standing::Idle, Code::Success),
@@ -143,7 +144,8 @@ impl Held {
     /// xa_prepare, answered by the vote.
     fn prepare(&mut self) -> Code
         ensures answer { result ≡ answer_of (held_branch self.old) Kind.Prepare }
-        ensures held { (thread : ℕ) → held_branch self.new ≡ called thread Kind.Prepare (held_branch self.old) }
+        ensures held { (thread : ℕ) →
+            held_branch self.new ≡ called thread Kind.Prepare (held_branch self.old) }
     {
         match (self.standing, self.vote) {
             (Standing::Idle, Vote::Yes) => self.go(Standing::Prepared, Code::Success),
@@ -159,7 +161,8 @@ impl Held {
     /// xa_commit, without TMONEPHASE. While retries are left it uses up one of them.
     fn commit(&mut self) -> Code
         ensures answer { result ≡ answer_of (held_branch self.old) Kind.Commit }
-        ensures held { (thread : ℕ) → held_branch self.new ≡ called thread Kind.Commit (held_branch self.old) }
+        ensures held { (thread : ℕ) →
+            held_branch self.new ≡ called thread Kind.Commit (held_branch self.old) }
     {
         match self.standing {
             Standing::Prepared if self.retries == 0 => self.go(Standing::Committed, Code::Success),
@@ -175,7 +178,8 @@ impl Held {
     /// xa_commit with TMONEPHASE, answered by the vote.
     fn commit_one_phase(&mut self) -> Code
         ensures answer { result ≡ answer_of (held_branch self.old) Kind.OnePhase }
-        ensures held { (thread : ℕ) → held_branch self.new ≡ called thread Kind.OnePhase (held_branch self.old) }
+        ensures held { (thread : ℕ) →
+            held_branch self.new ≡ called thread Kind.OnePhase (held_branch self.old) }
     {
         match (self.standing, self.vote) {
             (Standing::Idle, Vote::No(code)) => self.go(
@@ -191,9 +195,11 @@ impl Held {
         }
     }
 
+    /// xa_rollback.
     fn rollback(&mut self) -> Code
         ensures answer { result ≡ answer_of (held_branch self.old) Kind.Rollback }
-        ensures held { (thread : ℕ) → held_branch self.new ≡ called thread Kind.Rollback (held_branch self.old) }
+        ensures held { (thread : ℕ) →
+            held_branch self.new ≡ called thread Kind.Rollback (held_branch self.old) }
     {
         match self.standing {
             Standing::Idle | Standing::Prepared => self.go(Standing::RolledBack, Code::Success),
@@ -206,9 +212,11 @@ impl Held {
         }
     }
 
+    /// xa_forget. The fate of the branch stays heuristic.
     fn forget(&mut self) -> Code
         ensures answer { result ≡ answer_of (held_branch self.old) Kind.Forget }
-        ensures held { (thread : ℕ) → held_branch self.new ≡ called thread Kind.Forget (held_branch self.old) }
+        ensures held { (thread : ℕ) →
+            held_branch self.new ≡ called thread Kind.Forget (held_branch self.old) }
     {
         match self.standing {
             Standing::Completed(how) => self.go(Standing::Forgotten(how), Code::Success),

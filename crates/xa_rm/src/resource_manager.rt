@@ -7,8 +7,8 @@ use xa_base::{Answer, BranchState, Call, Fate, How, Memory, Vote, Xid};
 ///
 /// Each call names the one branch that it changes; all others stay as they are. After a fault nothing has changed.
 pub trait ResourceManager {
-    ghost use Rattle.std.specs.Prelude.{◌≡◌, ◌↔◌, ◌==◌, if◌then◌else◌, ℕ, List, length, true, false, Ok, IfOk, IfErr, IsOk, OnOk, OnErr, IsErrOf};
-    ghost use Rattle.std.specs.Option.{option_map_or};
+    ghost use Rattle.std.specs.Prelude.{◌≡◌, ◌↔◌, ◌==◌, if◌then◌else◌, ℕ, List, length, true, false};
+    ghost use Rattle.std.specs.Prelude.{IfOk, IfErr, IsOk, OnOk, OnErr, IsErrOf};
     ghost use Rattle.xa_base.specs.HeldBranch.{HeldBranch, held_after, broken_by, crashed, completed_by};
     ghost use Rattle.xa_base.specs.Recover.{IsInDoubtList};
     ghost use Rattle.xa_base.specs.Scan.{Scan, Scan.NotOpen};
@@ -16,7 +16,8 @@ pub trait ResourceManager {
     ghost use Rattle.xa_base.specs.Xid.{Xid};
     ghost use Rattle.xa_base.specs.declared.answer.Answer.TheVariants.{Ret, Page};
     ghost use Rattle.xa_base.specs.declared.code.Code.TheVariants.{Invalid};
-    ghost use Rattle.xa_rm.specs.ResourceManager.{answer_to, scan_after_call, is_of_line, recover_of, is_prepared, changed_at, voting, retrying, HoldsFormat, HoldsNoFormat};
+    ghost use Rattle.xa_rm.specs.ResourceManager.{answer_to, scan_after_call, is_of_line, answer_to_recover, scan_after_recover};
+    ghost use Rattle.xa_rm.specs.ResourceManager.{is_prepared, changed_at, voting, retrying, HoldsFormat, HoldsNoFormat};
 
     /// The branch of an identifier.
     ghost held_of: { Self → Xid → HeldBranch };
@@ -44,7 +45,8 @@ pub trait ResourceManager {
         ensures err_scans { OnErr result ((t : ℕ) → scan_of self.new t ≡ scan_of self.old t) }
         // Neither xa_open and xa_close nor an answer XAER_INVAL takes memory.
         ensures line { is_of_line call.now ≡ true → IsOk result }
-        ensures invalid { answer_to (held_of self.old) (scan_of self.old thread) (in_doubt_of self.old) call.now ≡ Ret Invalid → IsOk result };
+        ensures invalid { answer_to (held_of self.old) (scan_of self.old thread) (in_doubt_of self.old) call.now ≡ Ret Invalid
+            → IsOk result };
 
     /// Lists up to `count` identifiers in doubt that stand behind the thread's recovery scan, in order and of any format,
     /// and moves the scan behind the last of them (XA, chapter 5, xa_recover).
@@ -53,18 +55,18 @@ pub trait ResourceManager {
     /// answer is XAER_INVAL, and nothing changes, at any other flag, at a negative count, and where no scan is open
     /// and none is started.
     fn recover(&mut self, thread: u32, count: i64, flags: u32) -> Result<Answer, Memory>
-        ensures answer { IfOk result (λ answer. answer ≡ option_map_or
-            (answer_to (held_of self.old) (scan_of self.old thread) (in_doubt_of self.old)) (recover_of count flags) (Ret Invalid)) }
+        ensures answer { IfOk result (λ answer. answer ≡
+            answer_to_recover (held_of self.old) (scan_of self.old thread) (in_doubt_of self.old) count flags) }
         ensures held { (x : Xid) → held_of self.new x ≡ held_of self.old x }
-        ensures scans { OnOk result ((t : ℕ) → scan_of self.new t ≡ option_map_or
-            (λ call. scan_after_call thread call (in_doubt_of self.old) t (scan_of self.old t)) (recover_of count flags) (scan_of self.old t)) }
+        ensures scans { OnOk result ((t : ℕ) → scan_of self.new t ≡
+            scan_after_recover thread count flags (in_doubt_of self.old) t (scan_of self.old t)) }
         // Wherever a page is answered, it is one of what is in doubt.
         ensures in_doubt { IfOk result (λ answer. (page : List Xid) → answer ≡ Page page →
             IsInDoubtList (held_of self.old) (in_doubt_of self.old)) }
         ensures err_scans { OnErr result ((t : ℕ) → scan_of self.new t ≡ scan_of self.old t) }
         // An answer XAER_INVAL takes no memory.
-        ensures invalid { option_map_or (answer_to (held_of self.old) (scan_of self.old thread) (in_doubt_of self.old))
-            (recover_of count flags) (Ret Invalid) ≡ Ret Invalid → IsOk result };
+        ensures invalid { answer_to_recover (held_of self.old) (scan_of self.old thread) (in_doubt_of self.old) count flags ≡ Ret Invalid
+            → IsOk result };
 
     /// Sets how the branch votes when it is next prepared or committed in one phase. The last vote set counts, and
     /// without one it is yes. A crash forgets none.
