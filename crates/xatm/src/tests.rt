@@ -233,65 +233,62 @@ fn refuses_headers(rt: HostRuntime) {
     }
 }
 
+/// Pairs of steps, and the fault of a scenario of the two.
+const STEPS: [(&str, &str, Option<RunFault>); 12] = [
+    (BEGIN, BEGIN, Some(RunFault::Step(2))),
+    (START, BEGIN, Some(RunFault::Step(1))),
+    (
+        "\"begin\"\nthread = 0\ntx = \"A\"\n",
+        BEGIN,
+        Some(RunFault::Step(1)),
+    ),
+    (
+        "\"begin\"\nthread = 0\ntx = \"\"\n",
+        BEGIN,
+        Some(RunFault::Step(1)),
+    ),
+    ("\"begin\"\nthread = 4294967295\ntx = \"b\"\n", BEGIN, None),
+    (
+        "\"begin\"\nthread = 4294967296\ntx = \"b\"\n",
+        BEGIN,
+        Some(RunFault::Step(1)),
+    ),
+    (
+        "\"begin\"\nthread = 0\ntx = \"b\"\nrm = 0\n",
+        BEGIN,
+        Some(RunFault::Step(1)),
+    ),
+    (
+        "\"take\"\nthread = 0\nrm = 0\n",
+        BEGIN,
+        Some(RunFault::Step(1)),
+    ),
+    (
+        BEGIN,
+        "\"vote\"\nrm = 0\ntx = \"a\"\nvote = \"108\"\n",
+        Some(RunFault::Step(2)),
+    ),
+    (
+        BEGIN,
+        "\"vote\"\nrm = 0\ntx = \"a\"\nof = 7\nvote = \"ro\"\n",
+        None,
+    ),
+    (
+        "\"call\"\nthread = 0\nrm = 0\nxa = \"xa_open\"\nflags = [\"TMSUSPEND\"]\n",
+        BEGIN,
+        Some(RunFault::Step(1)),
+    ),
+    (
+        "\"call\"\nthread = 0\nrm = 0\nxa = \"xa_open\"\nof = 0\n",
+        BEGIN,
+        Some(RunFault::Step(1)),
+    ),
+];
+
 #[test]
 fn refuses_steps(rt: HostRuntime) -> Result<(), Fail> {
     let alloc = rt.alloc();
-    let ten = "0123456789";
-    let longest = format!(in alloc; "\"begin\"\nthread = 0\ntx = \"{ten}{ten}{ten}-a\"\n")?;
-    let too_long = format!(in alloc; "\"begin\"\nthread = 0\ntx = \"{ten}{ten}{ten}-ab\"\n")?;
-    let cases: [(&str, &str, Option<RunFault>); 14] = [
-        (BEGIN, longest.as_str(), None),
-        (BEGIN, too_long.as_str(), Some(RunFault::Step(2))),
-        (BEGIN, BEGIN, Some(RunFault::Step(2))),
-        (START, BEGIN, Some(RunFault::Step(1))),
-        (
-            "\"begin\"\nthread = 0\ntx = \"A\"\n",
-            BEGIN,
-            Some(RunFault::Step(1)),
-        ),
-        (
-            "\"begin\"\nthread = 0\ntx = \"\"\n",
-            BEGIN,
-            Some(RunFault::Step(1)),
-        ),
-        ("\"begin\"\nthread = 4294967295\ntx = \"b\"\n", BEGIN, None),
-        (
-            "\"begin\"\nthread = 4294967296\ntx = \"b\"\n",
-            BEGIN,
-            Some(RunFault::Step(1)),
-        ),
-        (
-            "\"begin\"\nthread = 0\ntx = \"b\"\nrm = 0\n",
-            BEGIN,
-            Some(RunFault::Step(1)),
-        ),
-        (
-            "\"take\"\nthread = 0\nrm = 0\n",
-            BEGIN,
-            Some(RunFault::Step(1)),
-        ),
-        (
-            BEGIN,
-            "\"vote\"\nrm = 0\ntx = \"a\"\nvote = \"108\"\n",
-            Some(RunFault::Step(2)),
-        ),
-        (
-            BEGIN,
-            "\"vote\"\nrm = 0\ntx = \"a\"\nof = 7\nvote = \"ro\"\n",
-            None,
-        ),
-        (
-            "\"call\"\nthread = 0\nrm = 0\nxa = \"xa_open\"\nflags = [\"TMSUSPEND\"]\n",
-            BEGIN,
-            Some(RunFault::Step(1)),
-        ),
-        (
-            "\"call\"\nthread = 0\nrm = 0\nxa = \"xa_open\"\nof = 0\n",
-            BEGIN,
-            Some(RunFault::Step(1)),
-        ),
-    ];
-    for (first, second, fault) in cases {
+    for (first, second, fault) in STEPS {
         let text = format!(in alloc; "{EMPTY}[[step]]\ndo = {first}[[step]]\ndo = {second}")?;
         match fault {
             Some(_) => assert_eq!(rt; fault_of(alloc, text.as_str()), fault, "{text}"),
@@ -301,41 +298,59 @@ fn refuses_steps(rt: HostRuntime) -> Result<(), Fail> {
     Ok(())
 }
 
-/// Calls with their flags and counts, the branch being begun.
+/// A name of 32 characters, and one of 33.
+#[test]
+fn refuses_longer_names(rt: HostRuntime) -> Result<(), Fail> {
+    let alloc = rt.alloc();
+    let ten = "0123456789";
+    let longest = format!(in alloc;
+        "{EMPTY}[[step]]\ndo = \"begin\"\nthread = 0\ntx = \"{ten}{ten}{ten}-a\"\n"
+    )?;
+    assert!(rt; check_of(alloc, longest.as_str()).is_ok());
+    let too_long = format!(in alloc;
+        "{EMPTY}[[step]]\ndo = \"begin\"\nthread = 0\ntx = \"{ten}{ten}{ten}-ab\"\n"
+    )?;
+    assert_eq!(rt; fault_of(alloc, too_long.as_str()), Some(RunFault::Step(1)));
+    Ok(())
+}
+
+/// Calls with their flags and counts, and whether they can be made, the branch being begun.
+const CALLS: [(&str, &str, bool); 13] = [
+    ("xa_start", "tx = \"a\"", true),
+    (
+        "xa_start",
+        "tx = \"a\"\nflags = [\"TMNOFLAGS\", \"TMJOIN\"]",
+        true,
+    ),
+    (
+        "xa_start",
+        "tx = \"a\"\nflags = [\"TMJOIN\", \"TMJOIN\"]",
+        false,
+    ),
+    ("xa_start", "tx = \"a\"\nflags = [\"TMRESUME\"]", false),
+    ("xa_start", "", false),
+    ("xa_end", "tx = \"a\"", false),
+    (
+        "xa_end",
+        "tx = \"a\"\nflags = [\"TMSUCCESS\", \"TMFAIL\"]",
+        false,
+    ),
+    ("xa_open", "tx = \"a\"", false),
+    ("xa_prepare", "tx = \"a\"\ncount = 1", false),
+    ("xa_recover", "count = -9223372036854775808", true),
+    (
+        "xa_recover",
+        "count = 8\nflags = [\"TMSTARTRSCAN\", \"TMENDRSCAN\"]",
+        true,
+    ),
+    ("xa_recover", "", false),
+    ("xa_complete", "", false),
+];
+
 #[test]
 fn refuses_calls(rt: HostRuntime) -> Result<(), Fail> {
     let alloc = rt.alloc();
-    for (xa, rest, made) in [
-        ("xa_start", "tx = \"a\"", true),
-        (
-            "xa_start",
-            "tx = \"a\"\nflags = [\"TMNOFLAGS\", \"TMJOIN\"]",
-            true,
-        ),
-        (
-            "xa_start",
-            "tx = \"a\"\nflags = [\"TMJOIN\", \"TMJOIN\"]",
-            false,
-        ),
-        ("xa_start", "tx = \"a\"\nflags = [\"TMRESUME\"]", false),
-        ("xa_start", "", false),
-        ("xa_end", "tx = \"a\"", false),
-        (
-            "xa_end",
-            "tx = \"a\"\nflags = [\"TMSUCCESS\", \"TMFAIL\"]",
-            false,
-        ),
-        ("xa_open", "tx = \"a\"", false),
-        ("xa_prepare", "tx = \"a\"\ncount = 1", false),
-        ("xa_recover", "count = -9223372036854775808", true),
-        (
-            "xa_recover",
-            "count = 8\nflags = [\"TMSTARTRSCAN\", \"TMENDRSCAN\"]",
-            true,
-        ),
-        ("xa_recover", "", false),
-        ("xa_complete", "", false),
-    ] {
+    for (xa, rest, made) in CALLS {
         let text = format!(in alloc;
             "{EMPTY}[[step]]\ndo = {BEGIN}[[step]]\ndo = \"call\"\nthread = 0\nrm = 0\nxa = \"{xa}\"\n{rest}\n"
         )?;
