@@ -1,29 +1,9 @@
 //! What every history of demanded replies means.
 ghost use Rattle.std.specs.Prelude.{◌≡◌, ◌≤◌, length, map};
-ghost use Rattle.xa_base.specs.Agreement.{
-  AreAlike,
-  AsLogged,
-  ClosesLast,
-  DoubtIsDown,
-  HeuristicsAreHeld,
-  IsCommitment,
-  IsFinal,
-  IsMoment,
-  IsPrefixOf,
-  call_of,
-  ends,
-  phases,
-};
-ghost use Rattle.xa_base.specs.AgreementInvariant.{
-  ClaimedIsPrepared,
-  CommitHasRow,
-  FreshGtrids,
-  HandedOverAlone,
-  NoStartAfterCommit,
-  RollbackHasNoRow,
-  RowsWerePrepared,
-  SettledIsOver,
-};
+ghost use Rattle.xa_base.specs.Agreement.{AreAlike, AsLogged, ClosesLast, DoubtIsDown, HeuristicsAreHeld};
+ghost use Rattle.xa_base.specs.Agreement.{IsCommitment, IsFinal, IsMoment, IsPrefixOf, call_of, ends, phases};
+ghost use Rattle.xa_base.specs.AgreementInvariant.{ClaimedIsPrepared, CommitHasRow, FreshGtrids, HandedOverAlone};
+ghost use Rattle.xa_base.specs.AgreementInvariant.{NoStartAfterCommit, RollbackHasNoRow, RowsWerePrepared, SettledIsOver};
 ghost use Rattle.xa_base.specs.Commitment.{Phase};
 ghost use Rattle.xa_base.specs.Facts.{issued, standing, taken};
 ghost use Rattle.xa_base.specs.Right.{AllRight};
@@ -36,33 +16,43 @@ ghost use Rattle.xa_base.specs.Trace.{Branch, Happening, Line, Origin, Trace, Tr
 /// - `ends_once`: each branch ends at most once;
 /// - `stays_ended`: a branch that was committed, rolled back, lost, read-only or forgotten stays so;
 /// - `alike`: no branch of a transaction is committed beside one that is rolled back or lost;
-/// - `at_first`, `commitment`: TCommit of Gray and Lamport ("Consensus on Transaction Commit") is simulated. All branches are
-///   working at first, and whatever happens is some of its steps for each transaction, over the branches that it has in the end;
-/// - `heuristics`: a branch that its resource manager ended alone is still heuristically completed there, or recorded as what it was;
-/// - `logged`: where a prepared branch is committed, its transaction has a row in the log; where it is rolled back, there was no
-///   row before and comes none later;
-/// - `doubt`: at most one change of the log is in doubt, only while the manager is down, and then no line holds a call or an answer.
+/// - `at_first`, `commitment`: TCommit of Gray and Lamport ("Consensus on Transaction Commit") is simulated. All
+///   branches are working at first, and whatever happens is some of its steps for each transaction, over the
+///   branches that it has in the end;
+/// - `heuristics`: a branch that its resource manager ended alone is still heuristically completed there, or
+///   recorded as what it was;
+/// - `logged`: where a prepared branch is committed, its transaction has a row in the log; where it is rolled back,
+///   there was no row before and comes none later;
+/// - `doubt`: at most one change of the log is in doubt, only while the manager is down, and then no line holds a
+///   call or an answer.
 pub fn agreement()
-    ensures prefix { (tr : Trace) (l : Line) → AllRight tr → IsPrefixOf (map call_of (taken tr l)) (issued tr l) }
+    ensures prefix { (tr : Trace) (l : Line) →
+        AllRight tr → IsPrefixOf (map call_of (taken tr l)) (issued tr l) }
     ensures nothing_after_close { (tr : Trace) (l : Line) → AllRight tr → ClosesLast (issued tr l) }
     ensures ends_once { (tr : Trace) (b : Branch) → AllRight tr → length (ends tr b) ≤ 1 }
-    ensures stays_ended { (tr : Trace) (e : Happening) (whole : Trace) (b : Branch) → AllRight whole → IsMoment tr e whole → IsFinal (standing tr b) → standing whole b ≡ standing tr b }
+    ensures stays_ended { (tr : Trace) (e : Happening) (whole : Trace) (b : Branch) →
+        AllRight whole → IsMoment tr e whole → IsFinal (standing tr b) →
+        standing whole b ≡ standing tr b }
     ensures alike { (tr : Trace) → AllRight tr → AreAlike tr }
     ensures at_first { (o : Origin) (b : Branch) → phases (From o) b ≡ Phase.Working }
-    ensures commitment { (tr : Trace) (e : Happening) (whole : Trace) → AllRight whole → IsMoment tr e whole → IsCommitment tr e whole }
+    ensures commitment { (tr : Trace) (e : Happening) (whole : Trace) →
+        AllRight whole → IsMoment tr e whole → IsCommitment tr e whole }
     ensures heuristics { (tr : Trace) → AllRight tr → HeuristicsAreHeld tr }
-    ensures logged { (tr : Trace) (e : Happening) (whole : Trace) → AllRight whole → IsMoment tr e whole → AsLogged tr e whole }
+    ensures logged { (tr : Trace) (e : Happening) (whole : Trace) →
+        AllRight whole → IsMoment tr e whole → AsLogged tr e whole }
     ensures doubt { (tr : Trace) → AllRight tr → DoubtIsDown tr }
 {}
 
 /// What carries agreement through every crash, at every moment:
 ///
 /// - `commit_has_row`: a waiting xa_commit in two phases has its row, or its branch is settled;
-/// - `rollback_has_no_row`: a waiting xa_rollback is of a transaction that never had a row, or all of whose branches are settled;
+/// - `rollback_has_no_row`: a waiting xa_rollback is of a transaction that never had a row, or all of whose
+///   branches are settled;
 /// - `no_start_after_commit`: no waiting xa_start is of a committed or a claimed transaction;
-/// - `rows_were_prepared`: no branch of a transaction that ever had a row is unstarted, active, idle, rollback-only, rolled back
-///   or lost;
-/// - `settled_is_over`: a settled branch has ended, and a row leaves only when all branches of its transaction are settled;
+/// - `rows_were_prepared`: no branch of a transaction that ever had a row is unstarted, active, idle,
+///   rollback-only, rolled back or lost;
+/// - `settled_is_over`: a settled branch has ended, and a row leaves only when all branches of its transaction are
+///   settled;
 /// - `fresh_gtrids`: no row and no branch is of a transaction that may still be begun;
 /// - `handed_over_alone`: a transaction that was committed in one phase has one branch and never a row;
 /// - `claimed_is_prepared`: each branch of a claimed transaction is prepared, heuristically completed or read-only.

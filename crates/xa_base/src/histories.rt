@@ -8,12 +8,13 @@ ghost use Rattle.xa_base.specs.Right.{AllRight, RightOrigin};
 ghost use Rattle.xa_base.specs.Steps.{Reply, Step};
 ghost use Rattle.xa_base.specs.Trace.{Origin, Trace, Trace.Then};
 
-/// Where each reply is the one that the history before it demands, each thing happened rightly: of steps and replies whose
-/// identifiers are read as names (`replies`), and so of the events that a system keeps (`events`). And the history leaves no step
-/// without a reply (`answered`).
+/// Where each reply is the one that the history before it demands, each thing happened rightly: of steps and
+/// replies whose identifiers are read as names (`replies`), and so of the events that a system keeps (`events`).
+/// And the history leaves no step without a reply (`answered`).
 pub fn demanded()
     ensures replies { (tr : Trace) (xs : List (Step × Reply)) → AllRight tr → AllDemanded tr xs → AllRight (with_steps tr xs) }
-    ensures events { (o : Origin) (events : List Event) → RightOrigin o → AreDemanded o events → AllRight (history o events) }
+    ensures events { (o : Origin) (events : List Event) →
+        RightOrigin o → AreDemanded o events → AllRight (history o events) }
     ensures answered { (tr : Trace) (s : Step) → (r : Reply) × Demanded tr s r }
 {}
 
@@ -24,8 +25,12 @@ pub fn demanded()
 /// - `before`: if all are, then those of each beginning of the list were;
 /// - `moment`: each event of a list is a moment of its history.
 pub fn one_more_event()
-    ensures history { (o : Origin) (events : List Event) (e : Event) → history o (events ++ e ∷ []) ≡ Then (history o events) (happening_of e) }
-    ensures demanded { (o : Origin) (events : List Event) (e : Event) → AreDemanded o events → IsDemanded (history o events) e → AreDemanded o (events ++ e ∷ []) }
-    ensures before { (o : Origin) (events later : List Event) → AreDemanded o (events ++ later) → AreDemanded o events }
-    ensures moment { (o : Origin) (events later : List Event) (e : Event) → IsMoment (history o events) (happening_of e) (history o (events ++ e ∷ later)) }
+    ensures history { (o : Origin) (events : List Event) (e : Event) →
+        history o (events ++ e ∷ []) ≡ Then (history o events) (happening_of e) }
+    ensures demanded { (o : Origin) (events : List Event) (e : Event) →
+        AreDemanded o events → IsDemanded (history o events) e → AreDemanded o (events ++ e ∷ []) }
+    ensures before { (o : Origin) (events later : List Event) →
+        AreDemanded o (events ++ later) → AreDemanded o events }
+    ensures moment { (o : Origin) (events later : List Event) (e : Event) →
+        IsMoment (history o events) (happening_of e) (history o (events ++ e ∷ later)) }
 {}

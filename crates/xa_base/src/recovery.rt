@@ -5,9 +5,11 @@ ghost use Rattle.xa_base.specs.Recovery.{IsRecovered, MayComplete, recovery};
 ghost use Rattle.xa_base.specs.Right.{AllRight};
 ghost use Rattle.xa_base.specs.Trace.{Answer, Call, Name, Trace};
 
-/// A whole recovery completes: all that is in doubt at a resource manager is scanned in one page, heard and resolved, and the calls
-/// are taken and heard one by one. Where none of these steps is refused and no commit is put off, each branch that is still
-/// prepared there is of a live transaction.
+/// A whole recovery completes: all that is in doubt at a resource manager is scanned in one page, heard and
+/// resolved, and the calls are taken and heard one by one. Where none of these steps is refused and no commit is
+/// put off, each branch that is still prepared there is of a live transaction.
 pub fn recovery_completes()
-    ensures { (tr : Trace) (r count : ℕ) (names : List Name) (answers : List (Call × Answer)) → AllRight tr → MayComplete tr r count answers → AllDemanded tr (recovery r count names answers) → IsRecovered (with_steps tr (recovery r count names answers)) r }
+    ensures { (tr : Trace) (r count : ℕ) (names : List Name) (answers : List (Call × Answer)) →
+        AllRight tr → MayComplete tr r count answers → AllDemanded tr (recovery r count names answers) →
+        IsRecovered (with_steps tr (recovery r count names answers)) r }
 {}
