@@ -1,6 +1,6 @@
 -- What a resource manager holds of one branch, and what calls, scripts and breaks make of it.
-use Rattle.std.specs.Prelude.{ℕ, ◌-◌, ◌==◌, Bool, if◌then◌else◌, Option, Some, None}
-use Rattle.xa_base.specs.StateTable.{Kind, Kind.Start, Kind.Commit, State, State.S0, state_of, asks_of, answer, moved, broken, completed}
+use Rattle.std.specs.Prelude.{ℕ, ◌-◌, ◌==◌, if◌then◌else◌, Option, Some, None}
+use Rattle.xa_base.specs.StateTable.{Kind, Kind.Start, state_of, asks_of, answer, moved, broken, completed}
 use Rattle.xa_base.specs.Xid.{Xid, xid_eq}
 use Rattle.xa_base.specs.declared.call.Call.{Call}
 use Rattle.xa_base.specs.declared.code.Code.{Code}

@@ -1,6 +1,6 @@
 -- Recovery scans: the page that xa_recover lists, and where the scan then stands (XA, chapter 5, xa_recover).
 -- Over any entries in an order, of which the identifiers in doubt at a resource manager are one case.
-use Rattle.std.specs.Prelude.{ℕ, ℤ, pos, negsuc, List, [], ◌∷◌, Bool, true, false, Option, Some, None, filter, take}
+use Rattle.std.specs.Prelude.{ℤ, pos, List, [], ◌∷◌, Bool, true, false, Option, Some, None, filter, take}
 use Rattle.std.specs.declared.cmp.Ordering.{Ordering}
 use Rattle.std.specs.Ordering.{is_lt}
 

@@ -3,7 +3,6 @@ use Rattle.std.specs.Prelude.{Bool, true, false}
 use Rattle.xa_base.specs.declared.state.BranchState.{BranchState}
 use Rattle.xa_base.specs.declared.state.BranchState.TheVariants.{S0, S1, S2, S3, S4, S5}
 use Rattle.xa_base.specs.declared.state.Fate.{Fate}
-use Rattle.xa_base.specs.declared.state.Fate.TheVariants as Fate
 use Rattle.xa_base.specs.declared.state.Standing.{Standing}
 use Rattle.xa_base.specs.declared.state.Standing.TheVariants.{Unstarted, Active, Idle, Prepared, RollbackOnly, Completed, Committed, RolledBack, Lost, ReadOnly, Forgotten}
 

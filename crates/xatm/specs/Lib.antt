@@ -1,5 +1,6 @@
 pub mod CallEntry
 pub mod Fates
+pub mod Failures
 pub mod Faults
 pub mod Fields
 pub mod Flags

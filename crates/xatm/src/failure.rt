@@ -24,16 +24,24 @@ pub enum Failure {
 }
 
 impl Failure {
+    ghost use Rattle.std.specs.Prelude.{◌⊎◌};
+    ghost use Rattle.xatm.specs.Failures.{failure_status};
+
     /// This failure, or want of memory, where that is the cause.
-    pub fn caused_by(self, error: &io::Error) -> Failure {
+    pub fn caused_by(self, error: &io::Error) -> Failure
+        ensures { (result ≡ self) ⊎ (result ≡ Run Faults.Memory) }
+    {
         match error.kind() {
             ErrorKind::OutOfMemory => Failure::Run(RunFault::Memory),
             _ => self,
         }
     }
 
-    /// The status that the program ends with.
-    pub fn status(&self) -> u8 {
+    /// The status that the program ends with: 1 where the file is refused, 2 where the work on it fails, 3 where the
+    /// command line is refused.
+    pub fn status(&self) -> u8
+        ensures { result ≡ failure_status self.now }
+    {
         match self {
             Failure::CommandLine(_) | Failure::Words => 3,
             Failure::NotReadable => 1,
