@@ -99,6 +99,19 @@ fn prints_fates(rt: HostRuntime) -> Result<(), Fail> {
     Ok(())
 }
 
+/// A run that wants memory ends with a fault, and the same run again prints all. So this holds whichever one request for
+/// memory is refused, where the writer's is a fault of the output.
+#[test]
+fn runs_again_after_want_of_memory(rt: HostRuntime) -> Result<(), Fail> {
+    let alloc = rt.alloc();
+    let output = match run_of(alloc, FIRST) {
+        Err(RunFault::Memory | RunFault::Output) => run_of(alloc, FIRST)?,
+        output => output?,
+    };
+    assert_eq!(rt; output.as_str(), FIRST_OUTPUT);
+    Ok(())
+}
+
 /// Of two branches the one with the lower identifier comes first, also where it was started last.
 #[test]
 fn prints_in_order(rt: HostRuntime) -> Result<(), Fail> {
