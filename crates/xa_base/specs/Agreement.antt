@@ -1,4 +1,5 @@
--- What every history of demanded replies means.
+-- What every history of demanded replies means: the headline of this manager. Alike is the consistency of TCommit, of Gray and
+-- Lamport, "Consensus on Transaction Commit".
 use Rattle.std.specs.Prelude.{ℕ, ◌+◌, ◌≡◌, ◌⊎◌, List, [], ◌∷◌, ◌++◌, length, Bool, true, false, if◌then◌else◌, Some, slice_get}
 use Rattle.xa_base.specs.StateTable.{State.S5, state_of}
 use Rattle.xa_base.specs.declared.state.Standing.{Standing}

@@ -1,4 +1,5 @@
--- What holds at every moment, and carries agreement through every crash.
+-- What holds at every moment, and carries agreement through every crash. The facts are this manager's own: they tie its log and its
+-- waiting calls to the phases of TCommit, of Gray and Lamport.
 use Rattle.std.specs.Prelude.{ℕ, ◌+◌, ◌≤◌, ◌≡◌, ◌⊎◌, length, true, false, Some, slice_get}
 use Rattle.xa_base.specs.StateTable.{State.S0, State.S5, state_of}
 use Rattle.xa_base.specs.declared.state.Standing.{Standing}

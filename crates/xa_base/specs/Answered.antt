@@ -1,4 +1,4 @@
--- The answers on a line since it last broke.
+-- The answers on a line since it last broke. Lines are this manager's own.
 use Rattle.std.specs.Prelude.{List, [], ◌∷◌, ◌++◌, length, if◌then◌else◌, Option, slice_get}
 use Rattle.xa_base.specs.Manager.{breaks}
 use Rattle.xa_base.specs.Trace.{Line, Call, Answer, Happening, Happening.Took, Happening.Heard, Trace, Trace.From, Trace.Then, line_eq}

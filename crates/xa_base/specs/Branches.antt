@@ -1,4 +1,4 @@
--- Where a branch stands at its resource manager, and what that was told to vote and to put off.
+-- Where a branch stands at its resource manager (XA, chapter 6, State Tables), and what that was told to vote and to put off.
 use Rattle.std.specs.Prelude.{ℕ, ◌-◌, if◌then◌else◌}
 use Rattle.xa_base.specs.Branch.{xid_of_branch, branch_eq}
 use Rattle.xa_base.specs.HeldBranch.{HeldBranch}

@@ -1,4 +1,5 @@
--- The branches of transactions, and what was decided of them.
+-- The branches of transactions, and what was decided of them (XA, section 2.3, Transaction Completion and Recovery; a commit in one
+-- phase is of section 2.3.2, Protocol Optimisations). Claims are this manager's own.
 use Rattle.std.specs.Prelude.{List, [], ◌∷◌, Bool, false, not, ◌&&◌, ◌||◌}
 use Rattle.xa_base.specs.Branch.{gtrid_eq, branch_eq}
 use Rattle.xa_base.specs.declared.step.Part.TheVariants as Part

@@ -1,4 +1,5 @@
--- The calls on a line since it last broke, those of recovery among them.
+-- The calls on a line since it last broke, those of recovery among them (XA, section 2.3, Transaction Completion and Recovery, and
+-- section 3.2, Opening and Closing Resource Managers).
 use Rattle.std.specs.Prelude.{List, [], ◌∷◌, ◌++◌, length, Bool, true, false, ◌||◌, if◌then◌else◌, Option, slice_get}
 use Rattle.xa_base.specs.Answered.{taken}
 use Rattle.xa_base.specs.Decisions.{live}

@@ -1,4 +1,5 @@
--- The rows of the log, and the change of them that a failure may have left in doubt.
+-- The rows of the log, and the change of them that a failure may have left in doubt. Only decisions to commit are kept: no row
+-- means rollback (presumed rollback: XA, section 2.3, Transaction Completion and Recovery). Heuristic rows are of section 2.3.3.
 use Rattle.std.specs.Prelude.{List, [], ◌∷◌, length, Bool, false, not, ◌&&◌, ◌||◌, ◌==◌, if◌then◌else◌, Option, Some, None, filter, nat_lt}
 use Rattle.xa_base.specs.Branch.{gtrid_eq, branch_eq}
 use Rattle.xa_base.specs.declared.code.Code.TheVariants as Codes

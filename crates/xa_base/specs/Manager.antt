@@ -1,4 +1,5 @@
--- Whether the manager is up, its incarnation and what it began, and what a happening breaks.
+-- Whether the manager is up, its incarnation and what it began, and what a happening breaks: failures of either side, after which
+-- the manager recovers (XA, section 2.3, Transaction Completion and Recovery). Incarnations are this manager's own.
 use Rattle.std.specs.Prelude.{ℕ, ◌+◌, Bool, true, false, ◌||◌, nat_eq}
 use Rattle.xa_base.specs.Branch.{gtrid_eq}
 use Rattle.xa_base.specs.declared.step.Part.TheVariants as Part

@@ -1,4 +1,5 @@
--- A whole recovery at a resource manager: a scan of all that is in doubt there, and the calls that end it.
+-- A whole recovery at a resource manager: a scan of all that is in doubt there, and the calls that end it (XA, section 2.3,
+-- Transaction Completion and Recovery, and chapter 5, xa_recover).
 use Rattle.std.specs.Prelude.{◌≡◌, ℕ, ◌≤◌, pos, List, [], ◌∷◌, length, true}
 use Rattle.xa_base.specs.Branch.{IsBranch}
 use Rattle.xa_base.specs.declared.code.Code.TheVariants as Codes

@@ -1,4 +1,4 @@
--- Which refusal a history forces on a step.
+-- Which refusal a history forces on a step. The refusals are this manager's own; what they guard is XA's (chapter 5, and section 2.3).
 use Rattle.std.specs.Prelude.{ℕ, ◌+◌, List, [], ◌∷◌, length, Bool, true, false, not, ◌&&◌, ◌||◌, nat_eq, if◌then◌else◌, Option, Some, None, nat_le, nat_lt}
 use Rattle.xa_base.specs.Branch.{branch_eq}
 use Rattle.xa_base.specs.Standing.{is_in_doubt}

@@ -1,4 +1,4 @@
--- When a row of the log waits for nothing more.
+-- When a row of the log waits for nothing more: when the manager may forget the transaction (XA, section 2.3).
 use Rattle.std.specs.Prelude.{List, [], ◌∷◌, Bool, true, false, ◌&&◌, ◌||◌}
 use Rattle.xa_base.specs.Heard.{told, told_lately, says_read_only, acknowledges}
 use Rattle.xa_base.specs.Log.{participants, recorded}

@@ -1,4 +1,4 @@
--- The state and the fate of a branch, by where it stands.
+-- The state and the fate of a branch, by where it stands (XA, chapter 6, State Tables).
 use Rattle.std.specs.Prelude.{Bool, true, false}
 use Rattle.xa_base.specs.declared.state.BranchState.{BranchState}
 use Rattle.xa_base.specs.declared.state.BranchState.TheVariants.{S0, S1, S2, S3, S4, S5}

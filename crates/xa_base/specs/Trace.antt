@@ -1,4 +1,5 @@
 -- What happens between a transaction manager and its resource managers: where a system starts, and all that happened since.
+-- Identifiers, calls and codes are XA's (sections 4.2, 4.4 and 4.5, and chapter 5); lines, steps and the log are this manager's own.
 use Rattle.std.specs.Prelude.{ℕ, ℤ, List, Bool, ◌&&◌, nat_eq}
 use Rattle.xa_base.specs.HeldBranch.{HeldBranch}
 use Rattle.xa_base.specs.Scan.{Scan}

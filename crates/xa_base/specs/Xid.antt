@@ -1,4 +1,4 @@
--- Identifiers of transaction branches.
+-- Identifiers of transaction branches (XA, section 4.2, Transaction Identification).
 use Rattle.std.specs.Prelude.{◌≡◌, refl, ℕ, ◌&&◌, not, ◌++◌, codes, nat_eq, nat_le, Bool, if◌then◌else◌, ℤ, List, length, Result, Ok, Err, negsuc, FitsSigned}
 use Rattle.std.specs.Fmt.{signed_decimal}
 use Rattle.std.specs.Int.{w32}
