@@ -21,6 +21,7 @@ pub mod Prefix
 pub mod Preserved
 pub mod PreservedRows
 pub mod Pushes
+pub mod ReadBackLemmas
 pub mod Records
 pub mod Recovered
 pub mod RecoveredStart

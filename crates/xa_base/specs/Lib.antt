@@ -19,6 +19,7 @@ pub mod Issued
 pub mod Log
 pub mod Manager
 pub mod Progress
+pub mod ReadBack
 pub mod Recover
 pub mod Recovery
 pub mod Refusal

@@ -1,10 +1,15 @@
 //! Identifiers and the names that histories know them by.
-ghost use Rattle.std.specs.Prelude.{◌≡◌, All, List, None, map};
+ghost use Rattle.std.specs.Prelude.{◌≡◌, ◌⊎◌, All, List, None, Some, map};
 ghost use Rattle.xa_base.specs.Branch.{IsBranch, branch_of_xid, xid_of_branch};
 ghost use Rattle.xa_base.specs.Xid.{IsXid, Xid, xid_cmp};
-ghost use Rattle.xa_base.specs.History.{name_of};
+ghost use Rattle.xa_base.specs.Demanded.{Demanded};
+ghost use Rattle.xa_base.specs.History.{name_of, reply_of, step_of};
 ghost use Rattle.xa_base.specs.InDoubt.{name_cmp, xid_of_name};
-ghost use Rattle.xa_base.specs.Trace.{Branch, Name.Foreign, Name.Ours};
+ghost use Rattle.xa_base.specs.ReadBack.{ReplyHasXids, StepHasXids, reply_back, step_back};
+ghost use Rattle.xa_base.specs.Steps.{Step as KnownStep, Reply as KnownReply};
+ghost use Rattle.xa_base.specs.declared.reply.Reply.{Reply};
+ghost use Rattle.xa_base.specs.declared.step.Step.{Step};
+ghost use Rattle.xa_base.specs.Trace.{Branch, Name.Foreign, Name.Ours, Trace};
 
 /// An identifier and its name are the same thing:
 ///
@@ -19,4 +24,17 @@ pub fn names()
     ensures pages { (xs : List Xid) → All IsXid xs → map xid_of_name (map name_of xs) ≡ xs }
     ensures order { (x y : Xid) →
         IsXid x → IsXid y → name_cmp (name_of x) (name_of y) ≡ xid_cmp x y }
+{}
+
+/// Nothing of a step or a reply is lost in what a history knows of it, and nothing that it can't know is let through:
+///
+/// - `steps`: what a history knows of a step gives the step back;
+/// - `replies`: what it knows of a reply gives the reply back, but for an answer to a call on another manager's
+///   identifier;
+/// - `possible`: no history demands such an answer.
+pub fn read_back()
+    ensures steps { (s : Step) → StepHasXids s → step_back (step_of s) ≡ s }
+    ensures replies { (r : Reply) →
+        ReplyHasXids r → (reply_of r ≡ KnownReply.Impossible) ⊎ (reply_back (reply_of r) ≡ Some r) }
+    ensures possible { (tr : Trace) (s : KnownStep) → Demanded tr s KnownReply.Impossible → ⊥ }
 {}

@@ -3,8 +3,8 @@
 //!
 //! The definitions of the model stand in `specs`: `Trace` has what may happen, `Facts` what a history says, `Demanded`
 //! which replies it allows, `Agreement` and `AgreementInvariant` what is proved. Its theorems are the contracts of functions
-//! that do nothing: [`agreement`], [`agreement_invariant`], [`demanded`], [`one_more_event`], [`names`] and
-//! [`recovery_completes`].
+//! that do nothing: [`agreement`], [`agreement_invariant`], [`demanded`], [`one_more_event`], [`names`],
+//! [`read_back`] and [`recovery_completes`].
 //!
 //! "XA" in these pages is X/Open CAE Specification C193, "Distributed Transaction Processing: The XA Specification"
 //! (1991). Steps, replies and refusals are this manager's own words.
@@ -38,7 +38,7 @@ pub use fault::{Memory, XidFault};
 pub use flags::{TMENDRSCAN, TMFAIL, TMJOIN, TMNOFLAGS, TMONEPHASE, TMSTARTRSCAN, TMSUCCESS};
 pub use headline::{agreement, agreement_invariant};
 pub use histories::{demanded, one_more_event};
-pub use identifiers::names;
+pub use identifiers::{names, read_back};
 pub use recovery::recovery_completes;
 pub use refusal::Refusal;
 pub use reply::{Event, Reply};
