@@ -36,9 +36,6 @@ not_next : (tr : Trace) (g h : Gtrid) → Right tr (Begun h) → Old tr g → gt
 not_next tr g h r (inl o) e = let s = gtrid_eq-true h g e in let i = ap (λ (x : Gtrid). x.incarnation) s in omega arith
 not_next tr g h r (inr o) e = let s = gtrid_eq-true h g e in let i = ap (λ (x : Gtrid). x.sequence) s in omega arith
 
-live_from : (b c d h s : Bool) → (b && not (c || (d || h))) ≡ false → (b && not (c || (d || (s || h)))) ≡ true → ⊥
-live_from b c d h s p q = grind arith
-
 pub live_back : (tr : Trace) (e : Happening) (g : Gtrid) → Right tr e → Old tr g → live (Then tr e) g ≡ true → live tr g ≡ true
 live_back tr (Begun h) g r o l = begun_case (gtrid_eq h g) refl l
   where

@@ -17,9 +17,6 @@ use Rattle.xa_base.proofs.Now.{closed_handed, front_waits, code_of}
 
 -- ** what an answer says of the standing before it
 
-vote_fine : (v : Vote) (n : ℕ) → Codes.Success ≡ answer Prepare (state_of Idle) v n → moved Idle Prepare Codes.Success ≡ Prepared
-vote_fine v n e = refl
-
 prepare_fine : (f : Standing) (v : Vote) (n : ℕ) → Codes.Success ≡ answer Prepare (state_of f) v n → moved f Prepare Codes.Success ≡ Prepared
 prepare_fine Idle v n e = refl
 prepare_fine Unstarted v n e = cc

@@ -4,6 +4,7 @@ use Rattle.std.specs.Prelude.{if◌then◌else◌, nat_eq, Option, Some, None}
 use mathlib.Core.Logic.{◌⊎◌.inl, ◌⊎◌.inr}
 use Rattle.std.proofs.lemmas.Bool.{and_parts, eqb-true}
 use Rattle.xa_base.specs.Branch.{gtrid_eq, branch_eq}
+use Rattle.xa_base.specs.Standing.{is_prepared}
 use Rattle.xa_base.specs.declared.state.Standing.{Standing}
 use Rattle.xa_base.specs.declared.state.Standing.TheVariants.{Prepared}
 use Rattle.xa_base.specs.declared.step.Side.TheVariants as Side
@@ -11,7 +12,7 @@ use Rattle.xa_base.specs.Demanded.{Takes, Takes.Takes_one, Takes.Takes_none, Hea
 use Rattle.xa_base.specs.Facts.{branches, outlived, participants_settled, decided_so, claimed, up, begun, live, started, settled}
 use Rattle.xa_base.specs.Progress.{all_of, has_voted, is_taken_up, is_shut}
 use Rattle.xa_base.specs.Right.{IsKnown, IsRowSettled, HasVoted, MayBeCalled, IsOpen, RightCall, IsOnOwnThread, RightClaim, RightDecision, RightDone, Right, AllRight}
-use Rattle.xa_base.specs.Rules.{is_prepared, is_own, asks_manager, applies, rules, first_of, is_there, must_refuse}
+use Rattle.xa_base.specs.Rules.{is_own, asks_manager, applies, rules, first_of, is_there, must_refuse}
 use Rattle.xa_base.specs.Steps.{Asked.AskOpen, Asked.AskClose, Asked.Ask, Asked.AskRecover, Step, Refusal, Reply, happened}
 use Rattle.xa_base.specs.Trace.{Gtrid, Branch, Name.Ours, Name.Foreign, Kind, Kind.Start, Kind.Join, Kind.End, Kind.Prepare, Kind.Commit, Kind.OnePhase, Kind.Rollback, Kind.Forget, Call.On, Outcome, Happening.Issued, Trace, Trace.From, Trace.Then, line}
 use Rattle.xa_base.proofs.Keys.{branch_eq-true, gtrid_eq-refl}

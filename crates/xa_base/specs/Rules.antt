@@ -1,8 +1,7 @@
 -- Which refusal a history forces on a step. The refusals are this manager's own; what they guard is XA's (chapter 5, and section 2.3).
 use Rattle.std.specs.Prelude.{ℕ, ◌+◌, List, [], ◌∷◌, length, Bool, true, false, not, ◌&&◌, ◌||◌, nat_eq, if◌then◌else◌, Option, Some, None, nat_le, nat_lt}
 use Rattle.xa_base.specs.Branch.{branch_eq}
-use Rattle.xa_base.specs.Standing.{is_in_doubt}
-use Rattle.xa_base.specs.declared.state.Standing.{Standing}
+use Rattle.xa_base.specs.Standing.{is_in_doubt, is_prepared}
 use Rattle.xa_base.specs.declared.step.Outcome.TheVariants as Outcome
 use Rattle.xa_base.specs.declared.step.Part.TheVariants as Part
 use Rattle.xa_base.specs.declared.step.Side.TheVariants as Side
@@ -146,11 +145,6 @@ is_full tr (Step.Resolve r) = nat_lt 64 (waiting tr (line 0 r) + length (resolvi
 is_full tr (Step.ResolveOpen r) = nat_lt 64 (waiting tr (line 0 r) + length (resolving_calls (Then tr (ResolvedOpen r)) (page tr r)))
 is_full tr (Step.Take t r) = nat_le 64 (unheard tr (line t r))
 is_full tr _ = false
-
--- whether a branch stands so
-abbrev pub is_prepared : Standing → Bool
-is_prepared Standing.Prepared = true
-is_prepared _ = false
 
 -- whether a name is a branch of this manager at the resource manager
 abbrev pub is_at : (rm : ℕ) → Name → Bool

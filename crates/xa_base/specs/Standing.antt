@@ -29,6 +29,11 @@ fate_of Lost = Fate.Lost
 fate_of ReadOnly = Fate.ReadOnly
 fate_of (Forgotten how) = Fate.Heuristic how
 
+-- whether a branch that stands so is prepared: S3
+abbrev pub is_prepared : Standing → Bool
+is_prepared Prepared = true
+is_prepared _ = false
+
 -- whether a recovery scan lists a branch that stands so: S3 and S5
 abbrev pub is_in_doubt : Standing → Bool
 is_in_doubt Prepared = true

@@ -12,8 +12,6 @@ use Rattle.xa_base.specs.declared.call.Call.{Call}
 use Rattle.xa_base.specs.declared.call.Call.TheVariants.{OpenRm, CloseRm, Recover}
 use Rattle.xa_base.specs.declared.code.Code.TheVariants.{Invalid}
 use Rattle.xa_base.specs.declared.state.Fate.TheVariants as Fates
-use Rattle.xa_base.specs.declared.state.Standing.{Standing}
-use Rattle.xa_base.specs.declared.state.Standing.TheVariants.{Prepared}
 use Rattle.xa_base.specs.declared.vote.Vote.{Vote}
 
 -- ** calls
@@ -58,11 +56,6 @@ scan_after_recover thread count flags in_doubt t scan =
     option_map_or (λ call. scan_after_call thread call in_doubt t scan) (recover_of count flags) scan
 
 -- ** scripts
-
--- whether a branch that stands so is prepared: S3
-abbrev pub is_prepared : Standing → Bool
-is_prepared Prepared = true
-is_prepared _ = false
 
 -- the branch of x after the named branch changed so: as before, where that is another
 abbrev pub changed_at : (named : Xid) → (HeldBranch → HeldBranch) → (x : Xid) → HeldBranch → HeldBranch

@@ -12,12 +12,12 @@ pub trait ResourceManager {
     ghost use Rattle.xa_base.specs.HeldBranch.{HeldBranch, held_after, broken_by, crashed, completed_by};
     ghost use Rattle.xa_base.specs.Recover.{IsInDoubtList};
     ghost use Rattle.xa_base.specs.Scan.{Scan, Scan.NotOpen};
-    ghost use Rattle.xa_base.specs.Standing.{branch_state_of, fate_of, is_in_doubt};
+    ghost use Rattle.xa_base.specs.Standing.{branch_state_of, fate_of, is_in_doubt, is_prepared};
     ghost use Rattle.xa_base.specs.Xid.{Xid};
     ghost use Rattle.xa_base.specs.declared.answer.Answer.TheVariants.{Ret, Page};
     ghost use Rattle.xa_base.specs.declared.code.Code.TheVariants.{Invalid};
     ghost use Rattle.xa_rm.specs.ResourceManager.{answer_to, scan_after_call, is_of_line, answer_to_recover, scan_after_recover};
-    ghost use Rattle.xa_rm.specs.ResourceManager.{is_prepared, changed_at, voting, retrying, HoldsFormat, HoldsNoFormat};
+    ghost use Rattle.xa_rm.specs.ResourceManager.{changed_at, voting, retrying, HoldsFormat, HoldsNoFormat};
 
     /// The branch of an identifier.
     ghost held_of: { Self → Xid → HeldBranch };

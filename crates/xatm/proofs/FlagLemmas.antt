@@ -1,5 +1,5 @@
 -- The flags of the items met so far, together with those of the items that are left.
-use Rattle.std.proofs.Common.{◌≡◌, ◌∙◌, ℕ, true, false, ◌||◌, List, ◌∷◌, Option, Some, None, option_map, refl, ap, sym}
+use Rattle.std.proofs.Common.{◌≡◌, ◌∙◌, ℕ, false, ◌||◌, List, ◌∷◌, Option, Some, None, option_map, refl, ap, sym}
 use Rattle.std.specs.Prelude.{bit_or, option_and_then}
 use Rattle.std.specs.List.{list_any}
 use Rattle.toml.specs.Data.{Data, Items, item, as_str}
@@ -25,10 +25,6 @@ joined : (flags flag : ℕ) (more : Option ℕ) → with_flags flags (option_and
 joined flags flag None = refl
 joined flags flag (Some n) = ap Some (or_assoc flags flag n)
 
-refused : (more : Option ℕ) → option_and_then {T = ℕ} {U = ℕ} (λ others. None) more ≡ None
-refused None = refl
-refused (Some n) = refl
-
 -- an item that names a flag of its own
 pub flag_goes_on : (flags flag : ℕ) (word : List ℕ) (d : Data) (ds : Items) (all : Option ℕ)
     → as_str d ≡ Some word → flag_named word ≡ Some flag → holds_text word ds ≡ false
@@ -36,20 +32,6 @@ pub flag_goes_on : (flags flag : ℕ) (word : List ℕ) (d : Data) (ds : Items) 
 flag_goes_on flags flag word d ds all text named once so_far =
     let step : flags_of (item d ds) ≡ option_and_then (λ others. Some (bit_or flag others)) (flags_of ds) = rw (text, named, once) refl in
     sym (joined flags flag (flags_of ds)) ∙ ap (with_flags flags) (sym step) ∙ so_far
-
--- an item that is no text, no flag, or comes again
-pub no_text : (flags : ℕ) (d : Data) (ds : Items) (all : Option ℕ) → as_str d ≡ None → with_flags flags (flags_of (item d ds)) ≡ all → None ≡ all
-no_text flags d ds all text so_far = (rw text refl) ∙ so_far
-
-pub no_flag : (flags : ℕ) (word : List ℕ) (d : Data) (ds : Items) (all : Option ℕ) → as_str d ≡ Some word → flag_named word ≡ None
-    → with_flags flags (flags_of (item d ds)) ≡ all → None ≡ all
-no_flag flags word d ds all text named so_far = (rw (text, named) refl) ∙ so_far
-
-pub flag_again : (flags flag : ℕ) (word : List ℕ) (d : Data) (ds : Items) (all : Option ℕ) → as_str d ≡ Some word → flag_named word ≡ Some flag → holds_text word ds ≡ true
-    → with_flags flags (flags_of (item d ds)) ≡ all → None ≡ all
-flag_again flags flag word d ds all text named again so_far =
-    let step : flags_of (item d ds) ≡ option_and_then (λ others. None) (flags_of ds) = rw (text, named, again) refl in
-    ap (with_flags flags) (sym (step ∙ refused (flags_of ds))) ∙ so_far
 
 -- no item is left
 pub ends : (flags : ℕ) (all : Option ℕ) → with_flags flags (Some 0) ≡ all → Some flags ≡ all
