@@ -1,6 +1,8 @@
 //! Calls to a resource manager (XA, chapter 5, Reference Manual Pages).
-ghost use Rattle.std.specs.Prelude.{◌≡◌, Ok, IfOk, IfErr};
+ghost use Rattle.std.specs.Prelude.{◌≡◌, IfErr};
 ghost use Rattle.std.specs.Option.{option_copied};
+ghost use Rattle.std.specs.Result.{result_ok};
+ghost use Rattle.xa_base.specs.Call.{CallsHaveTheirParts};
 ghost use Rattle.xa_base.specs.declared.code.Code.TheVariants.{Invalid};
 
 use crate::flags::WHOLE_SCAN;
@@ -66,7 +68,7 @@ pub enum CallKind {
 }
 
 impl Call {
-    ghost use Rattle.xa_base.specs.Call.{IsCallOf, flags_of, xid_in, kind_of};
+    ghost use Rattle.xa_base.specs.Call.{call_with, flags_of, xid_in};
     ghost use Rattle.xa_base.specs.declared.call.Call.{Call};
 
     /// The call of these parts. It is XAER_INVAL where the kind of call doesn't take these flags (XA, section 4.4), where
@@ -77,8 +79,7 @@ impl Call {
         flags: u32,
         count: Option<i64>,
     ) -> Result<Call, Code>
-        ensures inverse { (call : Call) → IsCallOf kind xid flags count call → result ≡ Ok call }
-        ensures made { IfOk result (IsCallOf kind xid flags count) }
+        ensures made { result_ok result ≡ call_with kind xid flags count }
         ensures refused { IfErr result (λ code. code ≡ Invalid) }
     {
         let call = match (kind, xid, count) {
@@ -188,3 +189,8 @@ impl Call {
         }
     }
 }
+
+/// The call of some parts is the one that has them, wherever there is one.
+pub fn calls_have_their_parts()
+    ensures { CallsHaveTheirParts }
+{}

@@ -32,7 +32,7 @@ mod xid;
 
 pub use answer::{Answer, Page};
 pub use branch::{Branch, Gtrid};
-pub use call::{Call, CallKind};
+pub use call::{Call, CallKind, calls_have_their_parts};
 pub use code::{Code, How, RbCode};
 pub use fault::{Memory, XidFault};
 pub use flags::{TMENDRSCAN, TMFAIL, TMJOIN, TMNOFLAGS, TMONEPHASE, TMSTARTRSCAN, TMSUCCESS};

@@ -1,15 +1,13 @@
 -- Which branch a call names, and what it asks of it.
 use Rattle.std.proofs.Common.{◌≡◌, ℕ, zero, suc, ℤ, ◌==◌, Bool, true, false, if◌then◌else◌, Option, Some, None, IsSome, refl, sym, ◌∙◌, ap, subst}
 use Rattle.xa_base.proofs.XidOrder.{xid_eq-same}
-use Rattle.std.proofs.lemmas.Bool.{eqb-true}
-use Rattle.xa_base.specs.Call.{xid_in, IsCallOf, flags_of}
+use Rattle.xa_base.specs.Call.{xid_in}
 use Rattle.xa_base.specs.HeldBranch.{HeldBranch, new_branch, called, answer_of, starter_after, retries_after}
 use Rattle.xa_base.specs.Standing.{is_in_doubt}
 use Rattle.xa_base.specs.StateTable.{Kind, Kind.Start, Kind.Join, Kind.End, Kind.Prepare, Kind.Commit, Kind.OnePhase, Kind.Rollback, Kind.Forget, answer, moved, state_of, start_kind, commit_kind, asks_of}
 use Rattle.xa_base.specs.Xid.{Xid, xid_eq}
 use Rattle.xa_base.specs.declared.call.Call.{Call}
 use Rattle.xa_base.specs.declared.call.Call.TheVariants as Calls
-use Rattle.xa_base.specs.declared.call.CallKind.TheVariants as Kinds
 use Rattle.xa_base.specs.declared.code.Code.TheVariants as Codes
 use Rattle.xa_base.specs.declared.state.Standing.{Standing}
 use Rattle.xa_base.specs.declared.state.Standing.TheVariants.{Unstarted, Active, Idle, Prepared, RollbackOnly, Completed, Committed, RolledBack, Lost, ReadOnly, Forgotten}
@@ -131,17 +129,16 @@ unchanged_there held f x e y =
 
 -- ** the flags of xa_recover
 
--- a choice whose test can't hold
-not_taken : {X : Type 0} (b : Bool) (x : Option X) (rest : Option X) → (b ≡ true → ⊥) → rest ≡ None → (if b then x else rest) ≡ None
-not_taken true x rest never none = absurd (never refl)
-not_taken false x rest never none = none
+-- where none of four calls is chosen, none of four others is
+none_chosen : {X : Type 0} (a b c d : Bool) (p q r s t u v w : X)
+    → (if a then Some p else if b then Some q else if c then Some r else if d then Some s else None) ≡ None
+    → (if a then Some t else if b then Some u else if c then Some v else if d then Some w else None) ≡ None
+none_chosen true b c d p q r s t u v w e = let no : ⊥ = cc in absurd no
+none_chosen false true c d p q r s t u v w e = let no : ⊥ = cc in absurd no
+none_chosen false false true d p q r s t u v w e = let no : ⊥ = cc in absurd no
+none_chosen false false false true p q r s t u v w e = let no : ⊥ = cc in absurd no
+none_chosen false false false false p q r s t u v w e = refl
 
--- flags that are of no xa_recover make none
-pub recover_of_none : (count other : ℤ) (flags : ℕ) → ((call : Call) → IsCallOf Kinds.Recover None flags (Some other) call → ⊥) → recover_of count flags ≡ None
-recover_of_none count other flags never =
-    let never_of = λ (start end : Bool) (same : flags_of (Calls.Recover other start end) ≡ flags).
-    never (Calls.Recover other start end) (record { kind = refl; xid = refl; flags = same; count = refl }) in
-    not_taken (flags == 0) _ _ (λ e. never_of false false (sym (eqb-true flags 0 e)))
-    (not_taken (flags == 0x0080_0000) _ _ (λ e. never_of false true (sym (eqb-true flags 0x0080_0000 e)))
-    (not_taken (flags == 0x0100_0000) _ _ (λ e. never_of true false (sym (eqb-true flags 0x0100_0000 e)))
-    (not_taken (flags == 0x0180_0000) _ _ (λ e. never_of true true (sym (eqb-true flags 0x0180_0000 e))) refl)))
+-- flags that make no xa_recover of one count make none of another
+pub recover_of_none : (m n : ℤ) (flags : ℕ) → recover_of m flags ≡ None → recover_of n flags ≡ None
+recover_of_none m n flags e = none_chosen (0 == flags) (0x0080_0000 == flags) (0x0100_0000 == flags) (0x0180_0000 == flags) _ _ _ _ _ _ _ _ e

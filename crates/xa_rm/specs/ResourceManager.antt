@@ -1,6 +1,7 @@
 -- What calls, scripts and scans do at a resource manager: to the branch of each identifier, and to the scan of each thread.
 use Rattle.std.specs.Prelude.{◌≡◌, ◌≢◌, ◌==◌, ℕ, ℤ, Bool, true, false, if◌then◌else◌, List, Option, Some, None}
 use Rattle.std.specs.Option.{option_map_or}
+use Rattle.xa_base.specs.Call.{call_with}
 use Rattle.xa_base.specs.HeldBranch.{HeldBranch, code_for}
 use Rattle.xa_base.specs.Recover.{xid_page, page_answer}
 use Rattle.xa_base.specs.Scan.{Scan, scan_after}
@@ -10,6 +11,7 @@ use Rattle.xa_base.specs.declared.answer.Answer.{Answer}
 use Rattle.xa_base.specs.declared.answer.Answer.TheVariants.{Ret}
 use Rattle.xa_base.specs.declared.call.Call.{Call}
 use Rattle.xa_base.specs.declared.call.Call.TheVariants.{OpenRm, CloseRm, Recover}
+use Rattle.xa_base.specs.declared.call.CallKind.TheVariants as Kind
 use Rattle.xa_base.specs.declared.code.Code.TheVariants.{Invalid}
 use Rattle.xa_base.specs.declared.state.Fate.TheVariants as Fates
 use Rattle.xa_base.specs.declared.vote.Vote.{Vote}
@@ -38,12 +40,7 @@ is_of_line _ = false
 
 -- the xa_recover with these flags; none, where they are other than TMSTARTRSCAN, TMENDRSCAN and both together
 abbrev pub recover_of : (count : ℤ) → (flags : ℕ) → Option Call
-recover_of count flags =
-    if flags == 0 then Some (Recover count false false)
-    else if flags == 0x0080_0000 then Some (Recover count false true)
-    else if flags == 0x0100_0000 then Some (Recover count true false)
-    else if flags == 0x0180_0000 then Some (Recover count true true)
-    else None
+recover_of count flags = call_with Kind.Recover None flags (Some count)
 
 -- the answer to an xa_recover with these flags, and XAER_INVAL where there is none
 abbrev pub answer_to_recover : (Xid → HeldBranch) → Scan Xid → (in_doubt : List Xid) → (count : ℤ) → (flags : ℕ) → Answer

@@ -1,4 +1,3 @@
-pub mod CallLemmas
 pub mod CallsMade
 pub mod EntryLemmas
 pub mod FlagLemmas

@@ -1,7 +1,5 @@
 //! What a table of a scenario file asks for.
-
 ghost use Rattle.std.specs.Prelude.{◌≡◌};
-ghost use Rattle.xatm.specs.CallEntry.{CallsHaveTheirParts};
 
 use xa_base::{Branch, Call, CallKind, Gtrid, Vote, Xid};
 
@@ -86,8 +84,3 @@ pub enum Entry {
         vote: Vote,
     },
 }
-
-/// The call of some parts is the one that has them, wherever there is one.
-pub fn calls_have_their_parts()
-    ensures { CallsHaveTheirParts }
-{}

@@ -1,5 +1,6 @@
 use Rattle.std.proofs.Common.{ap, sym, ◌∙◌}
 use Rattle.std.specs.Option.{option_map_or}
+use Rattle.std.specs.Result.{result_ok}
 use Rattle.xa_base.specs.declared.answer.Answer.TheVariants.{Ret}
 use Rattle.xa_base.specs.declared.code.Code.TheVariants.{Invalid}
 use Rattle.xa_rm.proofs.CallLemmas.{recover_of_none}
@@ -10,11 +11,11 @@ use Rattle.xa_rm.proofs.mem_rm.MemRmResourceManager.recover.Goals as goal
 
 pub returns-in-Err-clause-answer : goal.returns-in-Err-clause-answer
 returns-in-Err-clause-answer c =
-    let none = recover_of_none c.args.count _ c.args.flags (λ call is_of. let made = c.of.ensures.inverse call is_of in let failed = c.in-Err.is in let no : ⊥ = cc in no) in
+    let none = recover_of_none _ c.args.count c.args.flags (sym c.of.ensures.made ∙ ap result_ok c.in-Err.is) in
     ap Ret c.in-Err.ensures.refused
     ∙ sym (ap (λ asked. option_map_or (answer_to (held_at c.args.self.now.branches.table) (scan_at c.args.self.now.scans.cursors c.args.thread) c.args.self.now.branches.index.keys) asked (Ret Invalid)) none)
 
 pub returns-in-Err-clause-scans : goal.returns-in-Err-clause-scans
 returns-in-Err-clause-scans c = λ t.
-    let none = recover_of_none c.args.count _ c.args.flags (λ call is_of. let made = c.of.ensures.inverse call is_of in let failed = c.in-Err.is in let no : ⊥ = cc in no) in
+    let none = recover_of_none _ c.args.count c.args.flags (sym c.of.ensures.made ∙ ap result_ok c.in-Err.is) in
     sym (ap (λ asked. option_map_or (λ call. scan_after_call c.args.thread call c.args.self.now.branches.index.keys t (scan_at c.args.self.now.scans.cursors t)) asked (scan_at c.args.self.now.scans.cursors t)) none)

@@ -1,6 +1,6 @@
 use Rattle.std.proofs.Common.{◌≡◌, ◌∙◌, Some, option_map, ap, refl}
-use Rattle.xatm.specs.CallEntry.{call_with, xid_named}
-use Rattle.xatm.proofs.CallLemmas.{is_with}
+use Rattle.xa_base.specs.Call.{call_with}
+use Rattle.xatm.specs.CallEntry.{xid_named}
 use Rattle.xatm.proofs.entry.CallEntry.call.Goals as goal
 use Rattle.xatm.proofs.entry.CallEntry.call.Goals.{in-Some, in-None}
 
@@ -11,5 +11,4 @@ returns c =
       | in-Some w ↦ rw (w.xid-is, w.in-Some.is) (ap Some w.xid.ensures)
       | in-None w ↦ rw (w.xid-is, w.in-None.is) refl
     ] in
-    c.ok.ensures.value ∙ is_with entry.kind c.match-self.xid entry.flags entry.count c.of.result c.of.ensures.inverse c.of.ensures.made
-    ∙ ap (λ x. call_with entry.kind x entry.flags entry.count) named
+    c.ok.ensures.value ∙ c.of.ensures.made ∙ ap (λ x. call_with entry.kind x entry.flags entry.count) named

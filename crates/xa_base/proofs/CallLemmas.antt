@@ -1,16 +1,13 @@
 -- The one call of some parts.
-use Rattle.std.proofs.Common.{◌≡◌, ℕ, ◌==◌, ℤ, Bool, true, false, List, [], ◌∷◌, Option, Some, None, Result, Ok, Err, IfOk, cond, refl, sym, arith}
+use Rattle.std.proofs.Common.{◌≡◌, ℕ, ◌==◌, ℤ, Bool, true, false, List, [], ◌∷◌, Option, Some, None, cond, refl, arith}
 use Rattle.std.proofs.lemmas.Bool.Decides.{nat_tests}
 use Rattle.std.specs.List.{find}
-use Rattle.std.specs.Result.{result_ok}
-use Rattle.xa_base.specs.Call.{IsCallOf, kind_of, xid_in, count_in, flags_of}
+use Rattle.xa_base.specs.Call.{IsCallOf, kind_of, xid_in, count_in, flags_of, calls_with, call_with}
 use Rattle.xa_base.specs.Xid.{Xid}
 use Rattle.xa_base.specs.declared.call.Call.{Call}
 use Rattle.xa_base.specs.declared.call.Call.TheVariants.{OpenRm, CloseRm, Start, End, Prepare, Commit, Rollback, Forget, Recover}
 use Rattle.xa_base.specs.declared.call.CallKind.{CallKind}
 use Rattle.xa_base.specs.declared.call.CallKind.TheVariants as Kind
-use Rattle.xa_base.specs.declared.code.Code.{Code}
-use Rattle.xatm.specs.CallEntry.{calls_with, call_with}
 
 -- a call is the one of its own parts
 own : (call : Call) → call_with (kind_of call) (xid_in call) (flags_of call) (count_in call) ≡ Some call
@@ -81,15 +78,3 @@ pub with_is_made : (k : CallKind) (x : Option Xid) (f : ℕ) (n : Option ℤ) (c
 with_is_made k x f n call h =
     let parts = found (HasParts k x n) (λ c. flags_of c == f) (calls_with k x n) call (have_parts k x n) h in
     record { kind = parts.1.kind; xid = parts.1.xid; flags = same_number (flags_of call) f parts.0; count = parts.1.count }
-
--- an answer that is no call, where no call has the parts
-refused : (k : CallKind) (x : Option Xid) (f : ℕ) (n : Option ℤ) (code : Code) (o : Option Call)
-    → ((call : Call) → IsCallOf k x f n call → ◌≡◌ {A = Result Call Code} (Err code) (Ok call)) → call_with k x f n ≡ o → None ≡ o
-refused k x f n code None inverse is = refl
-refused k x f n code (Some call) inverse is = let no = inverse call (with_is_made k x f n call is) in cc
-
--- an answer that is the call of the parts wherever there is one
-pub is_with : (k : CallKind) (x : Option Xid) (f : ℕ) (n : Option ℤ) (r : Result Call Code)
-    → ((call : Call) → IsCallOf k x f n call → r ≡ Ok call) → IfOk r (IsCallOf k x f n) → result_ok r ≡ call_with k x f n
-is_with k x f n (Ok call) inverse made = sym (made_is_with k x f n call made)
-is_with k x f n (Err code) inverse made = refused k x f n code (call_with k x f n) inverse refl
