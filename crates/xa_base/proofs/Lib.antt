@@ -1,5 +1,6 @@
 pub mod Alike
 pub mod BranchLemmas
+pub mod BranchOrder
 pub mod CallLemmas
 pub mod Calls
 pub mod Carried

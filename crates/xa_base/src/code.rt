@@ -1,7 +1,8 @@
 //! Return codes (XA, section 4.5, Return Codes).
 ghost use Rattle.std.specs.Prelude.{◌≡◌, Some, IfSome};
-ghost use Rattle.xa_base.specs.Code.{code_number, rb_number, how_number};
+ghost use Rattle.xa_base.specs.Code.{code_number, rb_number, how_number, how_of_number};
 ghost use Rattle.xa_base.specs.declared.code.Code.{Code};
+ghost use Rattle.xa_base.specs.declared.code.How.{How};
 ghost use Rattle.xa_base.specs.declared.code.RbCode.{RbCode};
 
 /// Why a resource manager rolled a branch back: the codes from XA_RBBASE to XA_RBEND (XA, section 4.5).
@@ -93,6 +94,21 @@ impl How {
             How::Com => 7,
             How::Rb => 6,
             How::Mix => 5,
+        }
+    }
+
+    /// The heuristic end whose code has a number, or none where none has it.
+    pub fn from_number(number: i32) -> Option<How>
+        ensures number { result ≡ how_of_number number }
+        ensures inverse { (how : How) → how_number how ≡ number → result ≡ Some how }
+        ensures found { IfSome result (λ how. how_number how ≡ number) }
+    {
+        match number {
+            8 => Some(How::Haz),
+            7 => Some(How::Com),
+            6 => Some(How::Rb),
+            5 => Some(How::Mix),
+            _ => None,
         }
     }
 }
