@@ -1,0 +1,4 @@
+pub mod Crossing
+pub mod FlowLaws
+pub mod GridLaws
+pub mod HistoryLaws

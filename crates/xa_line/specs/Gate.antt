@@ -1,0 +1,9 @@
+-- What a line remembers of the calls that were issued.
+use Rattle.std.specs.Prelude.{◌≡◌, List}
+use Rattle.xa_base.specs.declared.call.Call.{Call}
+use Rattle.xa_line.specs.Traffic.{is_open, is_closed}
+use Rattle.xa_line.specs.declared.gate.Gate.{Gate}
+
+-- the gate knows whether these calls opened and closed the line
+abbrev pub Knows : Gate → List Call → Type 0
+Knows gate calls = (gate.opened ≡ is_open calls) × (gate.closed ≡ is_closed calls)

@@ -1,0 +1,68 @@
+//! The end of a line that a thread of control has.
+ghost use Rattle.xa_line.specs.Gate.{Knows};
+ghost use Rattle.xa_line.specs.Queue.{pushed};
+
+use crate::entry::Entry;
+use crate::exit::Exit;
+use crate::gate::Gate;
+use xa_base::{Answer, Call, Refusal};
+
+/// The end of a line that the thread of control has, in a thread of its own: it issues calls and hears their
+/// answers. No call waits for the other end, locks or takes memory.
+#[derive(Drop)]
+pub struct Issuer {
+    pub(crate) calls: Entry<Call>,
+    pub(crate) answers: Exit<(Call, Answer)>,
+    pub(crate) gate: Gate,
+    ghost gate_knows: { Knows gate (pushed calls) },
+}
+
+impl Issuer {
+    ghost use Rattle.std.specs.Prelude.{◌≡◌, ◌<◌, ◌≤◌, ◌+◌, ◌∷◌, ◌++◌, [], length, None};
+    ghost use Rattle.std.specs.Prelude.{IsOk, IsSome, OnOk, OnErr, IfErr, IfSome, IfNone, MatchOption};
+    ghost use mathlib.Core.List.{IsPrefix};
+    ghost use Rattle.xa_base.specs.declared.refusal.Refusal.TheVariants.{Full};
+    ghost use Rattle.xa_line.specs.Ends.{SameIssuer, free_calls_of, heard_by, issued_by, seen_answers_of};
+    ghost use Rattle.xa_line.specs.Traffic.{barred};
+
+    /// Lets a call wait, or says why it is refused, as [`Line::issue`](crate::Line::issue) does. Here `Full` says
+    /// that no free place was seen: the other end may have taken a call meanwhile, so the same call may be
+    /// accepted later.
+    pub fn issue(&mut self, call: Call) -> Result<(), Refusal>
+        ensures same { SameIssuer self.old self.new }
+        ensures reason { MatchOption (barred (issued_by self.old) call)
+            (IfErr result (λ reason. (reason ≡ Full) × (free_calls_of self.new ≡ 0)))
+            (λ reason. result ≡ Err reason) }
+        ensures accepted { OnOk result (issued_by self.new ≡ issued_by self.old ++ call ∷ []) }
+        ensures free { OnOk result (free_calls_of self.old ≤ free_calls_of self.new + 1) }
+        ensures refused { OnErr result (issued_by self.new ≡ issued_by self.old) }
+        ensures kept { OnErr result (free_calls_of self.old ≤ free_calls_of self.new) }
+        ensures heard { heard_by self.new ≡ heard_by self.old }
+        ensures seen { seen_answers_of self.new ≡ seen_answers_of self.old }
+        ensures succeeds { barred (issued_by self.old) call ≡ None →
+            0 < free_calls_of self.old → IsOk result }
+    {
+        self.gate.check(&call)?;
+        let gate = self.gate.after(&call);
+        if self.calls.push(call).is_err() {
+            return Err(Refusal::Full);
+        }
+        self.gate = gate;
+        Ok(())
+    }
+
+    /// Hears the oldest waiting answer, with its call. None says that no answer was seen: one may come later.
+    pub fn hear(&mut self) -> Option<(Call, Answer)>
+        ensures same { SameIssuer self.old self.new }
+        ensures some { IfSome result (λ pair. heard_by self.new ≡ heard_by self.old ++ pair ∷ []) }
+        ensures seen { IfSome result (λ pair.
+            IsPrefix (seen_answers_of self.old) (pair ∷ seen_answers_of self.new)) }
+        ensures none { IfNone result (
+            (heard_by self.new ≡ heard_by self.old) × (seen_answers_of self.new ≡ [])) }
+        ensures issued { issued_by self.new ≡ issued_by self.old }
+        ensures free { free_calls_of self.new ≡ free_calls_of self.old }
+        ensures succeeds { 0 < length (seen_answers_of self.old) → IsSome result }
+    {
+        self.answers.pop()
+    }
+}
