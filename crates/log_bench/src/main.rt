@@ -1,0 +1,122 @@
+//! How many decisions a second the log takes, in memory and in a file; and its rows in a file, for another program to read.
+//!
+//! - without arguments: commits and settles transactions in memory, and prints how many rows are left;
+//! - `time [PATH]`: the same, and how many commits a second were made, in memory and in the new file at PATH;
+//! - `write PATH`: makes a log at PATH with a few rows of each kind;
+//! - `read PATH`: prints the rows of the log at PATH, whose incarnation it raises by one.
+#![tactic(auto)]
+
+use std::env;
+use std::time::Instant;
+use xa_base::{Branch, Gtrid, How};
+use xa_log::{DecisionLog, LogFault, SqlLog};
+
+/// How many transactions are committed.
+const COMMITS: u64 = 1_000;
+
+/// How many branches each of them waits for.
+const PARTICIPANTS: u32 = 2;
+
+fn main(rt: HostRuntime) -> anyhow::Result<()> {
+    let words: Vec<String> = env::args(&rt)?.collect(rt.alloc())?;
+    let command = words.get(1).map(|word| word.as_str());
+    let path = words.get(2).map(|word| word.as_str());
+    match (command, path) {
+        (Some("write"), Some(path)) => Ok(write(&mut SqlLog::open(&rt, path)?)?),
+        (Some("read"), Some(path)) => read(&rt, &mut SqlLog::open(&rt, path)?),
+        (Some("time"), path) => {
+            measure(&rt, "in memory", &mut SqlLog::open_in_memory(rt.alloc())?)?;
+            if let Some(path) = path {
+                measure(&rt, "in a file", &mut SqlLog::open(&rt, path)?)?;
+            }
+            Ok(())
+        }
+        _ => {
+            let mut log = SqlLog::open_in_memory(rt.alloc())?;
+            commit_all(&mut log)?;
+            println!(rt;
+                "{} rows after {COMMITS} commits",
+                log.rows()?.decisions.len()
+            )?;
+            settle_all(&mut log)?;
+            println!(rt; "{} rows once all are done", log.rows()?.decisions.len())?;
+            Ok(())
+        }
+    }
+}
+
+/// The branch of the first incarnation's transaction `sequence` at a resource manager.
+fn branch(sequence: u64, rm: u32) -> Branch {
+    Branch {
+        gtrid: Gtrid {
+            incarnation: 1,
+            sequence,
+        },
+        thread: 0,
+        rm,
+    }
+}
+
+/// Commits each transaction with its participants.
+fn commit_all<L: DecisionLog>(log: &mut L) -> Result<(), LogFault> {
+    for sequence in 1..=COMMITS {
+        let participants = [branch(sequence, 0), branch(sequence, 1)];
+        log.commit(participants[0].gtrid, &participants)?;
+    }
+    Ok(())
+}
+
+/// Takes the row of each transaction away.
+fn settle_all<L: DecisionLog>(log: &mut L) -> Result<(), LogFault> {
+    for sequence in 1..=COMMITS {
+        log.done(branch(sequence, 0).gtrid)?;
+    }
+    Ok(())
+}
+
+/// Prints how many commits a second a log takes.
+fn measure<L: DecisionLog>(rt: &HostRuntime, place: &str, log: &mut L) -> anyhow::Result<()> {
+    let start = Instant::now(rt)?;
+    commit_all(log)?;
+    let micros = start.elapsed(rt)?.as_micros();
+    let commits = u128::from(COMMITS).saturating_mul(1_000_000) / micros.max(1);
+    println!(rt; "{commits} commits a second {place}")?;
+    Ok(())
+}
+
+/// Two transactions, of two branches and of one, two heuristic ends, and the third incarnation.
+fn write<L: DecisionLog>(log: &mut L) -> Result<(), LogFault> {
+    for _ in 0..3 {
+        log.bump()?;
+    }
+    log.commit(branch(1, 0).gtrid, &[branch(1, 0), branch(1, 1)])?;
+    log.commit(branch(2, 0).gtrid, &[branch(2, 1)])?;
+    log.note_heuristic(branch(1, 1), How::Rb)?;
+    log.note_heuristic(branch(3, 0), How::Haz)
+}
+
+/// Prints the rows of a log, and the incarnation that it gives.
+fn read<L: DecisionLog>(rt: &HostRuntime, log: &mut L) -> anyhow::Result<()> {
+    let rows = log.rows()?;
+    for g in &rows.decisions {
+        println!(rt; "decision {} {}", g.incarnation, g.sequence)?;
+    }
+    for b in &rows.participants {
+        println!(rt;
+            "participant {} {} {} {}",
+            b.gtrid.incarnation, b.gtrid.sequence, b.thread, b.rm
+        )?;
+    }
+    for (b, how) in &rows.heuristics {
+        println!(rt;
+            "heuristic {} {} {} {} {}",
+            b.gtrid.incarnation,
+            b.gtrid.sequence,
+            b.thread,
+            b.rm,
+            how.number()
+        )?;
+    }
+    println!(rt; "incarnation {}", log.bump()?)?;
+    Ok(())
+}

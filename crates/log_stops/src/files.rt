@@ -1,0 +1,123 @@
+//! The two files of a log, in memory: opened, closed, crashed, and stopped after so many calls.
+
+use sqlite::{Alter, Connection, Error, FileStore, Files, Options};
+use sqlite_disk::{Crash, Disk, Fuse, Memory};
+use std::alloc::Global;
+use std::test::Fail;
+
+pub(crate) type Stopping = Fuse<Memory>;
+
+/// A log of version 1 in its first incarnation, with the transaction (1, 1) and a branch of (1, 2).
+pub(crate) const VERSION_1: &str = "BEGIN; \
+    CREATE TABLE tm_meta (k INTEGER PRIMARY KEY CHECK (k = 1), version INTEGER NOT NULL, \
+    incarnation INTEGER NOT NULL); \
+    CREATE TABLE decision (inc INTEGER NOT NULL, seq INTEGER NOT NULL, PRIMARY KEY (inc, seq)); \
+    CREATE TABLE heuristic (inc INTEGER NOT NULL, seq INTEGER NOT NULL, thread INTEGER NOT NULL, \
+    rm INTEGER NOT NULL, how INTEGER NOT NULL, PRIMARY KEY (inc, seq, thread, rm), \
+    CHECK (how >= 5 AND how <= 8)); \
+    INSERT INTO tm_meta (k, version, incarnation) VALUES (1, 1, 1); \
+    INSERT INTO decision (inc, seq) VALUES (1, 1); \
+    INSERT INTO heuristic (inc, seq, thread, rm, how) VALUES (1, 2, 0, 3, 6); \
+    COMMIT";
+
+/// With little memory for pages, so that a run is short.
+pub(crate) fn options(seed: u64) -> Options {
+    Options {
+        cache_pages: 16,
+        spill_pages: 16,
+        checkpoint_frames: 1000,
+        seed,
+    }
+}
+
+/// A connection to the files, or the files again.
+pub(crate) fn open<D: Disk + Drop>(
+    alloc: Global,
+    files: Files<D>,
+    seed: u64,
+) -> Result<Connection<FileStore<D>>, Files<D>> {
+    if !files.may_be_used() {
+        return Err(files);
+    }
+    match Connection::open_files(alloc, files, options(seed)) {
+        Ok(conn) => Ok(conn),
+        Err((_, left)) => Err(left.into_files()),
+    }
+}
+
+/// A connection to the files, which are known to open.
+pub(crate) fn reopened<D: Disk + Drop>(
+    alloc: Global,
+    files: Files<D>,
+    seed: u64,
+) -> Result<Connection<FileStore<D>>, Fail> {
+    match open(alloc, files, seed) {
+        Ok(conn) => Ok(conn),
+        Err(_) => Err(Fail::from("the files do not open")),
+    }
+}
+
+pub(crate) fn blank(alloc: Global) -> Files<Memory> {
+    Files {
+        log: Memory::new(alloc),
+        db: Memory::new(alloc),
+    }
+}
+
+pub(crate) fn run<S: Alter>(conn: &mut Connection<S>, sql: &str) -> Result<(), Error> {
+    conn.execute_batch(sql)
+}
+
+/// The files, with no copy of the journal into the database file.
+pub(crate) fn closed<D: Disk + Drop>(conn: Connection<FileStore<D>>) -> Files<D> {
+    conn.into_store().close()
+}
+
+/// Files in which these statements have run.
+pub(crate) fn files_with(alloc: Global, sql: &str) -> Result<Files<Memory>, Fail> {
+    let mut conn = reopened(alloc, blank(alloc), 1)?;
+    run(&mut conn, sql)?;
+    Ok(closed(conn))
+}
+
+/// The files as a crash leaves them.
+pub(crate) fn crashed<D: Crash + Drop>(mut files: Files<D>) -> Files<D> {
+    files.log.crash();
+    files.db.crash();
+    files
+}
+
+/// Which of the two files stops.
+#[derive(Clone, Copy, Debug, PartialEq, Eq)]
+pub(crate) enum Stops {
+    Journal,
+    Database,
+}
+
+/// The files, of which the one passes so many calls on.
+pub(crate) fn stopping(files: Files<Memory>, which: Stops, calls: u64) -> Files<Stopping> {
+    let (log_calls, db_calls) = match which {
+        Stops::Journal => (calls, u64::MAX),
+        Stops::Database => (u64::MAX, calls),
+    };
+    Files {
+        log: Fuse::new(files.log, log_calls),
+        db: Fuse::new(files.db, db_calls),
+    }
+}
+
+/// The same file, all of which is on the disk.
+fn copied(alloc: Global, file: &Memory) -> Result<Memory, Fail> {
+    let mut copy = Memory::new(alloc);
+    copy.write_at(0, file.bytes())?;
+    copy.sync()?;
+    Ok(copy)
+}
+
+/// The same files.
+pub(crate) fn copy_of(alloc: Global, files: &Files<Memory>) -> Result<Files<Memory>, Fail> {
+    Ok(Files {
+        log: copied(alloc, &files.log)?,
+        db: copied(alloc, &files.db)?,
+    })
+}

@@ -1,0 +1,12 @@
+//! Tests of the decision log over disks in memory that stop: at each call of either file, while the log makes its tables,
+//! migrates them or changes its rows, a crash leaves what was there before or all that the one change makes.
+#![tactic(auto)]
+
+#[cfg(test)]
+mod changes;
+#[cfg(test)]
+mod files;
+#[cfg(test)]
+mod seen;
+#[cfg(test)]
+mod tables;

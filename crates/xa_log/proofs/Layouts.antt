@@ -1,0 +1,48 @@
+-- Which tables each version has, and what a look at them leaves.
+use Rattle.std.proofs.Common.{◌≡◌, refl, is_some, codes, true, false, Result, Ok, Err, OnOk, IsTrue, inl, inr, ◌⊎◌, sym, subst, ◌∙◌}
+use Rattle.sqlite_schema.specs.Names.{table_named}
+use Rattle.sqlite_tied.specs.Compute.{everything}
+use Rattle.sqlite.specs.State.{State, IsUnchanged}
+use Rattle.xa_log.specs.Tables.{old_schema, log_schema}
+use Rattle.xa_log.specs.Rows.{IsOldLog}
+use Rattle.xa_log.specs.Sql.{IsOldReady, IsUndone, Rests}
+
+pub meta_in_old : is_some (table_named old_schema (codes "tm_meta")) ≡ true
+unfolding everything
+meta_in_old = refl
+
+pub no_participant_in_old : is_some (table_named old_schema (codes "participant")) ≡ false
+unfolding everything
+no_participant_in_old = refl
+
+pub participant_in_log : is_some (table_named log_schema (codes "participant")) ≡ true
+unfolding everything
+participant_in_log = refl
+
+pub on_ok : {A E : Type 0} (r : Result A E) (P : Type 0) → P → OnOk r P
+on_ok (Ok x) P h = h
+on_ok (Err e) P h = tt
+
+pub old_ready_after : (a b : State) → IsUnchanged a b → IsOldReady a → IsOldReady b
+old_ready_after a b same is = record {
+  is_open = same.0.is_open;
+  now = subst IsOldLog (sym same.0.now_is) is.now;
+  committed = same.0.committed_is ∙ is.committed ∙ sym same.0.now_is;
+}
+
+-- outside a transaction nothing waits for a commit
+pub rests_undone : (a b : State) → (IsTrue a.is_open → a.now ≡ a.committed) → a.in_transaction ≡ false → Rests a b → IsUndone a b
+rests_undone a b settled mode (inl same) = record {
+  was_open = λ _. same.0.was_open;
+  undone = λ _. (same.0.now_is ∙ settled same.0.was_open, same.0.committed_is);
+  autocommit = same.0.mode ∙ mode;
+}
+rests_undone a b settled mode (inr undone) = record { was_open = undone.was_open; undone = undone.undone; autocommit = undone.autocommit }
+
+pub either_version : {A E V : Type 0} (r : Result A E) (v one two : V) → OnOk r (v ≡ one) → OnOk r ((v ≡ one) ⊎ (v ≡ two))
+either_version (Ok x) v one two h = inl h
+either_version (Err e) v one two h = tt
+
+pub second_version : {A E V : Type 0} (r : Result A E) (v one two : V) → OnOk r (v ≡ two) → OnOk r ((v ≡ one) ⊎ (v ≡ two))
+second_version (Ok x) v one two h = inr h
+second_version (Err e) v one two h = tt

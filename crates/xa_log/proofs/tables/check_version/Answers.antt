@@ -1,0 +1,36 @@
+use Rattle.std.proofs.Common.{inl, [], ap, ◌∙◌, pos}
+use Rattle.sqlite.specs.Held.{state}
+use Rattle.xa_log.proofs.States.{on_err, rests_query}
+use Rattle.xa_log.proofs.Versions.{read_meta, looks, looks_at, look_survives}
+use Rattle.xa_log.proofs.tables.check_version.Goals as goal
+
+pub returns-in_err-rows-clause-rests : goal.returns-in_err-rows-clause-rests
+returns-in_err-rows-clause-rests g c has clean =
+    on_err _ _ (rests_query read_meta [] (state g.S.Store c.args.conn.now) (state g.S.Store c.query_all.new.self) c.in_err-rows.field-0.0 (c.in_err-rows.ensures.err clean))
+
+pub returns-in_err-rows-clause-survives : goal.returns-in_err-rows-clause-survives
+returns-in_err-rows-clause-survives g c has = look_survives (state g.S.Store c.args.conn.now) (state g.S.Store c.query_all.new.self) has c.query_all.ensures.survives
+
+pub returns-in_err-version_in-clause-rests : goal.returns-in_err-version_in-clause-rests
+returns-in_err-version_in-clause-rests g c has clean =
+    on_err _ _ (inl (looks (state g.S.Store c.args.conn.now) (state g.S.Store c.query_all.new.self) c.in_ok-rows.rows.items has (c.in_ok-rows.ensures.ok clean)))
+
+pub returns-in_err-version_in-clause-survives : goal.returns-in_err-version_in-clause-survives
+returns-in_err-version_in-clause-survives g c has = look_survives (state g.S.Store c.args.conn.now) (state g.S.Store c.query_all.new.self) has c.query_all.ensures.survives
+
+pub returns-then-branch-version-clause-same : goal.returns-then-branch-version-clause-same
+returns-then-branch-version-clause-same g c has clean = looks (state g.S.Store c.args.conn.now) (state g.S.Store c.query_all.new.self) c.in_ok-rows.rows.items has (c.in_ok-rows.ensures.ok clean)
+
+pub returns-then-branch-version-clause-survives : goal.returns-then-branch-version-clause-survives
+returns-then-branch-version-clause-survives g c has = look_survives (state g.S.Store c.args.conn.now) (state g.S.Store c.query_all.new.self) has c.query_all.ensures.survives
+
+pub returns-then-branch-version-clause-version : goal.returns-then-branch-version-clause-version
+returns-then-branch-version-clause-version g c v names clean =
+    let is = looks_at v (state g.S.Store c.args.conn.now) (state g.S.Store c.query_all.new.self) c.in_ok-rows.rows.items names (c.in_ok-rows.ensures.ok clean) in
+    c.in_ok-version_in.ensures v names.1 (c.as_slice.ensures.value ∙ is) ∙ ap pos c.if-branch-version.true
+
+pub returns-clause-rests : goal.returns-clause-rests
+returns-clause-rests g c has clean = inl (looks (state g.S.Store c.args.conn.now) (state g.S.Store c.query_all.new.self) c.in_ok-rows.rows.items has (c.in_ok-rows.ensures.ok clean))
+
+pub returns-clause-survives : goal.returns-clause-survives
+returns-clause-survives g c has = look_survives (state g.S.Store c.args.conn.now) (state g.S.Store c.query_all.new.self) has c.query_all.ensures.survives

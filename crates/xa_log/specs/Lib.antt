@@ -1,0 +1,11 @@
+pub mod Content
+pub mod Contract
+pub mod FailPlan
+pub mod KeySet
+pub mod Memory
+pub mod MemoryLaws
+pub mod Opened
+pub mod Rows
+pub mod Settled
+pub mod Sql
+pub mod Tables

@@ -1,0 +1,73 @@
+-- The laws of a log in tables: a crash leaves what it holds, where the store's crashes leave the last commit; and the participants of a
+-- transaction are branches of it.
+use Rattle.std.proofs.Common.{◌≡◌, inl, inr, List, [], ◌∷◌, map, filter, Bool, true, Some, None, IsTrue, Ordering, Less, Equal, Greater, is_eq, refl, sym, ap, ◌∙◌}
+use Rattle.std.proofs.lemmas.Bool.{cases_Bool, true≢false}
+use Rattle.std.specs.FinMap.{find, get, get-from_entries}
+use Rattle.xa_log.specs.KeySet.{KeySet, contains, contains-from_list}
+use Rattle.std.specs.List.{list_any}
+use Rattle.std.specs.Ordering.{eq_by_cmp}
+use Rattle.sqlite.specs.Effect.{Database}
+use Rattle.sqlite.specs.Order.{Row}
+use Rattle.sqlite.specs.State.{State}
+use Rattle.sqlite.specs.Tree.{Trees}
+use Rattle.xa_base.proofs.BranchOrder.{branches_total, exact_branches, exact_gtrids, gtrids_total}
+use Rattle.xa_base.specs.Branch.{branch_cmp, gtrid_cmp}
+use Rattle.xa_base.specs.declared.branch.Branch.{Branch}
+use Rattle.xa_base.specs.declared.branch.Gtrid.{Gtrid}
+use Rattle.xa_log.specs.Content.{AreOwn, Content}
+use Rattle.xa_log.specs.Rows.{branch_in, content_of, gtrid_in, is_of, participants_in}
+use Rattle.xa_log.specs.Sql.{IsOrderly, MayLeave, content_in}
+
+pub settled_content : (s : State) → ((db : Trees) → IsTrue s.is_open → s.may_leave db → db ≡ s.committed.trees) → (c d : Content) → IsOrderly s → content_in s ≡ Some c → MayLeave s d → d ≡ c
+settled_content s settled c d order is left = elim (cases_Bool s.is_open) [
+  | inl is_open ↦ (
+      let same : Some (content_of s.now.trees) ≡ Some c = sym (rw is_open refl) ∙ is in
+      let one : content_of s.now.trees ≡ c = cc in
+      left.2 ∙ ap content_of (settled left.0 is_open left.1) ∙ ap (λ (d : Database). content_of d.trees) (order is_open).committed ∙ one)
+  | inr shut ↦ absurd (let none : None ≡ Some c = sym (rw shut refl) ∙ is in cc)
+]
+
+-- ** the participants of a transaction
+
+equal_is : (o : Ordering) → is_eq o ≡ true → o ≡ Equal
+equal_is Less h = absurd (cc)
+equal_is Equal h = refl
+equal_is Greater h = absurd (cc)
+
+told : {A : Type 0} (x y : A) → Some x ≡ Some y → x ≡ y
+told x y e = cc
+
+-- what the rows of decisions are told to have of a transaction is what it has
+found_as : (parts : Gtrid → KeySet branch_cmp) (rows : List Row) (g : Gtrid) (set : KeySet branch_cmp) → find gtrid_cmp g (map (λ row. (gtrid_in row, parts (gtrid_in row))) rows) ≡ Some set → parts g ≡ set
+found_as parts [] g set e = absurd (let none : None ≡ Some set = e in cc)
+found_as parts (r ∷ rows) g set e = elim (cases_Bool (is_of g (gtrid_in r))) [
+  | inl same ↦ ap parts (exact_gtrids g (gtrid_in r) (equal_is _ same)) ∙ told _ set (rw same at e)
+  | inr apart ↦ found_as parts rows g set (rw apart at e)
+]
+
+-- an item that a filter left passes its test
+passes : (t p : Branch → Bool) (xs : List Branch) → list_any p (filter t xs) ≡ true → (x : Branch) × (t x ≡ true) × (p x ≡ true)
+passes t p [] e = absurd (true≢false (sym e))
+passes t p (x ∷ xs) e = elim (cases_Bool (t x)) [
+  | inl kept ↦ elim (cases_Bool (p x)) [
+    | inl is ↦ (x, kept, is)
+    | inr fails ↦ passes t p xs (rw fails at (rw kept at e))
+  ]
+  | inr gone ↦ passes t p xs (rw gone at e)
+]
+
+part_is_own : (trees : Trees) (g : Gtrid) (set : KeySet branch_cmp) (b : Branch) → get (content_of trees).decisions g ≡ Some set → contains set b ≡ true → b.gtrid ≡ g
+part_is_own trees g set b has inside =
+    let parts = participants_in (trees 5) in
+    let same : parts g ≡ set = found_as parts (trees 1) g set (sym (get-from_entries gtrids_total _ g) ∙ has) in
+    let one = passes (λ c. is_of g c.gtrid) (eq_by_cmp branch_cmp b) (map branch_in (trees 5)) (sym (contains-from_list branches_total _ b) ∙ ap (λ s. contains s b) same ∙ inside) in
+    ap (λ (c : Branch). c.gtrid) (exact_branches b one.0 (equal_is _ one.2)) ∙ sym (exact_gtrids g one.0.gtrid (equal_is _ one.1))
+
+pub own_content : (s : State) (c : Content) → IsOrderly s → content_in s ≡ Some c → AreOwn c
+own_content s c order is g set b has inside = elim (cases_Bool s.is_open) [
+  | inl is_open ↦ (
+      let same : Some (content_of s.now.trees) ≡ Some c = sym (rw is_open refl) ∙ is in
+      let one : content_of s.now.trees ≡ c = cc in
+      part_is_own s.now.trees g set b (ap (λ (d : Content). get d.decisions g) one ∙ has) inside)
+  | inr shut ↦ absurd (let none : None ≡ Some c = sym (rw shut refl) ∙ is in cc)
+]

@@ -1,0 +1,112 @@
+-- A log in the tables of a database.
+use Rattle.std.specs.Prelude.{◌≡◌, ◌⊎◌, false, if◌then◌else◌, Option, Some, None, Ok, IsTrue, ℕ, List}
+use Rattle.sqlite.specs.Order.{Row}
+use Rattle.sqlite.specs.Tree.{Trees}
+use Rattle.sqlite.specs.Store.{Ghosts}
+use Rattle.sqlite.specs.Held.{Held, state}
+use Rattle.sqlite.specs.State.{State, HasCleanDisk, IsUnchanged, IsRolledBack, Shown, Executes, CommitsBy}
+use Rattle.std.specs.FinMap.{get}
+use Rattle.xa_log.specs.KeySet.{KeySet}
+use Rattle.xa_base.specs.declared.branch.Gtrid.{Gtrid}
+use Rattle.xa_base.specs.declared.branch.Branch.{Branch}
+use Rattle.xa_base.specs.Branch.{branch_cmp}
+use Rattle.xa_log.specs.Content.{Content, with_decision}
+use Rattle.xa_log.specs.Tables.{log_schema}
+use Rattle.xa_log.specs.Contract.{MayMake, LeavesAlso, LeavesNoMore}
+use Rattle.sqlite.specs.Effect.{Database}
+use Rattle.xa_log.specs.Rows.{IsLog, IsOldLog, content_of}
+
+-- it has the tables of the log, and no transaction is open
+pub record IsReady (s : State) : Type 0 where
+  pub autocommit : s.in_transaction ≡ false
+  pub now : IsLog s.now
+  pub committed : s.committed ≡ s.now
+
+-- unless a fault has shut it, it is ready
+abbrev pub IsOrderly : State → Type 0
+IsOrderly s = IsTrue s.is_open → IsReady s
+
+-- nothing, once a fault has shut it
+abbrev pub content_in : State → Option Content
+content_in s = if s.is_open then Some (content_of s.now.trees) else None
+
+-- what an open after a crash may find
+abbrev pub MayLeave : State → Content → Type 0
+MayLeave s c = (db : Trees) × s.may_leave db × (c ≡ content_of db)
+
+-- what a call that writes nothing leaves
+pub record OnlyReads (old new : State) : Type 0 where
+  pub honest : HasCleanDisk new → HasCleanDisk old
+  pub order : IsOrderly old → IsOrderly new
+  pub kept : IsOrderly old → (content_in new ≡ None) ⊎ (content_in new ≡ content_in old)
+  pub crash : IsOrderly old → HasCleanDisk new → LeavesNoMore (MayLeave old) (MayLeave new)
+
+-- what a call that may make one change leaves
+pub record MayChange (change : Content → Content) (old new : State) : Type 0 where
+  pub honest : HasCleanDisk new → HasCleanDisk old
+  pub order : IsOrderly old → IsOrderly new
+  pub kept : IsOrderly old → MayMake change (content_in old) (content_in new)
+  pub crash : IsOrderly old → HasCleanDisk new → LeavesAlso change (content_in old) (MayLeave old) (MayLeave new)
+
+-- the statement did nothing, or the transaction is undone
+abbrev pub Rests : State → State → Type 0
+Rests old new = IsUnchanged old new ⊎ IsRolledBack old new
+
+-- the log is open, and the rows answer the query
+abbrev pub Answers : {S : Type 0} → Ghosts S → List ℕ → Row → Held S → Held S → List Row → Type 0
+Answers {S} g sql params old new rows = (mid : Held S) × IsUnchanged (state g old) (state g mid) × IsUnchanged (state g mid) (state g new) × Shown sql params (state g mid) (state g new) rows
+
+-- the log is open, and the statement ran on it
+abbrev pub RunsFrom : {S : Type 0} → Ghosts S → List ℕ → Row → Held S → Held S → Type 0
+RunsFrom {S} g sql params old new = (mid : Held S) × IsUnchanged (state g old) (state g mid) × ((count : ℕ) × Executes sql params (state g mid) (state g new) (Ok count))
+
+-- a crash leaves what it might have left before, or what the statement commits
+abbrev pub LeavesBy : {S : Type 0} → Ghosts S → List ℕ → Row → Held S → Held S → Type 0
+LeavesBy {S} g sql params old new =
+    (db : Trees) → (state g new).may_leave db → (state g old).may_leave db ⊎ ((mid : Held S) × IsUnchanged (state g old) (state g mid) × CommitsBy sql params (state g mid) db)
+
+-- In a transaction that began over a log with this content, the decision has been written with these participants.
+pub record HasWritten (g : Gtrid) (participants : KeySet branch_cmp) (before : Content) (s : State) : Type 0 where
+  pub is_open : IsTrue s.is_open
+  pub inside : IsTrue s.in_transaction
+  pub now : IsLog s.now
+  pub content : content_of s.now.trees ≡ with_decision g participants before
+
+-- a transaction over a log that has no such decision
+pub record MayBegin (g : Gtrid) (s : State) : Type 0 where
+  pub inside : IsTrue s.in_transaction
+  pub now : IsLog s.now
+  pub none : get (content_of s.now.trees).decisions g ≡ None
+
+-- it holds no such decision, if it is open
+abbrev pub Lacks : Gtrid → State → Type 0
+Lacks g s = (c : Content) → content_in s ≡ Some c → get c.decisions g ≡ None
+
+-- it doesn't hold the branch as heuristic, if it is open
+abbrev pub LacksHeuristic : Branch → State → Type 0
+LacksHeuristic b s = (c : Content) → content_in s ≡ Some c → get c.heuristics b ≡ None
+
+-- an open log of version 1, with no transaction
+pub record IsOldReady (s : State) : Type 0 where
+  pub is_open : IsTrue s.is_open
+  pub now : IsOldLog s.now
+  pub committed : s.committed ≡ s.now
+
+-- a log of version 2 with this content
+abbrev pub IsNewLog : Content → Database → Type 0
+IsNewLog c db = IsLog db × (content_of db.trees ≡ c)
+
+abbrev pub AreNewTrees : Content → Trees → Type 0
+AreNewTrees c trees = IsNewLog c (record { schema = log_schema; trees = trees })
+
+-- the log is open and ready, and has this content
+pub record IsReadyWith (c : Content) (s : State) : Type 0 where
+  pub is_open : IsTrue s.is_open
+  pub ready : IsReady s
+  pub content : content_of s.now.trees ≡ c
+
+-- the log is shut, or is as it was
+pub record IsUndone (old new : State) : Type 0 where
+  pub was_open : IsTrue new.is_open → IsTrue old.is_open
+  pub undone : IsTrue new.is_open → (new.now ≡ old.committed) × (new.committed ≡ old.committed)
+  pub autocommit : new.in_transaction ≡ false

@@ -1,0 +1,199 @@
+//! The rows of decisions and of their participants.
+ghost use Rattle.std.specs.Prelude.{map, ◌≡◌, ◌≤◌, ℕ, pos, true, false, if◌then◌else◌, None, Some, IsSomeAnd, IsTrue, IfOk, OnOk, OnErr, is_some};
+ghost use Rattle.std.specs.List.{AllByRecursion};
+ghost use Rattle.std.specs.FinMap.{contains_key, get};
+ghost use Rattle.xa_log.specs.KeySet.{empty, insert, from_list, items, KeySet};
+ghost use Rattle.sqlite.specs.State.{HasCleanDisk, KeepsCommit, Survives};
+ghost use Rattle.sqlite.specs.Held.{state};
+ghost use Rattle.sqlite.specs.Given.{IsPlain};
+ghost use Rattle.sqlite.specs.Listing.{understood};
+ghost use Rattle.sqlite.specs.Values.{bound};
+ghost use Rattle.xa_base.specs.Branch.{branch_cmp};
+ghost use Rattle.xa_log.specs.Tables.{log_schema};
+ghost use Rattle.xa_log.specs.Contract.{Makes, FitsRow};
+ghost use Rattle.xa_log.specs.Content.{Content, last_number, committed, participants_of, without_decision};
+ghost use Rattle.xa_log.specs.Rows.{content_of, old_content_of, participant_from, IsOldLog};
+ghost use Rattle.xa_log.specs.Sql.{IsOrderly, content_in, OnlyReads, MayChange, Rests, Answers, RunsFrom, LeavesBy, HasWritten, MayBegin, Lacks, IsUndone, IsNewLog, AreNewTrees, IsOldReady, IsReadyWith};
+
+use crate::statements::{ask, run, stored};
+use crate::{LogFault, Logged, fields};
+use sqlite::{Alter, Connection, Row, Transaction, params};
+use std::collections::BTreeSet;
+use xa_base::{Branch, Gtrid};
+
+pub(crate) fn find_decision<S: Alter>(conn: &mut Connection<S>, g: Gtrid) -> Result<bool, LogFault>
+    requires { FitsRow g }
+    ensures reads { OnlyReads (state S.Store conn.old) (state S.Store conn.new) }
+    ensures ok { IsOrderly (state S.Store conn.old) → HasCleanDisk (state S.Store conn.new) → IfOk result (λ found.
+        IsSomeAnd (content_in (state S.Store conn.old)) (λ c. (content_in (state S.Store conn.new) ≡ Some c) × (found ≡ contains_key c.decisions g))) }
+{
+    let rows = ask(
+        conn,
+        "SELECT 1 FROM decision WHERE inc = ?1 AND seq = ?2",
+        params![stored(g.incarnation), stored(g.sequence)],
+    )?;
+    Ok(!rows.is_empty())
+}
+
+/// Its participants go with it.
+fn delete_decision<S: Alter>(conn: &mut Connection<S>, g: Gtrid) -> Result<(), LogFault>
+    requires { FitsRow g }
+    ensures changes { MayChange (without_decision g) (state S.Store conn.old) (state S.Store conn.new) }
+    ensures ok { IsOrderly (state S.Store conn.old) → HasCleanDisk (state S.Store conn.new) → OnOk result (Makes (without_decision g) (content_in (state S.Store conn.old)) (content_in (state S.Store conn.new))) }
+{
+    run(
+        conn,
+        "DELETE FROM decision WHERE inc = ?1 AND seq = ?2",
+        params![stored(g.incarnation), stored(g.sequence)],
+    )
+}
+
+/// The first row of a transaction.
+fn insert_decision<S: Alter>(tx: &mut Transaction<'_, S>, g: Gtrid) -> Result<(), LogFault>
+    requires { FitsRow g }
+    ensures same_reference { tx.new.conn.ghost_name ≡ tx.old.conn.ghost_name }
+    ensures written { MayBegin g (state S.Store tx.old.conn.now) → HasCleanDisk (state S.Store tx.new.conn.now)
+        → OnOk result (HasWritten g empty (content_of (state S.Store tx.old.conn.now).now.trees) (state S.Store tx.new.conn.now)) }
+    ensures live { HasCleanDisk (state S.Store tx.new.conn.now) → OnOk result (IsTrue (state S.Store tx.old.conn.now).is_open) }
+    ensures kept { HasCleanDisk (state S.Store tx.new.conn.now) → KeepsCommit (state S.Store tx.old.conn.now) (state S.Store tx.new.conn.now) }
+    ensures survives { Survives (state S.Store tx.old.conn.now) (state S.Store tx.new.conn.now) (λ _. ⊥) }
+{
+    tx.execute(
+        "INSERT INTO decision (inc, seq) VALUES (?1, ?2)",
+        params![stored(g.incarnation), stored(g.sequence)],
+    )?;
+    Ok(())
+}
+
+/// One more row of a transaction.
+fn insert_participant<S: Alter>(tx: &mut Transaction<'_, S>, branch: Branch) -> Result<(), LogFault>
+    requires { FitsRow branch.gtrid }
+    ensures same_reference { tx.new.conn.ghost_name ≡ tx.old.conn.ghost_name }
+    ensures written { HasCleanDisk (state S.Store tx.new.conn.now) → (set : KeySet branch_cmp) (before : Content) → HasWritten branch.gtrid set before (state S.Store tx.old.conn.now)
+        → OnOk result (HasWritten branch.gtrid (insert set branch) before (state S.Store tx.new.conn.now)) }
+    ensures kept { HasCleanDisk (state S.Store tx.new.conn.now) → KeepsCommit (state S.Store tx.old.conn.now) (state S.Store tx.new.conn.now) }
+    ensures survives { Survives (state S.Store tx.old.conn.now) (state S.Store tx.new.conn.now) (λ _. ⊥) }
+{
+    tx.execute(
+        "INSERT INTO participant (inc, seq, thread, rm) VALUES (?1, ?2, ?3, ?4)",
+        params![
+            stored(branch.gtrid.incarnation),
+            stored(branch.gtrid.sequence),
+            i64::from(branch.thread),
+            i64::from(branch.rm)
+        ],
+    )?;
+    Ok(())
+}
+
+/// The rows of all participants.
+fn insert_participants<S: Alter>(
+    tx: &mut Transaction<'_, S>,
+    g: Gtrid,
+    participants: &[Branch],
+) -> Result<(), LogFault>
+    requires fits { FitsRow g }
+    requires own { AllByRecursion (λ b. b.gtrid ≡ g) participants.now }
+    ensures same_reference { tx.new.conn.ghost_name ≡ tx.old.conn.ghost_name }
+    ensures written { HasCleanDisk (state S.Store tx.new.conn.now) → (before : Content) → HasWritten g empty before (state S.Store tx.old.conn.now)
+        → OnOk result (HasWritten g (from_list participants.now) before (state S.Store tx.new.conn.now)) }
+    ensures kept { HasCleanDisk (state S.Store tx.new.conn.now) → KeepsCommit (state S.Store tx.old.conn.now) (state S.Store tx.new.conn.now) }
+    ensures survives { Survives (state S.Store tx.old.conn.now) (state S.Store tx.new.conn.now) (λ _. ⊥) }
+{
+    for branch in participants {
+        insert_participant(tx, *branch)?;
+    }
+    Ok(())
+}
+
+/// All rows of a transaction that has none, or none of them.
+fn insert_all<S: Alter>(
+    conn: &mut Connection<S>,
+    g: Gtrid,
+    participants: &[Branch],
+) -> Result<(), LogFault>
+    requires fits { FitsRow g }
+    requires own { AllByRecursion (λ b. b.gtrid ≡ g) participants.now }
+    ensures honest { HasCleanDisk (state S.Store conn.new) → HasCleanDisk (state S.Store conn.old) }
+    ensures changes { Lacks g (state S.Store conn.old) → MayChange (committed g (from_list participants.now)) (state S.Store conn.old) (state S.Store conn.new) }
+    ensures ok { Lacks g (state S.Store conn.old) → IsOrderly (state S.Store conn.old) → HasCleanDisk (state S.Store conn.new)
+        → OnOk result (Makes (committed g (from_list participants.now)) (content_in (state S.Store conn.old)) (content_in (state S.Store conn.new))) }
+{
+    if !conn.is_autocommit() {
+        return Err(LogFault::Store);
+    }
+    let mut tx = conn.transaction();
+    insert_decision(&mut tx, g)?;
+    insert_participants(&mut tx, g, participants)?;
+    tx.commit()?;
+    Ok(())
+}
+
+/// Decides that a transaction commits. A row that is there keeps its own participants.
+pub(crate) fn commit<S: Alter>(
+    conn: &mut Connection<S>,
+    g: Gtrid,
+    participants: &[Branch],
+) -> Result<Logged, LogFault>
+    requires fits { FitsRow g }
+    requires own { AllByRecursion (λ b. b.gtrid ≡ g) participants.now }
+    ensures changes { MayChange (committed g (from_list participants.now)) (state S.Store conn.old) (state S.Store conn.new) }
+    ensures ok { IsOrderly (state S.Store conn.old) → HasCleanDisk (state S.Store conn.new)
+        → OnOk result (Makes (committed g (from_list participants.now)) (content_in (state S.Store conn.old)) (content_in (state S.Store conn.new))) }
+    ensures answer { IsOrderly (state S.Store conn.old) → HasCleanDisk (state S.Store conn.new) → IfOk result (λ logged.
+        IsSomeAnd (content_in (state S.Store conn.old)) (λ c. logged ≡ (if contains_key c.decisions g then Logged.Already else Logged.New))) }
+{
+    if find_decision(conn, g)? {
+        return Ok(Logged::Already);
+    }
+    insert_all(conn, g, participants)?;
+    Ok(Logged::New)
+}
+
+/// Takes a decision away with its participants, and answers whether it was there.
+pub(crate) fn done<S: Alter>(conn: &mut Connection<S>, g: Gtrid) -> Result<bool, LogFault>
+    requires { FitsRow g }
+    ensures changes { MayChange (without_decision g) (state S.Store conn.old) (state S.Store conn.new) }
+    ensures ok { IsOrderly (state S.Store conn.old) → HasCleanDisk (state S.Store conn.new) → OnOk result (Makes (without_decision g) (content_in (state S.Store conn.old)) (content_in (state S.Store conn.new))) }
+    ensures answer { IsOrderly (state S.Store conn.old) → HasCleanDisk (state S.Store conn.new) → IfOk result (λ found.
+        IsSomeAnd (content_in (state S.Store conn.old)) (λ c. found ≡ contains_key c.decisions g)) }
+{
+    if !find_decision(conn, g)? {
+        return Ok(false);
+    }
+    delete_decision(conn, g)?;
+    Ok(true)
+}
+
+/// The branches of a transaction that rows name, in the order of their identifiers.
+fn listed(g: Gtrid, rows: Vec<Row>) -> Result<Vec<Branch>, LogFault>
+    ensures { IfOk result (λ list.
+        list.items ≡ items (from_list {R = branch_cmp} (map (participant_from g) rows.items))) }
+{
+    let alloc = *rows.allocator();
+    let mut branches = BTreeSet::new(alloc);
+    for row in &rows {
+        branches.insert(fields::participant(g, row)?)?;
+    }
+    Ok(branches.into_iter().collect(alloc)?)
+}
+
+/// The branches whose xa_commit a transaction waits for, in the order of their identifiers.
+pub(crate) fn participants<S: Alter>(
+    conn: &mut Connection<S>,
+    g: Gtrid,
+) -> Result<Vec<Branch>, LogFault>
+    requires { FitsRow g }
+    ensures reads { OnlyReads (state S.Store conn.old) (state S.Store conn.new) }
+    ensures ok { IsOrderly (state S.Store conn.old) → HasCleanDisk (state S.Store conn.new) →
+        IfOk result (λ list. IsSomeAnd (content_in (state S.Store conn.old)) (λ c.
+        (content_in (state S.Store conn.new) ≡ Some c)
+        × (list.items ≡ items (participants_of c g)))) }
+{
+    let rows = ask(
+        conn,
+        "SELECT thread, rm FROM participant WHERE inc = ?1 AND seq = ?2",
+        params![stored(g.incarnation), stored(g.sequence)],
+    )?;
+    listed(g, rows)
+}

@@ -1,0 +1,157 @@
+//! A decision log in memory that fails by a plan, for tests of what stands on a log.
+
+ghost use Rattle.std.specs.Prelude.{◌≡◌, Err};
+ghost use Rattle.xa_log.specs.declared.fail_plan.Turn.TheVariants.{FailsAfter, Runs};
+ghost use Rattle.xa_log.specs.declared.log_fault.LogFault.TheVariants.{Store};
+
+use crate::decision_log::{DecisionLog, Logged};
+use crate::fail_plan::{FailPlan, LogCall, Turn};
+use crate::log_fault::{LogFault, counted};
+use crate::log_rows::LogRows;
+use crate::mem_log::MemLog;
+use xa_base::{Branch, Gtrid, How};
+
+/// A log in memory some of whose calls answer [`LogFault::Store`], as a plan says. The others answer what a [`MemLog`]
+/// does.
+///
+/// A call that is to fail with its change made answers `Store` also where memory is refused; then it has changed
+/// nothing.
+#[derive(Drop)]
+pub struct FailLog {
+    log: MemLog,
+    plan: FailPlan,
+    calls: u64,
+    faults: u64,
+}
+
+/// The answer of a call that ran, as its turn has it.
+fn answer_at<T: Drop>(turn: Turn, answer: Result<T, LogFault>) -> Result<T, LogFault>
+    ensures runs { turn ≡ Runs → result ≡ answer }
+    ensures fails { turn ≡ FailsAfter → result ≡ Err Store }
+{
+    match turn {
+        Turn::Runs => answer,
+        Turn::FailsAfter | Turn::FailsBefore => Err(LogFault::Store),
+    }
+}
+
+impl FailLog {
+    ghost use Rattle.std.specs.Prelude.{◌≡◌};
+    ghost use Rattle.xa_log.specs.FailPlan.{calls_after, turn_of};
+
+    /// A log that begins with what `log` holds, and with no failed call.
+    pub fn new(log: MemLog, plan: FailPlan) -> FailLog
+        ensures content { ⟦<FailLog as DecisionLog>⟧.content result ≡
+            ⟦<MemLog as DecisionLog>⟧.content log }
+        ensures order { ⟦<MemLog as DecisionLog>⟧.is_in_order log →
+            ⟦<FailLog as DecisionLog>⟧.is_in_order result }
+        ensures faults { ⟦<FailLog as DecisionLog>⟧.fault_count result ≡ 0 }
+    {
+        FailLog {
+            log,
+            plan,
+            calls: 0,
+            faults: 0,
+        }
+    }
+
+    /// What the next call does, by the plan.
+    fn turn(&mut self, call: LogCall) -> Turn
+        ensures turn { result ≡ turn_of self.old.plan call self.old.calls }
+        ensures calls { self.new ≡ record self.old { calls = calls_after self.old.plan call self.old.calls } }
+    {
+        self.plan.next_turn(call, &mut self.calls)
+    }
+}
+
+impl DecisionLog for FailLog {
+    ghost use Rattle.std.specs.Prelude.{◌≡◌, ◌⊎◌, Some};
+    ghost use Rattle.xa_log.specs.Content.{AreOwn};
+    ghost use Rattle.xa_log.specs.Memory.{held_in, FailsInMemory};
+    ghost use Rattle.xa_log.specs.MemoryLaws.{leaves_held, own_held};
+    ghost use Rattle.xa_log.specs.declared.log_fault.LogFault.TheVariants.{Store};
+
+    ghost content = { λ it. Some (held_in it.log) };
+
+    ghost is_in_order = { λ it. AreOwn (held_in it.log) };
+
+    ghost is_honest = { λ _. Unit {0} };
+
+    ghost may_leave = { λ it c. c ≡ held_in it.log };
+
+    ghost fault_count = { λ it. it.faults };
+
+    ghost fails = { λ old new e. (e ≡ Store) ⊎ FailsInMemory old.log new.log e };
+
+    ghost settled = { λ it c d order is left. leaves_held it.log c d is left };
+
+    ghost own = { λ it c order is. own_held it.log c order is };
+
+    fn commit(&mut self, g: Gtrid, participants: &[Branch]) -> Result<Logged, LogFault> {
+        let logged = match self.turn(LogCall::Commit) {
+            Turn::FailsBefore => Err(LogFault::Store),
+            turn => answer_at(turn, self.log.commit(g, participants)),
+        };
+        counted(&mut self.faults, logged)
+    }
+
+    fn contains(&mut self, g: Gtrid) -> Result<bool, LogFault> {
+        let found = match self.turn(LogCall::Contains) {
+            Turn::Runs => self.log.contains(g),
+            _ => Err(LogFault::Store),
+        };
+        counted(&mut self.faults, found)
+    }
+
+    fn participants(&mut self, g: Gtrid) -> Result<Vec<Branch>, LogFault> {
+        let list = match self.turn(LogCall::Participants) {
+            Turn::Runs => self.log.participants(g),
+            _ => Err(LogFault::Store),
+        };
+        counted(&mut self.faults, list)
+    }
+
+    fn done(&mut self, g: Gtrid) -> Result<bool, LogFault> {
+        let found = match self.turn(LogCall::Done) {
+            Turn::FailsBefore => Err(LogFault::Store),
+            turn => answer_at(turn, self.log.done(g)),
+        };
+        counted(&mut self.faults, found)
+    }
+
+    fn note_heuristic(&mut self, b: Branch, how: How) -> Result<(), LogFault> {
+        let noted = match self.turn(LogCall::NoteHeuristic) {
+            Turn::FailsBefore => Err(LogFault::Store),
+            turn => answer_at(turn, self.log.note_heuristic(b, how)),
+        };
+        counted(&mut self.faults, noted)
+    }
+
+    fn heuristic_of(&mut self, b: Branch) -> Result<Option<How>, LogFault> {
+        let how = match self.turn(LogCall::HeuristicOf) {
+            Turn::Runs => self.log.heuristic_of(b),
+            _ => Err(LogFault::Store),
+        };
+        counted(&mut self.faults, how)
+    }
+
+    fn bump(&mut self) -> Result<u64, LogFault> {
+        let raised = match self.turn(LogCall::Bump) {
+            Turn::FailsBefore => Err(LogFault::Store),
+            turn => answer_at(turn, self.log.bump()),
+        };
+        counted(&mut self.faults, raised)
+    }
+
+    fn rows(&mut self) -> Result<LogRows, LogFault> {
+        let rows = match self.turn(LogCall::Rows) {
+            Turn::Runs => self.log.rows(),
+            _ => Err(LogFault::Store),
+        };
+        counted(&mut self.faults, rows)
+    }
+
+    fn faults(&self) -> u64 {
+        self.faults
+    }
+}

@@ -1,0 +1,34 @@
+//! The decision log of an XA transaction manager: which global transactions are decided to commit and which branches each
+//! of them waits for, which branches their resource managers ended by themselves, and how often the manager has started.
+//! Only decisions to commit are kept: what has no row is rolled back (presumed rollback: XA, section 2.3).
+//!
+//! [`MemLog`] keeps it in memory, [`SqlLog`] in the tables of a database, and [`FailLog`] fails by a plan, for tests.
+//!
+//! "XA" in these pages is X/Open CAE Specification C193, "Distributed Transaction Processing: The XA Specification"
+//! (1991).
+#![tactic(auto)]
+
+mod decision_log;
+mod decisions;
+mod fail_log;
+mod fail_plan;
+mod fields;
+mod heuristics;
+mod incarnation;
+mod log_fault;
+mod log_rows;
+mod mem_log;
+mod rows;
+mod sql_log;
+mod statements;
+mod tables;
+#[cfg(test)]
+mod tests;
+
+pub use decision_log::{DecisionLog, Logged};
+pub use fail_log::FailLog;
+pub use fail_plan::{FailPlan, LogCall};
+pub use log_fault::LogFault;
+pub use log_rows::LogRows;
+pub use mem_log::MemLog;
+pub use sql_log::SqlLog;

@@ -1,0 +1,218 @@
+//! A decision log in a database.
+ghost use Rattle.std.specs.Prelude.{◌≡◌, ◌≢◌, ◌⊎◌, ℤ, pos, false, Err, IsTrue, IfOk, IfErr};
+ghost use Rattle.sqlite.specs.State.{HasCleanDisk};
+ghost use Rattle.sqlite.specs.Held.{state};
+ghost use Rattle.sqlite.specs.Steps.{over_memory};
+ghost use Rattle.sqlite.specs.Files.{file_state};
+ghost use Rattle.sqlite_wal.specs.Files.{image_at};
+ghost use Rattle.xa_log.specs.Content.{nothing};
+ghost use Rattle.xa_log.specs.Rows.{content_of, old_content_of};
+ghost use Rattle.xa_log.specs.Tables.{log_schema};
+ghost use Rattle.xa_log.specs.Sql.{IsOrderly, IsReadyWith, IsUndone, IsOldReady};
+ghost use Rattle.xa_log.specs.Opened.{IsBlank, IsTakeable, NamesVersion, LeavesTables, LeavesSame, IsUntouched, IsOver};
+
+use crate::decision_log::{DecisionLog, Logged};
+use crate::log_fault::{LogFault, counted};
+use crate::log_rows::LogRows;
+use crate::{decisions, heuristics, incarnation, rows, tables};
+use sqlite::{Alter, Connection, FileFrom, FileStore, MemStore, Start, Unknown};
+use std::alloc::Global;
+use xa_base::{Branch, Gtrid, How};
+
+/// A decision log in four tables of a database, in a file or in memory. While the log has it, no other connection
+/// may write the database.
+#[derive(Drop)]
+pub struct SqlLog<S: Alter> {
+    conn: Connection<S>,
+    faults: u64,
+}
+
+impl<S: Alter + Drop> SqlLog<S> {
+    /// Takes a connection: makes the tables of an empty log where the database has none, migrates those of version
+    /// 1 with all their rows, and keeps those of version 2. A migration and the making of tables are one
+    /// transaction each. A failure gives the connection back.
+    ///
+    /// - [`LogFault::Version`]: the tables name another version, or lack a number or have one that doesn't fit its
+    ///   type. Nothing has changed.
+    /// - [`LogFault::Store`]: the store failed, a transaction is open, or other tables have these names.
+    /// - [`LogFault::Memory`]: a request for memory was refused.
+    ///
+    /// In the contract:
+    ///
+    /// - `made`, `migrated`, `kept`: what the log then holds, by what the database was;
+    /// - `undone`, `unknown`: after a failure the database is as it was, or shut;
+    /// - `crash`, `crash_kept` and the same for a failure: a crash leaves what it might have left before, or all
+    ///   that one transaction made; over version 2 nothing else.
+    pub fn adopt(mut conn: Connection<S>) -> Result<SqlLog<S>, (LogFault, Connection<S>)>
+        ensures faults { IfOk result (λ log. log.faults ≡ 0) }
+        ensures busy { IsTrue conn.in_transaction → result ≡ Err (LogFault.Store, conn) }
+        ensures honest { IfOk result (λ log.
+            HasCleanDisk (state S.Store log.conn) → HasCleanDisk (state S.Store conn)) }
+        ensures honest_err { IfErr result (λ e.
+            HasCleanDisk (state S.Store e.1) → HasCleanDisk (state S.Store conn)) }
+        ensures made { IfOk result (λ log. IsBlank (state S.Store conn) →
+            HasCleanDisk (state S.Store log.conn) →
+            IsReadyWith nothing (state S.Store log.conn)) }
+        ensures migrated { IfOk result (λ log. IsOldReady (state S.Store conn) →
+            HasCleanDisk (state S.Store log.conn) →
+            IsReadyWith (old_content_of (state S.Store conn).now.trees) (state S.Store log.conn)) }
+        ensures kept { IfOk result (λ log. (state S.Store conn).now.schema ≡ log_schema →
+            IsOrderly (state S.Store conn) → HasCleanDisk (state S.Store log.conn) →
+            IsReadyWith (content_of (state S.Store conn).now.trees) (state S.Store log.conn)) }
+        ensures undone { IfErr result (λ e. conn.in_transaction ≡ false →
+            IsTakeable (state S.Store conn) → HasCleanDisk (state S.Store e.1) →
+            IsUndone (state S.Store conn) (state S.Store e.1)) }
+        ensures version { IfOk result (λ log. (v : ℤ) → NamesVersion v (state S.Store conn) →
+            HasCleanDisk (state S.Store log.conn) → (v ≡ pos 1) ⊎ (v ≡ pos 2)) }
+        ensures unknown { IfErr result (λ e. conn.in_transaction ≡ false →
+            (v : ℤ) → NamesVersion v (state S.Store conn) → v ≢ pos 1 → v ≢ pos 2 →
+            HasCleanDisk (state S.Store e.1) →
+            IsUntouched (state S.Store conn) (state S.Store e.1)) }
+        ensures crash { IfOk result (λ log. IsTakeable (state S.Store conn) →
+            HasCleanDisk (state S.Store log.conn) →
+            LeavesTables (state S.Store conn) (state S.Store log.conn)) }
+        ensures crash_err { IfErr result (λ e. IsTakeable (state S.Store conn) →
+            HasCleanDisk (state S.Store e.1) →
+            LeavesTables (state S.Store conn) (state S.Store e.1)) }
+        ensures crash_kept { IfOk result (λ log. (state S.Store conn).now.schema ≡ log_schema →
+            HasCleanDisk (state S.Store log.conn) →
+            LeavesSame (state S.Store conn) (state S.Store log.conn)) }
+        ensures crash_kept_err { IfErr result (λ e. (state S.Store conn).now.schema ≡ log_schema →
+            HasCleanDisk (state S.Store e.1) →
+            LeavesSame (state S.Store conn) (state S.Store e.1)) }
+    {
+        match tables::prepare(&mut conn) {
+            Ok(()) => Ok(SqlLog { conn, faults: 0 }),
+            Err(fault) => Err((fault, conn)),
+        }
+    }
+
+    /// The connection as it stands.
+    pub fn into_connection(self) -> Connection<S>
+        ensures { result ≡ self.conn }
+    {
+        let SqlLog { conn, faults: _ } = self;
+        conn
+    }
+}
+
+impl SqlLog<MemStore> {
+    /// An empty log in memory.
+    pub fn open_in_memory(alloc: Global) -> Result<SqlLog<MemStore>, LogFault>
+        ensures faults { IfOk result (λ log. log.faults ≡ 0) }
+        ensures empty { IfOk result (λ log. IsReadyWith nothing (state over_memory log.conn)) }
+        ensures honest { IfOk result (λ log. HasCleanDisk (state over_memory log.conn)) }
+    {
+        let conn = Connection::open_in_memory(alloc)?;
+        match SqlLog::adopt(conn) {
+            Ok(log) => Ok(log),
+            Err((fault, _)) => Err(fault),
+        }
+    }
+}
+
+impl<S: Start> SqlLog<FileStore<FileFrom<S>>> {
+    /// Opens the log in the file at a path, or makes it, as `adopt` does. The file's journal lies beside it; both
+    /// are of this log alone. [`LogFault::Store`] comes also where the files can't be opened or hold no database.
+    ///
+    /// `start` stands for what the files held, which the contract names. A program passes [`sqlite::Unknown`], or
+    /// [`sqlite::Wary`], which syncs twice for each commit and so supposes less of a write that a crash tears.
+    pub fn open_from(
+        rt: &HostRuntime,
+        path: &str,
+        start: S,
+    ) -> Result<SqlLog<FileStore<FileFrom<S>>>, LogFault>
+        ensures faults { IfOk result (λ log. log.faults ≡ 0) }
+        ensures opened { IfOk result (λ log. HasCleanDisk (file_state log.conn) →
+            IsOver (image_at S.Start) log.conn) }
+    {
+        let conn = match Connection::open_from(rt, path, false, start) {
+            Ok(conn) => conn,
+            Err((error, _)) => return Err(error.into()),
+        };
+        match SqlLog::adopt(conn) {
+            Ok(log) => Ok(log),
+            Err((fault, _)) => Err(fault),
+        }
+    }
+}
+
+impl SqlLog<FileStore<FileFrom<Unknown>>> {
+    /// Opens the log in the file at a path, or makes it, as `open_from` does with [`sqlite::Unknown`].
+    pub fn open(
+        rt: &HostRuntime,
+        path: &str,
+    ) -> Result<SqlLog<FileStore<FileFrom<Unknown>>>, LogFault>
+        ensures faults { IfOk result (λ log. log.faults ≡ 0) }
+    {
+        SqlLog::open_from(rt, path, Unknown)
+    }
+}
+
+impl<S: Alter> DecisionLog for SqlLog<S> {
+    ghost use Rattle.sqlite.specs.Held.{state as shown};
+    ghost use Rattle.sqlite.specs.State.{HasCleanDisk as clean};
+    ghost use Rattle.xa_log.specs.Settled.{own_content, settled_content};
+    ghost use Rattle.xa_log.specs.Sql.{IsOrderly as orderly, MayLeave as may_be_left, content_in as held_by};
+
+    ghost content = { λ log. held_by (shown S.Store log.conn) };
+
+    ghost is_in_order = { λ log. orderly (shown S.Store log.conn) };
+
+    ghost is_honest = { λ log. clean (shown S.Store log.conn) };
+
+    ghost may_leave = { λ log. may_be_left (shown S.Store log.conn) };
+
+    ghost fault_count = { λ log. log.faults };
+
+    ghost fails = { λ _ _ _. Unit {0} };
+
+    ghost settled = { λ log c d order is left.
+        settled_content _ (λ db. S.Store.settled log.conn.store db) c d order is left };
+
+    ghost own = { λ log c order is. own_content _ c order is };
+
+    fn commit(&mut self, g: Gtrid, participants: &[Branch]) -> Result<Logged, LogFault> {
+        let logged = decisions::commit(&mut self.conn, g, participants);
+        counted(&mut self.faults, logged)
+    }
+
+    fn contains(&mut self, g: Gtrid) -> Result<bool, LogFault> {
+        let found = decisions::find_decision(&mut self.conn, g);
+        counted(&mut self.faults, found)
+    }
+
+    fn participants(&mut self, g: Gtrid) -> Result<Vec<Branch>, LogFault> {
+        let list = decisions::participants(&mut self.conn, g);
+        counted(&mut self.faults, list)
+    }
+
+    fn done(&mut self, g: Gtrid) -> Result<bool, LogFault> {
+        let found = decisions::done(&mut self.conn, g);
+        counted(&mut self.faults, found)
+    }
+
+    fn note_heuristic(&mut self, b: Branch, how: How) -> Result<(), LogFault> {
+        let noted = heuristics::note_heuristic(&mut self.conn, b, how);
+        counted(&mut self.faults, noted)
+    }
+
+    fn heuristic_of(&mut self, b: Branch) -> Result<Option<How>, LogFault> {
+        let how = heuristics::find_heuristic(&mut self.conn, b);
+        counted(&mut self.faults, how)
+    }
+
+    fn bump(&mut self) -> Result<u64, LogFault> {
+        let bumped = incarnation::bump(&mut self.conn);
+        counted(&mut self.faults, bumped)
+    }
+
+    fn rows(&mut self) -> Result<LogRows, LogFault> {
+        let all = rows::rows(&mut self.conn);
+        counted(&mut self.faults, all)
+    }
+
+    fn faults(&self) -> u64 {
+        self.faults
+    }
+}

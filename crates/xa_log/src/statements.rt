@@ -1,0 +1,73 @@
+//! Statements over the tables of a log.
+ghost use Rattle.std.specs.Prelude.{◌≡◌, ◌≤◌, ℕ, pos, true, false, if◌then◌else◌, None, Some, IsSomeAnd, IsTrue, IfOk, IfErr, OnOk, OnErr, is_some};
+ghost use Rattle.std.specs.List.{AllByRecursion};
+ghost use Rattle.std.specs.FinMap.{contains_key, get};
+ghost use Rattle.xa_log.specs.KeySet.{empty, insert, from_list, KeySet};
+ghost use Rattle.sqlite.specs.State.{HasCleanDisk, KeepsCommit, Survives};
+ghost use Rattle.sqlite.specs.Held.{state};
+ghost use Rattle.sqlite.specs.Given.{IsPlain};
+ghost use Rattle.sqlite.specs.Listing.{understood};
+ghost use Rattle.sqlite.specs.Values.{bound};
+ghost use Rattle.xa_base.specs.Branch.{branch_cmp};
+ghost use Rattle.xa_log.specs.Tables.{log_schema};
+ghost use Rattle.xa_log.specs.Contract.{FitsRow, IsStoreFault, Makes};
+ghost use Rattle.xa_log.specs.Content.{Content, last_number, committed, without_decision};
+ghost use Rattle.xa_log.specs.Rows.{content_of, old_content_of, IsOldLog};
+ghost use Rattle.xa_log.specs.Sql.{IsOrderly, content_in, OnlyReads, MayChange, Rests, Answers, RunsFrom, LeavesBy, HasWritten, MayBegin, Lacks, IsUndone, IsNewLog, AreNewTrees, IsOldReady, IsReadyWith};
+
+use crate::LogFault;
+use sqlite::{Alter, Connection, Error, ErrorCode, Row};
+use sqlite_value::value::ValueRef;
+
+/// A fault of the store. Its cause is not told, but for a growth that was refused.
+impl From<Error> for LogFault {
+    ghost from_gives = { λ _ fault. IsStoreFault fault };
+
+    fn from(error: Error) -> LogFault {
+        match error {
+            Error::SqliteFailure(ErrorCode::OutOfMemory) => LogFault::Memory,
+            _ => LogFault::Store,
+        }
+    }
+}
+
+/// A number as a row has it.
+pub(crate) fn stored(number: u64) -> i64
+    requires { number ≤ last_number }
+    ensures { result ≡ pos number }
+{
+    number as i64
+}
+
+/// Asks for all rows of an answer. The statement is prepared first, so that one that would write is never run on a log that is shut.
+pub(crate) fn ask<S: Alter>(
+    conn: &mut Connection<S>,
+    sql: &str,
+    params: &[ValueRef<'_>],
+) -> Result<Vec<Row>, LogFault>
+    requires { IsPlain (understood log_schema sql.now) }
+    ensures reads { OnlyReads (state S.Store conn.old) (state S.Store conn.new) }
+    ensures shown { IsOrderly (state S.Store conn.old) → HasCleanDisk (state S.Store conn.new) → IfOk result (λ rows. Answers S.Store sql.now (bound params.now) conn.old conn.new rows.items) }
+    ensures cause { IfErr result IsStoreFault }
+{
+    let statement = conn.prepare(sql)?;
+    Ok(statement.query_all(conn, params)?)
+}
+
+/// Runs a statement that writes.
+pub(crate) fn run<S: Alter>(
+    conn: &mut Connection<S>,
+    sql: &str,
+    params: &[ValueRef<'_>],
+) -> Result<(), LogFault>
+    requires { IsPlain (understood log_schema sql.now) }
+    ensures honest { HasCleanDisk (state S.Store conn.new) → HasCleanDisk (state S.Store conn.old) }
+    ensures ran { IsOrderly (state S.Store conn.old) → HasCleanDisk (state S.Store conn.new) → OnOk result (RunsFrom S.Store sql.now (bound params.now) conn.old conn.new) }
+    ensures rests { IsOrderly (state S.Store conn.old) → HasCleanDisk (state S.Store conn.new) → OnErr result (Rests (state S.Store conn.old) (state S.Store conn.new)) }
+    ensures crash { IsOrderly (state S.Store conn.old) → HasCleanDisk (state S.Store conn.new) → LeavesBy S.Store sql.now (bound params.now) conn.old conn.new }
+    ensures cause { IfErr result IsStoreFault }
+{
+    let statement = conn.prepare(sql)?;
+    statement.execute(conn, params)?;
+    Ok(())
+}
