@@ -6,6 +6,9 @@
 //! - `read PATH`: prints the rows of the log at PATH, whose incarnation it raises by one.
 #![tactic(auto)]
 
+ghost use Rattle.std.specs.Prelude.{◌≡◌, ◌≤◌};
+ghost use Rattle.xa_log.specs.Contract.{FitsRow};
+
 use std::env;
 use std::time::Instant;
 use xa_base::{Branch, Gtrid, How};
@@ -13,9 +16,6 @@ use xa_log::{DecisionLog, LogFault, SqlLog};
 
 /// How many transactions are committed.
 const COMMITS: u64 = 1_000;
-
-/// How many branches each of them waits for.
-const PARTICIPANTS: u32 = 2;
 
 fn main(rt: HostRuntime) -> anyhow::Result<()> {
     let words: Vec<String> = env::args(&rt)?.collect(rt.alloc())?;
@@ -45,13 +45,23 @@ fn main(rt: HostRuntime) -> anyhow::Result<()> {
     }
 }
 
-/// The branch of the first incarnation's transaction `sequence` at a resource manager.
-fn branch(sequence: u64, rm: u32) -> Branch {
+/// A transaction of the first incarnation.
+fn gtrid(sequence: u64) -> Gtrid
+    requires { sequence ≤ 1000 }
+    ensures { FitsRow result }
+{
+    Gtrid {
+        incarnation: 1,
+        sequence,
+    }
+}
+
+/// The branch of a transaction at a resource manager.
+fn branch(gtrid: Gtrid, rm: u32) -> Branch
+    ensures { result.gtrid ≡ gtrid }
+{
     Branch {
-        gtrid: Gtrid {
-            incarnation: 1,
-            sequence,
-        },
+        gtrid,
         thread: 0,
         rm,
     }
@@ -60,8 +70,8 @@ fn branch(sequence: u64, rm: u32) -> Branch {
 /// Commits each transaction with its participants.
 fn commit_all<L: DecisionLog>(log: &mut L) -> Result<(), LogFault> {
     for sequence in 1..=COMMITS {
-        let participants = [branch(sequence, 0), branch(sequence, 1)];
-        log.commit(participants[0].gtrid, &participants)?;
+        let g = gtrid(sequence);
+        log.commit(g, &[branch(g, 0), branch(g, 1)])?;
     }
     Ok(())
 }
@@ -69,7 +79,7 @@ fn commit_all<L: DecisionLog>(log: &mut L) -> Result<(), LogFault> {
 /// Takes the row of each transaction away.
 fn settle_all<L: DecisionLog>(log: &mut L) -> Result<(), LogFault> {
     for sequence in 1..=COMMITS {
-        log.done(branch(sequence, 0).gtrid)?;
+        log.done(gtrid(sequence))?;
     }
     Ok(())
 }
@@ -89,10 +99,11 @@ fn write<L: DecisionLog>(log: &mut L) -> Result<(), LogFault> {
     for _ in 0..3 {
         log.bump()?;
     }
-    log.commit(branch(1, 0).gtrid, &[branch(1, 0), branch(1, 1)])?;
-    log.commit(branch(2, 0).gtrid, &[branch(2, 1)])?;
-    log.note_heuristic(branch(1, 1), How::Rb)?;
-    log.note_heuristic(branch(3, 0), How::Haz)
+    let (first, second, third) = (gtrid(1), gtrid(2), gtrid(3));
+    log.commit(first, &[branch(first, 0), branch(first, 1)])?;
+    log.commit(second, &[branch(second, 1)])?;
+    log.note_heuristic(branch(first, 1), How::Rb)?;
+    log.note_heuristic(branch(third, 0), How::Haz)
 }
 
 /// Prints the rows of a log, and the incarnation that it gives.

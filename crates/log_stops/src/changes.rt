@@ -1,5 +1,8 @@
 //! The calls that change a log in files, with a stop at each call of either file.
 
+ghost use Rattle.std.specs.Prelude.{◌≡◌, ◌≤◌};
+ghost use Rattle.xa_log.specs.Contract.{FitsRow};
+
 use crate::files::{
     Stopping, Stops, VERSION_1, closed, copy_of, crashed, files_with, open, reopened, run, stopping,
 };
@@ -54,16 +57,22 @@ impl Change {
     }
 }
 
-fn gtrid(sequence: u64) -> Gtrid {
+/// A transaction of the first incarnation.
+fn gtrid(sequence: u64) -> Gtrid
+    requires { sequence ≤ 1000 }
+    ensures { FitsRow result }
+{
     Gtrid {
         incarnation: 1,
         sequence,
     }
 }
 
-fn branch(sequence: u64, rm: u32) -> Branch {
+fn branch(gtrid: Gtrid, rm: u32) -> Branch
+    ensures { result.gtrid ≡ gtrid }
+{
     Branch {
-        gtrid: gtrid(sequence),
+        gtrid,
         thread: 0,
         rm,
     }
@@ -71,15 +80,18 @@ fn branch(sequence: u64, rm: u32) -> Branch {
 
 /// Makes the change.
 fn make<L: DecisionLog>(log: &mut L, change: Change) -> Result<(), LogFault> {
+    let (first, second) = (gtrid(1), gtrid(2));
     match change {
         Change::Commit => {
-            let participants = [branch(2, 0), branch(2, 1), branch(2, 2)];
-            log.commit(gtrid(2), &participants)?;
+            log.commit(
+                second,
+                &[branch(second, 0), branch(second, 1), branch(second, 2)],
+            )?;
         }
         Change::Done => {
-            log.done(gtrid(1))?;
+            log.done(first)?;
         }
-        Change::Note => log.note_heuristic(branch(1, 0), How::Mix)?,
+        Change::Note => log.note_heuristic(branch(first, 0), How::Mix)?,
         Change::Bump => {
             log.bump()?;
         }
