@@ -1,5 +1,5 @@
 -- What a log in memory holds, by its collections.
-use Rattle.std.proofs.Common.{◌≡◌, inl, inr, List, [], ◌∷◌, map, Bool, true, false, ◌||◌, cond, Option, Some, None, is_some, unwrap_or, Result, Ok, Err, OnErr, refl, sym, ap, ◌∙◌}
+use Rattle.std.proofs.Common.{◌≡◌, inl, inr, List, [], ◌∷◌, map, Bool, true, false, ◌||◌, cond, Option, Some, None, is_some, Result, Ok, Err, OnErr, refl, sym, ap, ◌∙◌}
 use Rattle.std.specs.Ordering.{eq_by_cmp}
 use Rattle.std.specs.Option.{option_map}
 use Rattle.std.specs.Map.{lookup}
@@ -19,8 +19,7 @@ use Rattle.xa_base.specs.declared.branch.Branch.{Branch}
 use Rattle.xa_base.specs.declared.code.How.{How}
 use Rattle.xa_base.specs.Branch.{gtrid_cmp, branch_cmp}
 use Rattle.xa_base.proofs.BranchOrder.{gtrids_total, exact_gtrids, branches_total, exact_branches}
-use Rattle.xa_log.specs.Content.{Content, participants_of, with_decision}
-use Rattle.xa_log.specs.Memory.{row_of, decisions_in, heuristics_in, with_participant}
+use Rattle.xa_log.specs.Memory.{row_of, decisions_in, heuristics_in}
 use Rattle.xa_log.proofs.Contents.{equal_is}
 
 abbrev pub Rows : Type 0
@@ -129,20 +128,3 @@ put_back old new g set put there h same = put_row old new g put h ∙ same_map g
           ∙ ap (λ ks. Some (from_list ks)) same ∙ sym (ap (get (decisions_in old)) (exact_gtrids q g (equal_is _ at)) ∙ has_entry old g set there)
       | inr apart ↦ ap (λ t. cond t (Some (set_of put)) (get (decisions_in old) q)) apart
     ])
-
-pub joined : (c : Content) (old new : Rows) (b : Branch) (set put : BTreeSet Branch) → c.decisions ≡ decisions_in old → tree.get gtrid_cmp old b.gtrid ≡ Some set
-    → ((q : Gtrid) → tree.get gtrid_cmp new q ≡ cond (is_at (gtrid_cmp b.gtrid) q) (Some put) (tree.get gtrid_cmp old q))
-    → ((q : Branch) → sorted.contains branch_cmp put q ≡ cond (is_at (branch_cmp b) q) true (sorted.contains branch_cmp set q))
-    → record c { decisions = decisions_in new } ≡ with_participant b c
-joined c old new b set put is there h member =
-    let entry : get c.decisions b.gtrid ≡ Some (set_of set) = ap (λ rows. get rows b.gtrid) is ∙ has_entry old b.gtrid set there in
-    ap (λ rows. record c { decisions = rows }) (put_row old new b.gtrid put h)
-    ∙ ap (λ rows. record c { decisions = insert rows b.gtrid (set_of put) }) (sym is)
-    ∙ ap (λ s. with_decision b.gtrid s c) (put_member set put b member)
-    ∙ ap (λ o. with_decision b.gtrid (fin.insert (unwrap_or o fin.empty) b) c) (sym entry)
-    ∙ sym (ap (λ o. cond (is_some o) (with_decision b.gtrid (fin.insert (participants_of c b.gtrid) b) c) c) entry)
-
-pub not_joined : (c : Content) (old : Rows) (b : Branch) → c.decisions ≡ decisions_in old → tree.get gtrid_cmp old b.gtrid ≡ None → c ≡ with_participant b c
-not_joined c old b is none =
-    let entry : get c.decisions b.gtrid ≡ None = ap (λ rows. get rows b.gtrid) is ∙ get_decisions old b.gtrid ∙ ap (option_map set_of) none in
-    sym (ap (λ o. cond (is_some o) (with_decision b.gtrid (fin.insert (participants_of c b.gtrid) b) c) c) entry)

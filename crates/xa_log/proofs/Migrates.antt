@@ -13,7 +13,7 @@ use Rattle.sqlite.specs.Rowids.TheVariants.{Given}
 use Rattle.sqlite.specs.Effect.{Database}
 use Rattle.sqlite.specs.Rows.{Written}
 use Rattle.sqlite.specs.Does.{Tally, Does, lacks_sequence}
-use Rattle.sqlite.specs.State.{State, Writes, Executes, Shows, IsRolledBack}
+use Rattle.sqlite.specs.State.{State, Writes, Executes, IsRolledBack}
 use Rattle.sqlite.specs.Steps.{FailsToCommit}
 use Rattle.sqlite.specs.declared.error.Error.{Error}
 use Rattle.sqlite.proofs.Callers.{command_of, statement_of, IsPlain, runs_as, one_step, one_permutation}
@@ -34,9 +34,8 @@ use Rattle.xa_log.proofs.Maps.{booked}
 use Rattle.xa_log.proofs.DecisionRows.{same_content}
 use Rattle.sqlite_schema.specs.Rules.{is_key_of}
 use Rattle.xa_log.specs.Tables.{old_schema, log_schema, participant_text, participant, meta, of_decision}
-use Rattle.xa_log.specs.Rows.{IsLog, IsOldLog, IsDecisionRow, AreHeuristicRows, IsParticipantRow, HasDecision, participants_in, meta_row, old_meta_row, content_of, old_content_of}
-use Rattle.xa_log.specs.Content.{Content}
-use Rattle.xa_log.specs.Sql.{IsNewLog, AreNewTrees, IsReadyWith}
+use Rattle.xa_log.specs.Rows.{IsOldLog, IsDecisionRow, AreHeuristicRows, IsParticipantRow, HasDecision, participants_in, meta_row, old_meta_row, content_of, old_content_of}
+use Rattle.xa_log.specs.Sql.{IsNewLog}
 
 pub makes_participant : (command_of (understood old_schema participant_text) ≡ CreateTable) × (statement_of participant_text (understood old_schema participant_text) ≡ participant_text)
     × (table_defined_by participant_text ≡ Ok (record participant { tree = 0 })) × (lacks_sequence (created old_schema (record participant { tree = 0 })) ≡ false)
@@ -172,16 +171,6 @@ migrates old mid new a b is first second =
     (sets mid.step_limit (old_content_of old.now.trees).incarnation mid.now new.now (statement_of set_version (understood log_schema set_version)) w.tally added.schema (added.meta ∙ is.meta) w.changed)
 
 -- ---- in a transaction that is committed
-
-pub new_trees : (c : Content) (db : Database) (trees : Trees) → IsNewLog c db → trees ≡ db.trees → AreNewTrees c trees
-new_trees c db trees is same = subst (AreNewTrees c) (sym same) (subst (λ s. IsLog (record { schema = s; trees = db.trees })) is.0.schema is.0, is.1)
-
-pub new_ready : (c : Content) (old new : State) → IsNewLog c old.now → Shows old new old.now old.now false → IsReadyWith c new
-new_ready c old new is shown = record {
-  is_open = shown.is_open;
-  ready = record { autocommit = shown.mode; now = subst IsLog (sym shown.now_is) is.0; committed = shown.committed_is ∙ sym shown.now_is };
-  content = ap (λ (d : Database). content_of d.trees) shown.now_is ∙ is.1;
-}
 
 pub not_ended : (m e : State) (error : Error) → IsTrue m.in_transaction → FailsToCommit m e error → IsRolledBack m e
 not_ended m e error inside (inl fails) = fails.3

@@ -194,14 +194,6 @@ module _ (a b c : State) where
     ];
   }
 
-pub reads_changes : (change : Content → Content) (a b : State) → OnlyReads a b → MayChange change a b
-reads_changes change a b p = record {
-  honest = p.honest;
-  order = p.order;
-  kept = λ order. elim (p.kept order) [ inl shut ↦ inl shut | inr same ↦ inr (inl same) ];
-  crash = λ order clean x h. inl (p.crash order clean x h);
-}
-
 -- ---- a statement is prepared
 
 module _ (old new : State) (opened : IsTrue new.is_open → HasCleanDisk new) (survives : Survives old new (λ _. ⊥)) where

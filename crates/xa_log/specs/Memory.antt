@@ -1,14 +1,14 @@
 -- What a log in memory holds, and what its failures say.
-use Rattle.std.specs.Prelude.{◌≡◌, ◌⊎◌, if◌then◌else◌, map}
+use Rattle.std.specs.Prelude.{◌≡◌, ◌⊎◌, map}
 use Rattle.std.specs.BTreeMap.{BTreeMap}
 use Rattle.std.specs.BTreeSet.{BTreeSet}
-use Rattle.std.specs.FinMap.{FinMap, contains_key, from_entries}
-use Rattle.xa_log.specs.KeySet.{KeySet, from_list, insert}
+use Rattle.std.specs.FinMap.{FinMap, from_entries}
+use Rattle.xa_log.specs.KeySet.{KeySet, from_list}
 use Rattle.xa_base.specs.declared.branch.Gtrid.{Gtrid}
 use Rattle.xa_base.specs.declared.branch.Branch.{Branch}
 use Rattle.xa_base.specs.declared.code.How.{How}
 use Rattle.xa_base.specs.Branch.{gtrid_cmp, branch_cmp}
-use Rattle.xa_log.specs.Content.{Content, participants_of, with_decision}
+use Rattle.xa_log.specs.Content.{Content}
 use Rattle.xa_log.specs.declared.log_fault.LogFault.{LogFault}
 use Rattle.xa_log.specs.declared.mem_log.MemLog.{MemLog}
 
@@ -29,11 +29,6 @@ held_in log = record {
   heuristics = heuristics_in log.heuristics;
   incarnation = log.incarnation;
 }
-
--- a further participant of a transaction that has a row
-abbrev pub with_participant : Branch → Content → Content
-with_participant b c =
-    if contains_key c.decisions b.gtrid then with_decision b.gtrid (insert (participants_of c b.gtrid) b) c else c
 
 -- a log in memory fails only for want of memory or of incarnations, and then holds what it held
 pub record FailsInMemory (old new : MemLog) (e : LogFault) : Type 0 where

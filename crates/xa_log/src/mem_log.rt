@@ -39,7 +39,7 @@ impl MemLog {
     ghost use Rattle.std.specs.FinMap.{contains_key, entries, get, keys};
     ghost use Rattle.xa_log.specs.KeySet.{from_list, items};
     ghost use Rattle.xa_log.specs.Content.{all_listed, committed, last_number, logged_as, nothing, participants_of, recorded, without_decision};
-    ghost use Rattle.xa_log.specs.Memory.{held_in, with_participant};
+    ghost use Rattle.xa_log.specs.Memory.{held_in};
     ghost use Rattle.xa_log.specs.declared.log_fault.LogFault.TheVariants.{Memory, Spent};
 
     /// An empty log, of no incarnation yet.
@@ -76,19 +76,6 @@ impl MemLog {
         let waited_for = set_of(self.alloc, participants)?;
         self.decisions.insert(g, waited_for)?;
         Ok(Logged::New)
-    }
-
-    /// Puts a further participant of a transaction, where that has a row.
-    pub(crate) fn put_participant(&mut self, b: Branch) -> Result<(), LogFault>
-        ensures ok { OnOk result (held_in self.new ≡ with_participant b (held_in self.old)) }
-        ensures err { OnErr result (held_in self.new ≡ held_in self.old) }
-        ensures memory { IfErr result (λ e. e ≡ Memory) }
-        ensures faults { self.new.faults ≡ self.old.faults }
-    {
-        if let Some(waited_for) = self.decisions.get_mut(&b.gtrid) {
-            waited_for.insert(b)?;
-        }
-        Ok(())
     }
 
     /// Puts how a branch was ended, where it has no record.
