@@ -1,5 +1,5 @@
 -- What a log in memory holds, by its collections.
-use Rattle.std.proofs.Common.{◌≡◌, inl, inr, List, [], ◌∷◌, map, Bool, true, false, ◌||◌, cond, Option, Some, None, is_some, Result, Ok, Err, OnErr, refl, sym, ap, ◌∙◌}
+use Rattle.std.proofs.Common.{◌≡◌, List, [], ◌∷◌, map, Bool, true, false, ◌||◌, cond, Option, Some, None, is_some, Result, Ok, Err, OnErr, refl, sym, ap, ◌∙◌}
 use Rattle.std.specs.Ordering.{eq_by_cmp}
 use Rattle.std.specs.Option.{option_map}
 use Rattle.std.specs.Map.{lookup}
@@ -12,7 +12,6 @@ use Rattle.std.specs.FinMap.{get, find, insert, remove, get-from_entries, get-in
 use Rattle.xa_log.specs.KeySet.{KeySet, from_list}
 use Rattle.xa_log.specs.KeySet.{same_set, contains-from_list, contains-insert}
 use Rattle.xa_log.specs.KeySet as fin
-use Rattle.std.proofs.lemmas.Bool.{cases_Bool}
 use Rattle.std.proofs.lemmas.Cmp.{eq_by_cmp_equiv}
 use Rattle.xa_base.specs.declared.branch.Gtrid.{Gtrid}
 use Rattle.xa_base.specs.declared.branch.Branch.{Branch}
@@ -20,7 +19,6 @@ use Rattle.xa_base.specs.declared.code.How.{How}
 use Rattle.xa_base.specs.Branch.{gtrid_cmp, branch_cmp}
 use Rattle.xa_base.proofs.BranchOrder.{gtrids_total, exact_gtrids, branches_total, exact_branches}
 use Rattle.xa_log.specs.Memory.{row_of, decisions_in, heuristics_in}
-use Rattle.xa_log.proofs.Contents.{equal_is}
 
 abbrev pub Rows : Type 0
 Rows = BTreeMap Gtrid (BTreeSet Branch)
@@ -116,15 +114,3 @@ has_entry rows g set there = get_decisions rows g ∙ ap (option_map set_of) the
 pub on_err : {A E P : Type 0} (r : Result A E) → P → OnErr r P
 on_err (Ok x) p = tt
 on_err (Err e) p = p
-
--- a row whose set is put back as it was
-pub put_back : (old new : Rows) (g : Gtrid) (set put : BTreeSet Branch) → tree.get gtrid_cmp old g ≡ Some set
-    → ((q : Gtrid) → tree.get gtrid_cmp new q ≡ cond (is_at (gtrid_cmp g) q) (Some put) (tree.get gtrid_cmp old q))
-    → put.keys ≡ set.keys → decisions_in new ≡ decisions_in old
-put_back old new g set put there h same = put_row old new g put h ∙ same_map gtrids_total exact_gtrids _ _ (λ q.
-    get-insert gtrids_total (decisions_in old) g (set_of put) q
-    ∙ elim (cases_Bool (eq_by_cmp gtrid_cmp q g)) as (λ _. cond (eq_by_cmp gtrid_cmp q g) (Some (set_of put)) (get (decisions_in old) q) ≡ get (decisions_in old) q) [
-      | inl at ↦ ap (λ t. cond t (Some (set_of put)) (get (decisions_in old) q)) at
-          ∙ ap (λ ks. Some (from_list ks)) same ∙ sym (ap (get (decisions_in old)) (exact_gtrids q g (equal_is _ at)) ∙ has_entry old g set there)
-      | inr apart ↦ ap (λ t. cond t (Some (set_of put)) (get (decisions_in old) q)) apart
-    ])

@@ -1,6 +1,6 @@
 -- What the two statements that migrate a log of version 1 do.
-use Rattle.std.proofs.Common.{◌≡◌, inl, inr, ℕ, List, [], ◌∷◌, map, length, arith, Option, None, Ok, refl, codes, pos, true, false, IsTrue, sym, ap, subst, ◌∙◌}
-use Rattle.std.proofs.lemmas.Bool.{eqb-false, true≢false}
+use Rattle.std.proofs.Common.{◌≡◌, ℕ, List, [], ◌∷◌, map, length, arith, Option, None, Ok, refl, codes, pos, true, false, sym, ap, subst, ◌∙◌}
+use Rattle.std.proofs.lemmas.Bool.{eqb-false}
 use Rattle.std.specs.List.{AllByRecursion}
 use Rattle.std.specs.List.Sorted.{IsPermutation}
 use Rattle.sqlite.specs.Order.{Row}
@@ -13,9 +13,7 @@ use Rattle.sqlite.specs.Rowids.TheVariants.{Given}
 use Rattle.sqlite.specs.Effect.{Database}
 use Rattle.sqlite.specs.Rows.{Written}
 use Rattle.sqlite.specs.Does.{Tally, Does, lacks_sequence}
-use Rattle.sqlite.specs.State.{State, Writes, Executes, IsRolledBack}
-use Rattle.sqlite.specs.Steps.{FailsToCommit}
-use Rattle.sqlite.specs.declared.error.Error.{Error}
+use Rattle.sqlite.specs.State.{State, Writes, Executes}
 use Rattle.sqlite.proofs.Callers.{command_of, statement_of, IsPlain, runs_as, one_step, one_permutation}
 use Rattle.sqlite.specs.Listing.{understood}
 use Rattle.sqlite.specs.declared.types.Value.TheVariants.{Null, Int}
@@ -171,10 +169,6 @@ migrates old mid new a b is first second =
     (sets mid.step_limit (old_content_of old.now.trees).incarnation mid.now new.now (statement_of set_version (understood log_schema set_version)) w.tally added.schema (added.meta ∙ is.meta) w.changed)
 
 -- ---- in a transaction that is committed
-
-pub not_ended : (m e : State) (error : Error) → IsTrue m.in_transaction → FailsToCommit m e error → IsRolledBack m e
-not_ended m e error inside (inl fails) = fails.3
-not_ended m e error inside (inr ended) = absurd (true≢false (sym inside ∙ ended.1))
 
 -- The key refers to a unique index, so that a write is not refused for it.
 pub key_fits : is_key_of log_schema of_decision ≡ true
