@@ -5,7 +5,6 @@ use crate::seen::{BLANK, EMPTY, MIGRATED, OLD, Seen, look};
 use sqlite::{Alter, Connection, FileStore, Files};
 use sqlite_disk::{Disk, Memory};
 use std::alloc::Global;
-use std::fs;
 use std::process::Abort;
 use std::test::Fail;
 use xa_log::{LogFault, SqlLog};
@@ -159,30 +158,5 @@ fn a_transaction_is_left_alone(rt: HostRuntime) -> Result<(), Fail> {
 fn a_log_in_memory_is_empty(rt: HostRuntime) -> Result<(), Fail> {
     let log = SqlLog::open_in_memory(rt.alloc())?;
     assert_eq!(rt; look(&mut log.into_connection()), EMPTY);
-    Ok(())
-}
-
-const FOLDER: &str = "log_stops_tables";
-
-const PATH: &str = "log_stops_tables/log.db";
-
-#[test]
-fn a_log_in_a_file_is_found_again(rt: HostRuntime) -> Result<(), Fail> {
-    let _ = fs::remove_dir_all(&rt, FOLDER);
-    fs::create_dir(&rt, FOLDER)?;
-    let mut conn = SqlLog::open(&rt, PATH)?.into_connection();
-    assert_eq!(rt; look(&mut conn), EMPTY);
-    run(&mut conn, "UPDATE tm_meta SET incarnation = 3")?;
-    drop(conn);
-    let mut conn = SqlLog::open(&rt, PATH)?.into_connection();
-    assert_eq!(rt;
-        look(&mut conn),
-        Seen {
-            incarnation: 3,
-            ..EMPTY
-        }
-    );
-    drop(conn);
-    fs::remove_dir_all(&rt, FOLDER)?;
     Ok(())
 }

@@ -1,5 +1,5 @@
 -- What a log in memory holds, by its collections.
-use Rattle.std.proofs.Common.{◌≡◌, List, [], ◌∷◌, map, Bool, true, false, ◌||◌, cond, Option, Some, None, is_some, Result, Ok, Err, OnErr, refl, sym, ap, ◌∙◌}
+use Rattle.std.proofs.Common.{◌≡◌, List, [], ◌∷◌, map, Bool, true, false, cond, Option, Some, None, is_some, refl, sym, ap, ◌∙◌}
 use Rattle.std.specs.Ordering.{eq_by_cmp}
 use Rattle.std.specs.Option.{option_map}
 use Rattle.std.specs.Map.{lookup}
@@ -10,8 +10,7 @@ use Rattle.std.specs.BTreeSet.{BTreeSet}
 use Rattle.std.specs.BTreeSet as sorted
 use Rattle.std.specs.FinMap.{get, find, insert, remove, get-from_entries, get-insert, get-remove, same_map}
 use Rattle.xa_log.specs.KeySet.{KeySet, from_list}
-use Rattle.xa_log.specs.KeySet.{same_set, contains-from_list, contains-insert}
-use Rattle.xa_log.specs.KeySet as fin
+use Rattle.xa_log.specs.KeySet.{same_set, contains-from_list}
 use Rattle.std.proofs.lemmas.Cmp.{eq_by_cmp_equiv}
 use Rattle.xa_base.specs.declared.branch.Gtrid.{Gtrid}
 use Rattle.xa_base.specs.declared.branch.Branch.{Branch}
@@ -93,24 +92,3 @@ pub collected_set : (list : List Branch) (set : BTreeSet Branch) → ((q : Branc
     → set_of set ≡ from_list list
 collected_set list set h = same_set branches_total exact_branches _ _ (λ q.
     contains-from_list branches_total set.keys q ∙ h q ∙ sym (contains-from_list branches_total list q))
-
-either : (a b : Bool) → cond a true b ≡ (a || b)
-either true b = refl
-either false b = refl
-
-pub put_member : (old new : BTreeSet Branch) (b : Branch)
-    → ((q : Branch) → sorted.contains branch_cmp new q ≡ cond (is_at (branch_cmp b) q) true (sorted.contains branch_cmp old q))
-    → set_of new ≡ fin.insert (set_of old) b
-put_member old new b h = same_set branches_total exact_branches _ _ (λ q.
-    contains-from_list branches_total new.keys q ∙ h q ∙ either (is_at (branch_cmp b) q) (sorted.contains branch_cmp old q)
-    ∙ ap (λ t. t || sorted.contains branch_cmp old q) ((eq_by_cmp_equiv branches_total).symm b q)
-    ∙ sym (contains-insert branches_total (set_of old) b q ∙ ap (λ t. eq_by_cmp branch_cmp q b || t) (contains-from_list branches_total old.keys q)))
-
--- ** a further participant
-
-has_entry : (rows : Rows) (g : Gtrid) (set : BTreeSet Branch) → tree.get gtrid_cmp rows g ≡ Some set → get (decisions_in rows) g ≡ Some (set_of set)
-has_entry rows g set there = get_decisions rows g ∙ ap (option_map set_of) there
-
-pub on_err : {A E P : Type 0} (r : Result A E) → P → OnErr r P
-on_err (Ok x) p = tt
-on_err (Err e) p = p

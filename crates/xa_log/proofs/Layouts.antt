@@ -1,11 +1,12 @@
 -- Which tables each version has, and what a look at them leaves.
-use Rattle.std.proofs.Common.{◌≡◌, refl, is_some, codes, true, false, Result, Ok, Err, OnOk, IsTrue, inl, inr, ◌⊎◌, sym, subst, ◌∙◌}
+use Rattle.std.proofs.Common.{◌≡◌, refl, is_some, codes, true, false, Result, Ok, Err, OnOk, IsTrue, ℤ, pos, inl, inr, sym, subst, ◌∙◌}
 use Rattle.sqlite_schema.specs.Names.{table_named}
 use Rattle.sqlite_tied.specs.Compute.{everything}
 use Rattle.sqlite.specs.State.{State, IsUnchanged}
 use Rattle.xa_log.specs.Tables.{old_schema, log_schema}
-use Rattle.xa_log.specs.Rows.{IsOldLog}
-use Rattle.xa_log.specs.Sql.{IsOldReady, IsUndone, Rests}
+use Rattle.xa_log.specs.Rows.{IsOldLog, content_of, old_content_of}
+use Rattle.xa_log.specs.Opened.{AreKnown, IsNatural, Names}
+use Rattle.xa_log.specs.Sql.{IsOldReady, IsReady, IsUndone, Rests}
 
 pub meta_in_old : is_some (table_named old_schema (codes "tm_meta")) ≡ true
 unfolding everything
@@ -18,10 +19,6 @@ no_participant_in_old = refl
 pub participant_in_log : is_some (table_named log_schema (codes "participant")) ≡ true
 unfolding everything
 participant_in_log = refl
-
-pub on_ok : {A E : Type 0} (r : Result A E) (P : Type 0) → P → OnOk r P
-on_ok (Ok x) P h = h
-on_ok (Err e) P h = tt
 
 pub old_ready_after : (a b : State) → IsUnchanged a b → IsOldReady a → IsOldReady b
 old_ready_after a b same is = record {
@@ -39,10 +36,17 @@ rests_undone a b settled mode (inl same) = record {
 }
 rests_undone a b settled mode (inr undone) = record { was_open = undone.was_open; undone = undone.undone; autocommit = undone.autocommit }
 
-pub either_version : {A E V : Type 0} (r : Result A E) (v one two : V) → OnOk r (v ≡ one) → OnOk r ((v ≡ one) ⊎ (v ≡ two))
-either_version (Ok x) v one two h = inl h
-either_version (Err e) v one two h = tt
+pub known_as_first : {A E : Type 0} (r : Result A E) (v i : ℤ) → OnOk r ((v ≡ pos 1) × IsNatural i) → OnOk r (AreKnown v i)
+known_as_first (Ok x) v i h = (inl h.0, h.1)
+known_as_first (Err e) v i h = tt
 
-pub second_version : {A E V : Type 0} (r : Result A E) (v one two : V) → OnOk r (v ≡ two) → OnOk r ((v ≡ one) ⊎ (v ≡ two))
-second_version (Ok x) v one two h = inr h
-second_version (Err e) v one two h = tt
+pub known_as_second : {A E : Type 0} (r : Result A E) (v i : ℤ) → OnOk r ((v ≡ pos 2) × IsNatural i) → OnOk r (AreKnown v i)
+known_as_second (Ok x) v i h = (inr h.0, h.1)
+known_as_second (Err e) v i h = tt
+
+-- a log of version 1 has the row of one
+pub named_first : (s : State) → IsOldReady s → Names (pos 1) (pos (old_content_of s.now.trees).incarnation) s
+named_first s is = (inl is.now.schema, is.now.meta)
+
+pub named_second : (s : State) → IsReady s → Names (pos 2) (pos (content_of s.now.trees).incarnation) s
+named_second s is = (inr is.now.schema, is.now.meta)

@@ -6,6 +6,7 @@ pub mod Deletes
 pub mod HeldRows
 pub mod HeuristicRows
 pub mod InOrder
+pub mod InTurn
 pub mod Inserts
 pub mod Inside
 pub mod KeySets

@@ -114,28 +114,6 @@ module _ (old new : State) (P : Trees → Type 0) (opened : IsTrue new.is_open �
     crash = λ order clean c h. elim (survives.crash clean h.0 h.1) [ inl was ↦ (h.0, was, h.2) | inr commits ↦ absurd (none order clean h.0 commits) ];
   }
 
-  -- and of one that made a change, or rests
-  pub changes_by : (change : Content → Content) → (IsOrderly old → HasCleanDisk new → Rests old new ⊎ Did change old new)
-      → (IsOrderly old → HasCleanDisk new → (db : Trees) → P db → IsTrue old.is_open × (content_of db ≡ change (content_of old.now.trees))) → MayChange change old new
-  changes_by change did commits = record {
-    honest = λ clean. omega (arith, survives.clean);
-    order = λ order h. elim (did order (opened h)) [ inl rests ↦ rests_order old new (λ _. rests) order h | inr made ↦ made.ready ];
-    kept = λ order. elim (cases_Bool new.is_open) [
-      | inl is_open ↦ elim (did order (opened is_open)) [
-        | inl rests ↦ elim (rests_content old new (λ _. rests) order) [ inl shut ↦ inl shut | inr same ↦ inr (inl same) ]
-        | inr made ↦ inr (inr (did_makes change old new made))
-      ]
-      | inr shut ↦ inl (rw shut refl)
-    ];
-    crash = λ order clean c h. elim (survives.crash clean h.0 h.1) [
-      | inl was ↦ inl (h.0, was, h.2)
-      | inr by ↦ (
-          let made = commits order clean h.0 by in
-          let was : old.is_open ≡ true = made.0 in
-          inr (rw was (h.2 ∙ made.1)))
-    ];
-  }
-
 -- ---- the log is open, so the text means what it means over the log's tables
 
 module _ (sql : List ℕ) (plain : IsPlain (understood log_schema sql)) (old : State) (order : IsOrderly old) (is_open : IsTrue old.is_open) where
@@ -233,10 +211,6 @@ rests_after a b c same (inr undone) = inr (record {
   unmarked = undone.unmarked;
   counts = record { changes = undone.counts.changes ∙ same.1.changes; last_rowid = undone.counts.last_rowid ∙ same.1.last_rowid };
 })
-
-pub on_err : {A E : Type 0} (r : Result A E) (P : Type 0) → P → OnErr r P
-on_err (Ok x) P h = tt
-on_err (Err e) P h = h
 
 ran_or_rests : {A E : Type 0} (r : Result A E) (P Q : Type 0) → OnOk r P → OnErr r Q → Q ⊎ P
 ran_or_rests (Ok x) P Q p q = inr p

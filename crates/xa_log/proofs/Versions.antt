@@ -13,7 +13,7 @@ use Rattle.sqlite.specs.State.{State, IsUnchanged, Survives, CommitsShowing, Sho
 use Rattle.sqlite.proofs.Callers.{IsPlain, command_of, never_commits, reads_as, one_permutation}
 use Rattle.sqlite_tied.specs.Compute.{everything}
 use Rattle.xa_log.specs.Tables.{old_schema, log_schema}
-use Rattle.xa_log.specs.Opened.{HasTables, NamesVersion}
+use Rattle.xa_log.specs.Opened.{HasTables, Names}
 use Rattle.xa_log.proofs.Texts.{over}
 use Rattle.xa_log.proofs.Plain.{chosen, shown, plain_rows}
 
@@ -50,12 +50,12 @@ looks old new rows has h =
 pub look_commits : (old : State) (db : Trees) → HasTables old → CommitsShowing read_meta [] old db → ⊥
 look_commits old db has h = never_commits read_meta [] old db (reads old has).plain h
 
-pub looks_at : (version : ℤ) (old new : State) (rows : List Row) → (names : NamesVersion version old) → Shown read_meta [] old new rows → rows ≡ (Int version ∷ Int names.1 ∷ []) ∷ []
-looks_at version old new rows names h =
+pub looks_at : (version incarnation : ℤ) (old new : State) (rows : List Row) → Names version incarnation old → Shown read_meta [] old new rows → rows ≡ (Int version ∷ Int incarnation ∷ []) ∷ []
+looks_at version incarnation old new rows names h =
     let it = reads old names.0 in
     let read = reads_as read_meta [] old new old.now.schema refl _ it.is it.plain it.unlisted rows h in
-    one_permutation (Int version ∷ Int names.1 ∷ []) rows
-    (subst (λ all. IsPermutation (map (shown project []) (chosen [] [] all)) rows) names.2 (plain_rows 0 [] project old.now.trees [] rows read.answer))
+    one_permutation (Int version ∷ Int incarnation ∷ []) rows
+    (subst (λ all. IsPermutation (map (shown project []) (chosen [] [] all)) rows) names.1 (plain_rows 0 [] project old.now.trees [] rows read.answer))
 
 pub look_survives : (old new : State) → HasTables old → Survives old new (CommitsShowing read_meta [] old) → Survives old new (λ _. ⊥)
 look_survives old new has s = record {

@@ -1,3 +1,4 @@
+pub mod Commands
 pub mod Content
 pub mod Contract
 pub mod FailPlan

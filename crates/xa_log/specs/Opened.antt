@@ -13,7 +13,7 @@ use Rattle.sqlite_disk.specs.declared.Disk.{Ghosts}
 use Rattle.xa_log.specs.Content.{nothing}
 use Rattle.xa_log.specs.Tables.{no_tables, old_schema, log_schema}
 use Rattle.xa_log.specs.Rows.{content_of, old_content_of}
-use Rattle.xa_log.specs.Sql.{IsOrderly, IsOldReady, IsReadyWith, IsUndone, AreNewTrees}
+use Rattle.xa_log.specs.Sql.{IsOrderly, IsOldReady, IsReady, IsReadyWith, IsUndone, AreNewTrees}
 
 -- the statement ran in the transaction, which goes on
 abbrev pub RunsInside : List ℕ → State → State → Type 0
@@ -34,10 +34,21 @@ IsTakeable s = IsBlank s ⊎ (IsOldReady s ⊎ (s.now.schema ≡ log_schema))
 abbrev pub version_row : ℤ → ℤ → Row
 version_row version incarnation = Int (pos 1) ∷ Null ∷ Int version ∷ Int incarnation ∷ []
 
--- the tables are those of a log, and their one row of tm_meta names this version
-abbrev pub NamesVersion : ℤ → State → Type 0
-NamesVersion version s =
-    HasTables s × (incarnation : ℤ) × (s.now.trees 0 ≡ version_row version incarnation ∷ [])
+-- the tables are those of a log, and their one row of tm_meta has these numbers
+abbrev pub Names : ℤ → ℤ → State → Type 0
+Names version incarnation s =
+    HasTables s × (s.now.trees 0 ≡ version_row version incarnation ∷ [])
+
+abbrev pub IsNatural : ℤ → Type 0
+IsNatural i = (n : ℕ) × (i ≡ pos n)
+
+-- the row has a version that is known, and no negative incarnation
+abbrev pub AreKnown : ℤ → ℤ → Type 0
+AreKnown version incarnation = ((version ≡ pos 1) ⊎ (version ≡ pos 2)) × IsNatural incarnation
+
+-- a blank database, or a log of version 1 or 2
+abbrev pub IsKnown : State → Type 0
+IsKnown s = IsBlank s ⊎ (IsOldReady s ⊎ IsReady s)
 
 -- what one transaction makes: an empty log of a blank database, and a log of version 2 with the same rows of version 1
 abbrev pub AreMade : State → Trees → Type 0
@@ -72,5 +83,6 @@ pub record IsOver {D : Type 0} {g : Ghosts D} (image : Image) (log : Held (FileS
       → IsReadyWith (old_content_of (file_state was).now.trees) (file_state log)
   pub kept : (file_state was).now.schema ≡ log_schema → IsOrderly (file_state was)
       → IsReadyWith (content_of (file_state was).now.trees) (file_state log)
-  pub version : (v : ℤ) → NamesVersion v (file_state was) → (v ≡ pos 1) ⊎ (v ≡ pos 2)
+  pub version : (version incarnation : ℤ) → Names version incarnation (file_state was)
+      → AreKnown version incarnation
   pub crash : IsTakeable (file_state was) → LeavesTables (file_state was) (file_state log)

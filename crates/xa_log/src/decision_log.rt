@@ -10,6 +10,9 @@ use crate::log_fault::LogFault;
 use crate::log_rows::LogRows;
 use xa_base::{Branch, Gtrid, How};
 
+/// The greatest number that a row can have, and so the last incarnation.
+pub(crate) const LAST_NUMBER: u64 = i64::MAX as u64;
+
 /// Whether a decision is a new row.
 #[derive(Clone, Copy, Debug, PartialEq, Eq)]
 pub enum Logged {

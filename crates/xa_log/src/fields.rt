@@ -1,22 +1,26 @@
 //! What the rows of an answer say.
-ghost use Rattle.std.specs.Prelude.{◌≡◌, IfErr, IfOk, Some};
+ghost use Rattle.std.specs.Prelude.{◌≡◌, ◌<◌, ◌⊎◌, IfErr, IfOk, Some, length};
 ghost use Rattle.sqlite.specs.Order.{column};
 ghost use Rattle.xa_base.specs.Code.{how_of_number};
 ghost use Rattle.xa_log.specs.Rows.{branch_from, gtrid_from, integer_in, participant_from};
 ghost use Rattle.xa_log.specs.declared.log_fault.LogFault.{LogFault};
 
 use crate::LogFault;
-use sqlite::Row;
 use sqlite::types::FromSql;
+use sqlite::{Error, ErrorCode, Row};
 use xa_base::{Branch, Gtrid, How};
 
 /// The number in a column.
 pub(crate) fn number<T: FromSql>(row: &Row, at: usize) -> Result<T, LogFault>
     ensures ok { IfOk result (T.FromSql.reads_as (column row.now at)) }
-    ensures err { IfErr result (λ fault. fault ≡ LogFault.Version) }
+    ensures err { IfErr result (λ fault.
+        (fault ≡ LogFault.Version) ⊎ (fault ≡ LogFault.Memory)) }
+    ensures misfit { IfErr result (λ fault. fault ≡ LogFault.Version → at < length row.now →
+        ¬ T.FromSql.is_readable (column row.now at)) }
 {
     match row.get(at) {
         Ok(number) => Ok(number),
+        Err(Error::SqliteFailure(ErrorCode::OutOfMemory)) => Err(LogFault::Memory),
         Err(_) => Err(LogFault::Version),
     }
 }
@@ -56,7 +60,8 @@ pub(crate) fn participant(g: Gtrid, row: &Row) -> Result<Branch, LogFault>
 /// The heuristic end whose number is in a column.
 pub(crate) fn how(row: &Row, at: usize) -> Result<How, LogFault>
     ensures ok { IfOk result (λ how. Some how ≡ how_of_number (integer_in (column row.now at))) }
-    ensures err { IfErr result (λ fault. fault ≡ LogFault.Version) }
+    ensures err { IfErr result (λ fault.
+        (fault ≡ LogFault.Version) ⊎ (fault ≡ LogFault.Memory)) }
 {
     How::from_number(number(row, at)?).ok_or(LogFault::Version)
 }

@@ -8,12 +8,10 @@ ghost use Rattle.xa_log.specs.Sql.{IsOrderly, MayChange, OnlyReads, content_in};
 ghost use Rattle.xa_log.specs.declared.log_fault.LogFault.{LogFault};
 
 use crate::LogFault;
+use crate::decision_log::LAST_NUMBER;
 use crate::fields::number;
 use crate::statements::{ask, run, stored};
 use sqlite::{Alter, Connection, params};
-
-/// The greatest number that a row can have.
-const LAST_NUMBER: u64 = i64::MAX as u64;
 
 fn find_incarnation<S: Alter>(conn: &mut Connection<S>) -> Result<u64, LogFault>
     ensures reads { OnlyReads (state S.Store conn.old) (state S.Store conn.new) }

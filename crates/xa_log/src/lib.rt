@@ -8,6 +8,7 @@
 //! (1991).
 #![tactic(auto)]
 
+mod commands;
 mod decision_log;
 mod decisions;
 mod fail_log;
@@ -25,6 +26,7 @@ mod tables;
 #[cfg(test)]
 mod tests;
 
+pub use commands::{Command, Told, run_commands};
 pub use decision_log::{DecisionLog, Logged};
 pub use fail_log::FailLog;
 pub use fail_plan::{FailPlan, LogCall};

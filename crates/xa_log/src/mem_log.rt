@@ -4,15 +4,12 @@ ghost use Rattle.std.specs.Prelude.{◌≡◌, IfOk};
 ghost use Rattle.xa_log.specs.KeySet.{from_list};
 ghost use Rattle.xa_base.specs.Branch.{branch_cmp};
 
-use crate::decision_log::{DecisionLog, Logged};
+use crate::decision_log::{DecisionLog, LAST_NUMBER, Logged};
 use crate::log_fault::{LogFault, counted};
 use crate::log_rows::LogRows;
 use std::alloc::{AllocError, Global};
 use std::collections::{BTreeMap, BTreeSet};
 use xa_base::{Branch, Gtrid, How};
-
-/// The greatest incarnation that a log has.
-const LAST_INCARNATION: u64 = 9_223_372_036_854_775_807;
 
 /// A decision log that lives in memory, and as long as its value: a crash of the transaction manager doesn't lose
 /// it.
@@ -170,7 +167,7 @@ impl MemLog {
         ensures spent { IfErr result (λ e. (e ≡ Spent) × (last_number ≤ self.old.incarnation)) }
         ensures err { OnErr result (self.new ≡ self.old) }
     {
-        if self.incarnation >= LAST_INCARNATION {
+        if self.incarnation >= LAST_NUMBER {
             return Err(LogFault::Spent);
         }
         self.incarnation += 1;

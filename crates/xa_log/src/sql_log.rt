@@ -1,15 +1,16 @@
 //! A decision log in a database.
-ghost use Rattle.std.specs.Prelude.{◌≡◌, ◌≢◌, ◌⊎◌, ℤ, pos, false, Err, IsTrue, IfOk, IfErr};
+ghost use Rattle.std.specs.Prelude.{◌≡◌, ℤ, false, Err, IsTrue, IfOk, IfErr};
 ghost use Rattle.sqlite.specs.State.{HasCleanDisk};
 ghost use Rattle.sqlite.specs.Held.{state};
 ghost use Rattle.sqlite.specs.Steps.{over_memory};
 ghost use Rattle.sqlite.specs.Files.{file_state};
 ghost use Rattle.sqlite_wal.specs.Files.{image_at};
 ghost use Rattle.xa_log.specs.Content.{nothing};
+ghost use Rattle.xa_log.specs.Contract.{IsStoreFault};
 ghost use Rattle.xa_log.specs.Rows.{content_of, old_content_of};
 ghost use Rattle.xa_log.specs.Tables.{log_schema};
 ghost use Rattle.xa_log.specs.Sql.{IsOrderly, IsReadyWith, IsUndone, IsOldReady};
-ghost use Rattle.xa_log.specs.Opened.{IsBlank, IsTakeable, NamesVersion, LeavesTables, LeavesSame, IsUntouched, IsOver};
+ghost use Rattle.xa_log.specs.Opened.{IsBlank, IsTakeable, IsKnown, HasTables, Names, AreKnown, LeavesTables, LeavesSame, IsUntouched, IsOver};
 
 use crate::decision_log::{DecisionLog, Logged};
 use crate::log_fault::{LogFault, counted};
@@ -40,7 +41,8 @@ impl<S: Alter + Drop> SqlLog<S> {
     /// In the contract:
     ///
     /// - `made`, `migrated`, `kept`: what the log then holds, by what the database was;
-    /// - `undone`, `unknown`: after a failure the database is as it was, or shut;
+    /// - `version`, `known`: no log is made of an unknown version, and none of a known one is refused as one of those;
+    /// - `undone`, `unknown`, `refused`: after a failure the database is as it was, or shut;
     /// - `crash`, `crash_kept` and the same for a failure: a crash leaves what it might have left before, or all
     ///   that one transaction made; over version 2 nothing else.
     pub fn adopt(mut conn: Connection<S>) -> Result<SqlLog<S>, (LogFault, Connection<S>)>
@@ -62,11 +64,16 @@ impl<S: Alter + Drop> SqlLog<S> {
         ensures undone { IfErr result (λ e. conn.in_transaction ≡ false →
             IsTakeable (state S.Store conn) → HasCleanDisk (state S.Store e.1) →
             IsUndone (state S.Store conn) (state S.Store e.1)) }
-        ensures version { IfOk result (λ log. (v : ℤ) → NamesVersion v (state S.Store conn) →
-            HasCleanDisk (state S.Store log.conn) → (v ≡ pos 1) ⊎ (v ≡ pos 2)) }
+        ensures version { IfOk result (λ log. (v i : ℤ) → Names v i (state S.Store conn) →
+            HasCleanDisk (state S.Store log.conn) → AreKnown v i) }
+        ensures known { IfErr result (λ e. IsKnown (state S.Store conn) →
+            HasCleanDisk (state S.Store e.1) → IsStoreFault e.0) }
         ensures unknown { IfErr result (λ e. conn.in_transaction ≡ false →
-            (v : ℤ) → NamesVersion v (state S.Store conn) → v ≢ pos 1 → v ≢ pos 2 →
+            (v i : ℤ) → Names v i (state S.Store conn) → ¬ AreKnown v i →
             HasCleanDisk (state S.Store e.1) →
+            IsUntouched (state S.Store conn) (state S.Store e.1)) }
+        ensures refused { IfErr result (λ e. e.0 ≡ LogFault.Version →
+            HasTables (state S.Store conn) → HasCleanDisk (state S.Store e.1) →
             IsUntouched (state S.Store conn) (state S.Store e.1)) }
         ensures crash { IfOk result (λ log. IsTakeable (state S.Store conn) →
             HasCleanDisk (state S.Store log.conn) →
@@ -138,12 +145,16 @@ impl<S: Start> SqlLog<FileStore<FileFrom<S>>> {
 }
 
 impl SqlLog<FileStore<FileFrom<Unknown>>> {
-    /// Opens the log in the file at a path, or makes it, as `open_from` does with [`sqlite::Unknown`].
+    /// Opens the log in the file at a path, or makes it, as `open_from` does with [`sqlite::Unknown`]. Over files that
+    /// aren't empty, no proof shows that the clause `opened` says anything: a program that states a theorem over such
+    /// files calls `open_from`.
     pub fn open(
         rt: &HostRuntime,
         path: &str,
     ) -> Result<SqlLog<FileStore<FileFrom<Unknown>>>, LogFault>
         ensures faults { IfOk result (λ log. log.faults ≡ 0) }
+        ensures opened { IfOk result (λ log. HasCleanDisk (file_state log.conn) →
+            IsOver (image_at ⟦<Unknown as Start>⟧) log.conn) }
     {
         SqlLog::open_from(rt, path, Unknown)
     }

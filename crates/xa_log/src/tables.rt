@@ -1,15 +1,17 @@
 //! The tables of a log: made where there is none, and migrated from version 1.
-ghost use Rattle.std.specs.Prelude.{◌≡◌, ◌≢◌, ◌⊎◌, ℤ, pos, true, false, IsTrue, [], ◌∷◌, Err, IfOk, OnOk, OnErr};
+ghost use Rattle.std.specs.Prelude.{◌≡◌, ◌⊎◌, ℕ, ℤ, pos, true, false, IsTrue, [], ◌∷◌, Err, IfOk, IfErr, OnOk, OnErr};
 ghost use Rattle.sqlite.specs.declared.types.Value.TheVariants.{Int};
 ghost use Rattle.sqlite.specs.State.{HasCleanDisk, IsUnchanged, KeepsCommit, Survives};
 ghost use Rattle.sqlite.specs.Held.{state};
 ghost use Rattle.xa_log.specs.Content.{nothing};
+ghost use Rattle.xa_log.specs.Contract.{IsStoreFault};
 ghost use Rattle.xa_log.specs.Rows.{content_of, old_content_of, IsOldLog};
 ghost use Rattle.xa_log.specs.Tables.{no_tables, old_schema, log_schema};
 ghost use Rattle.xa_log.specs.Sql.{IsOrderly, IsReadyWith, IsUndone, IsNewLog, AreNewTrees, IsOldReady, Rests};
-ghost use Rattle.xa_log.specs.Opened.{IsBlank, HasTables, IsTakeable, NamesVersion, RunsInside, LeavesOr, LeavesTables, LeavesSame, IsUntouched};
+ghost use Rattle.xa_log.specs.Opened.{IsBlank, HasTables, IsTakeable, IsKnown, IsNatural, Names, AreKnown, RunsInside, LeavesOr, LeavesTables, LeavesSame, IsUntouched};
 
 use crate::LogFault;
+use crate::fields::number;
 use sqlite::{Alter, Connection, Row, Transaction};
 
 const CREATE_META: &str = "CREATE TABLE tm_meta (k INTEGER PRIMARY KEY CHECK (k = 1), \
@@ -52,6 +54,7 @@ fn execute<S: Alter>(tx: &mut Transaction<'_, S>, sql: &str) -> Result<(), LogFa
     ensures kept { HasCleanDisk (state S.Store tx.new.conn.now) →
         KeepsCommit (state S.Store tx.old.conn.now) (state S.Store tx.new.conn.now) }
     ensures survives { Survives (state S.Store tx.old.conn.now) (state S.Store tx.new.conn.now) (λ _. ⊥) }
+    ensures cause { IfErr result IsStoreFault }
 {
     tx.execute(sql, &[])?;
     Ok(())
@@ -68,6 +71,7 @@ fn create_tables<S: Alter>(tx: &mut Transaction<'_, S>) -> Result<(), LogFault>
     ensures kept { HasCleanDisk (state S.Store tx.new.conn.now) →
         KeepsCommit (state S.Store tx.old.conn.now) (state S.Store tx.new.conn.now) }
     ensures survives { Survives (state S.Store tx.old.conn.now) (state S.Store tx.new.conn.now) (λ _. ⊥) }
+    ensures cause { IfErr result IsStoreFault }
 {
     execute(tx, CREATE_META)?;
     execute(tx, CREATE_DECISION)?;
@@ -87,6 +91,7 @@ fn make_tables<S: Alter>(conn: &mut Connection<S>) -> Result<(), LogFault>
         OnErr result (IsUndone (state S.Store conn.old) (state S.Store conn.new)) }
     ensures crash { IsBlank (state S.Store conn.old) →
         Survives (state S.Store conn.old) (state S.Store conn.new) (AreNewTrees nothing) }
+    ensures cause { IfErr result IsStoreFault }
 {
     let mut tx = conn.transaction();
     create_tables(&mut tx)?;
@@ -106,6 +111,7 @@ fn make_version_2<S: Alter>(tx: &mut Transaction<'_, S>) -> Result<(), LogFault>
     ensures kept { HasCleanDisk (state S.Store tx.new.conn.now) →
         KeepsCommit (state S.Store tx.old.conn.now) (state S.Store tx.new.conn.now) }
     ensures survives { Survives (state S.Store tx.old.conn.now) (state S.Store tx.new.conn.now) (λ _. ⊥) }
+    ensures cause { IfErr result IsStoreFault }
 {
     execute(tx, CREATE_PARTICIPANT)?;
     execute(tx, SET_VERSION)?;
@@ -124,6 +130,7 @@ fn migrate<S: Alter>(conn: &mut Connection<S>) -> Result<(), LogFault>
     ensures crash { IsOldReady (state S.Store conn.old) →
         Survives (state S.Store conn.old) (state S.Store conn.new)
         (AreNewTrees (old_content_of (state S.Store conn.old).now.trees)) }
+    ensures cause { IfErr result IsStoreFault }
 {
     let mut tx = conn.transaction();
     make_version_2(&mut tx)?;
@@ -133,14 +140,14 @@ fn migrate<S: Alter>(conn: &mut Connection<S>) -> Result<(), LogFault>
 
 /// The version in the row of `tm_meta`, both of whose numbers have to fit their types.
 fn version_in(rows: &[Row]) -> Result<u64, LogFault>
-    ensures { (version incarnation : ℤ) → rows.now ≡ (Int version ∷ Int incarnation ∷ []) ∷ [] →
-        IfOk result (λ found. version ≡ pos found) }
+    ensures ok { (v i : ℤ) → rows.now ≡ (Int v ∷ Int i ∷ []) ∷ [] →
+        IfOk result (λ version. (v ≡ pos version) × IsNatural i) }
+    ensures err { (v i : ℕ) → rows.now ≡ (Int (pos v) ∷ Int (pos i) ∷ []) ∷ [] →
+        IfErr result (λ fault. fault ≡ LogFault.Memory) }
 {
-    let Some(row) = rows.first() else {
-        return Err(LogFault::Version);
-    };
-    let version: u64 = row.get(0).map_err(|_| LogFault::Version)?;
-    let _incarnation: u64 = row.get(1).map_err(|_| LogFault::Version)?;
+    let row = rows.first().ok_or(LogFault::Version)?;
+    let version = number(row, 0)?;
+    let _incarnation: u64 = number(row, 1)?;
     Ok(version)
 }
 
@@ -154,8 +161,10 @@ fn check_version<S: Alter>(conn: &mut Connection<S>, version: u64) -> Result<(),
         OnErr result (Rests (state S.Store conn.old) (state S.Store conn.new)) }
     ensures survives { HasTables (state S.Store conn.old) →
         Survives (state S.Store conn.old) (state S.Store conn.new) (λ _. ⊥) }
-    ensures version { (v : ℤ) → NamesVersion v (state S.Store conn.old) →
-        HasCleanDisk (state S.Store conn.new) → OnOk result (v ≡ pos version) }
+    ensures version { (v i : ℤ) → Names v i (state S.Store conn.old) →
+        HasCleanDisk (state S.Store conn.new) → OnOk result ((v ≡ pos version) × IsNatural i) }
+    ensures known { (i : ℕ) → Names (pos version) (pos i) (state S.Store conn.old) →
+        HasCleanDisk (state S.Store conn.new) → IfErr result IsStoreFault }
 {
     let rows = conn.query_all(READ_META, &[])?;
     if version_in(rows.as_slice())? == version {
@@ -177,9 +186,15 @@ fn upgrade<S: Alter>(conn: &mut Connection<S>) -> Result<(), LogFault>
     ensures crash { IsOldReady (state S.Store conn.old) → HasCleanDisk (state S.Store conn.new) →
         LeavesOr (AreNewTrees (old_content_of (state S.Store conn.old).now.trees))
         (state S.Store conn.old) (state S.Store conn.new) }
-    ensures version { (v : ℤ) → NamesVersion v (state S.Store conn.old) →
-        HasCleanDisk (state S.Store conn.new) → OnOk result (v ≡ pos 1) }
-    ensures refused { (v : ℤ) → NamesVersion v (state S.Store conn.old) → v ≢ pos 1 →
+    ensures version { (v i : ℤ) → Names v i (state S.Store conn.old) →
+        HasCleanDisk (state S.Store conn.new) → OnOk result ((v ≡ pos 1) × IsNatural i) }
+    ensures known { IsOldReady (state S.Store conn.old) →
+        HasCleanDisk (state S.Store conn.new) → IfErr result IsStoreFault }
+    ensures unknown { (v i : ℤ) → Names v i (state S.Store conn.old) → ¬ AreKnown v i →
+        HasCleanDisk (state S.Store conn.new) →
+        Rests (state S.Store conn.old) (state S.Store conn.new) ×
+        LeavesSame (state S.Store conn.old) (state S.Store conn.new) }
+    ensures refused { HasTables (state S.Store conn.old) → result ≡ Err LogFault.Version →
         HasCleanDisk (state S.Store conn.new) →
         Rests (state S.Store conn.old) (state S.Store conn.new) ×
         LeavesSame (state S.Store conn.old) (state S.Store conn.new) }
@@ -226,10 +241,16 @@ pub(crate) fn prepare<S: Alter>(conn: &mut Connection<S>) -> Result<(), LogFault
         LeavesTables (state S.Store conn.old) (state S.Store conn.new) }
     ensures crash_kept { (state S.Store conn.old).now.schema ≡ log_schema →
         HasCleanDisk (state S.Store conn.new) → LeavesSame (state S.Store conn.old) (state S.Store conn.new) }
-    ensures version { (v : ℤ) → NamesVersion v (state S.Store conn.old) →
-        HasCleanDisk (state S.Store conn.new) → OnOk result ((v ≡ pos 1) ⊎ (v ≡ pos 2)) }
+    ensures version { (v i : ℤ) → Names v i (state S.Store conn.old) →
+        HasCleanDisk (state S.Store conn.new) → OnOk result (AreKnown v i) }
+    ensures known { IsKnown (state S.Store conn.old) → HasCleanDisk (state S.Store conn.new) →
+        IfErr result IsStoreFault }
     ensures unknown { conn.old.in_transaction ≡ false →
-        (v : ℤ) → NamesVersion v (state S.Store conn.old) → v ≢ pos 1 → v ≢ pos 2 → HasCleanDisk (state S.Store conn.new) →
+        (v i : ℤ) → Names v i (state S.Store conn.old) → ¬ AreKnown v i →
+        HasCleanDisk (state S.Store conn.new) →
+        IsUntouched (state S.Store conn.old) (state S.Store conn.new) }
+    ensures refused { result ≡ Err LogFault.Version → HasTables (state S.Store conn.old) →
+        HasCleanDisk (state S.Store conn.new) →
         IsUntouched (state S.Store conn.old) (state S.Store conn.new) }
 {
     if !conn.is_autocommit() {

@@ -147,7 +147,7 @@ fn rows<L: DecisionLog>(log: &mut L, refused: &mut u64) -> Result<LogRows, LogFa
 }
 
 /// Runs each kind of call at an empty log of no incarnation.
-pub(crate) fn run_commands<L: DecisionLog>(rt: &impl Abort, log: &mut L) -> Result<(), Fail> {
+pub(crate) fn run_each_call<L: DecisionLog>(rt: &impl Abort, log: &mut L) -> Result<(), Fail> {
     let refused = &mut 0;
     run_decisions(rt, log, refused)?;
     run_heuristics(rt, log, refused)?;

@@ -1,7 +1,7 @@
 //! A log that fails by a plan.
 
 use crate::tests::commands::{
-    FIRST, FIRST_A, FIRST_B, SECOND, commit, note_heuristic, run_commands,
+    FIRST, FIRST_A, FIRST_B, SECOND, commit, note_heuristic, run_each_call,
 };
 use crate::{DecisionLog, FailLog, FailPlan, LogCall, LogFault, Logged, MemLog};
 use std::alloc::Global;
@@ -44,13 +44,13 @@ fn failure(log: &mut FailLog, call: LogCall) -> Option<LogFault> {
 }
 
 #[test]
-fn answers_commands(rt: HostRuntime) -> Result<(), Fail> {
+fn answers_each_call(rt: HostRuntime) -> Result<(), Fail> {
     let plan = FailPlan::Once {
         kind: LogCall::Rows,
         at: 3,
         made: true,
     };
-    run_commands(&rt, &mut FailLog::new(MemLog::new(rt.alloc()), plan))
+    run_each_call(&rt, &mut FailLog::new(MemLog::new(rt.alloc()), plan))
 }
 
 #[test]

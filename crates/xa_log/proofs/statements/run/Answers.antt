@@ -2,7 +2,8 @@ use Rattle.std.proofs.Common.{arith, inl, inr, subst, Ok}
 use Rattle.sqlite.specs.State.{HasCleanDisk, Executes, CommitsBy}
 use Rattle.sqlite.specs.Held.{state}
 use Rattle.sqlite.specs.Values.{bound}
-use Rattle.xa_log.proofs.States.{rests_not_run, rests_execute, rests_after, on_err}
+use Rattle.xa_log.proofs.Parts.{on_err}
+use Rattle.xa_log.proofs.States.{rests_not_run, rests_execute, rests_after}
 use Rattle.xa_log.proofs.statements.run.Goals as goal
 
 pub returns-in_err-statement-clause-rests : goal.returns-in_err-statement-clause-rests

@@ -3,14 +3,17 @@ use Rattle.sqlite.specs.Held.{state}
 use Rattle.sqlite.specs.Effect.{Database}
 use Rattle.xa_log.specs.Sql.{AreNewTrees}
 use Rattle.xa_log.specs.Rows.{old_content_of}
-use Rattle.xa_log.proofs.Layouts.{on_ok, old_ready_after}
+use Rattle.xa_log.proofs.Layouts.{old_ready_after}
+use Rattle.xa_log.proofs.Parts.{on_ok}
 use Rattle.xa_log.proofs.tables.upgrade.Goals as goal
 
 pub returns-clause-version : goal.returns-clause-version
-returns-clause-version g c v names clean = on_ok _ _ (c.in_ok-check_version.ensures.version v names (c.migrate.ensures.honest clean))
+returns-clause-version g c v i names clean = on_ok _ _ (c.in_ok-check_version.ensures.version v i names (c.migrate.ensures.honest clean))
 
-pub returns-clause-refused : goal.returns-clause-refused
-returns-clause-refused g c v names apart clean = absurd (apart (c.in_ok-check_version.ensures.version v names (c.migrate.ensures.honest clean)))
+pub returns-clause-unknown : goal.returns-clause-unknown
+returns-clause-unknown g c v i names apart clean =
+    let found = c.in_ok-check_version.ensures.version v i names (c.migrate.ensures.honest clean) in
+    absurd (apart (inl found.0, found.1))
 
 pub returns-clause-crash : goal.returns-clause-crash
 returns-clause-crash g c is clean db left =

@@ -11,6 +11,6 @@ returns-in-Ok-adopt-clause-opened g c clean =
       made = λ is. taken.made is clean;
       migrated = λ is. taken.migrated is clean;
       kept = λ is order. taken.kept is order clean;
-      version = λ v names. taken.version v names clean;
+      version = λ v i names. taken.version v i names clean;
       crash = λ is. taken.crash is clean;
     }

@@ -1,0 +1,67 @@
+-- What any list of calls leaves of a log's content, and what they are told.
+use Rattle.std.specs.Prelude.{◌≡◌, ◌⊎◌, ◌+◌, ℕ, List, [], ◌∷◌, take, Option, Some, None}
+use Rattle.std.specs.FinMap.{contains_key, entries, get, keys}
+use Rattle.std.specs.List.{AllByRecursion}
+use Rattle.xa_base.specs.declared.branch.Branch.{Branch}
+use Rattle.xa_log.specs.KeySet.{from_list, items}
+use Rattle.xa_log.specs.Content.{Content, all_listed, bumped, committed, logged_as, participants_of, recorded, without_decision}
+use Rattle.xa_log.specs.Contract.{FitsRow}
+use Rattle.xa_log.specs.declared.commands.Command.{Command}
+use Rattle.xa_log.specs.declared.commands.Command.TheVariants.{Commit, Contains, Participants, Done, NoteHeuristic, HeuristicOf, Bump, Rows}
+use Rattle.xa_log.specs.declared.commands.Told.{Told}
+use Rattle.xa_log.specs.declared.commands.Told.TheVariants as told
+
+-- both numbers fit into a row, and the participants are branches of the transaction
+abbrev pub Fits : Command → Type 0
+Fits (Commit g participants) = FitsRow g × AllByRecursion (λ (b : Branch). b.gtrid ≡ g) participants.items
+Fits (Contains g) = FitsRow g
+Fits (Participants g) = FitsRow g
+Fits (Done g) = FitsRow g
+Fits (NoteHeuristic b how) = FitsRow b.gtrid
+Fits (HeuristicOf b) = FitsRow b.gtrid
+Fits Bump = Unit {0}
+Fits Rows = Unit {0}
+
+-- ** one call
+
+-- what it leaves
+abbrev pub after : Command → Content → Content
+after (Commit g participants) c = committed g (from_list participants.items) c
+after (Done g) c = without_decision g c
+after (NoteHeuristic b how) c = recorded b how c
+after Bump c = bumped c
+after (Contains g) c = c
+after (Participants g) c = c
+after (HeuristicOf b) c = c
+after Rows c = c
+
+-- what it is told of a log with this content
+abbrev pub Tells : Content → Command → Told → Type 0
+Tells c (Commit g participants) answer = answer ≡ told.Logged (logged_as c g)
+Tells c (Contains g) answer = answer ≡ told.Found (contains_key c.decisions g)
+Tells c (Done g) answer = answer ≡ told.Found (contains_key c.decisions g)
+Tells c (NoteHeuristic b how) answer = answer ≡ told.Noted
+Tells c (HeuristicOf b) answer = answer ≡ told.Ended (get c.heuristics b)
+Tells c Bump answer = answer ≡ told.Incarnation (c.incarnation + 1)
+Tells c (Participants g) (told.Waiting list) = list.items ≡ items (participants_of c g)
+Tells c (Participants g) _ = ⊥
+Tells c Rows (told.Rows rows) =
+    (rows.decisions.items ≡ keys c.decisions)
+    × (rows.participants.items ≡ all_listed (entries c.decisions))
+    × (rows.heuristics.items ≡ entries c.heuristics)
+Tells c Rows _ = ⊥
+
+-- ** a list of calls
+
+abbrev pub after_all : List Command → Content → Content
+after_all [] c = c
+after_all (call ∷ calls) c = after_all calls (after call c)
+
+-- the log is shut, or holds what some first calls leave
+abbrev pub LeavesFirst : List Command → Content → Option Content → Type 0
+LeavesFirst calls c new = (new ≡ None) ⊎ ((n : ℕ) × (new ≡ Some (after_all (take n calls) c)))
+
+abbrev pub AreTold : Content → List Command → List Told → Type 0
+AreTold c [] [] = Unit {0}
+AreTold c (call ∷ calls) (answer ∷ answers) = Tells c call answer × AreTold (after call c) calls answers
+AreTold c _ _ = ⊥
