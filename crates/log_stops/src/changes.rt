@@ -4,10 +4,10 @@ ghost use Rattle.std.specs.Prelude.{◌≡◌, ◌≤◌};
 ghost use Rattle.xa_log.specs.Contract.{FitsRow};
 
 use crate::files::{
-    Stopping, Stops, VERSION_1, closed, copy_of, crashed, files_with, open, reopened, run, stopping,
+    Stopping, Stops, VERSION_1, adopt_in, closed, copy_of, crashed, files_with, look_in, open,
+    run_in, stopping,
 };
-use crate::seen::{MIGRATED, Seen, look};
-use crate::tables::adopted;
+use crate::seen::{MIGRATED, Seen};
 use sqlite::Files;
 use sqlite_disk::{Disk, Memory};
 use std::alloc::Global;
@@ -129,20 +129,19 @@ fn change_on<D: Disk + Drop>(alloc: Global, files: Files<D>, change: Change) -> 
 
 /// The files of a log that holds what is held before the change.
 fn log_files(alloc: Global) -> Result<Files<Memory>, Fail> {
-    let conn = reopened(alloc, files_with(alloc, VERSION_1)?, 3)?;
-    let (_, mut conn) = adopted(conn);
-    run(
-        &mut conn,
+    let (_, files) = adopt_in(alloc, files_with(alloc, VERSION_1)?);
+    run_in(
+        alloc,
+        files,
         "INSERT INTO participant (inc, seq, thread, rm) VALUES (1, 1, 0, 0)",
-    )?;
-    Ok(closed(conn))
+    )
 }
 
 /// What the change told with a stop after so many calls of the one file, and what a crash leaves.
 fn stop_at(alloc: Global, files: Files<Stopping>, change: Change) -> Result<(Told, Seen), Fail> {
     let (told, files) = change_on(alloc, files, change);
-    let mut conn = reopened(alloc, crashed(files), 8)?;
-    Ok((told, look(&mut conn)))
+    let (left, _) = look_in(alloc, crashed(files))?;
+    Ok((told, left))
 }
 
 /// With a stop at each call of the one file the crash leaves what was held before the change, or that with it. Answers

@@ -1,9 +1,11 @@
 //! The two files of a log, in memory: opened, closed, crashed, and stopped after so many calls.
 
-use sqlite::{Alter, Connection, Error, FileStore, Files, Options};
+use crate::seen::{Seen, look};
+use sqlite::{Connection, FileStore, Files, Options};
 use sqlite_disk::{Crash, Disk, Fuse, Memory};
 use std::alloc::Global;
 use std::test::Fail;
+use xa_log::{LogFault, SqlLog};
 
 pub(crate) type Stopping = Fuse<Memory>;
 
@@ -45,39 +47,66 @@ pub(crate) fn open<D: Disk + Drop>(
     }
 }
 
-/// A connection to the files, which are known to open.
-pub(crate) fn reopened<D: Disk + Drop>(
-    alloc: Global,
-    files: Files<D>,
-    seed: u64,
-) -> Result<Connection<FileStore<D>>, Fail> {
-    match open(alloc, files, seed) {
-        Ok(conn) => Ok(conn),
-        Err(_) => Err(Fail::from("the files do not open")),
-    }
+/// The files, with no copy of the journal into the database file.
+pub(crate) fn closed<D: Disk + Drop>(conn: Connection<FileStore<D>>) -> Files<D> {
+    conn.into_store().close()
 }
 
-pub(crate) fn blank(alloc: Global) -> Files<Memory> {
+fn blank(alloc: Global) -> Files<Memory> {
     Files {
         log: Memory::new(alloc),
         db: Memory::new(alloc),
     }
 }
 
-pub(crate) fn run<S: Alter>(conn: &mut Connection<S>, sql: &str) -> Result<(), Error> {
-    conn.execute_batch(sql)
-}
-
-/// The files, with no copy of the journal into the database file.
-pub(crate) fn closed<D: Disk + Drop>(conn: Connection<FileStore<D>>) -> Files<D> {
-    conn.into_store().close()
+/// The files once these statements have run.
+pub(crate) fn run_in(
+    alloc: Global,
+    files: Files<Memory>,
+    sql: &str,
+) -> Result<Files<Memory>, Fail> {
+    let Ok(mut conn) = open(alloc, files, 3) else {
+        return Err(Fail::from("the files do not open"));
+    };
+    conn.execute_batch(sql)?;
+    Ok(closed(conn))
 }
 
 /// Files in which these statements have run.
 pub(crate) fn files_with(alloc: Global, sql: &str) -> Result<Files<Memory>, Fail> {
-    let mut conn = reopened(alloc, blank(alloc), 1)?;
-    run(&mut conn, sql)?;
-    Ok(closed(conn))
+    run_in(alloc, blank(alloc), sql)
+}
+
+/// What the files hold.
+pub(crate) fn look_in<D: Disk + Drop>(
+    alloc: Global,
+    files: Files<D>,
+) -> Result<(Seen, Files<D>), Fail> {
+    let Ok(mut conn) = open(alloc, files, 8) else {
+        return Err(Fail::from("the files do not open"));
+    };
+    let seen = look(&mut conn);
+    Ok((seen, closed(conn)))
+}
+
+/// What became of files that a log was to take.
+#[derive(Clone, Copy, Debug, PartialEq, Eq)]
+pub(crate) enum Taken {
+    NotOpened,
+    Refused(LogFault),
+    Adopted,
+}
+
+/// A log takes the files, which come back as they stand.
+pub(crate) fn adopt_in<D: Disk + Drop>(alloc: Global, files: Files<D>) -> (Taken, Files<D>) {
+    let conn = match open(alloc, files, 7) {
+        Ok(conn) => conn,
+        Err(left) => return (Taken::NotOpened, left),
+    };
+    match SqlLog::adopt(conn) {
+        Ok(log) => (Taken::Adopted, closed(log.into_connection())),
+        Err((fault, conn)) => (Taken::Refused(fault), closed(conn)),
+    }
 }
 
 /// The files as a crash leaves them.

@@ -1,6 +1,6 @@
 //! Logs in files of the host, each opened again to look at it.
 
-use crate::files::{VERSION_1, run};
+use crate::files::VERSION_1;
 use crate::seen::{EMPTY, MIGRATED, OLD, Seen, look};
 use sqlite::Connection;
 use std::fs;
@@ -10,7 +10,7 @@ use xa_log::{DecisionLog, LogFault, SqlLog};
 /// Runs statements on the database at a path, which is made where there is none.
 fn run_at(rt: &HostRuntime, path: &str, sql: &str) -> Result<(), Fail> {
     let mut conn = Connection::open(rt, path)?;
-    run(&mut conn, sql)?;
+    conn.execute_batch(sql)?;
     Ok(())
 }
 
@@ -18,6 +18,12 @@ fn run_at(rt: &HostRuntime, path: &str, sql: &str) -> Result<(), Fail> {
 fn seen_at(rt: &HostRuntime, path: &str) -> Result<Seen, Fail> {
     let mut conn = Connection::open(rt, path)?;
     Ok(look(&mut conn))
+}
+
+/// What a log at a path answers to `bump`.
+fn bump_at(rt: &HostRuntime, path: &str) -> Result<u64, LogFault> {
+    let mut log = SqlLog::open(rt, path)?;
+    log.bump()
 }
 
 /// A folder with no files.
@@ -31,11 +37,16 @@ fn make_folder(rt: &HostRuntime, folder: &str) -> Result<(), Fail> {
 fn a_log_is_found_again(rt: HostRuntime) -> Result<(), Fail> {
     make_folder(&rt, "found_again")?;
     let path = "found_again/log.db";
-    drop(SqlLog::open(&rt, path)?);
-    assert_eq!(rt; seen_at(&rt, path)?, EMPTY);
+    assert_eq!(rt; bump_at(&rt, path)?, 1);
+    assert_eq!(rt;
+        seen_at(&rt, path)?,
+        Seen {
+            incarnation: 1,
+            ..EMPTY
+        }
+    );
     run_at(&rt, path, "UPDATE tm_meta SET incarnation = 3")?;
-    let mut log = SqlLog::open(&rt, path)?;
-    assert_eq!(rt; log.bump()?, 4);
+    assert_eq!(rt; bump_at(&rt, path)?, 4);
     fs::remove_dir_all(&rt, "found_again")?;
     Ok(())
 }
@@ -46,7 +57,7 @@ fn an_unknown_version_stays_as_it_is(rt: HostRuntime) -> Result<(), Fail> {
     let path = "unknown_version/log.db";
     run_at(&rt, path, VERSION_1)?;
     run_at(&rt, path, "UPDATE tm_meta SET version = 9")?;
-    assert!(rt; matches!(SqlLog::open(&rt, path), Err(LogFault::Version)));
+    assert_eq!(rt; bump_at(&rt, path), Err(LogFault::Version));
     assert_eq!(rt; seen_at(&rt, path)?, Seen { version: 9, ..OLD });
     fs::remove_dir_all(&rt, "unknown_version")?;
     Ok(())
@@ -57,10 +68,12 @@ fn a_spent_log_keeps_its_incarnation(rt: HostRuntime) -> Result<(), Fail> {
     make_folder(&rt, "spent")?;
     let path = "spent/log.db";
     run_at(&rt, path, VERSION_1)?;
-    run_at(&rt, path, "UPDATE tm_meta SET incarnation = 9223372036854775807")?;
-    let mut log = SqlLog::open(&rt, path)?;
-    assert_eq!(rt; log.bump(), Err(LogFault::Spent));
-    drop(log);
+    run_at(
+        &rt,
+        path,
+        "UPDATE tm_meta SET incarnation = 9223372036854775807",
+    )?;
+    assert_eq!(rt; bump_at(&rt, path), Err(LogFault::Spent));
     assert_eq!(rt;
         seen_at(&rt, path)?,
         Seen {
