@@ -7,14 +7,6 @@ use Rattle.xa_log.specs.Contract.{MayMake}
 use Rattle.xa_log.specs.declared.commands.Command.{Command}
 use Rattle.xa_log.specs.declared.commands.Told.{Told}
 
-pub some_and : {A : Type 0} (o : Option A) (P Q : A → Type 0) → ((x : A) → P x → Q x) → IsSomeAnd o P → IsSomeAnd o Q
-some_and (Some x) P Q gives h = gives x h
-some_and None P Q gives h = h
-
-pub both3 : {A : Type 0} (o : Option A) (P Q R : A → Type 0) → IsSomeAnd o P → IsSomeAnd o Q → IsSomeAnd o R → IsSomeAnd o (λ x. P x × Q x × R x)
-both3 (Some x) P Q R p q r = (p, q, r)
-both3 None P Q R p q r = p
-
 some_is : {A : Type 0} (o : Option A) (x : A) (P : A → Type 0) → o ≡ Some x → IsSomeAnd o P → P x
 some_is o x P is h = subst (λ it. IsSomeAnd it P) is h
 

@@ -5,7 +5,7 @@ use Rattle.sqlite_tied.specs.Compute.{everything}
 use Rattle.sqlite.specs.State.{State, IsUnchanged}
 use Rattle.xa_log.specs.Tables.{old_schema, log_schema}
 use Rattle.xa_log.specs.Rows.{IsOldLog, content_of, old_content_of}
-use Rattle.xa_log.specs.Opened.{AreKnown, IsNatural, Names}
+use Rattle.xa_log.specs.Opened.{HasRow}
 use Rattle.xa_log.specs.Sql.{IsOldReady, IsReady, IsUndone, Rests}
 
 pub meta_in_old : is_some (table_named old_schema (codes "tm_meta")) ≡ true
@@ -36,17 +36,9 @@ rests_undone a b settled mode (inl same) = record {
 }
 rests_undone a b settled mode (inr undone) = record { was_open = undone.was_open; undone = undone.undone; autocommit = undone.autocommit }
 
-pub known_as_first : {A E : Type 0} (r : Result A E) (v i : ℤ) → OnOk r ((v ≡ pos 1) × IsNatural i) → OnOk r (AreKnown v i)
-known_as_first (Ok x) v i h = (inl h.0, h.1)
-known_as_first (Err e) v i h = tt
-
-pub known_as_second : {A E : Type 0} (r : Result A E) (v i : ℤ) → OnOk r ((v ≡ pos 2) × IsNatural i) → OnOk r (AreKnown v i)
-known_as_second (Ok x) v i h = (inr h.0, h.1)
-known_as_second (Err e) v i h = tt
-
 -- a log of version 1 has the row of one
-pub named_first : (s : State) → IsOldReady s → Names (pos 1) (pos (old_content_of s.now.trees).incarnation) s
+pub named_first : (s : State) → IsOldReady s → HasRow 1 (old_content_of s.now.trees).incarnation s
 named_first s is = (inl is.now.schema, is.now.meta)
 
-pub named_second : (s : State) → IsReady s → Names (pos 2) (pos (content_of s.now.trees).incarnation) s
+pub named_second : (s : State) → IsReady s → HasRow 2 (content_of s.now.trees).incarnation s
 named_second s is = (inr is.now.schema, is.now.meta)

@@ -1,8 +1,11 @@
 -- The look at the row of tm_meta, over the tables of either version.
-use Rattle.std.proofs.Common.{◌≡◌, inl, inr, ℕ, ℤ, List, [], ◌∷◌, map, refl, sym, subst, codes, false}
+use Rattle.std.proofs.Common.{◌≡◌, inl, inr, ℕ, zero, suc, ◌<◌, pos, List, [], ◌∷◌, map, length, get_or, refl, sym, ap, subst, ◌∙◌, codes, false, arith}
+use Rattle.std.specs.List.{Contains}
 use Rattle.std.specs.List.Sorted.{IsPermutation}
+use Rattle.std.proofs.lemmas.List.Elements.{Contains-append_right}
+use Rattle.std.proofs.lemmas.List.Sorted.{Contains-permutation, IsPermutation-sym}
 use Rattle.sqlite.specs.declared.types.Value.TheVariants.{Int}
-use Rattle.sqlite.specs.Order.{Row}
+use Rattle.sqlite.specs.Order.{Row, column}
 use Rattle.sqlite.specs.Tree.{Trees}
 use Rattle.sqlite.specs.Schema.{Schema}
 use Rattle.sqlite.specs.Term.{Term, col}
@@ -13,7 +16,7 @@ use Rattle.sqlite.specs.State.{State, IsUnchanged, Survives, CommitsShowing, Sho
 use Rattle.sqlite.proofs.Callers.{IsPlain, command_of, never_commits, reads_as, one_permutation}
 use Rattle.sqlite_tied.specs.Compute.{everything}
 use Rattle.xa_log.specs.Tables.{old_schema, log_schema}
-use Rattle.xa_log.specs.Opened.{HasTables, Names}
+use Rattle.xa_log.specs.Opened.{HasTables, HasRow, IsNatural, Names}
 use Rattle.xa_log.proofs.Texts.{over}
 use Rattle.xa_log.proofs.Plain.{chosen, shown, plain_rows}
 
@@ -50,12 +53,44 @@ looks old new rows has h =
 pub look_commits : (old : State) (db : Trees) → HasTables old → CommitsShowing read_meta [] old db → ⊥
 look_commits old db has h = never_commits read_meta [] old db (reads old has).plain h
 
-pub looks_at : (version incarnation : ℤ) (old new : State) (rows : List Row) → Names version incarnation old → Shown read_meta [] old new rows → rows ≡ (Int version ∷ Int incarnation ∷ []) ∷ []
-looks_at version incarnation old new rows names h =
-    let it = reads old names.0 in
-    let read = reads_as read_meta [] old new old.now.schema refl _ it.is it.plain it.unlisted rows h in
-    one_permutation (Int version ∷ Int incarnation ∷ []) rows
-    (subst (λ all. IsPermutation (map (shown project []) (chosen [] [] all)) rows) names.1 (plain_rows 0 [] project old.now.trees [] rows read.answer))
+answers : (old new : State) (rows : List Row) → HasTables old → Shown read_meta [] old new rows
+    → IsPermutation (map (shown project []) (chosen [] [] (old.now.trees 0))) rows
+answers old new rows has h =
+    let it = reads old has in
+    plain_rows 0 [] project old.now.trees [] rows (reads_as read_meta [] old new old.now.schema refl _ it.is it.plain it.unlisted rows h).answer
+
+pub looks_at : (version incarnation : ℕ) (old new : State) (rows : List Row) → HasRow version incarnation old → Shown read_meta [] old new rows → rows ≡ (Int (pos version) ∷ Int (pos incarnation) ∷ []) ∷ []
+looks_at version incarnation old new rows is h =
+    one_permutation (Int (pos version) ∷ Int (pos incarnation) ∷ []) rows
+    (subst (λ all. IsPermutation (map (shown project []) (chosen [] [] all)) rows) is.1 (answers old new rows is.0 h))
+
+-- what stands at a place of the answer was shown of a row of the table
+shown_of : (all : List Row) (row : Row) (k : ℕ) → k < length (map (shown project []) (chosen [] [] all))
+    → get_or (map (shown project []) (chosen [] [] all)) k row ≡ row → (from : Row) × Contains all from × (shown project [] from ≡ row)
+shown_of [] row k within is = absurd (omega (arith, within))
+shown_of (first ∷ all) row zero within is = (first, (0, omega arith, refl), is)
+shown_of (first ∷ all) row (suc k) within is =
+    let found = shown_of all row k (omega (arith, within)) is in
+    (found.0, Contains-append_right (first ∷ []) all found.0 found.1, found.2)
+
+one_number : (v i n k : ℕ) (row : Row) → k < 1 → get_or ((Int (pos v) ∷ Int (pos i) ∷ []) ∷ []) k row ≡ row → column row 0 ≡ Int (pos n) → n ≡ v
+one_number v i n zero row within is number =
+    let value : Int (pos v) ≡ Int (pos n) = ap (λ r. column r 0) is ∙ number in
+    cc
+one_number v i n (suc k) row within is number = absurd (omega (arith, within))
+
+-- a number at the head of an answer of one row is that row's
+pub number_of_one : (v i n : ℕ) (rows : List Row) (row : Row) → rows ≡ (Int (pos v) ∷ Int (pos i) ∷ []) ∷ [] → Contains rows row → column row 0 ≡ Int (pos n) → n ≡ v
+number_of_one v i n rows row is has number =
+    let at = subst (λ all. Contains all row) is has in
+    one_number v i n at.0 row at.1 at.2 number
+
+pub names : (version : ℕ) (old new : State) (rows : List Row) (row : Row) → HasTables old → Shown read_meta [] old new rows
+    → Contains rows row → column row 0 ≡ Int (pos version) → IsNatural (column row 1) → Names version old
+names version old new rows row has h in_rows first second =
+    let moved = Contains-permutation rows (map (shown project []) (chosen [] [] (old.now.trees 0))) row (IsPermutation-sym _ _ (answers old new rows has h)) in_rows in
+    let from = shown_of (old.now.trees 0) row moved.0 moved.1 moved.2 in
+    (from.0, from.1, ap (λ r. column r 0) from.2 ∙ first, (second.0, ap (λ r. column r 1) from.2 ∙ second.1))
 
 pub look_survives : (old new : State) → HasTables old → Survives old new (CommitsShowing read_meta [] old) → Survives old new (λ _. ⊥)
 look_survives old new has s = record {

@@ -1,7 +1,9 @@
 -- What a log finds in a database that it takes, and what it makes of it.
-use Rattle.std.specs.Prelude.{◌≡◌, ◌⊎◌, ℕ, ℤ, pos, List, [], ◌∷◌, Ok, IsTrue}
+use Rattle.std.specs.Prelude.{◌≡◌, ◌⊎◌, ℕ, pos, List, [], ◌∷◌, Ok, IsTrue}
+use Rattle.std.specs.List.{Contains}
+use Rattle.sqlite.specs.declared.types.Value.{Value}
 use Rattle.sqlite.specs.declared.types.Value.TheVariants.{Null, Int}
-use Rattle.sqlite.specs.Order.{Row}
+use Rattle.sqlite.specs.Order.{Row, column}
 use Rattle.sqlite.specs.Tree.{Trees}
 use Rattle.sqlite.specs.State.{State, Executes}
 use Rattle.sqlite.specs.Held.{Held}
@@ -31,20 +33,28 @@ HasTables s = (s.now.schema ≡ old_schema) ⊎ (s.now.schema ≡ log_schema)
 abbrev pub IsTakeable : State → Type 0
 IsTakeable s = IsBlank s ⊎ (IsOldReady s ⊎ (s.now.schema ≡ log_schema))
 
-abbrev pub version_row : ℤ → ℤ → Row
-version_row version incarnation = Int (pos 1) ∷ Null ∷ Int version ∷ Int incarnation ∷ []
+abbrev pub version_row : ℕ → ℕ → Row
+version_row version incarnation = Int (pos 1) ∷ Null ∷ Int (pos version) ∷ Int (pos incarnation) ∷ []
 
--- the tables are those of a log, and their one row of tm_meta has these numbers
-abbrev pub Names : ℤ → ℤ → State → Type 0
-Names version incarnation s =
+-- the tables are those of a log, and tm_meta has this one row
+abbrev pub HasRow : ℕ → ℕ → State → Type 0
+HasRow version incarnation s =
     HasTables s × (s.now.trees 0 ≡ version_row version incarnation ∷ [])
 
-abbrev pub IsNatural : ℤ → Type 0
-IsNatural i = (n : ℕ) × (i ≡ pos n)
+-- a whole number that isn't negative
+abbrev pub IsNatural : Value → Type 0
+IsNatural value = (n : ℕ) × (value ≡ Int (pos n))
 
--- the row has a version that is known, and no negative incarnation
-abbrev pub AreKnown : ℤ → ℤ → Type 0
-AreKnown version incarnation = ((version ≡ pos 1) ⊎ (version ≡ pos 2)) × IsNatural incarnation
+-- a row of tm_meta has this version, and an incarnation that is a natural number
+abbrev pub Names : ℕ → State → Type 0
+Names version s =
+    (row : Row)
+    × Contains (s.now.trees 0) row
+    × (column row 2 ≡ Int (pos version))
+    × IsNatural (column row 3)
+
+abbrev pub NamesKnown : State → Type 0
+NamesKnown s = Names 1 s ⊎ Names 2 s
 
 -- a blank database, or a log of version 1 or 2
 abbrev pub IsKnown : State → Type 0
@@ -72,17 +82,17 @@ pub record IsUntouched (old new : State) : Type 0 where
   pub undone : IsUndone old new
   pub crash : LeavesSame old new
 
--- The log is over the database that was found in files with these contents: empty where that was blank, and else
--- with its rows.
+-- What a log makes of a database that it takes: an empty log where that was blank, and else one with its rows.
+pub record IsTaken (old new : State) : Type 0 where
+  pub made : IsBlank old → IsReadyWith nothing new
+  pub migrated : IsOldReady old → IsReadyWith (old_content_of old.now.trees) new
+  pub kept : old.now.schema ≡ log_schema → IsOrderly old → IsReadyWith (content_of old.now.trees) new
+  pub version : HasTables old → NamesKnown old
+  pub crash : IsTakeable old → LeavesTables old new
+
+-- The log is over the database that was found in files with these contents.
 pub record IsOver {D : Type 0} {g : Ghosts D} (image : Image) (log : Held (FileStore D g)) : Type 0 where
   pub was : Held (FileStore D g)
   pub opened : IsOpened was
   pub found : FindsIn image (file_state was)
-  pub made : IsBlank (file_state was) → IsReadyWith nothing (file_state log)
-  pub migrated : IsOldReady (file_state was)
-      → IsReadyWith (old_content_of (file_state was).now.trees) (file_state log)
-  pub kept : (file_state was).now.schema ≡ log_schema → IsOrderly (file_state was)
-      → IsReadyWith (content_of (file_state was).now.trees) (file_state log)
-  pub version : (version incarnation : ℤ) → Names version incarnation (file_state was)
-      → AreKnown version incarnation
-  pub crash : IsTakeable (file_state was) → LeavesTables (file_state was) (file_state log)
+  pub taken : IsTaken (file_state was) (file_state log)

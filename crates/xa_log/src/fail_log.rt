@@ -46,6 +46,8 @@ impl FailLog {
         ensures order { ⟦<MemLog as DecisionLog>⟧.is_in_order log →
             ⟦<FailLog as DecisionLog>⟧.is_in_order result }
         ensures faults { ⟦<FailLog as DecisionLog>⟧.fault_count result ≡ 0 }
+        ensures plan { result.plan ≡ plan }
+        ensures calls { result.calls ≡ 0 }
     {
         FailLog {
             log,

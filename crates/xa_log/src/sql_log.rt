@@ -1,22 +1,24 @@
 //! A decision log in a database.
-ghost use Rattle.std.specs.Prelude.{◌≡◌, ℤ, false, Err, IsTrue, IfOk, IfErr};
+ghost use Rattle.std.specs.Prelude.{◌≡◌, false, codes, Err, IsTrue, IfOk, IfErr, IsErrAnd};
 ghost use Rattle.sqlite.specs.State.{HasCleanDisk};
 ghost use Rattle.sqlite.specs.Held.{state};
 ghost use Rattle.sqlite.specs.Steps.{over_memory};
-ghost use Rattle.sqlite.specs.Files.{file_state};
+ghost use Rattle.sqlite.specs.Files.{file_state, IsOpened};
+ghost use Rattle.sqlite.specs.Start.{FindsIn};
 ghost use Rattle.sqlite_wal.specs.Files.{image_at};
 ghost use Rattle.xa_log.specs.Content.{nothing};
 ghost use Rattle.xa_log.specs.Contract.{IsStoreFault};
 ghost use Rattle.xa_log.specs.Rows.{content_of, old_content_of};
 ghost use Rattle.xa_log.specs.Tables.{log_schema};
 ghost use Rattle.xa_log.specs.Sql.{IsOrderly, IsReadyWith, IsUndone, IsOldReady};
-ghost use Rattle.xa_log.specs.Opened.{IsBlank, IsTakeable, IsKnown, HasTables, Names, AreKnown, LeavesTables, LeavesSame, IsUntouched, IsOver};
+ghost use Rattle.xa_log.specs.Opened.{IsBlank, IsTakeable, IsKnown, HasTables, NamesKnown, LeavesTables, LeavesSame, IsUntouched, IsTaken, IsOver};
 
 use crate::decision_log::{DecisionLog, Logged};
 use crate::log_fault::{LogFault, counted};
 use crate::log_rows::LogRows;
 use crate::{decisions, heuristics, incarnation, rows, tables};
 use sqlite::{Alter, Connection, FileFrom, FileStore, MemStore, Start, Unknown};
+use sqlite_disk::Disk;
 use std::alloc::Global;
 use xa_base::{Branch, Gtrid, How};
 
@@ -41,7 +43,10 @@ impl<S: Alter + Drop> SqlLog<S> {
     /// In the contract:
     ///
     /// - `made`, `migrated`, `kept`: what the log then holds, by what the database was;
-    /// - `version`, `known`: no log is made of an unknown version, and none of a known one is refused as one of those;
+    /// - `version`: no log is made of the tables of one where no row of `tm_meta` names version 1 or 2 and a natural
+    ///   incarnation;
+    /// - `known`: a database without tables, or one that a log has left, is refused by the store or for want of memory
+    ///   alone;
     /// - `undone`, `unknown`, `refused`: after a failure the database is as it was, or shut;
     /// - `crash`, `crash_kept` and the same for a failure: a crash leaves what it might have left before, or all
     ///   that one transaction made; over version 2 nothing else.
@@ -64,12 +69,12 @@ impl<S: Alter + Drop> SqlLog<S> {
         ensures undone { IfErr result (λ e. conn.in_transaction ≡ false →
             IsTakeable (state S.Store conn) → HasCleanDisk (state S.Store e.1) →
             IsUndone (state S.Store conn) (state S.Store e.1)) }
-        ensures version { IfOk result (λ log. (v i : ℤ) → Names v i (state S.Store conn) →
-            HasCleanDisk (state S.Store log.conn) → AreKnown v i) }
+        ensures version { IfOk result (λ log. HasTables (state S.Store conn) →
+            HasCleanDisk (state S.Store log.conn) → NamesKnown (state S.Store conn)) }
         ensures known { IfErr result (λ e. IsKnown (state S.Store conn) →
             HasCleanDisk (state S.Store e.1) → IsStoreFault e.0) }
         ensures unknown { IfErr result (λ e. conn.in_transaction ≡ false →
-            (v i : ℤ) → Names v i (state S.Store conn) → ¬ AreKnown v i →
+            HasTables (state S.Store conn) → ¬ NamesKnown (state S.Store conn) →
             HasCleanDisk (state S.Store e.1) →
             IsUntouched (state S.Store conn) (state S.Store e.1)) }
         ensures refused { IfErr result (λ e. e.0 ≡ LogFault.Version →
@@ -103,6 +108,22 @@ impl<S: Alter + Drop> SqlLog<S> {
     }
 }
 
+impl<S: Alter + Drop> SqlLog<S> {
+    // Does what `adopt` does, and closes the connection where that fails.
+    fn adopt_or_close(conn: Connection<S>) -> Result<SqlLog<S>, LogFault>
+        ensures faults { IfOk result (λ log. log.faults ≡ 0) }
+        ensures honest { IfOk result (λ log.
+            HasCleanDisk (state S.Store log.conn) → HasCleanDisk (state S.Store conn)) }
+        ensures taken { IfOk result (λ log. HasCleanDisk (state S.Store log.conn) →
+            IsTaken (state S.Store conn) (state S.Store log.conn)) }
+    {
+        match SqlLog::adopt(conn) {
+            Ok(log) => Ok(log),
+            Err((fault, _)) => Err(fault),
+        }
+    }
+}
+
 impl SqlLog<MemStore> {
     /// An empty log in memory.
     pub fn open_in_memory(alloc: Global) -> Result<SqlLog<MemStore>, LogFault>
@@ -111,16 +132,44 @@ impl SqlLog<MemStore> {
         ensures honest { IfOk result (λ log. HasCleanDisk (state over_memory log.conn)) }
     {
         let conn = Connection::open_in_memory(alloc)?;
-        match SqlLog::adopt(conn) {
-            Ok(log) => Ok(log),
-            Err((fault, _)) => Err(fault),
-        }
+        SqlLog::adopt_or_close(conn)
+    }
+}
+
+impl<D: Disk + Drop> SqlLog<FileStore<D>> {
+    // The same over files. A proof that goes from any store to the host's files by way of this one is far smaller.
+    fn adopt_files(conn: Connection<FileStore<D>>) -> Result<SqlLog<FileStore<D>>, LogFault>
+        ensures faults { IfOk result (λ log. log.faults ≡ 0) }
+        ensures honest { IfOk result (λ log.
+            HasCleanDisk (file_state log.conn) → HasCleanDisk (file_state conn)) }
+        ensures taken { IfOk result (λ log. HasCleanDisk (file_state log.conn) →
+            IsTaken (file_state conn) (file_state log.conn)) }
+    {
+        SqlLog::adopt_or_close(conn)
+    }
+}
+
+// Opens the file at a path with a journal beside it.
+fn connection_to<S: Start>(
+    rt: &HostRuntime,
+    path: &str,
+    start: S,
+) -> Result<Connection<FileStore<FileFrom<S>>>, LogFault>
+    ensures memory { path.now ≡ codes ":memory:" → IsErrAnd result IsStoreFault }
+    ensures opened { IfOk result (λ conn. HasCleanDisk (file_state conn) → IsOpened conn) }
+    ensures found { IfOk result (λ conn. HasCleanDisk (file_state conn) →
+        FindsIn (image_at S.Start) (file_state conn)) }
+{
+    match Connection::open_from(rt, path, false, start) {
+        Ok(conn) => Ok(conn),
+        Err((error, _)) => Err(error.into()),
     }
 }
 
 impl<S: Start> SqlLog<FileStore<FileFrom<S>>> {
     /// Opens the log in the file at a path, or makes it, as `adopt` does. The file's journal lies beside it; both
-    /// are of this log alone. [`LogFault::Store`] comes also where the files can't be opened or hold no database.
+    /// are of this log alone. [`LogFault::Store`] comes also where the files can't be opened or hold no database, and
+    /// for the path `:memory:`, which names no file.
     ///
     /// `start` stands for what the files held, which the contract names. A program passes [`sqlite::Unknown`], or
     /// [`sqlite::Wary`], which syncs twice for each commit and so supposes less of a write that a crash tears.
@@ -132,15 +181,10 @@ impl<S: Start> SqlLog<FileStore<FileFrom<S>>> {
         ensures faults { IfOk result (λ log. log.faults ≡ 0) }
         ensures opened { IfOk result (λ log. HasCleanDisk (file_state log.conn) →
             IsOver (image_at S.Start) log.conn) }
+        ensures memory { path.now ≡ codes ":memory:" → IsErrAnd result IsStoreFault }
     {
-        let conn = match Connection::open_from(rt, path, false, start) {
-            Ok(conn) => conn,
-            Err((error, _)) => return Err(error.into()),
-        };
-        match SqlLog::adopt(conn) {
-            Ok(log) => Ok(log),
-            Err((fault, _)) => Err(fault),
-        }
+        let conn = connection_to(rt, path, start)?;
+        SqlLog::adopt_files(conn)
     }
 }
 
@@ -155,6 +199,7 @@ impl SqlLog<FileStore<FileFrom<Unknown>>> {
         ensures faults { IfOk result (λ log. log.faults ≡ 0) }
         ensures opened { IfOk result (λ log. HasCleanDisk (file_state log.conn) →
             IsOver (image_at ⟦<Unknown as Start>⟧) log.conn) }
+        ensures memory { path.now ≡ codes ":memory:" → IsErrAnd result IsStoreFault }
     {
         SqlLog::open_from(rt, path, Unknown)
     }

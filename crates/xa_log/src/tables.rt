@@ -1,6 +1,9 @@
 //! The tables of a log: made where there is none, and migrated from version 1.
-ghost use Rattle.std.specs.Prelude.{◌≡◌, ◌⊎◌, ℕ, ℤ, pos, true, false, IsTrue, [], ◌∷◌, Err, IfOk, IfErr, OnOk, OnErr};
+ghost use Rattle.std.specs.Prelude.{◌≡◌, ◌⊎◌, ℕ, List, pos, true, false, IsTrue, [], ◌∷◌, Err, IfOk, IfErr, OnOk, OnErr};
+ghost use Rattle.std.specs.List.{Contains};
+ghost use Rattle.sqlite.specs.declared.types.Value.{Value};
 ghost use Rattle.sqlite.specs.declared.types.Value.TheVariants.{Int};
+ghost use Rattle.sqlite.specs.Order.{column};
 ghost use Rattle.sqlite.specs.State.{HasCleanDisk, IsUnchanged, KeepsCommit, Survives};
 ghost use Rattle.sqlite.specs.Held.{state};
 ghost use Rattle.xa_log.specs.Content.{nothing};
@@ -8,7 +11,7 @@ ghost use Rattle.xa_log.specs.Contract.{IsStoreFault};
 ghost use Rattle.xa_log.specs.Rows.{content_of, old_content_of, IsOldLog};
 ghost use Rattle.xa_log.specs.Tables.{no_tables, old_schema, log_schema};
 ghost use Rattle.xa_log.specs.Sql.{IsOrderly, IsReadyWith, IsUndone, IsNewLog, AreNewTrees, IsOldReady, Rests};
-ghost use Rattle.xa_log.specs.Opened.{IsBlank, HasTables, IsTakeable, IsKnown, IsNatural, Names, AreKnown, RunsInside, LeavesOr, LeavesTables, LeavesSame, IsUntouched};
+ghost use Rattle.xa_log.specs.Opened.{IsBlank, HasTables, IsTakeable, IsKnown, HasRow, IsNatural, Names, NamesKnown, RunsInside, LeavesOr, LeavesTables, LeavesSame, IsUntouched};
 
 use crate::LogFault;
 use crate::fields::number;
@@ -140,8 +143,8 @@ fn migrate<S: Alter>(conn: &mut Connection<S>) -> Result<(), LogFault>
 
 /// The version in the row of `tm_meta`, both of whose numbers have to fit their types.
 fn version_in(rows: &[Row]) -> Result<u64, LogFault>
-    ensures ok { (v i : ℤ) → rows.now ≡ (Int v ∷ Int i ∷ []) ∷ [] →
-        IfOk result (λ version. (v ≡ pos version) × IsNatural i) }
+    ensures ok { IfOk result (λ version. (row : List Value) × Contains rows.now row ×
+        (column row 0 ≡ Int (pos version)) × IsNatural (column row 1)) }
     ensures err { (v i : ℕ) → rows.now ≡ (Int (pos v) ∷ Int (pos i) ∷ []) ∷ [] →
         IfErr result (λ fault. fault ≡ LogFault.Memory) }
 {
@@ -161,9 +164,9 @@ fn check_version<S: Alter>(conn: &mut Connection<S>, version: u64) -> Result<(),
         OnErr result (Rests (state S.Store conn.old) (state S.Store conn.new)) }
     ensures survives { HasTables (state S.Store conn.old) →
         Survives (state S.Store conn.old) (state S.Store conn.new) (λ _. ⊥) }
-    ensures version { (v i : ℤ) → Names v i (state S.Store conn.old) →
-        HasCleanDisk (state S.Store conn.new) → OnOk result ((v ≡ pos version) × IsNatural i) }
-    ensures known { (i : ℕ) → Names (pos version) (pos i) (state S.Store conn.old) →
+    ensures version { HasTables (state S.Store conn.old) → HasCleanDisk (state S.Store conn.new) →
+        OnOk result (Names version (state S.Store conn.old)) }
+    ensures known { (i : ℕ) → HasRow version i (state S.Store conn.old) →
         HasCleanDisk (state S.Store conn.new) → IfErr result IsStoreFault }
 {
     let rows = conn.query_all(READ_META, &[])?;
@@ -186,11 +189,11 @@ fn upgrade<S: Alter>(conn: &mut Connection<S>) -> Result<(), LogFault>
     ensures crash { IsOldReady (state S.Store conn.old) → HasCleanDisk (state S.Store conn.new) →
         LeavesOr (AreNewTrees (old_content_of (state S.Store conn.old).now.trees))
         (state S.Store conn.old) (state S.Store conn.new) }
-    ensures version { (v i : ℤ) → Names v i (state S.Store conn.old) →
-        HasCleanDisk (state S.Store conn.new) → OnOk result ((v ≡ pos 1) × IsNatural i) }
+    ensures version { HasTables (state S.Store conn.old) → HasCleanDisk (state S.Store conn.new) →
+        OnOk result (Names 1 (state S.Store conn.old)) }
     ensures known { IsOldReady (state S.Store conn.old) →
         HasCleanDisk (state S.Store conn.new) → IfErr result IsStoreFault }
-    ensures unknown { (v i : ℤ) → Names v i (state S.Store conn.old) → ¬ AreKnown v i →
+    ensures unknown { HasTables (state S.Store conn.old) → ¬ NamesKnown (state S.Store conn.old) →
         HasCleanDisk (state S.Store conn.new) →
         Rests (state S.Store conn.old) (state S.Store conn.new) ×
         LeavesSame (state S.Store conn.old) (state S.Store conn.new) }
@@ -241,12 +244,12 @@ pub(crate) fn prepare<S: Alter>(conn: &mut Connection<S>) -> Result<(), LogFault
         LeavesTables (state S.Store conn.old) (state S.Store conn.new) }
     ensures crash_kept { (state S.Store conn.old).now.schema ≡ log_schema →
         HasCleanDisk (state S.Store conn.new) → LeavesSame (state S.Store conn.old) (state S.Store conn.new) }
-    ensures version { (v i : ℤ) → Names v i (state S.Store conn.old) →
-        HasCleanDisk (state S.Store conn.new) → OnOk result (AreKnown v i) }
+    ensures version { HasTables (state S.Store conn.old) → HasCleanDisk (state S.Store conn.new) →
+        OnOk result (NamesKnown (state S.Store conn.old)) }
     ensures known { IsKnown (state S.Store conn.old) → HasCleanDisk (state S.Store conn.new) →
         IfErr result IsStoreFault }
     ensures unknown { conn.old.in_transaction ≡ false →
-        (v i : ℤ) → Names v i (state S.Store conn.old) → ¬ AreKnown v i →
+        HasTables (state S.Store conn.old) → ¬ NamesKnown (state S.Store conn.old) →
         HasCleanDisk (state S.Store conn.new) →
         IsUntouched (state S.Store conn.old) (state S.Store conn.new) }
     ensures refused { result ≡ Err LogFault.Version → HasTables (state S.Store conn.old) →

@@ -1,7 +1,7 @@
 use Rattle.std.proofs.Common.{sym, ap, subst, refl}
 use Rattle.xa_log.specs.Commands.{Tells}
 use Rattle.xa_log.specs.declared.commands.Told.TheVariants as told
-use Rattle.xa_log.proofs.InTurn.{some_and, both3}
+use Rattle.xa_log.proofs.Parts.{some_and, both3}
 use Rattle.xa_log.proofs.commands.run_one.Goals as goal
 
 pub returns-in_ok-commit-in-Commit-clause-told : goal.returns-in_ok-commit-in-Commit-clause-told

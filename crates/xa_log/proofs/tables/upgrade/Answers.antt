@@ -8,12 +8,10 @@ use Rattle.xa_log.proofs.Parts.{on_ok}
 use Rattle.xa_log.proofs.tables.upgrade.Goals as goal
 
 pub returns-clause-version : goal.returns-clause-version
-returns-clause-version g c v i names clean = on_ok _ _ (c.in_ok-check_version.ensures.version v i names (c.migrate.ensures.honest clean))
+returns-clause-version g c has clean = on_ok _ _ (c.in_ok-check_version.ensures.version has (c.migrate.ensures.honest clean))
 
 pub returns-clause-unknown : goal.returns-clause-unknown
-returns-clause-unknown g c v i names apart clean =
-    let found = c.in_ok-check_version.ensures.version v i names (c.migrate.ensures.honest clean) in
-    absurd (apart (inl found.0, found.1))
+returns-clause-unknown g c has unknown clean = absurd (unknown (inl (c.in_ok-check_version.ensures.version has (c.migrate.ensures.honest clean))))
 
 pub returns-clause-crash : goal.returns-clause-crash
 returns-clause-crash g c is clean db left =

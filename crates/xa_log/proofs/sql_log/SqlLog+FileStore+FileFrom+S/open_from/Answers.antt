@@ -1,16 +1,16 @@
+use Rattle.xa_log.proofs.Parts.{both_ok}
 use Rattle.xa_log.proofs.sql_log.SqlLog+FileStore+FileFrom+S.open_from.Goals as goal
 
-pub returns-in-Ok-adopt-clause-opened : goal.returns-in-Ok-adopt-clause-opened
-returns-in-Ok-adopt-clause-opened g c clean =
-    let taken = c.in-Ok-adopt.ensures in
-    let early = taken.honest clean in
+pub returns-clause-opened : goal.returns-clause-opened
+returns-clause-opened g c =
+    both_ok c.adopt_files.result _ _ _
+    (λ log honest taken clean.
+    let early = honest clean in
     record {
-      was = c.in-Ok.conn;
-      opened = c.in-Ok.ensures.opened early;
-      found = c.in-Ok.ensures.found early;
-      made = λ is. taken.made is clean;
-      migrated = λ is. taken.migrated is clean;
-      kept = λ is order. taken.kept is order clean;
-      version = λ v i names. taken.version v i names clean;
-      crash = λ is. taken.crash is clean;
-    }
+      was = c.in_ok-conn.conn;
+      opened = c.in_ok-conn.ensures.opened early;
+      found = c.in_ok-conn.ensures.found early;
+      taken = taken clean;
+    })
+    c.adopt_files.ensures.honest
+    c.adopt_files.ensures.taken
