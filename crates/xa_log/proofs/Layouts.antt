@@ -1,5 +1,5 @@
 -- Which tables each version has, and what a look at them leaves.
-use Rattle.std.proofs.Common.{◌≡◌, refl, is_some, codes, true, false, Result, Ok, Err, OnOk, IsTrue, ℤ, pos, inl, inr, sym, subst, ◌∙◌}
+use Rattle.std.proofs.Common.{◌≡◌, refl, is_some, codes, true, false, IsTrue, inl, inr, sym, subst, ◌∙◌}
 use Rattle.sqlite_schema.specs.Names.{table_named}
 use Rattle.sqlite_tied.specs.Compute.{everything}
 use Rattle.sqlite.specs.State.{State, IsUnchanged}
