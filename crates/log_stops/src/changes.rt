@@ -1,35 +1,19 @@
 //! The calls that change a log in files, with a stop at each call of either file.
 
-ghost use Rattle.std.specs.Prelude.{◌≡◌, ◌≤◌};
-ghost use Rattle.xa_log.specs.Contract.{FitsRow};
-
-use crate::files::{
-    Stopping, Stops, VERSION_1, adopt_in, closed, copy_of, crashed, files_with, look_in, open,
-    run_in, stopping,
-};
+use crate::files::{Stops, VERSION_1, copy_of, files_after, files_with, stopping};
+use crate::runs::{Change, Reached, crash_after, run_in};
 use crate::seen::{MIGRATED, Seen};
 use sqlite::Files;
-use sqlite_disk::{Disk, Memory};
+use sqlite_disk::Memory;
 use std::alloc::Global;
 use std::process::Abort;
 use std::test::Fail;
-use xa_base::{Branch, Gtrid, How};
-use xa_log::{DecisionLog, LogFault, SqlLog};
 
 /// What the log holds before the change: the transaction (1, 1) with one participant, and a heuristic end.
 const BEFORE: Seen = Seen {
     participants: 1,
     ..MIGRATED
 };
-
-/// A call that changes the log.
-#[derive(Clone, Copy, Debug, PartialEq, Eq)]
-enum Change {
-    Commit,
-    Done,
-    Note,
-    Bump,
-}
 
 impl Change {
     /// What the log holds after it. A further row counts as -1.
@@ -57,91 +41,14 @@ impl Change {
     }
 }
 
-/// A transaction of the first incarnation.
-fn gtrid(sequence: u64) -> Gtrid
-    requires { sequence ≤ 1000 }
-    ensures { FitsRow result }
-{
-    Gtrid {
-        incarnation: 1,
-        sequence,
-    }
-}
-
-fn branch(gtrid: Gtrid, rm: u32) -> Branch
-    ensures { result.gtrid ≡ gtrid }
-{
-    Branch {
-        gtrid,
-        thread: 0,
-        rm,
-    }
-}
-
-/// Makes the change.
-fn make<L: DecisionLog>(log: &mut L, change: Change) -> Result<(), LogFault> {
-    let (first, second) = (gtrid(1), gtrid(2));
-    match change {
-        Change::Commit => {
-            log.commit(
-                second,
-                &[branch(second, 0), branch(second, 1), branch(second, 2)],
-            )?;
-        }
-        Change::Done => {
-            log.done(first)?;
-        }
-        Change::Note => log.note_heuristic(branch(first, 0), How::Mix)?,
-        Change::Bump => {
-            log.bump()?;
-        }
-    }
-    Ok(())
-}
-
-/// What a run told before the stop.
-#[derive(Clone, Copy, Debug, PartialEq, Eq)]
-enum Told {
-    NotOpened,
-    NotChanged,
-    Changed,
-}
-
-/// The log in the files makes the change. They come back as they stand.
-fn change_on<D: Disk + Drop>(alloc: Global, files: Files<D>, change: Change) -> (Told, Files<D>) {
-    let conn = match open(alloc, files, 7) {
-        Ok(conn) => conn,
-        Err(left) => return (Told::NotOpened, left),
-    };
-    match SqlLog::adopt(conn) {
-        Ok(mut log) => {
-            let made = make(&mut log, change);
-            let told = if made.is_ok() {
-                Told::Changed
-            } else {
-                Told::NotChanged
-            };
-            (told, closed(log.into_connection()))
-        }
-        Err((_, conn)) => (Told::NotOpened, closed(conn)),
-    }
-}
-
 /// The files of a log that holds what is held before the change.
 fn log_files(alloc: Global) -> Result<Files<Memory>, Fail> {
-    let (_, files) = adopt_in(alloc, files_with(alloc, VERSION_1)?);
-    run_in(
+    let (_, files) = run_in(alloc, files_with(alloc, VERSION_1)?, None);
+    files_after(
         alloc,
         files,
         "INSERT INTO participant (inc, seq, thread, rm) VALUES (1, 1, 0, 0)",
     )
-}
-
-/// What the change told with a stop after so many calls of the one file, and what a crash leaves.
-fn stop_at(alloc: Global, files: Files<Stopping>, change: Change) -> Result<(Told, Seen), Fail> {
-    let (told, files) = change_on(alloc, files, change);
-    let (left, _) = look_in(alloc, crashed(files))?;
-    Ok((told, left))
 }
 
 /// With a stop at each call of the one file the crash leaves what was held before the change, or that with it. Answers
@@ -157,14 +64,17 @@ fn stop_at_each_call(
     let mut stopped = false;
     for calls in 0..100 {
         let files = stopping(copy_of(alloc, &before)?, which, calls);
-        let (told, left) = stop_at(alloc, files, change)?;
-        match told {
-            Told::NotOpened => assert!(rt; left == BEFORE, "a stop at call {calls}"),
-            Told::NotChanged => {
+        let (reached, left, _) = crash_after(alloc, files, Some(change))?;
+        match reached {
+            Reached::Nothing | Reached::Refused(_) => assert!(rt;
+                left == BEFORE,
+                "a stop at call {calls}"
+            ),
+            Reached::Adopted => {
                 assert!(rt; left == BEFORE || left == after, "a stop at call {calls}");
                 stopped = true;
             }
-            Told::Changed => {
+            Reached::End => {
                 assert!(rt; left == after, "a stop at call {calls}");
                 return Ok(stopped);
             }

@@ -1,13 +1,14 @@
-//! The two files of a log, in memory: opened, closed, crashed, and stopped after so many calls.
+//! The two files of a log: opened, read, closed, crashed, and stopped after so many calls.
+//!
+//! A proof of a call at the type of a connection to files is long: longer where the connection is dropped, and longest
+//! at one kind of file. So such calls stand in few functions over any kind of file, which close what they open or hand
+//! it to a function over any store.
 
 use crate::seen::{Seen, look};
 use sqlite::{Connection, FileStore, Files, Options};
 use sqlite_disk::{Crash, Disk, Fuse, Memory};
 use std::alloc::Global;
 use std::test::Fail;
-use xa_log::{LogFault, SqlLog};
-
-pub(crate) type Stopping = Fuse<Memory>;
 
 /// A log of version 1 in its first incarnation, with the transaction (1, 1) and a branch of (1, 2).
 pub(crate) const VERSION_1: &str = "BEGIN; \
@@ -60,21 +61,23 @@ fn blank(alloc: Global) -> Files<Memory> {
 }
 
 /// The files once these statements have run.
-pub(crate) fn run_in(
+pub(crate) fn files_after<D: Disk + Drop>(
     alloc: Global,
-    files: Files<Memory>,
+    files: Files<D>,
     sql: &str,
-) -> Result<Files<Memory>, Fail> {
+) -> Result<Files<D>, Fail> {
     let Ok(mut conn) = open(alloc, files, 3) else {
         return Err(Fail::from("the files do not open"));
     };
-    conn.execute_batch(sql)?;
-    Ok(closed(conn))
+    let ran = conn.execute_batch(sql);
+    let files = closed(conn);
+    ran?;
+    Ok(files)
 }
 
 /// Files in which these statements have run.
 pub(crate) fn files_with(alloc: Global, sql: &str) -> Result<Files<Memory>, Fail> {
-    run_in(alloc, blank(alloc), sql)
+    files_after(alloc, blank(alloc), sql)
 }
 
 /// What the files hold.
@@ -87,26 +90,6 @@ pub(crate) fn look_in<D: Disk + Drop>(
     };
     let seen = look(&mut conn);
     Ok((seen, closed(conn)))
-}
-
-/// What became of files that a log was to take.
-#[derive(Clone, Copy, Debug, PartialEq, Eq)]
-pub(crate) enum Taken {
-    NotOpened,
-    Refused(LogFault),
-    Adopted,
-}
-
-/// A log takes the files, which come back as they stand.
-pub(crate) fn adopt_in<D: Disk + Drop>(alloc: Global, files: Files<D>) -> (Taken, Files<D>) {
-    let conn = match open(alloc, files, 7) {
-        Ok(conn) => conn,
-        Err(left) => return (Taken::NotOpened, left),
-    };
-    match SqlLog::adopt(conn) {
-        Ok(log) => (Taken::Adopted, closed(log.into_connection())),
-        Err((fault, conn)) => (Taken::Refused(fault), closed(conn)),
-    }
 }
 
 /// The files as a crash leaves them.
@@ -124,7 +107,7 @@ pub(crate) enum Stops {
 }
 
 /// The files, of which the one passes so many calls on.
-pub(crate) fn stopping(files: Files<Memory>, which: Stops, calls: u64) -> Files<Stopping> {
+pub(crate) fn stopping(files: Files<Memory>, which: Stops, calls: u64) -> Files<Fuse<Memory>> {
     let (log_calls, db_calls) = match which {
         Stops::Journal => (calls, u64::MAX),
         Stops::Database => (u64::MAX, calls),

@@ -10,6 +10,8 @@ mod files;
 #[cfg(test)]
 mod paths;
 #[cfg(test)]
+mod runs;
+#[cfg(test)]
 mod seen;
 #[cfg(test)]
 mod tables;

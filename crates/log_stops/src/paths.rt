@@ -1,29 +1,68 @@
-//! Logs in files of the host, each opened again to look at it.
+//! Logs in files of the host, each opened again to look at it. What a call does with such a log or connection stands in
+//! a function over any files, as `files` says.
 
-use crate::files::VERSION_1;
+use crate::files::{VERSION_1, closed};
 use crate::seen::{EMPTY, MIGRATED, OLD, Seen, look};
-use sqlite::Connection;
+use sqlite::{Alter, Connection, Error, FileStore};
+use sqlite_disk::Disk;
 use std::fs;
 use std::test::Fail;
 use xa_log::{DecisionLog, LogFault, SqlLog};
 
+/// Runs statements and closes the connection.
+fn execute_and_close<D: Disk + Drop>(
+    mut conn: Connection<FileStore<D>>,
+    sql: &str,
+) -> Result<(), Error> {
+    let ran = conn.execute_batch(sql);
+    let _ = closed(conn);
+    ran
+}
+
+/// What a connection shows. It is closed.
+fn look_and_close<D: Disk + Drop>(mut conn: Connection<FileStore<D>>) -> Seen {
+    let seen = look(&mut conn);
+    let _ = closed(conn);
+    seen
+}
+
+/// Raises the incarnation and drops the log.
+fn bump_and_drop<S: Alter + Drop>(mut log: SqlLog<S>) -> Result<u64, LogFault> {
+    log.bump()
+}
+
+/// The same over files.
+fn bump_in_files<D: Disk + Drop>(log: SqlLog<FileStore<D>>) -> Result<u64, LogFault> {
+    bump_and_drop(log)
+}
+
+/// Drops the log.
+fn drop_log<S: Alter + Drop>(_log: SqlLog<S>) {}
+
+/// The same over files.
+fn drop_in_files<D: Disk + Drop>(log: SqlLog<FileStore<D>>) {
+    drop_log(log);
+}
+
 /// Runs statements on the database at a path, which is made where there is none.
 fn run_at(rt: &HostRuntime, path: &str, sql: &str) -> Result<(), Fail> {
-    let mut conn = Connection::open(rt, path)?;
-    conn.execute_batch(sql)?;
-    Ok(())
+    Ok(execute_and_close(Connection::open(rt, path)?, sql)?)
 }
 
 /// What the tables of the database at a path hold.
 fn seen_at(rt: &HostRuntime, path: &str) -> Result<Seen, Fail> {
-    let mut conn = Connection::open(rt, path)?;
-    Ok(look(&mut conn))
+    Ok(look_and_close(Connection::open(rt, path)?))
+}
+
+/// Opens a log at a path, or makes it, and drops it.
+fn open_at(rt: &HostRuntime, path: &str) -> Result<(), LogFault> {
+    drop_in_files(SqlLog::open(rt, path)?);
+    Ok(())
 }
 
 /// What a log at a path answers to `bump`.
 fn bump_at(rt: &HostRuntime, path: &str) -> Result<u64, LogFault> {
-    let mut log = SqlLog::open(rt, path)?;
-    log.bump()
+    bump_in_files(SqlLog::open(rt, path)?)
 }
 
 /// A folder with no files.
@@ -37,6 +76,8 @@ fn make_folder(rt: &HostRuntime, folder: &str) -> Result<(), Fail> {
 fn a_log_is_found_again(rt: HostRuntime) -> Result<(), Fail> {
     make_folder(&rt, "found_again")?;
     let path = "found_again/log.db";
+    open_at(&rt, path)?;
+    assert_eq!(rt; seen_at(&rt, path)?, EMPTY);
     assert_eq!(rt; bump_at(&rt, path)?, 1);
     assert_eq!(rt;
         seen_at(&rt, path)?,
@@ -47,6 +88,13 @@ fn a_log_is_found_again(rt: HostRuntime) -> Result<(), Fail> {
     );
     run_at(&rt, path, "UPDATE tm_meta SET incarnation = 3")?;
     assert_eq!(rt; bump_at(&rt, path)?, 4);
+    assert_eq!(rt;
+        seen_at(&rt, path)?,
+        Seen {
+            incarnation: 4,
+            ..EMPTY
+        }
+    );
     fs::remove_dir_all(&rt, "found_again")?;
     Ok(())
 }

@@ -1,11 +1,12 @@
-//! What the tables of a log hold.
+//! What a connection shows of the tables of a log.
 
 use sqlite::{Alter, Connection};
 
-/// The tables of a database, and how many rows they have. Of decisions and heuristics only the rows above count, and
-/// any other row counts as -1.
+/// The tables of a database, how many rows they have, and whether a transaction is open. Of decisions and heuristics
+/// only the rows of `VERSION_1` count, and any other row counts as -1.
 #[derive(Clone, Copy, Debug, PartialEq, Eq)]
 pub(crate) struct Seen {
+    pub in_transaction: bool,
     pub tables: i64,
     pub version: i64,
     pub incarnation: i64,
@@ -15,6 +16,7 @@ pub(crate) struct Seen {
 }
 
 pub(crate) const BLANK: Seen = Seen {
+    in_transaction: false,
     tables: 0,
     version: 0,
     incarnation: 0,
@@ -36,7 +38,7 @@ pub(crate) const OLD: Seen = Seen {
     incarnation: 1,
     decisions: 1,
     heuristics: 1,
-    participants: 0,
+    ..BLANK
 };
 
 pub(crate) const MIGRATED: Seen = Seen {
@@ -46,7 +48,7 @@ pub(crate) const MIGRATED: Seen = Seen {
 };
 
 /// The number that a query answers, or 0 where it is refused.
-pub(crate) fn number<S: Alter>(conn: &mut Connection<S>, sql: &str) -> i64 {
+fn number<S: Alter>(conn: &mut Connection<S>, sql: &str) -> i64 {
     match conn.query_row(sql, &[]) {
         Ok(row) => row.get(0).unwrap_or(0),
         Err(_) => 0,
@@ -55,6 +57,7 @@ pub(crate) fn number<S: Alter>(conn: &mut Connection<S>, sql: &str) -> i64 {
 
 pub(crate) fn look<S: Alter>(conn: &mut Connection<S>) -> Seen {
     Seen {
+        in_transaction: !conn.is_autocommit(),
         tables: number(
             conn,
             "SELECT count(*) FROM sqlite_schema WHERE type = 'table'",

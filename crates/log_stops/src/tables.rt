@@ -1,30 +1,28 @@
 //! The tables of a log in files: which are made, migrated, kept and refused, and what a stop at each call leaves.
 
-use crate::files::{
-    Stops, Taken, VERSION_1, adopt_in, crashed, files_with, look_in, open, run_in, stopping,
-};
+use crate::files::{Stops, VERSION_1, files_after, files_with, look_in, open, stopping};
+use crate::runs::{Reached, crash_after, run_in, run_on};
 use crate::seen::{BLANK, EMPTY, MIGRATED, OLD, Seen, look};
-use sqlite::Files;
-use sqlite_disk::Memory;
+use sqlite::{Alter, Connection, Error, FileStore, Files};
+use sqlite_disk::{Disk, Memory};
 use std::alloc::Global;
 use std::process::Abort;
 use std::test::Fail;
 use xa_log::{LogFault, SqlLog};
 
 /// A log takes files in which these statements have run, with a stop after so many calls of the one file. Answers
-/// what became of them, what a crash leaves and what the next log makes of that.
+/// how far it came, what a crash leaves and what the next log makes of that.
 fn stop_at(
     alloc: Global,
     sql: &str,
     which: Stops,
     calls: u64,
-) -> Result<(Taken, Seen, Seen), Fail> {
+) -> Result<(Reached, Seen, Seen), Fail> {
     let files = stopping(files_with(alloc, sql)?, which, calls);
-    let (taken, files) = adopt_in(alloc, files);
-    let (left, files) = look_in(alloc, crashed(files))?;
-    let (_, files) = adopt_in(alloc, files);
+    let (reached, left, files) = crash_after(alloc, files, None)?;
+    let (_, files) = run_in(alloc, files, None);
     let (made, _) = look_in(alloc, files)?;
-    Ok((taken, left, made))
+    Ok((reached, left, made))
 }
 
 /// With a stop at each call of the one file the crash leaves what the files held or what the log makes of it, and the
@@ -39,15 +37,15 @@ fn stop_at_each_call(
 ) -> Result<bool, Fail> {
     let mut stopped = false;
     for calls in 0..100 {
-        let (taken, left, again) = stop_at(alloc, sql, which, calls)?;
+        let (reached, left, again) = stop_at(alloc, sql, which, calls)?;
         assert!(rt; again == made, "a stop at call {calls}");
-        match taken {
-            Taken::NotOpened => assert!(rt; left == before, "a stop at call {calls}"),
-            Taken::Refused(_) => {
+        match reached {
+            Reached::Nothing => assert!(rt; left == before, "a stop at call {calls}"),
+            Reached::Refused(_) | Reached::Adopted => {
                 assert!(rt; left == before || left == made, "a stop at call {calls}");
                 stopped = true;
             }
-            Taken::Adopted => {
+            Reached::End => {
                 assert!(rt; left == made, "a stop at call {calls}");
                 return Ok(stopped);
             }
@@ -79,9 +77,9 @@ fn a_migration_outlives_the_database_file(rt: HostRuntime) -> Result<(), Fail> {
 fn log_with(alloc: Global, version: u8, sql: &str) -> Result<Files<Memory>, Fail> {
     let mut files = files_with(alloc, VERSION_1)?;
     if version == 2 {
-        files = adopt_in(alloc, files).1;
+        files = run_in(alloc, files, None).1;
     }
-    run_in(alloc, files, sql)
+    files_after(alloc, files, sql)
 }
 
 /// Tables of a log in which this statement has run are of a version that isn't known. A log refuses them, and they
@@ -89,9 +87,9 @@ fn log_with(alloc: Global, version: u8, sql: &str) -> Result<Files<Memory>, Fail
 fn refuses(rt: &impl Abort, alloc: Global, sql: &str) -> Result<(), Fail> {
     for version in 1..=2 {
         let (before, files) = look_in(alloc, log_with(alloc, version, sql)?)?;
-        let (taken, files) = adopt_in(alloc, files);
+        let (reached, files) = run_in(alloc, files, None);
         assert!(rt;
-            taken == Taken::Refused(LogFault::Version),
+            reached == Reached::Refused(LogFault::Version),
             "version {version} after {sql}"
         );
         let (left, _) = look_in(alloc, files)?;
@@ -109,18 +107,36 @@ fn other_versions_are_refused(rt: HostRuntime) -> Result<(), Fail> {
     refuses(&rt, rt.alloc(), "DELETE FROM tm_meta")
 }
 
+/// A transaction deletes the decisions, and a log takes the connection. Answers how far it came, and what the
+/// connection then shows.
+fn run_in_transaction<S: Alter + Drop>(mut conn: Connection<S>) -> Result<(Reached, Seen), Error> {
+    conn.execute_batch("BEGIN; DELETE FROM decision")?;
+    let (reached, mut conn) = run_on(conn, None);
+    Ok((reached, look(&mut conn)))
+}
+
+/// The same over files.
+fn run_in_transaction_on_files<D: Disk + Drop>(
+    conn: Connection<FileStore<D>>,
+) -> Result<(Reached, Seen), Error> {
+    run_in_transaction(conn)
+}
+
 #[test]
 fn a_transaction_is_left_alone(rt: HostRuntime) -> Result<(), Fail> {
-    let Ok(mut conn) = open(rt.alloc(), files_with(rt.alloc(), VERSION_1)?, 5) else {
+    let Ok(conn) = open(rt.alloc(), files_with(rt.alloc(), VERSION_1)?, 5) else {
         return Err(Fail::from("the files do not open"));
     };
-    conn.execute_batch("BEGIN; DELETE FROM decision")?;
-    let Err((fault, mut conn)) = SqlLog::adopt(conn) else {
-        return Err(Fail::from("a log took it"));
-    };
-    assert_eq!(rt; fault, LogFault::Store);
-    assert!(rt; !conn.is_autocommit());
-    assert_eq!(rt; look(&mut conn).decisions, 0);
+    let (reached, left) = run_in_transaction_on_files(conn)?;
+    assert_eq!(rt; reached, Reached::Refused(LogFault::Store));
+    assert_eq!(rt;
+        left,
+        Seen {
+            in_transaction: true,
+            decisions: 0,
+            ..OLD
+        }
+    );
     Ok(())
 }
 
