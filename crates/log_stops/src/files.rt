@@ -5,7 +5,7 @@
 //! it to a function over any store.
 
 use crate::seen::{Seen, look};
-use sqlite::{Connection, FileStore, Files, Options};
+use sqlite::{Connection, Error, FileStore, Files, Options};
 use sqlite_disk::{Crash, Disk, Fuse, Memory};
 use std::alloc::Global;
 use std::test::Fail;
@@ -60,19 +60,35 @@ fn blank(alloc: Global) -> Files<Memory> {
     }
 }
 
+/// Runs statements and closes the files.
+pub(crate) fn execute_and_close<D: Disk + Drop>(
+    mut conn: Connection<FileStore<D>>,
+    sql: &str,
+) -> Result<Files<D>, Error> {
+    let ran = conn.execute_batch(sql);
+    let files = closed(conn);
+    ran?;
+    Ok(files)
+}
+
+/// What a connection shows, and its files, which are closed.
+pub(crate) fn look_and_close<D: Disk + Drop>(
+    mut conn: Connection<FileStore<D>>,
+) -> (Seen, Files<D>) {
+    let seen = look(&mut conn);
+    (seen, closed(conn))
+}
+
 /// The files once these statements have run.
 pub(crate) fn files_after<D: Disk + Drop>(
     alloc: Global,
     files: Files<D>,
     sql: &str,
 ) -> Result<Files<D>, Fail> {
-    let Ok(mut conn) = open(alloc, files, 3) else {
+    let Ok(conn) = open(alloc, files, 3) else {
         return Err(Fail::from("the files do not open"));
     };
-    let ran = conn.execute_batch(sql);
-    let files = closed(conn);
-    ran?;
-    Ok(files)
+    Ok(execute_and_close(conn, sql)?)
 }
 
 /// Files in which these statements have run.
@@ -85,11 +101,10 @@ pub(crate) fn look_in<D: Disk + Drop>(
     alloc: Global,
     files: Files<D>,
 ) -> Result<(Seen, Files<D>), Fail> {
-    let Ok(mut conn) = open(alloc, files, 8) else {
+    let Ok(conn) = open(alloc, files, 8) else {
         return Err(Fail::from("the files do not open"));
     };
-    let seen = look(&mut conn);
-    Ok((seen, closed(conn)))
+    Ok(look_and_close(conn))
 }
 
 /// The files as a crash leaves them.

@@ -1,30 +1,13 @@
 //! Logs in files of the host, each opened again to look at it. What a call does with such a log or connection stands in
 //! a function over any files, as `files` says.
 
-use crate::files::{VERSION_1, closed};
-use crate::seen::{EMPTY, MIGRATED, OLD, Seen, look};
-use sqlite::{Alter, Connection, Error, FileStore};
+use crate::files::{VERSION_1, execute_and_close, look_and_close};
+use crate::seen::{EMPTY, MIGRATED, OLD, Seen};
+use sqlite::{Alter, Connection, FileStore};
 use sqlite_disk::Disk;
 use std::fs;
 use std::test::Fail;
 use xa_log::{DecisionLog, LogFault, SqlLog};
-
-/// Runs statements and closes the connection.
-fn execute_and_close<D: Disk + Drop>(
-    mut conn: Connection<FileStore<D>>,
-    sql: &str,
-) -> Result<(), Error> {
-    let ran = conn.execute_batch(sql);
-    let _ = closed(conn);
-    ran
-}
-
-/// What a connection shows. It is closed.
-fn look_and_close<D: Disk + Drop>(mut conn: Connection<FileStore<D>>) -> Seen {
-    let seen = look(&mut conn);
-    let _ = closed(conn);
-    seen
-}
 
 /// Raises the incarnation and drops the log.
 fn bump_and_drop<S: Alter + Drop>(mut log: SqlLog<S>) -> Result<u64, LogFault> {
@@ -46,12 +29,14 @@ fn drop_in_files<D: Disk + Drop>(log: SqlLog<FileStore<D>>) {
 
 /// Runs statements on the database at a path, which is made where there is none.
 fn run_at(rt: &HostRuntime, path: &str, sql: &str) -> Result<(), Fail> {
-    Ok(execute_and_close(Connection::open(rt, path)?, sql)?)
+    execute_and_close(Connection::open(rt, path)?, sql)?;
+    Ok(())
 }
 
 /// What the tables of the database at a path hold.
 fn seen_at(rt: &HostRuntime, path: &str) -> Result<Seen, Fail> {
-    Ok(look_and_close(Connection::open(rt, path)?))
+    let (seen, _) = look_and_close(Connection::open(rt, path)?);
+    Ok(seen)
 }
 
 /// Opens a log at a path, or makes it, and drops it.

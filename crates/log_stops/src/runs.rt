@@ -28,7 +28,7 @@ pub(crate) enum Reached {
     Nothing,
     /// The log refused them.
     Refused(LogFault),
-    /// The log has them, and did not make the change.
+    /// The log has them, and the call that makes the change failed.
     Adopted,
     /// The log has them, and made the change if there was one.
     End,
