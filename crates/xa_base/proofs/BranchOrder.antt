@@ -1,11 +1,10 @@
 -- The orders of transactions and of branches are total, and only the same tie.
-use Rattle.std.proofs.Common.{◌≡◌, ℕ, refl, ap, Equal, nat_cmp, Ordering}
+use Rattle.std.proofs.Common.{ℕ, ap, nat_cmp, Ordering}
 use Rattle.std.specs.Ordering.{ordering_then}
 use Rattle.std.specs.Cmp.{IsTotalOrder, nat_cmp_total}
 use Rattle.std.proofs.lemmas.Cmp.{on_total, then_total}
 use Rattle.std.proofs.lemmas.Map.Lookups.{CmpEqualImpliesEq, exact_pairs, exact_unsigned}
 use Rattle.xa_base.specs.declared.branch.Gtrid.{Gtrid}
-use Rattle.xa_base.specs.declared.branch.Branch.{Branch}
 use Rattle.xa_base.specs.Branch.{gtrid_cmp, branch_cmp}
 
 pub gtrids_total : IsTotalOrder gtrid_cmp

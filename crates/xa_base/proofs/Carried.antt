@@ -9,8 +9,10 @@ use Rattle.xa_base.specs.declared.step.Outcome.TheVariants as Outcome
 use Rattle.xa_base.specs.AgreementInvariant.{IsWaiting, CommitHasRow, RollbackHasNoRow, NoStartAfterCommit, RowsWerePrepared, IsReady, ClaimedIsPrepared, SettledIsOver, MayBegin, FreshGtrids, HandedOverAlone}
 use Rattle.xa_base.specs.Commitment.{Phase, phase_of}
 use Rattle.xa_base.specs.Facts.{decided_so, claimed, outlived, counts_as_committed, handed_over, live, has_row, had_row, ever, settled, heuristic_rows, standing}
-use Rattle.xa_base.specs.Right.{HasVoted, AllAreSettled}
-use Rattle.xa_base.specs.Trace.{Gtrid, Branch, Line, Kind.Start, Kind.Join, Kind.Commit, Kind.Rollback, Call, Call.On, How, Trace}
+use Rattle.xa_base.specs.Right.{HasVoted, AllAreSettled, AllRight}
+use Rattle.xa_base.specs.declared.call.Call.TheVariants as Calls
+use Rattle.xa_base.specs.Trace.{Gtrid, Branch, Line, Kind.Start, Kind.Join, Kind.Commit, Kind.Rollback, Call, How, Trace}
+use Rattle.xa_base.proofs.Determined.{handed_some}
 use Rattle.xa_base.proofs.Grows.{false_unless}
 use Rattle.xa_base.proofs.Invariant.{Old, IsAtRest, IsGood, HasBegun, Waits, WaitingStart, Inv}
 use Rattle.xa_base.proofs.Now.{closed_handed, ever_up, row_fact_ever, settled_at_rest}
@@ -50,17 +52,17 @@ pub commit_has_row : (tr : Trace) → Inv tr → CommitHasRow tr
 commit_has_row tr inv l b s w = by_row (has_row tr b.gtrid) refl
   where
     h : had_row tr b.gtrid ≡ true
-    h = inv.waiting l Commit b (waits_of tr l (On Commit b) w)
+    h = inv.waiting l Commit b (waits_of tr l (Calls.Commit b false) w)
 
     by_row : (t : Bool) → has_row tr b.gtrid ≡ t → (t ≡ true) ⊎ (settled tr b ≡ true)
     by_row true n = inl refl
     by_row false n = inr (inv.row_left b.gtrid h n b refl s)
 
 pub rollback_has_no_row : (tr : Trace) → Inv tr → RollbackHasNoRow tr
-rollback_has_no_row tr inv l b s w = by_row (waits_of tr l (On Rollback b) w) (ever tr b.gtrid) refl
+rollback_has_no_row tr inv l b s w = by_row (waits_of tr l (Calls.Rollback b) w) (ever tr b.gtrid) refl
   where
-    by_row : Waits tr l (On Rollback b) → (t : Bool) → ever tr b.gtrid ≡ t → (t ≡ false) ⊎ AllAreSettled tr b.gtrid
-    by_row v true e = inr (inv.row_left b.gtrid (ever_up tr b.gtrid inv (inv.waiting_up l (On Rollback b) v) e) (inv.waiting l Rollback b v).no_row)
+    by_row : Waits tr l (Calls.Rollback b) → (t : Bool) → ever tr b.gtrid ≡ t → (t ≡ false) ⊎ AllAreSettled tr b.gtrid
+    by_row v true e = inr (inv.row_left b.gtrid (ever_up tr b.gtrid inv (inv.waiting_up l (Calls.Rollback b) v) e) (inv.waiting l Rollback b v).no_row)
     by_row v false e = inl refl
 
 no_vote : (tr : Trace) (b : Branch) → Inv tr → standing tr b ≡ Unstarted → HasVoted tr b → ⊥
@@ -75,8 +77,8 @@ not_closed_yet : (tr : Trace) (l : Line) (b : Branch) → Inv tr → WaitingStar
 not_closed_yet tr l b inv f = (false_unless _ (λ d. no_start tr l b inv f (or_here _ _ d)), false_unless _ (λ c. no_vote tr b inv f.unstarted (inv.claimed_voted b.gtrid c b refl f.is_started)))
 
 pub no_start_after_commit : (tr : Trace) → Inv tr → NoStartAfterCommit tr
-no_start_after_commit tr inv l Start b s w = not_closed_yet tr l b inv (inv.waiting l Start b (waits_of tr l (On Start b) w))
-no_start_after_commit tr inv l Join b s w = not_closed_yet tr l b inv (inv.waiting l Join b (waits_of tr l (On Join b) w))
+no_start_after_commit tr inv l Start b s w = not_closed_yet tr l b inv (inv.waiting l Start b (waits_of tr l (Calls.Start b false) w))
+no_start_after_commit tr inv l Join b s w = not_closed_yet tr l b inv (inv.waiting l Join b (waits_of tr l (Calls.Start b true) w))
 no_start_after_commit tr inv l _ b s w = absurd s
 
 -- ** branches
@@ -119,8 +121,9 @@ fresh_gtrids tr inv = record {
   branches = λ b m. false_unless _ (λ e. not_begun tr b.gtrid m (inv.started_old b e));
 }
 
-pub handed_over_alone : (tr : Trace) → Inv tr → HandedOverAlone tr
-handed_over_alone tr inv = record {
+pub handed_over_alone : (tr : Trace) → AllRight tr → Inv tr → HandedOverAlone tr
+handed_over_alone tr right inv = record {
+  some = λ g h. handed_some tr g right h;
   one = λ b c h q s t. inv.handed_one b c h (sym q) s t;
   no_row = λ g h. false_unless _ (λ e. let n = (row_fact_ever tr g inv e).not_handed in cc);
 }

@@ -2,7 +2,9 @@
 use Rattle.std.proofs.Common.{◌≡◌, ◌∙◌, ℕ, Bool, true, false, not, ◌&&◌, ◌||◌, refl, ap, arith, ◌⊎◌}
 use mathlib.Core.Logic.{◌⊎◌.inl, ◌⊎◌.inr}
 use Rattle.std.proofs.lemmas.Bool.{and_parts}
-use Rattle.xa_base.specs.Trace.{Kind, Gtrid, Branch, Line, Kind.Start, Kind.Join, Kind.OnePhase, Call, Call.On, Answer, Outcome, Happening, Happening.Begun, Happening.Issued, Happening.ResolvedOpen, Happening.Claimed, Happening.Heard, Happening.Decided, Happening.Crashed, Happening.Failed, Happening.Restarted, Trace, Trace.Then}
+use Rattle.xa_base.specs.declared.call.Call.TheVariants as Calls
+use Rattle.xa_base.specs.StateTable.{on}
+use Rattle.xa_base.specs.Trace.{Kind, Gtrid, Branch, Line, Kind.Start, Kind.Join, Call, Answer, Outcome, Happening, Happening.Begun, Happening.Issued, Happening.ResolvedOpen, Happening.Claimed, Happening.Heard, Happening.Decided, Happening.Crashed, Happening.Failed, Happening.Restarted, Trace, Trace.Then}
 use Rattle.xa_base.specs.declared.step.Part.TheVariants as Part
 use Rattle.xa_base.specs.Branch.{gtrid_eq, branch_eq}
 use Rattle.xa_base.specs.AgreementInvariant.{Starts}
@@ -42,7 +44,7 @@ live_back tr (Begun h) g r o l = begun_case (gtrid_eq h g) refl l
     begun_case : (t : Bool) → gtrid_eq h g ≡ t → ((t || begun tr g) && not (decided_so Outcome.Commit tr g || (decided_so Outcome.Rollback tr g || handed_over tr g))) ≡ true → live tr g ≡ true
     begun_case true s l = absurd (not_next tr g h r o s)
     begun_case false s l = l
-live_back tr (Issued m (On OnePhase b)) g r o l = grind arith
+live_back tr (Issued m (Calls.Commit b true)) g r o l = grind arith
 live_back tr (Decided h Outcome.Commit) g r o l = grind arith
 live_back tr (Decided h Outcome.Rollback) g r o l = grind arith
 live_back tr (ResolvedOpen n) g r o l = grind arith
@@ -57,35 +59,35 @@ closed_kept tr e g r c = record { old = old_kept tr e g r c.old; not_live = fals
 -- ** facts that stay
 
 pub started_kept : (tr : Trace) (e : Happening) (b : Branch) → started tr b ≡ true → started (Then tr e) b ≡ true
-started_kept tr (Issued l (On Start c)) b h = or_right _ _ h
-started_kept tr (Issued l (On Join c)) b h = or_right _ _ h
+started_kept tr (Issued l (Calls.Start c false)) b h = or_right _ _ h
+started_kept tr (Issued l (Calls.Start c true)) b h = or_right _ _ h
 started_kept tr _ b h = h
 
 -- it is an accepted xa_start of the branch
 abbrev pub NewBranch : Happening → Branch → Type 0
-NewBranch e b = (l : Line) × (k : Kind) × (e ≡ Issued l (On k b)) × Starts k
+NewBranch e b = (l : Line) × (k : Kind) × (e ≡ Issued l (on k b)) × Starts k
 
 pub started_new : (tr : Trace) (e : Happening) (b : Branch) → started (Then tr e) b ≡ true → (started tr b ≡ true) ⊎ NewBranch e b
-started_new tr (Issued l (On Start c)) b h = new_case (branch_eq c b) refl h
+started_new tr (Issued l (Calls.Start c false)) b h = new_case (branch_eq c b) refl h
   where
-    new_case : (t : Bool) → branch_eq c b ≡ t → (t || started tr b) ≡ true → (started tr b ≡ true) ⊎ NewBranch (Issued l (On Start c)) b
-    new_case true s h = inr (l, Start, ap (λ x. Issued l (On Start x)) (branch_eq-true c b s), tt)
+    new_case : (t : Bool) → branch_eq c b ≡ t → (t || started tr b) ≡ true → (started tr b ≡ true) ⊎ NewBranch (Issued l (Calls.Start c false)) b
+    new_case true s h = inr (l, Start, ap (λ x. Issued l (Calls.Start x false)) (branch_eq-true c b s), tt)
     new_case false s h = inl h
-started_new tr (Issued l (On Join c)) b h = new_case (branch_eq c b) refl h
+started_new tr (Issued l (Calls.Start c true)) b h = new_case (branch_eq c b) refl h
   where
-    new_case : (t : Bool) → branch_eq c b ≡ t → (t || started tr b) ≡ true → (started tr b ≡ true) ⊎ NewBranch (Issued l (On Join c)) b
-    new_case true s h = inr (l, Join, ap (λ x. Issued l (On Join x)) (branch_eq-true c b s), tt)
+    new_case : (t : Bool) → branch_eq c b ≡ t → (t || started tr b) ≡ true → (started tr b ≡ true) ⊎ NewBranch (Issued l (Calls.Start c true)) b
+    new_case true s h = inr (l, Join, ap (λ x. Issued l (Calls.Start x true)) (branch_eq-true c b s), tt)
     new_case false s h = inl h
 started_new tr _ b h = inl h
 
 pub handed_kept : (tr : Trace) (e : Happening) (g : Gtrid) → handed_over tr g ≡ true → handed_over (Then tr e) g ≡ true
-handed_kept tr (Issued l (On OnePhase c)) g h = or_right _ _ h
+handed_kept tr (Issued l (Calls.Commit c true)) g h = or_right _ _ h
 handed_kept tr _ g h = h
 
-pub handed_new : (tr : Trace) (e : Happening) (g : Gtrid) → handed_over (Then tr e) g ≡ true → (handed_over tr g ≡ true) ⊎ ((l : Line) × (b : Branch) × (e ≡ Issued l (On OnePhase b)) × (b.gtrid ≡ g))
-handed_new tr (Issued l (On OnePhase c)) g h = new_case (gtrid_eq c.gtrid g) refl h
+pub handed_new : (tr : Trace) (e : Happening) (g : Gtrid) → handed_over (Then tr e) g ≡ true → (handed_over tr g ≡ true) ⊎ ((l : Line) × (b : Branch) × (e ≡ Issued l (Calls.Commit b true)) × (b.gtrid ≡ g))
+handed_new tr (Issued l (Calls.Commit c true)) g h = new_case (gtrid_eq c.gtrid g) refl h
   where
-    new_case : (t : Bool) → gtrid_eq c.gtrid g ≡ t → (t || handed_over tr g) ≡ true → (handed_over tr g ≡ true) ⊎ ((m : Line) × (b : Branch) × (Issued l (On OnePhase c) ≡ Issued m (On OnePhase b)) × (b.gtrid ≡ g))
+    new_case : (t : Bool) → gtrid_eq c.gtrid g ≡ t → (t || handed_over tr g) ≡ true → (handed_over tr g ≡ true) ⊎ ((m : Line) × (b : Branch) × (Issued l (Calls.Commit c true) ≡ Issued m (Calls.Commit b true)) × (b.gtrid ≡ g))
     new_case true s h = inr (l, c, refl, gtrid_eq-true _ _ s)
     new_case false s h = inl h
 handed_new tr _ g h = inl h
@@ -141,7 +143,7 @@ spared l b c d e h p q = grind arith
 -- a claimed transaction stays live while its claim lasts
 pub live_kept : (tr : Trace) (e : Happening) (g : Gtrid) → Right tr e → claimed tr g ≡ true → claimed (Then tr e) g ≡ true → live tr g ≡ true → live (Then tr e) g ≡ true
 live_kept tr (Begun h) g r c k l = grind arith
-live_kept tr (Issued m (On OnePhase b)) g r c k l = by_test (gtrid_eq b.gtrid g) refl
+live_kept tr (Issued m (Calls.Commit b true)) g r c k l = by_test (gtrid_eq b.gtrid g) refl
   where
     by_test : (t : Bool) → gtrid_eq b.gtrid g ≡ t → (begun tr g && not (decided_so Outcome.Commit tr g || (decided_so Outcome.Rollback tr g || (t || handed_over tr g)))) ≡ true
     by_test true s = absurd (both (claimed tr b.gtrid) (ap (claimed tr) (gtrid_eq-true b.gtrid g s) ∙ c) r.1.may_be.0.unclaimed)

@@ -1,7 +1,11 @@
 -- What holds after every list of right events.
 use Rattle.std.proofs.Common.{◌≡◌, ℕ, ◌<◌, ◌≤◌, List, length, true, false, ◌⊎◌}
-use Rattle.std.specs.Prelude.{Some, slice_get}
-use Rattle.xa_base.specs.Trace.{Gtrid, Branch, Line, Name, Name.Ours, Name.Foreign, Kind, Kind.Start, Kind.Join, Kind.End, Kind.Prepare, Kind.Commit, Kind.OnePhase, Kind.Rollback, Kind.Forget, Call, Call.On, Call.Recover, How, Answer, Answer.Ret, Answer.Page, Outcome, Trace, line_of}
+use Rattle.std.specs.Prelude.{Some, slice_get, IfSome}
+use Rattle.xa_base.specs.declared.call.Call.TheVariants as Calls
+use Rattle.xa_base.specs.Call.{xid_in}
+use Rattle.xa_base.specs.StateTable.{on}
+use Rattle.xa_base.specs.declared.answer.Answer.TheVariants.{Ret, Page}
+use Rattle.xa_base.specs.Trace.{Gtrid, Branch, Line, Name, Name.Ours, Name.Foreign, Kind, Kind.Start, Kind.Join, Kind.End, Kind.Prepare, Kind.Commit, Kind.OnePhase, Kind.Rollback, Kind.Forget, Call, How, Answer, Outcome, Trace, line_of}
 use Rattle.xa_base.specs.declared.code.Code.TheVariants as Codes
 use Rattle.xa_base.specs.declared.state.Standing.{Standing}
 use Rattle.xa_base.specs.declared.state.Standing.TheVariants.{Unstarted, Active, Idle, Prepared, RollbackOnly, Completed, Committed, RolledBack, Lost, ReadOnly, Forgotten}
@@ -102,12 +106,12 @@ pub record HeuristicFact (tr : Trace) (b : Branch) (how : How) : Type 0 where
 
 -- what holds of an answer that was given
 abbrev pub AnswerFact : Trace → Call → Answer → Type 0
-AnswerFact tr (On Prepare b) (Ret Codes.Success) = YesFact tr b
-AnswerFact tr (On Prepare b) (Ret Codes.ReadOnly) = standing tr b ≡ ReadOnly
-AnswerFact tr (On Commit b) (Ret Codes.Success) = standing tr b ≡ Committed
-AnswerFact tr (On Commit b) (Ret Codes.NotAnXid) = NotKnownFact tr b
-AnswerFact tr (On k b) (Ret (Codes.Heuristic how)) = HeuristicFact tr b how
-AnswerFact tr (Recover n s e) (Page names) = (x : Name) → Lists names x → IsStarted tr x
+AnswerFact tr (Calls.Prepare b) (Ret Codes.Success) = YesFact tr b
+AnswerFact tr (Calls.Prepare b) (Ret Codes.ReadOnly) = standing tr b ≡ ReadOnly
+AnswerFact tr (Calls.Commit b false) (Ret Codes.Success) = standing tr b ≡ Committed
+AnswerFact tr (Calls.Commit b false) (Ret Codes.NotAnXid) = NotKnownFact tr b
+AnswerFact tr c (Ret (Codes.Heuristic how)) = IfSome (xid_in c) (λ b. HeuristicFact tr b how)
+AnswerFact tr (Calls.Recover n s e) (Page names) = (x : Name) → Lists names x → IsStarted tr x
 AnswerFact tr c a = Unit
 
 -- what holds of a transaction with a row, or with one in doubt
@@ -148,9 +152,9 @@ pub record Inv (tr : Trace) : Type 0 where
   pub doubt_down : up tr ≡ true → doubt tr ≡ NoChange
   pub in_doubt : DoubtFact tr (doubt tr)
   pub waiting_up : (l : Line) (c : Call) → Waits tr l c → up tr ≡ true
-  pub waiting : (l : Line) (k : Kind) (b : Branch) → Waits tr l (On k b) → CallFact tr l k b
-  pub start_once : (l : Line) (b : Branch) (x y : Kind) (j k : ℕ) → Starts x → Starts y → slice_get (issued tr l) j ≡ Some (On x b) → slice_get (issued tr l) k ≡ Some (On y b) → j ≡ k
-  pub start_issued : (l : Line) (b : Branch) (x : Kind) (j : ℕ) → Starts x → slice_get (issued tr l) j ≡ Some (On x b) → started tr b ≡ true
+  pub waiting : (l : Line) (k : Kind) (b : Branch) → Waits tr l (on k b) → CallFact tr l k b
+  pub start_once : (l : Line) (b : Branch) (x y : Kind) (j k : ℕ) → Starts x → Starts y → slice_get (issued tr l) j ≡ Some (on x b) → slice_get (issued tr l) k ≡ Some (on y b) → j ≡ k
+  pub start_issued : (l : Line) (b : Branch) (x : Kind) (j : ℕ) → Starts x → slice_get (issued tr l) j ≡ Some (on x b) → started tr b ≡ true
   pub answered : (l : Line) (k : ℕ) (c : Call) (a : Answer) → slice_get (taken tr l) k ≡ Some (c, a) → AnswerFact tr c a
   pub voted_yes : (b : Branch) → told tr (says_yes b) ≡ true → YesFact tr b
   pub voted_read_only : (b : Branch) → told tr (says_read_only b) ≡ true → standing tr b ≡ ReadOnly

@@ -1,7 +1,9 @@
 -- Facts that one right happening more keeps.
 use Rattle.std.proofs.Common.{◌≡◌, List, Bool, true, false, refl, sym, ap, ◌∙◌, subst, ◌⊎◌}
 use mathlib.Core.Logic.{◌⊎◌.inl, ◌⊎◌.inr}
-use Rattle.xa_base.specs.Trace.{Gtrid, Branch, Line, Name, Name.Ours, Name.Foreign, Kind.Start, Kind.Join, Kind.End, Kind.Prepare, Kind.Commit, Kind.OnePhase, Kind.Rollback, Kind.Forget, Call, Call.On, Call.Recover, How, Answer, Answer.Ret, Answer.Page, Outcome, Row, Happening, Happening.Issued, Trace, Trace.Then}
+use Rattle.xa_base.specs.declared.call.Call.TheVariants as Calls
+use Rattle.xa_base.specs.declared.answer.Answer.TheVariants.{Ret, Page}
+use Rattle.xa_base.specs.Trace.{Gtrid, Branch, Line, Name, Name.Ours, Name.Foreign, Call, How, Answer, Outcome, Row, Happening, Happening.Issued, Trace, Trace.Then}
 use Rattle.xa_base.specs.declared.code.Code.TheVariants as Codes
 use Rattle.xa_base.specs.declared.state.Standing.{Standing}
 use Rattle.xa_base.specs.declared.state.Standing.TheVariants.{Committed, ReadOnly}
@@ -52,27 +54,30 @@ is_started_kept tr e (Ours b) h = started_kept tr e b h
 is_started_kept tr e (Foreign n) h = tt
 
 pub answer_kept : (tr : Trace) (e : Happening) (c : Call) (a : Answer) → Inv tr → Right tr e → AnswerFact tr c a → AnswerFact (Then tr e) c a
-answer_kept tr e (On Prepare b) (Ret Codes.Success) inv r h = yes_kept tr e b inv r h
-answer_kept tr e (On Prepare b) (Ret Codes.ReadOnly) inv r h = ended_kept tr e b ReadOnly inv r tt h
-answer_kept tr e (On Commit b) (Ret Codes.Success) inv r h = ended_kept tr e b Committed inv r tt h
-answer_kept tr e (On Commit b) (Ret Codes.NotAnXid) inv r h = not_known_kept tr e b inv r h
-answer_kept tr e (On Start b) (Ret (Codes.Heuristic how)) inv r h = heuristic_fact_kept tr e b how inv r h
-answer_kept tr e (On Join b) (Ret (Codes.Heuristic how)) inv r h = heuristic_fact_kept tr e b how inv r h
-answer_kept tr e (On (End f) b) (Ret (Codes.Heuristic how)) inv r h = heuristic_fact_kept tr e b how inv r h
-answer_kept tr e (On Prepare b) (Ret (Codes.Heuristic how)) inv r h = heuristic_fact_kept tr e b how inv r h
-answer_kept tr e (On Commit b) (Ret (Codes.Heuristic how)) inv r h = heuristic_fact_kept tr e b how inv r h
-answer_kept tr e (On OnePhase b) (Ret (Codes.Heuristic how)) inv r h = heuristic_fact_kept tr e b how inv r h
-answer_kept tr e (On Rollback b) (Ret (Codes.Heuristic how)) inv r h = heuristic_fact_kept tr e b how inv r h
-answer_kept tr e (On Forget b) (Ret (Codes.Heuristic how)) inv r h = heuristic_fact_kept tr e b how inv r h
-answer_kept tr e (Recover n s t) (Page names) inv r h = λ x i. is_started_kept tr e x (h x i)
+answer_kept tr e (Calls.Prepare b) (Ret Codes.Success) inv r h = yes_kept tr e b inv r h
+answer_kept tr e (Calls.Prepare b) (Ret Codes.ReadOnly) inv r h = ended_kept tr e b ReadOnly inv r tt h
+answer_kept tr e (Calls.Commit b false) (Ret Codes.Success) inv r h = ended_kept tr e b Committed inv r tt h
+answer_kept tr e (Calls.Commit b false) (Ret Codes.NotAnXid) inv r h = not_known_kept tr e b inv r h
+answer_kept tr e (Calls.Start b false) (Ret (Codes.Heuristic how)) inv r h = heuristic_fact_kept tr e b how inv r h
+answer_kept tr e (Calls.Start b true) (Ret (Codes.Heuristic how)) inv r h = heuristic_fact_kept tr e b how inv r h
+answer_kept tr e (Calls.End b f) (Ret (Codes.Heuristic how)) inv r h = heuristic_fact_kept tr e b how inv r h
+answer_kept tr e (Calls.Prepare b) (Ret (Codes.Heuristic how)) inv r h = heuristic_fact_kept tr e b how inv r h
+answer_kept tr e (Calls.Commit b false) (Ret (Codes.Heuristic how)) inv r h = heuristic_fact_kept tr e b how inv r h
+answer_kept tr e (Calls.Commit b true) (Ret (Codes.Heuristic how)) inv r h = heuristic_fact_kept tr e b how inv r h
+answer_kept tr e (Calls.Rollback b) (Ret (Codes.Heuristic how)) inv r h = heuristic_fact_kept tr e b how inv r h
+answer_kept tr e (Calls.Forget b) (Ret (Codes.Heuristic how)) inv r h = heuristic_fact_kept tr e b how inv r h
+answer_kept tr e (Calls.Recover n s t) (Page names) inv r h = λ x i. is_started_kept tr e x (h x i)
+answer_kept tr e Calls.OpenRm (Ret (Codes.Heuristic how)) inv r h = tt
+answer_kept tr e Calls.CloseRm (Ret (Codes.Heuristic how)) inv r h = tt
+answer_kept tr e (Calls.Recover n s t) (Ret (Codes.Heuristic how)) inv r h = tt
 answer_kept tr e _ _ inv r h = tt
 
 pub not_handed_kept : (tr : Trace) (e : Happening) (g : Gtrid) → Right tr e → live tr g ≡ false → handed_over tr g ≡ false → handed_over (Then tr e) g ≡ false
 not_handed_kept tr e g r n h = false_unless _ (λ k. by_case (handed_new tr e g k))
   where
-    by_case : (handed_over tr g ≡ true) ⊎ ((l : Line) × (b : Branch) × (e ≡ Issued l (On OnePhase b)) × (b.gtrid ≡ g)) → ⊥
+    by_case : (handed_over tr g ≡ true) ⊎ ((l : Line) × (b : Branch) × (e ≡ Issued l (Calls.Commit b true)) × (b.gtrid ≡ g)) → ⊥
     by_case (inl k) = cc
-    by_case (inr k) = let q : Right tr (Issued k.0 (On OnePhase k.1)) = subst (Right tr) k.2 r in let c = q.1 in let m = c.may_be in let lv = m.0.is_live in let w : live tr g ≡ true = sym (ap (live tr) k.3) ∙ lv in cc
+    by_case (inr k) = let q : Right tr (Issued k.0 (Calls.Commit k.1 true)) = subst (Right tr) k.2 r in let c = q.1 in let m = c.may_be in let lv = m.0.is_live in let w : live tr g ≡ true = sym (ap (live tr) k.3) ∙ lv in cc
 
 pub not_decided_kept : (tr : Trace) (e : Happening) (o : Outcome) (g : Gtrid) → Right tr e → live tr g ≡ false → decided_so o tr g ≡ false → decided_so o (Then tr e) g ≡ false
 not_decided_kept tr e o g r n h = false_unless _ (λ k. by_case (decided_new tr e o g k))

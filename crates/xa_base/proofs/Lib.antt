@@ -1,11 +1,14 @@
 pub mod Alike
 pub mod BranchLemmas
 pub mod BranchOrder
+pub mod BytesOrder
 pub mod CallLemmas
 pub mod Calls
 pub mod Carried
 pub mod Computed
 pub mod DecimalLemmas
+pub mod Determined
+pub mod Distinct
 pub mod Ends
 pub mod Grows
 pub mod HexText
@@ -32,6 +35,7 @@ pub mod Rows
 pub mod Simulation
 mod StateTableRows
 pub mod TextLemmas
+pub mod SameTests
 pub mod Worked
 pub mod WorkedAnswers
 pub mod WorkedClaims

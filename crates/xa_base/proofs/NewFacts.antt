@@ -1,7 +1,11 @@
 -- Facts that a right happening brings.
 use Rattle.std.proofs.Common.{◌≡◌, ℕ, zero, suc, Bool, true, false, refl, sym, ap, ◌∙◌, subst}
 use Rattle.std.specs.Prelude.{if◌then◌else◌}
-use Rattle.xa_base.specs.Trace.{Branch, Line, Kind, Kind.Start, Kind.Join, Kind.End, Kind.Prepare, Kind.Commit, Kind.OnePhase, Kind.Rollback, Kind.Forget, Call, Call.On, Call.Recover, How, Code, Answer, Answer.Ret, Answer.Page, Happening.Took, Trace, Trace.Then, Vote}
+use Rattle.xa_base.specs.declared.call.Call.TheVariants as Calls
+use Rattle.xa_base.specs.Branch.{branch_eq}
+use Rattle.xa_base.specs.StateTable.{on}
+use Rattle.xa_base.specs.declared.answer.Answer.TheVariants.{Ret, Page}
+use Rattle.xa_base.specs.Trace.{Branch, Line, Kind, Kind.Start, Kind.Join, Kind.End, Kind.Prepare, Kind.Commit, Kind.OnePhase, Kind.Rollback, Kind.Forget, Call, How, Code, Answer, Happening.Took, Trace, Trace.Then, Vote}
 use Rattle.xa_base.specs.declared.code.Code.TheVariants as Codes
 use Rattle.xa_base.specs.declared.vote.Vote.TheVariants as Votes
 use Rattle.xa_base.specs.StateTable.{State, State.S0, State.S1, State.S2, State.S5, state_of, answer, moved}
@@ -80,8 +84,18 @@ heuristic_answer f k v n how e = absurd (cc)
 
 -- ** the answer that was given
 
-took_standing : (tr : Trace) (l : Line) (k : Kind) (b : Branch) (a : Code) → moved (standing tr b) k a ≡ standing (Then tr (Took l (On k b) (Ret a))) b
-took_standing tr l k b a = ap (λ t. if t then moved (standing tr b) k a else standing tr b) (sym (branch_eq-refl b))
+took_same : (tr : Trace) (k : Kind) (b : Branch) (a : Code) → moved (standing tr b) k a ≡ (if branch_eq b b then moved (standing tr b) k a else standing tr b)
+took_same tr k b a = ap (λ t. if t then moved (standing tr b) k a else standing tr b) (sym (branch_eq-refl b))
+
+took_standing : (tr : Trace) (l : Line) (k : Kind) (b : Branch) (a : Code) → moved (standing tr b) k a ≡ standing (Then tr (Took l (on k b) (Ret a))) b
+took_standing tr l Start b a = took_same tr Start b a
+took_standing tr l Join b a = took_same tr Join b a
+took_standing tr l (End fail) b a = took_same tr (End fail) b a
+took_standing tr l Prepare b a = took_same tr Prepare b a
+took_standing tr l Commit b a = took_same tr Commit b a
+took_standing tr l OnePhase b a = took_same tr OnePhase b a
+took_standing tr l Rollback b a = took_same tr Rollback b a
+took_standing tr l Forget b a = took_same tr Forget b a
 
 good_begun : (f : Standing) → f ≡ Prepared → HasBegun f × IsGood f
 good_begun f e = subst (λ x. HasBegun x × IsGood x) (sym e) (tt, tt)
@@ -110,29 +124,32 @@ quiet_forget : (s : State) (v : Vote) (n : ℕ) (how : How) → Codes.Heuristic 
 quiet_forget (S5 h) v n how e = cc
 quiet_forget _ v n how e = cc
 
-heuristic_new : (tr : Trace) (l : Line) (k : Kind) (b : Branch) (how : How) → Right tr (Took l (On k b) (Ret (Codes.Heuristic how))) → Closed tr b.gtrid → IsHeuristic how (standing (Then tr (Took l (On k b) (Ret (Codes.Heuristic how)))) b) → HeuristicFact (Then tr (Took l (On k b) (Ret (Codes.Heuristic how)))) b how
-heuristic_new tr l k b how r c h = record { heuristic = h; closed = closed_kept tr (Took l (On k b) (Ret (Codes.Heuristic how))) b.gtrid r c }
+heuristic_new : (tr : Trace) (l : Line) (k : Kind) (b : Branch) (how : How) → Right tr (Took l (on k b) (Ret (Codes.Heuristic how))) → Closed tr b.gtrid → IsHeuristic how (standing (Then tr (Took l (on k b) (Ret (Codes.Heuristic how)))) b) → HeuristicFact (Then tr (Took l (on k b) (Ret (Codes.Heuristic how)))) b how
+heuristic_new tr l k b how r c h = record { heuristic = h; closed = closed_kept tr (Took l (on k b) (Ret (Codes.Heuristic how))) b.gtrid r c }
 
 pub answer_new : (tr : Trace) (l : Line) (c : Call) (a : Answer) → Inv tr → Right tr (Took l c a) → AnswerFact (Then tr (Took l c a)) c a
-answer_new tr l (On Prepare b) (Ret Codes.Success) inv r =
+answer_new tr l (Calls.Prepare b) (Ret Codes.Success) inv r =
     let p = good_begun _ (sym (took_standing tr l Prepare b Codes.Success) ∙ prepare_fine (standing tr b) _ _ (code_of r.1)) in
     record { has_begun = p.0; good = λ v. p.1 }
-answer_new tr l (On Prepare b) (Ret Codes.ReadOnly) inv r = sym (took_standing tr l Prepare b Codes.ReadOnly) ∙ prepare_only (standing tr b) _ _ (code_of r.1)
-answer_new tr l (On Commit b) (Ret Codes.Success) inv r = sym (took_standing tr l Commit b Codes.Success) ∙ commit_fine (standing tr b) _ _ (code_of r.1)
-answer_new tr l (On Commit b) (Ret Codes.NotAnXid) inv r =
-    let w = inv.waiting l Commit b (front_waits tr l (On Commit b) r.0) in
+answer_new tr l (Calls.Prepare b) (Ret Codes.ReadOnly) inv r = sym (took_standing tr l Prepare b Codes.ReadOnly) ∙ prepare_only (standing tr b) _ _ (code_of r.1)
+answer_new tr l (Calls.Commit b false) (Ret Codes.Success) inv r = sym (took_standing tr l Commit b Codes.Success) ∙ commit_fine (standing tr b) _ _ (code_of r.1)
+answer_new tr l (Calls.Commit b false) (Ret Codes.NotAnXid) inv r =
+    let w = inv.waiting l Commit b (front_waits tr l (Calls.Commit b false) r.0) in
     let f = inv.rows b.gtrid w in
     record {
-      closed = closed_kept tr (Took l (On Commit b) (Ret Codes.NotAnXid)) b.gtrid r f.closed;
+      closed = closed_kept tr (Took l (Calls.Commit b false) (Ret Codes.NotAnXid)) b.gtrid r f.closed;
       at_rest = λ s. subst IsAtRest (took_standing tr l Commit b Codes.NotAnXid) (commit_not_known (standing tr b) _ _ (code_of r.1) (f.good b refl s));
     }
-answer_new tr l (On Start b) (Ret (Codes.Heuristic how)) inv r = absurd (quiet_start (state_of (standing tr b)) _ _ how (code_of r.1))
-answer_new tr l (On Join b) (Ret (Codes.Heuristic how)) inv r = absurd (quiet_join (state_of (standing tr b)) _ _ how (code_of r.1))
-answer_new tr l (On (End t) b) (Ret (Codes.Heuristic how)) inv r = absurd (quiet_end (state_of (standing tr b)) t _ _ how (code_of r.1))
-answer_new tr l (On Prepare b) (Ret (Codes.Heuristic how)) inv r = absurd (quiet_prepare (state_of (standing tr b)) _ _ how (code_of r.1))
-answer_new tr l (On Commit b) (Ret (Codes.Heuristic how)) inv r = heuristic_new tr l Commit b how r ((inv.rows b.gtrid (inv.waiting l Commit b (front_waits tr l (On Commit b) r.0))).closed) (subst (IsHeuristic how) (took_standing tr l Commit b (Codes.Heuristic how)) (heuristic_answer (standing tr b) Commit _ _ how (code_of r.1)))
-answer_new tr l (On OnePhase b) (Ret (Codes.Heuristic how)) inv r = heuristic_new tr l OnePhase b how r (closed_handed tr b.gtrid inv (inv.waiting l OnePhase b (front_waits tr l (On OnePhase b) r.0))) (subst (IsHeuristic how) (took_standing tr l OnePhase b (Codes.Heuristic how)) (heuristic_answer (standing tr b) OnePhase _ _ how (code_of r.1)))
-answer_new tr l (On Rollback b) (Ret (Codes.Heuristic how)) inv r = heuristic_new tr l Rollback b how r ((inv.waiting l Rollback b (front_waits tr l (On Rollback b) r.0)).closed) (subst (IsHeuristic how) (took_standing tr l Rollback b (Codes.Heuristic how)) (heuristic_answer (standing tr b) Rollback _ _ how (code_of r.1)))
-answer_new tr l (On Forget b) (Ret (Codes.Heuristic how)) inv r = absurd (quiet_forget (state_of (standing tr b)) _ _ how (code_of r.1))
-answer_new tr l (Recover n s t) (Page names) inv r = page_started tr l.rm n s names inv r.1
+answer_new tr l (Calls.Start b false) (Ret (Codes.Heuristic how)) inv r = absurd (quiet_start (state_of (standing tr b)) _ _ how (code_of r.1))
+answer_new tr l (Calls.Start b true) (Ret (Codes.Heuristic how)) inv r = absurd (quiet_join (state_of (standing tr b)) _ _ how (code_of r.1))
+answer_new tr l (Calls.End b t) (Ret (Codes.Heuristic how)) inv r = absurd (quiet_end (state_of (standing tr b)) t _ _ how (code_of r.1))
+answer_new tr l (Calls.Prepare b) (Ret (Codes.Heuristic how)) inv r = absurd (quiet_prepare (state_of (standing tr b)) _ _ how (code_of r.1))
+answer_new tr l (Calls.Commit b false) (Ret (Codes.Heuristic how)) inv r = heuristic_new tr l Commit b how r ((inv.rows b.gtrid (inv.waiting l Commit b (front_waits tr l (Calls.Commit b false) r.0))).closed) (subst (IsHeuristic how) (took_standing tr l Commit b (Codes.Heuristic how)) (heuristic_answer (standing tr b) Commit _ _ how (code_of r.1)))
+answer_new tr l (Calls.Commit b true) (Ret (Codes.Heuristic how)) inv r = heuristic_new tr l OnePhase b how r (closed_handed tr b.gtrid inv (inv.waiting l OnePhase b (front_waits tr l (Calls.Commit b true) r.0))) (subst (IsHeuristic how) (took_standing tr l OnePhase b (Codes.Heuristic how)) (heuristic_answer (standing tr b) OnePhase _ _ how (code_of r.1)))
+answer_new tr l (Calls.Rollback b) (Ret (Codes.Heuristic how)) inv r = heuristic_new tr l Rollback b how r ((inv.waiting l Rollback b (front_waits tr l (Calls.Rollback b) r.0)).closed) (subst (IsHeuristic how) (took_standing tr l Rollback b (Codes.Heuristic how)) (heuristic_answer (standing tr b) Rollback _ _ how (code_of r.1)))
+answer_new tr l (Calls.Forget b) (Ret (Codes.Heuristic how)) inv r = absurd (quiet_forget (state_of (standing tr b)) _ _ how (code_of r.1))
+answer_new tr l (Calls.Recover n s t) (Page names) inv r = page_started tr l.rm n s names inv r.1
+answer_new tr l Calls.OpenRm (Ret (Codes.Heuristic how)) inv r = tt
+answer_new tr l Calls.CloseRm (Ret (Codes.Heuristic how)) inv r = tt
+answer_new tr l (Calls.Recover n s t) (Ret (Codes.Heuristic how)) inv r = tt
 answer_new tr l _ _ inv r = tt

@@ -3,14 +3,17 @@ use Rattle.std.proofs.Common.{◌≡◌, length, Bool, true, false, ◌||◌, re
 use Rattle.std.specs.Prelude.{if◌then◌else◌, Some}
 use mathlib.Core.Logic.{◌⊎◌.inl, ◌⊎◌.inr}
 use Rattle.std.proofs.lemmas.Bool.{and_parts}
-use Rattle.xa_base.specs.Trace.{Gtrid, Branch, Line, Kind, Kind.Start, Kind.Join, Kind.End, Kind.Prepare, Kind.Commit, Kind.OnePhase, Kind.Rollback, Kind.Forget, Call, Call.On, Call.OpenRm, Call.CloseRm, Call.Recover, How, Code, Answer.Ret, Answer.Page, Outcome, Happening, Happening.Issued, Happening.Took, Happening.EndedAlone, Trace, Trace.Then, line_of}
+use Rattle.xa_base.specs.declared.call.Call.TheVariants as Calls
+use Rattle.xa_base.specs.StateTable.{on}
+use Rattle.xa_base.specs.declared.answer.Answer.TheVariants.{Ret, Page}
+use Rattle.xa_base.specs.Trace.{Gtrid, Branch, Line, Kind, Kind.Start, Kind.Join, Kind.End, Kind.Prepare, Kind.Commit, Kind.OnePhase, Kind.Rollback, Kind.Forget, Call, How, Code, Outcome, Happening, Happening.Issued, Happening.Took, Happening.EndedAlone, Trace, Trace.Then, line_of, Answer}
 use Rattle.xa_base.specs.Branch.{branch_eq}
 use Rattle.xa_base.specs.StateTable.{state_of, answer, moved, broken, completed}
 use Rattle.xa_base.specs.declared.state.Standing.{Standing}
 use Rattle.xa_base.specs.declared.state.Standing.TheVariants.{Prepared, Completed, Forgotten}
 use Rattle.xa_base.specs.AgreementInvariant.{Starts}
 use Rattle.xa_base.specs.Facts.{up, begun, decided_so, handed_over, claimed, live, started, told, says_read_only, acknowledges, recorded, had_row, ever, doubt, Change.AddRow, adds_row, settled, breaks, taken, next_call, standing, vote, retries}
-use Rattle.xa_base.specs.Right.{MayBeCalled, Right}
+use Rattle.xa_base.specs.Right.{MayBeCalled, Right, RightIssue, RightCall}
 use Rattle.xa_base.proofs.Invariant.{Closed, IsAtRest, IsHeuristic, Waits, RowFact, DoubtFact, IsFixed, Inv}
 use Rattle.xa_base.proofs.Records.{recorded_how}
 use Rattle.xa_base.proofs.Keys.{branch_eq-true}
@@ -61,7 +64,7 @@ pub live_begun : (tr : Trace) (g : Gtrid) → live tr g ≡ true → begun tr g 
 live_begun tr g l = let p = and_parts _ _ l in p.0
 
 -- a waiting call on a branch is as its standing allows
-pub taken_fact : (tr : Trace) (l : Line) (k : Kind) (b : Branch) → Inv tr → Waits tr l (On k b) → TakenFact tr k b (standing tr b)
+pub taken_fact : (tr : Trace) (l : Line) (k : Kind) (b : Branch) → Inv tr → Waits tr l (on k b) → TakenFact tr k b (standing tr b)
 taken_fact tr l Start b inv w = let f = inv.waiting l Start b w in (f.is_started, f.unstarted)
 taken_fact tr l Join b inv w = tt
 taken_fact tr l (End fail) b inv w = tt
@@ -70,7 +73,7 @@ taken_fact tr l OnePhase b inv w = inv.waiting l OnePhase b w
 taken_fact tr l Commit b inv w = inv.waiting l Commit b w
 taken_fact tr l Rollback b inv w =
     let f = inv.waiting l Rollback b w in
-    let u = inv.waiting_up l (On Rollback b) w in
+    let u = inv.waiting_up l (Calls.Rollback b) w in
     (f.closed, λ s e. settled_at_rest tr b inv s (inv.row_left b.gtrid (ever_up tr b.gtrid inv u e) f.no_row b refl s))
 taken_fact tr l Forget b inv w = inv.waiting l Forget b w
 
@@ -80,7 +83,7 @@ pub front_waits : (tr : Trace) (l : Line) (c : Call) → next_call tr l ≡ Some
 front_waits tr l c h = record { place = length (taken tr l); not_taken = omega arith; is = h }
 
 -- an answer is its code
-pub code_of : {x y : Code} → Ret x ≡ Ret y → x ≡ y
+pub code_of : {x y : Code} → ◌≡◌ {A = Answer} (Ret x) (Ret y) → x ≡ y
 code_of e = cc
 
 took_move : (tr : Trace) (b c : Branch) (k : Kind) (a : Code) → c ≡ b → TakenFact tr k c (standing tr c) → a ≡ answer k (state_of (standing tr c)) (vote tr c) (retries tr c) → Move tr b (standing tr b) (moved (standing tr b) k a)
@@ -92,22 +95,29 @@ took_move tr b c k a e t r =
 scripted_move : (tr : Trace) (b : Branch) (how : How) (f : Standing) → f ≡ Prepared → Move tr b f (completed f how)
 scripted_move tr b how f e = subst (λ x. Move tr b x (completed x how)) (sym e) (Completes how)
 
+took_or_stays : (tr : Trace) (l : Line) (k : Kind) (c : Branch) (a : Code) (b : Branch) → Inv tr → next_call tr l ≡ Some (on k c) → a ≡ answer k (state_of (standing tr c)) (vote tr c) (retries tr c) → (t : Bool) → branch_eq c b ≡ t → Move tr b (standing tr b) (if t then moved (standing tr b) k a else standing tr b)
+took_or_stays tr l k c a b inv h r true s = took_move tr b c k a (branch_eq-true c b s) (taken_fact tr l k c inv (front_waits tr l (on k c) h)) r
+took_or_stays tr l k c a b inv h r false s = Stays (standing tr b)
+
 -- the standing of a branch changes as the moves say
 pub step_move : (tr : Trace) (e : Happening) (b : Branch) → Inv tr → Right tr e → Move tr b (standing tr b) (standing (Then tr e) b)
-step_move tr (Took l (On k c) (Ret a)) b inv r = by_branch (branch_eq c b) refl
-  where
-    by_branch : (t : Bool) → branch_eq c b ≡ t → Move tr b (standing tr b) (if t then moved (standing tr b) k a else standing tr b)
-    by_branch true s = took_move tr b c k a (branch_eq-true c b s) (taken_fact tr l k c inv (front_waits tr l (On k c) r.0)) (code_of r.1)
-    by_branch false s = Stays (standing tr b)
+step_move tr (Took l (Calls.Start c false) (Ret a)) b inv r = took_or_stays tr l Start c a b inv r.0 (code_of r.1) (branch_eq c b) refl
+step_move tr (Took l (Calls.Start c true) (Ret a)) b inv r = took_or_stays tr l Join c a b inv r.0 (code_of r.1) (branch_eq c b) refl
+step_move tr (Took l (Calls.End c fail) (Ret a)) b inv r = took_or_stays tr l (End fail) c a b inv r.0 (code_of r.1) (branch_eq c b) refl
+step_move tr (Took l (Calls.Prepare c) (Ret a)) b inv r = took_or_stays tr l Prepare c a b inv r.0 (code_of r.1) (branch_eq c b) refl
+step_move tr (Took l (Calls.Commit c false) (Ret a)) b inv r = took_or_stays tr l Commit c a b inv r.0 (code_of r.1) (branch_eq c b) refl
+step_move tr (Took l (Calls.Commit c true) (Ret a)) b inv r = took_or_stays tr l OnePhase c a b inv r.0 (code_of r.1) (branch_eq c b) refl
+step_move tr (Took l (Calls.Rollback c) (Ret a)) b inv r = took_or_stays tr l Rollback c a b inv r.0 (code_of r.1) (branch_eq c b) refl
+step_move tr (Took l (Calls.Forget c) (Ret a)) b inv r = took_or_stays tr l Forget c a b inv r.0 (code_of r.1) (branch_eq c b) refl
 step_move tr (EndedAlone c how) b inv r = by_branch (branch_eq c b) refl
   where
     by_branch : (t : Bool) → branch_eq c b ≡ t → Move tr b (standing tr b) (if t then completed (standing tr b) how else standing tr b)
     by_branch true s = scripted_move tr b how (standing tr b) (ap (standing tr) (sym (branch_eq-true c b s)) ∙ r)
     by_branch false s = Stays (standing tr b)
-step_move tr (Took l (On k c) (Page names)) b inv r = Stays (standing tr b)
-step_move tr (Took l OpenRm a) b inv r = Stays (standing tr b)
-step_move tr (Took l CloseRm a) b inv r = Stays (standing tr b)
-step_move tr (Took l (Recover n x y) a) b inv r = Stays (standing tr b)
+step_move tr (Took l c (Page names)) b inv r = Stays (standing tr b)
+step_move tr (Took l Calls.OpenRm (Ret a)) b inv r = Stays (standing tr b)
+step_move tr (Took l Calls.CloseRm (Ret a)) b inv r = Stays (standing tr b)
+step_move tr (Took l (Calls.Recover n x y) (Ret a)) b inv r = Stays (standing tr b)
 step_move tr e b inv r = by_break (breaks tr e (line_of b))
   where
     by_break : (t : Bool) → Move tr b (standing tr b) (if t then broken (standing tr b) else standing tr b)
@@ -115,6 +125,17 @@ step_move tr e b inv r = by_break (breaks tr e (line_of b))
     by_break false = Stays (standing tr b)
 
 -- ** transactions that take no new branch
+
+-- what is asked of a call of a kind
+pub right_on : (tr : Trace) (l : Line) (k : Kind) (b : Branch) → RightIssue tr l (on k b) → RightCall tr l k b
+right_on tr l Start b r = r
+right_on tr l Join b r = r
+right_on tr l (End fail) b r = r
+right_on tr l Prepare b r = r
+right_on tr l Commit b r = r
+right_on tr l OnePhase b r = r
+right_on tr l Rollback b r = r
+right_on tr l Forget b r = r
 
 pub starting_live : (tr : Trace) (k : Kind) (b : Branch) → Starts k → MayBeCalled tr k b → live tr b.gtrid ≡ true
 starting_live tr Start b s m = m.1.is_live
@@ -131,7 +152,7 @@ started_back tr e b r n s = by_case (started_new tr e b s)
   where
     by_case : (started tr b ≡ true) ⊎ NewBranch e b → started tr b ≡ true
     by_case (inl h) = h
-    by_case (inr h) = let q : Right tr (Issued h.0 (On h.1 b)) = subst (Right tr) h.2 r in let lv = starting_live tr h.1 b h.3 q.1.may_be in cc
+    by_case (inr h) = let q : Right tr (Issued h.0 (on h.1 b)) = subst (Right tr) h.2 r in let lv = starting_live tr h.1 b h.3 (right_on tr h.0 h.1 b q.1).may_be in cc
 
 -- nor does a claimed one
 pub started_unclaimed : (tr : Trace) (e : Happening) (b : Branch) → Right tr e → claimed tr b.gtrid ≡ true → started (Then tr e) b ≡ true → started tr b ≡ true
@@ -139,7 +160,7 @@ started_unclaimed tr e b r n s = by_case (started_new tr e b s)
   where
     by_case : (started tr b ≡ true) ⊎ NewBranch e b → started tr b ≡ true
     by_case (inl h) = h
-    by_case (inr h) = let q : Right tr (Issued h.0 (On h.1 b)) = subst (Right tr) h.2 r in let u = starting_unclaimed tr h.1 b h.3 q.1.may_be in absurd (cc)
+    by_case (inr h) = let q : Right tr (Issued h.0 (on h.1 b)) = subst (Right tr) h.2 r in let u = starting_unclaimed tr h.1 b h.3 (right_on tr h.0 h.1 b q.1).may_be in absurd (cc)
 
 pub fixed_back : (tr : Trace) (e : Happening) (b : Branch) → Right tr e → IsFixed tr b → started (Then tr e) b ≡ true → started tr b ≡ true
 fixed_back tr e b r (inl h) s = h

@@ -7,11 +7,13 @@ use Rattle.std.specs.declared.cmp.Ordering.TheVariants.{Less, Equal, Greater}
 use Rattle.std.specs.Ordering.{match_ordering, is_lt}
 use Rattle.std.proofs.lemmas.Bool.{and_parts}
 use Rattle.xa_base.specs.Xid.{Xid}
-use Rattle.xa_base.specs.Trace.{Branch, Name, Name.Ours, Name.Foreign, Answer.Page, Trace}
+use Rattle.xa_base.specs.declared.answer.Answer.TheVariants.{Page}
+use Rattle.xa_base.specs.Trace.{Branch, Name, Name.Ours, Name.Foreign, Trace}
 use Rattle.xa_base.specs.Facts.{origin, branches, started, standing}
 use Rattle.xa_base.specs.Scan.{reads_from, behind, page_of}
 use Rattle.xa_base.specs.Standing.{is_in_doubt}
-use Rattle.xa_base.specs.InDoubt.{name_cmp, in_order, is_in_doubt_at, in_doubt, scan, page_answer, scan_answer}
+use Rattle.xa_base.specs.InDoubt.{name_cmp, in_order, is_in_doubt_at, in_doubt, scan, scan_answer}
+use Rattle.xa_base.specs.Recover.{page_answer}
 use Rattle.xa_base.specs.Right.{Lists}
 use Rattle.xa_base.proofs.Invariant.{IsStarted, Inv}
 
@@ -19,7 +21,7 @@ abbrev pub Each : (Name → Type 0) → List Name → Type 0
 Each P [] = Unit
 Each P (x ∷ xs) = P x × Each P xs
 
-each_listed : (P : Name → Type 0) (xs : List Name) → Each P xs → (x : Name) → Lists xs x → P x
+pub each_listed : (P : Name → Type 0) (xs : List Name) → Each P xs → (x : Name) → Lists xs x → P x
 each_listed P xs h x l = at_place xs h l.0 l.1
   where
     at_place : (xs : List Name) → Each P xs → (i : ℕ) → slice_get xs i ≡ Some x → P x
@@ -31,12 +33,12 @@ pub each_append : (P : Name → Type 0) (xs ys : List Name) → Each P xs → Ea
 each_append P [] ys h k = k
 each_append P (x ∷ xs) ys h k = (h.0, each_append P xs ys h.1 k)
 
-each_take : (P : Name → Type 0) (n : ℕ) (xs : List Name) → Each P xs → Each P (take n xs)
+pub each_take : (P : Name → Type 0) (n : ℕ) (xs : List Name) → Each P xs → Each P (take n xs)
 each_take P zero xs h = tt
 each_take P (suc n) [] h = tt
 each_take P (suc n) (x ∷ xs) h = (h.0, each_take P n xs h.1)
 
-each_filter : (P : Name → Type 0) (test : Name → Bool) (xs : List Name) → Each P xs → Each P (filter test xs)
+pub each_filter : (P : Name → Type 0) (test : Name → Bool) (xs : List Name) → Each P xs → Each P (filter test xs)
 each_filter P test [] h = tt
 each_filter P test (x ∷ xs) h = by_test (test x) (each_filter P test xs h.1)
   where
@@ -44,7 +46,7 @@ each_filter P test (x ∷ xs) h = by_test (test x) (each_filter P test xs h.1)
     by_test true k = (h.0, k)
     by_test false k = k
 
-each_insert : (P : Name → Type 0) (xs : List Name) (y : Name) → Each P xs → P y → Each P (insert_key name_cmp xs y)
+pub each_insert : (P : Name → Type 0) (xs : List Name) (y : Name) → Each P xs → P y → Each P (insert_key name_cmp xs y)
 each_insert P [] y h p = (p, tt)
 each_insert P (x ∷ xs) y h p = by_order (name_cmp y x) (each_insert P xs y h.1 p)
   where
@@ -59,27 +61,27 @@ each_in_order P (x ∷ xs) h = each_insert P (in_order xs) x (each_in_order P xs
 
 -- ** a page
 
-each_behind : (P : Name → Type 0) (last : Option Name) (xs : List Name) → Each P xs → Each P (behind name_cmp last xs)
+pub each_behind : (P : Name → Type 0) (last : Option Name) (xs : List Name) → Each P xs → Each P (behind name_cmp last xs)
 each_behind P None xs h = h
 each_behind P (Some last) xs h = each_filter P (λ x. is_lt (name_cmp last x)) xs h
 
-page_each : (P : Name → Type 0) (count : ℤ) (from : Option (Option Name)) (xs names : List Name) → Page names ≡ page_answer (page_of name_cmp count from xs) → Each P xs → Each P names
+pub page_each : (P : Name → Type 0) (count : ℤ) (from : Option (Option Name)) (xs names : List Name) → Page names ≡ page_answer (page_of name_cmp count from xs) → Each P xs → Each P names
 page_each P (pos n) (Some last) xs names e h = subst (Each P) (let p : take n (behind name_cmp last xs) ≡ names = cc in p) (each_take P n (behind name_cmp last xs) (each_behind P last xs h))
 page_each P (pos n) None xs names e h = absurd (cc)
 page_each P (negsuc n) from xs names e h = absurd (cc)
 
-doubtful_started : (tr : Trace) (b : Branch) → Inv tr → is_in_doubt (standing tr b) ≡ true → started tr b ≡ true
+pub doubtful_started : (tr : Trace) (b : Branch) → Inv tr → is_in_doubt (standing tr b) ≡ true → started tr b ≡ true
 doubtful_started tr b inv h = by_test (started tr b) refl
   where
     by_test : (t : Bool) → started tr b ≡ t → t ≡ true
     by_test true s = refl
     by_test false s = let k = sym (ap is_in_doubt (inv.unstarted b s)) ∙ h in absurd (cc)
 
-foreign_started : (tr : Trace) (xs : List Xid) → Each (IsStarted tr) (map (λ x. Foreign x) xs)
+pub foreign_started : (tr : Trace) (xs : List Xid) → Each (IsStarted tr) (map (λ x. Foreign x) xs)
 foreign_started tr [] = tt
 foreign_started tr (x ∷ xs) = (tt, foreign_started tr xs)
 
-own_started : (tr : Trace) (r : ℕ) (bs : List Branch) → Inv tr → Each (IsStarted tr) (map (λ b. Ours b) (filter (is_in_doubt_at tr r) bs))
+pub own_started : (tr : Trace) (r : ℕ) (bs : List Branch) → Inv tr → Each (IsStarted tr) (map (λ b. Ours b) (filter (is_in_doubt_at tr r) bs))
 own_started tr r [] inv = tt
 own_started tr r (b ∷ bs) inv = by_test (is_in_doubt_at tr r b) refl (own_started tr r bs inv)
   where

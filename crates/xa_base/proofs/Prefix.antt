@@ -2,15 +2,19 @@
 use Rattle.std.proofs.Common.{◌≡◌, ℕ, zero, suc, ◌+◌, List, [], ◌∷◌, ◌++◌, length, length-append, Bool, true, false, ◌||◌, refl, sym, ap, ◌∙◌, subst, arith, ◌⊎◌}
 use Rattle.std.specs.Prelude.{if◌then◌else◌, Some, slice_get}
 use mathlib.Core.Logic.{◌⊎◌.inl, ◌⊎◌.inr}
-use Rattle.xa_base.specs.Trace.{Line, Name, Name.Ours, Name.Foreign, Call, Call.On, Call.CloseRm, Answer, Happening, Happening.Issued, Happening.Resolved, Happening.ResolvedOpen, Happening.Took, Trace, Trace.From, Trace.Then, line_eq, line}
-use Rattle.xa_base.specs.Facts.{live, breaks, new_taken, new_calls, taken, issued, page, resolving_kind, resolving_calls}
+use Rattle.xa_base.specs.declared.call.Call.TheVariants as Calls
+use Rattle.xa_base.specs.StateTable.{on, Kind.Commit, Kind.Rollback, Kind.Forget}
+use Rattle.xa_base.specs.Trace.{Branch, Line, Name, Name.Ours, Name.Foreign, Call, Answer, Happening, Happening.Issued, Happening.Resolved, Happening.ResolvedOpen, Happening.Took, Trace, Trace.From, Trace.Then, line_eq, line}
+use Rattle.xa_base.specs.Facts.{recorded, has_row, live, breaks, new_taken, new_calls, taken, issued, page, resolving_kind, resolving_calls}
 use Rattle.xa_base.specs.Right.{Right, AllRight}
 use Rattle.xa_base.proofs.Keys.{line_eq-true}
 use Rattle.xa_base.proofs.Lines.{get_append, get_if, get_none}
 use Rattle.xa_base.specs.Agreement.{IsPrefixOf, call_of, ClosesLast}
 use Rattle.std.specs.Prelude.{map}
 use Rattle.std.proofs.lemmas.List.{append-nil, append_assoc}
-use Rattle.xa_base.specs.Facts.{is_closed, some_call, closes}
+use Rattle.std.specs.List.{list_any}
+use Rattle.xa_base.specs.Facts.{is_closed}
+use Rattle.xa_base.specs.Opening.{closes}
 
 -- ** taken is a prefix of issued
 
@@ -61,45 +65,50 @@ prefix (Then tr e) l r = by_break (breaks tr e l) (longer (map call_of (taken tr
 
 -- ** nothing comes after xa_close
 
-not_closed : (calls : List Call) (i : ℕ) → some_call closes calls ≡ false → slice_get calls i ≡ Some CloseRm → ⊥
-not_closed [] i n h = get_none i CloseRm h
+not_closed : (calls : List Call) (i : ℕ) → list_any closes calls ≡ false → slice_get calls i ≡ Some Calls.CloseRm → ⊥
+not_closed [] i n h = get_none i Calls.CloseRm h
 not_closed (c ∷ calls) zero n h = let k = some_parts c h in absurd (first c calls n k)
   where
-    some_parts : (c : Call) → Some c ≡ Some CloseRm → c ≡ CloseRm
+    some_parts : (c : Call) → Some c ≡ Some Calls.CloseRm → c ≡ Calls.CloseRm
     some_parts c h = cc
 
-    first : (c : Call) (calls : List Call) → (closes c || some_call closes calls) ≡ false → c ≡ CloseRm → ⊥
-    first c calls n k = let e : (closes CloseRm || some_call closes calls) ≡ false = subst (λ x. (closes x || some_call closes calls) ≡ false) k n in cc
-not_closed (c ∷ calls) (suc i) n h = not_closed calls i (rest (closes c) (some_call closes calls) n) h
+    first : (c : Call) (calls : List Call) → (closes c || list_any closes calls) ≡ false → c ≡ Calls.CloseRm → ⊥
+    first c calls n k = let e : (closes {X = Branch} Calls.CloseRm || list_any closes calls) ≡ false = subst (λ x. (closes x || list_any closes calls) ≡ false) k n in cc
+not_closed (c ∷ calls) (suc i) n h = not_closed calls i (rest (closes c) (list_any closes calls) n) h
   where
     rest : (s t : Bool) → (s || t) ≡ false → t ≡ false
     rest true t e = cc
     rest false t e = e
 
-resolving_no_close : (tr : Trace) (names : List Name) (i : ℕ) → slice_get (resolving_calls tr names) i ≡ Some CloseRm → ⊥
-resolving_no_close tr [] i h = get_none i CloseRm h
+resolving_no_close : (tr : Trace) (names : List Name) (i : ℕ) → slice_get (resolving_calls tr names) i ≡ Some Calls.CloseRm → ⊥
+resolving_no_close tr [] i h = get_none i Calls.CloseRm h
 resolving_no_close tr (Ours b ∷ names) i h = by_live (live tr b.gtrid) (λ j k. resolving_no_close tr names j k) i h
   where
-    by_live : (t : Bool) → ((j : ℕ) → slice_get (resolving_calls tr names) j ≡ Some CloseRm → ⊥) → (i : ℕ) → slice_get (if t then resolving_calls tr names else On (resolving_kind tr b) b ∷ resolving_calls tr names) i ≡ Some CloseRm → ⊥
+    by_live : (t : Bool) → ((j : ℕ) → slice_get (resolving_calls tr names) j ≡ Some Calls.CloseRm → ⊥) → (i : ℕ) → slice_get (if t then resolving_calls tr names else on (resolving_kind tr b) b ∷ resolving_calls tr names) i ≡ Some Calls.CloseRm → ⊥
     by_live true f i h = f i h
-    by_live false f zero h = cc
+    by_live false f zero h = no_close (recorded tr b) (has_row tr b.gtrid) h
+      where
+        no_close : (u v : Bool) → Some (on (if u then Forget else if v then Commit else Rollback) b) ≡ Some Calls.CloseRm → ⊥
+        no_close true v h = cc
+        no_close false true h = cc
+        no_close false false h = cc
     by_live false f (suc i) h = f i h
 resolving_no_close tr (Foreign n ∷ names) i h = resolving_no_close tr names i h
 
 -- a new xa_close is the only new call, on a line with none before
-new_close : (tr : Trace) (e : Happening) (l : Line) (i : ℕ) → Right tr e → slice_get (new_calls tr e l) i ≡ Some CloseRm → i + 1 ≡ length (new_calls tr e l)
-new_close tr (Issued m c) l i r h = let g = get_if (line_eq m l) c i CloseRm h in let k : length (if line_eq m l then c ∷ [] else []) ≡ 1 = ap (λ t. length (if t then c ∷ [] else [])) g.0 in let z = g.1 in omega arith
+new_close : (tr : Trace) (e : Happening) (l : Line) (i : ℕ) → Right tr e → slice_get (new_calls tr e l) i ≡ Some Calls.CloseRm → i + 1 ≡ length (new_calls tr e l)
+new_close tr (Issued m c) l i r h = let g = get_if (line_eq m l) c i Calls.CloseRm h in let k : length (if line_eq m l then c ∷ [] else []) ≡ 1 = ap (λ t. length (if t then c ∷ [] else [])) g.0 in let z = g.1 in omega arith
 new_close tr (Resolved n) l i r h = by_line (line_eq (line 0 n) l) h
   where
-    by_line : (t : Bool) → slice_get (if t then resolving_calls tr (page tr n) else []) i ≡ Some CloseRm → i + 1 ≡ length (if t then resolving_calls tr (page tr n) else [])
+    by_line : (t : Bool) → slice_get (if t then resolving_calls tr (page tr n) else []) i ≡ Some Calls.CloseRm → i + 1 ≡ length (if t then resolving_calls tr (page tr n) else [])
     by_line true h = absurd (resolving_no_close tr (page tr n) i h)
-    by_line false h = absurd (get_none i CloseRm h)
+    by_line false h = absurd (get_none i Calls.CloseRm h)
 new_close tr (ResolvedOpen n) l i r h = by_line (line_eq (line 0 n) l) h
   where
-    by_line : (t : Bool) → slice_get (if t then resolving_calls (Then tr (ResolvedOpen n)) (page tr n) else []) i ≡ Some CloseRm → i + 1 ≡ length (if t then resolving_calls (Then tr (ResolvedOpen n)) (page tr n) else [])
+    by_line : (t : Bool) → slice_get (if t then resolving_calls (Then tr (ResolvedOpen n)) (page tr n) else []) i ≡ Some Calls.CloseRm → i + 1 ≡ length (if t then resolving_calls (Then tr (ResolvedOpen n)) (page tr n) else [])
     by_line true h = absurd (resolving_no_close (Then tr (ResolvedOpen n)) (page tr n) i h)
-    by_line false h = absurd (get_none i CloseRm h)
-new_close tr _ l i r h = absurd (get_none i CloseRm h)
+    by_line false h = absurd (get_none i Calls.CloseRm h)
+new_close tr _ l i r h = absurd (get_none i Calls.CloseRm h)
 
 -- where a line is closed, nothing is added
 closed_is_shut : (tr : Trace) (e : Happening) (l : Line) → Right tr e → (new_calls tr e l ≡ []) ⊎ (is_closed tr l ≡ false)
@@ -121,17 +130,17 @@ closed_is_shut tr (ResolvedOpen n) l r = by_line (line_eq (line 0 n) l) refl
 closed_is_shut tr _ l r = inl refl
 
 pub closes_last : (tr : Trace) (l : Line) → AllRight tr → ClosesLast (issued tr l)
-closes_last (From o) l r i h = absurd (get_none i CloseRm h)
+closes_last (From o) l r i h = absurd (get_none i Calls.CloseRm h)
 closes_last (Then tr e) l r i h = by_break (breaks tr e l) (closes_last tr l r.0) h
   where
-    old : ClosesLast (issued tr l) → (new_calls tr e l ≡ []) ⊎ (is_closed tr l ≡ false) → slice_get (issued tr l) i ≡ Some CloseRm → i + 1 ≡ length (issued tr l ++ new_calls tr e l)
+    old : ClosesLast (issued tr l) → (new_calls tr e l ≡ []) ⊎ (is_closed tr l ≡ false) → slice_get (issued tr l) i ≡ Some Calls.CloseRm → i + 1 ≡ length (issued tr l ++ new_calls tr e l)
     old f (inl n) p = let q = f i p in let k = ap (λ z. length (issued tr l ++ z)) n in let m = ap (length {A = Call}) (append-nil (issued tr l)) in omega arith
     old f (inr n) p = absurd (not_closed (issued tr l) i n p)
 
-    by_place : ClosesLast (issued tr l) → (slice_get (issued tr l) i ≡ Some CloseRm) ⊎ ((j : ℕ) × (i ≡ length (issued tr l) + j) × (slice_get (new_calls tr e l) j ≡ Some CloseRm)) → i + 1 ≡ length (issued tr l ++ new_calls tr e l)
+    by_place : ClosesLast (issued tr l) → (slice_get (issued tr l) i ≡ Some Calls.CloseRm) ⊎ ((j : ℕ) × (i ≡ length (issued tr l) + j) × (slice_get (new_calls tr e l) j ≡ Some Calls.CloseRm)) → i + 1 ≡ length (issued tr l ++ new_calls tr e l)
     by_place f (inl p) = old f (closed_is_shut tr e l r.1) p
     by_place f (inr p) = let k = new_close tr e l p.0 r.1 p.2 in let q = p.1 in omega (arith, length-append (issued tr l) (new_calls tr e l))
 
-    by_break : (t : Bool) → ClosesLast (issued tr l) → slice_get (if t then [] else issued tr l ++ new_calls tr e l) i ≡ Some CloseRm → i + 1 ≡ length (if t then [] else issued tr l ++ new_calls tr e l)
-    by_break true f p = absurd (get_none i CloseRm p)
-    by_break false f p = by_place f (get_append (issued tr l) (new_calls tr e l) i CloseRm p)
+    by_break : (t : Bool) → ClosesLast (issued tr l) → slice_get (if t then [] else issued tr l ++ new_calls tr e l) i ≡ Some Calls.CloseRm → i + 1 ≡ length (if t then [] else issued tr l ++ new_calls tr e l)
+    by_break true f p = absurd (get_none i Calls.CloseRm p)
+    by_break false f p = by_place f (get_append (issued tr l) (new_calls tr e l) i Calls.CloseRm p)

@@ -2,7 +2,10 @@
 use Rattle.std.proofs.Common.{◌≡◌, ℕ, [], length, Bool, true, false, refl, sym, ap, ◌∙◌, subst, ◌⊎◌}
 use Rattle.std.specs.Prelude.{if◌then◌else◌, Some, slice_get}
 use mathlib.Core.Logic.{◌⊎◌.inl, ◌⊎◌.inr}
-use Rattle.xa_base.specs.Trace.{Gtrid, Branch, Line, Name, Kind.Prepare, Kind.Commit, Kind.OnePhase, Kind.Rollback, Call, Call.On, Call.Recover, How, Answer, Answer.Ret, Answer.Page, Outcome, Happening, Happening.Claimed, Happening.Heard, Happening.Decided, Recorded, Origin, Trace, Trace.From, Trace.Then, line_eq, line}
+use Rattle.xa_base.specs.declared.call.Call.TheVariants as Calls
+use Rattle.xa_base.specs.StateTable.{on}
+use Rattle.xa_base.specs.declared.answer.Answer.TheVariants.{Ret, Page}
+use Rattle.xa_base.specs.Trace.{Gtrid, Branch, Line, Name, Call, How, Answer, Outcome, Happening, Happening.Claimed, Happening.Heard, Happening.Decided, Recorded, Origin, Trace, Trace.From, Trace.Then, line_eq, line}
 use Rattle.xa_base.specs.declared.code.Code.TheVariants as Codes
 use Rattle.xa_base.specs.declared.state.Standing.TheVariants.{Completed, Committed, ReadOnly, Forgotten}
 use Rattle.xa_base.specs.Facts.{decided_so, claimed, live, started, told, says_yes, says_read_only, acknowledges, lists_row, recorded, recorded_as, heuristic_rows, record_of, record_of, Change.AddRecord, breaks, taken, heard, page, page_after, standing}
@@ -34,11 +37,11 @@ heard_fact : (tr : Trace) (e : Happening) (l : Line) (c : Call) (a : Answer) →
 heard_fact tr e l c a inv r q = let h : Right tr (Heard l c a) = subst (Right tr) q r in answer_kept tr e c a inv r (inv.answered l (length (heard tr l)) c a h.1)
 
 yes_test : (tr : Trace) (b : Branch) (c : Call) (a : Answer) → says_yes b c a ≡ true → AnswerFact tr c a → YesFact tr b
-yes_test tr b (On Prepare d) (Ret Codes.Success) t h = subst (YesFact tr) (branch_eq-true d b t) h
+yes_test tr b (Calls.Prepare d) (Ret Codes.Success) t h = subst (YesFact tr) (branch_eq-true d b t) h
 yes_test tr b _ _ t h = cc
 
 read_only_test : (tr : Trace) (b : Branch) (c : Call) (a : Answer) → says_read_only b c a ≡ true → AnswerFact tr c a → standing tr b ≡ ReadOnly
-read_only_test tr b (On Prepare d) (Ret Codes.ReadOnly) t h = subst (λ x. standing tr x ≡ ReadOnly) (branch_eq-true d b t) h
+read_only_test tr b (Calls.Prepare d) (Ret Codes.ReadOnly) t h = subst (λ x. standing tr x ≡ ReadOnly) (branch_eq-true d b t) h
 read_only_test tr b _ _ t h = cc
 
 -- what an acknowledgement says: the branch takes no xa_start, and is at rest
@@ -54,8 +57,8 @@ committed_ack tr b inv h = record { is_fixed = inl (by_test (started tr b) refl)
     by_test false s = let u = inv.unstarted b s in cc
 
 ack_now : (tr : Trace) (b : Branch) (c : Call) (a : Answer) → Inv tr → acknowledges b c a ≡ true → AnswerFact tr c a → AckFact tr b
-ack_now tr b (On Commit d) (Ret Codes.Success) inv t h = committed_ack tr b inv (subst (λ x. standing tr x ≡ Committed) (branch_eq-true d b t) h)
-ack_now tr b (On Commit d) (Ret Codes.NotAnXid) inv t h = let f = subst (NotKnownFact tr) (branch_eq-true d b t) h in record { is_fixed = inr f.closed; at_rest = f.at_rest }
+ack_now tr b (Calls.Commit d false) (Ret Codes.Success) inv t h = committed_ack tr b inv (subst (λ x. standing tr x ≡ Committed) (branch_eq-true d b t) h)
+ack_now tr b (Calls.Commit d false) (Ret Codes.NotAnXid) inv t h = let f = subst (NotKnownFact tr) (branch_eq-true d b t) h in record { is_fixed = inr f.closed; at_rest = f.at_rest }
 ack_now tr b _ _ inv t h = cc
 
 ack_kept : (tr : Trace) (e : Happening) (b : Branch) → Inv tr → Right tr e → AckFact tr b → AckFact (Then tr e) b
@@ -100,9 +103,9 @@ same_record : (tr : Trace) (d b : Branch) (k how : How) → AddRecord (record { 
 same_record tr d b k how q h = let p : record { branch = d; how = k } ≡ record { branch = b; how = how } = cc in subst (λ (x : Recorded). HeuristicFact tr x.branch x.how) p h
 
 answer_record : (tr : Trace) (b : Branch) (how : How) (c : Call) (a : Answer) → record_of c a ≡ AddRecord (record { branch = b; how = how }) → AnswerFact tr c a → HeuristicFact tr b how
-answer_record tr b how (On Commit d) (Ret (Codes.Heuristic k)) q h = same_record tr d b k how q h
-answer_record tr b how (On OnePhase d) (Ret (Codes.Heuristic k)) q h = same_record tr d b k how q h
-answer_record tr b how (On Rollback d) (Ret (Codes.Heuristic k)) q h = same_record tr d b k how q h
+answer_record tr b how (Calls.Commit d false) (Ret (Codes.Heuristic k)) q h = same_record tr d b k how q h
+answer_record tr b how (Calls.Commit d true) (Ret (Codes.Heuristic k)) q h = same_record tr d b k how q h
+answer_record tr b how (Calls.Rollback d) (Ret (Codes.Heuristic k)) q h = same_record tr d b k how q h
 answer_record tr b how _ _ q h = absurd (cc)
 
 recorded_after : (tr : Trace) (e : Happening) (b : Branch) (how : How) → Inv tr → Right tr e → recorded_as (Then tr e) b ≡ Some how → RecordFact (Then tr e) b how
@@ -137,10 +140,10 @@ forgotten_after tr e b how inv r f = recorded_as_kept tr e b how (by_case (forgo
 -- ** pages
 
 page_heard : (tr : Trace) (l : Line) (c : Call) (a : Answer) (r : ℕ) (x : Name) → Inv tr → Right tr (Heard l c a) → Lists (page_after (page tr r) (Heard l c a) r) x → IsStarted tr x
-page_heard tr l (Recover n s t) (Page names) r x inv rt h = by_line (line_eq l (line 0 r)) h
+page_heard tr l (Calls.Recover n s t) (Page names) r x inv rt h = by_line (line_eq l (line 0 r)) h
   where
     by_line : (u : Bool) → Lists (if u then names else page tr r) x → IsStarted tr x
-    by_line true h = inv.answered l (length (heard tr l)) (Recover n s t) (Page names) rt.1 x h
+    by_line true h = inv.answered l (length (heard tr l)) (Calls.Recover n s t) (Page names) rt.1 x h
     by_line false h = inv.paged r x h
 page_heard tr l _ _ r x inv rt h = inv.paged r x h
 
@@ -254,9 +257,9 @@ at_start o r = record {
   doubt_down = λ u. refl;
   in_doubt = tt;
   waiting_up = λ l c w. refl;
-  waiting = λ l k b w. absurd (get_none w.place (On k b) w.is);
-  start_once = λ l b x y j k s t p q. absurd (get_none j (On x b) p);
-  start_issued = λ l b x j s p. absurd (get_none j (On x b) p);
+  waiting = λ l k b w. absurd (get_none w.place (on k b) w.is);
+  start_once = λ l b x y j k s t p q. absurd (get_none j (on x b) p);
+  start_issued = λ l b x j s p. absurd (get_none j (on x b) p);
   answered = λ l k c a h. absurd (get_none k (c, a) h);
   voted_yes = λ b h. cc;
   voted_read_only = λ b h. cc;

@@ -3,7 +3,10 @@ use Rattle.std.proofs.Common.{◌≡◌, List, [], ◌∷◌, length, Bool, true
 use Rattle.std.specs.Prelude.{if◌then◌else◌, filter, Option, Some, None}
 use mathlib.Core.Logic.{◌⊎◌.inl, ◌⊎◌.inr}
 use Rattle.std.proofs.lemmas.Bool.{and_parts}
-use Rattle.xa_base.specs.Trace.{Gtrid, Branch, Line, Kind.Start, Kind.Join, Kind.Commit, Kind.OnePhase, Kind.Rollback, Call, Call.On, Answer, Answer.Ret, Outcome, Fault, Fault.InDecide, Fault.InDone, Fault.InHear, Fault.InResolve, Fault.InRestart, Happening, Happening.Begun, Happening.Issued, Happening.Decided, Happening.Crashed, Happening.Failed, Happening.Restarted, Row, Trace, Trace.From, Trace.Then}
+use Rattle.xa_base.specs.declared.call.Call.TheVariants as Calls
+use Rattle.xa_base.specs.StateTable.{on}
+use Rattle.xa_base.specs.declared.answer.Answer.TheVariants.{Ret}
+use Rattle.xa_base.specs.Trace.{Gtrid, Branch, Line, Kind.OnePhase, Call, Answer, Outcome, Fault, Fault.InDecide, Fault.InDone, Fault.InHear, Fault.InResolve, Fault.InRestart, Happening, Happening.Begun, Happening.Issued, Happening.Decided, Happening.Crashed, Happening.Failed, Happening.Restarted, Row, Trace, Trace.From, Trace.Then}
 use Rattle.xa_base.specs.declared.code.Code.TheVariants as Codes
 use Rattle.xa_base.specs.declared.step.Part.TheVariants as Part
 use Rattle.xa_base.specs.Branch.{gtrid_eq, branch_eq}
@@ -15,7 +18,7 @@ use Rattle.xa_base.proofs.Keys.{gtrid_eq-true, branch_eq-true, gtrid_eq-refl, br
 use Rattle.xa_base.proofs.Moves.{good_moves, unstarted_moves, committed_moves}
 use Rattle.xa_base.proofs.Grows.{NewBranch, false_unless, or_left, or_right, old_kept, closed_kept, started_kept, started_new, handed_kept, handed_new, NewDecision, NewDecision.Was_decided, NewDecision.By_decide, NewDecision.By_recovery, decided_new}
 use Rattle.xa_base.proofs.Rows.{or_here, or_map, RowNow, RowNow.Before, RowNow.Decided_now, RowNow.Restarted_now, row_back, settled_lately_settled, rowed_kept, NewRow, NewRow.Had, NewRow.By_decision, NewRow.By_restart, rowed_new, LeftRow, LeftRow.By_done, LeftRow.By_doubt, row_lost}
-use Rattle.xa_base.proofs.Now.{row_fact_ever, closed_handed, live_begun, step_move, starting_live, started_back}
+use Rattle.xa_base.proofs.Now.{row_fact_ever, closed_handed, live_begun, step_move, starting_live, started_back, right_on}
 use Rattle.xa_base.proofs.Kept.{heuristic_fact_kept, decided_voted, row_fact_kept, covers_kept, all_settled_kept, doubt_kept}
 
 -- ** transactions and branches
@@ -46,7 +49,7 @@ started_old_after tr e b inv r s = by_case (started_new tr e b s)
   where
     by_case : (started tr b ≡ true) ⊎ NewBranch e b → Old (Then tr e) b.gtrid
     by_case (inl h) = old_kept tr e b.gtrid r (inv.started_old b h)
-    by_case (inr h) = let q : Right tr (Issued h.0 (On h.1 b)) = subst (Right tr) h.2 r in old_kept tr e b.gtrid r (inv.begun_old b.gtrid (live_begun tr b.gtrid (starting_live tr h.1 b h.3 q.1.may_be)))
+    by_case (inr h) = let q : Right tr (Issued h.0 (on h.1 b)) = subst (Right tr) h.2 r in old_kept tr e b.gtrid r (inv.begun_old b.gtrid (live_begun tr b.gtrid (starting_live tr h.1 b h.3 (right_on tr h.0 h.1 b q.1).may_be)))
 
 pub decided_old_after : (tr : Trace) (e : Happening) (o : Outcome) (g : Gtrid) → Inv tr → Right tr e → decided_so o (Then tr e) g ≡ true → Old (Then tr e) g
 decided_old_after tr e o g inv r s = by_case (decided_new tr e o g s)
@@ -57,23 +60,23 @@ decided_old_after tr e o g inv r s = by_case (decided_new tr e o g s)
     by_case (By_recovery n h q l) = old_kept tr e g r (inv.begun_old g (live_begun tr g l))
 
 -- what an accepted commit in one phase says
-one_phase_call : (tr : Trace) (e : Happening) (l : Line) (b : Branch) → Right tr e → e ≡ Issued l (On OnePhase b) → RightCall tr l OnePhase b
-one_phase_call tr e l b r h = let q : Right tr (Issued l (On OnePhase b)) = subst (Right tr) h r in q.1
+one_phase_call : (tr : Trace) (e : Happening) (l : Line) (b : Branch) → Right tr e → e ≡ Issued l (Calls.Commit b true) → RightCall tr l OnePhase b
+one_phase_call tr e l b r h = let q : Right tr (Issued l (Calls.Commit b true)) = subst (Right tr) h r in q.1
 
 pub handed_old_after : (tr : Trace) (e : Happening) (g : Gtrid) → Inv tr → Right tr e → handed_over (Then tr e) g ≡ true → Old (Then tr e) g
 handed_old_after tr e g inv r s = by_case (handed_new tr e g s)
   where
-    by_case : (handed_over tr g ≡ true) ⊎ ((l : Line) × (b : Branch) × (e ≡ Issued l (On OnePhase b)) × (b.gtrid ≡ g)) → Old (Then tr e) g
+    by_case : (handed_over tr g ≡ true) ⊎ ((l : Line) × (b : Branch) × (e ≡ Issued l (Calls.Commit b true)) × (b.gtrid ≡ g)) → Old (Then tr e) g
     by_case (inl h) = old_kept tr e g r (inv.handed_old g h)
     by_case (inr h) = let c = one_phase_call tr e h.0 h.1 r h.2 in old_kept tr e g r (subst (Old tr) h.3 (inv.begun_old _ (live_begun tr _ c.may_be.0.is_live)))
 
-one_phase_started : (tr : Trace) (e : Happening) (l : Line) (d b : Branch) → e ≡ Issued l (On OnePhase d) → started (Then tr e) b ≡ true → started tr b ≡ true
+one_phase_started : (tr : Trace) (e : Happening) (l : Line) (d b : Branch) → e ≡ Issued l (Calls.Commit d true) → started (Then tr e) b ≡ true → started tr b ≡ true
 one_phase_started tr e l d b q s = subst (λ x. started (Then tr x) b ≡ true) q s
 
 pub handed_one_after : (tr : Trace) (e : Happening) (b c : Branch) → Inv tr → Right tr e → handed_over (Then tr e) b.gtrid ≡ true → c.gtrid ≡ b.gtrid → started (Then tr e) b ≡ true → started (Then tr e) c ≡ true → b ≡ c
 handed_one_after tr e b c inv r h q s t = by_case (handed_new tr e b.gtrid h)
   where
-    by_case : (handed_over tr b.gtrid ≡ true) ⊎ ((l : Line) × (d : Branch) × (e ≡ Issued l (On OnePhase d)) × (d.gtrid ≡ b.gtrid)) → b ≡ c
+    by_case : (handed_over tr b.gtrid ≡ true) ⊎ ((l : Line) × (d : Branch) × (e ≡ Issued l (Calls.Commit d true)) × (d.gtrid ≡ b.gtrid)) → b ≡ c
     by_case (inl k) =
         let n = (closed_handed tr b.gtrid inv k).not_live in
         inv.handed_one b c k q (started_back tr e b r n s) (started_back tr e c r (ap (live tr) q ∙ n) t)
@@ -190,8 +193,8 @@ in_filter test (x ∷ bs) b h t = by_place (or_here _ _ h) (in_filter test bs b)
 
 pub started_listed : (tr : Trace) (b : Branch) → started tr b ≡ true → has_branch (branches tr) b ≡ true
 started_listed (From o) b s = cc
-started_listed (Then tr (Issued l (On Start c))) b s = or_map (branch_eq c b) _ _ (started_listed tr b) s
-started_listed (Then tr (Issued l (On Join c))) b s = or_map (branch_eq c b) _ _ (started_listed tr b) s
+started_listed (Then tr (Issued l (Calls.Start c false))) b s = or_map (branch_eq c b) _ _ (started_listed tr b) s
+started_listed (Then tr (Issued l (Calls.Start c true))) b s = or_map (branch_eq c b) _ _ (started_listed tr b) s
 started_listed (Then tr _) b s = started_listed tr b s
 
 -- the row that a decision makes covers the branches, since all have voted
@@ -229,9 +232,9 @@ doubt_down_after tr (Restarted i d n) inv r u = refl
 doubt_down_after tr _ inv r u = inv.doubt_down u
 
 record_fact : (tr : Trace) (e : Happening) (l : Line) (c : Call) (a : Answer) → Inv tr → Right tr e → AnswerFact tr c a → DoubtFact (Then tr e) (record_of c a)
-record_fact tr e l (On Commit b) (Ret (Codes.Heuristic how)) inv r h = heuristic_fact_kept tr e b how inv r h
-record_fact tr e l (On OnePhase b) (Ret (Codes.Heuristic how)) inv r h = heuristic_fact_kept tr e b how inv r h
-record_fact tr e l (On Rollback b) (Ret (Codes.Heuristic how)) inv r h = heuristic_fact_kept tr e b how inv r h
+record_fact tr e l (Calls.Commit b false) (Ret (Codes.Heuristic how)) inv r h = heuristic_fact_kept tr e b how inv r h
+record_fact tr e l (Calls.Commit b true) (Ret (Codes.Heuristic how)) inv r h = heuristic_fact_kept tr e b how inv r h
+record_fact tr e l (Calls.Rollback b) (Ret (Codes.Heuristic how)) inv r h = heuristic_fact_kept tr e b how inv r h
 record_fact tr e l _ _ inv r h = tt
 
 next_fact : (tr : Trace) (e : Happening) (l : Line) → Inv tr → Right tr e → (o : Option (Call × Answer)) → next_answer tr l ≡ o → DoubtFact (Then tr e) (record_of_next o)

@@ -2,7 +2,8 @@
 use Rattle.std.proofs.Common.{◌≡◌, List, [], ◌∷◌, Bool, true, false, refl, sym, ap, ◌∙◌, subst, ◌⊎◌}
 use Rattle.std.specs.Prelude.{if◌then◌else◌}
 use mathlib.Core.Logic.{◌⊎◌.inl, ◌⊎◌.inr}
-use Rattle.xa_base.specs.Trace.{Gtrid, Branch, Kind.Start, Kind.Join, Call.On, Happening, Happening.Issued, Trace, Trace.From, Trace.Then}
+use Rattle.xa_base.specs.declared.call.Call.TheVariants as Calls
+use Rattle.xa_base.specs.Trace.{Gtrid, Branch, Happening, Happening.Issued, Trace, Trace.From, Trace.Then}
 use Rattle.xa_base.specs.Branch.{gtrid_eq, branch_eq}
 use Rattle.xa_base.specs.declared.state.Standing.{Standing}
 use Rattle.xa_base.specs.declared.state.Standing.TheVariants.{Idle, Prepared, RollbackOnly, Completed, Committed, RolledBack, Lost, ReadOnly, Forgotten}
@@ -154,19 +155,19 @@ all_go Member p q dec f (x ∷ xs) m mx d = by_member (dec x) (λ n nx nd. all_g
 
 started_list : Trace → List Branch
 started_list (From o) = []
-started_list (Then tr (Issued l (On Start c))) = c ∷ started_list tr
-started_list (Then tr (Issued l (On Join c))) = c ∷ started_list tr
+started_list (Then tr (Issued l (Calls.Start c false))) = c ∷ started_list tr
+started_list (Then tr (Issued l (Calls.Start c true))) = c ∷ started_list tr
 started_list (Then tr _) = started_list tr
 
 started_within : (tr : Trace) (b : Branch) → started tr b ≡ true → Within (started_list tr) b
 unfolding started_list
 started_within (From o) b s = cc
-started_within (Then tr (Issued l (On Start c))) b s = by_case (or_here _ _ s) (λ k. started_within tr b k)
+started_within (Then tr (Issued l (Calls.Start c false))) b s = by_case (or_here _ _ s) (λ k. started_within tr b k)
   where
     by_case : (branch_eq c b ≡ true) ⊎ (started tr b ≡ true) → (started tr b ≡ true → Within (started_list tr) b) → (c ≡ b) ⊎ Within (started_list tr) b
     by_case (inl h) f = inl (branch_eq-true c b h)
     by_case (inr h) f = inr (f h)
-started_within (Then tr (Issued l (On Join c))) b s = by_case (or_here _ _ s) (λ k. started_within tr b k)
+started_within (Then tr (Issued l (Calls.Start c true))) b s = by_case (or_here _ _ s) (λ k. started_within tr b k)
   where
     by_case : (branch_eq c b ≡ true) ⊎ (started tr b ≡ true) → (started tr b ≡ true → Within (started_list tr) b) → (c ≡ b) ⊎ Within (started_list tr) b
     by_case (inl h) f = inl (branch_eq-true c b h)

@@ -4,8 +4,14 @@ use Rattle.xa_base.specs.HeldBranch.{new_branch}
 use Rattle.xa_base.specs.Scan.{Scan.NotOpen}
 use Rattle.xa_base.specs.Xid.{Xid}
 use Rattle.xa_base.specs.declared.code.Code.TheVariants as Codes
-use Rattle.xa_base.specs.Steps.{Asked, Asked.AskOpen, Asked.AskClose, Asked.Ask, Asked.AskRecover, Step, Reply}
-use Rattle.xa_base.specs.Trace.{Gtrid, Branch, How, Name.Ours, Kind.Start, Kind.End, Call, Call.On, Call.OpenRm, Call.CloseRm, Call.Recover, Answer, Answer.Ret, Row, Recorded, Origin}
+use Rattle.xa_base.specs.declared.reply.Reply.TheVariants as Replies
+use Rattle.xa_base.specs.declared.step.Step.TheVariants as Steps
+use Rattle.xa_base.specs.Steps.{Step, Reply}
+use Rattle.xa_base.specs.declared.call.Call.TheVariants as Calls
+use Rattle.xa_base.specs.Call.{map_call}
+use Rattle.xa_base.specs.declared.call.Call as Declared
+use Rattle.xa_base.specs.declared.answer.Answer.TheVariants.{Ret}
+use Rattle.xa_base.specs.Trace.{Gtrid, Branch, How, Name, Name.Ours, Call, Answer, Row, Recorded, Origin}
 
 -- ** starts
 
@@ -48,41 +54,38 @@ with_foreign = record (fresh 1 1) { in_doubt = λ r. foreign (pos 1) (2 ∷ 1 �
 
 -- ** steps
 
-abbrev pub asking : Call → Asked
-asking (On k b) = Ask k (Ours b)
-asking OpenRm = AskOpen
-asking CloseRm = AskClose
-asking (Recover n start end) = AskRecover n start end
+abbrev pub asking : Call → Declared.Call Name
+asking c = map_call Ours c
 
 abbrev pub once : Step → Reply → List (Step × Reply)
 once step reply = (step, reply) ∷ []
 
 -- a call that waits is taken, and its answer heard
 abbrev pub answered : (thread rm : ℕ) → Call → Answer → List (Step × Reply)
-answered t r c a = (Step.Take t r, Reply.Took c a) ∷ (Step.Hear t r, Reply.Heard c a) ∷ []
+answered t r c a = (Steps.Take t r, Replies.Took (asking c) a) ∷ (Steps.Hear t r, Replies.Heard (asking c) a) ∷ []
 
 -- a call is issued, taken and answered
 abbrev pub called : (thread rm : ℕ) → Call → Answer → List (Step × Reply)
-called t r c a = (Step.Issue t r (asking c), Reply.Issued) ∷ answered t r c a
+called t r c a = (Steps.Issue t r (asking c), Replies.Issued) ∷ answered t r c a
 
 -- the work of a branch: xa_start and xa_end
 abbrev pub worked : (thread rm : ℕ) → Branch → List (Step × Reply)
-worked t r b = called t r (On Start b) (Ret Codes.Success) ++ called t r (On (End false) b) (Ret Codes.Success)
+worked t r b = called t r (Calls.Start b false) (Ret Codes.Success) ++ called t r (Calls.End b false) (Ret Codes.Success)
 
 -- xa_open, and the work of a branch of the first thread
 abbrev pub ready : (rm : ℕ) → Branch → List (Step × Reply)
-ready r b = called 0 r OpenRm (Ret Codes.Success) ++ worked 0 r b
+ready r b = called 0 r Calls.OpenRm (Ret Codes.Success) ++ worked 0 r b
 
 -- xa_recover
 abbrev pub scanned : (rm : ℕ) → (count : ℤ) → (start end : Bool) → Answer → List (Step × Reply)
-scanned r n start end a = (Step.Recover r n start end, Reply.Issued) ∷ answered 0 r (Recover n start end) a
+scanned r n start end a = (Steps.Recover r n start end, Replies.Issued) ∷ answered 0 r (Calls.Recover n start end) a
 
 -- a call is issued so many times
 abbrev pub issued_times : ℕ → Call → List (Step × Reply)
 issued_times zero c = []
-issued_times (suc n) c = (Step.Issue 0 0 (asking c), Reply.Issued) ∷ issued_times n c
+issued_times (suc n) c = (Steps.Issue 0 0 (asking c), Replies.Issued) ∷ issued_times n c
 
 -- and is taken so many times
 abbrev pub taken_times : ℕ → Call → List (Step × Reply)
 taken_times zero c = []
-taken_times (suc n) c = (Step.Take 0 0, Reply.Took c (Ret Codes.Success)) ∷ taken_times n c
+taken_times (suc n) c = (Steps.Take 0 0, Replies.Took (asking c) (Ret Codes.Success)) ∷ taken_times n c

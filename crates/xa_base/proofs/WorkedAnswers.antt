@@ -6,7 +6,9 @@ use Rattle.xa_base.specs.declared.code.How.TheVariants as How
 use Rattle.xa_base.specs.declared.code.RbCode.TheVariants as Reason
 use Rattle.xa_base.specs.Facts.{says_yes, says_read_only, acknowledges}
 use Rattle.xa_base.specs.Progress.{answers_start, finishes}
-use Rattle.xa_base.specs.Trace.{Branch, Code, Kind, Kind.Start, Kind.Join, Kind.End, Kind.Prepare, Kind.Commit, Kind.OnePhase, Kind.Rollback, Kind.Forget, Call, Call.On, Answer, Answer.Ret}
+use Rattle.xa_base.specs.StateTable.{on}
+use Rattle.xa_base.specs.declared.answer.Answer.TheVariants.{Ret}
+use Rattle.xa_base.specs.Trace.{Branch, Code, Kind, Kind.Start, Kind.Join, Kind.End, Kind.Prepare, Kind.Commit, Kind.OnePhase, Kind.Rollback, Kind.Forget, Call, Answer}
 use Rattle.xa_base.proofs.Worked.{own}
 
 abbrev rolled_back : Code
@@ -21,7 +23,7 @@ codes = Codes.Success ∷ Codes.ReadOnly ∷ rolled_back ∷ heuristic ∷ Codes
 
 -- the codes that pass a test as the answer to a call on the branch
 abbrev passing : (Call → Answer → Bool) → Kind → Branch → List Code
-passing test k b = filter (λ code. test (On k b) (Ret code)) codes
+passing test k b = filter (λ code. test (on k b) (Ret code)) codes
 
 abbrev finishing : Kind → Branch → List Code
 finishing = passing (finishes (own 1 0 0))

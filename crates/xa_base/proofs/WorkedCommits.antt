@@ -1,5 +1,5 @@
 -- Worked histories without a crash: each reply is the demanded one, and the fates and the log at the end are as told.
-use Rattle.std.proofs.Common.{◌≡◌, List, [], ◌∷◌, ◌++◌, true, refl}
+use Rattle.std.proofs.Common.{◌≡◌, List, [], ◌∷◌, ◌++◌, true, refl, false}
 use Rattle.xa_base.specs.declared.code.Code.TheVariants as Codes
 use Rattle.xa_base.specs.declared.code.How.TheVariants as How
 use Rattle.xa_base.specs.declared.code.RbCode.TheVariants as Reason
@@ -9,17 +9,21 @@ use Rattle.xa_base.specs.declared.step.Outcome.TheVariants as Outcome
 use Rattle.xa_base.specs.declared.vote.Vote.TheVariants as Votes
 use Rattle.xa_base.specs.Demanded.{with_steps, AllDemanded}
 use Rattle.xa_base.specs.Facts.{log, heuristic_rows, fate}
+use Rattle.xa_base.specs.declared.reply.Reply.TheVariants as Replies
+use Rattle.xa_base.specs.declared.step.Step.TheVariants as Steps
 use Rattle.xa_base.specs.Steps.{Step, Reply}
-use Rattle.xa_base.specs.Trace.{Name.Ours, Kind.Start, Kind.End, Kind.Prepare, Kind.Commit, Kind.OnePhase, Kind.Rollback, Kind.Forget, Call.On, Call.OpenRm, Answer.Ret, Trace.From}
+use Rattle.xa_base.specs.declared.call.Call.TheVariants as Calls
+use Rattle.xa_base.specs.declared.answer.Answer.TheVariants.{Ret}
+use Rattle.xa_base.specs.Trace.{Name.Ours, Trace.From}
 use Rattle.xa_base.proofs.Computed.{computed}
 use Rattle.xa_base.proofs.Worked.{fresh, gtrid, own, recorded_so, asking, once, called, ready}
 
 -- One branch, committed in one phase.
 unfoldable pub first_run : List (Step × Reply)
 first_run =
-    once (Step.Begin 0) (Reply.Begun (gtrid 1 1))
+    once (Steps.Begin 0) (Replies.Begun (gtrid 1 1))
     ++ ready 0 (own 1 0 0)
-    ++ called 0 0 (On OnePhase (own 1 0 0)) (Ret Codes.Success)
+    ++ called 0 0 (Calls.Commit (own 1 0 0) true) (Ret Codes.Success)
 
 first_run-demanded : AllDemanded (From (fresh 1 1)) first_run
 unfolding first_run
@@ -36,15 +40,15 @@ first_run-log = refl
 -- Two branches vote yes, a row is written, both are told to commit, and the row leaves.
 unfoldable pub two_phase_commit : List (Step × Reply)
 two_phase_commit =
-    once (Step.Begin 0) (Reply.Begun (gtrid 1 1))
+    once (Steps.Begin 0) (Replies.Begun (gtrid 1 1))
     ++ ready 0 (own 1 0 0)
     ++ ready 1 (own 1 0 1)
-    ++ called 0 0 (On Prepare (own 1 0 0)) (Ret Codes.Success)
-    ++ called 0 1 (On Prepare (own 1 0 1)) (Ret Codes.Success)
-    ++ once (Step.Decide (gtrid 1 1) Outcome.Commit) Reply.Decided
-    ++ called 0 0 (On Commit (own 1 0 0)) (Ret Codes.Success)
-    ++ called 0 1 (On Commit (own 1 0 1)) (Ret Codes.Success)
-    ++ once (Step.Done (gtrid 1 1)) Reply.Noted
+    ++ called 0 0 (Calls.Prepare (own 1 0 0)) (Ret Codes.Success)
+    ++ called 0 1 (Calls.Prepare (own 1 0 1)) (Ret Codes.Success)
+    ++ once (Steps.Decide (gtrid 1 1) Outcome.Commit) Replies.Decided
+    ++ called 0 0 (Calls.Commit (own 1 0 0) false) (Ret Codes.Success)
+    ++ called 0 1 (Calls.Commit (own 1 0 1) false) (Ret Codes.Success)
+    ++ once (Steps.Done (gtrid 1 1)) Replies.Noted
 
 two_phase_commit-demanded : AllDemanded (From (fresh 1 2)) two_phase_commit
 unfolding two_phase_commit
@@ -61,16 +65,16 @@ two_phase_commit-log = refl
 -- One branch votes no, so a commit is refused; the other is rolled back.
 unfoldable pub one_no : List (Step × Reply)
 one_no =
-    once (Step.Begin 0) (Reply.Begun (gtrid 1 1))
+    once (Steps.Begin 0) (Replies.Begun (gtrid 1 1))
     ++ ready 0 (own 1 0 0)
     ++ ready 1 (own 1 0 1)
-    ++ once (Step.Vote 1 (Ours (own 1 0 1)) (Votes.No Reason.Deadlock)) Reply.Noted
-    ++ called 0 0 (On Prepare (own 1 0 0)) (Ret Codes.Success)
-    ++ called 0 1 (On Prepare (own 1 0 1)) (Ret (Codes.RolledBack Reason.Deadlock))
-    ++ once (Step.Decide (gtrid 1 1) Outcome.Commit) (Reply.Refused Refusal.Votes)
-    ++ once (Step.Decide (gtrid 1 1) Outcome.Rollback) Reply.Decided
-    ++ called 0 0 (On Rollback (own 1 0 0)) (Ret Codes.Success)
-    ++ called 0 1 (On Rollback (own 1 0 1)) (Ret Codes.NotAnXid)
+    ++ once (Steps.Vote 1 (Ours (own 1 0 1)) (Votes.No Reason.Deadlock)) Replies.Noted
+    ++ called 0 0 (Calls.Prepare (own 1 0 0)) (Ret Codes.Success)
+    ++ called 0 1 (Calls.Prepare (own 1 0 1)) (Ret (Codes.RolledBack Reason.Deadlock))
+    ++ once (Steps.Decide (gtrid 1 1) Outcome.Commit) (Replies.Refused Refusal.Votes)
+    ++ once (Steps.Decide (gtrid 1 1) Outcome.Rollback) Replies.Decided
+    ++ called 0 0 (Calls.Rollback (own 1 0 0)) (Ret Codes.Success)
+    ++ called 0 1 (Calls.Rollback (own 1 0 1)) (Ret Codes.NotAnXid)
 
 one_no-demanded : AllDemanded (From (fresh 1 2)) one_no
 unfolding one_no
@@ -87,15 +91,15 @@ one_no-log = refl
 -- Both branches only read: the commit has no row, and no xa_commit is accepted.
 unfoldable pub all_read_only : List (Step × Reply)
 all_read_only =
-    once (Step.Begin 0) (Reply.Begun (gtrid 1 1))
+    once (Steps.Begin 0) (Replies.Begun (gtrid 1 1))
     ++ ready 0 (own 1 0 0)
     ++ ready 1 (own 1 0 1)
-    ++ once (Step.Vote 0 (Ours (own 1 0 0)) Votes.ReadOnly) Reply.Noted
-    ++ once (Step.Vote 1 (Ours (own 1 0 1)) Votes.ReadOnly) Reply.Noted
-    ++ called 0 0 (On Prepare (own 1 0 0)) (Ret Codes.ReadOnly)
-    ++ called 0 1 (On Prepare (own 1 0 1)) (Ret Codes.ReadOnly)
-    ++ once (Step.Decide (gtrid 1 1) Outcome.Commit) Reply.Decided
-    ++ once (Step.Issue 0 0 (asking (On Commit (own 1 0 0)))) (Reply.Refused Refusal.NotDecided)
+    ++ once (Steps.Vote 0 (Ours (own 1 0 0)) Votes.ReadOnly) Replies.Noted
+    ++ once (Steps.Vote 1 (Ours (own 1 0 1)) Votes.ReadOnly) Replies.Noted
+    ++ called 0 0 (Calls.Prepare (own 1 0 0)) (Ret Codes.ReadOnly)
+    ++ called 0 1 (Calls.Prepare (own 1 0 1)) (Ret Codes.ReadOnly)
+    ++ once (Steps.Decide (gtrid 1 1) Outcome.Commit) Replies.Decided
+    ++ once (Steps.Issue 0 0 (asking (Calls.Commit (own 1 0 0) false))) (Replies.Refused Refusal.NotDecided)
 
 all_read_only-demanded : AllDemanded (From (fresh 1 2)) all_read_only
 unfolding all_read_only
@@ -112,17 +116,17 @@ all_read_only-log = refl
 -- A commit is put off three times; the row leaves only after the fourth.
 unfoldable pub retries : List (Step × Reply)
 retries =
-    once (Step.Begin 0) (Reply.Begun (gtrid 1 1))
+    once (Steps.Begin 0) (Replies.Begun (gtrid 1 1))
     ++ ready 0 (own 1 0 0)
-    ++ called 0 0 (On Prepare (own 1 0 0)) (Ret Codes.Success)
-    ++ once (Step.Decide (gtrid 1 1) Outcome.Commit) Reply.Decided
-    ++ once (Step.Busy 0 (Ours (own 1 0 0)) 3) Reply.Noted
-    ++ called 0 0 (On Commit (own 1 0 0)) (Ret Codes.Retry)
-    ++ called 0 0 (On Commit (own 1 0 0)) (Ret Codes.Retry)
-    ++ called 0 0 (On Commit (own 1 0 0)) (Ret Codes.Retry)
-    ++ once (Step.Done (gtrid 1 1)) (Reply.Refused Refusal.Busy)
-    ++ called 0 0 (On Commit (own 1 0 0)) (Ret Codes.Success)
-    ++ once (Step.Done (gtrid 1 1)) Reply.Noted
+    ++ called 0 0 (Calls.Prepare (own 1 0 0)) (Ret Codes.Success)
+    ++ once (Steps.Decide (gtrid 1 1) Outcome.Commit) Replies.Decided
+    ++ once (Steps.Busy 0 (Ours (own 1 0 0)) 3) Replies.Noted
+    ++ called 0 0 (Calls.Commit (own 1 0 0) false) (Ret Codes.Retry)
+    ++ called 0 0 (Calls.Commit (own 1 0 0) false) (Ret Codes.Retry)
+    ++ called 0 0 (Calls.Commit (own 1 0 0) false) (Ret Codes.Retry)
+    ++ once (Steps.Done (gtrid 1 1)) (Replies.Refused Refusal.Busy)
+    ++ called 0 0 (Calls.Commit (own 1 0 0) false) (Ret Codes.Success)
+    ++ once (Steps.Done (gtrid 1 1)) Replies.Noted
 
 retries-demanded : AllDemanded (From (fresh 1 1)) retries
 unfolding retries
@@ -139,18 +143,18 @@ retries-log = refl
 -- A prepared branch is rolled back by its resource manager alone. It is recorded before it is forgotten.
 unfoldable pub heuristic : List (Step × Reply)
 heuristic =
-    once (Step.Begin 0) (Reply.Begun (gtrid 1 1))
+    once (Steps.Begin 0) (Replies.Begun (gtrid 1 1))
     ++ ready 0 (own 1 0 0)
     ++ ready 1 (own 1 0 1)
-    ++ called 0 0 (On Prepare (own 1 0 0)) (Ret Codes.Success)
-    ++ called 0 1 (On Prepare (own 1 0 1)) (Ret Codes.Success)
-    ++ once (Step.Heuristic 1 (Ours (own 1 0 1)) How.Rb) Reply.Noted
-    ++ once (Step.Decide (gtrid 1 1) Outcome.Commit) Reply.Decided
-    ++ called 0 0 (On Commit (own 1 0 0)) (Ret Codes.Success)
-    ++ once (Step.Issue 0 1 (asking (On Forget (own 1 0 1)))) (Reply.Refused Refusal.NotDecided)
-    ++ called 0 1 (On Commit (own 1 0 1)) (Ret (Codes.Heuristic How.Rb))
-    ++ called 0 1 (On Forget (own 1 0 1)) (Ret Codes.Success)
-    ++ once (Step.Done (gtrid 1 1)) Reply.Noted
+    ++ called 0 0 (Calls.Prepare (own 1 0 0)) (Ret Codes.Success)
+    ++ called 0 1 (Calls.Prepare (own 1 0 1)) (Ret Codes.Success)
+    ++ once (Steps.Heuristic 1 (Ours (own 1 0 1)) How.Rb) Replies.Noted
+    ++ once (Steps.Decide (gtrid 1 1) Outcome.Commit) Replies.Decided
+    ++ called 0 0 (Calls.Commit (own 1 0 0) false) (Ret Codes.Success)
+    ++ once (Steps.Issue 0 1 (asking (Calls.Forget (own 1 0 1)))) (Replies.Refused Refusal.NotDecided)
+    ++ called 0 1 (Calls.Commit (own 1 0 1) false) (Ret (Codes.Heuristic How.Rb))
+    ++ called 0 1 (Calls.Forget (own 1 0 1)) (Ret Codes.Success)
+    ++ once (Steps.Done (gtrid 1 1)) Replies.Noted
 
 heuristic-demanded : AllDemanded (From (fresh 1 2)) heuristic
 unfolding heuristic
@@ -171,14 +175,14 @@ heuristic-record = refl
 -- Work that failed is for rollback only, and can not be prepared.
 unfoldable pub failed_end : List (Step × Reply)
 failed_end =
-    once (Step.Begin 0) (Reply.Begun (gtrid 1 1))
-    ++ called 0 0 OpenRm (Ret Codes.Success)
-    ++ called 0 0 (On Start (own 1 0 0)) (Ret Codes.Success)
-    ++ called 0 0 (On (End true) (own 1 0 0)) (Ret (Codes.RolledBack Reason.Rollback))
-    ++ called 0 0 (On Prepare (own 1 0 0)) (Ret Codes.Protocol)
-    ++ once (Step.Decide (gtrid 1 1) Outcome.Commit) (Reply.Refused Refusal.Votes)
-    ++ once (Step.Decide (gtrid 1 1) Outcome.Rollback) Reply.Decided
-    ++ called 0 0 (On Rollback (own 1 0 0)) (Ret (Codes.RolledBack Reason.Rollback))
+    once (Steps.Begin 0) (Replies.Begun (gtrid 1 1))
+    ++ called 0 0 Calls.OpenRm (Ret Codes.Success)
+    ++ called 0 0 (Calls.Start (own 1 0 0) false) (Ret Codes.Success)
+    ++ called 0 0 (Calls.End (own 1 0 0) true) (Ret (Codes.RolledBack Reason.Rollback))
+    ++ called 0 0 (Calls.Prepare (own 1 0 0)) (Ret Codes.Protocol)
+    ++ once (Steps.Decide (gtrid 1 1) Outcome.Commit) (Replies.Refused Refusal.Votes)
+    ++ once (Steps.Decide (gtrid 1 1) Outcome.Rollback) Replies.Decided
+    ++ called 0 0 (Calls.Rollback (own 1 0 0)) (Ret (Codes.RolledBack Reason.Rollback))
 
 failed_end-demanded : AllDemanded (From (fresh 1 1)) failed_end
 unfolding failed_end

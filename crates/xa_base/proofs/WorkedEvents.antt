@@ -2,6 +2,7 @@
 use Rattle.std.proofs.Common.{◌≡◌, pos, List, [], ◌∷◌, ◌++◌, true, false, refl}
 use Rattle.std.specs.Prelude.{map}
 use Rattle.xa_base.specs.Branch.{xid_of_branch}
+use Rattle.xa_base.specs.Xid.{Xid}
 use Rattle.xa_base.specs.declared.answer.Answer as RustAnswer
 use Rattle.xa_base.specs.declared.answer.Answer.TheVariants as Answers
 use Rattle.xa_base.specs.declared.call.Call as RustCall
@@ -21,11 +22,11 @@ use Rattle.xa_base.proofs.Computed.{computed}
 use Rattle.xa_base.proofs.Worked.{fresh, gtrid, own, foreign}
 use Rattle.xa_base.proofs.WorkedCommits.{first_run}
 
-abbrev event : RustStep.Step → RustReply.Reply → Event
+abbrev event : RustStep.Step Xid → RustReply.Reply Xid → Event
 event step reply = record { step = step; reply = reply }
 
 -- a call of the first thread at the first resource manager is issued, taken and heard
-abbrev through : RustCall.Call → RustAnswer.Answer → List Event
+abbrev through : RustCall.Call Xid → RustAnswer.Answer Xid → List Event
 through call answer =
     event (Steps.Issue 0 0 call) Replies.Issued
     ∷ event (Steps.Take 0 0) (Replies.Took call answer)

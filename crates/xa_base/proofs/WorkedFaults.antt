@@ -1,6 +1,6 @@
 -- Worked histories in which the log fails, with its change made and not made: each reply is the demanded one, and the fates and the
 -- log at the end are as told.
-use Rattle.std.proofs.Common.{◌≡◌, pos, List, [], ◌∷◌, ◌++◌, true, refl}
+use Rattle.std.proofs.Common.{◌≡◌, pos, List, [], ◌∷◌, ◌++◌, true, refl, false}
 use Rattle.xa_base.specs.declared.code.Code.TheVariants as Codes
 use Rattle.xa_base.specs.declared.code.How.TheVariants as How
 use Rattle.xa_base.specs.declared.refusal.Refusal.TheVariants as Refusal
@@ -9,25 +9,29 @@ use Rattle.xa_base.specs.declared.step.Outcome.TheVariants as Outcome
 use Rattle.xa_base.specs.declared.step.Side.TheVariants as Side
 use Rattle.xa_base.specs.Demanded.{with_steps, AllDemanded}
 use Rattle.xa_base.specs.Facts.{log, heuristic_rows, fate}
+use Rattle.xa_base.specs.declared.reply.Reply.TheVariants as Replies
+use Rattle.xa_base.specs.declared.step.Step.TheVariants as Steps
 use Rattle.xa_base.specs.Steps.{Step, Reply}
-use Rattle.xa_base.specs.Trace.{Name.Ours, Kind.Prepare, Kind.Commit, Kind.Rollback, Kind.Forget, Call.On, Call.OpenRm, Answer.Ret, Answer.Page, Trace.From}
+use Rattle.xa_base.specs.declared.call.Call.TheVariants as Calls
+use Rattle.xa_base.specs.declared.answer.Answer.TheVariants.{Ret, Page}
+use Rattle.xa_base.specs.Trace.{Name.Ours, Trace.From}
 use Rattle.xa_base.proofs.Computed.{computed}
 use Rattle.xa_base.proofs.Worked.{fresh, gtrid, own, row, recorded_so, asking, once, answered, called, ready, scanned}
 
 -- The log fails in a decision, which was not made: the restart finds no row, and recovery rolls back.
 unfoldable pub commit_fault_not_made : List (Step × Reply)
 commit_fault_not_made =
-    once (Step.Begin 0) (Reply.Begun (gtrid 1 1))
+    once (Steps.Begin 0) (Replies.Begun (gtrid 1 1))
     ++ ready 0 (own 1 0 0)
-    ++ called 0 0 (On Prepare (own 1 0 0)) (Ret Codes.Success)
-    ++ once (Step.Decide (gtrid 1 1) Outcome.Commit) (Reply.Refused Refusal.LogFault)
-    ++ once (Step.Begin 0) (Reply.Refused Refusal.ManagerDown)
-    ++ once (Step.Take 0 0) Reply.Nothing
-    ++ once (Step.Restart Side.Manager) (Reply.Restarted 2 0 0)
-    ++ called 0 0 OpenRm (Ret Codes.Success)
+    ++ called 0 0 (Calls.Prepare (own 1 0 0)) (Ret Codes.Success)
+    ++ once (Steps.Decide (gtrid 1 1) Outcome.Commit) (Replies.Refused Refusal.LogFault)
+    ++ once (Steps.Begin 0) (Replies.Refused Refusal.ManagerDown)
+    ++ once (Steps.Take 0 0) Replies.Nothing
+    ++ once (Steps.Restart Side.Manager) (Replies.Restarted 2 0 0)
+    ++ called 0 0 Calls.OpenRm (Ret Codes.Success)
     ++ scanned 0 (pos 8) true true (Page (Ours (own 1 0 0) ∷ []))
-    ++ once (Step.Resolve 0) (Reply.Resolved 1)
-    ++ answered 0 0 (On Rollback (own 1 0 0)) (Ret Codes.Success)
+    ++ once (Steps.Resolve 0) (Replies.Resolved 1)
+    ++ answered 0 0 (Calls.Rollback (own 1 0 0)) (Ret Codes.Success)
 
 commit_fault_not_made-demanded : AllDemanded (From (fresh 1 1)) commit_fault_not_made
 unfolding commit_fault_not_made
@@ -44,17 +48,17 @@ commit_fault_not_made-log = refl
 -- The log fails in a decision, which was made: the restart finds the row, and recovery commits.
 unfoldable pub commit_fault_made : List (Step × Reply)
 commit_fault_made =
-    once (Step.Begin 0) (Reply.Begun (gtrid 1 1))
+    once (Steps.Begin 0) (Replies.Begun (gtrid 1 1))
     ++ ready 0 (own 1 0 0)
-    ++ called 0 0 (On Prepare (own 1 0 0)) (Ret Codes.Success)
-    ++ once (Step.Decide (gtrid 1 1) Outcome.Commit) (Reply.Refused Refusal.LogFault)
-    ++ once (Step.Begin 0) (Reply.Refused Refusal.ManagerDown)
-    ++ once (Step.Take 0 0) Reply.Nothing
-    ++ once (Step.Restart Side.Manager) (Reply.Restarted 2 1 0)
-    ++ called 0 0 OpenRm (Ret Codes.Success)
+    ++ called 0 0 (Calls.Prepare (own 1 0 0)) (Ret Codes.Success)
+    ++ once (Steps.Decide (gtrid 1 1) Outcome.Commit) (Replies.Refused Refusal.LogFault)
+    ++ once (Steps.Begin 0) (Replies.Refused Refusal.ManagerDown)
+    ++ once (Steps.Take 0 0) Replies.Nothing
+    ++ once (Steps.Restart Side.Manager) (Replies.Restarted 2 1 0)
+    ++ called 0 0 Calls.OpenRm (Ret Codes.Success)
     ++ scanned 0 (pos 8) true true (Page (Ours (own 1 0 0) ∷ []))
-    ++ once (Step.Resolve 0) (Reply.Resolved 1)
-    ++ answered 0 0 (On Commit (own 1 0 0)) (Ret Codes.Success)
+    ++ once (Steps.Resolve 0) (Replies.Resolved 1)
+    ++ answered 0 0 (Calls.Commit (own 1 0 0) false) (Ret Codes.Success)
 
 commit_fault_made-demanded : AllDemanded (From (fresh 1 1)) commit_fault_made
 unfolding commit_fault_made
@@ -71,26 +75,26 @@ commit_fault_made-log = refl
 -- The log fails as a heuristic answer is noted, and the record was not made.
 unfoldable pub heuristic_fault_not_made : List (Step × Reply)
 heuristic_fault_not_made =
-    once (Step.Begin 0) (Reply.Begun (gtrid 1 1))
+    once (Steps.Begin 0) (Replies.Begun (gtrid 1 1))
     ++ ready 0 (own 1 0 0)
     ++ ready 1 (own 1 0 1)
-    ++ called 0 0 (On Prepare (own 1 0 0)) (Ret Codes.Success)
-    ++ called 0 1 (On Prepare (own 1 0 1)) (Ret Codes.Success)
-    ++ once (Step.Heuristic 1 (Ours (own 1 0 1)) How.Rb) Reply.Noted
-    ++ once (Step.Decide (gtrid 1 1) Outcome.Commit) Reply.Decided
-    ++ called 0 0 (On Commit (own 1 0 0)) (Ret Codes.Success)
-    ++ once (Step.Issue 0 1 (asking (On Forget (own 1 0 1)))) (Reply.Refused Refusal.NotDecided)
-    ++ once (Step.Issue 0 1 (asking (On Commit (own 1 0 1)))) Reply.Issued
-    ++ once (Step.Take 0 1) (Reply.Took (On Commit (own 1 0 1)) (Ret (Codes.Heuristic How.Rb)))
-    ++ once (Step.Hear 0 1) (Reply.Refused Refusal.LogFault)
-    ++ once (Step.Restart Side.Manager) (Reply.Restarted 2 1 0)
-    ++ called 0 1 OpenRm (Ret Codes.Success)
+    ++ called 0 0 (Calls.Prepare (own 1 0 0)) (Ret Codes.Success)
+    ++ called 0 1 (Calls.Prepare (own 1 0 1)) (Ret Codes.Success)
+    ++ once (Steps.Heuristic 1 (Ours (own 1 0 1)) How.Rb) Replies.Noted
+    ++ once (Steps.Decide (gtrid 1 1) Outcome.Commit) Replies.Decided
+    ++ called 0 0 (Calls.Commit (own 1 0 0) false) (Ret Codes.Success)
+    ++ once (Steps.Issue 0 1 (asking (Calls.Forget (own 1 0 1)))) (Replies.Refused Refusal.NotDecided)
+    ++ once (Steps.Issue 0 1 (asking (Calls.Commit (own 1 0 1) false))) Replies.Issued
+    ++ once (Steps.Take 0 1) (Replies.Took (asking (Calls.Commit (own 1 0 1) false)) (Ret (Codes.Heuristic How.Rb)))
+    ++ once (Steps.Hear 0 1) (Replies.Refused Refusal.LogFault)
+    ++ once (Steps.Restart Side.Manager) (Replies.Restarted 2 1 0)
+    ++ called 0 1 Calls.OpenRm (Ret Codes.Success)
     ++ scanned 1 (pos 8) true true (Page (Ours (own 1 0 1) ∷ []))
-    ++ once (Step.Resolve 1) (Reply.Resolved 1)
-    ++ answered 0 1 (On Commit (own 1 0 1)) (Ret (Codes.Heuristic How.Rb))
+    ++ once (Steps.Resolve 1) (Replies.Resolved 1)
+    ++ answered 0 1 (Calls.Commit (own 1 0 1) false) (Ret (Codes.Heuristic How.Rb))
     ++ scanned 1 (pos 8) true true (Page (Ours (own 1 0 1) ∷ []))
-    ++ once (Step.Resolve 1) (Reply.Resolved 1)
-    ++ answered 0 1 (On Forget (own 1 0 1)) (Ret Codes.Success)
+    ++ once (Steps.Resolve 1) (Replies.Resolved 1)
+    ++ answered 0 1 (Calls.Forget (own 1 0 1)) (Ret Codes.Success)
 
 heuristic_fault_not_made-demanded : AllDemanded (From (fresh 1 2)) heuristic_fault_not_made
 unfolding heuristic_fault_not_made
@@ -111,23 +115,23 @@ heuristic_fault_not_made-record = refl
 -- The log fails as a heuristic answer is noted, and the record was made.
 unfoldable pub heuristic_fault_made : List (Step × Reply)
 heuristic_fault_made =
-    once (Step.Begin 0) (Reply.Begun (gtrid 1 1))
+    once (Steps.Begin 0) (Replies.Begun (gtrid 1 1))
     ++ ready 0 (own 1 0 0)
     ++ ready 1 (own 1 0 1)
-    ++ called 0 0 (On Prepare (own 1 0 0)) (Ret Codes.Success)
-    ++ called 0 1 (On Prepare (own 1 0 1)) (Ret Codes.Success)
-    ++ once (Step.Heuristic 1 (Ours (own 1 0 1)) How.Rb) Reply.Noted
-    ++ once (Step.Decide (gtrid 1 1) Outcome.Commit) Reply.Decided
-    ++ called 0 0 (On Commit (own 1 0 0)) (Ret Codes.Success)
-    ++ once (Step.Issue 0 1 (asking (On Forget (own 1 0 1)))) (Reply.Refused Refusal.NotDecided)
-    ++ once (Step.Issue 0 1 (asking (On Commit (own 1 0 1)))) Reply.Issued
-    ++ once (Step.Take 0 1) (Reply.Took (On Commit (own 1 0 1)) (Ret (Codes.Heuristic How.Rb)))
-    ++ once (Step.Hear 0 1) (Reply.Refused Refusal.LogFault)
-    ++ once (Step.Restart Side.Manager) (Reply.Restarted 2 1 1)
-    ++ called 0 1 OpenRm (Ret Codes.Success)
+    ++ called 0 0 (Calls.Prepare (own 1 0 0)) (Ret Codes.Success)
+    ++ called 0 1 (Calls.Prepare (own 1 0 1)) (Ret Codes.Success)
+    ++ once (Steps.Heuristic 1 (Ours (own 1 0 1)) How.Rb) Replies.Noted
+    ++ once (Steps.Decide (gtrid 1 1) Outcome.Commit) Replies.Decided
+    ++ called 0 0 (Calls.Commit (own 1 0 0) false) (Ret Codes.Success)
+    ++ once (Steps.Issue 0 1 (asking (Calls.Forget (own 1 0 1)))) (Replies.Refused Refusal.NotDecided)
+    ++ once (Steps.Issue 0 1 (asking (Calls.Commit (own 1 0 1) false))) Replies.Issued
+    ++ once (Steps.Take 0 1) (Replies.Took (asking (Calls.Commit (own 1 0 1) false)) (Ret (Codes.Heuristic How.Rb)))
+    ++ once (Steps.Hear 0 1) (Replies.Refused Refusal.LogFault)
+    ++ once (Steps.Restart Side.Manager) (Replies.Restarted 2 1 1)
+    ++ called 0 1 Calls.OpenRm (Ret Codes.Success)
     ++ scanned 1 (pos 8) true true (Page (Ours (own 1 0 1) ∷ []))
-    ++ once (Step.Resolve 1) (Reply.Resolved 1)
-    ++ answered 0 1 (On Forget (own 1 0 1)) (Ret Codes.Success)
+    ++ once (Steps.Resolve 1) (Replies.Resolved 1)
+    ++ answered 0 1 (Calls.Forget (own 1 0 1)) (Ret Codes.Success)
 
 heuristic_fault_made-demanded : AllDemanded (From (fresh 1 2)) heuristic_fault_made
 unfolding heuristic_fault_made
@@ -148,16 +152,16 @@ heuristic_fault_made-record = refl
 -- The log fails in a settlement, which was not made.
 unfoldable pub settle_fault_not_made : List (Step × Reply)
 settle_fault_not_made =
-    once (Step.Begin 0) (Reply.Begun (gtrid 1 1))
+    once (Steps.Begin 0) (Replies.Begun (gtrid 1 1))
     ++ ready 0 (own 1 0 0)
-    ++ called 0 0 (On Prepare (own 1 0 0)) (Ret Codes.Success)
-    ++ once (Step.Claim (gtrid 1 1)) Reply.Claimed
-    ++ once (Step.Settle (gtrid 1 1)) (Reply.Refused Refusal.LogFault)
-    ++ once (Step.Restart Side.Manager) (Reply.Restarted 2 0 0)
-    ++ called 0 0 OpenRm (Ret Codes.Success)
+    ++ called 0 0 (Calls.Prepare (own 1 0 0)) (Ret Codes.Success)
+    ++ once (Steps.Claim (gtrid 1 1)) Replies.Claimed
+    ++ once (Steps.Settle (gtrid 1 1)) (Replies.Refused Refusal.LogFault)
+    ++ once (Steps.Restart Side.Manager) (Replies.Restarted 2 0 0)
+    ++ called 0 0 Calls.OpenRm (Ret Codes.Success)
     ++ scanned 0 (pos 8) true true (Page (Ours (own 1 0 0) ∷ []))
-    ++ once (Step.ResolveOpen 0) (Reply.Resolved 1)
-    ++ answered 0 0 (On Rollback (own 1 0 0)) (Ret Codes.Success)
+    ++ once (Steps.ResolveOpen 0) (Replies.Resolved 1)
+    ++ answered 0 0 (Calls.Rollback (own 1 0 0)) (Ret Codes.Success)
 
 settle_fault_not_made-demanded : AllDemanded (From (fresh 1 1)) settle_fault_not_made
 unfolding settle_fault_not_made
@@ -174,17 +178,17 @@ settle_fault_not_made-log = refl
 -- The log fails in a settlement, which was made.
 unfoldable pub settle_fault_made : List (Step × Reply)
 settle_fault_made =
-    once (Step.Begin 0) (Reply.Begun (gtrid 1 1))
+    once (Steps.Begin 0) (Replies.Begun (gtrid 1 1))
     ++ ready 0 (own 1 0 0)
-    ++ called 0 0 (On Prepare (own 1 0 0)) (Ret Codes.Success)
-    ++ once (Step.Claim (gtrid 1 1)) Reply.Claimed
-    ++ once (Step.Settle (gtrid 1 1)) (Reply.Refused Refusal.LogFault)
-    ++ once (Step.Restart Side.Manager) (Reply.Restarted 2 1 0)
-    ++ called 0 0 OpenRm (Ret Codes.Success)
+    ++ called 0 0 (Calls.Prepare (own 1 0 0)) (Ret Codes.Success)
+    ++ once (Steps.Claim (gtrid 1 1)) Replies.Claimed
+    ++ once (Steps.Settle (gtrid 1 1)) (Replies.Refused Refusal.LogFault)
+    ++ once (Steps.Restart Side.Manager) (Replies.Restarted 2 1 0)
+    ++ called 0 0 Calls.OpenRm (Ret Codes.Success)
     ++ scanned 0 (pos 8) true true (Page (Ours (own 1 0 0) ∷ []))
-    ++ once (Step.ResolveOpen 0) (Reply.Resolved 1)
-    ++ answered 0 0 (On Commit (own 1 0 0)) (Ret Codes.Success)
-    ++ once (Step.Done (gtrid 1 1)) Reply.Noted
+    ++ once (Steps.ResolveOpen 0) (Replies.Resolved 1)
+    ++ answered 0 0 (Calls.Commit (own 1 0 0) false) (Ret Codes.Success)
+    ++ once (Steps.Done (gtrid 1 1)) Replies.Noted
 
 settle_fault_made-demanded : AllDemanded (From (fresh 1 1)) settle_fault_made
 unfolding settle_fault_made
@@ -201,13 +205,13 @@ settle_fault_made-log = refl
 -- The log fails as a row leaves, and it left.
 unfoldable pub done_fault : List (Step × Reply)
 done_fault =
-    once (Step.Begin 0) (Reply.Begun (gtrid 1 1))
+    once (Steps.Begin 0) (Replies.Begun (gtrid 1 1))
     ++ ready 0 (own 1 0 0)
-    ++ called 0 0 (On Prepare (own 1 0 0)) (Ret Codes.Success)
-    ++ once (Step.Decide (gtrid 1 1) Outcome.Commit) Reply.Decided
-    ++ called 0 0 (On Commit (own 1 0 0)) (Ret Codes.Success)
-    ++ once (Step.Done (gtrid 1 1)) (Reply.Refused Refusal.LogFault)
-    ++ once (Step.Restart Side.Manager) (Reply.Restarted 2 0 0)
+    ++ called 0 0 (Calls.Prepare (own 1 0 0)) (Ret Codes.Success)
+    ++ once (Steps.Decide (gtrid 1 1) Outcome.Commit) Replies.Decided
+    ++ called 0 0 (Calls.Commit (own 1 0 0) false) (Ret Codes.Success)
+    ++ once (Steps.Done (gtrid 1 1)) (Replies.Refused Refusal.LogFault)
+    ++ once (Steps.Restart Side.Manager) (Replies.Restarted 2 0 0)
 
 done_fault-demanded : AllDemanded (From (fresh 1 1)) done_fault
 unfolding done_fault

@@ -8,22 +8,26 @@ use Rattle.xa_base.specs.declared.step.Outcome.TheVariants as Outcome
 use Rattle.xa_base.specs.declared.step.Part.TheVariants as Part
 use Rattle.xa_base.specs.Demanded.{with_steps, AllDemanded}
 use Rattle.xa_base.specs.Facts.{log, heuristic_rows, fate}
+use Rattle.xa_base.specs.declared.reply.Reply.TheVariants as Replies
+use Rattle.xa_base.specs.declared.step.Step.TheVariants as Steps
 use Rattle.xa_base.specs.Steps.{Step, Reply}
-use Rattle.xa_base.specs.Trace.{Name.Ours, Kind.Start, Kind.Join, Kind.End, Kind.Prepare, Kind.Commit, Kind.Rollback, Kind.Forget, Call.On, Call.OpenRm, Call.CloseRm, Answer.Ret, Answer.Page, Trace.From}
+use Rattle.xa_base.specs.declared.call.Call.TheVariants as Calls
+use Rattle.xa_base.specs.declared.answer.Answer.TheVariants.{Ret, Page}
+use Rattle.xa_base.specs.Trace.{Name.Ours, Trace.From}
 use Rattle.xa_base.proofs.Computed.{computed}
 use Rattle.xa_base.proofs.Worked.{fresh, gtrid, own, recorded_so, asking, once, answered, called, ready, scanned, issued_times, taken_times}
 
 -- A line breaks with two calls waiting: they are lost, and so is the active branch.
 unfoldable pub line_crash : List (Step × Reply)
 line_crash =
-    once (Step.Begin 0) (Reply.Begun (gtrid 1 1))
-    ++ called 0 0 OpenRm (Ret Codes.Success)
-    ++ once (Step.Issue 0 0 (asking (On Start (own 1 0 0)))) Reply.Issued
-    ++ once (Step.Issue 0 0 (asking (On (End false) (own 1 0 0)))) Reply.Issued
-    ++ once (Step.Issue 0 0 (asking (On Prepare (own 1 0 0)))) Reply.Issued
-    ++ once (Step.Take 0 0) (Reply.Took (On Start (own 1 0 0)) (Ret Codes.Success))
-    ++ once (Step.Crash (Part.Line 0 0)) Reply.Crashed
-    ++ once (Step.Take 0 0) Reply.Nothing
+    once (Steps.Begin 0) (Replies.Begun (gtrid 1 1))
+    ++ called 0 0 Calls.OpenRm (Ret Codes.Success)
+    ++ once (Steps.Issue 0 0 (asking (Calls.Start (own 1 0 0) false))) Replies.Issued
+    ++ once (Steps.Issue 0 0 (asking (Calls.End (own 1 0 0) false))) Replies.Issued
+    ++ once (Steps.Issue 0 0 (asking (Calls.Prepare (own 1 0 0)))) Replies.Issued
+    ++ once (Steps.Take 0 0) (Replies.Took (asking (Calls.Start (own 1 0 0) false)) (Ret Codes.Success))
+    ++ once (Steps.Crash (Part.Line 0 0)) Replies.Crashed
+    ++ once (Steps.Take 0 0) Replies.Nothing
 
 line_crash-demanded : AllDemanded (From (fresh 1 1)) line_crash
 unfolding line_crash
@@ -40,14 +44,14 @@ line_crash-log = refl
 -- A line is closed only when its branches are finished, and takes no call afterwards.
 unfoldable pub closed_line : List (Step × Reply)
 closed_line =
-    once (Step.Begin 0) (Reply.Begun (gtrid 1 1))
+    once (Steps.Begin 0) (Replies.Begun (gtrid 1 1))
     ++ ready 0 (own 1 0 0)
-    ++ once (Step.Issue 0 0 (asking CloseRm)) (Reply.Refused Refusal.Busy)
-    ++ once (Step.Decide (gtrid 1 1) Outcome.Rollback) Reply.Decided
-    ++ called 0 0 (On Rollback (own 1 0 0)) (Ret Codes.Success)
-    ++ called 0 0 CloseRm (Ret Codes.Success)
-    ++ once (Step.Begin 0) (Reply.Begun (gtrid 1 2))
-    ++ once (Step.Issue 0 0 (asking (On Start (own 2 0 0)))) (Reply.Refused Refusal.Closed)
+    ++ once (Steps.Issue 0 0 (asking Calls.CloseRm)) (Replies.Refused Refusal.Busy)
+    ++ once (Steps.Decide (gtrid 1 1) Outcome.Rollback) Replies.Decided
+    ++ called 0 0 (Calls.Rollback (own 1 0 0)) (Ret Codes.Success)
+    ++ called 0 0 Calls.CloseRm (Ret Codes.Success)
+    ++ once (Steps.Begin 0) (Replies.Begun (gtrid 1 2))
+    ++ once (Steps.Issue 0 0 (asking (Calls.Start (own 2 0 0) false))) (Replies.Refused Refusal.Closed)
 
 closed_line-demanded : AllDemanded (From (fresh 1 1)) closed_line
 unfolding closed_line
@@ -64,16 +68,16 @@ closed_line-log = refl
 -- A rollback from another thread waits until the answer to the xa_start was heard.
 unfoldable pub rollback_elsewhere : List (Step × Reply)
 rollback_elsewhere =
-    called 0 0 OpenRm (Ret Codes.Success)
-    ++ called 1 0 OpenRm (Ret Codes.Success)
-    ++ once (Step.Begin 0) (Reply.Begun (gtrid 1 1))
-    ++ once (Step.Issue 0 0 (asking (On Start (own 1 0 0)))) Reply.Issued
-    ++ once (Step.Decide (gtrid 1 1) Outcome.Rollback) Reply.Decided
-    ++ once (Step.Issue 1 0 (asking (On Rollback (own 1 0 0)))) (Reply.Refused Refusal.Busy)
-    ++ answered 0 0 (On Start (own 1 0 0)) (Ret Codes.Success)
-    ++ called 1 0 (On Rollback (own 1 0 0)) (Ret Codes.Protocol)
-    ++ called 0 0 (On (End false) (own 1 0 0)) (Ret Codes.Success)
-    ++ called 1 0 (On Rollback (own 1 0 0)) (Ret Codes.Success)
+    called 0 0 Calls.OpenRm (Ret Codes.Success)
+    ++ called 1 0 Calls.OpenRm (Ret Codes.Success)
+    ++ once (Steps.Begin 0) (Replies.Begun (gtrid 1 1))
+    ++ once (Steps.Issue 0 0 (asking (Calls.Start (own 1 0 0) false))) Replies.Issued
+    ++ once (Steps.Decide (gtrid 1 1) Outcome.Rollback) Replies.Decided
+    ++ once (Steps.Issue 1 0 (asking (Calls.Rollback (own 1 0 0)))) (Replies.Refused Refusal.Busy)
+    ++ answered 0 0 (Calls.Start (own 1 0 0) false) (Ret Codes.Success)
+    ++ called 1 0 (Calls.Rollback (own 1 0 0)) (Ret Codes.Protocol)
+    ++ called 0 0 (Calls.End (own 1 0 0) false) (Ret Codes.Success)
+    ++ called 1 0 (Calls.Rollback (own 1 0 0)) (Ret Codes.Success)
 
 rollback_elsewhere-demanded : AllDemanded (From (fresh 2 1)) rollback_elsewhere
 unfolding rollback_elsewhere
@@ -90,19 +94,19 @@ rollback_elsewhere-log = refl
 -- A branch may be committed, rolled back or forgotten from another thread.
 unfoldable pub ended_elsewhere : List (Step × Reply)
 ended_elsewhere =
-    once (Step.Begin 0) (Reply.Begun (gtrid 1 1))
+    once (Steps.Begin 0) (Replies.Begun (gtrid 1 1))
     ++ ready 0 (own 1 0 0)
     ++ ready 1 (own 1 0 1)
-    ++ called 0 0 (On Prepare (own 1 0 0)) (Ret Codes.Success)
-    ++ called 0 1 (On Prepare (own 1 0 1)) (Ret Codes.Success)
-    ++ called 1 0 OpenRm (Ret Codes.Success)
-    ++ called 1 1 OpenRm (Ret Codes.Success)
-    ++ once (Step.Heuristic 1 (Ours (own 1 0 1)) How.Rb) Reply.Noted
-    ++ once (Step.Decide (gtrid 1 1) Outcome.Commit) Reply.Decided
-    ++ called 1 0 (On Commit (own 1 0 0)) (Ret Codes.Success)
-    ++ called 1 1 (On Commit (own 1 0 1)) (Ret (Codes.Heuristic How.Rb))
-    ++ called 1 1 (On Forget (own 1 0 1)) (Ret Codes.Success)
-    ++ once (Step.Done (gtrid 1 1)) Reply.Noted
+    ++ called 0 0 (Calls.Prepare (own 1 0 0)) (Ret Codes.Success)
+    ++ called 0 1 (Calls.Prepare (own 1 0 1)) (Ret Codes.Success)
+    ++ called 1 0 Calls.OpenRm (Ret Codes.Success)
+    ++ called 1 1 Calls.OpenRm (Ret Codes.Success)
+    ++ once (Steps.Heuristic 1 (Ours (own 1 0 1)) How.Rb) Replies.Noted
+    ++ once (Steps.Decide (gtrid 1 1) Outcome.Commit) Replies.Decided
+    ++ called 1 0 (Calls.Commit (own 1 0 0) false) (Ret Codes.Success)
+    ++ called 1 1 (Calls.Commit (own 1 0 1) false) (Ret (Codes.Heuristic How.Rb))
+    ++ called 1 1 (Calls.Forget (own 1 0 1)) (Ret Codes.Success)
+    ++ once (Steps.Done (gtrid 1 1)) Replies.Noted
 
 ended_elsewhere-demanded : AllDemanded (From (fresh 2 2)) ended_elsewhere
 unfolding ended_elsewhere
@@ -123,17 +127,17 @@ ended_elsewhere-record = refl
 -- A line breaks with an xa_start waiting: the branch may then be rolled back elsewhere, and its line may be closed.
 unfoldable pub start_lost : List (Step × Reply)
 start_lost =
-    called 0 0 OpenRm (Ret Codes.Success)
-    ++ called 1 0 OpenRm (Ret Codes.Success)
-    ++ once (Step.Begin 0) (Reply.Begun (gtrid 1 1))
-    ++ once (Step.Issue 0 0 (asking (On Start (own 1 0 0)))) Reply.Issued
-    ++ once (Step.Decide (gtrid 1 1) Outcome.Rollback) Reply.Decided
-    ++ once (Step.Issue 1 0 (asking (On Rollback (own 1 0 0)))) (Reply.Refused Refusal.Busy)
-    ++ once (Step.Issue 0 0 (asking CloseRm)) (Reply.Refused Refusal.Busy)
-    ++ once (Step.Crash (Part.Line 0 0)) Reply.Crashed
-    ++ called 1 0 (On Rollback (own 1 0 0)) (Ret Codes.NotAnXid)
-    ++ called 0 0 OpenRm (Ret Codes.Success)
-    ++ called 0 0 CloseRm (Ret Codes.Success)
+    called 0 0 Calls.OpenRm (Ret Codes.Success)
+    ++ called 1 0 Calls.OpenRm (Ret Codes.Success)
+    ++ once (Steps.Begin 0) (Replies.Begun (gtrid 1 1))
+    ++ once (Steps.Issue 0 0 (asking (Calls.Start (own 1 0 0) false))) Replies.Issued
+    ++ once (Steps.Decide (gtrid 1 1) Outcome.Rollback) Replies.Decided
+    ++ once (Steps.Issue 1 0 (asking (Calls.Rollback (own 1 0 0)))) (Replies.Refused Refusal.Busy)
+    ++ once (Steps.Issue 0 0 (asking Calls.CloseRm)) (Replies.Refused Refusal.Busy)
+    ++ once (Steps.Crash (Part.Line 0 0)) Replies.Crashed
+    ++ called 1 0 (Calls.Rollback (own 1 0 0)) (Ret Codes.NotAnXid)
+    ++ called 0 0 Calls.OpenRm (Ret Codes.Success)
+    ++ called 0 0 Calls.CloseRm (Ret Codes.Success)
 
 start_lost-demanded : AllDemanded (From (fresh 2 1)) start_lost
 unfolding start_lost
@@ -150,17 +154,17 @@ start_lost-log = refl
 -- An xa_start with TMJOIN is of a branch too: it is not known, and so is finished.
 unfoldable pub join_refused : List (Step × Reply)
 join_refused =
-    called 0 0 OpenRm (Ret Codes.Success)
-    ++ called 1 0 OpenRm (Ret Codes.Success)
-    ++ once (Step.Begin 0) (Reply.Begun (gtrid 1 1))
-    ++ once (Step.Issue 0 0 (asking (On Join (own 1 0 0)))) Reply.Issued
-    ++ once (Step.Issue 0 0 (asking (On Start (own 1 0 0)))) (Reply.Refused Refusal.AlreadyStarted)
-    ++ once (Step.Decide (gtrid 1 1) Outcome.Commit) (Reply.Refused Refusal.Votes)
-    ++ once (Step.Decide (gtrid 1 1) Outcome.Rollback) Reply.Decided
-    ++ once (Step.Issue 1 0 (asking (On Rollback (own 1 0 0)))) (Reply.Refused Refusal.Busy)
-    ++ answered 0 0 (On Join (own 1 0 0)) (Ret Codes.NotAnXid)
-    ++ called 1 0 (On Rollback (own 1 0 0)) (Ret Codes.NotAnXid)
-    ++ called 0 0 CloseRm (Ret Codes.Success)
+    called 0 0 Calls.OpenRm (Ret Codes.Success)
+    ++ called 1 0 Calls.OpenRm (Ret Codes.Success)
+    ++ once (Steps.Begin 0) (Replies.Begun (gtrid 1 1))
+    ++ once (Steps.Issue 0 0 (asking (Calls.Start (own 1 0 0) true))) Replies.Issued
+    ++ once (Steps.Issue 0 0 (asking (Calls.Start (own 1 0 0) false))) (Replies.Refused Refusal.AlreadyStarted)
+    ++ once (Steps.Decide (gtrid 1 1) Outcome.Commit) (Replies.Refused Refusal.Votes)
+    ++ once (Steps.Decide (gtrid 1 1) Outcome.Rollback) Replies.Decided
+    ++ once (Steps.Issue 1 0 (asking (Calls.Rollback (own 1 0 0)))) (Replies.Refused Refusal.Busy)
+    ++ answered 0 0 (Calls.Start (own 1 0 0) true) (Ret Codes.NotAnXid)
+    ++ called 1 0 (Calls.Rollback (own 1 0 0)) (Ret Codes.NotAnXid)
+    ++ called 0 0 Calls.CloseRm (Ret Codes.Success)
 
 join_refused-demanded : AllDemanded (From (fresh 2 1)) join_refused
 unfolding join_refused
@@ -177,11 +181,11 @@ join_refused-log = refl
 -- A Take for which memory was refused changes nothing: the next one takes the call.
 unfoldable pub refused_growth : List (Step × Reply)
 refused_growth =
-    once (Step.Begin 0) (Reply.Begun (gtrid 1 1))
-    ++ called 0 0 OpenRm (Ret Codes.Success)
-    ++ once (Step.Issue 0 0 (asking (On Start (own 1 0 0)))) Reply.Issued
-    ++ once (Step.Take 0 0) (Reply.Refused Refusal.Memory)
-    ++ answered 0 0 (On Start (own 1 0 0)) (Ret Codes.Success)
+    once (Steps.Begin 0) (Replies.Begun (gtrid 1 1))
+    ++ called 0 0 Calls.OpenRm (Ret Codes.Success)
+    ++ once (Steps.Issue 0 0 (asking (Calls.Start (own 1 0 0) false))) Replies.Issued
+    ++ once (Steps.Take 0 0) (Replies.Refused Refusal.Memory)
+    ++ answered 0 0 (Calls.Start (own 1 0 0) false) (Ret Codes.Success)
 
 refused_growth-demanded : AllDemanded (From (fresh 1 1)) refused_growth
 unfolding refused_growth
@@ -198,11 +202,11 @@ refused_growth-log = refl
 -- A line holds 64 calls.
 unfoldable pub full_line : List (Step × Reply)
 full_line =
-    called 0 0 OpenRm (Ret Codes.Success)
-    ++ issued_times 64 OpenRm
-    ++ once (Step.Issue 0 0 (asking OpenRm)) (Reply.Refused Refusal.Full)
-    ++ once (Step.Take 0 0) (Reply.Took OpenRm (Ret Codes.Success))
-    ++ once (Step.Issue 0 0 (asking OpenRm)) Reply.Issued
+    called 0 0 Calls.OpenRm (Ret Codes.Success)
+    ++ issued_times 64 Calls.OpenRm
+    ++ once (Steps.Issue 0 0 (asking Calls.OpenRm)) (Replies.Refused Refusal.Full)
+    ++ once (Steps.Take 0 0) (Replies.Took (asking Calls.OpenRm) (Ret Codes.Success))
+    ++ once (Steps.Issue 0 0 (asking Calls.OpenRm)) Replies.Issued
 
 full_line-demanded : AllDemanded (From (fresh 1 1)) full_line
 unfolding full_line
@@ -215,20 +219,20 @@ full_line-log = refl
 -- A line holds 64 answers; recovery needs a free place for each of its calls.
 unfoldable pub full_of_answers : List (Step × Reply)
 full_of_answers =
-    once (Step.Begin 0) (Reply.Begun (gtrid 1 1))
+    once (Steps.Begin 0) (Replies.Begun (gtrid 1 1))
     ++ ready 0 (own 1 0 0)
-    ++ called 0 0 (On Prepare (own 1 0 0)) (Ret Codes.Success)
+    ++ called 0 0 (Calls.Prepare (own 1 0 0)) (Ret Codes.Success)
     ++ scanned 0 (pos 8) true true (Page (Ours (own 1 0 0) ∷ []))
-    ++ once (Step.Decide (gtrid 1 1) Outcome.Rollback) Reply.Decided
-    ++ issued_times 64 OpenRm
-    ++ once (Step.Recover 0 (pos 1) true true) (Reply.Refused Refusal.Full)
-    ++ once (Step.Resolve 0) (Reply.Refused Refusal.Full)
-    ++ once (Step.ResolveOpen 0) (Reply.Refused Refusal.Full)
-    ++ taken_times 64 OpenRm
-    ++ once (Step.Resolve 0) (Reply.Resolved 1)
-    ++ once (Step.Take 0 0) (Reply.Refused Refusal.Full)
-    ++ once (Step.Hear 0 0) (Reply.Heard OpenRm (Ret Codes.Success))
-    ++ once (Step.Take 0 0) (Reply.Took (On Rollback (own 1 0 0)) (Ret Codes.Success))
+    ++ once (Steps.Decide (gtrid 1 1) Outcome.Rollback) Replies.Decided
+    ++ issued_times 64 Calls.OpenRm
+    ++ once (Steps.Recover 0 (pos 1) true true) (Replies.Refused Refusal.Full)
+    ++ once (Steps.Resolve 0) (Replies.Refused Refusal.Full)
+    ++ once (Steps.ResolveOpen 0) (Replies.Refused Refusal.Full)
+    ++ taken_times 64 Calls.OpenRm
+    ++ once (Steps.Resolve 0) (Replies.Resolved 1)
+    ++ once (Steps.Take 0 0) (Replies.Refused Refusal.Full)
+    ++ once (Steps.Hear 0 0) (Replies.Heard (asking Calls.OpenRm) (Ret Codes.Success))
+    ++ once (Steps.Take 0 0) (Replies.Took (asking (Calls.Rollback (own 1 0 0))) (Ret Codes.Success))
 
 full_of_answers-demanded : AllDemanded (From (fresh 1 1)) full_of_answers
 unfolding full_of_answers

@@ -6,32 +6,36 @@ use Rattle.xa_base.specs.declared.step.Outcome.TheVariants as Outcome
 use Rattle.xa_base.specs.declared.step.Part.TheVariants as Part
 use Rattle.xa_base.specs.Demanded.{with_steps, AllDemanded}
 use Rattle.xa_base.specs.Facts.{log, fate}
+use Rattle.xa_base.specs.declared.reply.Reply.TheVariants as Replies
+use Rattle.xa_base.specs.declared.step.Step.TheVariants as Steps
 use Rattle.xa_base.specs.Steps.{Step, Reply}
-use Rattle.xa_base.specs.Trace.{Name.Ours, Name.Foreign, Kind.Prepare, Kind.Commit, Kind.Rollback, Call.On, Call.OpenRm, Answer.Ret, Answer.Page, Trace.From}
+use Rattle.xa_base.specs.declared.call.Call.TheVariants as Calls
+use Rattle.xa_base.specs.declared.answer.Answer.TheVariants.{Ret, Page}
+use Rattle.xa_base.specs.Trace.{Name.Ours, Name.Foreign, Trace.From}
 use Rattle.xa_base.proofs.Computed.{computed}
 use Rattle.xa_base.proofs.Worked.{fresh, gtrid, own, row, foreign, with_foreign, once, answered, called, worked, ready, scanned}
 
 -- Five branches in doubt, in three pages. All are live, so recovery calls for none. A scan that is over lists nothing.
 unfoldable pub scan_pages : List (Step × Reply)
 scan_pages =
-    called 0 0 OpenRm (Ret Codes.Success)
-    ++ once (Step.Begin 0) (Reply.Begun (gtrid 1 1))
+    called 0 0 Calls.OpenRm (Ret Codes.Success)
+    ++ once (Steps.Begin 0) (Replies.Begun (gtrid 1 1))
     ++ worked 0 0 (own 1 0 0)
-    ++ called 0 0 (On Prepare (own 1 0 0)) (Ret Codes.Success)
-    ++ once (Step.Begin 0) (Reply.Begun (gtrid 1 2))
+    ++ called 0 0 (Calls.Prepare (own 1 0 0)) (Ret Codes.Success)
+    ++ once (Steps.Begin 0) (Replies.Begun (gtrid 1 2))
     ++ worked 0 0 (own 2 0 0)
-    ++ called 0 0 (On Prepare (own 2 0 0)) (Ret Codes.Success)
-    ++ once (Step.Begin 0) (Reply.Begun (gtrid 1 3))
+    ++ called 0 0 (Calls.Prepare (own 2 0 0)) (Ret Codes.Success)
+    ++ once (Steps.Begin 0) (Replies.Begun (gtrid 1 3))
     ++ worked 0 0 (own 3 0 0)
-    ++ called 0 0 (On Prepare (own 3 0 0)) (Ret Codes.Success)
-    ++ once (Step.Begin 0) (Reply.Begun (gtrid 1 4))
+    ++ called 0 0 (Calls.Prepare (own 3 0 0)) (Ret Codes.Success)
+    ++ once (Steps.Begin 0) (Replies.Begun (gtrid 1 4))
     ++ worked 0 0 (own 4 0 0)
-    ++ called 0 0 (On Prepare (own 4 0 0)) (Ret Codes.Success)
-    ++ once (Step.Begin 0) (Reply.Begun (gtrid 1 5))
+    ++ called 0 0 (Calls.Prepare (own 4 0 0)) (Ret Codes.Success)
+    ++ once (Steps.Begin 0) (Replies.Begun (gtrid 1 5))
     ++ worked 0 0 (own 5 0 0)
-    ++ called 0 0 (On Prepare (own 5 0 0)) (Ret Codes.Success)
+    ++ called 0 0 (Calls.Prepare (own 5 0 0)) (Ret Codes.Success)
     ++ scanned 0 (pos 2) true false (Page (Ours (own 1 0 0) ∷ Ours (own 2 0 0) ∷ []))
-    ++ once (Step.Resolve 0) (Reply.Resolved 0)
+    ++ once (Steps.Resolve 0) (Replies.Resolved 0)
     ++ scanned 0 (pos 2) false false (Page (Ours (own 3 0 0) ∷ Ours (own 4 0 0) ∷ []))
     ++ scanned 0 (pos 2) false true (Page (Ours (own 5 0 0) ∷ []))
     ++ scanned 0 (pos 2) false false (Ret Codes.Invalid)
@@ -53,22 +57,22 @@ scan_pages-log = refl
 -- A scan goes on behind the last identifier listed, whatever came or went before it.
 unfoldable pub index : List (Step × Reply)
 index =
-    once (Step.Begin 0) (Reply.Begun (gtrid 1 1))
-    ++ called 0 0 OpenRm (Ret Codes.Success)
+    once (Steps.Begin 0) (Replies.Begun (gtrid 1 1))
+    ++ called 0 0 Calls.OpenRm (Ret Codes.Success)
     ++ worked 0 0 (own 1 0 0)
-    ++ once (Step.Begin 0) (Reply.Begun (gtrid 1 2))
+    ++ once (Steps.Begin 0) (Replies.Begun (gtrid 1 2))
     ++ worked 0 0 (own 2 0 0)
-    ++ once (Step.Begin 0) (Reply.Begun (gtrid 1 3))
+    ++ once (Steps.Begin 0) (Replies.Begun (gtrid 1 3))
     ++ worked 0 0 (own 3 0 0)
-    ++ once (Step.Begin 0) (Reply.Begun (gtrid 1 4))
+    ++ once (Steps.Begin 0) (Replies.Begun (gtrid 1 4))
     ++ worked 0 0 (own 4 0 0)
-    ++ called 0 0 (On Prepare (own 2 0 0)) (Ret Codes.Success)
-    ++ called 0 0 (On Prepare (own 3 0 0)) (Ret Codes.Success)
-    ++ called 0 0 (On Prepare (own 4 0 0)) (Ret Codes.Success)
+    ++ called 0 0 (Calls.Prepare (own 2 0 0)) (Ret Codes.Success)
+    ++ called 0 0 (Calls.Prepare (own 3 0 0)) (Ret Codes.Success)
+    ++ called 0 0 (Calls.Prepare (own 4 0 0)) (Ret Codes.Success)
     ++ scanned 0 (pos 1) true false (Page (Ours (own 2 0 0) ∷ []))
-    ++ called 0 0 (On Prepare (own 1 0 0)) (Ret Codes.Success)
-    ++ once (Step.Decide (gtrid 1 2) Outcome.Commit) Reply.Decided
-    ++ called 0 0 (On Commit (own 2 0 0)) (Ret Codes.Success)
+    ++ called 0 0 (Calls.Prepare (own 1 0 0)) (Ret Codes.Success)
+    ++ once (Steps.Decide (gtrid 1 2) Outcome.Commit) Replies.Decided
+    ++ called 0 0 (Calls.Commit (own 2 0 0) false) (Ret Codes.Success)
     ++ scanned 0 (pos 8) false false (Page (Ours (own 3 0 0) ∷ Ours (own 4 0 0) ∷ []))
     ++ scanned 0 (pos 8) true true (Page (Ours (own 1 0 0) ∷ Ours (own 3 0 0) ∷ Ours (own 4 0 0) ∷ []))
 
@@ -87,13 +91,13 @@ index-log = refl
 -- A scan that is not over is closed by a break of its line.
 unfoldable pub scan_broken : List (Step × Reply)
 scan_broken =
-    once (Step.Begin 0) (Reply.Begun (gtrid 1 1))
+    once (Steps.Begin 0) (Replies.Begun (gtrid 1 1))
     ++ ready 0 (own 1 0 0)
-    ++ called 0 0 (On Prepare (own 1 0 0)) (Ret Codes.Success)
+    ++ called 0 0 (Calls.Prepare (own 1 0 0)) (Ret Codes.Success)
     ++ scanned 0 (pos 1) true false (Page (Ours (own 1 0 0) ∷ []))
     ++ scanned 0 (pos 1) false false (Page [])
-    ++ once (Step.Crash (Part.Line 0 0)) Reply.Crashed
-    ++ called 0 0 OpenRm (Ret Codes.Success)
+    ++ once (Steps.Crash (Part.Line 0 0)) Replies.Crashed
+    ++ called 0 0 Calls.OpenRm (Ret Codes.Success)
     ++ scanned 0 (pos 1) false false (Ret Codes.Invalid)
 
 scan_broken-demanded : AllDemanded (From (fresh 1 1)) scan_broken
@@ -111,13 +115,13 @@ scan_broken-log = refl
 -- Identifiers of other managers are listed in order beside those of this one, and left alone.
 unfoldable pub foreign_beside_own : List (Step × Reply)
 foreign_beside_own =
-    once (Step.Begin 0) (Reply.Begun (gtrid 1 1))
+    once (Steps.Begin 0) (Replies.Begun (gtrid 1 1))
     ++ ready 0 (own 1 0 0)
-    ++ called 0 0 (On Prepare (own 1 0 0)) (Ret Codes.Success)
-    ++ once (Step.Decide (gtrid 1 1) Outcome.Rollback) Reply.Decided
+    ++ called 0 0 (Calls.Prepare (own 1 0 0)) (Ret Codes.Success)
+    ++ once (Steps.Decide (gtrid 1 1) Outcome.Rollback) Replies.Decided
     ++ scanned 0 (pos 8) true true (Page (Foreign (foreign (negsuc 1) (9 ∷ [])) ∷ Foreign (foreign (pos 1) (2 ∷ [])) ∷ Foreign (foreign (pos 1) (2 ∷ 1 ∷ [])) ∷ Ours (own 1 0 0) ∷ Foreign (foreign (pos 8) (2 ∷ [])) ∷ []))
-    ++ once (Step.Resolve 0) (Reply.Resolved 1)
-    ++ answered 0 0 (On Rollback (own 1 0 0)) (Ret Codes.Success)
+    ++ once (Steps.Resolve 0) (Replies.Resolved 1)
+    ++ answered 0 0 (Calls.Rollback (own 1 0 0)) (Ret Codes.Success)
     ++ scanned 0 (pos 8) true true (Page (Foreign (foreign (negsuc 1) (9 ∷ [])) ∷ Foreign (foreign (pos 1) (2 ∷ [])) ∷ Foreign (foreign (pos 1) (2 ∷ 1 ∷ [])) ∷ Foreign (foreign (pos 8) (2 ∷ [])) ∷ []))
 
 foreign_beside_own-demanded : AllDemanded (From (with_foreign)) foreign_beside_own

@@ -6,7 +6,8 @@ use Rattle.xa_base.specs.declared.state.Standing.{Standing}
 use Rattle.xa_base.specs.declared.state.Standing.TheVariants.{Active, Idle, Prepared, RollbackOnly, Completed, Committed, RolledBack, Lost, ReadOnly, Forgotten}
 use Rattle.xa_base.specs.Commitment.{Phase, Leads, phase_of}
 use Rattle.xa_base.specs.Facts.{up, started, has_row, ever, recorded_as, doubt, Change.NoChange, taken, issued, standing}
-use Rattle.xa_base.specs.Trace.{Gtrid, Branch, Line, Call, Call.CloseRm, How, Answer, Happening, Trace, Trace.From, Trace.Then}
+use Rattle.xa_base.specs.declared.call.Call.TheVariants as Calls
+use Rattle.xa_base.specs.Trace.{Gtrid, Branch, Line, Call, How, Answer, Happening, Trace, Trace.From, Trace.Then}
 
 -- ** moments
 
@@ -31,7 +32,7 @@ call_of p = p.0
 
 -- xa_close is the last call where it is one
 abbrev pub ClosesLast : List Call → Type 0
-ClosesLast calls = (i : ℕ) → slice_get calls i ≡ Some CloseRm → i + 1 ≡ length calls
+ClosesLast calls = (i : ℕ) → slice_get calls i ≡ Some Calls.CloseRm → i + 1 ≡ length calls
 
 -- ** ends
 

@@ -8,7 +8,9 @@ use Rattle.xa_base.specs.Agreement.{phases}
 use Rattle.xa_base.specs.Commitment.{Phase}
 use Rattle.xa_base.specs.Facts.{incarnation, sequence, counts_as_committed, claimed, handed_over, started, has_row, ever, had_row, settled, taken, issued, standing}
 use Rattle.xa_base.specs.Right.{AllAreSettled}
-use Rattle.xa_base.specs.Trace.{Gtrid, Branch, Line, Kind, Kind.Start, Kind.Join, Kind.Commit, Kind.Rollback, Call, Call.On, How, Trace}
+use Rattle.xa_base.specs.declared.call.Call.TheVariants as Calls
+use Rattle.xa_base.specs.StateTable.{on}
+use Rattle.xa_base.specs.Trace.{Gtrid, Branch, Line, Kind, Kind.Start, Kind.Join, Call, How, Trace}
 
 -- a call that was issued and not yet taken
 abbrev pub IsWaiting : Trace → Line → Call → Type 0
@@ -19,13 +21,13 @@ IsWaiting tr l c = (i : ℕ) × (length (taken tr l) ≤ i) × (slice_get (issue
 -- a waiting xa_commit of a branch has a row, or the branch is settled
 abbrev pub CommitHasRow : Trace → Type 0
 CommitHasRow tr =
-    (l : Line) (b : Branch) → started tr b ≡ true → IsWaiting tr l (On Commit b)
+    (l : Line) (b : Branch) → started tr b ≡ true → IsWaiting tr l (Calls.Commit b false)
     → (has_row tr b.gtrid ≡ true) ⊎ (settled tr b ≡ true)
 
 -- a waiting xa_rollback of a branch never had a row, or all branches of its transaction are settled
 abbrev pub RollbackHasNoRow : Trace → Type 0
 RollbackHasNoRow tr =
-    (l : Line) (b : Branch) → started tr b ≡ true → IsWaiting tr l (On Rollback b)
+    (l : Line) (b : Branch) → started tr b ≡ true → IsWaiting tr l (Calls.Rollback b)
     → (ever tr b.gtrid ≡ false) ⊎ AllAreSettled tr b.gtrid
 
 -- xa_start without and with TMJOIN
@@ -37,7 +39,7 @@ Starts _ = ⊥
 -- no waiting xa_start is of a transaction that is committed or claimed
 abbrev pub NoStartAfterCommit : Trace → Type 0
 NoStartAfterCommit tr =
-    (l : Line) (k : Kind) (b : Branch) → Starts k → IsWaiting tr l (On k b)
+    (l : Line) (k : Kind) (b : Branch) → Starts k → IsWaiting tr l (on k b)
     → (counts_as_committed tr b.gtrid ≡ false) × (claimed tr b.gtrid ≡ false)
 
 -- ** branches
@@ -79,5 +81,6 @@ pub record FreshGtrids (tr : Trace) : Type 0 where
 
 -- a transaction that was handed over has one branch, and never a row
 pub record HandedOverAlone (tr : Trace) : Type 0 where
+  pub some : (g : Gtrid) → handed_over tr g ≡ true → (b : Branch) × (b.gtrid ≡ g) × (started tr b ≡ true)
   pub one : (b c : Branch) → handed_over tr b.gtrid ≡ true → b.gtrid ≡ c.gtrid → started tr b ≡ true → started tr c ≡ true → b ≡ c
   pub no_row : (g : Gtrid) → handed_over tr g ≡ true → ever tr g ≡ false

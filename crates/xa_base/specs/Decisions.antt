@@ -1,30 +1,29 @@
 -- The branches of transactions, and what was decided of them (XA, section 2.3, Transaction Completion and Recovery; a commit in one
 -- phase is of section 2.3.2, Protocol Optimisations). Claims are this manager's own.
-use Rattle.std.specs.Prelude.{List, [], ◌∷◌, Bool, false, not, ◌&&◌, ◌||◌}
+use Rattle.std.specs.Prelude.{List, [], ◌∷◌, Bool, false, not, ◌&&◌, ◌||◌, true}
 use Rattle.xa_base.specs.Branch.{gtrid_eq, branch_eq}
 use Rattle.xa_base.specs.declared.step.Part.TheVariants as Part
 use Rattle.xa_base.specs.Heard.{page, lists_one_of}
 use Rattle.xa_base.specs.Manager.{begun}
-use Rattle.xa_base.specs.Trace.{Gtrid, Branch, Kind.Start, Kind.Join, Kind.OnePhase, Call.On, Outcome, Happening.Issued, Happening.ResolvedOpen, Happening.Claimed, Happening.Decided, Happening.Crashed, Happening.Failed, Happening.Restarted, Trace, Trace.From, Trace.Then}
+use Rattle.xa_base.specs.declared.call.Call.TheVariants as Calls
+use Rattle.xa_base.specs.Trace.{Gtrid, Branch, Outcome, Happening.Issued, Happening.ResolvedOpen, Happening.Claimed, Happening.Decided, Happening.Crashed, Happening.Failed, Happening.Restarted, Trace, Trace.From, Trace.Then}
 
 -- a branch of its transaction: its xa_start was accepted
 abbrev pub started : Trace → Branch → Bool
 started (From o) b = false
-started (Then tr (Issued l (On Start c))) b = branch_eq c b || started tr b
-started (Then tr (Issued l (On Join c))) b = branch_eq c b || started tr b
+started (Then tr (Issued l (Calls.Start c join))) b = branch_eq c b || started tr b
 started (Then tr _) b = started tr b
 
 -- the branches of all transactions, the newest first
 abbrev pub branches : Trace → List Branch
 branches (From o) = []
-branches (Then tr (Issued l (On Start b))) = b ∷ branches tr
-branches (Then tr (Issued l (On Join b))) = b ∷ branches tr
+branches (Then tr (Issued l (Calls.Start b join))) = b ∷ branches tr
 branches (Then tr _) = branches tr
 
 -- an xa_commit in one phase was accepted: the outcome is its resource manager's
 abbrev pub handed_over : Trace → Gtrid → Bool
 handed_over (From o) g = false
-handed_over (Then tr (Issued l (On OnePhase b))) g = gtrid_eq b.gtrid g || handed_over tr g
+handed_over (Then tr (Issued l (Calls.Commit b true))) g = gtrid_eq b.gtrid g || handed_over tr g
 handed_over (Then tr _) g = handed_over tr g
 
 -- claimed in this incarnation, and not yet settled or abandoned

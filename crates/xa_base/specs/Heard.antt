@@ -3,7 +3,9 @@ use Rattle.std.specs.Prelude.{ℕ, List, [], ◌∷◌, Bool, false, ◌||◌, i
 use Rattle.xa_base.specs.Branch.{gtrid_eq, branch_eq}
 use Rattle.xa_base.specs.declared.code.Code.TheVariants as Codes
 use Rattle.xa_base.specs.Manager.{breaks}
-use Rattle.xa_base.specs.Trace.{Gtrid, Branch, Name, Name.Ours, Name.Foreign, Kind.Prepare, Kind.Commit, Call, Call.On, Call.Recover, Answer, Answer.Ret, Answer.Page, Happening, Happening.Heard, Happening.Restarted, Trace, Trace.From, Trace.Then, line, line_eq}
+use Rattle.xa_base.specs.declared.call.Call.TheVariants as Calls
+use Rattle.xa_base.specs.declared.answer.Answer.TheVariants.{Ret, Page}
+use Rattle.xa_base.specs.Trace.{Gtrid, Branch, Name, Name.Ours, Name.Foreign, Call, Answer, Happening, Happening.Heard, Happening.Restarted, Trace, Trace.From, Trace.Then, line, line_eq}
 
 -- whether some answer heard passes a test
 abbrev pub told : Trace → (Call → Answer → Bool) → Bool
@@ -22,30 +24,30 @@ told_lately (Then tr _) test = told_lately tr test
 
 -- XA_OK to the branch's xa_prepare
 abbrev pub says_yes : Branch → Call → Answer → Bool
-says_yes b (On Prepare c) (Ret Codes.Success) = branch_eq c b
+says_yes b (Calls.Prepare c) (Ret Codes.Success) = branch_eq c b
 says_yes b _ _ = false
 
 -- XA_RDONLY to it
 abbrev pub says_read_only : Branch → Call → Answer → Bool
-says_read_only b (On Prepare c) (Ret Codes.ReadOnly) = branch_eq c b
+says_read_only b (Calls.Prepare c) (Ret Codes.ReadOnly) = branch_eq c b
 says_read_only b _ _ = false
 
 -- XA_OK to the xa_prepare of some branch of the transaction
 abbrev pub says_yes_in : Gtrid → Call → Answer → Bool
-says_yes_in g (On Prepare c) (Ret Codes.Success) = gtrid_eq c.gtrid g
+says_yes_in g (Calls.Prepare c) (Ret Codes.Success) = gtrid_eq c.gtrid g
 says_yes_in g _ _ = false
 
 -- XA_OK or XAER_NOTA to the branch's xa_commit in two phases
 abbrev pub acknowledges : Branch → Call → Answer → Bool
-acknowledges b (On Commit c) (Ret Codes.Success) = branch_eq c b
-acknowledges b (On Commit c) (Ret Codes.NotAnXid) = branch_eq c b
+acknowledges b (Calls.Commit c false) (Ret Codes.Success) = branch_eq c b
+acknowledges b (Calls.Commit c false) (Ret Codes.NotAnXid) = branch_eq c b
 acknowledges b _ _ = false
 
 -- ** pages
 
 -- the page after one happening more
 abbrev pub page_after : List Name → Happening → (rm : ℕ) → List Name
-page_after names (Heard l (Recover n s e) (Page ns)) r = if line_eq l (line 0 r) then ns else names
+page_after names (Heard l (Calls.Recover n s e) (Page ns)) r = if line_eq l (line 0 r) then ns else names
 page_after names _ r = names
 
 -- the last page heard on the first thread's line, since that broke

@@ -50,7 +50,7 @@ abbrev pub held_by : (thread : ℕ) → Option (Kind × Xid) → Xid → HeldBra
 held_by thread None x b = b
 held_by thread (Some (kind, named)) x b = if xid_eq named x then called thread kind b else b
 
-abbrev pub held_after : (thread : ℕ) → Call → Xid → HeldBranch → HeldBranch
+abbrev pub held_after : (thread : ℕ) → Call Xid → Xid → HeldBranch → HeldBranch
 held_after thread call = held_by thread (asks_of call)
 
 -- the answer to a call, by the branch that it names; xa_open and xa_close name none, and answer XA_OK
@@ -58,7 +58,7 @@ abbrev pub code_by : (Xid → HeldBranch) → Option (Kind × Xid) → Code
 code_by held None = Codes.Success
 code_by held (Some (kind, named)) = answer_of (held named) kind
 
-abbrev pub code_for : (Xid → HeldBranch) → Call → Code
+abbrev pub code_for : (Xid → HeldBranch) → Call Xid → Code
 code_for held call = code_by held (asks_of call)
 
 -- the branch after a line of this thread broke

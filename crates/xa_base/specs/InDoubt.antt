@@ -4,12 +4,14 @@ use Rattle.std.specs.BTreeSet.{insert_key}
 use Rattle.std.specs.declared.cmp.Ordering.{Ordering}
 use Rattle.std.specs.Ordering.{on}
 use Rattle.xa_base.specs.Branch.{xid_of_branch}
+use Rattle.xa_base.specs.Recover.{page_answer}
 use Rattle.xa_base.specs.Scan.{Scan, Scan.NotOpen, reads_from, page_of, scan_after}
 use Rattle.xa_base.specs.Standing.{is_in_doubt}
 use Rattle.xa_base.specs.Xid.{Xid, xid_cmp}
-use Rattle.xa_base.specs.declared.code.Code.TheVariants as Codes
 use Rattle.xa_base.specs.Facts.{origin, breaks, branches, standing}
-use Rattle.xa_base.specs.Trace.{Branch, Name, Name.Ours, Name.Foreign, Call.Recover, Answer, Answer.Ret, Answer.Page, Happening, Happening.Took, Trace, Trace.From, Trace.Then, line, line_eq}
+use Rattle.xa_base.specs.declared.call.Call.TheVariants as Calls
+use Rattle.xa_base.specs.declared.answer.Answer.TheVariants.{Ret, Page}
+use Rattle.xa_base.specs.Trace.{Branch, Name, Name.Ours, Name.Foreign, Answer, Happening, Happening.Took, Trace, Trace.From, Trace.Then, line, line_eq}
 
 -- ** in doubt
 
@@ -44,7 +46,7 @@ page_in (Ret code) = None
 
 -- a page moves the scan, another answer leaves it
 abbrev pub scan_moved : Scan Name → Happening → (rm : ℕ) → Scan Name
-scan_moved scan (Took l (Recover n start end) a) r = if line_eq l (line 0 r) then scan_after scan start end (page_in a) else scan
+scan_moved scan (Took l (Calls.Recover n start end) a) r = if line_eq l (line 0 r) then scan_after scan start end (page_in a) else scan
 scan_moved scan _ r = scan
 
 -- where it stands: a break of its line closes it
@@ -53,11 +55,6 @@ scan (From o) r = o.scans r
 scan (Then tr e) r = if breaks tr e (line 0 r) then NotOpen else scan_moved (scan tr r) e r
 
 -- ** the answer
-
--- the page, or XAER_INVAL where there is none
-abbrev pub page_answer : Option (List Name) → Answer
-page_answer (Some names) = Page names
-page_answer None = Ret Codes.Invalid
 
 -- the answer to an xa_recover of so many
 abbrev pub scan_answer : Trace → (rm : ℕ) → (count : ℤ) → (start : Bool) → Answer

@@ -1,12 +1,14 @@
 -- The calls on a line since it last broke, those of recovery among them (XA, section 2.3, Transaction Completion and Recovery, and
 -- section 3.2, Opening and Closing Resource Managers).
-use Rattle.std.specs.Prelude.{List, [], ◌∷◌, ◌++◌, length, Bool, true, false, ◌||◌, if◌then◌else◌, Option, slice_get}
+use Rattle.std.specs.Prelude.{List, [], ◌∷◌, ◌++◌, length, Bool, if◌then◌else◌, Option, slice_get}
 use Rattle.xa_base.specs.Answered.{taken}
 use Rattle.xa_base.specs.Decisions.{live}
 use Rattle.xa_base.specs.Heard.{page}
 use Rattle.xa_base.specs.Log.{has_row, recorded}
 use Rattle.xa_base.specs.Manager.{breaks}
-use Rattle.xa_base.specs.Trace.{Branch, Line, Name, Name.Ours, Name.Foreign, Kind, Kind.Commit, Kind.Rollback, Kind.Forget, Call, Call.On, Call.OpenRm, Call.CloseRm, Happening, Happening.Issued, Happening.Resolved, Happening.ResolvedOpen, Trace, Trace.From, Trace.Then, line, line_eq}
+use Rattle.xa_base.specs.Opening.{has_opened, has_closed}
+use Rattle.xa_base.specs.StateTable.{on}
+use Rattle.xa_base.specs.Trace.{Branch, Line, Name, Name.Ours, Name.Foreign, Kind, Kind.Commit, Kind.Rollback, Kind.Forget, Call, Happening, Happening.Issued, Happening.Resolved, Happening.ResolvedOpen, Trace, Trace.From, Trace.Then, line, line_eq}
 
 -- ** recovery
 
@@ -17,7 +19,7 @@ resolving_kind tr b = if recorded tr b then Forget else if has_row tr b.gtrid th
 -- the calls that end the branches of a page, but for those of live transactions and of other managers
 abbrev pub resolving_calls : Trace → List Name → List Call
 resolving_calls tr [] = []
-resolving_calls tr (Ours b ∷ ns) = if live tr b.gtrid then resolving_calls tr ns else On (resolving_kind tr b) b ∷ resolving_calls tr ns
+resolving_calls tr (Ours b ∷ ns) = if live tr b.gtrid then resolving_calls tr ns else on (resolving_kind tr b) b ∷ resolving_calls tr ns
 resolving_calls tr (Foreign x ∷ ns) = resolving_calls tr ns
 
 -- ** lines
@@ -40,25 +42,10 @@ next_call tr l = slice_get (issued tr l) (length (taken tr l))
 
 -- ** open and closed lines
 
--- whether a call is xa_open
-abbrev pub opens : Call → Bool
-opens OpenRm = true
-opens _ = false
-
--- whether a call is xa_close
-abbrev pub closes : Call → Bool
-closes CloseRm = true
-closes _ = false
-
--- whether some call passes a test
-abbrev pub some_call : (Call → Bool) → List Call → Bool
-some_call test [] = false
-some_call test (c ∷ cs) = test c || some_call test cs
-
 -- an xa_open was issued
 abbrev pub is_open : Trace → Line → Bool
-is_open tr l = some_call opens (issued tr l)
+is_open tr l = has_opened (issued tr l)
 
 -- an xa_close was issued
 abbrev pub is_closed : Trace → Line → Bool
-is_closed tr l = some_call closes (issued tr l)
+is_closed tr l = has_closed (issued tr l)

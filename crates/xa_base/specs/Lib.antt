@@ -10,6 +10,7 @@ pub mod Code
 pub mod Commitment
 pub mod Decisions
 pub mod Demanded
+pub mod Distinct
 pub mod Facts
 pub mod Heard
 pub mod HeldBranch
@@ -18,6 +19,7 @@ pub mod InDoubt
 pub mod Issued
 pub mod Log
 pub mod Manager
+pub mod Opening
 pub mod Progress
 pub mod ReadBack
 pub mod Recover

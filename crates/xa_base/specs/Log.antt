@@ -8,7 +8,9 @@ use Rattle.xa_base.specs.Answered.{next_answer}
 use Rattle.xa_base.specs.Decisions.{branches, decided_so}
 use Rattle.xa_base.specs.Heard.{told, says_yes, says_yes_in}
 use Rattle.xa_base.specs.Manager.{up, incarnation}
-use Rattle.xa_base.specs.Trace.{Gtrid, Branch, Kind.Commit, Kind.OnePhase, Kind.Rollback, Call, Call.On, How, Answer, Answer.Ret, Fault, Fault.InDecide, Fault.InDone, Fault.InHear, Happening.Heard, Happening.Decided, Happening.Done, Happening.Failed, Happening.Restarted, Row, Recorded, Trace, Trace.From, Trace.Then}
+use Rattle.xa_base.specs.declared.call.Call.TheVariants as Calls
+use Rattle.xa_base.specs.declared.answer.Answer.TheVariants.{Ret}
+use Rattle.xa_base.specs.Trace.{Gtrid, Branch, Call, How, Answer, Fault, Fault.InDecide, Fault.InDone, Fault.InHear, Happening.Heard, Happening.Decided, Happening.Done, Happening.Failed, Happening.Restarted, Row, Recorded, Trace, Trace.From, Trace.Then}
 
 -- ** lists of rows
 
@@ -76,9 +78,8 @@ row_for tr g = record { gtrid = g; participants = filter (takes_part tr g) (bran
 
 -- the record that a heuristic code makes, of a branch that was told to commit or to roll back
 abbrev pub record_of : Call → Answer → Change
-record_of (On Commit b) (Ret (Codes.Heuristic how)) = AddRecord (record { branch = b; how = how })
-record_of (On OnePhase b) (Ret (Codes.Heuristic how)) = AddRecord (record { branch = b; how = how })
-record_of (On Rollback b) (Ret (Codes.Heuristic how)) = AddRecord (record { branch = b; how = how })
+record_of (Calls.Commit b one_phase) (Ret (Codes.Heuristic how)) = AddRecord (record { branch = b; how = how })
+record_of (Calls.Rollback b) (Ret (Codes.Heuristic how)) = AddRecord (record { branch = b; how = how })
 record_of _ _ = NoChange
 
 -- the record that hearing the next answer makes

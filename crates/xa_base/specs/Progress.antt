@@ -5,7 +5,9 @@ use Rattle.xa_base.specs.declared.code.Code.TheVariants as Codes
 use Rattle.xa_base.specs.declared.step.Outcome.TheVariants as Outcome
 use Rattle.xa_base.specs.declared.step.Part.TheVariants as Part
 use Rattle.xa_base.specs.Facts.{begun, decided_so, handed_over, claimed, told, says_yes, says_read_only, branches, counts_as_committed, participants_settled, settled, breaks, taken, heard, issued}
-use Rattle.xa_base.specs.Trace.{Gtrid, Branch, Line, Kind.Start, Kind.Join, Kind.Prepare, Kind.Commit, Kind.OnePhase, Kind.Rollback, Kind.Forget, Call, Call.On, Answer, Answer.Ret, Happening.Begun, Happening.Issued, Happening.Crashed, Happening.RmRestarted, Trace, Trace.From, Trace.Then, line_of, line_eq}
+use Rattle.xa_base.specs.declared.call.Call.TheVariants as Calls
+use Rattle.xa_base.specs.declared.answer.Answer.TheVariants.{Ret}
+use Rattle.xa_base.specs.Trace.{Gtrid, Branch, Line, Call, Answer, Happening.Begun, Happening.Issued, Happening.Crashed, Happening.RmRestarted, Trace, Trace.From, Trace.Then, line_of, line_eq}
 
 -- a resource manager is down from its crash to its restart
 abbrev pub rm_up : Trace → (rm : ℕ) → Bool
@@ -56,14 +58,12 @@ row_settled tr g = if begun tr g then all_of g (settled tr) (branches tr) else p
 -- the branch's xa_start was accepted on a line that has not been broken since
 abbrev pub on_line : Trace → Branch → Bool
 on_line (From o) b = false
-on_line (Then tr (Issued l (On Start c))) b = branch_eq c b || on_line tr b
-on_line (Then tr (Issued l (On Join c))) b = branch_eq c b || on_line tr b
+on_line (Then tr (Issued l (Calls.Start c join))) b = branch_eq c b || on_line tr b
 on_line (Then tr e) b = not (breaks tr e (line_of b)) && on_line tr b
 
 -- an answer to the branch's xa_start
 abbrev pub answers_start : Branch → Call → Answer → Bool
-answers_start b (On Start c) a = branch_eq c b
-answers_start b (On Join c) a = branch_eq c b
+answers_start b (Calls.Start c join) a = branch_eq c b
 answers_start b _ a = false
 
 -- a code other than XA_OK
@@ -84,14 +84,13 @@ is_gone _ = false
 
 -- an answer after which the manager owes the branch nothing more
 abbrev pub finishes : Branch → Call → Answer → Bool
-finishes b (On Start c) a = branch_eq c b && is_refused a
-finishes b (On Join c) a = branch_eq c b && is_refused a
-finishes b (On Prepare c) (Ret Codes.ReadOnly) = branch_eq c b
-finishes b (On Prepare c) a = branch_eq c b && is_rollback_code a
-finishes b (On OnePhase c) a = branch_eq c b && (is_gone a || is_rollback_code a)
-finishes b (On Rollback c) a = branch_eq c b && (is_gone a || is_rollback_code a)
-finishes b (On Commit c) a = branch_eq c b && is_gone a
-finishes b (On Forget c) a = branch_eq c b && is_gone a
+finishes b (Calls.Start c join) a = branch_eq c b && is_refused a
+finishes b (Calls.Prepare c) (Ret Codes.ReadOnly) = branch_eq c b
+finishes b (Calls.Prepare c) a = branch_eq c b && is_rollback_code a
+finishes b (Calls.Commit c true) a = branch_eq c b && (is_gone a || is_rollback_code a)
+finishes b (Calls.Rollback c) a = branch_eq c b && (is_gone a || is_rollback_code a)
+finishes b (Calls.Commit c false) a = branch_eq c b && is_gone a
+finishes b (Calls.Forget c) a = branch_eq c b && is_gone a
 finishes b _ a = false
 
 -- the manager owes the branch nothing more

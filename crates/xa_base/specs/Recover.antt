@@ -19,6 +19,6 @@ abbrev pub xid_page : Scan Xid → (count : ℤ) → (start : Bool) → List Xid
 xid_page scan count start in_doubt = page_of xid_cmp count (reads_from scan start) in_doubt
 
 -- the answer: the page, or XAER_INVAL where there is none
-abbrev pub page_answer : Option (List Xid) → Answer
+abbrev pub page_answer : {X : Type 0} → Option (List X) → Answer X
 page_answer (Some page) = Page page
 page_answer None = Ret Invalid

@@ -5,22 +5,27 @@ use Rattle.xa_base.specs.Branch.{IsBranch}
 use Rattle.xa_base.specs.declared.code.Code.TheVariants as Codes
 use Rattle.xa_base.specs.declared.state.Standing.TheVariants.{Prepared}
 use Rattle.xa_base.specs.Facts.{live, started, taken, issued, standing}
+use Rattle.xa_base.specs.Call.{map_call}
 use Rattle.xa_base.specs.InDoubt.{in_doubt}
+use Rattle.xa_base.specs.declared.reply.Reply.TheVariants as Replies
+use Rattle.xa_base.specs.declared.step.Step.TheVariants as Steps
 use Rattle.xa_base.specs.Steps.{Step, Reply}
-use Rattle.xa_base.specs.Trace.{Branch, Name, Call, Call.Recover, Answer, Answer.Ret, Answer.Page, Trace, line}
+use Rattle.xa_base.specs.declared.call.Call.TheVariants as Calls
+use Rattle.xa_base.specs.declared.answer.Answer.TheVariants.{Ret, Page}
+use Rattle.xa_base.specs.Trace.{Branch, Name, Name.Ours, Call, Answer, Trace, line}
 
 -- calls that are taken one by one, each of them heard before the next
 abbrev pub in_turn : (rm : ℕ) → List (Call × Answer) → List (Step × Reply)
 in_turn r [] = []
-in_turn r (x ∷ xs) = (Step.Take 0 r, Reply.Took x.0 x.1) ∷ (Step.Hear 0 r, Reply.Heard x.0 x.1) ∷ in_turn r xs
+in_turn r (x ∷ xs) = (Steps.Take 0 r, Replies.Took (map_call Ours x.0) x.1) ∷ (Steps.Hear 0 r, Replies.Heard (map_call Ours x.0) x.1) ∷ in_turn r xs
 
 -- a page of at most so many names is asked for, taken and heard, and resolved by calls that get these answers
 abbrev pub recovery : (rm count : ℕ) → List Name → List (Call × Answer) → List (Step × Reply)
 recovery r count names answers =
-    (Step.Recover r (pos count) true true, Reply.Issued)
-    ∷ (Step.Take 0 r, Reply.Took (Recover (pos count) true true) (Page names))
-    ∷ (Step.Hear 0 r, Reply.Heard (Recover (pos count) true true) (Page names))
-    ∷ (Step.Resolve r, Reply.Resolved (length answers))
+    (Steps.Recover r (pos count) true true, Replies.Issued)
+    ∷ (Steps.Take 0 r, Replies.Took (Calls.Recover (pos count) true true) (Page names))
+    ∷ (Steps.Hear 0 r, Replies.Heard (Calls.Recover (pos count) true true) (Page names))
+    ∷ (Steps.Resolve r, Replies.Resolved (length answers))
     ∷ in_turn r answers
 
 -- no answer is XA_RETRY

@@ -1,8 +1,10 @@
 -- What the history asks of each happening. Beside `Demanded` this says it without numbers and in the order of no table.
-use Rattle.std.specs.Prelude.{ℕ, ◌||◌, ◌+◌, ◌<◌, ◌≡◌, ◌⊎◌, List, length, true, false, Some, None, Contains, slice_get}
-use Rattle.xa_base.specs.Trace.{Gtrid, Branch, Line, Name, Kind, Kind.Start, Kind.Join, Kind.End, Kind.Prepare, Kind.Commit, Kind.OnePhase, Kind.Rollback, Kind.Forget, Call, Call.On, Call.OpenRm, Call.CloseRm, Call.Recover, Answer, Answer.Ret, Outcome, Fault, Fault.InDecide, Fault.InDone, Fault.InHear, Fault.InResolve, Fault.InRestart, Happening, Happening.Begun, Happening.Issued, Happening.Resolved, Happening.ResolvedOpen, Happening.Claimed, Happening.Took, Happening.Heard, Happening.EndedAlone, Happening.Decided, Happening.Done, Happening.Crashed, Happening.Failed, Happening.Restarted, Origin, Trace, Trace.From, Trace.Then, line}
+use Rattle.std.specs.Prelude.{ℕ, ◌||◌, ◌+◌, ◌<◌, ◌≡◌, ◌⊎◌, List, length, true, false, Option, Some, None, IfSome, Contains, slice_get}
+use Rattle.xa_base.specs.declared.call.Call.TheVariants as Calls
+use Rattle.xa_base.specs.declared.answer.Answer.TheVariants.{Ret}
+use Rattle.xa_base.specs.Trace.{Gtrid, Branch, Code, Line, Name, Kind, Kind.Start, Kind.Join, Kind.End, Kind.Prepare, Kind.Commit, Kind.OnePhase, Kind.Rollback, Kind.Forget, Call, Answer, Outcome, Fault, Fault.InDecide, Fault.InDone, Fault.InHear, Fault.InResolve, Fault.InRestart, Happening, Happening.Begun, Happening.Issued, Happening.Resolved, Happening.ResolvedOpen, Happening.Claimed, Happening.Took, Happening.Heard, Happening.EndedAlone, Happening.Decided, Happening.Done, Happening.Crashed, Happening.Failed, Happening.Restarted, Origin, Trace, Trace.From, Trace.Then, line}
 use Rattle.xa_base.specs.declared.code.Code.TheVariants as Codes
-use Rattle.xa_base.specs.StateTable.{state_of, answer}
+use Rattle.xa_base.specs.StateTable.{state_of, asks_of, answer}
 use Rattle.xa_base.specs.declared.state.Standing.TheVariants.{Prepared}
 use Rattle.xa_base.specs.Facts.{up, incarnation, sequence, begun, decided_so, handed_over, claimed, live, started, told, says_yes, says_read_only, says_yes_in, outlived, participants_settled, lists_row, has_record, heuristic_rows, log, has_row, recorded, settled, next_answer, next_call, standing, vote, retries, is_closed}
 use Rattle.xa_base.specs.Branch.{branch_of_xid}
@@ -62,19 +64,21 @@ pub record RightCall (tr : Trace) (l : Line) (k : Kind) (b : Branch) : Type 0 wh
 
 -- a call may be issued
 abbrev pub RightIssue : Trace → Line → Call → Type 0
-RightIssue tr l (On k b) = RightCall tr l k b
-RightIssue tr l _ = Unit
+RightIssue tr l c = IfSome (asks_of c) (λ p. RightCall tr l p.0 p.1)
 
 -- a page lists the name
 abbrev pub Lists : List Name → Name → Type 0
 Lists names x = (i : ℕ) × (slice_get names i ≡ Some x)
 
+-- the code to what is asked of a branch, and to a call on none
+abbrev pub call_code : Trace → Option (Kind × Branch) → Code
+call_code tr (Some (k, b)) = answer k (state_of (standing tr b)) (vote tr b) (retries tr b)
+call_code tr None = Codes.Success
+
 -- the answer of a resource manager
 abbrev pub RightAnswer : Trace → Line → Call → Answer → Type 0
-RightAnswer tr l (On k b) a = a ≡ Ret (answer k (state_of (standing tr b)) (vote tr b) (retries tr b))
-RightAnswer tr l OpenRm a = a ≡ Ret Codes.Success
-RightAnswer tr l CloseRm a = a ≡ Ret Codes.Success
-RightAnswer tr l (Recover n s e) a = a ≡ scan_answer tr l.rm n s
+RightAnswer tr l (Calls.Recover n s e) a = a ≡ scan_answer tr l.rm n s
+RightAnswer tr l c a = a ≡ Ret (call_code tr (asks_of c))
 
 -- the transaction may be claimed
 pub record RightClaim (tr : Trace) (g : Gtrid) : Type 0 where

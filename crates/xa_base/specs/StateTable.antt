@@ -1,7 +1,6 @@
 -- The branch state table: what a resource manager answers to a call on a branch, and where the branch then stands.
 -- After XA, chapter 6, State Tables; the cells are this project's own.
 use Rattle.std.specs.Prelude.{ℕ, zero, suc, Bool, true, false, Option, Some, None}
-use Rattle.xa_base.specs.Xid.{Xid}
 use Rattle.xa_base.specs.declared.call.Call.{Call}
 use Rattle.xa_base.specs.declared.call.Call.TheVariants as Calls
 use Rattle.xa_base.specs.declared.code.Code.{Code}
@@ -54,7 +53,7 @@ commit_kind true = OnePhase
 commit_kind false = Commit
 
 -- what a call asks, and of which branch: nothing of any, if it opens, closes or recovers
-abbrev pub asks_of : Call → Option (Kind × Xid)
+abbrev pub asks_of : {X : Type 0} → Call X → Option (Kind × X)
 asks_of (Calls.Start xid join) = Some (start_kind join, xid)
 asks_of (Calls.End xid fail) = Some (End fail, xid)
 asks_of (Calls.Prepare xid) = Some (Prepare, xid)
@@ -62,6 +61,17 @@ asks_of (Calls.Commit xid one_phase) = Some (commit_kind one_phase, xid)
 asks_of (Calls.Rollback xid) = Some (Rollback, xid)
 asks_of (Calls.Forget xid) = Some (Forget, xid)
 asks_of _ = None
+
+-- the call of a kind on a branch
+abbrev pub on : {X : Type 0} → Kind → X → Call X
+on Start x = Calls.Start x false
+on Join x = Calls.Start x true
+on (End fail) x = Calls.End x fail
+on Prepare x = Calls.Prepare x
+on Commit x = Calls.Commit x false
+on OnePhase x = Calls.Commit x true
+on Rollback x = Calls.Rollback x
+on Forget x = Calls.Forget x
 
 -- ** the answers
 

@@ -1,69 +1,71 @@
 -- Steps and replies with their identifiers read as names, and what they come to.
-use Rattle.std.specs.Prelude.{ℕ, ℤ, Bool}
-use Rattle.xa_base.specs.declared.vote.Vote as Voting
-use Rattle.xa_base.specs.Trace.{Gtrid, Name, Name.Ours, Kind, Call, Call.On, Call.OpenRm, Call.CloseRm, How, Answer, Outcome, Part, Fault.InDecide, Fault.InDone, Fault.InHear, Fault.InResolve, Fault.InRestart, Happening, line}
+use Rattle.std.specs.Prelude.{Option, Some, None}
+use Rattle.xa_base.specs.Call.{call_if, map_call}
+use Rattle.xa_base.specs.Answer.{map_answer}
+use Rattle.xa_base.specs.declared.call.Call as Declared
+use Rattle.xa_base.specs.declared.reply.Reply as Replied
+use Rattle.xa_base.specs.declared.reply.Reply.TheVariants as Replies
+use Rattle.xa_base.specs.declared.step.Step as Asked
+use Rattle.xa_base.specs.declared.step.Step.TheVariants as Steps
+use Rattle.xa_base.specs.declared.call.Call.TheVariants as Calls
+use Rattle.xa_base.specs.Trace.{Branch, Name, Name.Ours, Name.Foreign, Call, Outcome, Fault.InDecide, Fault.InDone, Fault.InHear, Fault.InResolve, Fault.InRestart, Happening, line}
 pub use Rattle.xa_base.specs.declared.refusal.Refusal.{Refusal}
 pub use Rattle.xa_base.specs.declared.step.Side.{Side}
 
--- ** steps
+-- a step, and a reply to one, with their identifiers read
+abbrev pub Step : Type 0
+Step = Asked.Step Name
 
--- a call as it is asked for: on any identifier, or on none
-pub data Asked : Type 0 where
-  AskOpen : Asked
-  AskClose : Asked
-  Ask : Kind → Name → Asked
-  AskRecover : (count : ℤ) → (start end : Bool) → Asked
+abbrev pub Reply : Type 0
+Reply = Replied.Reply Name
 
--- a step, with its identifiers read
-pub data Step : Type 0 where
-  Begin : (thread : ℕ) → Step
-  Issue : (thread rm : ℕ) → Asked → Step
-  Take : (thread rm : ℕ) → Step
-  Hear : (thread rm : ℕ) → Step
-  Vote : (rm : ℕ) → Name → Voting.Vote → Step
-  Busy : (rm : ℕ) → Name → (times : ℕ) → Step
-  Heuristic : (rm : ℕ) → Name → How → Step
-  Decide : Gtrid → Outcome → Step
-  Claim : Gtrid → Step
-  Settle : Gtrid → Step
-  Abandon : Gtrid → Step
-  Recover : (rm : ℕ) → (count : ℤ) → (start end : Bool) → Step
-  Resolve : (rm : ℕ) → Step
-  ResolveOpen : (rm : ℕ) → Step
-  Done : Gtrid → Step
-  Crash : Part → Step
-  Restart : Side → Step
+-- a step with what f gives for its identifiers, and a reply
+module _ {X Y : Type 0} where
+  abbrev pub map_step : (X → Y) → Asked.Step X → Asked.Step Y
+  map_step f (Steps.Begin thread) = Steps.Begin thread
+  map_step f (Steps.Issue thread rm call) = Steps.Issue thread rm (map_call f call)
+  map_step f (Steps.Take thread rm) = Steps.Take thread rm
+  map_step f (Steps.Hear thread rm) = Steps.Hear thread rm
+  map_step f (Steps.Vote rm x vote) = Steps.Vote rm (f x) vote
+  map_step f (Steps.Busy rm x times) = Steps.Busy rm (f x) times
+  map_step f (Steps.Heuristic rm x how) = Steps.Heuristic rm (f x) how
+  map_step f (Steps.Decide gtrid outcome) = Steps.Decide gtrid outcome
+  map_step f (Steps.Claim gtrid) = Steps.Claim gtrid
+  map_step f (Steps.Settle gtrid) = Steps.Settle gtrid
+  map_step f (Steps.Abandon gtrid) = Steps.Abandon gtrid
+  map_step f (Steps.Recover rm count start end) = Steps.Recover rm count start end
+  map_step f (Steps.Resolve rm) = Steps.Resolve rm
+  map_step f (Steps.ResolveOpen rm) = Steps.ResolveOpen rm
+  map_step f (Steps.Done gtrid) = Steps.Done gtrid
+  map_step f (Steps.Crash part) = Steps.Crash part
+  map_step f (Steps.Restart side) = Steps.Restart side
 
--- ** replies
-
--- the last one is what no history demands: an answer to a call on another manager's identifier
-pub data Reply : Type 0 where
-  Begun : Gtrid → Reply
-  Issued : Reply
-  Took : Call → Answer → Reply
-  Heard : Call → Answer → Reply
-  Nothing : Reply
-  Noted : Reply
-  Claimed : Reply
-  Decided : Reply
-  Resolved : (calls : ℕ) → Reply
-  Crashed : Reply
-  RmRestarted : Reply
-  Restarted : (incarnation decisions heuristics : ℕ) → Reply
-  Refused : Refusal → Reply
-  Impossible : Reply
+  abbrev pub map_reply : (X → Y) → Replied.Reply X → Replied.Reply Y
+  map_reply f (Replies.Begun gtrid) = Replies.Begun gtrid
+  map_reply f Replies.Issued = Replies.Issued
+  map_reply f (Replies.Took call answer) = Replies.Took (map_call f call) (map_answer f answer)
+  map_reply f (Replies.Heard call answer) = Replies.Heard (map_call f call) (map_answer f answer)
+  map_reply f Replies.Nothing = Replies.Nothing
+  map_reply f Replies.Noted = Replies.Noted
+  map_reply f Replies.Claimed = Replies.Claimed
+  map_reply f Replies.Decided = Replies.Decided
+  map_reply f (Replies.Resolved calls) = Replies.Resolved calls
+  map_reply f Replies.Crashed = Replies.Crashed
+  map_reply f Replies.RmRestarted = Replies.RmRestarted
+  map_reply f (Replies.Restarted incarnation decisions heuristics) = Replies.Restarted incarnation decisions heuristics
+  map_reply f (Replies.Refused refusal) = Replies.Refused refusal
 
 -- ** what happens
 
 -- a step in which the log failed. A settlement counts as a decision to commit
 abbrev pub log_failed : Step → Happening
-log_failed (Step.Hear t r) = Happening.Failed (InHear (line t r))
-log_failed (Step.Decide g o) = Happening.Failed (InDecide g)
-log_failed (Step.Settle g) = Happening.Failed (InDecide g)
-log_failed (Step.Resolve r) = Happening.Failed InResolve
-log_failed (Step.ResolveOpen r) = Happening.Failed InResolve
-log_failed (Step.Done g) = Happening.Failed (InDone g)
-log_failed (Step.Restart Side.Manager) = Happening.Failed InRestart
+log_failed (Steps.Hear t r) = Happening.Failed (InHear (line t r))
+log_failed (Steps.Decide g o) = Happening.Failed (InDecide g)
+log_failed (Steps.Settle g) = Happening.Failed (InDecide g)
+log_failed (Steps.Resolve r) = Happening.Failed InResolve
+log_failed (Steps.ResolveOpen r) = Happening.Failed InResolve
+log_failed (Steps.Done g) = Happening.Failed (InDone g)
+log_failed (Steps.Restart Side.Manager) = Happening.Failed InRestart
 log_failed _ = Happening.Nothing
 
 -- nothing happens in any other refused step
@@ -71,50 +73,61 @@ abbrev pub refused : Refusal → Step → Happening
 refused Refusal.LogFault s = log_failed s
 refused _ s = Happening.Nothing
 
+-- the branch of this manager that a name is
+abbrev pub ours_of : Name → Option Branch
+ours_of (Ours b) = Some b
+ours_of (Foreign x) = None
+
+-- the call that waits where this was asked for; none is ever accepted on another manager's identifier
+abbrev pub accepted : Declared.Call Name → Option Call
+accepted call = call_if ours_of call
+
+-- what happens with such a call, if it is one
+abbrev pub if_ours : (Call → Happening) → Option Call → Happening
+if_ours happening (Some c) = happening c
+if_ours happening None = Happening.Nothing
+
 -- a call that waits
 abbrev pub call_issued : Step → Happening
-call_issued (Step.Issue t r AskOpen) = Happening.Issued (line t r) OpenRm
-call_issued (Step.Issue t r AskClose) = Happening.Issued (line t r) CloseRm
-call_issued (Step.Issue t r (Ask k (Ours b))) = Happening.Issued (line t r) (On k b)
-call_issued (Step.Issue t r (AskRecover n start end)) = Happening.Issued (line t r) (Call.Recover n start end)
-call_issued (Step.Recover r n start end) = Happening.Issued (line 0 r) (Call.Recover n start end)
+call_issued (Steps.Issue t r c) = if_ours (Happening.Issued (line t r)) (accepted c)
+call_issued (Steps.Recover r n start end) = Happening.Issued (line 0 r) (Calls.Recover n start end)
 call_issued _ = Happening.Nothing
 
 -- what is noted
 abbrev pub noted : Step → Happening
-noted (Step.Vote r (Ours b) v) = Happening.Voted b v
-noted (Step.Busy r (Ours b) n) = Happening.PutOff b n
-noted (Step.Heuristic r (Ours b) how) = Happening.EndedAlone b how
-noted (Step.Done g) = Happening.Done g
+noted (Steps.Vote r (Ours b) v) = Happening.Voted b v
+noted (Steps.Busy r (Ours b) n) = Happening.PutOff b n
+noted (Steps.Heuristic r (Ours b) how) = Happening.EndedAlone b how
+noted (Steps.Done g) = Happening.Done g
 noted _ = Happening.Nothing
 
 -- what is decided
 abbrev pub decided : Step → Happening
-decided (Step.Decide g o) = Happening.Decided g o
-decided (Step.Settle g) = Happening.Decided g Outcome.Commit
-decided (Step.Abandon g) = Happening.Decided g Outcome.Rollback
+decided (Steps.Decide g o) = Happening.Decided g o
+decided (Steps.Settle g) = Happening.Decided g Outcome.Commit
+decided (Steps.Abandon g) = Happening.Decided g Outcome.Rollback
 decided _ = Happening.Nothing
 
 -- what recovery does
 abbrev pub resolved : Step → Happening
-resolved (Step.Resolve r) = Happening.Resolved r
-resolved (Step.ResolveOpen r) = Happening.ResolvedOpen r
+resolved (Steps.Resolve r) = Happening.Resolved r
+resolved (Steps.ResolveOpen r) = Happening.ResolvedOpen r
 resolved _ = Happening.Nothing
 
 -- what a step comes to, by its reply
 abbrev pub comes_to : Reply → Step → Happening
-comes_to (Reply.Refused n) s = refused n s
-comes_to Reply.Issued s = call_issued s
-comes_to Reply.Noted s = noted s
-comes_to Reply.Decided s = decided s
-comes_to (Reply.Resolved n) s = resolved s
-comes_to (Reply.Begun g) (Step.Begin t) = Happening.Begun g
-comes_to (Reply.Took c a) (Step.Take t r) = Happening.Took (line t r) c a
-comes_to (Reply.Heard c a) (Step.Hear t r) = Happening.Heard (line t r) c a
-comes_to Reply.Claimed (Step.Claim g) = Happening.Claimed g
-comes_to Reply.Crashed (Step.Crash p) = Happening.Crashed p
-comes_to Reply.RmRestarted (Step.Restart (Side.Rm r)) = Happening.RmRestarted r
-comes_to (Reply.Restarted i d h) (Step.Restart Side.Manager) = Happening.Restarted i d h
+comes_to (Replies.Refused n) s = refused n s
+comes_to Replies.Issued s = call_issued s
+comes_to Replies.Noted s = noted s
+comes_to Replies.Decided s = decided s
+comes_to (Replies.Resolved n) s = resolved s
+comes_to (Replies.Begun g) (Steps.Begin t) = Happening.Begun g
+comes_to (Replies.Took c a) (Steps.Take t r) = if_ours (λ d. Happening.Took (line t r) d a) (accepted c)
+comes_to (Replies.Heard c a) (Steps.Hear t r) = if_ours (λ d. Happening.Heard (line t r) d a) (accepted c)
+comes_to Replies.Claimed (Steps.Claim g) = Happening.Claimed g
+comes_to Replies.Crashed (Steps.Crash p) = Happening.Crashed p
+comes_to Replies.RmRestarted (Steps.Restart (Side.Rm r)) = Happening.RmRestarted r
+comes_to (Replies.Restarted i d h) (Steps.Restart Side.Manager) = Happening.Restarted i d h
 comes_to _ _ = Happening.Nothing
 
 -- what happens by a step that got this reply

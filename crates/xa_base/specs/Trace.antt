@@ -1,12 +1,14 @@
 -- What happens between a transaction manager and its resource managers: where a system starts, and all that happened since.
 -- Identifiers, calls and codes are XA's (sections 4.2, 4.4 and 4.5, and chapter 5); lines, steps and the log are this manager's own.
-use Rattle.std.specs.Prelude.{ℕ, ℤ, List, Bool, ◌&&◌, nat_eq}
+use Rattle.std.specs.Prelude.{ℕ, List, Bool, ◌&&◌, nat_eq}
 use Rattle.xa_base.specs.HeldBranch.{HeldBranch}
 use Rattle.xa_base.specs.Scan.{Scan}
 use Rattle.xa_base.specs.Xid.{Xid}
 pub use Rattle.xa_base.specs.StateTable.{Kind, Kind.Start, Kind.Join, Kind.End, Kind.Prepare, Kind.Commit, Kind.OnePhase, Kind.Rollback, Kind.Forget}
 pub use Rattle.xa_base.specs.declared.branch.Gtrid.{Gtrid}
 pub use Rattle.xa_base.specs.declared.branch.Branch.{Branch}
+use Rattle.xa_base.specs.declared.answer.Answer as Given
+use Rattle.xa_base.specs.declared.call.Call as Declared
 pub use Rattle.xa_base.specs.declared.code.Code.{Code}
 pub use Rattle.xa_base.specs.declared.code.How.{How}
 pub use Rattle.xa_base.specs.declared.vote.Vote.{Vote}
@@ -25,17 +27,13 @@ pub data Name : Type 0 where
   Ours : Branch → Name
   Foreign : Xid → Name
 
--- a call that waits on a line: on a branch, or on none
-pub data Call : Type 0 where
-  On : Kind → Branch → Call
-  OpenRm : Call
-  CloseRm : Call
-  Recover : (count : ℤ) → (start end : Bool) → Call
+-- a call that waits on a line
+abbrev pub Call : Type 0
+Call = Declared.Call Branch
 
 -- an answer: a return code, or what an xa_recover lists
-pub data Answer : Type 0 where
-  Ret : Code → Answer
-  Page : List Name → Answer
+abbrev pub Answer : Type 0
+Answer = Given.Answer Name
 
 -- ** what happens
 

@@ -7,31 +7,30 @@ use std::marker::Model;
 
 /// A page of a recovery scan: the identifiers that one xa_recover lists (XA, chapter 5, xa_recover).
 #[derive(Debug, Drop)]
-pub struct Page {
-    xids: Vec<Xid>,
+pub struct Page<X = Xid> {
+    xids: Vec<X>,
 }
 
-impl Model for Page {
+impl<X> Model for Page<X> {
     ghost use Rattle.std.specs.Prelude.{List};
-    ghost use Rattle.xa_base.specs.Xid.{Xid as Parts};
 
-    ghost Value = { List Parts };
+    ghost Value = { List X };
 
     ghost view = { λ page. page.xids.items };
 }
 
-impl Page {
+impl<X> Page<X> {
     ghost use Rattle.std.specs.Prelude.{IsTrue, ◌↔◌, [], length};
 
     /// The page that lists these identifiers. No memory is taken.
-    pub fn new(xids: Vec<Xid>) -> Page
+    pub fn new(xids: Vec<X>) -> Page<X>
         ensures { result ≡ xids.items }
     {
         Self { xids }
     }
 
     /// The identifiers that the page lists, in its order. No memory is taken.
-    pub fn into_xids(self) -> Vec<Xid>
+    pub fn into_xids(self) -> Vec<X>
         ensures { result.items ≡ self }
     {
         let Page { xids } = self;
@@ -39,7 +38,7 @@ impl Page {
     }
 
     /// The identifiers that the page lists, in its order.
-    pub fn xids(&self) -> &[Xid]
+    pub fn xids(&self) -> &[X]
         ensures { result.now ≡ self.now }
     {
         self.xids.as_slice()
@@ -58,7 +57,9 @@ impl Page {
     {
         self.xids.is_empty()
     }
+}
 
+impl Page {
     /// The same page.
     pub fn copy(&self, alloc: Global) -> Result<Page, Memory>
         ensures { IfOk result (λ page. page ≡ self.now) }
@@ -69,35 +70,31 @@ impl Page {
     }
 }
 
-impl PartialEq for Page {
-    ghost use Rattle.std.specs.Cmp.{partial_equiv_from_equiv};
+impl<X: PartialEq> PartialEq for Page<X> {
     ghost use Rattle.std.specs.Cmp.Lexicographic.{pointwise, lists_per};
-    ghost use Rattle.xa_base.specs.Xid.{same_parts_equiv};
-    ghost use Rattle.xa_base.specs.Xid.{same_parts};
 
-    ghost eq = { pointwise same_parts };
+    ghost eq = { pointwise X.eq };
 
-    ghost laws = { lists_per (partial_equiv_from_equiv same_parts_equiv) };
+    ghost laws = { lists_per X.laws };
 
-    fn eq(&self, other: &Page) -> bool {
+    fn eq(&self, other: &Page<X>) -> bool {
         self.xids() == other.xids()
     }
 }
 
-impl Eq for Page {
+impl<X: Eq> Eq for Page<X> {
     ghost use Rattle.std.specs.Cmp.Lexicographic.{lists_equiv};
-    ghost use Rattle.xa_base.specs.Xid.{same_parts_equiv};
 
-    ghost laws = { lists_equiv same_parts_equiv };
+    ghost laws = { lists_equiv X.Eq.laws };
 }
 
 /// A resource manager's answer to a call.
 #[derive(PartialEq, Eq, Debug, Drop)]
-pub enum Answer {
+pub enum Answer<X = Xid> {
     /// A return code (XA, section 4.5, Return Codes).
     Ret(Code),
     /// What an xa_recover lists.
-    Page(Page),
+    Page(Page<X>),
 }
 
 impl Answer {

@@ -2,7 +2,7 @@
 ghost use Rattle.std.specs.Prelude.{◌≡◌, IfErr};
 ghost use Rattle.std.specs.Option.{option_copied};
 ghost use Rattle.std.specs.Result.{result_ok};
-ghost use Rattle.xa_base.specs.Call.{CallsHaveTheirParts};
+ghost use Rattle.xa_base.specs.Call.{CallsHaveTheirParts, flags_of};
 ghost use Rattle.xa_base.specs.declared.code.Code.TheVariants.{Invalid};
 
 use crate::flags::WHOLE_SCAN;
@@ -11,38 +11,39 @@ use crate::{
 };
 
 /// A call to a resource manager, with its flags and all that it is given (XA, chapter 5).
+/// It names branches by X.
 #[derive(PartialEq, Eq, Debug, Drop)]
-pub enum Call {
+pub enum Call<X = Xid> {
     /// xa_open.
     OpenRm,
     /// xa_close.
     CloseRm,
     /// xa_start, with TMJOIN where `join`.
     Start {
-        xid: Xid,
+        xid: X,
         join: bool,
     },
     /// xa_end, with TMFAIL where `fail`, else with TMSUCCESS.
     End {
-        xid: Xid,
+        xid: X,
         fail: bool,
     },
     /// xa_prepare.
     Prepare {
-        xid: Xid,
+        xid: X,
     },
     /// xa_commit, with TMONEPHASE where `one_phase`.
     Commit {
-        xid: Xid,
+        xid: X,
         one_phase: bool,
     },
     /// xa_rollback.
     Rollback {
-        xid: Xid,
+        xid: X,
     },
     /// xa_forget.
     Forget {
-        xid: Xid,
+        xid: X,
     },
     /// xa_recover of at most `count` branches, with TMSTARTRSCAN where `start_scan` and TMENDRSCAN where `end_scan`. A
     /// negative count makes a call too, to which the resource manager answers XAER_INVAL.
@@ -68,8 +69,7 @@ pub enum CallKind {
 }
 
 impl Call {
-    ghost use Rattle.xa_base.specs.Call.{call_with, flags_of, xid_in};
-    ghost use Rattle.xa_base.specs.declared.call.Call.{Call};
+    ghost use Rattle.xa_base.specs.Call.{call_with, xid_in};
 
     /// The call of these parts. It is XAER_INVAL where the kind of call doesn't take these flags (XA, section 4.4), where
     /// it has no identifier and needs one or has one and takes none, and likewise with the count. No memory is taken.
@@ -82,62 +82,14 @@ impl Call {
         ensures made { result_ok result ≡ call_with kind xid flags count }
         ensures refused { IfErr result (λ code. code ≡ Invalid) }
     {
-        let call = match (kind, xid, count) {
-            (CallKind::OpenRm, None, None) => Call::OpenRm,
-            (CallKind::CloseRm, None, None) => Call::CloseRm,
-            (CallKind::Start, Some(xid), None) => Call::Start {
-                xid,
-                join: flags == TMJOIN,
-            },
-            (CallKind::End, Some(xid), None) => Call::End {
-                xid,
-                fail: flags == TMFAIL,
-            },
-            (CallKind::Prepare, Some(xid), None) => Call::Prepare { xid },
-            (CallKind::Commit, Some(xid), None) => Call::Commit {
-                xid,
-                one_phase: flags == TMONEPHASE,
-            },
-            (CallKind::Rollback, Some(xid), None) => Call::Rollback { xid },
-            (CallKind::Forget, Some(xid), None) => Call::Forget { xid },
-            (CallKind::Recover, None, Some(count)) => Call::Recover {
-                count,
-                start_scan: flags == TMSTARTRSCAN || flags == WHOLE_SCAN,
-                end_scan: flags == TMENDRSCAN || flags == WHOLE_SCAN,
-            },
-            _ => return Err(Code::Invalid),
-        };
-        if call.flags() == flags {
-            Ok(call)
-        } else {
-            Err(Code::Invalid)
-        }
+        Call::with(kind, xid, flags, count)
     }
 
     /// The call's flags, as one word (XA, section 4.4).
     pub fn flags(&self) -> u32
         ensures { result ≡ flags_of self.now }
     {
-        match self {
-            Call::Start { join: true, .. } => TMJOIN,
-            Call::End { fail: false, .. } => TMSUCCESS,
-            Call::End { fail: true, .. } => TMFAIL,
-            Call::Commit {
-                one_phase: true,
-                ..
-            } => TMONEPHASE,
-            Call::Recover {
-                start_scan,
-                end_scan,
-                ..
-            } => match (start_scan, end_scan) {
-                (false, false) => TMNOFLAGS,
-                (false, true) => TMENDRSCAN,
-                (true, false) => TMSTARTRSCAN,
-                (true, true) => WHOLE_SCAN,
-            },
-            _ => TMNOFLAGS,
-        }
+        flags_of(self)
     }
 
     /// The identifier of the branch that the call names, if it names one.
@@ -187,6 +139,78 @@ impl Call {
                 end_scan: *end_scan,
             },
         }
+    }
+}
+
+impl<X: Drop> Call<X> {
+    ghost use Rattle.xa_base.specs.Call.{call_with};
+
+    /// The same, where X names the branch.
+    pub fn with(
+        kind: CallKind,
+        xid: Option<X>,
+        flags: u32,
+        count: Option<i64>,
+    ) -> Result<Call<X>, Code>
+        ensures made { result_ok result ≡ call_with kind xid flags count }
+        ensures refused { IfErr result (λ code. code ≡ Invalid) }
+    {
+        let call = match (kind, xid, count) {
+            (CallKind::OpenRm, None, None) => Call::OpenRm,
+            (CallKind::CloseRm, None, None) => Call::CloseRm,
+            (CallKind::Start, Some(xid), None) => Call::Start {
+                xid,
+                join: flags == TMJOIN,
+            },
+            (CallKind::End, Some(xid), None) => Call::End {
+                xid,
+                fail: flags == TMFAIL,
+            },
+            (CallKind::Prepare, Some(xid), None) => Call::Prepare { xid },
+            (CallKind::Commit, Some(xid), None) => Call::Commit {
+                xid,
+                one_phase: flags == TMONEPHASE,
+            },
+            (CallKind::Rollback, Some(xid), None) => Call::Rollback { xid },
+            (CallKind::Forget, Some(xid), None) => Call::Forget { xid },
+            (CallKind::Recover, None, Some(count)) => Call::Recover {
+                count,
+                start_scan: flags == TMSTARTRSCAN || flags == WHOLE_SCAN,
+                end_scan: flags == TMENDRSCAN || flags == WHOLE_SCAN,
+            },
+            _ => return Err(Code::Invalid),
+        };
+        if flags_of(&call) == flags {
+            Ok(call)
+        } else {
+            Err(Code::Invalid)
+        }
+    }
+}
+
+/// The flags of a call, as one word.
+fn flags_of<X>(call: &Call<X>) -> u32
+    ensures { result ≡ flags_of call.now }
+{
+    match call {
+        Call::Start { join: true, .. } => TMJOIN,
+        Call::End { fail: false, .. } => TMSUCCESS,
+        Call::End { fail: true, .. } => TMFAIL,
+        Call::Commit {
+            one_phase: true,
+            ..
+        } => TMONEPHASE,
+        Call::Recover {
+            start_scan,
+            end_scan,
+            ..
+        } => match (start_scan, end_scan) {
+            (false, false) => TMNOFLAGS,
+            (false, true) => TMENDRSCAN,
+            (true, false) => TMSTARTRSCAN,
+            (true, true) => WHOLE_SCAN,
+        },
+        _ => TMNOFLAGS,
     }
 }
 

@@ -2,9 +2,11 @@
 ghost use Rattle.std.specs.Prelude.{◌≡◌, ◌++◌, [], ◌∷◌, List};
 ghost use Rattle.xa_base.specs.declared.reply.Event.{Event};
 ghost use Rattle.xa_base.specs.Agreement.{IsMoment};
-ghost use Rattle.xa_base.specs.Demanded.{AllDemanded, Demanded, with_steps};
+ghost use Rattle.xa_base.specs.Demanded.{AllDemanded, Demanded, IsDetermined, IsValue, with_steps};
 ghost use Rattle.xa_base.specs.History.{AreDemanded, IsDemanded, happening_of, history};
 ghost use Rattle.xa_base.specs.Right.{AllRight, RightOrigin};
+ghost use Rattle.xa_base.specs.Distinct.{ApartBranches, ApartRecords, ApartRows};
+ghost use Rattle.xa_base.specs.Facts.{branches, heuristic_rows, log, origin};
 ghost use Rattle.xa_base.specs.Steps.{Reply, Step};
 ghost use Rattle.xa_base.specs.Trace.{Origin, Trace, Trace.Then};
 
@@ -16,6 +18,9 @@ pub fn demanded()
     ensures events { (o : Origin) (events : List Event) →
         RightOrigin o → AreDemanded o events → AllRight (history o events) }
     ensures answered { (tr : Trace) (s : Step) → (r : Reply) × Demanded tr s r }
+    ensures valued { (tr : Trace) (s : Step) → (r : Reply) × IsValue tr s r }
+    ensures determined { (tr : Trace) (s : Step) (q r : Reply) →
+        IsDetermined s → IsValue tr s q → IsValue tr s r → q ≡ r }
 {}
 
 /// One event more at the end of a list of events:
@@ -33,4 +38,13 @@ pub fn one_more_event()
         AreDemanded o (events ++ later) → AreDemanded o events }
     ensures moment { (o : Origin) (events later : List Event) (e : Event) →
         IsMoment (history o events) (happening_of e) (history o (events ++ e ∷ later)) }
+{}
+
+/// Nothing is listed twice: no transaction has two rows, where none had at the start; no branch has two records, where none
+/// had; and no branch is started twice.
+pub fn listed_once()
+    ensures rows { (tr : Trace) → AllRight tr → ApartRows (origin tr).rows → ApartRows (log tr) }
+    ensures records { (tr : Trace) →
+        ApartRecords (origin tr).heuristic_rows → ApartRecords (heuristic_rows tr) }
+    ensures branches { (tr : Trace) → AllRight tr → ApartBranches (branches tr) }
 {}

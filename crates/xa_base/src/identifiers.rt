@@ -1,15 +1,16 @@
 //! Identifiers and the names that histories know them by.
-ghost use Rattle.std.specs.Prelude.{◌≡◌, ◌⊎◌, All, List, None, Some, map};
-ghost use Rattle.xa_base.specs.Branch.{IsBranch, branch_of_xid, xid_of_branch};
+ghost use Rattle.std.specs.Prelude.{◌≡◌, ℤ, All, List, None, Option, Some, map, option_map};
+ghost use Rattle.std.specs.Ordering.{eq_by_cmp};
+ghost use Rattle.xa_base.specs.Scan.{page_of};
+ghost use Rattle.xa_base.specs.Branch.{IsBranch, branch_cmp, branch_eq, gtrid_cmp, gtrid_eq, branch_of_xid, xid_of_branch};
 ghost use Rattle.xa_base.specs.Xid.{IsXid, Xid, xid_cmp};
 ghost use Rattle.xa_base.specs.Demanded.{Demanded};
 ghost use Rattle.xa_base.specs.History.{name_of, reply_of, step_of};
 ghost use Rattle.xa_base.specs.InDoubt.{name_cmp, xid_of_name};
-ghost use Rattle.xa_base.specs.ReadBack.{ReplyHasXids, StepHasXids, reply_back, step_back};
-ghost use Rattle.xa_base.specs.Steps.{Step as KnownStep, Reply as KnownReply};
+ghost use Rattle.xa_base.specs.ReadBack.{AnswersOurs, ReplyHasXids, StepHasXids, reply_back, step_back};
 ghost use Rattle.xa_base.specs.declared.reply.Reply.{Reply};
 ghost use Rattle.xa_base.specs.declared.step.Step.{Step};
-ghost use Rattle.xa_base.specs.Trace.{Branch, Name.Foreign, Name.Ours, Trace};
+ghost use Rattle.xa_base.specs.Trace.{Gtrid, Branch, Name, Name.Foreign, Name.Ours, Trace};
 
 /// An identifier and its name are the same thing:
 ///
@@ -26,15 +27,28 @@ pub fn names()
         IsXid x → IsXid y → name_cmp (name_of x) (name_of y) ≡ xid_cmp x y }
 {}
 
-/// Nothing of a step or a reply is lost in what a history knows of it, and nothing that it can't know is let through:
+/// Nothing of a step or a reply is lost in what a history knows of it:
 ///
-/// - `steps`: what a history knows of a step gives the step back;
-/// - `replies`: what it knows of a reply gives the reply back, but for an answer to a call on another manager's
-///   identifier;
-/// - `possible`: no history demands such an answer.
+/// - `steps`, `replies`: what a history knows of a step, or of a reply, gives it back;
+/// - `ours`: no history demands an answer to a call on another manager's identifier.
 pub fn read_back()
-    ensures steps { (s : Step) → StepHasXids s → step_back (step_of s) ≡ s }
-    ensures replies { (r : Reply) →
-        ReplyHasXids r → (reply_of r ≡ KnownReply.Impossible) ⊎ (reply_back (reply_of r) ≡ Some r) }
-    ensures possible { (tr : Trace) (s : KnownStep) → Demanded tr s KnownReply.Impossible → ⊥ }
+    ensures steps { (s : Step Xid) → StepHasXids s → step_back (step_of s) ≡ s }
+    ensures replies { (r : Reply Xid) → ReplyHasXids r → reply_back (reply_of r) ≡ r }
+    ensures ours { (tr : Trace) (s : Step Name) (r : Reply Name) → Demanded tr s r → AnswersOurs r }
+{}
+
+/// Branches are in the order of their identifiers (`order`), and the numbers of a branch that an identifier names fit (`fit`).
+pub fn branches_in_order()
+    ensures fit { (x : Xid) (b : Branch) → IsXid x → branch_of_xid x ≡ Some b → IsBranch b }
+    ensures order { (b c : Branch) →
+        IsBranch b → IsBranch c → xid_cmp (xid_of_branch b) (xid_of_branch c) ≡ branch_cmp b c }
+{}
+
+/// Tests.
+pub fn ties()
+    ensures g { (g h : Gtrid) → gtrid_eq g h ≡ eq_by_cmp gtrid_cmp g h }
+    ensures b { (b c : Branch) → branch_eq b c ≡ eq_by_cmp branch_cmp b c }
+    ensures pages { (count : ℤ) (from : Option (Option Name)) (xs : List Name) →
+        option_map (map xid_of_name) (page_of name_cmp count from xs)
+        ≡ page_of xid_cmp count (option_map (option_map xid_of_name) from) (map xid_of_name xs) }
 {}

@@ -1,18 +1,18 @@
 //! Replies to steps, and the events that steps and replies make.
 
-use crate::{Answer, Call, Gtrid, Refusal, Step};
+use crate::{Answer, Call, Gtrid, Refusal, Step, Xid};
 
 /// What the system replies to a step.
 #[derive(PartialEq, Eq, Debug, Drop)]
-pub enum Reply {
+pub enum Reply<X = Xid> {
     /// A transaction was begun.
     Begun(Gtrid),
     /// The call waits on its line.
     Issued,
     /// The resource manager took this call and gave this answer.
-    Took(Call, Answer),
+    Took(Call<X>, Answer<X>),
     /// The manager heard this answer to this call.
-    Heard(Call, Answer),
+    Heard(Call<X>, Answer<X>),
     /// Nothing waits on the line.
     Nothing,
     /// It is done.

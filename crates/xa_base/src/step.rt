@@ -30,9 +30,9 @@ pub enum Side {
     Manager,
 }
 
-/// One step of the system. Threads and resource managers are numbered from 0.
+/// One step of the system. Threads and resource managers are numbered from 0. Branches are named by X.
 #[derive(PartialEq, Eq, Debug, Drop)]
-pub enum Step {
+pub enum Step<X = Xid> {
     /// A thread begins a transaction.
     Begin {
         thread: u32,
@@ -41,7 +41,7 @@ pub enum Step {
     Issue {
         thread: u32,
         rm: u32,
-        call: Call,
+        call: Call<X>,
     },
     /// A resource manager takes the oldest call that waits, and answers it.
     Take {
@@ -56,19 +56,19 @@ pub enum Step {
     /// The resource manager is to vote so on the branch.
     Vote {
         rm: u32,
-        xid: Xid,
+        xid: X,
         vote: Vote,
     },
     /// The resource manager is to put off so many commits of the prepared branch.
     Busy {
         rm: u32,
-        xid: Xid,
+        xid: X,
         times: u32,
     },
     /// The resource manager ends the prepared branch by itself.
     Heuristic {
         rm: u32,
-        xid: Xid,
+        xid: X,
         how: How,
     },
     /// The transaction's outcome is decided.

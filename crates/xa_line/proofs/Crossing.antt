@@ -11,8 +11,10 @@ use Rattle.rtrb.proofs.producer.Producer.TheSendSync as Producer
 use Rattle.rtrb.proofs.consumer.Consumer.TheSendSync as Consumer
 use Rattle.xa_base.specs.contracts.call.Call as Call
 use Rattle.xa_base.specs.contracts.answer.Answer as Answer
+use Rattle.xa_base.specs.contracts.xid.Xid as Xid
 use Rattle.xa_base.proofs.call.Call.TheSendSync as CallSent
 use Rattle.xa_base.proofs.answer.Answer.TheSendSync as AnswerSent
+use Rattle.xa_base.proofs.xid.Xid.TheSendSync as XidSent
 use Rattle.xa_line.specs.contracts.entry.Entry as Entry
 use Rattle.xa_line.specs.contracts.exit.Exit as Exit
 use Rattle.xa_line.specs.contracts.gate.Gate as Gate
@@ -29,11 +31,23 @@ exit_send T s =
     declared_send (Exit.the_type T)
     (Consumer.the_send T Global.the_row AnyItems.the_row _ _ s (search (sendable, crosses)) frees, (search (sendable, crosses), tt))
 
+abbrev call : RattleType
+call = Call.the_row Xid.the_row
+
+pub call_send : IsSend call
+call_send = CallSent.the_send Xid.the_row XidSent.the_send
+
+abbrev answer : RattleType
+answer = Answer.the_row Xid.the_row
+
+answer_send : IsSend answer
+answer_send = AnswerSent.the_send Xid.the_row XidSent.the_send
+
 abbrev pair : RattleType
-pair = Tuple (Call.the_row ∷ Answer.the_row ∷ [])
+pair = Tuple (call ∷ answer ∷ [])
 
 pair_send : IsSend pair
-pair_send = search (sendable, CallSent.the_send, AnswerSent.the_send)
+pair_send = search (sendable, call_send, answer_send)
 
 gate_send : IsSend Gate.the_row
 gate_send = declared_send Gate.the_type (search sendable, (search sendable, tt))
@@ -41,9 +55,9 @@ gate_send = declared_send Gate.the_type (search sendable, (search sendable, tt))
 pub issuer_send : IsSend Issuer.the_row
 issuer_send =
     declared_send Issuer.the_type
-    (entry_send Call.the_row CallSent.the_send, (exit_send pair pair_send, (gate_send, tt)))
+    (entry_send call call_send, (exit_send pair pair_send, (gate_send, tt)))
 
 pub taker_send : IsSend Taker.the_row
 taker_send =
     declared_send Taker.the_type
-    (exit_send Call.the_row CallSent.the_send, (entry_send pair pair_send, tt))
+    (exit_send call call_send, (entry_send pair pair_send, tt))

@@ -1,61 +1,29 @@
 -- The calls of a line say what they say in a history.
-use Rattle.std.proofs.Common.{◌≡◌, refl, sym, ◌∙◌, ap, ℕ, List, [], ◌∷◌, Some, Bool, false, not}
-use Rattle.std.proofs.lemmas.Option.{none-some, same_Some}
+use Rattle.std.proofs.Common.{◌≡◌, refl, sym, List, [], ◌∷◌, map, Bool, ◌&&◌, ◌||◌, not}
 use Rattle.std.specs.List.{list_any}
-use Rattle.xa_base.specs.History.{accepted, asked_of, step_of}
-use Rattle.xa_base.specs.Issued as known
-use Rattle.xa_base.specs.Rules as demanded
-use Rattle.xa_base.specs.Steps.{Asked.Ask}
-use Rattle.xa_base.specs.Trace.{Call as KnownCall, Call.On, Kind, Name, Name.Ours, Name.Foreign, Trace, line}
-use Rattle.xa_base.specs.declared.branch.Branch.{Branch}
+use Rattle.xa_base.specs.Call.{map_call}
+use Rattle.xa_base.specs.Opening.{opens, closes, has_opened, has_closed, comes_unopened}
 use Rattle.xa_base.specs.declared.call.Call.{Call}
 use Rattle.xa_base.specs.declared.call.Call.TheVariants as Calls
-use Rattle.xa_base.specs.declared.step.Step.TheVariants.{Issue}
-use Rattle.xa_line.specs.Histories.{AreKnownAs}
-use Rattle.xa_line.specs.Traffic.{opens, closes, is_open, is_closed, not_open}
 
--- ** one call
+module _ {X Y : Type 0} (f : X → Y) where
+  opens_mapped : (c : Call X) → opens (map_call f c) ≡ opens c
+  opens_mapped Calls.OpenRm = refl
+  opens_mapped _ = refl
 
--- a call on a branch neither opens nor closes
-on_a_branch : (test : KnownCall → Bool) → ((kind : Kind) (b : Branch) → test (On kind b) ≡ false)
-    → (kind : Kind) (n : Name) (k : KnownCall) → accepted (Ask kind n) ≡ Some k → false ≡ test k
-on_a_branch test fails kind (Ours b) k e = sym (fails kind b) ∙ ap test (same_Some _ _ e)
-on_a_branch test fails kind (Foreign x) k e = absurd (none-some _ e)
+  closes_mapped : (c : Call X) → closes (map_call f c) ≡ closes c
+  closes_mapped Calls.CloseRm = refl
+  closes_mapped _ = refl
 
-opens_alike : (c : Call) (k : KnownCall) → accepted (asked_of c) ≡ Some k → opens c ≡ known.opens k
-opens_alike Calls.OpenRm k e = ap known.opens (same_Some _ _ e)
-opens_alike Calls.CloseRm k e = ap known.opens (same_Some _ _ e)
-opens_alike (Calls.Recover count start end) k e = ap known.opens (same_Some _ _ e)
-opens_alike c k e = on_a_branch known.opens (λ _ _. refl) _ _ k e
+  pub opened_mapped : (cs : List (Call X)) → has_opened (map (map_call f) cs) ≡ has_opened cs
+  opened_mapped [] = refl
+  opened_mapped (c ∷ cs) = λ i. opens_mapped c i || opened_mapped cs i
 
-closes_alike : (c : Call) (k : KnownCall) → accepted (asked_of c) ≡ Some k → closes c ≡ known.closes k
-closes_alike Calls.OpenRm k e = ap known.closes (same_Some _ _ e)
-closes_alike Calls.CloseRm k e = ap known.closes (same_Some _ _ e)
-closes_alike (Calls.Recover count start end) k e = ap known.closes (same_Some _ _ e)
-closes_alike c k e = on_a_branch known.closes (λ _ _. refl) _ _ k e
+  pub closed_mapped : (cs : List (Call X)) → has_closed (map (map_call f) cs) ≡ has_closed cs
+  closed_mapped [] = refl
+  closed_mapped (c ∷ cs) = λ i. closes_mapped c i || closed_mapped cs i
 
--- ** all calls of a line
-
--- whether one of the calls passes a test
-some_alike : (test : Call → Bool) (known_test : KnownCall → Bool)
-    → ((c : Call) (k : KnownCall) → accepted (asked_of c) ≡ Some k → test c ≡ known_test k)
-    → (calls : List Call) (ks : List KnownCall) → AreKnownAs calls ks → list_any test calls ≡ known.some_call known_test ks
-some_alike test known_test alike [] [] e = refl
-some_alike test known_test alike [] (k ∷ ks) e = absurd cc
-some_alike test known_test alike (c ∷ cs) [] e = absurd cc
-some_alike test known_test alike (c ∷ cs) (k ∷ ks) e =
-    let h : accepted (asked_of c) ≡ Some k = cc in
-    let t : AreKnownAs cs ks = cc in
-    rw (alike c k h, some_alike test known_test alike cs ks t) refl
-
-pub open_alike : (calls : List Call) (ks : List KnownCall) → AreKnownAs calls ks → is_open calls ≡ known.some_call known.opens ks
-open_alike calls ks e = some_alike opens known.opens opens_alike calls ks e
-
-pub closed_alike : (calls : List Call) (ks : List KnownCall) → AreKnownAs calls ks → is_closed calls ≡ known.some_call known.closes ks
-closed_alike calls ks e = some_alike closes known.closes closes_alike calls ks e
-
--- a call that isn't xa_open
-pub not_open_alike : (tr : Trace) (t r : ℕ) (c : Call) (calls : List Call) → AreKnownAs calls (known.issued tr (line t r))
-    → not_open calls c ≡ demanded.not_open tr (step_of (Issue t r c))
-not_open_alike tr t r Calls.OpenRm calls e = refl
-not_open_alike tr t r c calls e = ap not (open_alike calls (known.issued tr (line t r)) e)
+-- names matter neither in the call nor in those before it
+pub unopened_mapped : {X Y Z W : Type 0} (f : X → Y) (g : Z → W) (cs : List (Call X)) (c : Call Z)
+    → comes_unopened (map (map_call f) cs) c ≡ comes_unopened cs (map_call g c)
+unopened_mapped f g cs c = λ i. not (sym (opens_mapped g c) i) && not (opened_mapped f cs i)

@@ -1,6 +1,6 @@
 //! Which calls a line lets through.
 ghost use Rattle.std.specs.Prelude.{◌≡◌};
-ghost use Rattle.xa_line.specs.Traffic.{closes, opens};
+ghost use Rattle.xa_base.specs.Opening.{closes, opens};
 
 use xa_base::{Call, Refusal};
 

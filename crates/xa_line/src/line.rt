@@ -38,7 +38,8 @@ impl Line {
     ghost use Rattle.xa_line.specs.Ends.{AreEndsOfOne, answered_by, heard_by, issued_by, taken_by};
     ghost use Rattle.xa_line.specs.Ends.{free_answers_of, free_calls_of, seen_answers_of, seen_calls_of};
     ghost use Rattle.xa_line.specs.Traffic.{PassesOn, no_traffic, places, refusal, with_one_more};
-    ghost use Rattle.xa_line.specs.Traffic.{answered, heard, is_closed, is_open, issued, taken};
+    ghost use Rattle.xa_base.specs.Opening.{has_closed, has_opened};
+    ghost use Rattle.xa_line.specs.Traffic.{answered, heard, issued, taken};
 
     /// A line that isn't open, where nothing waits. Takes all the memory that the line ever needs.
     pub fn new(alloc: Global) -> Result<Line, Memory>
@@ -139,14 +140,14 @@ impl Line {
 
     /// Whether an xa_open was issued since the line was new or renewed. A closed line is open too.
     pub fn is_open(&self) -> bool
-        ensures { result ≡ is_open (issued self.now) }
+        ensures { result ≡ has_opened (issued self.now) }
     {
         self.gate.opened
     }
 
     /// Whether an xa_close was issued since the line was new or renewed.
     pub fn is_closed(&self) -> bool
-        ensures { result ≡ is_closed (issued self.now) }
+        ensures { result ≡ has_closed (issued self.now) }
     {
         self.gate.closed
     }

@@ -32,7 +32,7 @@ called_as asked k y is thread b after held kind x e =
     subst (λ (i : Kind). after ≡ called thread i b) kinds (held thread)
 
 -- what xa_commit asks, by its flag
-pub commit_asks : (call : Call) (xid : Xid) (one_phase : Bool) → call ≡ Calls.Commit xid one_phase → (b : Bool) → one_phase ≡ b → asks_of call ≡ Some (commit_kind b, xid)
+pub commit_asks : (call : Call Xid) (xid : Xid) (one_phase : Bool) → call ≡ Calls.Commit xid one_phase → (b : Bool) → one_phase ≡ b → asks_of call ≡ Some (commit_kind b, xid)
 commit_asks call xid one_phase is b e = ap asks_of (is ∙ ap (Calls.Commit xid) e)
 
 asking : Kind → Xid → Option (Kind × Xid)
@@ -43,7 +43,7 @@ unfolding asking
 asks_as kind y x e = let same : y ≡ x = cc in ap (asking kind) same
 
 -- a call that names a branch asks something of it
-pub asks_named : (call : Call) (x : Xid) → xid_in call ≡ Some x → (kind : Kind) × (asks_of call ≡ Some (kind, x))
+pub asks_named : (call : Call Xid) (x : Xid) → xid_in call ≡ Some x → (kind : Kind) × (asks_of call ≡ Some (kind, x))
 unfolding asking
 asks_named Calls.OpenRm x e = let no : ⊥ = cc in absurd no
 asks_named Calls.CloseRm x e = let no : ⊥ = cc in absurd no

@@ -19,31 +19,31 @@ use Rattle.xa_base.specs.declared.vote.Vote.{Vote}
 -- ** calls
 
 -- the answer to a call, where these branches are held and these identifiers are in doubt, and the caller's scan stands so
-abbrev pub answer_to : (Xid → HeldBranch) → Scan Xid → (in_doubt : List Xid) → Call → Answer
+abbrev pub answer_to : (Xid → HeldBranch) → Scan Xid → (in_doubt : List Xid) → Call Xid → Answer Xid
 answer_to held scan in_doubt (Recover count start end) = page_answer (xid_page scan count start in_doubt)
 answer_to held scan in_doubt call = Ret (code_for held call)
 
 -- the caller's scan after its call: only xa_recover moves it
-abbrev pub scan_after_own : Call → (in_doubt : List Xid) → Scan Xid → Scan Xid
+abbrev pub scan_after_own : Call Xid → (in_doubt : List Xid) → Scan Xid → Scan Xid
 scan_after_own (Recover count start end) in_doubt scan = scan_after scan start end (xid_page scan count start in_doubt)
 scan_after_own call in_doubt scan = scan
 
 -- the scan of thread t after a call of `thread`: as before, where that is another
-abbrev pub scan_after_call : (thread : ℕ) → Call → (in_doubt : List Xid) → (t : ℕ) → Scan Xid → Scan Xid
+abbrev pub scan_after_call : (thread : ℕ) → Call Xid → (in_doubt : List Xid) → (t : ℕ) → Scan Xid → Scan Xid
 scan_after_call thread call in_doubt t scan = if t == thread then scan_after_own call in_doubt scan else scan
 
 -- whether a call opens or closes the line on which it comes, and so names no branch
-abbrev pub is_of_line : Call → Bool
+abbrev pub is_of_line : Call Xid → Bool
 is_of_line OpenRm = true
 is_of_line CloseRm = true
 is_of_line _ = false
 
 -- the xa_recover with these flags; none, where they are other than TMSTARTRSCAN, TMENDRSCAN and both together
-abbrev pub recover_of : (count : ℤ) → (flags : ℕ) → Option Call
+abbrev pub recover_of : (count : ℤ) → (flags : ℕ) → Option (Call Xid)
 recover_of count flags = call_with Kind.Recover None flags (Some count)
 
 -- the answer to an xa_recover with these flags, and XAER_INVAL where there is none
-abbrev pub answer_to_recover : (Xid → HeldBranch) → Scan Xid → (in_doubt : List Xid) → (count : ℤ) → (flags : ℕ) → Answer
+abbrev pub answer_to_recover : (Xid → HeldBranch) → Scan Xid → (in_doubt : List Xid) → (count : ℤ) → (flags : ℕ) → Answer Xid
 answer_to_recover held scan in_doubt count flags =
     option_map_or (answer_to held scan in_doubt) (recover_of count flags) (Ret Invalid)
 

@@ -1,9 +1,7 @@
-pub mod CallsMade
 pub mod EntryLemmas
 pub mod FlagLemmas
 pub mod LineLemmas
 pub mod ListedLemmas
-pub mod MadeLemmas
 pub mod RequestLemmas
 pub mod RunLemmas
 pub mod TableLemmas

@@ -13,7 +13,7 @@ use Rattle.xa_base.specs.declared.call.Call.TheVariants.{OpenRm, CloseRm, Start,
 use Rattle.xa_base.specs.declared.vote.Vote.{Vote}
 use Rattle.xa_rm.specs.ResourceManager.{changed_at, voting}
 use Rattle.xatm.specs.Requests.{Request, Request.Applies, Request.Votes, requests_of, voted, branch_after, starts, is_started, HasDone}
-use Rattle.xatm.specs.CallEntry.{xid_named}
+use Rattle.xatm.specs.Entries.{xid_named}
 use Rattle.xatm.specs.declared.entry.BranchEntry.{BranchEntry}
 use Rattle.xatm.specs.declared.entry.Entry.TheVariants as entries
 
@@ -63,7 +63,7 @@ either true b = refl
 either false b = refl
 
 -- the set after the identifier of an xa_start went in
-pub start_kept : (call : Call) (named k : Xid) (join : Bool) (started grown : BTreeSet Xid) → call ≡ Start named join → k ≡ named
+pub start_kept : (call : Call Xid) (named k : Xid) (join : Bool) (started grown : BTreeSet Xid) → call ≡ Start named join → k ≡ named
     → ((x : Xid) → contains xid_cmp grown x ≡ cond (is_at (xid_cmp k) x) true (contains xid_cmp started x))
     → (x : Xid) → contains xid_cmp grown x ≡ (starts x (Applies call) || contains xid_cmp started x)
 start_kept call named k join started grown is same put x =
@@ -71,11 +71,11 @@ start_kept call named k join started grown is same put x =
     ∙ ap (λ c. starts x (Applies c) || contains xid_cmp started x) (sym is)
 
 -- the call is no xa_start
-abbrev pub IsNoStart : Call → Type 0
+abbrev pub IsNoStart : Call Xid → Type 0
 IsNoStart call = (xid : Xid) (join : Bool) → call ≡ Start xid join → ⊥
 
 -- a call that is no xa_start starts nothing
-pub starts_nothing : (x : Xid) (call : Call) → IsNoStart call → starts x (Applies call) ≡ false
+pub starts_nothing : (x : Xid) (call : Call Xid) → IsNoStart call → starts x (Applies call) ≡ false
 starts_nothing x (Start xid join) = λ other. absurd (other xid join refl)
 starts_nothing x OpenRm = λ other. refl
 starts_nothing x CloseRm = λ other. refl

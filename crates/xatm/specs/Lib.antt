@@ -1,4 +1,4 @@
-pub mod CallEntry
+pub mod Entries
 pub mod Fates
 pub mod Failures
 pub mod Faults

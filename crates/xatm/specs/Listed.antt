@@ -1,12 +1,9 @@
 -- Each table of the steps by itself: what it asks for, after the names that the tables before it begin.
-use Rattle.std.specs.Prelude.{◌≡◌, ℕ, zero, suc, ◌+◌, ◌<◌, List, [], ◌∷◌, ◌++◌, slice_get, IsSome, Some, None, Result, Ok, Err}
+use Rattle.std.specs.Prelude.{◌≡◌, ℕ, zero, suc, ◌+◌, ◌<◌, List, [], ◌∷◌, ◌++◌, slice_get, Some, None, Result, Ok, Err}
 use Rattle.toml.specs.Data.{Data, Items, no_items, item, get_item}
 use Rattle.xatm.specs.Tables.{Names}
-use Rattle.xatm.specs.CallEntry.{call_of}
-use Rattle.xatm.specs.Scenarios.{Plan, name_in, entry_at, entries_from, scenario_of}
-use Rattle.xatm.specs.declared.entry.CallEntry.{CallEntry}
+use Rattle.xatm.specs.Scenarios.{name_in, entry_at, entries_from, scenario_of}
 use Rattle.xatm.specs.declared.entry.Entry.{Entry}
-use Rattle.xatm.specs.declared.entry.Entry.TheVariants as entries
 use Rattle.xatm.specs.declared.fault.RunFault.{RunFault}
 use Rattle.xatm.specs.declared.fault.RunFault.TheVariants.{NotToml, Header, Step}
 
@@ -35,11 +32,6 @@ EachIsRead = (items : Items) (entries : List Entry) → entries_from 1 [] items 
 abbrev pub FirstIsFaulty : Type 0
 FirstIsFaulty = (items : Items) (fault : RunFault) → entries_from 1 [] items ≡ Err fault
     → (k : ℕ) × Asks items k (Err fault) × ((j : ℕ) → j < k → (entry : Entry) × Asks items j (Ok entry))
-
--- Each call of a scenario is one that can be made.
-abbrev pub EachCallIsMade : Type 0
-EachCallIsMade = (text : List ℕ) (plan : Plan) → scenario_of text ≡ Ok plan
-    → (k : ℕ) (call : CallEntry) → slice_get plan.entries k ≡ Some (entries.Call call) → IsSome (call_of call)
 
 -- a fault that a text can have: it is no TOML, its header is faulty, or a step
 abbrev pub IsTextFault : RunFault → Type 0

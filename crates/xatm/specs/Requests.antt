@@ -1,7 +1,8 @@
 -- What a scenario asks of its one resource manager, and what becomes of each branch.
-use Rattle.std.specs.Prelude.{◌≡◌, Bool, false, ◌&&◌, ◌==◌, if◌then◌else◌, List, [], ◌∷◌, ◌++◌, Option, Some, None, fold}
+use Rattle.std.specs.Prelude.{◌≡◌, Bool, false, ◌&&◌, ◌==◌, if◌then◌else◌, List, [], ◌∷◌, ◌++◌, fold}
 use Rattle.std.specs.BTreeSet.{BTreeSet, contains}
 use Rattle.std.specs.List.{flat_map, list_any}
+use Rattle.xa_base.specs.Call.{map_call}
 use Rattle.xa_base.specs.HeldBranch.{HeldBranch, new_branch, held_after}
 use Rattle.xa_base.specs.Standing.{is_in_doubt}
 use Rattle.xa_base.specs.Xid.{Xid, xid_cmp, xid_eq}
@@ -9,24 +10,19 @@ use Rattle.xa_base.specs.declared.call.Call.{Call}
 use Rattle.xa_base.specs.declared.call.Call.TheVariants.{Start}
 use Rattle.xa_base.specs.declared.vote.Vote.{Vote}
 use Rattle.xa_rm.specs.ResourceManager.{changed_at, voting}
-use Rattle.xatm.specs.CallEntry.{call_of, xid_named}
+use Rattle.xatm.specs.Entries.{xid_named}
 use Rattle.xatm.specs.declared.entry.Entry.{Entry}
 use Rattle.xatm.specs.declared.entry.Entry.TheVariants as entries
 
 -- a call of thread 0, or a vote that is set for a branch
 pub data Request : Type 0 where
-  Applies : Call → Request
+  Applies : Call Xid → Request
   Votes : Xid → Vote → Request
-
--- the request of a call, if there is one
-abbrev pub applies : Option Call → List Request
-applies None = []
-applies (Some call) = Applies call ∷ []
 
 -- what an entry asks; nothing, where it is a `begin`, or names a thread or resource manager other than the one that there is
 abbrev pub requests_of : Entry → List Request
 requests_of (entries.Begin thread) = []
-requests_of (entries.Call call) = if call.thread == 0 && call.rm == 0 then applies (call_of call) else []
+requests_of (entries.Call thread rm call) = if thread == 0 && rm == 0 then Applies (map_call (xid_named rm) call) ∷ [] else []
 requests_of (entries.Vote rm branch vote) = if rm == 0 then Votes (xid_named rm branch) vote ∷ [] else []
 
 -- what the entries of a scenario ask, in turn

@@ -1,13 +1,12 @@
 -- What each table of a scenario file asks for. The names of the `begin` tables before it are `begun`.
-use Rattle.std.specs.Prelude.{ℕ, ◌+◌, ℤ, ◌||◌, is_some, nat_lt, length, if◌then◌else◌, List, [], ◌∷◌, codes, Option, Some, None, option_map, position}
+use Rattle.std.specs.Prelude.{ℕ, ◌+◌, ℤ, ◌||◌, nat_lt, length, if◌then◌else◌, List, [], ◌∷◌, codes, Option, Some, None, option_map, position}
 use Rattle.std.specs.Str.{bytes_eq}
 use Rattle.toml.specs.Data.{Members}
-use Rattle.xatm.specs.CallEntry.{call_of}
+use Rattle.xa_base.specs.Call.{call_with}
 use Rattle.xatm.specs.Fields.{◌>>=◌, is_among, has_only, text_at, integer_at, index_at, holds, index_or, name_at}
 use Rattle.xatm.specs.Flags.{flags_at}
 use Rattle.xatm.specs.Words.{entry_named, call_named, vote_named}
 use Rattle.xatm.specs.declared.entry.BranchEntry.{BranchEntry}
-use Rattle.xatm.specs.declared.entry.CallEntry.{CallEntry}
 use Rattle.xatm.specs.declared.entry.Entry.{Entry}
 use Rattle.xatm.specs.declared.entry.Entry.TheVariants as entries
 use Rattle.xatm.specs.declared.words.EntryKind.{EntryKind}
@@ -44,10 +43,6 @@ count_at table = if holds (codes "count") table then option_map Some (integer_at
 abbrev pub only : {A : Type 0} → List (List ℕ) → Members → Option A → Option A
 only keys table entry = if has_only (codes "do" ∷ keys) table then entry else None
 
--- a call that can be made
-abbrev pub checked : CallEntry → Option CallEntry
-checked call = if is_some (call_of call) then Some call else None
-
 -- a `begin` names its transaction anew, and there are at most 1,000
 unfoldable pub begin_row : Names → Members → Option Entry
 begin_row begun table = only (codes "thread" ∷ codes "tx" ∷ []) table (do
@@ -59,16 +54,17 @@ begin_row begun table = only (codes "thread" ∷ codes "tx" ∷ []) table (do
 abbrev pub call_keys : List (List ℕ)
 call_keys = codes "thread" ∷ codes "rm" ∷ codes "xa" ∷ codes "tx" ∷ codes "of" ∷ codes "flags" ∷ codes "count" ∷ []
 
--- the parts of a call; a branch's thread is the call's own, where the table names none
-unfoldable pub call_at : Names → Members → Option CallEntry
-call_at begun table = do
+-- a call of these parts; a branch's thread is the call's own, where the table names none
+unfoldable pub call_row : Names → Members → Option Entry
+call_row begun table = only call_keys table (do
   thread ← index_at (codes "thread") table
   rm ← index_at (codes "rm") table
   kind ← text_at (codes "xa") table >>= call_named
   branch ← branch_if_named begun thread table
   flags ← flags_at table
   count ← count_at table
-  checked (record { thread = thread; rm = rm; kind = kind; branch = branch; flags = flags; count = count })
+  call ← call_with kind branch flags count
+  Some (entries.Call thread rm call))
 
 -- a `vote`; the branch's thread is 0, where the table names none
 unfoldable pub vote_row : Names → Members → Option Entry
@@ -81,7 +77,7 @@ vote_row begun table = only (codes "rm" ∷ codes "tx" ∷ codes "of" ∷ codes 
 -- the row of a kind
 abbrev pub row_of : EntryKind → Names → Members → Option Entry
 row_of kinds.Begin begun table = begin_row begun table
-row_of kinds.Call begun table = only call_keys table (call_at begun table) >>= λ call. Some (entries.Call call)
+row_of kinds.Call begun table = call_row begun table
 row_of kinds.Vote begun table = vote_row begun table
 
 -- what a table asks for

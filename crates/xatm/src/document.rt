@@ -4,7 +4,7 @@ ghost use Rattle.std.specs.Prelude.{◌≡◌, ℕ, ◌^◌, ◌+◌, List, [], 
 ghost use Rattle.toml.specs.View.{view, table_view, items_view};
 ghost use Rattle.xatm.specs.Headers.{are_tables, steps_at, size_at, header_at, name_begun};
 ghost use Rattle.xatm.specs.Scenarios.{Gives, plan_of, entry_at, name_in, names_after, entries_from, document_of, header_of, scenario_of};
-ghost use Rattle.xatm.specs.Listed.{EachIsRead, FirstIsFaulty, EachCallIsMade, FaultsAreOfTexts};
+ghost use Rattle.xatm.specs.Listed.{EachIsRead, FirstIsFaulty, FaultsAreOfTexts};
 
 use crate::entry::Entry;
 use crate::fault::RunFault;
@@ -166,11 +166,6 @@ pub fn read_scenario(alloc: Global, text: &[u8]) -> Result<Scenario, RunFault>
 pub fn tables_are_read_in_turn()
     ensures each_is_read { EachIsRead }
     ensures first_is_faulty { FirstIsFaulty }
-{}
-
-/// Each call of a scenario is one that can be made.
-pub fn calls_can_be_made()
-    ensures { EachCallIsMade }
 {}
 
 /// A text has no other faults than these: it is no TOML, its header is faulty, or a step.

@@ -1,7 +1,9 @@
 //! What a table of a scenario file asks for.
 ghost use Rattle.std.specs.Prelude.{◌≡◌};
+ghost use Rattle.xa_base.specs.Call.{map_call};
+ghost use Rattle.xatm.specs.Entries.{xid_named};
 
-use xa_base::{Branch, Call, CallKind, Gtrid, Vote, Xid};
+use xa_base::{Branch, Call, Gtrid, Vote, Xid};
 
 /// The incarnation of the one run of a resource manager.
 const INCARNATION: u64 = 1;
@@ -16,8 +18,6 @@ pub struct BranchEntry {
 }
 
 impl BranchEntry {
-    ghost use Rattle.xatm.specs.CallEntry.{xid_named};
-
     /// The branch's identifier at a resource manager. No memory is taken.
     pub fn xid(&self, rm: u32) -> Xid
         ensures { result ≡ xid_named rm self.now }
@@ -35,47 +35,53 @@ impl BranchEntry {
     }
 }
 
-/// A call of a thread to a resource manager, by its parts (XA, chapter 5). Threads and resource managers are numbered
-/// from 0; any number may stand there, also where the system has no such thread or resource manager.
-#[derive(Clone, Copy, Debug, PartialEq, Eq)]
-pub struct CallEntry {
-    pub thread: u32,
-    pub rm: u32,
-    pub kind: CallKind,
-    /// The branch that the call names.
-    pub branch: Option<BranchEntry>,
-    /// The flags together, as one number (XA, section 4.4, Flag Definitions).
-    pub flags: u32,
-    /// How many identifiers an xa_recover may list.
-    pub count: Option<i64>,
-}
-
-impl CallEntry {
-    ghost use Rattle.xatm.specs.CallEntry.{call_of};
-
-    /// The call of these parts; None where its kind takes no such flags, or must or can't have a branch or a count. No
-    /// memory is taken.
-    pub fn call(&self) -> Option<Call>
-        ensures { result ≡ call_of self.now }
-    {
-        let xid = match self.branch {
-            Some(branch) => Some(branch.xid(self.rm)),
-            None => None,
-        };
-        Call::of(self.kind, xid, self.flags, self.count).ok()
+/// The call on the branch's identifier at a resource manager. No memory is taken.
+pub fn call_at(call: &Call<BranchEntry>, rm: u32) -> Call
+    ensures { result ≡ map_call (xid_named rm) call.now }
+{
+    match call {
+        Call::OpenRm => Call::OpenRm,
+        Call::CloseRm => Call::CloseRm,
+        Call::Start { xid, join } => Call::Start {
+            xid: xid.xid(rm),
+            join: *join,
+        },
+        Call::End { xid, fail } => Call::End {
+            xid: xid.xid(rm),
+            fail: *fail,
+        },
+        Call::Prepare { xid } => Call::Prepare { xid: xid.xid(rm) },
+        Call::Commit { xid, one_phase } => Call::Commit {
+            xid: xid.xid(rm),
+            one_phase: *one_phase,
+        },
+        Call::Rollback { xid } => Call::Rollback { xid: xid.xid(rm) },
+        Call::Forget { xid } => Call::Forget { xid: xid.xid(rm) },
+        Call::Recover {
+            count,
+            start_scan,
+            end_scan,
+        } => Call::Recover {
+            count: *count,
+            start_scan: *start_scan,
+            end_scan: *end_scan,
+        },
     }
 }
 
 /// One table of a scenario file. Threads and resource managers are numbered from 0.
-#[derive(Clone, Copy, Debug, PartialEq, Eq)]
+#[derive(Debug, PartialEq, Eq, Drop)]
 pub enum Entry {
     /// A transaction is begun.
     Begin {
         thread: u32,
     },
-    /// A call is made.
+    /// A thread calls a resource manager (XA, chapter 5). Any number may stand there, also where the system has no such
+    /// thread or resource manager.
     Call {
-        call: CallEntry,
+        thread: u32,
+        rm: u32,
+        call: Call<BranchEntry>,
     },
     /// A resource manager is to vote so on the branch.
     Vote {

@@ -7,7 +7,7 @@ ghost use Rattle.xa_base.specs.Xid.{Xid, xid_cmp};
 ghost use Rattle.xatm.specs.Fates.{with_fate};
 ghost use Rattle.xatm.specs.Requests.{Request.Applies, Request.Votes, requests_of, requests_in, HasDone, DoesNext};
 
-use crate::entry::Entry;
+use crate::entry::{Entry, call_at};
 use std::alloc::Global;
 use std::collections::BTreeSet;
 use xa_base::{Call, Fate, Memory, Vote, Xid};
@@ -52,17 +52,15 @@ impl<R: ResourceManager + Drop> Runner<R> {
     }
 
     /// Does what an entry asks. A thread or resource manager that there isn't takes no part.
-    fn perform(&mut self, entry: Entry) -> Result<(), Memory>
-        ensures { OnOk result (DoesNext (requests_of entry)
+    fn perform(&mut self, entry: &Entry) -> Result<(), Memory>
+        ensures { OnOk result (DoesNext (requests_of entry.now)
             (R.held_of self.old.rm) self.old.started (R.held_of self.new.rm) self.new.started) }
     {
         match entry {
-            Entry::Call { call } if call.thread == THREAD && call.rm == RM => match call.call() {
-                Some(call) => self.call(&call),
-                // No scenario has such an entry.
-                None => Ok(()),
-            },
-            Entry::Vote { rm, branch, vote } if rm == RM => self.vote(&branch.xid(rm), vote),
+            Entry::Call { thread, rm, call } if *thread == THREAD && *rm == RM => {
+                self.call(&call_at(call, *rm))
+            }
+            Entry::Vote { rm, branch, vote } if *rm == RM => self.vote(&branch.xid(*rm), *vote),
             _ => Ok(()),
         }
     }
@@ -78,7 +76,7 @@ impl<R: ResourceManager + Drop> Runner<R> {
             started: BTreeSet::new(alloc),
         };
         for entry in entries {
-            runner.perform(*entry)?;
+            runner.perform(entry)?;
         }
         Ok(runner)
     }

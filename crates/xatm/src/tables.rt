@@ -3,13 +3,14 @@
 ghost use Rattle.std.specs.Prelude.{◌≡◌, ◌<◌, length, map, position, IfSome};
 ghost use Rattle.std.specs.Str.{bytes_eq};
 ghost use Rattle.toml.specs.View.{table_view};
-ghost use Rattle.xatm.specs.Tables.{branch_at, branch_if_named, count_at, call_at, only, call_keys, begin_row, vote_row, entry_of};
+ghost use Rattle.xatm.specs.Tables.{branch_at, branch_if_named, count_at, begin_row, call_row, vote_row, entry_of};
 
-use crate::entry::{BranchEntry, CallEntry, Entry};
+use crate::entry::{BranchEntry, Entry};
 use crate::fields::{has_only, holds, index_at, index_or, integer_at, is_among, name_at, text_at};
 use crate::flags::flags_at;
 use crate::words::{EntryKind, call_named, entry_named, vote_named};
 use toml::Table;
+use xa_base::Call;
 
 /// The most transactions of a run.
 const MAX_TRANSACTIONS: usize = 1000;
@@ -79,43 +80,24 @@ fn begin_row(table: &Table, begun: &[&str]) -> Option<Entry>
     }
 }
 
-/// The call that a table describes, if there is one.
-#[tactic(auto, unfolding(crate::specs::Tables::call_at))]
-fn call_at(table: &Table, begun: &[&str]) -> Option<CallEntry>
-    ensures { result ≡ call_at (map (λ name. name.now) begun.now) (table_view table.now) }
+const CALL_KEYS: [&str; 8] = ["do", "thread", "rm", "xa", "tx", "of", "flags", "count"];
+
+/// What a `call` asks for.
+#[tactic(auto, unfolding(crate::specs::Tables::call_row))]
+fn call_row(table: &Table, begun: &[&str]) -> Option<Entry>
+    ensures { result ≡ call_row (map (λ name. name.now) begun.now) (table_view table.now) }
 {
+    if !has_only(table, &CALL_KEYS) {
+        return None;
+    }
     let thread = index_at(table, "thread")?;
     let rm = index_at(table, "rm")?;
     let kind = call_named(text_at(table, "xa")?)?;
     let branch = branch_if_named(table, begun, thread)?;
     let flags = flags_at(table)?;
     let count = count_at(table)?;
-    let call = CallEntry {
-        thread,
-        rm,
-        kind,
-        branch,
-        flags,
-        count,
-    };
-    if call.call().is_some() {
-        Some(call)
-    } else {
-        None
-    }
-}
-
-const CALL_KEYS: [&str; 8] = ["do", "thread", "rm", "xa", "tx", "of", "flags", "count"];
-
-/// The same, where the table has no other keys.
-fn only_call(table: &Table, begun: &[&str]) -> Option<CallEntry>
-    ensures { result ≡ only call_keys (table_view table.now) (call_at (map (λ name. name.now) begun.now) (table_view table.now)) }
-{
-    if has_only(table, &CALL_KEYS) {
-        call_at(table, begun)
-    } else {
-        None
-    }
+    let call = Call::with(kind, branch, flags, count).ok()?;
+    Some(Entry::Call { thread, rm, call })
 }
 
 /// What a `vote` asks for.
@@ -139,9 +121,7 @@ pub fn entry_of(table: &Table, begun: &[&str]) -> Option<Entry>
 {
     match entry_named(text_at(table, "do")?)? {
         EntryKind::Begin => begin_row(table, begun),
-        EntryKind::Call => Some(Entry::Call {
-            call: only_call(table, begun)?,
-        }),
+        EntryKind::Call => call_row(table, begun),
         EntryKind::Vote => vote_row(table, begun),
     }
 }

@@ -21,7 +21,7 @@ pub returns-clause-fresh_gtrids : goal.returns-clause-fresh_gtrids
 returns-clause-fresh_gtrids c tr r = fresh_gtrids tr (always tr r)
 
 pub returns-clause-handed_over_alone : goal.returns-clause-handed_over_alone
-returns-clause-handed_over_alone c tr r = handed_over_alone tr (always tr r)
+returns-clause-handed_over_alone c tr r = handed_over_alone tr r (always tr r)
 
 pub returns-clause-claimed_is_prepared : goal.returns-clause-claimed_is_prepared
 returns-clause-claimed_is_prepared c tr r = claimed_is_prepared tr (always tr r)

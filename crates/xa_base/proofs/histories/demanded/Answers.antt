@@ -1,4 +1,5 @@
-use Rattle.xa_base.proofs.Computed.{reply, reply_demanded}
+use Rattle.xa_base.proofs.Computed.{reply, reply_demanded, value, value_is}
+use Rattle.xa_base.proofs.Determined.{determined}
 use Rattle.xa_base.proofs.Replies.{all_right}
 use Rattle.xa_base.proofs.histories.demanded.Goals as goal
 
@@ -10,3 +11,9 @@ returns-clause-events c o events r d = all_right _ _ r d
 
 pub returns-clause-answered : goal.returns-clause-answered
 returns-clause-answered c tr s = (reply tr s, reply_demanded tr s)
+
+pub returns-clause-valued : goal.returns-clause-valued
+returns-clause-valued c tr s = (value tr s, value_is tr s)
+
+pub returns-clause-determined : goal.returns-clause-determined
+returns-clause-determined c tr s q r d x y = determined tr s q r d x y

@@ -1,11 +1,11 @@
-use Rattle.xa_base.proofs.ReadBackLemmas.{step_is_back, reply_is_back, demanded_is_possible}
+use Rattle.xa_base.proofs.ReadBackLemmas.{step_is_back, reply_is_back, demanded_ours}
 use Rattle.xa_base.proofs.identifiers.read_back.Goals as goal
 
 pub returns-clause-steps : goal.returns-clause-steps
-returns-clause-steps c s h = step_is_back s h
+returns-clause-steps c = step_is_back
 
 pub returns-clause-replies : goal.returns-clause-replies
-returns-clause-replies c r h = reply_is_back r h
+returns-clause-replies c = reply_is_back
 
-pub returns-clause-possible : goal.returns-clause-possible
-returns-clause-possible c tr s d = demanded_is_possible tr s d
+pub returns-clause-ours : goal.returns-clause-ours
+returns-clause-ours c = demanded_ours

@@ -1,0 +1,9 @@
+use Rattle.xa_base.proofs.BranchLemmas.{numbers_fit}
+use Rattle.xa_base.proofs.BytesOrder.{branch_order}
+use Rattle.xa_base.proofs.identifiers.branches_in_order.Goals as goal
+
+pub returns-clause-fit : goal.returns-clause-fit
+returns-clause-fit c x b v e = numbers_fit x b v e
+
+pub returns-clause-order : goal.returns-clause-order
+returns-clause-order c b d h k = branch_order b d h k
