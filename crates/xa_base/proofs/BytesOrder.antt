@@ -23,7 +23,10 @@ digits p h l i m f g = by_rank (nat_cmp h i) (ranks h i)
     by_low Less q r = nat_cmp_is _ _ Less (subst (λ x. h * p + l < x * p + m) q (omega (arith, r)))
     by_low Equal q r = nat_cmp_is _ _ Equal (λ j. q j * p + r j)
     by_low Greater q r = nat_cmp_is _ _ Greater (subst (λ x. x * p + m < h * p + l) q (omega (arith, r)))
-    by_rank : (o : Ordering) → MatchOrdering o (h < i) (h ≡ i) (i < h) → ordering_then o (nat_cmp l m) ≡ nat_cmp (h * p + l) (i * p + m)
+
+    by_rank :
+        (o : Ordering) → MatchOrdering o (h < i) (h ≡ i) (i < h)
+        → ordering_then o (nat_cmp l m) ≡ nat_cmp (h * p + l) (i * p + m)
     by_rank Less q = nat_cmp_is _ _ Less (below p h l i m q f)
     by_rank Equal q = by_low (nat_cmp l m) q (ranks l m)
     by_rank Greater q = nat_cmp_is _ _ Greater (below p i m h l q g)
@@ -37,7 +40,10 @@ byte_is zero n = omega arith
 byte_is (suc k) n = refl
 
 low_bytes : (k n : ℕ) → n % 256 ^ suc k ≡ byte_at k n * 256 ^ k + n % 256 ^ k
-low_bytes k n = let p = power_positive k in subst (λ x. n % x ≡ byte_at k n * 256 ^ k + n % 256 ^ k) (omega arith) (mod-mul n {m = 256} {c = 256 ^ k} (omega arith) p ∙ ap (λ d. d * 256 ^ k + n % 256 ^ k) (sym (byte_is k n)))
+low_bytes k n =
+    let p = power_positive k in
+    subst (λ x. n % x ≡ byte_at k n * 256 ^ k + n % 256 ^ k) (omega arith)
+    (mod-mul n {m = 256} {c = 256 ^ k} (omega arith) p ∙ ap (λ d. d * 256 ^ k + n % 256 ^ k) (sym (byte_is k n)))
 
 bytes_order : (k a b : ℕ) → slice_cmp nat_cmp (bytes_high_first k a) (bytes_high_first k b) ≡ nat_cmp (a % 256 ^ k) (b % 256 ^ k)
 bytes_order zero a b = let e : a % 256 ^ 0 ≡ b % 256 ^ 0 = omega arith in nat_cmp_is (a % 256 ^ 0) (b % 256 ^ 0) Equal e
@@ -65,17 +71,25 @@ then_assoc Equal p q = refl
 then_assoc Greater p q = refl
 
 -- texts of one length, each followed by another
-joined_order : (xs ys us vs : List ℕ) → length xs ≡ length ys → slice_cmp nat_cmp (xs ++ us) (ys ++ vs) ≡ ordering_then (slice_cmp nat_cmp xs ys) (slice_cmp nat_cmp us vs)
+joined_order :
+    (xs ys us vs : List ℕ) → length xs ≡ length ys
+    → slice_cmp nat_cmp (xs ++ us) (ys ++ vs) ≡ ordering_then (slice_cmp nat_cmp xs ys) (slice_cmp nat_cmp us vs)
 joined_order [] [] us vs l = refl
 joined_order [] (y ∷ ys) us vs l = absurd (omega arith)
 joined_order (x ∷ xs) [] us vs l = absurd (omega arith)
-joined_order (x ∷ xs) (y ∷ ys) us vs l = ap (λ o. ordering_then (nat_cmp x y) o) (joined_order xs ys us vs (omega arith)) ∙ sym (then_assoc (nat_cmp x y) _ _)
+joined_order (x ∷ xs) (y ∷ ys) us vs l =
+    ap (λ o. ordering_then (nat_cmp x y) o) (joined_order xs ys us vs (omega arith)) ∙ sym (then_assoc (nat_cmp x y) _ _)
 
 pub branch_order : (b c : Branch) → IsBranch b → IsBranch c → xid_cmp (xid_of_branch b) (xid_of_branch c) ≡ branch_cmp b c
 branch_order b c h k =
-    let gtrids = joined_order (to_be_bytes w64 b.gtrid.incarnation) (to_be_bytes w64 c.gtrid.incarnation) (to_be_bytes w64 b.gtrid.sequence) (to_be_bytes w64 c.gtrid.sequence) refl in
-    let bquals = joined_order (to_be_bytes w32 b.thread) (to_be_bytes w32 c.thread) (to_be_bytes w32 b.rm) (to_be_bytes w32 c.rm) refl in
+    let gtrids = joined_order
+    (to_be_bytes w64 b.gtrid.incarnation) (to_be_bytes w64 c.gtrid.incarnation)
+    (to_be_bytes w64 b.gtrid.sequence) (to_be_bytes w64 c.gtrid.sequence) refl in
+    let bquals = joined_order
+    (to_be_bytes w32 b.thread) (to_be_bytes w32 c.thread) (to_be_bytes w32 b.rm) (to_be_bytes w32 c.rm) refl in
+    let incarnations = u64_order b.gtrid.incarnation c.gtrid.incarnation h.incarnation k.incarnation in
+    let sequences = u64_order b.gtrid.sequence c.gtrid.sequence h.sequence k.sequence in
+    let threads = u32_order b.thread c.thread h.thread k.thread in
+    let rms = u32_order b.rm c.rm h.rm k.rm in
     (λ i. ordering_then (gtrids i) (bquals i))
-    ∙ (λ i. ordering_then
-    (ordering_then (u64_order b.gtrid.incarnation c.gtrid.incarnation h.incarnation k.incarnation i) (u64_order b.gtrid.sequence c.gtrid.sequence h.sequence k.sequence i))
-    (ordering_then (u32_order b.thread c.thread h.thread k.thread i) (u32_order b.rm c.rm h.rm k.rm i)))
+    ∙ (λ i. ordering_then (ordering_then (incarnations i) (sequences i)) (ordering_then (threads i) (rms i)))

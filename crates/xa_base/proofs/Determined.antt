@@ -1,4 +1,5 @@
--- A history determines the value of each step but a restart of the manager; and who was handed over has a branch.
+-- A history determines the value of each step but a restart of the manager. And a transaction that was handed over has a
+-- branch.
 use Rattle.std.proofs.Common.{◌≡◌, true, refl, sym, ap, ◌∙◌, subst, ◌⊎◌}
 use Rattle.std.specs.Prelude.{Some, None}
 use mathlib.Core.Logic.{◌⊎◌.inl, ◌⊎◌.inr}
@@ -45,10 +46,16 @@ determined tr (Steps.Restart (Side.Rm n)) q r d x y = x ∙ sym y
 determined tr _ q r d x y = x ∙ sym y
 
 -- a transaction that was handed over has a branch
-pub handed_some : (tr : Trace) (g : Gtrid) → AllRight tr → handed_over tr g ≡ true → (b : Branch) × (b.gtrid ≡ g) × (started tr b ≡ true)
+pub handed_some :
+    (tr : Trace) (g : Gtrid) → AllRight tr → handed_over tr g ≡ true
+    → (b : Branch) × (b.gtrid ≡ g) × (started tr b ≡ true)
 handed_some (From o) g r h = absurd (cc)
 handed_some (Then tr e) g r h = by_case (handed_new tr e g h) (λ k. handed_some tr g r.0 k)
   where
-    by_case : (handed_over tr g ≡ true) ⊎ ((l : Line) × (b : Branch) × (e ≡ Issued l (Calls.Commit b true)) × (b.gtrid ≡ g)) → (handed_over tr g ≡ true → (b : Branch) × (b.gtrid ≡ g) × (started tr b ≡ true)) → (b : Branch) × (b.gtrid ≡ g) × (started (Then tr e) b ≡ true)
+    by_case :
+        (handed_over tr g ≡ true) ⊎ ((l : Line) × (b : Branch) × (e ≡ Issued l (Calls.Commit b true)) × (b.gtrid ≡ g))
+        → (handed_over tr g ≡ true → (b : Branch) × (b.gtrid ≡ g) × (started tr b ≡ true))
+        → (b : Branch) × (b.gtrid ≡ g) × (started (Then tr e) b ≡ true)
     by_case (inl k) f = let x = f k in (x.0, x.1, started_kept tr e x.0 x.2)
-    by_case (inr (l, b, p, q)) f = let k : Right tr (Issued l (Calls.Commit b true)) = subst (Right tr) p r.1 in (b, q, started_kept tr e b k.1.may_be.1.0)
+    by_case (inr (l, b, p, q)) f =
+        let k : Right tr (Issued l (Calls.Commit b true)) = subst (Right tr) p r.1 in (b, q, started_kept tr e b k.1.may_be.1.0)

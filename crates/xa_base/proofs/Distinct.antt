@@ -25,7 +25,9 @@ without_apart g (x ∷ xs) h = by_test (gtrid_eq x.gtrid g) (without_apart g xs 
     by_test true k = k
     by_test false k = (false_unless _ (λ e. both (lists_row xs x.gtrid) (without_keeps g x.gtrid xs e) h.0), k)
 
-changed_apart : (c : Change) (rows : List Row) → ((g : Gtrid) → adds_row c g ≡ true → lists_row rows g ≡ false) → ApartRows rows → ApartRows (rows_changed c rows)
+changed_apart :
+    (c : Change) (rows : List Row) → ((g : Gtrid) → adds_row c g ≡ true → lists_row rows g ≡ false) → ApartRows rows
+    → ApartRows (rows_changed c rows)
 changed_apart (AddRow x) rows f h = (f x.gtrid (gtrid_eq-refl x.gtrid), h)
 changed_apart (DropRow g) rows f h = without_apart g rows h
 changed_apart (AddRecord y) rows f h = h
@@ -45,8 +47,11 @@ next_adds_none : (o : Option (Call × Answer)) (g : Gtrid) → adds_row (record_
 next_adds_none (Some p) g = record_adds_none p.0 p.1 g
 next_adds_none None g = refl
 
-fault_new : (tr : Trace) (f : Fault) (g : Gtrid) → Inv tr → RightFault tr f → adds_row (fault_change tr f) g ≡ true → lists_row (log tr) g ≡ false
-fault_new tr (InDecide h) g inv r k = subst (λ x. lists_row (log tr) x ≡ false) (gtrid_eq-true h g k) (live_no_row tr h inv r.0.is_live)
+fault_new :
+    (tr : Trace) (f : Fault) (g : Gtrid) → Inv tr → RightFault tr f → adds_row (fault_change tr f) g ≡ true
+    → lists_row (log tr) g ≡ false
+fault_new tr (InDecide h) g inv r k =
+    subst (λ x. lists_row (log tr) x ≡ false) (gtrid_eq-true h g k) (live_no_row tr h inv r.0.is_live)
 fault_new tr (InHear l) g inv r k = absurd (both _ k (next_adds_none (next_answer tr l) g))
 fault_new tr _ g inv r k = absurd (cc)
 
@@ -58,7 +63,9 @@ pub doubt_is_new : (tr : Trace) → AllRight tr → (g : Gtrid) → adds_row (do
 doubt_is_new (From o) r g e = absurd (cc)
 doubt_is_new (Then tr (Failed f)) r g e = by_up (up tr) refl (λ k. doubt_is_new tr r.0 g k) e
   where
-    by_up : (t : Bool) → up tr ≡ t → (adds_row (doubt tr) g ≡ true → lists_row (log tr) g ≡ false) → adds_row (if t then fault_change tr f else doubt tr) g ≡ true → lists_row (log tr) g ≡ false
+    by_up :
+        (t : Bool) → up tr ≡ t → (adds_row (doubt tr) g ≡ true → lists_row (log tr) g ≡ false)
+        → adds_row (if t then fault_change tr f else doubt tr) g ≡ true → lists_row (log tr) g ≡ false
     by_up true q before k = fault_new tr f g (always tr r.0) r.1 k
     by_up false q before k = before k
 doubt_is_new (Then tr (Restarted i d n)) r g e = absurd (cc)

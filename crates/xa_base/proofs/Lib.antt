@@ -11,6 +11,7 @@ pub mod Determined
 pub mod Distinct
 pub mod Ends
 pub mod Grows
+mod HeldBranchRows
 pub mod HexText
 pub mod Invariant
 pub mod Kept
@@ -33,6 +34,7 @@ pub mod RecoveredStart
 pub mod Replies
 pub mod Rows
 pub mod Simulation
+mod ScanRows
 mod StateTableRows
 pub mod TextLemmas
 pub mod SameTests

@@ -6,7 +6,7 @@ use Rattle.xa_base.specs.declared.call.Call as Called
 use Rattle.xa_base.specs.declared.call.Call.TheVariants as Calls
 use Rattle.xa_base.specs.declared.reply.Reply as Replied
 use Rattle.xa_base.specs.declared.reply.Reply.TheVariants as Replies
-use Rattle.xa_base.specs.declared.step.Step as Asking
+use Rattle.xa_base.specs.declared.step.Step as Asked
 use Rattle.xa_base.specs.declared.step.Step.TheVariants as Steps
 use Rattle.xa_base.specs.Answer.{map_answer}
 use Rattle.xa_base.specs.Call.{map_call}
@@ -33,7 +33,7 @@ answer_is_back : (answer : Given.Answer Xid) → AnswerHasXids answer → map_an
 answer_is_back (Answers.Ret code) h = refl
 answer_is_back (Answers.Page xids) h = ap Answers.Page (pages_back xids h)
 
-pub step_is_back : (step : Asking.Step Xid) → StepHasXids step → step_back (step_of step) ≡ step
+pub step_is_back : (step : Asked.Step Xid) → StepHasXids step → step_back (step_of step) ≡ step
 step_is_back (Steps.Issue thread rm call) h = ap (Steps.Issue thread rm) (call_is_back call h)
 step_is_back (Steps.Vote rm xid vote) h = ap (λ x. Steps.Vote rm x vote) (name_back xid h)
 step_is_back (Steps.Busy rm xid times) h = ap (λ x. Steps.Busy rm x times) (name_back xid h)

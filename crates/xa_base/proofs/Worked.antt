@@ -9,7 +9,7 @@ use Rattle.xa_base.specs.declared.step.Step.TheVariants as Steps
 use Rattle.xa_base.specs.Steps.{Step, Reply}
 use Rattle.xa_base.specs.declared.call.Call.TheVariants as Calls
 use Rattle.xa_base.specs.Call.{map_call}
-use Rattle.xa_base.specs.declared.call.Call as Declared
+use Rattle.xa_base.specs.declared.call.Call as Called
 use Rattle.xa_base.specs.declared.answer.Answer.TheVariants.{Ret}
 use Rattle.xa_base.specs.Trace.{Gtrid, Branch, How, Name, Name.Ours, Call, Answer, Row, Recorded, Origin}
 
@@ -54,7 +54,7 @@ with_foreign = record (fresh 1 1) { in_doubt = λ r. foreign (pos 1) (2 ∷ 1 �
 
 -- ** steps
 
-abbrev pub asking : Call → Declared.Call Name
+abbrev pub asking : Call → Called.Call Name
 asking c = map_call Ours c
 
 abbrev pub once : Step → Reply → List (Step × Reply)

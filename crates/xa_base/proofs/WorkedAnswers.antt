@@ -3,7 +3,7 @@ use Rattle.std.proofs.Common.{◌≡◌, List, [], ◌∷◌, Bool, true, false,
 use Rattle.std.specs.Prelude.{filter}
 use Rattle.xa_base.specs.declared.code.Code.TheVariants as Codes
 use Rattle.xa_base.specs.declared.code.How.TheVariants as How
-use Rattle.xa_base.specs.declared.code.RbCode.TheVariants as Reason
+use Rattle.xa_base.specs.declared.code.RbCode.TheVariants as Rb
 use Rattle.xa_base.specs.Facts.{says_yes, says_read_only, acknowledges}
 use Rattle.xa_base.specs.Progress.{answers_start, finishes}
 use Rattle.xa_base.specs.StateTable.{on}
@@ -12,7 +12,7 @@ use Rattle.xa_base.specs.Trace.{Branch, Code, Kind, Kind.Start, Kind.Join, Kind.
 use Rattle.xa_base.proofs.Worked.{own}
 
 abbrev rolled_back : Code
-rolled_back = Codes.RolledBack Reason.Deadlock
+rolled_back = Codes.RolledBack Rb.Deadlock
 
 abbrev heuristic : Code
 heuristic = Codes.Heuristic How.Mix

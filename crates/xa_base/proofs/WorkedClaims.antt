@@ -2,7 +2,7 @@
 use Rattle.std.proofs.Common.{◌≡◌, pos, List, [], ◌∷◌, ◌++◌, true, refl, false}
 use Rattle.xa_base.specs.declared.code.Code.TheVariants as Codes
 use Rattle.xa_base.specs.declared.refusal.Refusal.TheVariants as Refusal
-use Rattle.xa_base.specs.declared.state.Fate.TheVariants as Fate
+use Rattle.xa_base.specs.declared.state.Fate.TheVariants as Fates
 use Rattle.xa_base.specs.declared.step.Outcome.TheVariants as Outcome
 use Rattle.xa_base.specs.declared.step.Part.TheVariants as Part
 use Rattle.xa_base.specs.declared.step.Side.TheVariants as Side
@@ -32,7 +32,7 @@ open_rolled_back-demanded : AllDemanded (From (fresh 1 1)) open_rolled_back
 unfolding open_rolled_back
 open_rolled_back-demanded = computed (From (fresh 1 1)) open_rolled_back refl
 
-open_rolled_back-fates : fate (with_steps (From (fresh 1 1)) open_rolled_back) (own 1 0 0) ≡ Fate.RolledBack
+open_rolled_back-fates : fate (with_steps (From (fresh 1 1)) open_rolled_back) (own 1 0 0) ≡ Fates.RolledBack
 unfolding open_rolled_back
 open_rolled_back-fates = refl
 
@@ -59,7 +59,7 @@ claimed_is_kept-demanded : AllDemanded (From (fresh 1 1)) claimed_is_kept
 unfolding claimed_is_kept
 claimed_is_kept-demanded = computed (From (fresh 1 1)) claimed_is_kept refl
 
-claimed_is_kept-fates : fate (with_steps (From (fresh 1 1)) claimed_is_kept) (own 1 0 0) ≡ Fate.Committed
+claimed_is_kept-fates : fate (with_steps (From (fresh 1 1)) claimed_is_kept) (own 1 0 0) ≡ Fates.Committed
 unfolding claimed_is_kept
 claimed_is_kept-fates = refl
 
@@ -88,7 +88,7 @@ claim_ends_with_crash-demanded : AllDemanded (From (fresh 1 1)) claim_ends_with_
 unfolding claim_ends_with_crash
 claim_ends_with_crash-demanded = computed (From (fresh 1 1)) claim_ends_with_crash refl
 
-claim_ends_with_crash-fates : fate (with_steps (From (fresh 1 1)) claim_ends_with_crash) (own 1 0 0) ≡ Fate.RolledBack
+claim_ends_with_crash-fates : fate (with_steps (From (fresh 1 1)) claim_ends_with_crash) (own 1 0 0) ≡ Fates.RolledBack
 unfolding claim_ends_with_crash
 claim_ends_with_crash-fates = refl
 
@@ -113,7 +113,7 @@ claim_abandoned-demanded : AllDemanded (From (fresh 1 1)) claim_abandoned
 unfolding claim_abandoned
 claim_abandoned-demanded = computed (From (fresh 1 1)) claim_abandoned refl
 
-claim_abandoned-fates : fate (with_steps (From (fresh 1 1)) claim_abandoned) (own 1 0 0) ≡ Fate.RolledBack
+claim_abandoned-fates : fate (with_steps (From (fresh 1 1)) claim_abandoned) (own 1 0 0) ≡ Fates.RolledBack
 unfolding claim_abandoned
 claim_abandoned-fates = refl
 

@@ -2,9 +2,9 @@
 use Rattle.std.proofs.Common.{◌≡◌, List, [], ◌∷◌, ◌++◌, true, refl, false}
 use Rattle.xa_base.specs.declared.code.Code.TheVariants as Codes
 use Rattle.xa_base.specs.declared.code.How.TheVariants as How
-use Rattle.xa_base.specs.declared.code.RbCode.TheVariants as Reason
+use Rattle.xa_base.specs.declared.code.RbCode.TheVariants as Rb
 use Rattle.xa_base.specs.declared.refusal.Refusal.TheVariants as Refusal
-use Rattle.xa_base.specs.declared.state.Fate.TheVariants as Fate
+use Rattle.xa_base.specs.declared.state.Fate.TheVariants as Fates
 use Rattle.xa_base.specs.declared.step.Outcome.TheVariants as Outcome
 use Rattle.xa_base.specs.declared.vote.Vote.TheVariants as Votes
 use Rattle.xa_base.specs.Demanded.{with_steps, AllDemanded}
@@ -29,7 +29,7 @@ first_run-demanded : AllDemanded (From (fresh 1 1)) first_run
 unfolding first_run
 first_run-demanded = computed (From (fresh 1 1)) first_run refl
 
-first_run-fates : fate (with_steps (From (fresh 1 1)) first_run) (own 1 0 0) ≡ Fate.Committed
+first_run-fates : fate (with_steps (From (fresh 1 1)) first_run) (own 1 0 0) ≡ Fates.Committed
 unfolding first_run
 first_run-fates = refl
 
@@ -54,7 +54,7 @@ two_phase_commit-demanded : AllDemanded (From (fresh 1 2)) two_phase_commit
 unfolding two_phase_commit
 two_phase_commit-demanded = computed (From (fresh 1 2)) two_phase_commit refl
 
-two_phase_commit-fates : (fate (with_steps (From (fresh 1 2)) two_phase_commit) (own 1 0 0) ≡ Fate.Committed) × (fate (with_steps (From (fresh 1 2)) two_phase_commit) (own 1 0 1) ≡ Fate.Committed)
+two_phase_commit-fates : (fate (with_steps (From (fresh 1 2)) two_phase_commit) (own 1 0 0) ≡ Fates.Committed) × (fate (with_steps (From (fresh 1 2)) two_phase_commit) (own 1 0 1) ≡ Fates.Committed)
 unfolding two_phase_commit
 two_phase_commit-fates = (refl, refl)
 
@@ -68,9 +68,9 @@ one_no =
     once (Steps.Begin 0) (Replies.Begun (gtrid 1 1))
     ++ ready 0 (own 1 0 0)
     ++ ready 1 (own 1 0 1)
-    ++ once (Steps.Vote 1 (Ours (own 1 0 1)) (Votes.No Reason.Deadlock)) Replies.Noted
+    ++ once (Steps.Vote 1 (Ours (own 1 0 1)) (Votes.No Rb.Deadlock)) Replies.Noted
     ++ called 0 0 (Calls.Prepare (own 1 0 0)) (Ret Codes.Success)
-    ++ called 0 1 (Calls.Prepare (own 1 0 1)) (Ret (Codes.RolledBack Reason.Deadlock))
+    ++ called 0 1 (Calls.Prepare (own 1 0 1)) (Ret (Codes.RolledBack Rb.Deadlock))
     ++ once (Steps.Decide (gtrid 1 1) Outcome.Commit) (Replies.Refused Refusal.Votes)
     ++ once (Steps.Decide (gtrid 1 1) Outcome.Rollback) Replies.Decided
     ++ called 0 0 (Calls.Rollback (own 1 0 0)) (Ret Codes.Success)
@@ -80,7 +80,7 @@ one_no-demanded : AllDemanded (From (fresh 1 2)) one_no
 unfolding one_no
 one_no-demanded = computed (From (fresh 1 2)) one_no refl
 
-one_no-fates : (fate (with_steps (From (fresh 1 2)) one_no) (own 1 0 0) ≡ Fate.RolledBack) × (fate (with_steps (From (fresh 1 2)) one_no) (own 1 0 1) ≡ Fate.RolledBack)
+one_no-fates : (fate (with_steps (From (fresh 1 2)) one_no) (own 1 0 0) ≡ Fates.RolledBack) × (fate (with_steps (From (fresh 1 2)) one_no) (own 1 0 1) ≡ Fates.RolledBack)
 unfolding one_no
 one_no-fates = (refl, refl)
 
@@ -105,7 +105,7 @@ all_read_only-demanded : AllDemanded (From (fresh 1 2)) all_read_only
 unfolding all_read_only
 all_read_only-demanded = computed (From (fresh 1 2)) all_read_only refl
 
-all_read_only-fates : (fate (with_steps (From (fresh 1 2)) all_read_only) (own 1 0 0) ≡ Fate.ReadOnly) × (fate (with_steps (From (fresh 1 2)) all_read_only) (own 1 0 1) ≡ Fate.ReadOnly)
+all_read_only-fates : (fate (with_steps (From (fresh 1 2)) all_read_only) (own 1 0 0) ≡ Fates.ReadOnly) × (fate (with_steps (From (fresh 1 2)) all_read_only) (own 1 0 1) ≡ Fates.ReadOnly)
 unfolding all_read_only
 all_read_only-fates = (refl, refl)
 
@@ -132,7 +132,7 @@ retries-demanded : AllDemanded (From (fresh 1 1)) retries
 unfolding retries
 retries-demanded = computed (From (fresh 1 1)) retries refl
 
-retries-fates : fate (with_steps (From (fresh 1 1)) retries) (own 1 0 0) ≡ Fate.Committed
+retries-fates : fate (with_steps (From (fresh 1 1)) retries) (own 1 0 0) ≡ Fates.Committed
 unfolding retries
 retries-fates = refl
 
@@ -160,7 +160,7 @@ heuristic-demanded : AllDemanded (From (fresh 1 2)) heuristic
 unfolding heuristic
 heuristic-demanded = computed (From (fresh 1 2)) heuristic refl
 
-heuristic-fates : (fate (with_steps (From (fresh 1 2)) heuristic) (own 1 0 0) ≡ Fate.Committed) × (fate (with_steps (From (fresh 1 2)) heuristic) (own 1 0 1) ≡ Fate.Heuristic How.Rb)
+heuristic-fates : (fate (with_steps (From (fresh 1 2)) heuristic) (own 1 0 0) ≡ Fates.Committed) × (fate (with_steps (From (fresh 1 2)) heuristic) (own 1 0 1) ≡ Fates.Heuristic How.Rb)
 unfolding heuristic
 heuristic-fates = (refl, refl)
 
@@ -178,17 +178,17 @@ failed_end =
     once (Steps.Begin 0) (Replies.Begun (gtrid 1 1))
     ++ called 0 0 Calls.OpenRm (Ret Codes.Success)
     ++ called 0 0 (Calls.Start (own 1 0 0) false) (Ret Codes.Success)
-    ++ called 0 0 (Calls.End (own 1 0 0) true) (Ret (Codes.RolledBack Reason.Rollback))
+    ++ called 0 0 (Calls.End (own 1 0 0) true) (Ret (Codes.RolledBack Rb.Rollback))
     ++ called 0 0 (Calls.Prepare (own 1 0 0)) (Ret Codes.Protocol)
     ++ once (Steps.Decide (gtrid 1 1) Outcome.Commit) (Replies.Refused Refusal.Votes)
     ++ once (Steps.Decide (gtrid 1 1) Outcome.Rollback) Replies.Decided
-    ++ called 0 0 (Calls.Rollback (own 1 0 0)) (Ret (Codes.RolledBack Reason.Rollback))
+    ++ called 0 0 (Calls.Rollback (own 1 0 0)) (Ret (Codes.RolledBack Rb.Rollback))
 
 failed_end-demanded : AllDemanded (From (fresh 1 1)) failed_end
 unfolding failed_end
 failed_end-demanded = computed (From (fresh 1 1)) failed_end refl
 
-failed_end-fates : fate (with_steps (From (fresh 1 1)) failed_end) (own 1 0 0) ≡ Fate.RolledBack
+failed_end-fates : fate (with_steps (From (fresh 1 1)) failed_end) (own 1 0 0) ≡ Fates.RolledBack
 unfolding failed_end
 failed_end-fates = refl
 

@@ -3,7 +3,7 @@
 use Rattle.std.proofs.Common.{◌≡◌, pos, List, [], ◌∷◌, ◌++◌, true, refl, false}
 use Rattle.xa_base.specs.declared.code.Code.TheVariants as Codes
 use Rattle.xa_base.specs.declared.refusal.Refusal.TheVariants as Refusal
-use Rattle.xa_base.specs.declared.state.Fate.TheVariants as Fate
+use Rattle.xa_base.specs.declared.state.Fate.TheVariants as Fates
 use Rattle.xa_base.specs.declared.step.Outcome.TheVariants as Outcome
 use Rattle.xa_base.specs.declared.step.Part.TheVariants as Part
 use Rattle.xa_base.specs.declared.step.Side.TheVariants as Side
@@ -33,7 +33,7 @@ lost_answer-demanded : AllDemanded (From (fresh 1 1)) lost_answer
 unfolding lost_answer
 lost_answer-demanded = computed (From (fresh 1 1)) lost_answer refl
 
-lost_answer-fates : fate (with_steps (From (fresh 1 1)) lost_answer) (own 1 0 0) ≡ Fate.Committed
+lost_answer-fates : fate (with_steps (From (fresh 1 1)) lost_answer) (own 1 0 0) ≡ Fates.Committed
 unfolding lost_answer
 lost_answer-fates = refl
 
@@ -58,7 +58,7 @@ presumed_rollback-demanded : AllDemanded (From (fresh 1 1)) presumed_rollback
 unfolding presumed_rollback
 presumed_rollback-demanded = computed (From (fresh 1 1)) presumed_rollback refl
 
-presumed_rollback-fates : fate (with_steps (From (fresh 1 1)) presumed_rollback) (own 1 0 0) ≡ Fate.RolledBack
+presumed_rollback-fates : fate (with_steps (From (fresh 1 1)) presumed_rollback) (own 1 0 0) ≡ Fates.RolledBack
 unfolding presumed_rollback
 presumed_rollback-fates = refl
 
@@ -92,7 +92,7 @@ decided_before_crash-demanded : AllDemanded (From (fresh 1 2)) decided_before_cr
 unfolding decided_before_crash
 decided_before_crash-demanded = computed (From (fresh 1 2)) decided_before_crash refl
 
-decided_before_crash-fates : (fate (with_steps (From (fresh 1 2)) decided_before_crash) (own 1 0 0) ≡ Fate.Committed) × (fate (with_steps (From (fresh 1 2)) decided_before_crash) (own 1 0 1) ≡ Fate.Committed)
+decided_before_crash-fates : (fate (with_steps (From (fresh 1 2)) decided_before_crash) (own 1 0 0) ≡ Fates.Committed) × (fate (with_steps (From (fresh 1 2)) decided_before_crash) (own 1 0 1) ≡ Fates.Committed)
 unfolding decided_before_crash
 decided_before_crash-fates = (refl, refl)
 
@@ -121,7 +121,7 @@ acknowledged_later-demanded : AllDemanded (From (fresh 1 2)) acknowledged_later
 unfolding acknowledged_later
 acknowledged_later-demanded = computed (From (fresh 1 2)) acknowledged_later refl
 
-acknowledged_later-fates : (fate (with_steps (From (fresh 1 2)) acknowledged_later) (own 1 0 0) ≡ Fate.Committed) × (fate (with_steps (From (fresh 1 2)) acknowledged_later) (own 1 0 1) ≡ Fate.Prepared)
+acknowledged_later-fates : (fate (with_steps (From (fresh 1 2)) acknowledged_later) (own 1 0 0) ≡ Fates.Committed) × (fate (with_steps (From (fresh 1 2)) acknowledged_later) (own 1 0 1) ≡ Fates.Prepared)
 unfolding acknowledged_later
 acknowledged_later-fates = (refl, refl)
 
@@ -155,7 +155,7 @@ acknowledged_anew-demanded : AllDemanded (From (fresh 1 2)) acknowledged_anew
 unfolding acknowledged_anew
 acknowledged_anew-demanded = computed (From (fresh 1 2)) acknowledged_anew refl
 
-acknowledged_anew-fates : (fate (with_steps (From (fresh 1 2)) acknowledged_anew) (own 1 0 0) ≡ Fate.Committed) × (fate (with_steps (From (fresh 1 2)) acknowledged_anew) (own 1 0 1) ≡ Fate.Committed)
+acknowledged_anew-fates : (fate (with_steps (From (fresh 1 2)) acknowledged_anew) (own 1 0 0) ≡ Fates.Committed) × (fate (with_steps (From (fresh 1 2)) acknowledged_anew) (own 1 0 1) ≡ Fates.Committed)
 unfolding acknowledged_anew
 acknowledged_anew-fates = (refl, refl)
 
@@ -200,7 +200,7 @@ resource_manager_crash-demanded : AllDemanded (From (fresh 1 2)) resource_manage
 unfolding resource_manager_crash
 resource_manager_crash-demanded = computed (From (fresh 1 2)) resource_manager_crash refl
 
-resource_manager_crash-fates : (fate (with_steps (From (fresh 1 2)) resource_manager_crash) (own 1 0 0) ≡ Fate.Committed) × (fate (with_steps (From (fresh 1 2)) resource_manager_crash) (own 1 0 1) ≡ Fate.Committed)
+resource_manager_crash-fates : (fate (with_steps (From (fresh 1 2)) resource_manager_crash) (own 1 0 0) ≡ Fates.Committed) × (fate (with_steps (From (fresh 1 2)) resource_manager_crash) (own 1 0 1) ≡ Fates.Committed)
 unfolding resource_manager_crash
 resource_manager_crash-fates = (refl, refl)
 

@@ -3,18 +3,18 @@ use Rattle.std.proofs.Common.{◌≡◌, pos, List, [], ◌∷◌, ◌++◌, tru
 use Rattle.std.specs.Prelude.{map}
 use Rattle.xa_base.specs.Branch.{xid_of_branch}
 use Rattle.xa_base.specs.Xid.{Xid}
-use Rattle.xa_base.specs.declared.answer.Answer as RustAnswer
+use Rattle.xa_base.specs.declared.answer.Answer as Given
 use Rattle.xa_base.specs.declared.answer.Answer.TheVariants as Answers
-use Rattle.xa_base.specs.declared.call.Call as RustCall
+use Rattle.xa_base.specs.declared.call.Call as Called
 use Rattle.xa_base.specs.declared.call.Call.TheVariants as Calls
 use Rattle.xa_base.specs.declared.code.Code.TheVariants as Codes
 use Rattle.xa_base.specs.declared.refusal.Refusal.TheVariants as Refusal
 use Rattle.xa_base.specs.declared.reply.Event.{Event}
-use Rattle.xa_base.specs.declared.reply.Reply as RustReply
+use Rattle.xa_base.specs.declared.reply.Reply as Replied
 use Rattle.xa_base.specs.declared.reply.Reply.TheVariants as Replies
-use Rattle.xa_base.specs.declared.step.Step as RustStep
+use Rattle.xa_base.specs.declared.step.Step as Asked
 use Rattle.xa_base.specs.declared.step.Step.TheVariants as Steps
-use Rattle.xa_base.specs.declared.state.Fate.TheVariants as Fate
+use Rattle.xa_base.specs.declared.state.Fate.TheVariants as Fates
 use Rattle.xa_base.specs.Facts.{fate}
 use Rattle.xa_base.specs.History.{read, history, AreDemanded}
 use Rattle.xa_base.specs.Trace.{Origin}
@@ -22,11 +22,11 @@ use Rattle.xa_base.proofs.Computed.{computed}
 use Rattle.xa_base.proofs.Worked.{fresh, gtrid, own, foreign}
 use Rattle.xa_base.proofs.WorkedCommits.{first_run}
 
-abbrev event : RustStep.Step Xid → RustReply.Reply Xid → Event
+abbrev event : Asked.Step Xid → Replied.Reply Xid → Event
 event step reply = record { step = step; reply = reply }
 
 -- a call of the first thread at the first resource manager is issued, taken and heard
-abbrev through : RustCall.Call Xid → RustAnswer.Answer Xid → List Event
+abbrev through : Called.Call Xid → Given.Answer Xid → List Event
 through call answer =
     event (Steps.Issue 0 0 call) Replies.Issued
     ∷ event (Steps.Take 0 0) (Replies.Took call answer)
@@ -48,7 +48,7 @@ first_run_events-read = refl
 first_run_events-demanded : AreDemanded (fresh 1 1) first_run_events
 first_run_events-demanded = computed _ (map read first_run_events) refl
 
-first_run_events-fate : fate (history (fresh 1 1) first_run_events) (own 1 0 0) ≡ Fate.Committed
+first_run_events-fate : fate (history (fresh 1 1) first_run_events) (own 1 0 0) ≡ Fates.Committed
 first_run_events-fate = refl
 
 -- a page lists the identifier of a prepared branch beside one of another manager, on which no call is accepted

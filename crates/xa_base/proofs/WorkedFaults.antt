@@ -4,7 +4,7 @@ use Rattle.std.proofs.Common.{◌≡◌, pos, List, [], ◌∷◌, ◌++◌, tru
 use Rattle.xa_base.specs.declared.code.Code.TheVariants as Codes
 use Rattle.xa_base.specs.declared.code.How.TheVariants as How
 use Rattle.xa_base.specs.declared.refusal.Refusal.TheVariants as Refusal
-use Rattle.xa_base.specs.declared.state.Fate.TheVariants as Fate
+use Rattle.xa_base.specs.declared.state.Fate.TheVariants as Fates
 use Rattle.xa_base.specs.declared.step.Outcome.TheVariants as Outcome
 use Rattle.xa_base.specs.declared.step.Side.TheVariants as Side
 use Rattle.xa_base.specs.Demanded.{with_steps, AllDemanded}
@@ -37,7 +37,7 @@ commit_fault_not_made-demanded : AllDemanded (From (fresh 1 1)) commit_fault_not
 unfolding commit_fault_not_made
 commit_fault_not_made-demanded = computed (From (fresh 1 1)) commit_fault_not_made refl
 
-commit_fault_not_made-fates : fate (with_steps (From (fresh 1 1)) commit_fault_not_made) (own 1 0 0) ≡ Fate.RolledBack
+commit_fault_not_made-fates : fate (with_steps (From (fresh 1 1)) commit_fault_not_made) (own 1 0 0) ≡ Fates.RolledBack
 unfolding commit_fault_not_made
 commit_fault_not_made-fates = refl
 
@@ -64,7 +64,7 @@ commit_fault_made-demanded : AllDemanded (From (fresh 1 1)) commit_fault_made
 unfolding commit_fault_made
 commit_fault_made-demanded = computed (From (fresh 1 1)) commit_fault_made refl
 
-commit_fault_made-fates : fate (with_steps (From (fresh 1 1)) commit_fault_made) (own 1 0 0) ≡ Fate.Committed
+commit_fault_made-fates : fate (with_steps (From (fresh 1 1)) commit_fault_made) (own 1 0 0) ≡ Fates.Committed
 unfolding commit_fault_made
 commit_fault_made-fates = refl
 
@@ -100,7 +100,7 @@ heuristic_fault_not_made-demanded : AllDemanded (From (fresh 1 2)) heuristic_fau
 unfolding heuristic_fault_not_made
 heuristic_fault_not_made-demanded = computed (From (fresh 1 2)) heuristic_fault_not_made refl
 
-heuristic_fault_not_made-fates : (fate (with_steps (From (fresh 1 2)) heuristic_fault_not_made) (own 1 0 0) ≡ Fate.Committed) × (fate (with_steps (From (fresh 1 2)) heuristic_fault_not_made) (own 1 0 1) ≡ Fate.Heuristic How.Rb)
+heuristic_fault_not_made-fates : (fate (with_steps (From (fresh 1 2)) heuristic_fault_not_made) (own 1 0 0) ≡ Fates.Committed) × (fate (with_steps (From (fresh 1 2)) heuristic_fault_not_made) (own 1 0 1) ≡ Fates.Heuristic How.Rb)
 unfolding heuristic_fault_not_made
 heuristic_fault_not_made-fates = (refl, refl)
 
@@ -137,7 +137,7 @@ heuristic_fault_made-demanded : AllDemanded (From (fresh 1 2)) heuristic_fault_m
 unfolding heuristic_fault_made
 heuristic_fault_made-demanded = computed (From (fresh 1 2)) heuristic_fault_made refl
 
-heuristic_fault_made-fates : (fate (with_steps (From (fresh 1 2)) heuristic_fault_made) (own 1 0 0) ≡ Fate.Committed) × (fate (with_steps (From (fresh 1 2)) heuristic_fault_made) (own 1 0 1) ≡ Fate.Heuristic How.Rb)
+heuristic_fault_made-fates : (fate (with_steps (From (fresh 1 2)) heuristic_fault_made) (own 1 0 0) ≡ Fates.Committed) × (fate (with_steps (From (fresh 1 2)) heuristic_fault_made) (own 1 0 1) ≡ Fates.Heuristic How.Rb)
 unfolding heuristic_fault_made
 heuristic_fault_made-fates = (refl, refl)
 
@@ -167,7 +167,7 @@ settle_fault_not_made-demanded : AllDemanded (From (fresh 1 1)) settle_fault_not
 unfolding settle_fault_not_made
 settle_fault_not_made-demanded = computed (From (fresh 1 1)) settle_fault_not_made refl
 
-settle_fault_not_made-fates : fate (with_steps (From (fresh 1 1)) settle_fault_not_made) (own 1 0 0) ≡ Fate.RolledBack
+settle_fault_not_made-fates : fate (with_steps (From (fresh 1 1)) settle_fault_not_made) (own 1 0 0) ≡ Fates.RolledBack
 unfolding settle_fault_not_made
 settle_fault_not_made-fates = refl
 
@@ -194,7 +194,7 @@ settle_fault_made-demanded : AllDemanded (From (fresh 1 1)) settle_fault_made
 unfolding settle_fault_made
 settle_fault_made-demanded = computed (From (fresh 1 1)) settle_fault_made refl
 
-settle_fault_made-fates : fate (with_steps (From (fresh 1 1)) settle_fault_made) (own 1 0 0) ≡ Fate.Committed
+settle_fault_made-fates : fate (with_steps (From (fresh 1 1)) settle_fault_made) (own 1 0 0) ≡ Fates.Committed
 unfolding settle_fault_made
 settle_fault_made-fates = refl
 
@@ -217,7 +217,7 @@ done_fault-demanded : AllDemanded (From (fresh 1 1)) done_fault
 unfolding done_fault
 done_fault-demanded = computed (From (fresh 1 1)) done_fault refl
 
-done_fault-fates : fate (with_steps (From (fresh 1 1)) done_fault) (own 1 0 0) ≡ Fate.Committed
+done_fault-fates : fate (with_steps (From (fresh 1 1)) done_fault) (own 1 0 0) ≡ Fates.Committed
 unfolding done_fault
 done_fault-fates = refl
 

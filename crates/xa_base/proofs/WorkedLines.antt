@@ -3,7 +3,7 @@ use Rattle.std.proofs.Common.{◌≡◌, pos, List, [], ◌∷◌, ◌++◌, tru
 use Rattle.xa_base.specs.declared.code.Code.TheVariants as Codes
 use Rattle.xa_base.specs.declared.code.How.TheVariants as How
 use Rattle.xa_base.specs.declared.refusal.Refusal.TheVariants as Refusal
-use Rattle.xa_base.specs.declared.state.Fate.TheVariants as Fate
+use Rattle.xa_base.specs.declared.state.Fate.TheVariants as Fates
 use Rattle.xa_base.specs.declared.step.Outcome.TheVariants as Outcome
 use Rattle.xa_base.specs.declared.step.Part.TheVariants as Part
 use Rattle.xa_base.specs.Demanded.{with_steps, AllDemanded}
@@ -33,7 +33,7 @@ line_crash-demanded : AllDemanded (From (fresh 1 1)) line_crash
 unfolding line_crash
 line_crash-demanded = computed (From (fresh 1 1)) line_crash refl
 
-line_crash-fates : fate (with_steps (From (fresh 1 1)) line_crash) (own 1 0 0) ≡ Fate.Lost
+line_crash-fates : fate (with_steps (From (fresh 1 1)) line_crash) (own 1 0 0) ≡ Fates.Lost
 unfolding line_crash
 line_crash-fates = refl
 
@@ -57,7 +57,7 @@ closed_line-demanded : AllDemanded (From (fresh 1 1)) closed_line
 unfolding closed_line
 closed_line-demanded = computed (From (fresh 1 1)) closed_line refl
 
-closed_line-fates : fate (with_steps (From (fresh 1 1)) closed_line) (own 1 0 0) ≡ Fate.RolledBack
+closed_line-fates : fate (with_steps (From (fresh 1 1)) closed_line) (own 1 0 0) ≡ Fates.RolledBack
 unfolding closed_line
 closed_line-fates = refl
 
@@ -83,7 +83,7 @@ rollback_elsewhere-demanded : AllDemanded (From (fresh 2 1)) rollback_elsewhere
 unfolding rollback_elsewhere
 rollback_elsewhere-demanded = computed (From (fresh 2 1)) rollback_elsewhere refl
 
-rollback_elsewhere-fates : fate (with_steps (From (fresh 2 1)) rollback_elsewhere) (own 1 0 0) ≡ Fate.RolledBack
+rollback_elsewhere-fates : fate (with_steps (From (fresh 2 1)) rollback_elsewhere) (own 1 0 0) ≡ Fates.RolledBack
 unfolding rollback_elsewhere
 rollback_elsewhere-fates = refl
 
@@ -112,7 +112,7 @@ ended_elsewhere-demanded : AllDemanded (From (fresh 2 2)) ended_elsewhere
 unfolding ended_elsewhere
 ended_elsewhere-demanded = computed (From (fresh 2 2)) ended_elsewhere refl
 
-ended_elsewhere-fates : (fate (with_steps (From (fresh 2 2)) ended_elsewhere) (own 1 0 0) ≡ Fate.Committed) × (fate (with_steps (From (fresh 2 2)) ended_elsewhere) (own 1 0 1) ≡ Fate.Heuristic How.Rb)
+ended_elsewhere-fates : (fate (with_steps (From (fresh 2 2)) ended_elsewhere) (own 1 0 0) ≡ Fates.Committed) × (fate (with_steps (From (fresh 2 2)) ended_elsewhere) (own 1 0 1) ≡ Fates.Heuristic How.Rb)
 unfolding ended_elsewhere
 ended_elsewhere-fates = (refl, refl)
 
@@ -143,7 +143,7 @@ start_lost-demanded : AllDemanded (From (fresh 2 1)) start_lost
 unfolding start_lost
 start_lost-demanded = computed (From (fresh 2 1)) start_lost refl
 
-start_lost-fates : fate (with_steps (From (fresh 2 1)) start_lost) (own 1 0 0) ≡ Fate.Unstarted
+start_lost-fates : fate (with_steps (From (fresh 2 1)) start_lost) (own 1 0 0) ≡ Fates.Unstarted
 unfolding start_lost
 start_lost-fates = refl
 
@@ -170,7 +170,7 @@ join_refused-demanded : AllDemanded (From (fresh 2 1)) join_refused
 unfolding join_refused
 join_refused-demanded = computed (From (fresh 2 1)) join_refused refl
 
-join_refused-fates : fate (with_steps (From (fresh 2 1)) join_refused) (own 1 0 0) ≡ Fate.Unstarted
+join_refused-fates : fate (with_steps (From (fresh 2 1)) join_refused) (own 1 0 0) ≡ Fates.Unstarted
 unfolding join_refused
 join_refused-fates = refl
 
@@ -191,7 +191,7 @@ refused_growth-demanded : AllDemanded (From (fresh 1 1)) refused_growth
 unfolding refused_growth
 refused_growth-demanded = computed (From (fresh 1 1)) refused_growth refl
 
-refused_growth-fates : fate (with_steps (From (fresh 1 1)) refused_growth) (own 1 0 0) ≡ Fate.Active
+refused_growth-fates : fate (with_steps (From (fresh 1 1)) refused_growth) (own 1 0 0) ≡ Fates.Active
 unfolding refused_growth
 refused_growth-fates = refl
 
@@ -238,7 +238,7 @@ full_of_answers-demanded : AllDemanded (From (fresh 1 1)) full_of_answers
 unfolding full_of_answers
 full_of_answers-demanded = computed (From (fresh 1 1)) full_of_answers refl
 
-full_of_answers-fates : fate (with_steps (From (fresh 1 1)) full_of_answers) (own 1 0 0) ≡ Fate.RolledBack
+full_of_answers-fates : fate (with_steps (From (fresh 1 1)) full_of_answers) (own 1 0 0) ≡ Fates.RolledBack
 unfolding full_of_answers
 full_of_answers-fates = refl
 

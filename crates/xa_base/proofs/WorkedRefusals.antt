@@ -3,7 +3,7 @@ use Rattle.std.proofs.Common.{◌≡◌, pos, List, [], ◌∷◌, ◌++◌, tru
 use Rattle.xa_base.specs.declared.code.Code.TheVariants as Codes
 use Rattle.xa_base.specs.declared.code.How.TheVariants as How
 use Rattle.xa_base.specs.declared.refusal.Refusal.TheVariants as Refusal
-use Rattle.xa_base.specs.declared.state.Fate.TheVariants as Fate
+use Rattle.xa_base.specs.declared.state.Fate.TheVariants as Fates
 use Rattle.xa_base.specs.declared.step.Outcome.TheVariants as Outcome
 use Rattle.xa_base.specs.declared.step.Part.TheVariants as Part
 use Rattle.xa_base.specs.declared.step.Side.TheVariants as Side
@@ -59,7 +59,7 @@ refused_steps-demanded : AllDemanded (From (fresh 2 2)) refused_steps
 unfolding refused_steps
 refused_steps-demanded = computed (From (fresh 2 2)) refused_steps refl
 
-refused_steps-fates : fate (with_steps (From (fresh 2 2)) refused_steps) (own 1 0 0) ≡ Fate.Prepared
+refused_steps-fates : fate (with_steps (From (fresh 2 2)) refused_steps) (own 1 0 0) ≡ Fates.Prepared
 unfolding refused_steps
 refused_steps-fates = refl
 
@@ -121,7 +121,7 @@ refused_for_parts-demanded : AllDemanded (From (fresh 1 1)) refused_for_parts
 unfolding refused_for_parts
 refused_for_parts-demanded = computed (From (fresh 1 1)) refused_for_parts refl
 
-refused_for_parts-fates : fate (with_steps (From (fresh 1 1)) refused_for_parts) (own 1 0 0) ≡ Fate.Lost
+refused_for_parts-fates : fate (with_steps (From (fresh 1 1)) refused_for_parts) (own 1 0 0) ≡ Fates.Lost
 unfolding refused_for_parts
 refused_for_parts-fates = refl
 
@@ -252,7 +252,7 @@ refused_in_time-demanded : AllDemanded (From (fresh 1 1)) refused_in_time
 unfolding refused_in_time
 refused_in_time-demanded = computed (From (fresh 1 1)) refused_in_time refl
 
-refused_in_time-fates : fate (with_steps (From (fresh 1 1)) refused_in_time) (own 1 0 0) ≡ Fate.RolledBack
+refused_in_time-fates : fate (with_steps (From (fresh 1 1)) refused_in_time) (own 1 0 0) ≡ Fates.RolledBack
 unfolding refused_in_time
 refused_in_time-fates = refl
 
@@ -280,7 +280,7 @@ refused_claimed-demanded : AllDemanded (From (fresh 2 1)) refused_claimed
 unfolding refused_claimed
 refused_claimed-demanded = computed (From (fresh 2 1)) refused_claimed refl
 
-refused_claimed-fates : fate (with_steps (From (fresh 2 1)) refused_claimed) (own 1 0 0) ≡ Fate.Prepared
+refused_claimed-fates : fate (with_steps (From (fresh 2 1)) refused_claimed) (own 1 0 0) ≡ Fates.Prepared
 unfolding refused_claimed
 refused_claimed-fates = refl
 
@@ -311,7 +311,7 @@ refused_scripts-demanded : AllDemanded (From (fresh 1 2)) refused_scripts
 unfolding refused_scripts
 refused_scripts-demanded = computed (From (fresh 1 2)) refused_scripts refl
 
-refused_scripts-fates : (fate (with_steps (From (fresh 1 2)) refused_scripts) (own 1 0 0) ≡ Fate.Heuristic How.Rb) × (fate (with_steps (From (fresh 1 2)) refused_scripts) (own 1 0 1) ≡ Fate.Idle)
+refused_scripts-fates : (fate (with_steps (From (fresh 1 2)) refused_scripts) (own 1 0 0) ≡ Fates.Heuristic How.Rb) × (fate (with_steps (From (fresh 1 2)) refused_scripts) (own 1 0 1) ≡ Fates.Idle)
 unfolding refused_scripts
 refused_scripts-fates = (refl, refl)
 
@@ -358,7 +358,7 @@ handed_over_once-demanded : AllDemanded (From (fresh 2 1)) handed_over_once
 unfolding handed_over_once
 handed_over_once-demanded = computed (From (fresh 2 1)) handed_over_once refl
 
-handed_over_once-fates : fate (with_steps (From (fresh 2 1)) handed_over_once) (own 1 0 0) ≡ Fate.Committed
+handed_over_once-fates : fate (with_steps (From (fresh 2 1)) handed_over_once) (own 1 0 0) ≡ Fates.Committed
 unfolding handed_over_once
 handed_over_once-fates = refl
 
@@ -381,7 +381,7 @@ two_branches_in_one_phase-demanded : AllDemanded (From (fresh 2 1)) two_branches
 unfolding two_branches_in_one_phase
 two_branches_in_one_phase-demanded = computed (From (fresh 2 1)) two_branches_in_one_phase refl
 
-two_branches_in_one_phase-fates : (fate (with_steps (From (fresh 2 1)) two_branches_in_one_phase) (own 1 0 0) ≡ Fate.Idle) × (fate (with_steps (From (fresh 2 1)) two_branches_in_one_phase) (own 1 1 0) ≡ Fate.Active)
+two_branches_in_one_phase-fates : (fate (with_steps (From (fresh 2 1)) two_branches_in_one_phase) (own 1 0 0) ≡ Fates.Idle) × (fate (with_steps (From (fresh 2 1)) two_branches_in_one_phase) (own 1 1 0) ≡ Fates.Active)
 unfolding two_branches_in_one_phase
 two_branches_in_one_phase-fates = (refl, refl)
 

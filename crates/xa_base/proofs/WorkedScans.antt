@@ -1,7 +1,7 @@
 -- Worked recovery scans: each page is the demanded one, and the fates and the log at the end are as told.
 use Rattle.std.proofs.Common.{◌≡◌, pos, negsuc, List, [], ◌∷◌, ◌++◌, true, false, refl}
 use Rattle.xa_base.specs.declared.code.Code.TheVariants as Codes
-use Rattle.xa_base.specs.declared.state.Fate.TheVariants as Fate
+use Rattle.xa_base.specs.declared.state.Fate.TheVariants as Fates
 use Rattle.xa_base.specs.declared.step.Outcome.TheVariants as Outcome
 use Rattle.xa_base.specs.declared.step.Part.TheVariants as Part
 use Rattle.xa_base.specs.Demanded.{with_steps, AllDemanded}
@@ -46,7 +46,7 @@ scan_pages-demanded : AllDemanded (From (fresh 1 1)) scan_pages
 unfolding scan_pages
 scan_pages-demanded = computed (From (fresh 1 1)) scan_pages refl
 
-scan_pages-fates : (fate (with_steps (From (fresh 1 1)) scan_pages) (own 1 0 0) ≡ Fate.Prepared) × (fate (with_steps (From (fresh 1 1)) scan_pages) (own 2 0 0) ≡ Fate.Prepared) × (fate (with_steps (From (fresh 1 1)) scan_pages) (own 3 0 0) ≡ Fate.Prepared) × (fate (with_steps (From (fresh 1 1)) scan_pages) (own 4 0 0) ≡ Fate.Prepared) × (fate (with_steps (From (fresh 1 1)) scan_pages) (own 5 0 0) ≡ Fate.Prepared)
+scan_pages-fates : (fate (with_steps (From (fresh 1 1)) scan_pages) (own 1 0 0) ≡ Fates.Prepared) × (fate (with_steps (From (fresh 1 1)) scan_pages) (own 2 0 0) ≡ Fates.Prepared) × (fate (with_steps (From (fresh 1 1)) scan_pages) (own 3 0 0) ≡ Fates.Prepared) × (fate (with_steps (From (fresh 1 1)) scan_pages) (own 4 0 0) ≡ Fates.Prepared) × (fate (with_steps (From (fresh 1 1)) scan_pages) (own 5 0 0) ≡ Fates.Prepared)
 unfolding scan_pages
 scan_pages-fates = (refl, refl, refl, refl, refl)
 
@@ -80,7 +80,7 @@ index-demanded : AllDemanded (From (fresh 1 1)) index
 unfolding index
 index-demanded = computed (From (fresh 1 1)) index refl
 
-index-fates : (fate (with_steps (From (fresh 1 1)) index) (own 1 0 0) ≡ Fate.Prepared) × (fate (with_steps (From (fresh 1 1)) index) (own 2 0 0) ≡ Fate.Committed) × (fate (with_steps (From (fresh 1 1)) index) (own 3 0 0) ≡ Fate.Prepared) × (fate (with_steps (From (fresh 1 1)) index) (own 4 0 0) ≡ Fate.Prepared)
+index-fates : (fate (with_steps (From (fresh 1 1)) index) (own 1 0 0) ≡ Fates.Prepared) × (fate (with_steps (From (fresh 1 1)) index) (own 2 0 0) ≡ Fates.Committed) × (fate (with_steps (From (fresh 1 1)) index) (own 3 0 0) ≡ Fates.Prepared) × (fate (with_steps (From (fresh 1 1)) index) (own 4 0 0) ≡ Fates.Prepared)
 unfolding index
 index-fates = (refl, refl, refl, refl)
 
@@ -104,7 +104,7 @@ scan_broken-demanded : AllDemanded (From (fresh 1 1)) scan_broken
 unfolding scan_broken
 scan_broken-demanded = computed (From (fresh 1 1)) scan_broken refl
 
-scan_broken-fates : fate (with_steps (From (fresh 1 1)) scan_broken) (own 1 0 0) ≡ Fate.Prepared
+scan_broken-fates : fate (with_steps (From (fresh 1 1)) scan_broken) (own 1 0 0) ≡ Fates.Prepared
 unfolding scan_broken
 scan_broken-fates = refl
 
@@ -128,7 +128,7 @@ foreign_beside_own-demanded : AllDemanded (From (with_foreign)) foreign_beside_o
 unfolding foreign_beside_own
 foreign_beside_own-demanded = computed (From (with_foreign)) foreign_beside_own refl
 
-foreign_beside_own-fates : fate (with_steps (From (with_foreign)) foreign_beside_own) (own 1 0 0) ≡ Fate.RolledBack
+foreign_beside_own-fates : fate (with_steps (From (with_foreign)) foreign_beside_own) (own 1 0 0) ≡ Fates.RolledBack
 unfolding foreign_beside_own
 foreign_beside_own-fates = refl
 

@@ -79,8 +79,10 @@ pub record FreshGtrids (tr : Trace) : Type 0 where
   pub rows : (g : Gtrid) → MayBegin tr g → ever tr g ≡ false
   pub branches : (b : Branch) → MayBegin tr b.gtrid → started tr b ≡ false
 
--- a transaction that was handed over has one branch, and never a row
+-- a transaction that was handed over, to be committed in one phase, has some branch, only the one, and never a row
 pub record HandedOverAlone (tr : Trace) : Type 0 where
   pub some : (g : Gtrid) → handed_over tr g ≡ true → (b : Branch) × (b.gtrid ≡ g) × (started tr b ≡ true)
-  pub one : (b c : Branch) → handed_over tr b.gtrid ≡ true → b.gtrid ≡ c.gtrid → started tr b ≡ true → started tr c ≡ true → b ≡ c
+  pub one :
+      (b c : Branch) → handed_over tr b.gtrid ≡ true → b.gtrid ≡ c.gtrid → started tr b ≡ true → started tr c ≡ true
+      → b ≡ c
   pub no_row : (g : Gtrid) → handed_over tr g ≡ true → ever tr g ≡ false

@@ -65,7 +65,7 @@ IsValue tr (Steps.Crash p) reply = reply ≡ Replies.Crashed
 IsValue tr (Steps.Restart (Side.Rm r)) reply = reply ≡ Replies.RmRestarted
 IsValue tr (Steps.Restart Side.Manager) reply = Restarts tr reply
 
--- the numbers that a restart finds are the log's; each other value is the history's
+-- the steps whose value the history determines: all but a restart of the manager, of which the log tells the numbers
 abbrev pub IsDetermined : Step → Type 0
 IsDetermined (Steps.Restart Side.Manager) = ⊥
 IsDetermined _ = Unit

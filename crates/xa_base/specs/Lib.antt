@@ -12,6 +12,7 @@ pub mod Decisions
 pub mod Demanded
 pub mod Distinct
 pub mod Facts
+pub mod Headline
 pub mod Heard
 pub mod HeldBranch
 pub mod History

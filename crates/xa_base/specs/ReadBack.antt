@@ -7,13 +7,13 @@ use Rattle.xa_base.specs.declared.answer.Answer.TheVariants as Answers
 use Rattle.xa_base.specs.declared.call.Call as Called
 use Rattle.xa_base.specs.declared.reply.Reply as Replied
 use Rattle.xa_base.specs.declared.reply.Reply.TheVariants as Replies
-use Rattle.xa_base.specs.declared.step.Step as Asking
+use Rattle.xa_base.specs.declared.step.Step as Asked
 use Rattle.xa_base.specs.declared.step.Step.TheVariants as Steps
 use Rattle.xa_base.specs.InDoubt.{xid_of_name}
 use Rattle.xa_base.specs.Steps.{Step, Reply, map_step, map_reply}
 use Rattle.xa_base.specs.Trace.{Call, Name.Ours}
 
-abbrev pub step_back : Step → Asking.Step Xid
+abbrev pub step_back : Step → Asked.Step Xid
 step_back step = map_step xid_of_name step
 
 abbrev pub reply_back : Reply → Replied.Reply Xid
@@ -28,7 +28,7 @@ abbrev pub AnswerHasXids : Given.Answer Xid → Type 0
 AnswerHasXids (Answers.Ret code) = Unit {0}
 AnswerHasXids (Answers.Page xids) = All IsXid xids
 
-abbrev pub StepHasXids : Asking.Step Xid → Type 0
+abbrev pub StepHasXids : Asked.Step Xid → Type 0
 StepHasXids (Steps.Issue thread rm call) = CallHasXid call
 StepHasXids (Steps.Vote rm xid vote) = IsXid xid
 StepHasXids (Steps.Busy rm xid times) = IsXid xid

@@ -2,7 +2,7 @@
 use Rattle.std.specs.Prelude.{Option, Some, None}
 use Rattle.xa_base.specs.Call.{call_if, map_call}
 use Rattle.xa_base.specs.Answer.{map_answer}
-use Rattle.xa_base.specs.declared.call.Call as Declared
+use Rattle.xa_base.specs.declared.call.Call as Called
 use Rattle.xa_base.specs.declared.reply.Reply as Replied
 use Rattle.xa_base.specs.declared.reply.Reply.TheVariants as Replies
 use Rattle.xa_base.specs.declared.step.Step as Asked
@@ -79,7 +79,7 @@ ours_of (Ours b) = Some b
 ours_of (Foreign x) = None
 
 -- the call that waits where this was asked for; none is ever accepted on another manager's identifier
-abbrev pub accepted : Declared.Call Name → Option Call
+abbrev pub accepted : Called.Call Name → Option Call
 accepted call = call_if ours_of call
 
 -- what happens with such a call, if it is one

@@ -8,7 +8,7 @@ pub use Rattle.xa_base.specs.StateTable.{Kind, Kind.Start, Kind.Join, Kind.End, 
 pub use Rattle.xa_base.specs.declared.branch.Gtrid.{Gtrid}
 pub use Rattle.xa_base.specs.declared.branch.Branch.{Branch}
 use Rattle.xa_base.specs.declared.answer.Answer as Given
-use Rattle.xa_base.specs.declared.call.Call as Declared
+use Rattle.xa_base.specs.declared.call.Call as Called
 pub use Rattle.xa_base.specs.declared.code.Code.{Code}
 pub use Rattle.xa_base.specs.declared.code.How.{How}
 pub use Rattle.xa_base.specs.declared.vote.Vote.{Vote}
@@ -29,7 +29,7 @@ pub data Name : Type 0 where
 
 -- a call that waits on a line
 abbrev pub Call : Type 0
-Call = Declared.Call Branch
+Call = Called.Call Branch
 
 -- an answer: a return code, or what an xa_recover lists
 abbrev pub Answer : Type 0

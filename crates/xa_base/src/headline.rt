@@ -1,13 +1,31 @@
 //! What every history of demanded replies means.
-ghost use Rattle.std.specs.Prelude.{◌≡◌, ◌≤◌, length, map};
+ghost use Rattle.std.specs.Prelude.{◌≡◌, ◌≤◌, List, length, map};
 ghost use Rattle.xa_base.specs.Agreement.{AreAlike, AsLogged, ClosesLast, DoubtIsDown, HeuristicsAreHeld};
 ghost use Rattle.xa_base.specs.Agreement.{IsCommitment, IsFinal, IsMoment, IsPrefixOf, call_of, ends, phases};
 ghost use Rattle.xa_base.specs.AgreementInvariant.{ClaimedIsPrepared, CommitHasRow, FreshGtrids, HandedOverAlone};
 ghost use Rattle.xa_base.specs.AgreementInvariant.{NoStartAfterCommit, RollbackHasNoRow, RowsWerePrepared, SettledIsOver};
 ghost use Rattle.xa_base.specs.Commitment.{Phase};
 ghost use Rattle.xa_base.specs.Facts.{issued, standing, taken};
-ghost use Rattle.xa_base.specs.Right.{AllRight};
+ghost use Rattle.xa_base.specs.Headline.{Headline};
+ghost use Rattle.xa_base.specs.History.{AreDemanded};
+ghost use Rattle.xa_base.specs.Right.{AllRight, RightOrigin};
 ghost use Rattle.xa_base.specs.Trace.{Branch, Happening, Line, Origin, Trace, Trace.From};
+ghost use Rattle.xa_base.specs.declared.reply.Event.{Event};
+
+use crate::histories::{demanded, one_more_event};
+
+/// The headline, all of it at once: where the start is right and each event's reply is one that the history before it
+/// demands, agreement and its invariant hold at every moment of the events, as [`agreement`] and
+/// [`agreement_invariant`] say them of histories. A start is right where its rows and records are of earlier
+/// incarnations, and what it lists as another manager's is.
+pub fn headline_holds()
+    ensures { (o : Origin) (events : List Event) → RightOrigin o → AreDemanded o events → Headline o events }
+{
+    demanded();
+    one_more_event();
+    agreement();
+    agreement_invariant();
+}
 
 /// Agreement, of every history in which each thing happened rightly:
 ///

@@ -10,11 +10,18 @@ ghost use Rattle.xa_base.specs.Facts.{branches, heuristic_rows, log, origin};
 ghost use Rattle.xa_base.specs.Steps.{Reply, Step};
 ghost use Rattle.xa_base.specs.Trace.{Origin, Trace, Trace.Then};
 
-/// Where each reply is the one that the history before it demands, each thing happened rightly: of steps and
-/// replies whose identifiers are read as names (`replies`), and so of the events that a system keeps (`events`).
-/// And the history leaves no step without a reply (`answered`).
+/// The replies that a history demands:
+///
+/// - `replies`, `events`: where each reply is one that the history before it demands, each thing happened rightly: of
+///   steps and replies whose identifiers are read as names, and so of the events that a system keeps;
+/// - `answered`: no step is left without a reply;
+/// - `valued`: each step has a value, the reply that is demanded where nothing refuses it, memory is there and the log
+///   doesn't fail;
+/// - `determined`: that value is the only one, but for a restart of the manager, which may come up with more than one
+///   incarnation, and finds the change in doubt in the log or not.
 pub fn demanded()
-    ensures replies { (tr : Trace) (xs : List (Step × Reply)) → AllRight tr → AllDemanded tr xs → AllRight (with_steps tr xs) }
+    ensures replies { (tr : Trace) (xs : List (Step × Reply)) →
+        AllRight tr → AllDemanded tr xs → AllRight (with_steps tr xs) }
     ensures events { (o : Origin) (events : List Event) →
         RightOrigin o → AreDemanded o events → AllRight (history o events) }
     ensures answered { (tr : Trace) (s : Step) → (r : Reply) × Demanded tr s r }
@@ -40,8 +47,11 @@ pub fn one_more_event()
         IsMoment (history o events) (happening_of e) (history o (events ++ e ∷ later)) }
 {}
 
-/// Nothing is listed twice: no transaction has two rows, where none had at the start; no branch has two records, where none
-/// had; and no branch is started twice.
+/// Nothing is listed twice, so that the numbers of rows, records and branches are those of their lists:
+///
+/// - `rows`: no transaction has two rows in the log, where none had at the start;
+/// - `records`: no branch has two records, where none had at the start;
+/// - `branches`: no branch is started twice.
 pub fn listed_once()
     ensures rows { (tr : Trace) → AllRight tr → ApartRows (origin tr).rows → ApartRows (log tr) }
     ensures records { (tr : Trace) →

@@ -2,7 +2,8 @@
 ghost use Rattle.std.specs.Prelude.{◌≡◌, ℤ, All, List, None, Option, Some, map, option_map};
 ghost use Rattle.std.specs.Ordering.{eq_by_cmp};
 ghost use Rattle.xa_base.specs.Scan.{page_of};
-ghost use Rattle.xa_base.specs.Branch.{IsBranch, branch_cmp, branch_eq, gtrid_cmp, gtrid_eq, branch_of_xid, xid_of_branch};
+ghost use Rattle.xa_base.specs.Branch.{IsBranch, branch_cmp, branch_eq, branch_of_xid};
+ghost use Rattle.xa_base.specs.Branch.{gtrid_cmp, gtrid_eq, xid_of_branch};
 ghost use Rattle.xa_base.specs.Xid.{IsXid, Xid, xid_cmp};
 ghost use Rattle.xa_base.specs.Demanded.{Demanded};
 ghost use Rattle.xa_base.specs.History.{name_of, reply_of, step_of};
@@ -17,7 +18,8 @@ ghost use Rattle.xa_base.specs.Trace.{Gtrid, Branch, Name, Name.Foreign, Name.Ou
 /// - `own`, `foreign`: the identifier of a branch of this manager has the branch as its name, and one of another
 ///   shape itself;
 /// - `back`, `pages`: the name gives the identifier back, and the names of a page give back the page;
-/// - `order`: names are in the order of their identifiers.
+/// - `order`: names are in the order of their identifiers;
+/// - `same_page`: xa_recover lists the same from names as from their identifiers.
 pub fn names()
     ensures own { (b : Branch) → IsBranch b → name_of (xid_of_branch b) ≡ Ours b }
     ensures foreign { (x : Xid) → branch_of_xid x ≡ None → name_of x ≡ Foreign x }
@@ -25,6 +27,9 @@ pub fn names()
     ensures pages { (xs : List Xid) → All IsXid xs → map xid_of_name (map name_of xs) ≡ xs }
     ensures order { (x y : Xid) →
         IsXid x → IsXid y → name_cmp (name_of x) (name_of y) ≡ xid_cmp x y }
+    ensures same_page { (count : ℤ) (from : Option (Option Name)) (xs : List Name) →
+        option_map (map xid_of_name) (page_of name_cmp count from xs)
+        ≡ page_of xid_cmp count (option_map (option_map xid_of_name) from) (map xid_of_name xs) }
 {}
 
 /// Nothing of a step or a reply is lost in what a history knows of it:
@@ -37,18 +42,16 @@ pub fn read_back()
     ensures ours { (tr : Trace) (s : Step Name) (r : Reply Name) → Demanded tr s r → AnswersOurs r }
 {}
 
-/// Branches are in the order of their identifiers (`order`), and the numbers of a branch that an identifier names fit (`fit`).
+/// The branches of this manager and their identifiers are alike in number and order:
+///
+/// - `fit`: the numbers of the branch that an identifier names fit their types;
+/// - `order`: branches are in the order of their identifiers, and so transactions are, and the branches of each;
+/// - `same_gtrid`, `same_branch`: two transactions, or two branches, are the same exactly where neither comes before
+///   the other.
 pub fn branches_in_order()
     ensures fit { (x : Xid) (b : Branch) → IsXid x → branch_of_xid x ≡ Some b → IsBranch b }
     ensures order { (b c : Branch) →
         IsBranch b → IsBranch c → xid_cmp (xid_of_branch b) (xid_of_branch c) ≡ branch_cmp b c }
-{}
-
-/// Tests.
-pub fn ties()
-    ensures g { (g h : Gtrid) → gtrid_eq g h ≡ eq_by_cmp gtrid_cmp g h }
-    ensures b { (b c : Branch) → branch_eq b c ≡ eq_by_cmp branch_cmp b c }
-    ensures pages { (count : ℤ) (from : Option (Option Name)) (xs : List Name) →
-        option_map (map xid_of_name) (page_of name_cmp count from xs)
-        ≡ page_of xid_cmp count (option_map (option_map xid_of_name) from) (map xid_of_name xs) }
+    ensures same_gtrid { (g h : Gtrid) → gtrid_eq g h ≡ eq_by_cmp gtrid_cmp g h }
+    ensures same_branch { (b c : Branch) → branch_eq b c ≡ eq_by_cmp branch_cmp b c }
 {}

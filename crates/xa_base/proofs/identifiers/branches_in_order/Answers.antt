@@ -1,5 +1,6 @@
 use Rattle.xa_base.proofs.BranchLemmas.{numbers_fit}
 use Rattle.xa_base.proofs.BytesOrder.{branch_order}
+use Rattle.xa_base.proofs.SameTests.{gtrid_ties, branch_ties}
 use Rattle.xa_base.proofs.identifiers.branches_in_order.Goals as goal
 
 pub returns-clause-fit : goal.returns-clause-fit
@@ -7,3 +8,9 @@ returns-clause-fit c x b v e = numbers_fit x b v e
 
 pub returns-clause-order : goal.returns-clause-order
 returns-clause-order c b d h k = branch_order b d h k
+
+pub returns-clause-same_gtrid : goal.returns-clause-same_gtrid
+returns-clause-same_gtrid c g h = gtrid_ties g h
+
+pub returns-clause-same_branch : goal.returns-clause-same_branch
+returns-clause-same_branch c b d = branch_ties b d

@@ -1,4 +1,5 @@
 use Rattle.xa_base.proofs.NameLemmas.{own_name, foreign_name, name_back, pages_back, names_order}
+use Rattle.xa_base.proofs.SameTests.{same_page}
 use Rattle.xa_base.proofs.identifiers.names.Goals as goal
 
 pub returns-clause-own : goal.returns-clause-own
@@ -15,3 +16,6 @@ returns-clause-pages c xs h = pages_back xs h
 
 pub returns-clause-order : goal.returns-clause-order
 returns-clause-order c x y h k = names_order x y h k
+
+pub returns-clause-same_page : goal.returns-clause-same_page
+returns-clause-same_page c count from xs = same_page count from xs
