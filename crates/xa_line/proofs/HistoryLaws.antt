@@ -1,29 +1,70 @@
 -- The calls of a line say what they say in a history.
-use Rattle.std.proofs.Common.{◌≡◌, refl, sym, List, [], ◌∷◌, map, Bool, ◌&&◌, ◌||◌, not}
+use Rattle.std.proofs.Common.{◌≡◌, refl, sym, ap, List, [], ◌∷◌, Bool, false, ◌||◌, Option, Some, None}
+use Rattle.std.proofs.lemmas.Option.{none-some, same_Some}
 use Rattle.std.specs.List.{list_any}
+use Rattle.std.specs.Option.{option_map}
 use Rattle.xa_base.specs.Call.{map_call}
-use Rattle.xa_base.specs.Opening.{opens, closes, has_opened, has_closed, comes_unopened}
+use Rattle.xa_base.specs.History.{name_of}
+use Rattle.xa_base.specs.Opening.{opens, closes, has_opened, has_closed}
+use Rattle.xa_base.specs.Steps.{ours_of}
+use Rattle.xa_base.specs.Trace.{Call as KnownCall}
+use Rattle.xa_base.specs.Xid.{Xid}
+use Rattle.xa_base.specs.declared.branch.Branch.{Branch}
 use Rattle.xa_base.specs.declared.call.Call.{Call}
 use Rattle.xa_base.specs.declared.call.Call.TheVariants as Calls
+use Rattle.xa_line.specs.Histories.{AreKnownAs, known}
 
-module _ {X Y : Type 0} (f : X → Y) where
-  opens_mapped : (c : Call X) → opens (map_call f c) ≡ opens c
-  opens_mapped Calls.OpenRm = refl
-  opens_mapped _ = refl
+-- ** one call
 
-  closes_mapped : (c : Call X) → closes (map_call f c) ≡ closes c
-  closes_mapped Calls.CloseRm = refl
-  closes_mapped _ = refl
+-- names don't matter
+pub opens_mapped : {X Y : Type 0} (f : X → Y) (c : Call X) → opens (map_call f c) ≡ opens c
+opens_mapped f Calls.OpenRm = refl
+opens_mapped f _ = refl
 
-  pub opened_mapped : (cs : List (Call X)) → has_opened (map (map_call f) cs) ≡ has_opened cs
-  opened_mapped [] = refl
-  opened_mapped (c ∷ cs) = λ i. opens_mapped c i || opened_mapped cs i
+-- a call on a branch neither opens nor closes
+on_a_branch : (test : KnownCall → Bool) (make : Branch → KnownCall) → ((b : Branch) → test (make b) ≡ false)
+    → (o : Option Branch) (k : KnownCall) → option_map make o ≡ Some k → false ≡ test k
+on_a_branch test make fails (Some b) k e = rw (← same_Some _ _ e) (sym (fails b))
+on_a_branch test make fails None k e = absurd (none-some _ e)
 
-  pub closed_mapped : (cs : List (Call X)) → has_closed (map (map_call f) cs) ≡ has_closed cs
-  closed_mapped [] = refl
-  closed_mapped (c ∷ cs) = λ i. closes_mapped c i || closed_mapped cs i
+opens_known : (c : Call Xid) (k : KnownCall) → known c ≡ Some k → opens c ≡ opens k
+opens_known Calls.OpenRm k e = ap opens (same_Some _ _ e)
+opens_known Calls.CloseRm k e = ap opens (same_Some _ _ e)
+opens_known (Calls.Recover count start end) k e = ap opens (same_Some _ _ e)
+opens_known (Calls.Start x join) k e = on_a_branch opens (λ b. Calls.Start b join) (λ b. refl) (ours_of (name_of x)) k e
+opens_known (Calls.End x fail) k e = on_a_branch opens (λ b. Calls.End b fail) (λ b. refl) (ours_of (name_of x)) k e
+opens_known (Calls.Prepare x) k e = on_a_branch opens Calls.Prepare (λ b. refl) (ours_of (name_of x)) k e
+opens_known (Calls.Commit x one) k e = on_a_branch opens (λ b. Calls.Commit b one) (λ b. refl) (ours_of (name_of x)) k e
+opens_known (Calls.Rollback x) k e = on_a_branch opens Calls.Rollback (λ b. refl) (ours_of (name_of x)) k e
+opens_known (Calls.Forget x) k e = on_a_branch opens Calls.Forget (λ b. refl) (ours_of (name_of x)) k e
 
--- names matter neither in the call nor in those before it
-pub unopened_mapped : {X Y Z W : Type 0} (f : X → Y) (g : Z → W) (cs : List (Call X)) (c : Call Z)
-    → comes_unopened (map (map_call f) cs) c ≡ comes_unopened cs (map_call g c)
-unopened_mapped f g cs c = λ i. not (sym (opens_mapped g c) i) && not (opened_mapped f cs i)
+closes_known : (c : Call Xid) (k : KnownCall) → known c ≡ Some k → closes c ≡ closes k
+closes_known Calls.OpenRm k e = ap closes (same_Some _ _ e)
+closes_known Calls.CloseRm k e = ap closes (same_Some _ _ e)
+closes_known (Calls.Recover count start end) k e = ap closes (same_Some _ _ e)
+closes_known (Calls.Start x join) k e = on_a_branch closes (λ b. Calls.Start b join) (λ b. refl) (ours_of (name_of x)) k e
+closes_known (Calls.End x fail) k e = on_a_branch closes (λ b. Calls.End b fail) (λ b. refl) (ours_of (name_of x)) k e
+closes_known (Calls.Prepare x) k e = on_a_branch closes Calls.Prepare (λ b. refl) (ours_of (name_of x)) k e
+closes_known (Calls.Commit x one) k e = on_a_branch closes (λ b. Calls.Commit b one) (λ b. refl) (ours_of (name_of x)) k e
+closes_known (Calls.Rollback x) k e = on_a_branch closes Calls.Rollback (λ b. refl) (ours_of (name_of x)) k e
+closes_known (Calls.Forget x) k e = on_a_branch closes Calls.Forget (λ b. refl) (ours_of (name_of x)) k e
+
+-- ** all calls of a line
+
+-- whether one of the calls passes a test
+some_known : (test : Call Xid → Bool) (known_test : KnownCall → Bool)
+    → ((c : Call Xid) (k : KnownCall) → known c ≡ Some k → test c ≡ known_test k)
+    → (calls : List (Call Xid)) (ks : List KnownCall) → AreKnownAs calls ks → list_any test calls ≡ list_any known_test ks
+some_known test known_test alike [] [] e = refl
+some_known test known_test alike [] (k ∷ ks) e = absurd cc
+some_known test known_test alike (c ∷ cs) [] e = absurd cc
+some_known test known_test alike (c ∷ cs) (k ∷ ks) e =
+    let h : known c ≡ Some k = cc in
+    let t : AreKnownAs cs ks = cc in
+    λ i. alike c k h i || some_known test known_test alike cs ks t i
+
+pub opened_known : (calls : List (Call Xid)) (ks : List KnownCall) → AreKnownAs calls ks → has_opened calls ≡ has_opened ks
+opened_known calls ks e = some_known opens opens opens_known calls ks e
+
+pub closed_known : (calls : List (Call Xid)) (ks : List KnownCall) → AreKnownAs calls ks → has_closed calls ≡ has_closed ks
+closed_known calls ks e = some_known closes closes closes_known calls ks e

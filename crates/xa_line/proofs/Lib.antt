@@ -2,3 +2,4 @@ pub mod Crossing
 pub mod FlowLaws
 pub mod GridLaws
 pub mod HistoryLaws
+pub mod TrafficLaws

@@ -1,11 +1,36 @@
--- The calls of a line as histories know them.
-use Rattle.std.specs.Prelude.{◌≡◌, List, map}
-use Rattle.xa_base.specs.Branch.{xid_of_branch}
+-- What goes over a line, as histories know it.
+use Rattle.std.specs.Prelude.{◌≡◌, List, map, Option, Some}
+use Rattle.std.specs.Option.{option_map}
+use Rattle.xa_base.specs.Answer.{map_answer}
 use Rattle.xa_base.specs.Call.{map_call}
-use Rattle.xa_base.specs.Trace.{Call as KnownCall}
+use Rattle.xa_base.specs.Facts as facts
+use Rattle.xa_base.specs.History.{name_of}
+use Rattle.xa_base.specs.Steps.{accepted}
+use Rattle.xa_base.specs.Trace.{Line, Trace, Answer as KnownAnswer, Call as KnownCall}
 use Rattle.xa_base.specs.Xid.{Xid}
+use Rattle.xa_base.specs.declared.answer.Answer.{Answer}
 use Rattle.xa_base.specs.declared.call.Call.{Call}
+use Rattle.xa_line.specs.Traffic.{Traffic, answered, heard, issued, taken}
+
+-- a call as a history knows it. None knows a call on another manager's identifier
+abbrev pub known : Call Xid → Option KnownCall
+known call = accepted (map_call name_of call)
+
+-- a call and its answer, as a history knows them
+abbrev pub known_answered : Call Xid × Answer Xid → Option (KnownCall × KnownAnswer)
+known_answered p = option_map (λ call. (call, map_answer name_of p.1)) (known p.0)
 
 -- these calls are known to a history as those
 abbrev pub AreKnownAs : List (Call Xid) → List KnownCall → Type 0
-AreKnownAs calls known = calls ≡ map (map_call xid_of_branch) known
+AreKnownAs calls in_history = map known calls ≡ map Some in_history
+
+-- these calls and answers are known to a history as those
+abbrev pub AreAnsweredAs : List (Call Xid × Answer Xid) → List (KnownCall × KnownAnswer) → Type 0
+AreAnsweredAs pairs in_history = map known_answered pairs ≡ map Some in_history
+
+-- the traffic of a line is what a history says of it since it last broke, and each call that was taken was answered
+pub record LineStands (tr : Trace) (l : Line) (t : Traffic) : Type 0 where
+  pub all_issued : AreKnownAs (issued t) (facts.issued tr l)
+  pub all_answered : AreAnsweredAs (answered t) (facts.taken tr l)
+  pub all_heard : AreAnsweredAs (heard t) (facts.heard tr l)
+  pub each_answered : taken t ≡ map (λ p. p.0) (answered t)

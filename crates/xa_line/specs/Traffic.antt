@@ -1,7 +1,6 @@
 -- The traffic of a line since it was new or renewed: the calls to the resource manager, and the answers back.
 -- Which calls a line takes is the model's rule, over what the line itself has seen.
-use Rattle.std.specs.Prelude.{ℕ, Bool, true, false, ◌&&◌, not, Option, Some, None, List, [], ◌∷◌, ◌++◌, length, nat_le, ◌≡◌, if◌then◌else◌}
-use Rattle.std.specs.List.{list_any}
+use Rattle.std.specs.Prelude.{ℕ, Bool, Option, Some, None, List, [], ◌∷◌, ◌++◌, length, nat_le, ◌≡◌, if◌then◌else◌}
 use Rattle.std.specs.Option.{option_or}
 use Rattle.xa_base.specs.declared.answer.Answer.{Answer}
 use Rattle.xa_base.specs.Opening.{has_closed, comes_unopened}

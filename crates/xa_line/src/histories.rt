@@ -1,16 +1,18 @@
-//! The rules of a line, and those of histories.
-ghost use Rattle.std.specs.Prelude.{◌≡◌, ℕ, length};
+//! Lines, and those of histories.
+ghost use Rattle.std.specs.Prelude.{◌≡◌, ◌++◌, ℕ, length, List, map, slice_get, Some, true, false};
+ghost use Rattle.std.specs.Option.{option_map};
+ghost use Rattle.xa_base.specs.Facts as facts;
 ghost use Rattle.xa_base.specs.History.{step_of};
-ghost use Rattle.xa_base.specs.Issued as known;
 ghost use Rattle.xa_base.specs.Opening.{comes_unopened, has_closed};
-ghost use Rattle.xa_base.specs.Progress.{waiting};
+ghost use Rattle.xa_base.specs.Progress.{unheard, waiting};
 ghost use Rattle.xa_base.specs.Rules as rules;
-ghost use Rattle.xa_base.specs.Trace.{Trace, line};
+ghost use Rattle.xa_base.specs.Trace.{Happening, Line, Origin, Trace, Trace.From, Trace.Then, line};
 ghost use Rattle.xa_base.specs.Xid.{Xid};
+ghost use Rattle.xa_base.specs.declared.answer.Answer.{Answer};
 ghost use Rattle.xa_base.specs.declared.call.Call.{Call};
 ghost use Rattle.xa_base.specs.declared.step.Step.TheVariants.{Issue};
-ghost use Rattle.xa_line.specs.Histories.{AreKnownAs};
-ghost use Rattle.xa_line.specs.Traffic.{Traffic, is_full, issued};
+ghost use Rattle.xa_line.specs.Histories.{AreAnsweredAs, AreKnownAs, LineStands, known, known_answered};
+ghost use Rattle.xa_line.specs.Traffic.{Traffic, answered, heard, is_full, issued, no_traffic, taken};
 
 /// A line refuses calls by the rules of histories, which this states; the call does nothing:
 ///
@@ -19,12 +21,45 @@ ghost use Rattle.xa_line.specs.Traffic.{Traffic, is_full, issued};
 /// - `full`: so they do where as many calls wait.
 pub fn lines_as_in_histories()
     ensures not_open { (tr : Trace) (t r : ℕ) (c : Call Xid) (l : Traffic) →
-        AreKnownAs (issued l) (known.issued tr (line t r)) →
+        AreKnownAs (issued l) (facts.issued tr (line t r)) →
         comes_unopened (issued l) c ≡ rules.not_open tr (step_of (Issue t r c)) }
     ensures on_closed { (tr : Trace) (t r : ℕ) (c : Call Xid) (l : Traffic) →
-        AreKnownAs (issued l) (known.issued tr (line t r)) →
+        AreKnownAs (issued l) (facts.issued tr (line t r)) →
         has_closed (issued l) ≡ rules.on_closed tr (step_of (Issue t r c)) }
     ensures full { (tr : Trace) (t r : ℕ) (c : Call Xid) (l : Traffic) →
         length l.calls.waiting ≡ waiting tr (line t r) →
         is_full l ≡ rules.is_full tr (step_of (Issue t r c)) }
+{}
+
+/// What waits on a line is what waits in a history, wherever the two stand alike (`LineStands`: the calls issued,
+/// the answers and those heard are the same, and each call that was taken was answered). This states it; the call
+/// does nothing:
+///
+/// - `front`, `front_answer`: what [`Line::front`](crate::Line::front) and
+///   [`Line::front_answer`](crate::Line::front_answer) show is the history's next call, and its next answer with its
+///   call; where one has none, so has the other;
+/// - `calls`, `answers`: as many wait;
+/// - `new`, `renewed`: a new line stands as at the start of a history, and as after each happening that breaks it;
+/// - `goes_on`: a line that isn't broken goes on to stand so, where what is added to its calls, its answers and those
+///   heard is what the happening adds to them.
+pub fn traffic_as_in_histories()
+    ensures front { (tr : Trace) (l : Line) (t : Traffic) → LineStands tr l t →
+        option_map known (slice_get t.calls.waiting 0) ≡ option_map Some (facts.next_call tr l) }
+    ensures front_answer { (tr : Trace) (l : Line) (t : Traffic) → LineStands tr l t →
+        option_map known_answered (slice_get t.answers.waiting 0)
+        ≡ option_map Some (facts.next_answer tr l) }
+    ensures calls { (tr : Trace) (l : Line) (t : Traffic) → LineStands tr l t →
+        length t.calls.waiting ≡ waiting tr l }
+    ensures answers { (tr : Trace) (l : Line) (t : Traffic) → LineStands tr l t →
+        length t.answers.waiting ≡ unheard tr l }
+    ensures new { (o : Origin) (l : Line) → LineStands (From o) l no_traffic }
+    ensures renewed { (tr : Trace) (e : Happening) (l : Line) → facts.breaks tr e l ≡ true →
+        LineStands (Then tr e) l no_traffic }
+    ensures goes_on { (tr : Trace) (e : Happening) (l : Line) (old new : Traffic)
+        (calls : List (Call Xid)) (answers hearings : List (Call Xid × Answer Xid)) →
+        LineStands tr l old → facts.breaks tr e l ≡ false →
+        issued new ≡ issued old ++ calls → AreKnownAs calls (facts.new_calls tr e l) →
+        answered new ≡ answered old ++ answers → AreAnsweredAs answers (facts.new_taken e l) →
+        heard new ≡ heard old ++ hearings → AreAnsweredAs hearings (facts.new_heard e l) →
+        taken new ≡ map (λ p. p.0) (answered new) → LineStands (Then tr e) l new }
 {}

@@ -24,7 +24,7 @@ mod taker;
 #[cfg(test)]
 mod tests;
 
-pub use histories::lines_as_in_histories;
+pub use histories::{lines_as_in_histories, traffic_as_in_histories};
 pub use issuer::Issuer;
 pub use line::Line;
 pub use lines::Lines;

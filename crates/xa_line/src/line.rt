@@ -32,7 +32,7 @@ impl Model for Line {
 
 impl Line {
     ghost use Rattle.std.specs.Prelude.{◌≡◌, ◌+◌, ◌-◌, ◌≤◌, ◌↔◌, ◌∷◌, ◌++◌, [], length, slice_get};
-    ghost use Rattle.std.specs.Prelude.{IsErr, IfOk, IfErr, IfSome, IfNone, OnErr, OnOk};
+    ghost use Rattle.std.specs.Prelude.{IsErr, IfOk, IfErr, IfSome, IfNone, OnErr, OnOk, nat_lt};
     ghost use Rattle.std.specs.Option.{option_copied};
     ghost use Rattle.std.specs.Result.{result_err};
     ghost use Rattle.xa_line.specs.Ends.{AreEndsOfOne, answered_by, heard_by, issued_by, taken_by};
@@ -157,6 +157,13 @@ impl Line {
         ensures { result ≡ places - length self.now.calls.waiting }
     {
         PLACES - self.calls.len()
+    }
+
+    /// Whether this many calls more are too many to wait: with those that wait they would be over 64.
+    pub fn is_full_for(&self, count: usize) -> bool
+        ensures { result ≡ nat_lt places (length self.now.calls.waiting + count) }
+    {
+        count > PLACES || self.calls.len() > PLACES - count
     }
 
     /// How many more answers may wait, 0 to 64.
