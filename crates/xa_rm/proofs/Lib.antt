@@ -1,4 +1,5 @@
 pub mod CallLemmas
 pub mod PageLemmas
+mod ResourceManagerRows
 pub mod ScanLemmas
 pub mod TableLemmas

@@ -25,6 +25,7 @@ impl Branches {
     ghost use Rattle.xa_base.specs.Scan.{behind};
     ghost use Rattle.xa_base.specs.Standing.{is_in_doubt};
     ghost use Rattle.xa_base.specs.Xid.{Xid, xid_cmp, xid_eq};
+    ghost use Rattle.xa_base.specs.declared.code.Code.TheVariants.{NotAnXid};
     ghost use Rattle.xa_rm.specs.Branches.{held_at};
     ghost use Rattle.xa_rm.specs.Held.{held_branch};
     ghost use Rattle.xa_rm.specs.ResourceManager.{HoldsFormat, HoldsNoFormat, is_of_line};
@@ -77,6 +78,7 @@ impl Branches {
             held_at self.new.table x ≡ held_after thread call.now x (held_at self.old.table x)) }
         ensures err { OnErr result ((x : Xid) → held_at self.new.table x ≡ held_at self.old.table x) }
         ensures line { is_of_line call.now ≡ true → IsOk result }
+        ensures not_found { code_for (held_at self.old.table) call.now ≡ NotAnXid → IsOk result }
     {
         let Some(xid) = call.xid() else {
             return Ok(Code::Success);

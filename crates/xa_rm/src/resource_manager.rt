@@ -15,7 +15,7 @@ pub trait ResourceManager {
     ghost use Rattle.xa_base.specs.Standing.{branch_state_of, fate_of, is_in_doubt, is_prepared};
     ghost use Rattle.xa_base.specs.Xid.{Xid};
     ghost use Rattle.xa_base.specs.declared.answer.Answer.TheVariants.{Ret, Page};
-    ghost use Rattle.xa_base.specs.declared.code.Code.TheVariants.{Invalid};
+    ghost use Rattle.xa_base.specs.declared.code.Code.TheVariants.{Invalid, NotAnXid};
     ghost use Rattle.xa_rm.specs.ResourceManager.{answer_to, scan_after_call, is_of_line, answer_to_recover, scan_after_recover};
     ghost use Rattle.xa_rm.specs.ResourceManager.{changed_at, voting, retrying, HoldsFormat, HoldsNoFormat};
 
@@ -30,7 +30,8 @@ pub trait ResourceManager {
 
     /// Answers a thread's call (XA, chapter 5), by the branch state table. A branch that is started remembers the thread.
     ///
-    /// To xa_recover it answers as `recover` does.
+    /// To xa_recover it answers as `recover` does. xa_open, xa_close and what is answered XAER_INVAL or XAER_NOTA take no
+    /// memory, and so never fail.
     fn apply(&mut self, thread: u32, call: &Call) -> Result<Answer, Memory>
         ensures answer { IfOk result (λ answer.
             answer ≡ answer_to (held_of self.old) (scan_of self.old thread) (in_doubt_of self.old) call.now) }
@@ -43,9 +44,11 @@ pub trait ResourceManager {
             IsInDoubtList (held_of self.old) (in_doubt_of self.old)) }
         ensures err_held { OnErr result ((x : Xid) → held_of self.new x ≡ held_of self.old x) }
         ensures err_scans { OnErr result ((t : ℕ) → scan_of self.new t ≡ scan_of self.old t) }
-        // Neither xa_open and xa_close nor an answer XAER_INVAL takes memory.
+        // Neither xa_open and xa_close nor an answer XAER_INVAL or XAER_NOTA takes memory.
         ensures line { is_of_line call.now ≡ true → IsOk result }
         ensures invalid { answer_to (held_of self.old) (scan_of self.old thread) (in_doubt_of self.old) call.now ≡ Ret Invalid
+            → IsOk result }
+        ensures not_found { answer_to (held_of self.old) (scan_of self.old thread) (in_doubt_of self.old) call.now ≡ Ret NotAnXid
             → IsOk result };
 
     /// Lists up to `count` identifiers in doubt that stand behind the thread's recovery scan, in order and of any format,
@@ -105,7 +108,11 @@ pub trait ResourceManager {
         ensures held { (x : Xid) → held_of self.new x ≡ broken_by thread (held_of self.old x) }
         ensures scans { (t : ℕ) → scan_of self.new t ≡ (if t == thread then NotOpen else scan_of self.old t) };
 
-    /// The resource manager crashed, and with it the lines of all threads. No memory is taken.
+    /// The lines of all threads broke: the resource manager crashed, or who calls it, with all its lines, did. Each branch
+    /// that isn't prepared or completed is lost, and all recovery scans are closed. No memory is taken.
+    ///
+    /// What calls this where the resource manager itself goes on is the transaction manager's end: its own crash, or a
+    /// failure of its log, with which it goes down.
     fn crash(&mut self)
         ensures held { (x : Xid) → held_of self.new x ≡ crashed (held_of self.old x) }
         ensures scans { (t : ℕ) → scan_of self.new t ≡ NotOpen };

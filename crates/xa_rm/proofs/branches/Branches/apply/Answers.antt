@@ -43,3 +43,11 @@ returns-else-ne-clause-held c = λ x.
     let same = called_not_found c.args.thread asked.0 (held_at c.args.self.now.table c.in-Some.xid.now) (sym answered ∙ not_found) in
     unchanged_there (held_at c.args.self.now.table) (called c.args.thread asked.0) c.in-Some.xid.now (sym same) x
     ∙ sym (ap (λ asks. held_by c.args.thread asks x (held_at c.args.self.now.table x)) asked.1)
+
+pub returns-in_err-set-clause-not_found : goal.returns-in_err-set-clause-not_found
+returns-in_err-set-clause-not_found c = λ none.
+    let asked = asks_named c.args.call.now c.in-Some.xid.now (sym c.xid.ensures ∙ ap option_copied c.in-Some.is) in
+    let answered = c.apply-code.ensures.answer asked.0 c.in-Some.xid.now asked.1 ∙ ap (λ (b : HeldBranch). answer_of b asked.0) c.get-held.ensures in
+    let not_found : c.apply-code.result ≡ Codes.NotAnXid = answered ∙ sym (ap (code_by (held_at c.args.self.now.table)) asked.1) ∙ none in
+    let no : ⊥ = search rules in
+    absurd no
