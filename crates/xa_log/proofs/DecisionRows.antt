@@ -40,7 +40,8 @@ use Rattle.sqlite.specs.Edit.{without_all}
 use Rattle.sqlite.specs.Tree.{rowid}
 use Rattle.sqlite.specs.State.{ExecutesInside}
 use Rattle.std.proofs.lemmas.Bool.{and_parts}
-use Rattle.xa_log.specs.Sql.{HasWritten, MayBegin}
+use Rattle.xa_log.specs.Sql.{AreLogTrees, HasWritten, MayBegin}
+use Rattle.xa_log.proofs.Lasting.{as_log}
 use Rattle.xa_log.proofs.Cascade.{cascade}
 use Rattle.xa_log.proofs.Inserts.{at_once, puts_participant}
 use Rattle.xa_log.proofs.Deletes.{taken_rows}
@@ -216,11 +217,11 @@ module _ (g : Gtrid) (params : Row) (given : params ≡ gtrid_params g) (old : S
       let made = delete_makes delete_text w.tally new.now w.changed in
       wrote (without_decision g) old new ready w.shown made.0 made.1
 
-  pub delete_commits : IsTrue old.is_open → (db : Trees) → CommitsBy delete_decision params old db → content_of db ≡ without_decision g (content_of old.now.trees)
+  pub delete_commits : IsTrue old.is_open → (db : Trees) → CommitsBy delete_decision params old db → (content_of db ≡ without_decision g (content_of old.now.trees)) × AreLogTrees db
   delete_commits is_open db h = elim (commits_as delete_decision delete_decision_plain old (λ _. ready) is_open delete_command delete_decision_is (gtrid_params g) db (subst (λ p. CommitsBy delete_decision p old db) given h)) [
     | inl (inl is, same) ↦ absurd (let e = is in cc)
     | inl (inr release, same) ↦ absurd (let e = release.2 in cc)
-    | inr writes ↦ ap content_of writes.5 ∙ (delete_makes delete_text writes.1 writes.2 writes.3).1
+    | inr writes ↦ (let made = delete_makes delete_text writes.1 writes.2 writes.3 in (ap content_of writes.5 ∙ made.1, subst AreLogTrees (sym writes.5) (as_log writes.2 made.0 writes.4)))
   ]
 
 -- ---- in a transaction
@@ -234,12 +235,12 @@ insert_command = Insert 1 (Values (lit Null ∷ col 0 0 ∷ col 0 1 ∷ []) 3)
 abbrev pub join_command : Command
 join_command = Insert 3 (Values (lit Null ∷ col 0 0 ∷ col 0 1 ∷ col 0 2 ∷ col 0 3 ∷ []) 5)
 
-pub writes_decision : (g : Gtrid) (params : Row) → params ≡ gtrid_params g → (old new : State) (count : ℕ) → MayBegin g old → ExecutesInside 0 insert_decision params old new (Ok count)
+pub writes_decision : (g : Gtrid) → FitsRow g → (params : Row) → params ≡ gtrid_params g → (old new : State) (count : ℕ) → MayBegin g old → ExecutesInside 0 insert_decision params old new (Ok count)
     → HasWritten g empty (content_of old.now.trees) new
-writes_decision g params given old new count begins h =
+writes_decision g fits params given old new count begins h =
     let w = runs_as insert_decision (gtrid_params g) old new log_schema begins.now.schema insert_command insert_decision_is insert_decision_plain count (subst (λ p. Executes insert_decision p old new (Ok count)) given h.0) in
-    let made = put_content old.now new.now g _ begins.now begins.none (_, g, refl) refl (puts_decision old.step_limit (pos g.incarnation) (pos g.sequence) old.now new.now (statement_of insert_decision (understood log_schema insert_decision)) w.tally begins.now.schema w.changed) in
-    record { is_open = h.1.is_open; inside = h.1.mode; now = made.0; content = made.1 }
+    let made = put_content old.now new.now g _ begins.now begins.none (_, g, refl, fits) refl (puts_decision old.step_limit (pos g.incarnation) (pos g.sequence) old.now new.now (statement_of insert_decision (understood log_schema insert_decision)) w.tally begins.now.schema w.changed) in
+    record { is_open = h.1.is_open; inside = h.1.mode; now = made.0; sound = w.sound; content = made.1 }
 
 pub writes_participant : (b : Branch) (params : Row) → params ≡ branch_params b → (old new : State) (count : ℕ) (set : KeySet branch_cmp) (before : Content) → HasWritten b.gtrid set before old
     → ExecutesInside 0 insert_participant params old new (Ok count) → HasWritten b.gtrid (insert set b) before new
@@ -247,7 +248,7 @@ writes_participant b params given old new count set before has h =
     let w = runs_as insert_participant (branch_params b) old new log_schema has.now.schema join_command insert_participant_is insert_participant_plain count (subst (λ p. Executes insert_participant p old new (Ok count)) given h.0) in
     let made = join_content old.now new.now b.gtrid set before _ has.now has.content (_, b, refl) refl
     (puts_participant old.step_limit (pos b.gtrid.incarnation) (pos b.gtrid.sequence) (pos b.thread) (pos b.rm) old.now new.now (statement_of insert_participant (understood log_schema insert_participant)) w.tally has.now.schema w.changed) in
-    record { is_open = h.1.is_open; inside = h.1.mode; now = made.0; content = made.1 }
+    record { is_open = h.1.is_open; inside = h.1.mode; now = made.0; sound = w.sound; content = made.1 }
 
 pub four_params : (b : Branch) → FitsRow b.gtrid → b.thread ≤ last_number → b.rm ≤ last_number
     → Int (to_z w64 (of_z w64 (pos b.gtrid.incarnation))) ∷ Int (to_z w64 (of_z w64 (pos b.gtrid.sequence))) ∷ Int (to_z w64 (of_z w64 (pos b.thread))) ∷ Int (to_z w64 (of_z w64 (pos b.rm))) ∷ [] ≡ branch_params b

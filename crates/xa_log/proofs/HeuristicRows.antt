@@ -38,7 +38,8 @@ use Rattle.xa_log.specs.Content.{last_number, with_heuristic, recorded}
 use Rattle.xa_log.specs.Contract.{FitsRow}
 use Rattle.xa_log.specs.Tables.{log_schema}
 use Rattle.xa_log.specs.Rows.{IsLog, IsDecisionRow, IsHeuristicRow, AreHeuristicRows, IsParticipantRow, HasDecision, heuristic_row, branch_from, branch_in, heuristic_from, how_in, integer_in, is_branch, content_of}
-use Rattle.xa_log.specs.Sql.{IsReady, IsOrderly, content_in}
+use Rattle.xa_log.specs.Sql.{AreLogTrees, IsReady, IsOrderly, content_in}
+use Rattle.xa_log.proofs.Lasting.{as_log}
 use Rattle.xa_log.proofs.Texts.{is, find_heuristic, find_heuristic_is, find_heuristic_plain, find_heuristic_unlisted, insert_heuristic, insert_heuristic_is, insert_heuristic_plain}
 use Rattle.xa_log.proofs.Plain.{chosen, shown, plain_rows}
 use Rattle.xa_log.proofs.Contents.{bound_number, put_keeps, same_number, both_parts, equal_is, permuted_has}
@@ -244,14 +245,14 @@ record_content db after b how row is none row_is says puts =
           (ap (λ t. (content_of (λ _. t)).incarnation) puts.1),
     )
 
-module _ (b : Branch) (how : How) (params : Row) (given : params ≡ end_params b how) (old : State) (ready : IsReady old) (none : get (content_of old.now.trees).heuristics b ≡ None) where
+module _ (b : Branch) (how : How) (fits : FitsRow b.gtrid) (params : Row) (given : params ≡ end_params b how) (old : State) (ready : IsReady old) (none : get (content_of old.now.trees).heuristics b ≡ None) where
   as_recorded : with_heuristic b how (content_of old.now.trees) ≡ recorded b how (content_of old.now.trees)
   as_recorded = ap (λ o. Rattle.std.proofs.Common.cond (is_some o) (content_of old.now.trees) (with_heuristic b how (content_of old.now.trees))) (sym none)
 
   record_makes : (text : List ℕ) (tally : Tally) (after : Database) → Does old.step_limit at_once (end_params b how) old.now text None insert_end (Ok (tally, after))
       → IsLog after × (content_of after.trees ≡ recorded b how (content_of old.now.trees))
   record_makes text tally after h =
-      let made = record_content old.now after b how _ ready.now none (_, b, how, refl) (ap (λ o. (b, unwrap_or o Ends.Com)) (how_read how))
+      let made = record_content old.now after b how _ ready.now none (_, b, how, refl, fits) (ap (λ o. (b, unwrap_or o Ends.Com)) (how_read how))
       (puts_heuristic old.step_limit (pos b.gtrid.incarnation) (pos b.gtrid.sequence) (pos b.thread) (pos b.rm) (how_number how) old.now after text tally ready.now.schema h) in
       (made.0, made.1 ∙ as_recorded)
 
@@ -261,10 +262,12 @@ module _ (b : Branch) (how : How) (params : Row) (given : params ≡ end_params 
       let made = record_makes (statement_of insert_heuristic (understood log_schema insert_heuristic)) w.tally new.now w.changed in
       wrote (recorded b how) old new ready w.shown made.0 made.1
 
-  pub record_commits : IsTrue old.is_open → (db : Trees) → CommitsBy insert_heuristic params old db → content_of db ≡ recorded b how (content_of old.now.trees)
+  pub record_commits : IsTrue old.is_open → (db : Trees) → CommitsBy insert_heuristic params old db → (content_of db ≡ recorded b how (content_of old.now.trees)) × AreLogTrees db
   record_commits is_open db h =
       elim (commits_as insert_heuristic insert_heuristic_plain old (λ _. ready) is_open insert_end insert_heuristic_is (end_params b how) db (subst (λ p. CommitsBy insert_heuristic p old db) given h)) [
         | inl (inl is, same) ↦ absurd (let e = is in cc)
         | inl (inr release, same) ↦ absurd (let e = release.2 in cc)
-        | inr writes ↦ ap content_of writes.5 ∙ (record_makes (statement_of insert_heuristic (understood log_schema insert_heuristic)) writes.1 writes.2 writes.3).1
+        | inr writes ↦ (
+            let made = record_makes (statement_of insert_heuristic (understood log_schema insert_heuristic)) writes.1 writes.2 writes.3 in
+            (ap content_of writes.5 ∙ made.1, subst AreLogTrees (sym writes.5) (as_log writes.2 made.0 writes.4)))
       ]

@@ -20,9 +20,10 @@ use Rattle.xa_base.proofs.BranchOrder.{gtrids_total, exact_gtrids, branches_tota
 use Rattle.xa_log.specs.Content.{Content, with_decision, without_decision, committed}
 use Rattle.xa_log.specs.Contract.{Makes}
 use Rattle.xa_log.specs.Rows.{IsLog, content_of}
-use Rattle.xa_log.specs.Sql.{IsReady, IsOrderly, content_in, OnlyReads, MayChange, HasWritten, MayBegin, Lacks, IsUndone}
+use Rattle.xa_log.specs.Sql.{AreLogTrees, IsReady, IsOrderly, content_in, OnlyReads, MayChange, HasWritten, MayBegin, Lacks, IsUndone}
 use Rattle.xa_log.proofs.States.{Did, did_makes, changes_then}
 use Rattle.xa_log.proofs.DecisionRows.{same_content}
+use Rattle.xa_log.proofs.Lasting.{as_log}
 use Rattle.xa_log.proofs.Contents.{equal_is}
 
 -- ---- the loop
@@ -69,7 +70,7 @@ module _ (a e : State) (opened : IsTrue e.is_open → HasCleanDisk e) where
       rw (is, was) (ap (λ (d : Database). Some (content_of d.trees)) now)
 
   pub tried : (P : Trees → Type 0) → Survives a e P → (change : Content → Content) → (IsOrderly a → HasCleanDisk e → IsUndone a e ⊎ Did change a e)
-      → (IsOrderly a → HasCleanDisk e → (db : Trees) → P db → IsTrue a.is_open × (content_of db ≡ change (content_of a.now.trees))) → MayChange change a e
+      → (IsOrderly a → HasCleanDisk e → (db : Trees) → P db → IsTrue a.is_open × (content_of db ≡ change (content_of a.now.trees)) × AreLogTrees db) → MayChange change a e
   tried P survives change did commits = record {
     honest = λ clean. omega (arith, survives.clean);
     order = λ order h. elim (did order (opened h)) [ inl undone ↦ undone_ready undone order h | inr made ↦ made.ready ];
@@ -84,6 +85,7 @@ module _ (a e : State) (opened : IsTrue e.is_open → HasCleanDisk e) where
           let was : a.is_open ≡ true = made.0 in
           inr (rw was (h.2 ∙ made.1)))
     ];
+    logs = λ order clean db h. elim (survives.crash clean db h) [ inl was ↦ inl was | inr by ↦ inr (commits order clean db by).2 ];
   }
 
 -- ---- all that was written, and its commit
@@ -121,8 +123,8 @@ module _ (x : Gtrid) (set : KeySet branch_cmp) (a m e : State) where
   failed_all error keeps it (inl fails) = undone_after a m e keeps fails.3
   failed_all error keeps it (inr ended) = absurd (true≢false (sym it.has.inside ∙ ended.1))
 
-  pub commits_all : IsWritten x set a m → (db : Trees) → db ≡ m.now.trees → IsTrue a.is_open × (content_of db ≡ committed x set (content_of a.now.trees))
-  commits_all it db same = (it.was_open, ap content_of same ∙ it.has.content ∙ fresh x set (content_of a.now.trees) it.none)
+  pub commits_all : IsWritten x set a m → (db : Trees) → db ≡ m.now.trees → IsTrue a.is_open × (content_of db ≡ committed x set (content_of a.now.trees)) × AreLogTrees db
+  commits_all it db same = (it.was_open, ap content_of same ∙ it.has.content ∙ fresh x set (content_of a.now.trees) it.none, subst AreLogTrees (sym same) (as_log m.now it.has.now it.has.sound))
 
 -- ---- a look, and then the change
 
@@ -132,6 +134,7 @@ once P change a b c reads honest holds changes = record {
   order = λ order. (changes_then a b c change reads (changes (holds order))).order order;
   kept = λ order. (changes_then a b c change reads (changes (holds order))).kept order;
   crash = λ order. (changes_then a b c change reads (changes (holds order))).crash order;
+  logs = λ order. (changes_then a b c change reads (changes (holds order))).logs order;
 }
 
 pub no_some : {X : Type 0} (o : Option X) → false ≡ is_some o → o ≡ None

@@ -11,6 +11,7 @@ pub mod Inserts
 pub mod Inside
 pub mod KeySets
 pub mod Keyed
+pub mod Lasting
 pub mod Layouts
 pub mod Listed
 pub mod Made

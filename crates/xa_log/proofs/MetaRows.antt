@@ -23,7 +23,8 @@ use Rattle.sqlite_rules.specs.Action.{works}
 use Rattle.xa_log.specs.Content.{Content, bumped, with_incarnation}
 use Rattle.xa_log.specs.Tables.{log_schema, meta}
 use Rattle.xa_log.specs.Rows.{IsLog, IsDecisionRow, AreHeuristicRows, IsParticipantRow, HasDecision, meta_row, content_of}
-use Rattle.xa_log.specs.Sql.{IsReady, IsOrderly, MayChange, OnlyReads, content_in}
+use Rattle.xa_log.specs.Sql.{AreLogTrees, IsReady, IsOrderly, MayChange, OnlyReads, content_in}
+use Rattle.xa_log.proofs.Lasting.{as_log}
 use Rattle.xa_log.proofs.Inside.{once, told}
 use Rattle.xa_log.proofs.Parts.{went, same_value}
 use Rattle.xa_log.proofs.Plain.{chosen, shown, plain_rows}
@@ -123,12 +124,14 @@ module _ (new : ℕ) (params : Row) (given : params ≡ Int (pos new) ∷ []) (o
       let made = set_makes (statement_of set_incarnation (understood log_schema set_incarnation)) w.tally end.now w.changed in
       wrote (with_incarnation new) old end ready w.shown made.0 made.1
 
-  pub update_commits : IsTrue old.is_open → (db : Trees) → CommitsBy set_incarnation params old db → content_of db ≡ with_incarnation new (content_of old.now.trees)
+  pub update_commits : IsTrue old.is_open → (db : Trees) → CommitsBy set_incarnation params old db → (content_of db ≡ with_incarnation new (content_of old.now.trees)) × AreLogTrees db
   update_commits is_open db h =
       elim (commits_as set_incarnation set_incarnation_plain old (λ _. ready) is_open update set_incarnation_is (Int (pos new) ∷ []) db (subst (λ p. CommitsBy set_incarnation p old db) given h)) [
         | inl (inl is, same) ↦ absurd (let e = is in cc)
         | inl (inr release, same) ↦ absurd (let e = release.2 in cc)
-        | inr writes ↦ ap content_of writes.5 ∙ (set_makes (statement_of set_incarnation (understood log_schema set_incarnation)) writes.1 writes.2 writes.3).1
+        | inr writes ↦ (
+            let made = set_makes (statement_of set_incarnation (understood log_schema set_incarnation)) writes.1 writes.2 writes.3 in
+            (ap content_of writes.5 ∙ made.1, subst AreLogTrees (sym writes.5) (as_log writes.2 made.0 writes.4)))
       ]
 
 -- to read the incarnation and to write the next one is to raise it

@@ -1,19 +1,23 @@
--- The participants of a transaction stay branches of it.
-use Rattle.std.proofs.Common.{◌≡◌, inl, inr, List, [], ◌∷◌, true, false, ◌||◌, cond, Some, None, unwrap_or, Result, Ok, Err, OnOk, OnErr, sym, ap, subst, ◌∙◌}
+-- The participants of a transaction stay branches of it, and the numbers of all rows fit.
+use Rattle.std.proofs.Common.{◌≡◌, inl, inr, List, [], ◌∷◌, true, false, ◌||◌, ◌+◌, cond, Some, None, is_some, unwrap_or, Result, Ok, Err, OnOk, OnErr, sym, ap, subst, ◌∙◌}
 use Rattle.std.specs.Ordering.{eq_by_cmp}
 use Rattle.std.specs.List.{AllByRecursion, list_any}
 use Rattle.std.specs.FinMap.{get, contains_key, get-insert, get-remove, get-empty}
-use Rattle.xa_log.specs.KeySet.{contains, from_list}
+use Rattle.xa_log.specs.KeySet.{KeySet, contains, from_list}
 use Rattle.xa_log.specs.KeySet.{contains-from_list}
-use Rattle.std.proofs.lemmas.Bool.{cases_Bool}
+use Rattle.std.proofs.lemmas.Bool.{cases_Bool, true≢false}
 use Rattle.xa_base.specs.declared.branch.Gtrid.{Gtrid}
 use Rattle.xa_base.specs.declared.branch.Branch.{Branch}
+use Rattle.xa_base.specs.declared.code.How.{How}
 use Rattle.xa_base.specs.Branch.{gtrid_cmp, branch_cmp}
 use Rattle.xa_base.proofs.BranchOrder.{gtrids_total, exact_gtrids, branches_total, exact_branches}
-use Rattle.xa_log.specs.Content.{Content, AreOwn, committed, with_decision, without_decision, nothing}
+use Rattle.xa_log.specs.Content.{Content, AreOwn, committed, with_decision, without_decision, with_heuristic, recorded, nothing}
+use Rattle.xa_log.specs.Contract.{AllFit, FitsRow}
+use Rattle.xa_log.specs.Memory.{IsInOrder, held_in}
+use Rattle.xa_log.specs.declared.mem_log.MemLog.{MemLog}
 use Rattle.xa_log.proofs.Contents.{equal_is}
 
-pub own_nothing : AreOwn nothing
+own_nothing : AreOwn nothing
 own_nothing g set b is has = let no : None ≡ Some set = sym (get-empty gtrid_cmp g) ∙ is in absurd (cc)
 
 one_of : (list : List Branch) (g : Gtrid) (b : Branch) → AllByRecursion (λ (x : Branch). x.gtrid ≡ g) list → list_any (eq_by_cmp branch_cmp b) list ≡ true → b.gtrid ≡ g
@@ -32,19 +36,91 @@ own_with c g list all own q set b is has = elim (cases_Bool (eq_by_cmp gtrid_cmp
   | inr other ↦ own q set b (sym (ap (λ t. cond t (Some (from_list list)) (get c.decisions q)) other) ∙ sym (get-insert gtrids_total c.decisions g (from_list list) q) ∙ is) has
 ]
 
-pub own_committed : (c : Content) (g : Gtrid) (list : List Branch) → AllByRecursion (λ (b : Branch). b.gtrid ≡ g) list → AreOwn c → AreOwn (committed g (from_list list) c)
+own_committed : (c : Content) (g : Gtrid) (list : List Branch) → AllByRecursion (λ (b : Branch). b.gtrid ≡ g) list → AreOwn c → AreOwn (committed g (from_list list) c)
 own_committed c g list all own = elim (contains_key c.decisions g) as (λ t. AreOwn (cond t c (with_decision g (from_list list) c))) [
   | true ↦ own
   | false ↦ own_with c g list all own
 ]
 
-pub own_without : (c : Content) (g : Gtrid) → AreOwn c → AreOwn (without_decision g c)
+own_without : (c : Content) (g : Gtrid) → AreOwn c → AreOwn (without_decision g c)
 own_without c g own q set b is has = elim (cases_Bool (eq_by_cmp gtrid_cmp q g)) [
   | inl same ↦ (let no : None ≡ Some set = sym (ap (λ t. cond t None (get c.decisions q)) same) ∙ sym (get-remove gtrids_total c.decisions g q) ∙ is in absurd (cc))
   | inr other ↦ own q set b (sym (ap (λ t. cond t None (get c.decisions q)) other) ∙ sym (get-remove gtrids_total c.decisions g q) ∙ is) has
 ]
 
-pub own_after_commit : {A E : Type 0} (result : Result A E) (old new : Content) (g : Gtrid) (list : List Branch) → AllByRecursion (λ (b : Branch). b.gtrid ≡ g) list
-    → OnOk result (new ≡ committed g (from_list list) old) → OnErr result (new ≡ old) → AreOwn old → AreOwn new
-own_after_commit (Ok x) old new g list all ok err own = subst AreOwn (sym ok) (own_committed old g list all own)
-own_after_commit (Err e) old new g list all ok err own = subst AreOwn (sym err) own
+-- ** the numbers of the rows fit
+
+fits_nothing : AllFit nothing
+fits_nothing = record {
+  decisions = λ g h. absurd (true≢false (sym h ∙ ap is_some (get-empty gtrid_cmp g)));
+  heuristics = λ b h. absurd (true≢false (sym h ∙ ap is_some (get-empty branch_cmp b)));
+}
+
+fits_with : (c : Content) (g : Gtrid) (set : KeySet branch_cmp) → FitsRow g → AllFit c → AllFit (with_decision g set c)
+fits_with c g set own fits = record {
+  decisions = λ q h. elim (cases_Bool (eq_by_cmp gtrid_cmp q g)) [
+    | inl same ↦ subst FitsRow (sym (exact_gtrids q g (equal_is _ same))) own
+    | inr other ↦ fits.decisions q (sym (ap (λ t. is_some (cond t (Some set) (get c.decisions q))) other) ∙ ap is_some (sym (get-insert gtrids_total c.decisions g set q)) ∙ h)
+  ];
+  heuristics = fits.heuristics;
+}
+
+fits_committed : (c : Content) (g : Gtrid) (set : KeySet branch_cmp) → FitsRow g → AllFit c → AllFit (committed g set c)
+fits_committed c g set own fits = elim (contains_key c.decisions g) as (λ t. AllFit (cond t c (with_decision g set c))) [
+  | true ↦ fits
+  | false ↦ fits_with c g set own fits
+]
+
+fits_without : (c : Content) (g : Gtrid) → AllFit c → AllFit (without_decision g c)
+fits_without c g fits = record {
+  decisions = λ q h. elim (cases_Bool (eq_by_cmp gtrid_cmp q g)) [
+    | inl same ↦ absurd (true≢false (sym h ∙ ap is_some (get-remove gtrids_total c.decisions g q) ∙ ap (λ t. is_some (cond t None (get c.decisions q))) same))
+    | inr other ↦ fits.decisions q (sym (ap (λ t. is_some (cond t None (get c.decisions q))) other) ∙ ap is_some (sym (get-remove gtrids_total c.decisions g q)) ∙ h)
+  ];
+  heuristics = fits.heuristics;
+}
+
+fits_with_heuristic : (c : Content) (b : Branch) (how : How) → FitsRow b.gtrid → AllFit c → AllFit (with_heuristic b how c)
+fits_with_heuristic c b how own fits = record {
+  decisions = fits.decisions;
+  heuristics = λ q h. elim (cases_Bool (eq_by_cmp branch_cmp q b)) [
+    | inl same ↦ subst (λ (x : Branch). FitsRow x.gtrid) (sym (exact_branches q b (equal_is _ same))) own
+    | inr other ↦ fits.heuristics q (sym (ap (λ t. is_some (cond t (Some how) (get c.heuristics q))) other) ∙ ap is_some (sym (get-insert branches_total c.heuristics b how q)) ∙ h)
+  ];
+}
+
+fits_recorded : (c : Content) (b : Branch) (how : How) → FitsRow b.gtrid → AllFit c → AllFit (recorded b how c)
+fits_recorded c b how own fits = elim (contains_key c.heuristics b) as (λ t. AllFit (cond t c (with_heuristic b how c))) [
+  | true ↦ fits
+  | false ↦ fits_with_heuristic c b how own fits
+]
+
+-- ** the calls leave what is in order
+
+pub order_nothing : IsInOrder nothing
+order_nothing = record { own = own_nothing; fits = fits_nothing }
+
+pub order_without : (c : Content) (g : Gtrid) → IsInOrder c → IsInOrder (without_decision g c)
+order_without c g order = record { own = own_without c g order.own; fits = fits_without c g order.fits }
+
+pub order_after_commit : {A E : Type 0} (result : Result A E) (old new : Content) (g : Gtrid) (list : List Branch) → FitsRow g → AllByRecursion (λ (b : Branch). b.gtrid ≡ g) list
+    → OnOk result (new ≡ committed g (from_list list) old) → OnErr result (new ≡ old) → IsInOrder old → IsInOrder new
+order_after_commit (Ok x) old new g list fits all ok err order =
+    subst IsInOrder (sym ok) (record { own = own_committed old g list all order.own; fits = fits_committed old g (from_list list) fits order.fits })
+order_after_commit (Err e) old new g list fits all ok err order = subst IsInOrder (sym err) order
+
+-- no participants change
+own_recorded : (c : Content) (b : Branch) (how : How) → AreOwn c → AreOwn (recorded b how c)
+own_recorded c b how own = elim (contains_key c.heuristics b) as (λ t. AreOwn (cond t c (with_heuristic b how c))) [ true ↦ own | false ↦ own ]
+
+pub order_after_note : {A E : Type 0} (result : Result A E) (old new : Content) (b : Branch) (how : How) → FitsRow b.gtrid
+    → OnOk result (new ≡ recorded b how old) → OnErr result (new ≡ old) → IsInOrder old → IsInOrder new
+order_after_note (Ok x) old new b how fits ok err order =
+    subst IsInOrder (sym ok) (record { own = own_recorded old b how order.own; fits = fits_recorded old b how fits order.fits })
+order_after_note (Err e) old new b how fits ok err order = subst IsInOrder (sym err) order
+
+pub order_after_raise : {A E : Type 0} (result : Result A E) (old new : MemLog)
+    → OnOk result (new ≡ record old { incarnation = old.incarnation + 1 }) → OnErr result (new ≡ old) → IsInOrder (held_in old) → IsInOrder (held_in new)
+order_after_raise (Ok x) old new ok err order =
+    subst (λ l. IsInOrder (held_in l)) (sym ok) (record { own = order.own; fits = record { decisions = order.fits.decisions; heuristics = order.fits.heuristics } })
+order_after_raise (Err e) old new ok err order = subst (λ l. IsInOrder (held_in l)) (sym err) order

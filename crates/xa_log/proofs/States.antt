@@ -20,7 +20,7 @@ use Rattle.xa_log.specs.Content.{Content}
 use Rattle.xa_log.specs.Contract.{Makes, MayMake}
 use Rattle.xa_log.specs.Tables.{log_schema}
 use Rattle.xa_log.specs.Rows.{IsLog, content_of}
-use Rattle.xa_log.specs.Sql.{IsReady, IsOrderly, content_in, OnlyReads, MayChange, Rests, RunsFrom, LeavesBy}
+use Rattle.xa_log.specs.Sql.{AreLogTrees, IsReady, IsOrderly, content_in, OnlyReads, MayChange, Rests, RunsFrom, LeavesBy}
 
 pub rests_not_run : (old new : State) (sql : List ℕ) (params : Row) (e : Error) → IsNotRun old new sql params e → Rests old new
 unfolding IsNotRun
@@ -112,6 +112,7 @@ module _ (old new : State) (P : Trees → Type 0) (opened : IsTrue new.is_open �
     order = λ order. rests_order old new (λ h. rests order (opened h)) order;
     kept = λ order. rests_content old new (λ h. rests order (opened h)) order;
     crash = λ order clean c h. elim (survives.crash clean h.0 h.1) [ inl was ↦ (h.0, was, h.2) | inr commits ↦ absurd (none order clean h.0 commits) ];
+    logs = λ order clean db h. elim (survives.crash clean db h) [ inl was ↦ inl was | inr commits ↦ absurd (none order clean db commits) ];
   }
 
 -- ---- the log is open, so the text means what it means over the log's tables
@@ -149,6 +150,7 @@ module _ (a b c : State) where
       | inr same ↦ elim (p.kept order) [ inl shut ↦ inl (same ∙ shut) | inr first ↦ inr (same ∙ first) ]
     ];
     crash = λ order clean x h. p.crash order (q.honest clean) x (q.crash (p.order order) clean x h);
+    logs = λ order clean db h. elim (q.logs (p.order order) clean db h) [ inl was ↦ p.logs order (q.honest clean) db was | inr is ↦ inr is ];
   }
 
   pub changes_then : (change : Content → Content) → OnlyReads a b → MayChange change b c → MayChange change a c
@@ -170,6 +172,7 @@ module _ (a b c : State) where
         | inr same ↦ inr (subst (λ o. IsSomeAnd o (λ y. x ≡ change y)) same made)
       ]
     ];
+    logs = λ order clean db h. elim (q.logs (p.order order) clean db h) [ inl was ↦ p.logs order (q.honest clean) db was | inr is ↦ inr is ];
   }
 
 -- ---- a statement is prepared
@@ -230,7 +233,7 @@ ready_after a b same order = rests_order a b (λ _. inl same) order same.0.is_op
 -- a statement that ran, by what it makes of the log's tables
 module _ {S : Type 0} (g : Ghosts S) (sql : List ℕ) (params : Row) (change : Content → Content) (old new : Held S) (opened : IsTrue (state g new).is_open → HasCleanDisk (state g new))
     (makes : (mid : State) → IsUnchanged (state g old) mid → IsReady mid → (count : ℕ) → Executes sql params mid (state g new) (Ok count) → Did change mid (state g new))
-    (commits : (mid : State) → IsUnchanged (state g old) mid → IsReady mid → IsTrue mid.is_open → (db : Trees) → CommitsBy sql params mid db → content_of db ≡ change (content_of mid.now.trees)) where
+    (commits : (mid : State) → IsUnchanged (state g old) mid → IsReady mid → IsTrue mid.is_open → (db : Trees) → CommitsBy sql params mid db → (content_of db ≡ change (content_of mid.now.trees)) × AreLogTrees db) where
   pub run_makes : IsOrderly (state g old) → RunsFrom g sql params old new → Did change (state g old) (state g new)
   run_makes order ran = did_after change _ (state g ran.0) _ ran.1 (makes (state g ran.0) ran.1 (ready_after _ (state g ran.0) ran.1 order) ran.2.0 ran.2.1)
 
@@ -265,8 +268,12 @@ module _ {S : Type 0} (g : Ghosts S) (sql : List ℕ) (params : Row) (change : C
       | inl was ↦ inl (h.0, was, h.2)
       | inr by ↦ (
           let was : (state g old).is_open ≡ true = by.1.0.was_open in
-          let content = commits (state g by.0) by.1 (ready_after _ (state g by.0) by.1 order) by.1.0.is_open h.0 by.2 in
+          let content = (commits (state g by.0) by.1 (ready_after _ (state g by.0) by.1 order) by.1.0.is_open h.0 by.2).0 in
           inr (rw was (h.2 ∙ content ∙ ap (λ (d : Database). change (content_of d.trees)) by.1.0.now_is)))
+    ];
+    logs = λ order clean db h. elim (crash order clean db h) [
+      | inl was ↦ inl was
+      | inr by ↦ inr (commits (state g by.0) by.1 (ready_after _ (state g by.0) by.1 order) by.1.0.is_open db by.2).1
     ];
   }
 
@@ -310,4 +317,5 @@ module _ (change other : Content → Content) where
       | inl was ↦ inl was
       | inr made ↦ inr (some_as (content_in a) (λ x. c ≡ change x) (λ x. c ≡ other x) (λ x is e. e ∙ same x is) made)
     ];
+    logs = may.logs;
   }

@@ -1,11 +1,15 @@
 -- What any list of calls leaves of a log's content, and what they are told.
-use Rattle.std.specs.Prelude.{◌≡◌, ◌⊎◌, ◌+◌, ℕ, List, [], ◌∷◌, take, Option, Some, None}
+use Rattle.std.specs.Prelude.{◌≡◌, ◌⊎◌, ◌+◌, ◌<◌, ℕ, List, [], ◌∷◌, take, get_or, length, Option, Some, None}
 use Rattle.std.specs.FinMap.{contains_key, entries, get, keys}
 use Rattle.std.specs.List.{AllByRecursion}
 use Rattle.xa_base.specs.declared.branch.Branch.{Branch}
 use Rattle.xa_log.specs.KeySet.{from_list, items}
 use Rattle.xa_log.specs.Content.{Content, all_listed, bumped, committed, logged_as, participants_of, recorded, without_decision}
-use Rattle.xa_log.specs.Contract.{FitsRow}
+use Rattle.xa_log.specs.Contract.{FitsRow, one_more_fault}
+use Rattle.xa_log.specs.declared.fail_plan.LogCall.{LogCall}
+use Rattle.xa_log.specs.declared.fail_plan.LogCall.TheVariants as kind
+use Rattle.xa_log.specs.declared.log_fault.LogFault.{LogFault}
+use Rattle.xa_log.specs.declared.log_fault.LogFault.TheVariants.{Memory}
 use Rattle.xa_log.specs.declared.commands.Command.{Command}
 use Rattle.xa_log.specs.declared.commands.Command.TheVariants.{Commit, Contains, Participants, Done, NoteHeuristic, HeuristicOf, Bump, Rows}
 use Rattle.xa_log.specs.declared.commands.Told.{Told}
@@ -34,6 +38,16 @@ after (Contains g) c = c
 after (Participants g) c = c
 after (HeuristicOf b) c = c
 after Rows c = c
+
+abbrev pub kind_of : Command → LogCall
+kind_of (Commit g participants) = kind.Commit
+kind_of (Done g) = kind.Done
+kind_of (NoteHeuristic b how) = kind.NoteHeuristic
+kind_of Bump = kind.Bump
+kind_of (Contains g) = kind.Contains
+kind_of (Participants g) = kind.Participants
+kind_of (HeuristicOf b) = kind.HeuristicOf
+kind_of Rows = kind.Rows
 
 -- what it is told of a log with this content
 abbrev pub Tells : Content → Command → Told → Type 0
@@ -65,3 +79,18 @@ abbrev pub AreTold : Content → List Command → List Told → Type 0
 AreTold c [] [] = Unit {0}
 AreTold c (call ∷ calls) (answer ∷ answers) = Tells c call answer × AreTold (after call c) calls answers
 AreTold c _ _ = ⊥
+
+-- one of the calls failed, and this is its fault; none was made after it
+pub record StopsAt {Log : Type 0} (says : LogCall → (Content → Content) → Log → Log → Option LogFault → Type 0) (calls : List Command) (new : Log) (e : LogFault) : Type 0 where
+  pub place : ℕ
+  pub within : place < length calls
+  pub call : Command
+  pub is : call ≡ get_or calls place call
+  pub before : Log
+  pub fails : says (kind_of call) (after call) before new (Some e)
+
+-- it was a call that failed, which is counted; or the calls that were made succeeded, and memory for the answers was refused
+abbrev pub EndsBy : {Log : Type 0} → (LogCall → (Content → Content) → Log → Log → Option LogFault → Type 0) → (Log → ℕ) → List Command → Log → Log → LogFault → Type 0
+EndsBy says faults calls old new e =
+    (StopsAt says calls new e × (faults new ≡ one_more_fault (faults old)))
+    ⊎ ((e ≡ Memory) × (faults new ≡ faults old))

@@ -1,9 +1,13 @@
 -- What a call of a log may do to its content, to the contents that a crash may leave, and to its count of faults.
-use Rattle.std.specs.Prelude.{◌≡◌, ◌⊎◌, ◌≤◌, ℕ, ◌+◌, ◌-◌, ◌^◌, min, Option, Some, None, IsSomeAnd, Result, Ok, Err}
+use Rattle.std.specs.Prelude.{◌≡◌, ◌≢◌, ◌⊎◌, ◌≤◌, ℕ, ◌+◌, ◌-◌, ◌^◌, min, true, Option, Some, None, IsSomeAnd, Result, Ok, Err}
+use Rattle.std.specs.FinMap.{contains_key}
+use Rattle.xa_base.specs.declared.branch.Branch.{Branch}
 use Rattle.xa_base.specs.declared.branch.Gtrid.{Gtrid}
 use Rattle.xa_log.specs.Content.{Content, last_number}
 use Rattle.xa_log.specs.declared.log_fault.LogFault.{LogFault}
-use Rattle.xa_log.specs.declared.log_fault.LogFault.TheVariants.{Store, Memory}
+use Rattle.xa_log.specs.declared.log_fault.LogFault.TheVariants.{Store, Memory, Spent}
+use Rattle.xa_log.specs.declared.fail_plan.LogCall.{LogCall}
+use Rattle.xa_log.specs.declared.fail_plan.LogCall.TheVariants.{Bump}
 
 -- the log was there, and has the change
 abbrev pub Makes : (Content → Content) → Option Content → Option Content → Type 0
@@ -29,10 +33,28 @@ LeavesNoMore old new = (c : Content) → new c → old c
 abbrev pub FitsRow : Gtrid → Type 0
 FitsRow g = (g.incarnation ≤ last_number) × (g.sequence ≤ last_number)
 
+-- the numbers of each transaction that has a row and of each branch that has a record fit into a row
+pub record AllFit (c : Content) : Type 0 where
+  pub decisions : (g : Gtrid) → contains_key c.decisions g ≡ true → FitsRow g
+  pub heuristics : (b : Branch) → contains_key c.heuristics b ≡ true → FitsRow b.gtrid
+
 -- a fault is counted, up to the greatest number
+abbrev pub one_more_fault : ℕ → ℕ
+one_more_fault n = min (n + 1) (2 ^ 64 - 1)
+
 abbrev pub faults_after : {A E : Type 0} → Result A E → ℕ → ℕ
 faults_after (Ok x) n = n
-faults_after (Err e) n = min (n + 1) (2 ^ 64 - 1)
+faults_after (Err e) n = one_more_fault n
+
+-- why a call failed, if it did
+abbrev pub fault_of : {A : Type 0} → Result A LogFault → Option LogFault
+fault_of (Ok x) = None
+fault_of (Err e) = Some e
+
+-- no call but a bump ends for want of incarnations
+abbrev pub MayEnd : LogCall → Option LogFault → Type 0
+MayEnd Bump fault = Unit {0}
+MayEnd call fault = fault ≢ Some Spent
 
 -- the store failed, or memory was refused
 abbrev pub IsStoreFault : LogFault → Type 0

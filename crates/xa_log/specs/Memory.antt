@@ -1,5 +1,5 @@
 -- What a log in memory holds, and what its failures say.
-use Rattle.std.specs.Prelude.{◌≡◌, ◌⊎◌, map}
+use Rattle.std.specs.Prelude.{◌≡◌, map, Option, Some, None}
 use Rattle.std.specs.BTreeMap.{BTreeMap}
 use Rattle.std.specs.BTreeSet.{BTreeSet}
 use Rattle.std.specs.FinMap.{FinMap, from_entries}
@@ -8,8 +8,16 @@ use Rattle.xa_base.specs.declared.branch.Gtrid.{Gtrid}
 use Rattle.xa_base.specs.declared.branch.Branch.{Branch}
 use Rattle.xa_base.specs.declared.code.How.{How}
 use Rattle.xa_base.specs.Branch.{gtrid_cmp, branch_cmp}
-use Rattle.xa_log.specs.Content.{Content}
+use Rattle.xa_log.specs.Content.{AreOwn, Content}
+use Rattle.xa_log.specs.Contract.{AllFit, one_more_fault}
+use Rattle.xa_log.specs.FailPlan.{calls_after, turn_of}
+use Rattle.xa_log.specs.declared.fail_log.FailLog.{FailLog}
+use Rattle.xa_log.specs.declared.fail_plan.LogCall.{LogCall}
+use Rattle.xa_log.specs.declared.fail_plan.LogCall.TheVariants.{Commit, Contains, Participants, Done, NoteHeuristic, HeuristicOf, Bump, Rows}
+use Rattle.xa_log.specs.declared.fail_plan.Turn.{Turn}
+use Rattle.xa_log.specs.declared.fail_plan.Turn.TheVariants.{Runs, FailsAfter, FailsBefore}
 use Rattle.xa_log.specs.declared.log_fault.LogFault.{LogFault}
+use Rattle.xa_log.specs.declared.log_fault.LogFault.TheVariants.{Memory as Refused, Spent, Store}
 use Rattle.xa_log.specs.declared.mem_log.MemLog.{MemLog}
 
 -- a decision's row, as the log's content has it
@@ -30,7 +38,37 @@ held_in log = record {
   incarnation = log.incarnation;
 }
 
--- a log in memory fails only for want of memory or of incarnations, and then holds what it held
-pub record FailsInMemory (old new : MemLog) (e : LogFault) : Type 0 where
-  pub cause : (e ≡ LogFault.Memory) ⊎ (e ≡ LogFault.Spent)
-  pub unchanged : held_in new ≡ held_in old
+-- it is as calls leave it
+pub record IsInOrder (c : Content) : Type 0 where
+  pub own : AreOwn c
+  pub fits : AllFit c
+
+-- why a call of a log in memory may fail: a bump for want of incarnations, one that takes memory for want of it, and no other
+abbrev pub MayFailBy : LogCall → LogFault → Type 0
+MayFailBy Bump e = e ≡ Spent
+MayFailBy Contains e = ⊥
+MayFailBy Done e = ⊥
+MayFailBy HeuristicOf e = ⊥
+MayFailBy Commit e = e ≡ Refused
+MayFailBy Participants e = e ≡ Refused
+MayFailBy NoteHeuristic e = e ≡ Refused
+MayFailBy Rows e = e ≡ Refused
+
+-- a call of a log in memory makes its change, or fails, counts that, and the log holds what it held
+abbrev pub RunsInMemory : LogCall → (Content → Content) → MemLog → MemLog → Option LogFault → Type 0
+RunsInMemory call change old new None = (held_in new ≡ change (held_in old)) × (new.faults ≡ old.faults)
+RunsInMemory call change old new (Some e) = MayFailBy call e × (held_in new ≡ held_in old) × (new.faults ≡ one_more_fault old.faults)
+
+-- ** a log that fails by a plan
+
+-- what a call does at its turn. One that is to fail after its change is made runs, and answers a failure whether or not it made the change
+abbrev pub DoesAt : Turn → LogCall → (Content → Content) → MemLog → MemLog → Option LogFault → Type 0
+DoesAt Runs call change old new fault = RunsInMemory call change old new fault
+DoesAt FailsAfter call change old new fault = (fault ≡ Some Store) × ((own : Option LogFault) × RunsInMemory call change old new own)
+DoesAt FailsBefore call change old new fault = (fault ≡ Some Store) × (new ≡ old)
+
+-- the plan says which turn a call has, and counts it
+pub record FollowsPlan (call : LogCall) (change : Content → Content) (old new : FailLog) (fault : Option LogFault) : Type 0 where
+  pub turn : DoesAt (turn_of old.plan call old.calls) call change old.log new.log fault
+  pub counted : new.calls ≡ calls_after old.plan call old.calls
+  pub plan : new.plan ≡ old.plan

@@ -1,21 +1,21 @@
 -- What a log finds in a database that it takes, and what it makes of it.
-use Rattle.std.specs.Prelude.{◌≡◌, ◌⊎◌, ℕ, pos, List, [], ◌∷◌, Ok, IsTrue}
+use Rattle.std.specs.Prelude.{◌≡◌, ◌⊎◌, ℕ, pos, false, List, [], ◌∷◌, Ok, IsTrue}
 use Rattle.std.specs.List.{Contains}
 use Rattle.sqlite.specs.declared.types.Value.{Value}
 use Rattle.sqlite.specs.declared.types.Value.TheVariants.{Null, Int}
 use Rattle.sqlite.specs.Order.{Row, column}
 use Rattle.sqlite.specs.Tree.{Trees}
-use Rattle.sqlite.specs.State.{State, Executes}
+use Rattle.sqlite.specs.State.{State, Executes, IsLive, Opens}
 use Rattle.sqlite.specs.Held.{Held}
 use Rattle.sqlite.specs.declared.FileStore.{FileStore}
 use Rattle.sqlite.specs.Recovery.{Image}
-use Rattle.sqlite.specs.Files.{file_state, IsOpened}
+use Rattle.sqlite.specs.Files.{file_state, over_files, IsBlankAs, IsOpened}
 use Rattle.sqlite.specs.Start.{FindsIn}
 use Rattle.sqlite_disk.specs.declared.Disk.{Ghosts}
 use Rattle.xa_log.specs.Content.{nothing}
 use Rattle.xa_log.specs.Tables.{no_tables, old_schema, log_schema}
 use Rattle.xa_log.specs.Rows.{content_of, old_content_of}
-use Rattle.xa_log.specs.Sql.{IsOrderly, IsOldReady, IsReady, IsReadyWith, IsUndone, AreNewTrees}
+use Rattle.xa_log.specs.Sql.{AreLogTrees, IsOrderly, IsOldReady, IsReady, IsReadyWith, IsUndone, AreNewTrees}
 
 -- the statement ran in the transaction, which goes on
 abbrev pub RunsInside : List ℕ → State → State → Type 0
@@ -60,6 +60,12 @@ NamesKnown s = Names 1 s ⊎ Names 2 s
 abbrev pub IsKnown : State → Type 0
 IsKnown s = IsBlank s ⊎ (IsOldReady s ⊎ IsReady s)
 
+-- it was just opened, and holds what a crash may have left of a log
+pub record IsFoundLog (s : State) : Type 0 where
+  pub opens : Opens s
+  pub live : IsLive s
+  pub log : AreLogTrees s.now.trees
+
 -- what one transaction makes: an empty log of a blank database, and a log of version 2 with the same rows of version 1
 abbrev pub AreMade : State → Trees → Type 0
 AreMade old db =
@@ -87,6 +93,7 @@ pub record IsTaken (old new : State) : Type 0 where
   pub made : IsBlank old → IsReadyWith nothing new
   pub migrated : IsOldReady old → IsReadyWith (old_content_of old.now.trees) new
   pub kept : old.now.schema ≡ log_schema → IsOrderly old → IsReadyWith (content_of old.now.trees) new
+  pub found : IsFoundLog old → IsReadyWith (content_of old.now.trees) new
   pub version : HasTables old → NamesKnown old
   pub crash : IsTakeable old → LeavesTables old new
 
@@ -95,4 +102,6 @@ pub record IsOver {D : Type 0} {g : Ghosts D} (image : Image) (log : Held (FileS
   pub was : Held (FileStore D g)
   pub opened : IsOpened was
   pub found : FindsIn image (file_state was)
+  -- where there was no file, its pages end in no sums of their own, so that any program of SQLite may write them
+  pub plain : IsBlankAs false image → (over_files.view was.store).has_sums ≡ false
   pub taken : IsTaken (file_state was) (file_state log)

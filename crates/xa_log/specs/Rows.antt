@@ -17,6 +17,7 @@ use Rattle.xa_base.specs.declared.code.How.TheVariants.{Com}
 use Rattle.xa_base.specs.Branch.{gtrid_cmp, branch_cmp}
 use Rattle.xa_base.specs.Code.{how_number, how_of_number}
 use Rattle.xa_log.specs.Content.{Content}
+use Rattle.xa_log.specs.Contract.{FitsRow}
 use Rattle.xa_log.specs.Tables.{log_schema, old_schema}
 
 -- the rows as they are stored, behind their rowids
@@ -31,7 +32,7 @@ heuristic_row id b how =
     Int id ∷ Int (pos b.gtrid.incarnation) ∷ Int (pos b.gtrid.sequence) ∷ Int (pos b.thread) ∷ Int (pos b.rm) ∷ Int (how_number how) ∷ []
 
 abbrev pub IsDecisionRow : Row → Type 0
-IsDecisionRow row = (id : ℤ) × (g : Gtrid) × (row ≡ decision_row id g)
+IsDecisionRow row = (id : ℤ) × (g : Gtrid) × (row ≡ decision_row id g) × FitsRow g
 
 abbrev pub participant_row : ℤ → Branch → Row
 participant_row id b = Int id ∷ Int (pos b.gtrid.incarnation) ∷ Int (pos b.gtrid.sequence) ∷ Int (pos b.thread) ∷ Int (pos b.rm) ∷ []
@@ -40,7 +41,7 @@ abbrev pub IsParticipantRow : Row → Type 0
 IsParticipantRow row = (id : ℤ) × (b : Branch) × (row ≡ participant_row id b)
 
 abbrev pub IsHeuristicRow : Row → Type 0
-IsHeuristicRow row = (id : ℤ) × (b : Branch) × (how : How) × (row ≡ heuristic_row id b how)
+IsHeuristicRow row = (id : ℤ) × (b : Branch) × (how : How) × (row ≡ heuristic_row id b how) × FitsRow b.gtrid
 
 -- what a row says
 abbrev pub gtrid_in : Row → Gtrid

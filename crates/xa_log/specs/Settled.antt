@@ -1,10 +1,10 @@
--- The laws of a log in tables: a crash leaves what it holds, where the store's crashes leave the last commit; and the participants of a
--- transaction are branches of it.
-use Rattle.std.proofs.Common.{◌≡◌, inl, inr, List, [], ◌∷◌, map, filter, Bool, true, Some, None, IsTrue, Ordering, Less, Equal, Greater, is_eq, refl, sym, ap, ◌∙◌}
+-- The laws of a log in tables: a crash leaves what it holds, where the store's crashes leave the last commit; the participants of a
+-- transaction are branches of it; and the numbers of its rows fit.
+use Rattle.std.proofs.Common.{◌≡◌, inl, inr, List, [], ◌∷◌, map, filter, Bool, true, Some, None, is_some, IsTrue, Ordering, Less, Equal, Greater, is_eq, refl, sym, ap, subst, ◌∙◌}
 use Rattle.std.proofs.lemmas.Bool.{cases_Bool, true≢false}
 use Rattle.std.specs.FinMap.{find, get, get-from_entries}
 use Rattle.xa_log.specs.KeySet.{KeySet, contains, contains-from_list}
-use Rattle.std.specs.List.{list_any}
+use Rattle.std.specs.List.{AllByRecursion, list_any}
 use Rattle.std.specs.Ordering.{eq_by_cmp}
 use Rattle.sqlite.specs.Effect.{Database}
 use Rattle.sqlite.specs.Order.{Row}
@@ -15,7 +15,8 @@ use Rattle.xa_base.specs.Branch.{branch_cmp, gtrid_cmp}
 use Rattle.xa_base.specs.declared.branch.Branch.{Branch}
 use Rattle.xa_base.specs.declared.branch.Gtrid.{Gtrid}
 use Rattle.xa_log.specs.Content.{AreOwn, Content}
-use Rattle.xa_log.specs.Rows.{branch_in, content_of, gtrid_in, is_of, participants_in}
+use Rattle.xa_log.specs.Contract.{AllFit, FitsRow}
+use Rattle.xa_log.specs.Rows.{IsDecisionRow, IsHeuristicRow, IsLog, branch_in, content_of, gtrid_in, how_in, is_branch, is_of, participants_in}
 use Rattle.xa_log.specs.Sql.{IsOrderly, MayLeave, content_in}
 
 pub settled_content : (s : State) → ((db : Trees) → IsTrue s.is_open → s.may_leave db → db ≡ s.committed.trees) → (c d : Content) → IsOrderly s → content_in s ≡ Some c → MayLeave s d → d ≡ c
@@ -69,5 +70,37 @@ own_content s c order is g set b has inside = elim (cases_Bool s.is_open) [
       let same : Some (content_of s.now.trees) ≡ Some c = sym (rw is_open refl) ∙ is in
       let one : content_of s.now.trees ≡ c = cc in
       part_is_own s.now.trees g set b (ap (λ (d : Content). get d.decisions g) one ∙ has) inside)
+  | inr shut ↦ absurd (let none : None ≡ Some c = sym (rw shut refl) ∙ is in cc)
+]
+
+-- ** the numbers of the rows
+
+-- a transaction that has a row has one whose numbers are its own
+decision_fits : (parts : Gtrid → KeySet branch_cmp) (rows : List Row) (g : Gtrid) → AllByRecursion IsDecisionRow rows → is_some (find gtrid_cmp g (map (λ row. (gtrid_in row, parts (gtrid_in row))) rows)) ≡ true → FitsRow g
+decision_fits parts [] g all e = absurd (true≢false (sym e))
+decision_fits parts (r ∷ rows) g all e = elim (cases_Bool (is_of g (gtrid_in r))) [
+  | inl same ↦ subst FitsRow (sym (exact_gtrids g (gtrid_in r) (equal_is _ same) ∙ ap gtrid_in all.0.2)) all.0.3
+  | inr apart ↦ decision_fits parts rows g all.1 (rw apart at e)
+]
+
+heuristic_fits : (rows : List Row) (b : Branch) → AllByRecursion IsHeuristicRow rows → is_some (find branch_cmp b (map (λ row. (branch_in row, how_in row)) rows)) ≡ true → FitsRow b.gtrid
+heuristic_fits [] b all e = absurd (true≢false (sym e))
+heuristic_fits (r ∷ rows) b all e = elim (cases_Bool (is_branch b (branch_in r))) [
+  | inl same ↦ subst (λ (x : Branch). FitsRow x.gtrid) (sym (exact_branches b (branch_in r) (equal_is _ same) ∙ ap branch_in all.0.3)) all.0.4
+  | inr apart ↦ heuristic_fits rows b all.1 (rw apart at e)
+]
+
+rows_fit : (db : Database) → IsLog db → AllFit (content_of db.trees)
+rows_fit db is = record {
+  decisions = λ g h. decision_fits (participants_in (db.trees 5)) (db.trees 1) g is.decisions (sym (ap is_some (get-from_entries gtrids_total _ g)) ∙ h);
+  heuristics = λ b h. heuristic_fits (db.trees 3) b is.heuristics.all (sym (ap is_some (get-from_entries branches_total _ b)) ∙ h);
+}
+
+pub fits_content : (s : State) (c : Content) → IsOrderly s → content_in s ≡ Some c → AllFit c
+fits_content s c order is = elim (cases_Bool s.is_open) [
+  | inl is_open ↦ (
+      let same : Some (content_of s.now.trees) ≡ Some c = sym (rw is_open refl) ∙ is in
+      let one : content_of s.now.trees ≡ c = cc in
+      subst AllFit one (rows_fit s.now (order is_open).now))
   | inr shut ↦ absurd (let none : None ≡ Some c = sym (rw shut refl) ∙ is in cc)
 ]

@@ -15,6 +15,8 @@ use Rattle.xa_log.specs.Tables.{log_schema}
 use Rattle.xa_log.specs.Contract.{MayMake, LeavesAlso, LeavesNoMore}
 use Rattle.sqlite.specs.Effect.{Database}
 use Rattle.xa_log.specs.Rows.{IsLog, IsOldLog, content_of}
+use Rattle.sqlite_catalog.specs.Listing.{IsSound}
+use Rattle.sqlite.specs.Effect.{IsDatabase}
 
 -- it has the tables of the log, and no transaction is open
 pub record IsReady (s : State) : Type 0 where
@@ -34,12 +36,27 @@ content_in s = if s.is_open then Some (content_of s.now.trees) else None
 abbrev pub MayLeave : State → Content → Type 0
 MayLeave s c = (db : Trees) × s.may_leave db × (c ≡ content_of db)
 
+-- the trees of a log of version 2: they list its tables, and each row is one of the log's
+pub record AreLogTrees (trees : Trees) : Type 0 where
+  pub sound : IsSound log_schema trees
+  pub log : IsLog (record { schema = log_schema; trees = trees })
+
+-- unless a fault has shut it, it is ready; and what an open after a crash may find is a log, also once a fault has shut it
+pub record IsLasting (s : State) : Type 0 where
+  pub order : IsOrderly s
+  pub leaves : HasCleanDisk s → (db : Trees) → s.may_leave db → AreLogTrees db
+
+-- a crash leaves what it might have left before, or a log
+abbrev pub LeavesOrLog : State → State → Type 0
+LeavesOrLog old new = (db : Trees) → new.may_leave db → old.may_leave db ⊎ AreLogTrees db
+
 -- what a call that writes nothing leaves
 pub record OnlyReads (old new : State) : Type 0 where
   pub honest : HasCleanDisk new → HasCleanDisk old
   pub order : IsOrderly old → IsOrderly new
   pub kept : IsOrderly old → (content_in new ≡ None) ⊎ (content_in new ≡ content_in old)
   pub crash : IsOrderly old → HasCleanDisk new → LeavesNoMore (MayLeave old) (MayLeave new)
+  pub logs : IsOrderly old → HasCleanDisk new → LeavesOrLog old new
 
 -- what a call that may make one change leaves
 pub record MayChange (change : Content → Content) (old new : State) : Type 0 where
@@ -47,6 +64,7 @@ pub record MayChange (change : Content → Content) (old new : State) : Type 0 w
   pub order : IsOrderly old → IsOrderly new
   pub kept : IsOrderly old → MayMake change (content_in old) (content_in new)
   pub crash : IsOrderly old → HasCleanDisk new → LeavesAlso change (content_in old) (MayLeave old) (MayLeave new)
+  pub logs : IsOrderly old → HasCleanDisk new → LeavesOrLog old new
 
 -- the statement did nothing, or the transaction is undone
 abbrev pub Rests : State → State → Type 0
@@ -70,6 +88,7 @@ pub record HasWritten (g : Gtrid) (participants : KeySet branch_cmp) (before : C
   pub is_open : IsTrue s.is_open
   pub inside : IsTrue s.in_transaction
   pub now : IsLog s.now
+  pub sound : IsDatabase s.now
   pub content : content_of s.now.trees ≡ with_decision g participants before
 
 -- a transaction over a log that has no such decision

@@ -1,7 +1,7 @@
 //! Calls of a log, made in turn: what any list of them leaves, and what they are told.
-ghost use Rattle.std.specs.Prelude.{◌≡◌, IfOk, OnOk, OnErr, Some, IsSomeAnd};
+ghost use Rattle.std.specs.Prelude.{◌≡◌, IfErr, IfOk, OnOk, OnErr, Some, IsSomeAnd};
 ghost use Rattle.std.specs.List.{AllByRecursion};
-ghost use Rattle.xa_log.specs.Commands.{AreTold, Fits, LeavesFirst, Tells, after, after_all};
+ghost use Rattle.xa_log.specs.Commands.{AreTold, EndsBy, Fits, LeavesFirst, Tells, after, after_all, kind_of};
 ghost use Rattle.xa_log.specs.Content.{Content};
 ghost use Rattle.xa_log.specs.Contract.{Makes, MayMake, faults_after};
 
@@ -57,6 +57,8 @@ fn run_one<L: DecisionLog>(log: &mut L, command: &Command) -> Result<Told, LogFa
     ensures honest { L.DecisionLog.is_honest log.new → L.DecisionLog.is_honest log.old }
     ensures faults { L.DecisionLog.fault_count log.new ≡
         faults_after result (L.DecisionLog.fault_count log.old) }
+    ensures cause { IfErr result (λ e. L.DecisionLog.says (kind_of command.now) (after command.now)
+        log.old log.new (Some e)) }
 {
     match command {
         Command::Commit(g, participants) => {
@@ -77,7 +79,8 @@ fn run_one<L: DecisionLog>(log: &mut L, command: &Command) -> Result<Told, LogFa
 
 /// Makes these calls in turn, up to the first that fails, and answers what they were told. Two logs that held the same
 /// hold the same afterwards, and tell the same. A failure has shut the log, or leaves what some first calls of these
-/// have made. [`LogFault::Memory`] comes also where no memory is left for the answers.
+/// have made. Its fault is that of the call that failed, after which none is made; or [`LogFault::Memory`] where no
+/// memory was left for the answers and no call failed.
 pub fn run_commands<L: DecisionLog>(
     alloc: Global,
     log: &mut L,
@@ -97,6 +100,8 @@ pub fn run_commands<L: DecisionLog>(
     ensures honest { L.DecisionLog.is_honest log.new → L.DecisionLog.is_honest log.old }
     ensures faults { OnOk result
         (L.DecisionLog.fault_count log.new ≡ L.DecisionLog.fault_count log.old) }
+    ensures cause { IfErr result (EndsBy L.DecisionLog.says L.DecisionLog.fault_count commands.now
+        log.old log.new) }
 {
     let mut told = Vec::new(alloc);
     for command in commands {

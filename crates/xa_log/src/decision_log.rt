@@ -1,10 +1,10 @@
 //! What every decision log promises.
-ghost use Rattle.std.specs.Prelude.{◌≡◌, ◌≤◌, ℕ, ◌+◌, Err, Option, Some, IsSomeAnd, IfOk, IfErr, OnOk, OnErr};
+ghost use Rattle.std.specs.Prelude.{◌≡◌, ◌≤◌, ℕ, ◌+◌, Err, Option, Some, IsSomeAnd, IfOk, OnOk, OnErr};
 ghost use Rattle.std.specs.FinMap.{contains_key, entries, get, keys};
 ghost use Rattle.xa_log.specs.KeySet.{from_list, items};
 ghost use Rattle.std.specs.List.{AllByRecursion};
 ghost use Rattle.xa_log.specs.Content.{AreOwn, Content, all_listed, bumped, committed, last_number, logged_as, participants_of, recorded, unchanged, without_decision};
-ghost use Rattle.xa_log.specs.Contract.{FitsRow, Keeps, LeavesAlso, LeavesNoMore, Makes, MayMake, faults_after};
+ghost use Rattle.xa_log.specs.Contract.{AllFit, FitsRow, Keeps, LeavesAlso, LeavesNoMore, Makes, MayMake, fault_of, faults_after};
 
 use crate::log_fault::LogFault;
 use crate::log_rows::LogRows;
@@ -29,7 +29,8 @@ pub enum Logged {
 /// A contract speaks of the log's content, of what a crash may leave of it at that moment, and of the count of calls
 /// that failed. It has two premises: that the log is in order, known where it is made and kept by every call, and that
 /// what it rests on has been honest, known at the end. Each number of a transaction is at most
-/// 9,223,372,036,854,775,807.
+/// 9,223,372,036,854,775,807. Transactions and branches are listed by their numbers, which is the order of their
+/// identifiers (`xa_base`'s law `branches_in_order`).
 ///
 /// In each call that changes something:
 ///
@@ -37,8 +38,9 @@ pub enum Logged {
 /// - `err`: one that fails has shut the log, or left it as it was, or made the change;
 /// - `crash`: at its end a crash leaves what it might have left before the call, or the content with the change. While
 ///   the log holds something it leaves just that (the law `settled`), so after success only the latter;
-/// - `faults`, `cause`: a failure is counted, and the log tells what it says of its content.
+/// - `faults`, `cause`: a failure is counted, and the log says what may cause it and what it then holds.
 pub trait DecisionLog {
+    ghost use Rattle.xa_log.specs.declared.fail_plan.LogCall.{LogCall};
     ghost use Rattle.xa_log.specs.declared.log_fault.LogFault.{LogFault};
 
     /// What the log holds; nothing once a failure has shut it, after which every call fails.
@@ -56,8 +58,9 @@ pub trait DecisionLog {
     /// How many calls have failed, up to the greatest number.
     ghost fault_count: { Self → ℕ };
 
-    /// What a failure of a call says more, of the log before and after it.
-    ghost fails: { Self → Self → LogFault → Type 0 };
+    /// What a call of a kind says more, of the change that it is to make, of the log before and after it, and of its
+    /// fault, where it fails.
+    ghost says: { LogCall → (Content → Content) → Self → Self → Option LogFault → Type 0 };
 
     /// Decides that a transaction commits, and which branches it then waits for: those that voted XA_OK. A row that is
     /// there stays with its own participants.
@@ -76,7 +79,7 @@ pub trait DecisionLog {
         ensures order { is_in_order self.old → is_in_order self.new }
         ensures honest { is_honest self.new → is_honest self.old }
         ensures faults { fault_count self.new ≡ faults_after result (fault_count self.old) }
-        ensures cause { IfErr result (fails self.old self.new) };
+        ensures cause { says LogCall.Commit (committed g (from_list participants.now)) self.old self.new (fault_of result) };
 
     /// Whether a transaction is decided to commit.
     fn contains(&mut self, g: Gtrid) -> Result<bool, LogFault>
@@ -93,7 +96,7 @@ pub trait DecisionLog {
         ensures order { is_in_order self.old → is_in_order self.new }
         ensures honest { is_honest self.new → is_honest self.old }
         ensures faults { fault_count self.new ≡ faults_after result (fault_count self.old) }
-        ensures cause { IfErr result (fails self.old self.new) };
+        ensures cause { says LogCall.Contains unchanged self.old self.new (fault_of result) };
 
     /// The branches whose xa_commit a transaction waits for, in the order of their identifiers; none where it has no row.
     fn participants(&mut self, g: Gtrid) -> Result<Vec<Branch>, LogFault>
@@ -110,7 +113,7 @@ pub trait DecisionLog {
         ensures order { is_in_order self.old → is_in_order self.new }
         ensures honest { is_honest self.new → is_honest self.old }
         ensures faults { fault_count self.new ≡ faults_after result (fault_count self.old) }
-        ensures cause { IfErr result (fails self.old self.new) };
+        ensures cause { says LogCall.Participants unchanged self.old self.new (fault_of result) };
 
     /// Takes the row of a transaction away with its participants, and answers whether it was there.
     fn done(&mut self, g: Gtrid) -> Result<bool, LogFault>
@@ -127,7 +130,7 @@ pub trait DecisionLog {
         ensures order { is_in_order self.old → is_in_order self.new }
         ensures honest { is_honest self.new → is_honest self.old }
         ensures faults { fault_count self.new ≡ faults_after result (fault_count self.old) }
-        ensures cause { IfErr result (fails self.old self.new) };
+        ensures cause { says LogCall.Done (without_decision g) self.old self.new (fault_of result) };
 
     /// Records for good how a resource manager ended a branch by itself (XA, section 2.3.3, Heuristic Branch
     /// Completion). The first record of a branch stays.
@@ -142,7 +145,7 @@ pub trait DecisionLog {
         ensures order { is_in_order self.old → is_in_order self.new }
         ensures honest { is_honest self.new → is_honest self.old }
         ensures faults { fault_count self.new ≡ faults_after result (fault_count self.old) }
-        ensures cause { IfErr result (fails self.old self.new) };
+        ensures cause { says LogCall.NoteHeuristic (recorded b how) self.old self.new (fault_of result) };
 
     /// How a branch is recorded as heuristic, or none where it isn't.
     fn heuristic_of(&mut self, b: Branch) -> Result<Option<How>, LogFault>
@@ -159,7 +162,7 @@ pub trait DecisionLog {
         ensures order { is_in_order self.old → is_in_order self.new }
         ensures honest { is_honest self.new → is_honest self.old }
         ensures faults { fault_count self.new ≡ faults_after result (fault_count self.old) }
-        ensures cause { IfErr result (fails self.old self.new) };
+        ensures cause { says LogCall.HeuristicOf unchanged self.old self.new (fault_of result) };
 
     /// Adds one to the incarnation, and answers the new one. At the last one it is [`LogFault::Spent`].
     fn bump(&mut self) -> Result<u64, LogFault>
@@ -179,7 +182,7 @@ pub trait DecisionLog {
         ensures order { is_in_order self.old → is_in_order self.new }
         ensures honest { is_honest self.new → is_honest self.old }
         ensures faults { fault_count self.new ≡ faults_after result (fault_count self.old) }
-        ensures cause { IfErr result (fails self.old self.new) };
+        ensures cause { says LogCall.Bump bumped self.old self.new (fault_of result) };
 
     /// All rows.
     fn rows(&mut self) -> Result<LogRows, LogFault>
@@ -201,7 +204,7 @@ pub trait DecisionLog {
         ensures order { is_in_order self.old → is_in_order self.new }
         ensures honest { is_honest self.new → is_honest self.old }
         ensures faults { fault_count self.new ≡ faults_after result (fault_count self.old) }
-        ensures cause { IfErr result (fails self.old self.new) };
+        ensures cause { says LogCall.Rows unchanged self.old self.new (fault_of result) };
 
     /// How many calls of this log have failed, 0 in a new one. At the greatest number it stays.
     fn faults(&self) -> u64
@@ -213,4 +216,8 @@ pub trait DecisionLog {
 
     /// The participants of a transaction are branches of it.
     ghost own: { (log : Self) (c : Content) → is_in_order log → content log ≡ Some c → AreOwn c };
+
+    /// The numbers of all that the log holds fit into rows, so that the calls may name it: of each transaction that has
+    /// a row, and of each branch that has a record. Those of participants fit with it, by `own`.
+    ghost fits: { (log : Self) (c : Content) → is_in_order log → content log ≡ Some c → AllFit c };
 }

@@ -1,5 +1,5 @@
 //! The rows of decisions and of their participants.
-ghost use Rattle.std.specs.Prelude.{map, ◌≡◌, ◌≤◌, ℕ, pos, true, false, if◌then◌else◌, None, Some, IsSomeAnd, IsTrue, IfOk, OnOk, OnErr, is_some};
+ghost use Rattle.std.specs.Prelude.{map, ◌≡◌, ◌≤◌, ℕ, pos, true, false, if◌then◌else◌, None, Some, IsSomeAnd, IsTrue, IfOk, OnOk, OnErr, is_some, IfErr, ◌≢◌};
 ghost use Rattle.std.specs.List.{AllByRecursion};
 ghost use Rattle.std.specs.FinMap.{contains_key, get};
 ghost use Rattle.xa_log.specs.KeySet.{empty, insert, from_list, items, KeySet};
@@ -14,6 +14,7 @@ ghost use Rattle.xa_log.specs.Contract.{Makes, FitsRow};
 ghost use Rattle.xa_log.specs.Content.{Content, last_number, committed, participants_of, without_decision};
 ghost use Rattle.xa_log.specs.Rows.{content_of, old_content_of, participant_from, IsOldLog};
 ghost use Rattle.xa_log.specs.Sql.{IsOrderly, content_in, OnlyReads, MayChange, Rests, Answers, RunsFrom, LeavesBy, HasWritten, MayBegin, Lacks, IsUndone, IsNewLog, AreNewTrees, IsOldReady, IsReadyWith};
+ghost use Rattle.xa_log.specs.declared.log_fault.LogFault.{LogFault};
 
 use crate::statements::{ask, run, stored};
 use crate::{LogFault, Logged, fields};
@@ -26,6 +27,7 @@ pub(crate) fn find_decision<S: Alter>(conn: &mut Connection<S>, g: Gtrid) -> Res
     ensures reads { OnlyReads (state S.Store conn.old) (state S.Store conn.new) }
     ensures ok { IsOrderly (state S.Store conn.old) → HasCleanDisk (state S.Store conn.new) → IfOk result (λ found.
         IsSomeAnd (content_in (state S.Store conn.old)) (λ c. (content_in (state S.Store conn.new) ≡ Some c) × (found ≡ contains_key c.decisions g))) }
+    ensures unspent { IfErr result (λ fault. fault ≢ LogFault.Spent) }
 {
     let rows = ask(
         conn,
@@ -40,6 +42,7 @@ fn delete_decision<S: Alter>(conn: &mut Connection<S>, g: Gtrid) -> Result<(), L
     requires { FitsRow g }
     ensures changes { MayChange (without_decision g) (state S.Store conn.old) (state S.Store conn.new) }
     ensures ok { IsOrderly (state S.Store conn.old) → HasCleanDisk (state S.Store conn.new) → OnOk result (Makes (without_decision g) (content_in (state S.Store conn.old)) (content_in (state S.Store conn.new))) }
+    ensures unspent { IfErr result (λ fault. fault ≢ LogFault.Spent) }
 {
     run(
         conn,
@@ -57,6 +60,7 @@ fn insert_decision<S: Alter>(tx: &mut Transaction<'_, S>, g: Gtrid) -> Result<()
     ensures live { HasCleanDisk (state S.Store tx.new.conn.now) → OnOk result (IsTrue (state S.Store tx.old.conn.now).is_open) }
     ensures kept { HasCleanDisk (state S.Store tx.new.conn.now) → KeepsCommit (state S.Store tx.old.conn.now) (state S.Store tx.new.conn.now) }
     ensures survives { Survives (state S.Store tx.old.conn.now) (state S.Store tx.new.conn.now) (λ _. ⊥) }
+    ensures unspent { IfErr result (λ fault. fault ≢ LogFault.Spent) }
 {
     tx.execute(
         "INSERT INTO decision (inc, seq) VALUES (?1, ?2)",
@@ -73,6 +77,7 @@ fn insert_participant<S: Alter>(tx: &mut Transaction<'_, S>, branch: Branch) -> 
         → OnOk result (HasWritten branch.gtrid (insert set branch) before (state S.Store tx.new.conn.now)) }
     ensures kept { HasCleanDisk (state S.Store tx.new.conn.now) → KeepsCommit (state S.Store tx.old.conn.now) (state S.Store tx.new.conn.now) }
     ensures survives { Survives (state S.Store tx.old.conn.now) (state S.Store tx.new.conn.now) (λ _. ⊥) }
+    ensures unspent { IfErr result (λ fault. fault ≢ LogFault.Spent) }
 {
     tx.execute(
         "INSERT INTO participant (inc, seq, thread, rm) VALUES (?1, ?2, ?3, ?4)",
@@ -99,6 +104,7 @@ fn insert_participants<S: Alter>(
         → OnOk result (HasWritten g (from_list participants.now) before (state S.Store tx.new.conn.now)) }
     ensures kept { HasCleanDisk (state S.Store tx.new.conn.now) → KeepsCommit (state S.Store tx.old.conn.now) (state S.Store tx.new.conn.now) }
     ensures survives { Survives (state S.Store tx.old.conn.now) (state S.Store tx.new.conn.now) (λ _. ⊥) }
+    ensures unspent { IfErr result (λ fault. fault ≢ LogFault.Spent) }
 {
     for branch in participants {
         insert_participant(tx, *branch)?;
@@ -118,6 +124,7 @@ fn insert_all<S: Alter>(
     ensures changes { Lacks g (state S.Store conn.old) → MayChange (committed g (from_list participants.now)) (state S.Store conn.old) (state S.Store conn.new) }
     ensures ok { Lacks g (state S.Store conn.old) → IsOrderly (state S.Store conn.old) → HasCleanDisk (state S.Store conn.new)
         → OnOk result (Makes (committed g (from_list participants.now)) (content_in (state S.Store conn.old)) (content_in (state S.Store conn.new))) }
+    ensures unspent { IfErr result (λ fault. fault ≢ LogFault.Spent) }
 {
     if !conn.is_autocommit() {
         return Err(LogFault::Store);
@@ -142,6 +149,7 @@ pub(crate) fn commit<S: Alter>(
         → OnOk result (Makes (committed g (from_list participants.now)) (content_in (state S.Store conn.old)) (content_in (state S.Store conn.new))) }
     ensures answer { IsOrderly (state S.Store conn.old) → HasCleanDisk (state S.Store conn.new) → IfOk result (λ logged.
         IsSomeAnd (content_in (state S.Store conn.old)) (λ c. logged ≡ (if contains_key c.decisions g then Logged.Already else Logged.New))) }
+    ensures unspent { IfErr result (λ fault. fault ≢ LogFault.Spent) }
 {
     if find_decision(conn, g)? {
         return Ok(Logged::Already);
@@ -157,6 +165,7 @@ pub(crate) fn done<S: Alter>(conn: &mut Connection<S>, g: Gtrid) -> Result<bool,
     ensures ok { IsOrderly (state S.Store conn.old) → HasCleanDisk (state S.Store conn.new) → OnOk result (Makes (without_decision g) (content_in (state S.Store conn.old)) (content_in (state S.Store conn.new))) }
     ensures answer { IsOrderly (state S.Store conn.old) → HasCleanDisk (state S.Store conn.new) → IfOk result (λ found.
         IsSomeAnd (content_in (state S.Store conn.old)) (λ c. found ≡ contains_key c.decisions g)) }
+    ensures unspent { IfErr result (λ fault. fault ≢ LogFault.Spent) }
 {
     if !find_decision(conn, g)? {
         return Ok(false);
@@ -167,8 +176,9 @@ pub(crate) fn done<S: Alter>(conn: &mut Connection<S>, g: Gtrid) -> Result<bool,
 
 /// The branches of a transaction that rows name, in the order of their identifiers.
 fn listed(g: Gtrid, rows: Vec<Row>) -> Result<Vec<Branch>, LogFault>
-    ensures { IfOk result (λ list.
+    ensures ok { IfOk result (λ list.
         list.items ≡ items (from_list {R = branch_cmp} (map (participant_from g) rows.items))) }
+    ensures unspent { IfErr result (λ fault. fault ≢ LogFault.Spent) }
 {
     let alloc = *rows.allocator();
     let mut branches = BTreeSet::new(alloc);
@@ -189,6 +199,7 @@ pub(crate) fn participants<S: Alter>(
         IfOk result (λ list. IsSomeAnd (content_in (state S.Store conn.old)) (λ c.
         (content_in (state S.Store conn.new) ≡ Some c)
         × (list.items ≡ items (participants_of c g)))) }
+    ensures unspent { IfErr result (λ fault. fault ≢ LogFault.Spent) }
 {
     let rows = ask(
         conn,

@@ -67,15 +67,13 @@ impl FailLog {
 }
 
 impl DecisionLog for FailLog {
-    ghost use Rattle.std.specs.Prelude.{◌≡◌, ◌⊎◌, Some};
-    ghost use Rattle.xa_log.specs.Content.{AreOwn};
-    ghost use Rattle.xa_log.specs.Memory.{held_in, FailsInMemory};
-    ghost use Rattle.xa_log.specs.MemoryLaws.{leaves_held, own_held};
-    ghost use Rattle.xa_log.specs.declared.log_fault.LogFault.TheVariants.{Store};
+    ghost use Rattle.std.specs.Prelude.{◌≡◌, Some};
+    ghost use Rattle.xa_log.specs.Memory.{held_in, FollowsPlan, IsInOrder};
+    ghost use Rattle.xa_log.specs.MemoryLaws.{fits_held, leaves_held, own_held};
 
     ghost content = { λ it. Some (held_in it.log) };
 
-    ghost is_in_order = { λ it. AreOwn (held_in it.log) };
+    ghost is_in_order = { λ it. IsInOrder (held_in it.log) };
 
     ghost is_honest = { λ _. Unit {0} };
 
@@ -83,11 +81,13 @@ impl DecisionLog for FailLog {
 
     ghost fault_count = { λ it. it.faults };
 
-    ghost fails = { λ old new e. (e ≡ Store) ⊎ FailsInMemory old.log new.log e };
+    ghost says = { λ call change old new fault. FollowsPlan call change old new fault };
 
     ghost settled = { λ it c d order is left. leaves_held it.log c d is left };
 
     ghost own = { λ it c order is. own_held it.log c order is };
+
+    ghost fits = { λ it c order is. fits_held it.log c order is };
 
     fn commit(&mut self, g: Gtrid, participants: &[Branch]) -> Result<Logged, LogFault> {
         let logged = match self.turn(LogCall::Commit) {

@@ -1,5 +1,5 @@
 //! What the rows of an answer say.
-ghost use Rattle.std.specs.Prelude.{◌≡◌, ◌<◌, ◌⊎◌, IfErr, IfOk, Some, length};
+ghost use Rattle.std.specs.Prelude.{◌≡◌, ◌<◌, ◌⊎◌, IfErr, IfOk, Some, length, ◌≢◌};
 ghost use Rattle.sqlite.specs.Order.{column};
 ghost use Rattle.xa_base.specs.Code.{how_of_number};
 ghost use Rattle.xa_log.specs.Rows.{branch_from, gtrid_from, integer_in, participant_from};
@@ -27,7 +27,8 @@ pub(crate) fn number<T: FromSql>(row: &Row, at: usize) -> Result<T, LogFault>
 
 /// The transaction in the first two columns.
 pub(crate) fn gtrid(row: &Row) -> Result<Gtrid, LogFault>
-    ensures { IfOk result (λ g. g ≡ gtrid_from row.now) }
+    ensures ok { IfOk result (λ g. g ≡ gtrid_from row.now) }
+    ensures unspent { IfErr result (λ fault. fault ≢ LogFault.Spent) }
 {
     Ok(Gtrid {
         incarnation: number(row, 0)?,
@@ -37,7 +38,8 @@ pub(crate) fn gtrid(row: &Row) -> Result<Gtrid, LogFault>
 
 /// The branch in the first four columns.
 pub(crate) fn branch(row: &Row) -> Result<Branch, LogFault>
-    ensures { IfOk result (λ b. b ≡ branch_from row.now) }
+    ensures ok { IfOk result (λ b. b ≡ branch_from row.now) }
+    ensures unspent { IfErr result (λ fault. fault ≢ LogFault.Spent) }
 {
     Ok(Branch {
         gtrid: gtrid(row)?,
@@ -48,7 +50,8 @@ pub(crate) fn branch(row: &Row) -> Result<Branch, LogFault>
 
 /// The branch of a known transaction whose thread and resource manager are in the first two columns.
 pub(crate) fn participant(g: Gtrid, row: &Row) -> Result<Branch, LogFault>
-    ensures { IfOk result (λ b. b ≡ participant_from g row.now) }
+    ensures ok { IfOk result (λ b. b ≡ participant_from g row.now) }
+    ensures unspent { IfErr result (λ fault. fault ≢ LogFault.Spent) }
 {
     Ok(Branch {
         gtrid: g,

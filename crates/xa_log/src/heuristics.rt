@@ -1,11 +1,12 @@
 //! The rows of branches that a resource manager ended by itself.
-ghost use Rattle.std.specs.Prelude.{◌≡◌, IfOk, IsSomeAnd, OnOk, Some};
+ghost use Rattle.std.specs.Prelude.{◌≡◌, IfOk, IsSomeAnd, OnOk, Some, IfErr, ◌≢◌};
 ghost use Rattle.std.specs.FinMap.{get};
 ghost use Rattle.sqlite.specs.Held.{state};
 ghost use Rattle.sqlite.specs.State.{HasCleanDisk};
 ghost use Rattle.xa_log.specs.Content.{recorded};
 ghost use Rattle.xa_log.specs.Contract.{FitsRow, Makes};
 ghost use Rattle.xa_log.specs.Sql.{IsOrderly, LacksHeuristic, MayChange, OnlyReads, content_in};
+ghost use Rattle.xa_log.specs.declared.log_fault.LogFault.{LogFault};
 
 use crate::statements::{ask, run, stored};
 use crate::{LogFault, fields};
@@ -22,6 +23,7 @@ pub(crate) fn find_heuristic<S: Alter>(
     ensures ok { IsOrderly (state S.Store conn.old) → HasCleanDisk (state S.Store conn.new) →
         IfOk result (λ how. IsSomeAnd (content_in (state S.Store conn.old)) (λ c.
         (content_in (state S.Store conn.new) ≡ Some c) × (how ≡ get c.heuristics b))) }
+    ensures unspent { IfErr result (λ fault. fault ≢ LogFault.Spent) }
 {
     let rows = ask(
         conn,
@@ -48,6 +50,7 @@ fn insert_heuristic<S: Alter>(conn: &mut Connection<S>, b: Branch, how: How) -> 
     ensures ok { LacksHeuristic b (state S.Store conn.old) → IsOrderly (state S.Store conn.old) →
         HasCleanDisk (state S.Store conn.new) → OnOk result (Makes (recorded b how)
         (content_in (state S.Store conn.old)) (content_in (state S.Store conn.new))) }
+    ensures unspent { IfErr result (λ fault. fault ≢ LogFault.Spent) }
 {
     run(
         conn,
@@ -73,6 +76,7 @@ pub(crate) fn note_heuristic<S: Alter>(
     ensures ok { IsOrderly (state S.Store conn.old) → HasCleanDisk (state S.Store conn.new) →
         OnOk result (Makes (recorded b how)
         (content_in (state S.Store conn.old)) (content_in (state S.Store conn.new))) }
+    ensures unspent { IfErr result (λ fault. fault ≢ LogFault.Spent) }
 {
     if find_heuristic(conn, b)?.is_some() {
         return Ok(());

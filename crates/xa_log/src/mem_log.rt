@@ -177,13 +177,12 @@ impl MemLog {
 
 impl DecisionLog for MemLog {
     ghost use Rattle.std.specs.Prelude.{◌≡◌, Some};
-    ghost use Rattle.xa_log.specs.Content.{AreOwn};
-    ghost use Rattle.xa_log.specs.Memory.{held_in, FailsInMemory};
-    ghost use Rattle.xa_log.specs.MemoryLaws.{leaves_held, own_held};
+    ghost use Rattle.xa_log.specs.Memory.{held_in, IsInOrder, RunsInMemory};
+    ghost use Rattle.xa_log.specs.MemoryLaws.{fits_held, leaves_held, own_held};
 
     ghost content = { λ log. Some (held_in log) };
 
-    ghost is_in_order = { λ log. AreOwn (held_in log) };
+    ghost is_in_order = { λ log. IsInOrder (held_in log) };
 
     ghost is_honest = { λ _. Unit {0} };
 
@@ -191,11 +190,13 @@ impl DecisionLog for MemLog {
 
     ghost fault_count = { λ log. log.faults };
 
-    ghost fails = { λ old new e. FailsInMemory old new e };
+    ghost says = { λ call change old new fault. RunsInMemory call change old new fault };
 
     ghost settled = { λ log c d order is left. leaves_held log c d is left };
 
     ghost own = { λ log c order is. own_held log c order is };
+
+    ghost fits = { λ log c order is. fits_held log c order is };
 
     fn commit(&mut self, g: Gtrid, participants: &[Branch]) -> Result<Logged, LogFault> {
         let logged = self.put_decision(g, participants);

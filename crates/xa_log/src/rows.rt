@@ -1,5 +1,5 @@
 //! All rows of a log.
-ghost use Rattle.std.specs.Prelude.{◌≡◌, IfOk, IsSomeAnd, OnOk, Some, map, reverse};
+ghost use Rattle.std.specs.Prelude.{◌≡◌, IfOk, IsSomeAnd, OnOk, Some, map, reverse, IfErr, ◌≢◌};
 ghost use Rattle.std.specs.FinMap.{entries, from_entries, keys};
 ghost use Rattle.sqlite.specs.Held.{state};
 ghost use Rattle.sqlite.specs.State.{HasCleanDisk};
@@ -9,6 +9,7 @@ ghost use Rattle.xa_log.specs.Contract.{Makes};
 ghost use Rattle.xa_log.specs.Rows.{branch_from, gtrid_from, heuristic_from};
 ghost use Rattle.xa_log.specs.KeySet.{from_list, items};
 ghost use Rattle.xa_log.specs.Sql.{IsOrderly, OnlyReads, content_in};
+ghost use Rattle.xa_log.specs.declared.log_fault.LogFault.{LogFault};
 
 use crate::statements::ask;
 use crate::{LogFault, LogRows, fields};
@@ -18,8 +19,9 @@ use xa_base::{Branch, Gtrid, How};
 
 /// The transactions that rows name, in the order of their identifiers.
 fn gtrids(rows: Vec<Row>) -> Result<Vec<Gtrid>, LogFault>
-    ensures { IfOk result (λ list.
+    ensures ok { IfOk result (λ list.
         list.items ≡ items (from_list {R = gtrid_cmp} (map gtrid_from rows.items))) }
+    ensures unspent { IfErr result (λ fault. fault ≢ LogFault.Spent) }
 {
     let alloc = *rows.allocator();
     let mut gtrids = BTreeSet::new(alloc);
@@ -31,8 +33,9 @@ fn gtrids(rows: Vec<Row>) -> Result<Vec<Gtrid>, LogFault>
 
 /// The branches that rows name, in the order of their identifiers.
 fn branches(rows: Vec<Row>) -> Result<Vec<Branch>, LogFault>
-    ensures { IfOk result (λ list.
+    ensures ok { IfOk result (λ list.
         list.items ≡ items (from_list {R = branch_cmp} (map branch_from rows.items))) }
+    ensures unspent { IfErr result (λ fault. fault ≢ LogFault.Spent) }
 {
     let alloc = *rows.allocator();
     let mut branches = BTreeSet::new(alloc);
@@ -44,8 +47,9 @@ fn branches(rows: Vec<Row>) -> Result<Vec<Branch>, LogFault>
 
 /// The heuristic ends that rows record, in the order of the branches' identifiers. The last row of a branch counts.
 fn ends(rows: Vec<Row>) -> Result<Vec<(Branch, How)>, LogFault>
-    ensures { IfOk result (λ list. list.items ≡
+    ensures ok { IfOk result (λ list. list.items ≡
         entries (from_entries {R = branch_cmp} (reverse (map heuristic_from rows.items)))) }
+    ensures unspent { IfErr result (λ fault. fault ≢ LogFault.Spent) }
 {
     let alloc = *rows.allocator();
     let mut ends = BTreeMap::new(alloc);
@@ -60,6 +64,7 @@ fn all_decisions<S: Alter>(conn: &mut Connection<S>) -> Result<Vec<Gtrid>, LogFa
     ensures ok { IsOrderly (state S.Store conn.old) → HasCleanDisk (state S.Store conn.new) →
         IfOk result (λ list. IsSomeAnd (content_in (state S.Store conn.old)) (λ c.
         (content_in (state S.Store conn.new) ≡ Some c) × (list.items ≡ keys c.decisions))) }
+    ensures unspent { IfErr result (λ fault. fault ≢ LogFault.Spent) }
 {
     gtrids(ask(conn, "SELECT inc, seq FROM decision", &[])?)
 }
@@ -70,6 +75,7 @@ fn all_participants<S: Alter>(conn: &mut Connection<S>) -> Result<Vec<Branch>, L
         IfOk result (λ list. IsSomeAnd (content_in (state S.Store conn.old)) (λ c.
         (content_in (state S.Store conn.new) ≡ Some c)
         × (list.items ≡ all_listed (entries c.decisions)))) }
+    ensures unspent { IfErr result (λ fault. fault ≢ LogFault.Spent) }
 {
     branches(ask(conn, "SELECT inc, seq, thread, rm FROM participant", &[])?)
 }
@@ -79,6 +85,7 @@ fn all_heuristics<S: Alter>(conn: &mut Connection<S>) -> Result<Vec<(Branch, How
     ensures ok { IsOrderly (state S.Store conn.old) → HasCleanDisk (state S.Store conn.new) →
         IfOk result (λ list. IsSomeAnd (content_in (state S.Store conn.old)) (λ c.
         (content_in (state S.Store conn.new) ≡ Some c) × (list.items ≡ entries c.heuristics))) }
+    ensures unspent { IfErr result (λ fault. fault ≢ LogFault.Spent) }
 {
     ends(ask(conn, "SELECT inc, seq, thread, rm, how FROM heuristic", &[])?)
 }
@@ -98,6 +105,7 @@ pub(crate) fn rows<S: Alter>(conn: &mut Connection<S>) -> Result<LogRows, LogFau
     ensures heuristics { IsOrderly (state S.Store conn.old) → HasCleanDisk (state S.Store conn.new) →
         IfOk result (λ rows. IsSomeAnd (content_in (state S.Store conn.old)) (λ c.
         rows.heuristics.items ≡ entries c.heuristics)) }
+    ensures unspent { IfErr result (λ fault. fault ≢ LogFault.Spent) }
 {
     let decisions = all_decisions(conn)?;
     let participants = all_participants(conn)?;

@@ -3,7 +3,7 @@ ghost use Rattle.std.specs.Prelude.{◌≡◌, false, codes, Err, IsTrue, IfOk, 
 ghost use Rattle.sqlite.specs.State.{HasCleanDisk};
 ghost use Rattle.sqlite.specs.Held.{state};
 ghost use Rattle.sqlite.specs.Steps.{over_memory};
-ghost use Rattle.sqlite.specs.Files.{file_state, IsOpened};
+ghost use Rattle.sqlite.specs.Files.{file_state, over_files, IsBlankAs, IsOpened};
 ghost use Rattle.sqlite.specs.Start.{FindsIn};
 ghost use Rattle.sqlite_wal.specs.Files.{image_at};
 ghost use Rattle.xa_log.specs.Content.{nothing};
@@ -11,7 +11,7 @@ ghost use Rattle.xa_log.specs.Contract.{IsStoreFault};
 ghost use Rattle.xa_log.specs.Rows.{content_of, old_content_of};
 ghost use Rattle.xa_log.specs.Tables.{log_schema};
 ghost use Rattle.xa_log.specs.Sql.{IsOrderly, IsReadyWith, IsUndone, IsOldReady};
-ghost use Rattle.xa_log.specs.Opened.{IsBlank, IsTakeable, IsKnown, HasTables, NamesKnown, LeavesTables, LeavesSame, IsUntouched, IsTaken, IsOver};
+ghost use Rattle.xa_log.specs.Opened.{IsBlank, IsFoundLog, IsTakeable, IsKnown, HasTables, NamesKnown, LeavesTables, LeavesSame, IsUntouched, IsTaken, IsOver};
 
 use crate::decision_log::{DecisionLog, Logged};
 use crate::log_fault::{LogFault, counted};
@@ -43,6 +43,8 @@ impl<S: Alter + Drop> SqlLog<S> {
     /// In the contract:
     ///
     /// - `made`, `migrated`, `kept`: what the log then holds, by what the database was;
+    /// - `found`, `found_err`: what a crash may have left of a log in order, also of one that a failure had shut, is a log
+    ///   when it is opened again: it is taken with its content, and never refused as unknown;
     /// - `version`: no log is made of the tables of one where no row of `tm_meta` names version 1 or 2 and a natural
     ///   incarnation;
     /// - `known`: a database without tables, or one that a log has left, is refused by the store or for want of memory
@@ -69,6 +71,11 @@ impl<S: Alter + Drop> SqlLog<S> {
         ensures undone { IfErr result (λ e. conn.in_transaction ≡ false →
             IsTakeable (state S.Store conn) → HasCleanDisk (state S.Store e.1) →
             IsUndone (state S.Store conn) (state S.Store e.1)) }
+        ensures found { IfOk result (λ log. IsFoundLog (state S.Store conn) →
+            HasCleanDisk (state S.Store log.conn) →
+            IsReadyWith (content_of (state S.Store conn).now.trees) (state S.Store log.conn)) }
+        ensures found_err { IfErr result (λ e. IsFoundLog (state S.Store conn) →
+            HasCleanDisk (state S.Store e.1) → IsStoreFault e.0) }
         ensures version { IfOk result (λ log. HasTables (state S.Store conn) →
             HasCleanDisk (state S.Store log.conn) → NamesKnown (state S.Store conn)) }
         ensures known { IfErr result (λ e. IsKnown (state S.Store conn) →
@@ -159,6 +166,8 @@ fn connection_to<S: Start>(
     ensures opened { IfOk result (λ conn. HasCleanDisk (file_state conn) → IsOpened conn) }
     ensures found { IfOk result (λ conn. HasCleanDisk (file_state conn) →
         FindsIn (image_at S.Start) (file_state conn)) }
+    ensures plain { IfOk result (λ conn. HasCleanDisk (file_state conn) →
+        IsBlankAs false (image_at S.Start) → (over_files.view conn.store).has_sums ≡ false) }
 {
     match Connection::open_from(rt, path, false, start) {
         Ok(conn) => Ok(conn),
@@ -208,12 +217,13 @@ impl SqlLog<FileStore<FileFrom<Unknown>>> {
 impl<S: Alter> DecisionLog for SqlLog<S> {
     ghost use Rattle.sqlite.specs.Held.{state as shown};
     ghost use Rattle.sqlite.specs.State.{HasCleanDisk as clean};
-    ghost use Rattle.xa_log.specs.Settled.{own_content, settled_content};
-    ghost use Rattle.xa_log.specs.Sql.{IsOrderly as orderly, MayLeave as may_be_left, content_in as held_by};
+    ghost use Rattle.xa_log.specs.Contract.{MayEnd};
+    ghost use Rattle.xa_log.specs.Settled.{fits_content, own_content, settled_content};
+    ghost use Rattle.xa_log.specs.Sql.{IsLasting as lasting, MayLeave as may_be_left, content_in as held_by};
 
     ghost content = { λ log. held_by (shown S.Store log.conn) };
 
-    ghost is_in_order = { λ log. orderly (shown S.Store log.conn) };
+    ghost is_in_order = { λ log. lasting (shown S.Store log.conn) };
 
     ghost is_honest = { λ log. clean (shown S.Store log.conn) };
 
@@ -221,12 +231,14 @@ impl<S: Alter> DecisionLog for SqlLog<S> {
 
     ghost fault_count = { λ log. log.faults };
 
-    ghost fails = { λ _ _ _. Unit {0} };
+    ghost says = { λ call _ _ _ fault. MayEnd call fault };
 
     ghost settled = { λ log c d order is left.
-        settled_content _ (λ db. S.Store.settled log.conn.store db) c d order is left };
+        settled_content _ (λ db. S.Store.settled log.conn.store db) c d order.order is left };
 
-    ghost own = { λ log c order is. own_content _ c order is };
+    ghost own = { λ log c order is. own_content _ c order.order is };
+
+    ghost fits = { λ log c order is. fits_content _ c order.order is };
 
     fn commit(&mut self, g: Gtrid, participants: &[Branch]) -> Result<Logged, LogFault> {
         let logged = decisions::commit(&mut self.conn, g, participants);

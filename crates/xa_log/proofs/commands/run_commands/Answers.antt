@@ -1,4 +1,6 @@
-use Rattle.std.proofs.Common.{◌<◌, ◌≤◌, arith, length, [], ◌∷◌, ◌++◌, ◌+◌, refl, subst, sym}
+use Rattle.std.proofs.Common.{◌<◌, ◌≤◌, arith, length, [], ◌∷◌, ◌++◌, ◌+◌, refl, subst, sym, ap, inl, inr, Result, Ok, Err, IfErr, IsErrAnd, ◌∙◌}
+use Rattle.xa_log.specs.Commands.{EndsBy}
+use Rattle.xa_log.specs.Contract.{one_more_fault}
 use Rattle.xa_log.proofs.InTurn.{HasRun, left, not_run, one_more, stopped, whole}
 use Rattle.xa_log.proofs.Parts.{on_err}
 use Rattle.xa_log.proofs.commands.run_commands.Goals as goal
@@ -57,3 +59,27 @@ returns-in_err-push-clause-err g c content order clean is =
     let run = one_more g.L.DecisionLog.is_in_order g.L.DecisionLog.is_honest g.L.DecisionLog.content g.L.DecisionLog.fault_count c.args.log.now c.loop-command.log c.run_one.new.log c.args.commands.now c.loop-command.command-index c.command-item.result c.loop-command.told.items answers c.in_ok-run_one.field-0 low c.command-item.is refl c.loop-command.invariant
     c.run_one.ensures.order c.run_one.ensures.honest c.in_ok-run_one.ensures.faults c.in_ok-run_one.ensures.ok c.in_ok-run_one.ensures.told in
     on_err _ _ (left g.L.DecisionLog.is_in_order g.L.DecisionLog.is_honest g.L.DecisionLog.content g.L.DecisionLog.fault_count c.args.log.now c.run_one.new.log c.args.commands.now (c.loop-command.command-index + 1) answers run content order clean is)
+
+-- what the exit of a `?` returns
+passed_up : {A E : Type 0} {Q : E → Type 0} (P : E → Type 0) (r : Result A E) → IsErrAnd r Q → ((e : E) → Q e → P e) → IfErr r P
+passed_up P (Ok x) is holds = tt
+passed_up P (Err e) is holds = holds e is
+
+pub returns-in_err-run_one-clause-cause : goal.returns-in_err-run_one-clause-cause
+returns-in_err-run_one-clause-cause g c =
+    let stops : EndsBy g.L.DecisionLog.says g.L.DecisionLog.fault_count c.args.commands.now c.args.log.now c.run_one.new.log c.in_err-run_one.field-0.0 = inl (
+      record {
+        place = c.loop-command.command-index;
+        within = omega arith;
+        call = c.command-item.result;
+        is = c.command-item.is;
+        before = c.loop-command.log;
+        fails = c.in_err-run_one.ensures.cause;
+      },
+      c.in_err-run_one.ensures.faults ∙ ap one_more_fault c.loop-command.invariant.count,
+    ) in
+    passed_up _ c.from_residual.result c.from_residual.ensures.1 (λ e same. subst (EndsBy g.L.DecisionLog.says g.L.DecisionLog.fault_count c.args.commands.now c.args.log.now c.run_one.new.log) (sym same) stops)
+
+pub returns-in_err-push-clause-cause : goal.returns-in_err-push-clause-cause
+returns-in_err-push-clause-cause g c =
+    passed_up _ c.from_residual-in_err-push.result c.from_residual-in_err-push.ensures.1 (λ e refused. inr (refused, c.in_ok-run_one.ensures.faults ∙ c.loop-command.invariant.count))

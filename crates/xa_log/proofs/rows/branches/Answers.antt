@@ -13,10 +13,10 @@ loop-row-preserved c =
     let i = c.loop-row.row-index in
     let low : i < length rows = omega arith in
     let seen : c.deref-row-items.result.now ≡ rows = c.deref-row-items.ensures.value in
-    (set_more branches_total exact_branches branch_from rows _ i c.row-item.result seen c.row-item.is low c.loop-row.branches c.insert.new.self c.in_ok-branch.field-0 c.in_ok-branch.ensures c.loop-row.invariant.0 c.in_ok-insert.ensures.updates, c.insert.ensures.ordered)
+    (set_more branches_total exact_branches branch_from rows _ i c.row-item.result seen c.row-item.is low c.loop-row.branches c.insert.new.self c.in_ok-branch.field-0 c.in_ok-branch.ensures.ok c.loop-row.invariant.0 c.in_ok-insert.ensures.updates, c.insert.ensures.ordered)
 
-pub returns : goal.returns
-returns c =
+pub returns-clause-ok : goal.returns-clause-ok
+returns-clause-ok c =
     let rows = c.args.rows.items in
     let high : length rows ≤ c.loop-row.row-index = omega arith in
     let same : c.in_ok-collect.field-0.items ≡ c.loop-row.branches.keys = search rules in

@@ -10,6 +10,7 @@ returns-clause-opened g c =
       was = c.in_ok-conn.conn;
       opened = c.in_ok-conn.ensures.opened early;
       found = c.in_ok-conn.ensures.found early;
+      plain = c.in_ok-conn.ensures.plain early;
       taken = taken clean;
     })
     c.adopt_files.ensures.honest

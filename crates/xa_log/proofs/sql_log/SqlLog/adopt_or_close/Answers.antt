@@ -7,6 +7,7 @@ returns-in-Ok-clause-taken g c clean =
       made = λ is. taken.made is clean;
       migrated = λ is. taken.migrated is clean;
       kept = λ is order. taken.kept is order clean;
+      found = λ is. taken.found is clean;
       version = λ has. taken.version has clean;
       crash = λ is. taken.crash is clean;
     }
