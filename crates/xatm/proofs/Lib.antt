@@ -2,6 +2,7 @@ pub mod EntryLemmas
 pub mod FlagLemmas
 pub mod LineLemmas
 pub mod ListedLemmas
+pub mod OutputLemmas
 pub mod RequestLemmas
 pub mod RunLemmas
 pub mod TableLemmas

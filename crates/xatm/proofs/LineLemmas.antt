@@ -2,6 +2,7 @@
 use Rattle.std.proofs.Common.{◌≡◌, ◌∙◌, ℕ, ◌+◌, ◌<◌, List, [], ◌∷◌, ◌++◌, length, get_or, take, Option, Some, None, sym, ap, subst, append_assoc, append-nil, codes}
 use Rattle.std.proofs.lemmas.List.{take_more}
 use Rattle.std.proofs.lemmas.List.Concat.{flat_map-append}
+use Rattle.std.specs.Fmt.{decimal}
 use Rattle.std.specs.Io.KnownBytes.{Appends}
 use Rattle.xa_base.specs.Xid.{Xid, text_of}
 use Rattle.xa_base.specs.declared.state.Fate.{Fate}
@@ -31,3 +32,19 @@ line_written start old new fates i line within is so_far more =
     ∙ ap (λ x. fate_lines (take i fates ++ x ∷ [])) is
     ∙ ap fate_lines (sym (take_more fates i line within)) in
     subst (Appends start new) same (both_written start old new _ _ so_far more)
+
+-- the pieces of the line of a check, as a write of it gives them
+pieces : (a b c d e f g : List ℕ) → a ++ (b ++ (c ++ (d ++ (e ++ (f ++ g))))) ≡ a ++ b ++ c ++ d ++ e ++ f ++ g
+pieces a b c d e f g =
+    sym (append_assoc a b (c ++ (d ++ (e ++ (f ++ g))))) ∙ sym (append_assoc (a ++ b) c (d ++ (e ++ (f ++ g))))
+    ∙ sym (append_assoc (a ++ b ++ c) d (e ++ (f ++ g))) ∙ sym (append_assoc (a ++ b ++ c ++ d) e (f ++ g))
+    ∙ sym (append_assoc (a ++ b ++ c ++ d ++ e) f g)
+
+-- the line of a check, in an empty list
+pub sizes_written : (old items : List ℕ) (t r n m : ℕ) → old ≡ [] → n ≡ m
+    → Appends (Some old) (Some items) (codes "ok " ++ (decimal t ++ (codes " " ++ (decimal r ++ (codes " " ++ (decimal n ++ codes "\n"))))))
+    → items ≡ codes "ok " ++ decimal t ++ codes " " ++ decimal r ++ codes " " ++ decimal m ++ codes "\n"
+sizes_written old items t r n m none same written =
+    written ∙ ap (λ xs. xs ++ (codes "ok " ++ (decimal t ++ (codes " " ++ (decimal r ++ (codes " " ++ (decimal n ++ codes "\n"))))))) none
+    ∙ pieces (codes "ok ") (decimal t) (codes " ") (decimal r) (codes " ") (decimal n) (codes "\n")
+    ∙ ap (λ k. codes "ok " ++ decimal t ++ codes " " ++ decimal r ++ codes " " ++ decimal k ++ codes "\n") same

@@ -6,6 +6,7 @@ pub mod Fields
 pub mod Flags
 pub mod Headers
 pub mod Listed
+pub mod Outputs
 pub mod Requests
 pub mod Runs
 pub mod Scenarios

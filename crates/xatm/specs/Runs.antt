@@ -5,6 +5,7 @@ use Rattle.std.specs.Io.KnownBytes.{Appends}
 use Rattle.std.specs.List.Sorted.{IsStrictlySortedBy}
 use Rattle.xa_base.specs.Xid.{Xid, xid_cmp}
 use Rattle.xatm.specs.Fates.{fate_lines, with_fate}
+use Rattle.xatm.specs.Outputs.{AppendsBeginning}
 use Rattle.xatm.specs.Requests.{Request, requests_in, held_by_all, is_started}
 use Rattle.xatm.specs.Scenarios.{Plan, scenario_of}
 use Rattle.xatm.specs.declared.fault.RunFault.{RunFault}
@@ -22,11 +23,23 @@ pub record PrintsFates (requests : List Request) (old new : Option (List ℕ)) :
   pub started : IsStartedList requests xids
   pub writes : Appends old new (fate_lines (map (with_fate (held_by_all requests)) xids))
 
+-- What was written is a beginning of those lines.
+pub record BeginsFates (requests : List Request) (old new : Option (List ℕ)) : Type 0 where
+  pub xids : List Xid
+  pub started : IsStartedList requests xids
+  pub begins : AppendsBeginning old new (fate_lines (map (with_fate (held_by_all requests)) xids))
+
 -- The text is a scenario, and what was written are the fates along its calls and votes.
 pub record Prints (text : List ℕ) (old new : Option (List ℕ)) : Type 0 where
   pub plan : Plan
   pub reads : scenario_of text ≡ Ok plan
   pub fates : PrintsFates (requests_in plan.entries) old new
+
+-- The text is a scenario, and what was written is a beginning of those fates.
+pub record Begins (text : List ℕ) (old new : Option (List ℕ)) : Type 0 where
+  pub plan : Plan
+  pub reads : scenario_of text ≡ Ok plan
+  pub fates : BeginsFates (requests_in plan.entries) old new
 
 -- the one line of a check
 abbrev pub check_line : Plan → List ℕ
@@ -37,6 +50,12 @@ pub record PrintsCheck (text : List ℕ) (old new : Option (List ℕ)) : Type 0 
   pub plan : Plan
   pub reads : scenario_of text ≡ Ok plan
   pub writes : Appends old new (check_line plan)
+
+-- The text is a scenario, and a beginning of that line was written.
+pub record BeginsCheck (text : List ℕ) (old new : Option (List ℕ)) : Type 0 where
+  pub plan : Plan
+  pub reads : scenario_of text ≡ Ok plan
+  pub begins : AppendsBeginning old new (check_line plan)
 
 -- what a fault tells of the reading of the text: want of memory tells nothing, a fault of the output that it is a
 -- scenario, and each other fault is the text's own

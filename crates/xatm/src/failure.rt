@@ -24,12 +24,14 @@ pub enum Failure {
 }
 
 impl Failure {
-    ghost use Rattle.std.specs.Prelude.{◌⊎◌};
+    ghost use Rattle.std.specs.Prelude.{◌≢◌};
+    ghost use Rattle.std.specs.IoError.{error_kind};
     ghost use Rattle.xatm.specs.Failures.{failure_status};
 
     /// This failure, or want of memory, where that is the cause.
     pub fn caused_by(self, error: &io::Error) -> Failure
-        ensures { (result ≡ self) ⊎ (result ≡ Run Faults.Memory) }
+        ensures memory { error_kind error.now ≡ ErrorKind.OutOfMemory → result ≡ Run Faults.Memory }
+        ensures other { error_kind error.now ≢ ErrorKind.OutOfMemory → result ≡ self }
     {
         match error.kind() {
             ErrorKind::OutOfMemory => Failure::Run(RunFault::Memory),

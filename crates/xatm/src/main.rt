@@ -23,7 +23,6 @@ use crate::command::{Command, command_of, parser};
 use crate::failure::Failure;
 use crate::fault::RunFault;
 use crate::run::{check_scenario, run_scenario};
-use std::io::BufWriter;
 use std::process::ExitCode;
 use std::rt::{Env, Files};
 use std::{env, fs, io};
@@ -60,9 +59,8 @@ fn perform<R: AllocGlobal + Files + Print>(rt: &R, command: Command) -> Result<(
     let alloc = rt.alloc();
     let (Command::Run { file } | Command::Check { file }) = command;
     let text = fs::read(rt, file).map_err(|error| Failure::NotReadable.caused_by(&error))?;
-    let Ok(mut out) = BufWriter::new(alloc, io::writer(rt)) else {
-        return Err(Failure::Run(RunFault::Memory));
-    };
+    // Nothing is buffered: all that is printed goes out in one text.
+    let mut out = io::writer(rt);
     match command {
         Command::Run { .. } => run_scenario(alloc, &text, &mut out)?,
         Command::Check { .. } => check_scenario(alloc, &text, &mut out)?,
