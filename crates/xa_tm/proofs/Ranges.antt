@@ -1,0 +1,66 @@
+-- The branches of one transaction stand in a row.
+use Rattle.std.proofs.Common.{◌≡◌, ℕ, ◌+◌, List, [], ◌∷◌, Bool, true, false, not, ◌&&◌, filter, cond, refl, ap, ◌∙◌, arith, Ordering, Less, Equal, Greater, nat_cmp, is_eq}
+use Rattle.std.specs.Prelude.{nat_eq}
+use Rattle.std.specs.Ordering.{is_gt, is_le, is_lt, ordering_then}
+use Rattle.std.proofs.lemmas.Bool.{eq-eqb}
+use Rattle.std.specs.BTreeMap.Range.{range_contains}
+use Rattle.std.specs.declared.ops.Bound.TheVariants.{Included, Excluded}
+use Rattle.xa_base.specs.Branch.{branch_cmp, gtrid_eq}
+use Rattle.xa_base.specs.declared.branch.Branch.{Branch}
+use Rattle.xa_base.specs.declared.branch.Gtrid.{Gtrid}
+
+-- an order by three keys, of which the last is at its least
+in_between : (a b c z : Ordering) → is_le z ≡ true → is_le c ≡ is_lt b
+    → (is_le (ordering_then (ordering_then a b) z) && not (is_le (ordering_then (ordering_then a c) z))) ≡ (is_eq a && is_eq b)
+in_between Less b c z least next = refl
+in_between Greater b c z least next = refl
+in_between Equal Less Less z least next = refl
+in_between Equal Less Equal z least next = ap not least
+in_between Equal Less Greater z least next = absurd (cc)
+in_between Equal Equal Less z least next = absurd (cc)
+in_between Equal Equal Equal z least next = absurd (cc)
+in_between Equal Equal Greater z least next = ap (λ t. t && true) least
+in_between Equal Greater c z least next = refl
+
+least : (t r : ℕ) → is_le (ordering_then (nat_cmp 0 t) (nat_cmp 0 r)) ≡ true
+least t r = grind arith
+
+next_is_more : (s y : ℕ) → is_le (nat_cmp (s + 1) y) ≡ is_lt (nat_cmp s y)
+next_is_more s y = grind (arith, eq-eqb)
+
+same_number : (x y : ℕ) → is_eq (nat_cmp y x) ≡ nat_eq x y
+same_number x y = grind (arith, eq-eqb)
+
+-- from the first branch of a transaction to the first of the next there are its own
+pub within : (g : Gtrid) (q : Branch)
+    → range_contains branch_cmp (Included (record { gtrid = g; thread = 0; rm = 0 }))
+    (Excluded (record { gtrid = record g { sequence = g.sequence + 1 }; thread = 0; rm = 0 })) q ≡ gtrid_eq q.gtrid g
+within g q = in_between (nat_cmp g.incarnation q.gtrid.incarnation) (nat_cmp g.sequence q.gtrid.sequence) (nat_cmp (g.sequence + 1) q.gtrid.sequence)
+    (ordering_then (nat_cmp 0 q.thread) (nat_cmp 0 q.rm)) (least q.thread q.rm) (next_is_more g.sequence q.gtrid.sequence)
+    ∙ (λ i. same_number q.gtrid.incarnation g.incarnation i && same_number q.gtrid.sequence g.sequence i)
+
+-- the one runs before the other
+pub forward : (g : Gtrid) → is_gt (branch_cmp (record { gtrid = g; thread = 0; rm = 0 }) (record { gtrid = record g { sequence = g.sequence + 1 }; thread = 0; rm = 0 })) ≡ false
+forward g = by (nat_cmp g.incarnation g.incarnation) (same_number g.incarnation g.incarnation) (nat_cmp g.sequence (g.sequence + 1)) (up g.sequence)
+  where
+    up : (s : ℕ) → is_lt (nat_cmp s (s + 1)) ≡ true
+    up s = grind arith
+
+    by : (a : Ordering) → is_eq a ≡ nat_eq g.incarnation g.incarnation → (b : Ordering) → is_lt b ≡ true → is_gt (ordering_then (ordering_then a b) (ordering_then (nat_cmp 0 0) (nat_cmp 0 0))) ≡ false
+    by Less e b l = refl
+    by Equal e Less l = refl
+    by Equal e Equal l = absurd (cc)
+    by Equal e Greater l = absurd (cc)
+    by Greater e b l = absurd (let no : false ≡ true = e ∙ eq-eqb g.incarnation g.incarnation refl in cc)
+
+-- two tests, one after the other
+pub in_turn : {E : Type 0} (r p v : E → Bool) → ((e : E) → r e ≡ p e) → (es : List E) → filter v (filter r es) ≡ filter (λ e. p e && v e) es
+in_turn r p v same [] = refl
+in_turn r p v same (e ∷ es) = by (r e) (p e) (same e) (in_turn r p v same es)
+  where
+    by : (s t : Bool) → s ≡ t → filter v (filter r es) ≡ filter (λ e. p e && v e) es
+        → filter v (cond s (e ∷ filter r es) (filter r es)) ≡ cond (t && v e) (e ∷ filter (λ e. p e && v e) es) (filter (λ e. p e && v e) es)
+    by true true is tail = ap (λ xs. cond (v e) (e ∷ xs) xs) tail
+    by false false is tail = tail
+    by true false is tail = absurd (cc)
+    by false true is tail = absurd (cc)

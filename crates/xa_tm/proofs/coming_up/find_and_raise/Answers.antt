@@ -1,0 +1,12 @@
+use Rattle.std.proofs.Common.{◌∙◌}
+use Rattle.xa_tm.proofs.Restarts.{found}
+use Rattle.xa_tm.proofs.coming_up.find_and_raise.Goals as goal
+
+pub returns-clause-found : goal.returns-clause-found
+returns-clause-found g c = λ order honest.
+    let rows = c.in-Ok.rows in
+    let log = c.rows.new.self in
+    let still = c.in-Ok-bump.ensures.honest honest in
+    found (g.L.DecisionLog.content c.args.log.now) (g.L.DecisionLog.content log) rows.decisions.items rows.heuristics.items c.in-Ok-bump.incarnation c.len.result c.len-in-Ok-bump.result
+    (c.in-Ok.ensures.decisions order still) (c.in-Ok.ensures.heuristics order still) (c.in-Ok.ensures.ok order still) (c.in-Ok-bump.ensures.answer (c.in-Ok.ensures.order order) honest)
+    (c.len.ensures ∙ rows.decisions.ok.0) (c.len-in-Ok-bump.ensures ∙ rows.heuristics.ok.0)

@@ -1,0 +1,17 @@
+pub mod Asked
+pub mod Book
+pub mod Counts
+pub mod Held
+pub mod Kept
+pub mod Laws
+pub mod Leaving
+pub mod Limits
+pub mod Merged
+pub mod News
+pub mod Outcomes
+pub mod Refusing
+pub mod Resolving
+pub mod Tied
+pub mod Starting
+pub mod Ascending
+pub mod Begins

@@ -1,0 +1,193 @@
+//! The steps that decide a transaction, and the one that takes its row away (XA, section 2.3, Transaction Completion
+//! and Recovery).
+
+ghost use Rattle.std.specs.Prelude.{◌≡◌, Bool, Some, None, Err, IfErr, OnOk};
+ghost use Rattle.xa_base.specs.declared.step.Step.TheVariants as Steps;
+ghost use Rattle.xa_base.specs.Trace.{Fault.InDecide, Fault.InDone, Happening.Decided, Happening.Done};
+ghost use Rattle.xa_base.specs.Trace.{Happening.Failed};
+ghost use Rattle.xa_base.specs.declared.refusal.Refusal.TheVariants as Refusals;
+ghost use Rattle.xa_base.specs.declared.step.Outcome.TheVariants as Outcomes;
+ghost use Rattle.xa_tm.specs.Book.{Doubt.Adds, Doubt.Drops, after, book_after, voted_yes};
+ghost use Rattle.xa_log.specs.Contract.{LeavesAlso};
+ghost use Rattle.xa_tm.specs.Tied.{made};
+ghost use Rattle.xa_tm.specs.Held.{IsSound};
+ghost use Rattle.xa_tm.specs.Kept.{AddsRow, FailsBy, IsOpenIn, book_in, faults_by, log_in};
+ghost use Rattle.xa_tm.specs.Refusing.{refusal_in};
+ghost use Rattle.xa_tm.specs.Tied.{IsTied};
+
+use crate::change::Change;
+use crate::manager::Manager;
+use xa_base::{Gtrid, Outcome, Refusal};
+use xa_log::{DecisionLog, LogFault};
+
+impl<L: DecisionLog + Drop> Manager<L> {
+    /// Decides a transaction. A commit writes its row where some branch voted XA_OK.
+    pub fn decide(&mut self, g: Gtrid, outcome: Outcome) -> Result<(), Refusal>
+        requires { IsSound (book_in self.old) }
+        ensures refused { (n : Refusal) → refusal_in (book_in self.old) (Steps.Decide g outcome) ≡ Some n →
+            (result ≡ Err n) × (self.new ≡ self.old) }
+        ensures allowed { OnOk result (refusal_in (book_in self.old) (Steps.Decide g outcome) ≡ None) }
+        ensures ok { OnOk result (book_in self.new ≡ after (book_in self.old) (Decided g outcome)) }
+        ensures err { refusal_in (book_in self.old) (Steps.Decide g outcome) ≡ None →
+            IfErr result (FailsBy (Adds g (voted_yes (book_in self.old) g)) (InDecide g) (book_in self.old) (book_in self.new)) }
+        ensures asked { refusal_in (book_in self.old) (Steps.Decide g outcome) ≡ None → result ≡ Err Refusals.LogFault →
+            AddsRow outcome ((book_in self.old).deal g) }
+        ensures tied { L.is_in_order (log_in self.old) → L.is_honest (log_in self.new) →
+            IsTied (book_in self.old) (L.content (log_in self.old)) → IsTied (book_in self.new) (L.content (log_in self.new)) }
+        ensures crash { L.is_in_order (log_in self.old) → L.is_honest (log_in self.new) →
+            LeavesAlso (made (Adds g (voted_yes (book_in self.old) g))) (L.content (log_in self.old))
+            (L.may_leave (log_in self.old)) (L.may_leave (log_in self.new)) }
+        ensures order { L.is_in_order (log_in self.old) → L.is_in_order (log_in self.new) }
+        ensures honest { L.is_honest (log_in self.new) → L.is_honest (log_in self.old) }
+        ensures faults { L.fault_count (log_in self.new) ≡ faults_by result (L.fault_count (log_in self.old)) }
+    {
+        match self.ledger.may_decide(g, outcome) {
+            Some(refusal) => Err(refusal),
+            None => self.conclude(g, outcome),
+        }
+    }
+
+    /// Commits a claimed transaction.
+    pub fn settle(&mut self, g: Gtrid) -> Result<(), Refusal>
+        requires { IsSound (book_in self.old) }
+        ensures refused { (n : Refusal) → refusal_in (book_in self.old) (Steps.Settle g) ≡ Some n →
+            (result ≡ Err n) × (self.new ≡ self.old) }
+        ensures allowed { OnOk result (refusal_in (book_in self.old) (Steps.Settle g) ≡ None) }
+        ensures ok { OnOk result (book_in self.new ≡ after (book_in self.old) (Decided g Outcomes.Commit)) }
+        ensures err { refusal_in (book_in self.old) (Steps.Settle g) ≡ None →
+            IfErr result (FailsBy (Adds g (voted_yes (book_in self.old) g)) (InDecide g) (book_in self.old) (book_in self.new)) }
+        ensures asked { refusal_in (book_in self.old) (Steps.Settle g) ≡ None → result ≡ Err Refusals.LogFault →
+            AddsRow Outcomes.Commit ((book_in self.old).deal g) }
+        ensures tied { L.is_in_order (log_in self.old) → L.is_honest (log_in self.new) →
+            IsTied (book_in self.old) (L.content (log_in self.old)) → IsTied (book_in self.new) (L.content (log_in self.new)) }
+        ensures crash { L.is_in_order (log_in self.old) → L.is_honest (log_in self.new) →
+            LeavesAlso (made (Adds g (voted_yes (book_in self.old) g))) (L.content (log_in self.old))
+            (L.may_leave (log_in self.old)) (L.may_leave (log_in self.new)) }
+        ensures order { L.is_in_order (log_in self.old) → L.is_in_order (log_in self.new) }
+        ensures honest { L.is_honest (log_in self.new) → L.is_honest (log_in self.old) }
+        ensures faults { L.fault_count (log_in self.new) ≡ faults_by result (L.fault_count (log_in self.old)) }
+    {
+        match self.ledger.may_settle(g) {
+            Some(refusal) => Err(refusal),
+            None => self.conclude(g, Outcome::Commit),
+        }
+    }
+
+    /// Rolls a claimed transaction back.
+    pub fn abandon(&mut self, g: Gtrid) -> Result<(), Refusal>
+        requires { IsSound (book_in self.old) }
+        ensures refused { (n : Refusal) → refusal_in (book_in self.old) (Steps.Abandon g) ≡ Some n →
+            (result ≡ Err n) × (self.new ≡ self.old) }
+        ensures allowed { OnOk result (refusal_in (book_in self.old) (Steps.Abandon g) ≡ None) }
+        ensures ok { OnOk result (book_in self.new ≡ after (book_in self.old) (Decided g Outcomes.Rollback)) }
+        ensures err { refusal_in (book_in self.old) (Steps.Abandon g) ≡ None →
+            IfErr result (FailsBy (Adds g (voted_yes (book_in self.old) g)) (InDecide g) (book_in self.old) (book_in self.new)) }
+        ensures asked { refusal_in (book_in self.old) (Steps.Abandon g) ≡ None → result ≡ Err Refusals.LogFault →
+            AddsRow Outcomes.Rollback ((book_in self.old).deal g) }
+        ensures tied { L.is_in_order (log_in self.old) → L.is_honest (log_in self.new) →
+            IsTied (book_in self.old) (L.content (log_in self.old)) → IsTied (book_in self.new) (L.content (log_in self.new)) }
+        ensures crash { L.is_in_order (log_in self.old) → L.is_honest (log_in self.new) →
+            LeavesAlso (made (Adds g (voted_yes (book_in self.old) g))) (L.content (log_in self.old))
+            (L.may_leave (log_in self.old)) (L.may_leave (log_in self.new)) }
+        ensures order { L.is_in_order (log_in self.old) → L.is_in_order (log_in self.new) }
+        ensures honest { L.is_honest (log_in self.new) → L.is_honest (log_in self.old) }
+        ensures faults { L.fault_count (log_in self.new) ≡ faults_by result (L.fault_count (log_in self.old)) }
+    {
+        match self.ledger.may_settle(g) {
+            Some(refusal) => Err(refusal),
+            None => self.conclude(g, Outcome::Rollback),
+        }
+    }
+
+    /// Takes the row of a transaction away that waits for nothing more.
+    pub fn done(&mut self, g: Gtrid) -> Result<(), Refusal>
+        requires { IsSound (book_in self.old) }
+        ensures refused { (n : Refusal) → refusal_in (book_in self.old) (Steps.Done g) ≡ Some n →
+            (result ≡ Err n) × (self.new ≡ self.old) }
+        ensures allowed { OnOk result (refusal_in (book_in self.old) (Steps.Done g) ≡ None) }
+        ensures ok { OnOk result (book_in self.new ≡ after (book_in self.old) (Done g)) }
+        ensures err { refusal_in (book_in self.old) (Steps.Done g) ≡ None → IfErr result (λ n. (n ≡ Refusals.LogFault) ×
+            (book_in self.new ≡ book_after (book_in self.old) (Drops g) (Failed (InDone g)))) }
+        ensures tied { L.is_in_order (log_in self.old) → L.is_honest (log_in self.new) →
+            IsTied (book_in self.old) (L.content (log_in self.old)) → IsTied (book_in self.new) (L.content (log_in self.new)) }
+        ensures crash { L.is_in_order (log_in self.old) → L.is_honest (log_in self.new) →
+            LeavesAlso (made (Drops g)) (L.content (log_in self.old))
+            (L.may_leave (log_in self.old)) (L.may_leave (log_in self.new)) }
+        ensures order { L.is_in_order (log_in self.old) → L.is_in_order (log_in self.new) }
+        ensures honest { L.is_honest (log_in self.new) → L.is_honest (log_in self.old) }
+        ensures faults { L.fault_count (log_in self.new) ≡ faults_by result (L.fault_count (log_in self.old)) }
+    {
+        match self.ledger.may_done(g) {
+            Some(refusal) => Err(refusal),
+            None => match self.log.done(g) {
+                Ok(_) => {
+                    self.ledger.done(g);
+                    Ok(())
+                }
+                Err(_) => {
+                    self.ledger.fail(Change::DropRow(g));
+                    Err(Refusal::LogFault)
+                }
+            },
+        }
+    }
+
+    /// Decides what no rule refuses to decide.
+    fn conclude(&mut self, g: Gtrid, outcome: Outcome) -> Result<(), Refusal>
+        requires sound { IsSound (book_in self.old) }
+        requires open { IsOpenIn (book_in self.old) g }
+        ensures ok { OnOk result (book_in self.new ≡ after (book_in self.old) (Decided g outcome)) }
+        ensures err { IfErr result (FailsBy (Adds g (voted_yes (book_in self.old) g)) (InDecide g) (book_in self.old) (book_in self.new)) }
+        ensures asked { result ≡ Err Refusals.LogFault → AddsRow outcome ((book_in self.old).deal g) }
+        ensures tied { L.is_in_order (log_in self.old) → L.is_honest (log_in self.new) →
+            IsTied (book_in self.old) (L.content (log_in self.old)) → IsTied (book_in self.new) (L.content (log_in self.new)) }
+        ensures crash { L.is_in_order (log_in self.old) → L.is_honest (log_in self.new) →
+            LeavesAlso (made (Adds g (voted_yes (book_in self.old) g))) (L.content (log_in self.old))
+            (L.may_leave (log_in self.old)) (L.may_leave (log_in self.new)) }
+        ensures order { L.is_in_order (log_in self.old) → L.is_in_order (log_in self.new) }
+        ensures honest { L.is_honest (log_in self.new) → L.is_honest (log_in self.old) }
+        ensures faults { L.fault_count (log_in self.new) ≡ faults_by result (L.fault_count (log_in self.old)) }
+    {
+        if self.ledger.transaction(g).adds_row(outcome) {
+            self.commit(g)
+        } else {
+            match self.ledger.decide(g, outcome) {
+                Ok(()) => Ok(()),
+                Err(_) => Err(Refusal::Memory),
+            }
+        }
+    }
+
+    /// Commits a transaction of which some branch voted XA_OK: its row names those that did.
+    ///
+    /// All room is made before the log is asked.
+    fn commit(&mut self, g: Gtrid) -> Result<(), Refusal>
+        requires sound { IsSound (book_in self.old) }
+        requires open { IsOpenIn (book_in self.old) g }
+        requires yes { ((book_in self.old).deal g).has_yes ≡ Bool.true }
+        ensures ok { OnOk result (book_in self.new ≡ after (book_in self.old) (Decided g Outcomes.Commit)) }
+        ensures err { IfErr result (FailsBy (Adds g (voted_yes (book_in self.old) g)) (InDecide g) (book_in self.old) (book_in self.new)) }
+        ensures tied { L.is_in_order (log_in self.old) → L.is_honest (log_in self.new) →
+            IsTied (book_in self.old) (L.content (log_in self.old)) → IsTied (book_in self.new) (L.content (log_in self.new)) }
+        ensures crash { L.is_in_order (log_in self.old) → L.is_honest (log_in self.new) →
+            LeavesAlso (made (Adds g (voted_yes (book_in self.old) g))) (L.content (log_in self.old))
+            (L.may_leave (log_in self.old)) (L.may_leave (log_in self.new)) }
+        ensures order { L.is_in_order (log_in self.old) → L.is_in_order (log_in self.new) }
+        ensures honest { L.is_honest (log_in self.new) → L.is_honest (log_in self.old) }
+        ensures faults { L.fault_count (log_in self.new) ≡ faults_by result (L.fault_count (log_in self.old)) }
+    {
+        match self.ledger.prepare_row(g) {
+            Err(_) => Err(Refusal::Memory),
+            Ok(participants) => match self.log.commit(g, participants.as_slice()) {
+                Ok(_) => {
+                    self.ledger.commit(g, participants);
+                    Ok(())
+                }
+                Err(_) => {
+                    self.ledger.fail(Change::AddRow(g, participants));
+                    Err(Refusal::LogFault)
+                }
+            },
+        }
+    }
+}

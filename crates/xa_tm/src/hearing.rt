@@ -1,0 +1,136 @@
+//! What the manager makes of an answer.
+
+ghost use Rattle.std.specs.Prelude.{◌≡◌, Bool, Option, Some, None, IsSome, Err, IfErr, OnOk, OnErr};
+ghost use Rattle.xa_base.specs.StateTable.{on};
+ghost use Rattle.xa_base.specs.declared.answer.Answer.TheVariants.{Ret};
+ghost use Rattle.xa_base.specs.Trace.{Fault.InHear, Call as KnownCall, Kind, Line, line, Happening.Heard};
+ghost use Rattle.xa_base.specs.declared.refusal.Refusal.TheVariants as Refusals;
+ghost use Rattle.xa_tm.specs.Book.{after, doubt_of};
+ghost use Rattle.xa_base.specs.Facts.{record_of};
+ghost use Rattle.xa_base.specs.Call.{map_call};
+ghost use Rattle.xa_base.specs.Answer.{map_answer};
+ghost use Rattle.xa_base.specs.Steps.{accepted};
+ghost use Rattle.xa_base.specs.History.{name_of};
+ghost use Rattle.xa_base.specs.declared.code.Code.{Code};
+ghost use Rattle.xa_log.specs.Contract.{LeavesAlso, FitsRow, MayMake, faults_after};
+ghost use Rattle.xa_tm.specs.Asked.{FitsRecord, IsAnswerTo, MakesRecord};
+ghost use Rattle.xa_tm.specs.News.{news_by, recording};
+ghost use Rattle.xa_tm.specs.Tied.{MakesOf, made};
+ghost use Rattle.xa_tm.specs.Held.{IsSound, doubt_held};
+ghost use Rattle.xa_tm.specs.Kept.{FailsBy, book_in, faults_by, log_in};
+ghost use Rattle.xa_tm.specs.Tied.{IsTied};
+
+use crate::change::Change;
+use crate::manager::Manager;
+use crate::news::{News, branch_of};
+use xa_base::{Answer, Branch, Call, How, Refusal};
+use xa_log::{DecisionLog, LogFault};
+
+impl<L: DecisionLog + Drop> Manager<L> {
+    /// Hears an answer to a call. A heuristic code to xa_commit or xa_rollback is noted in the log first (XA, section
+    /// 2.3.3, Heuristic Branch Completion).
+    pub fn hear(
+        &mut self,
+        thread: u32,
+        rm: u32,
+        call: &Call,
+        answer: &Answer,
+    ) -> Result<(), Refusal>
+        requires sound { IsSound (book_in self.old) }
+        requires answers { IsAnswerTo (map_call name_of call.now) (map_answer name_of answer.now) }
+        requires fits { FitsRecord (map_call name_of call.now) (map_answer name_of answer.now) }
+        ensures down { (book_in self.old).up ≡ Bool.false → (result ≡ Err Refusals.ManagerDown) × (self.new ≡ self.old) }
+        ensures up { OnOk result ((book_in self.old).up ≡ Bool.true) }
+        ensures ok { OnOk result ((c : KnownCall) → accepted (map_call name_of call.now) ≡ Some c →
+            book_in self.new ≡ after (book_in self.old) (Heard (line thread rm) c (map_answer name_of answer.now))) }
+        ensures err { (book_in self.old).up ≡ Bool.true → IfErr result (λ n. (c : KnownCall) → accepted (map_call name_of call.now) ≡ Some c →
+            FailsBy (doubt_of (record_of c (map_answer name_of answer.now))) (InHear (line thread rm)) (book_in self.old) (book_in self.new) n) }
+        ensures asked { result ≡ Err Refusals.LogFault → MakesRecord (map_call name_of call.now) (map_answer name_of answer.now) }
+        ensures tied { L.is_in_order (log_in self.old) → L.is_honest (log_in self.new) →
+            IsTied (book_in self.old) (L.content (log_in self.old)) → IsTied (book_in self.new) (L.content (log_in self.new)) }
+        ensures crash { L.is_in_order (log_in self.old) → L.is_honest (log_in self.new) →
+            (c : KnownCall) → accepted (map_call name_of call.now) ≡ Some c →
+            LeavesAlso (made (doubt_of (record_of c (map_answer name_of answer.now)))) (L.content (log_in self.old))
+            (L.may_leave (log_in self.old)) (L.may_leave (log_in self.new)) }
+        ensures order { L.is_in_order (log_in self.old) → L.is_in_order (log_in self.new) }
+        ensures honest { L.is_honest (log_in self.new) → L.is_honest (log_in self.old) }
+        ensures faults { L.fault_count (log_in self.new) ≡ faults_by result (L.fault_count (log_in self.old)) }
+    {
+        if !self.ledger.is_up {
+            return Err(Refusal::ManagerDown);
+        }
+        match answer {
+            Answer::Page(page) => match self.ledger.hear_page(thread, rm, call, page) {
+                Ok(()) => Ok(()),
+                Err(_) => Err(Refusal::Memory),
+            },
+            Answer::Ret(code) => match branch_of(call) {
+                Some(b) => self.hear_news(b, News::of(call, *code)),
+                None => Ok(()),
+            },
+        }
+    }
+
+    /// Hears what an answer says of a branch.
+    fn hear_news(&mut self, b: Branch, news: News) -> Result<(), Refusal>
+        requires sound { IsSound (book_in self.old) }
+        requires up { (book_in self.old).up ≡ Bool.true }
+        requires fits { IsSome news.how → FitsRow b.gtrid }
+        ensures ok { OnOk result ((l : Line) (kind : Kind) (code : Code) → news ≡ news_by kind code →
+            book_in self.new ≡ after (book_in self.old) (Heard l (on kind b) (Ret code))) }
+        ensures err { IfErr result (λ n. (l : Line) (kind : Kind) (code : Code) → news ≡ news_by kind code →
+            FailsBy (doubt_of (record_of (on kind b) (Ret code))) (InHear l) (book_in self.old) (book_in self.new) n) }
+        ensures asked { result ≡ Err Refusals.LogFault → IsSome news.how }
+        ensures tied { L.is_in_order (log_in self.old) → L.is_honest (log_in self.new) → (l : Line) (kind : Kind) (code : Code) → news ≡ news_by kind code →
+            IsTied (book_in self.old) (L.content (log_in self.old)) → IsTied (book_in self.new) (L.content (log_in self.new)) }
+        ensures crash { L.is_in_order (log_in self.old) → L.is_honest (log_in self.new) →
+            LeavesAlso (made (recording b news.how)) (L.content (log_in self.old))
+            (L.may_leave (log_in self.old)) (L.may_leave (log_in self.new)) }
+        ensures order { L.is_in_order (log_in self.old) → L.is_in_order (log_in self.new) }
+        ensures honest { L.is_honest (log_in self.new) → L.is_honest (log_in self.old) }
+        ensures faults { L.fault_count (log_in self.new) ≡ faults_by result (L.fault_count (log_in self.old)) }
+    {
+        match self.ledger.reserve(b) {
+            Err(_) => Err(Refusal::Memory),
+            Ok(()) => match note_end(&mut self.log, b, news.how) {
+                Ok(()) => {
+                    self.ledger.hear(b, news);
+                    Ok(())
+                }
+                Err(_) => {
+                    self.ledger.fail(change_of(b, news.how));
+                    Err(Refusal::LogFault)
+                }
+            },
+        }
+    }
+}
+
+/// Records in the log how a branch ended by itself, where it did.
+fn note_end<L: DecisionLog>(log: &mut L, b: Branch, how: Option<How>) -> Result<(), LogFault>
+    requires { IsSome how → FitsRow b.gtrid }
+    ensures ok { L.is_in_order log.old → L.is_honest log.new →
+        OnOk result (MakesOf (recording b how) (L.content log.old) (L.content log.new)) }
+    ensures err { L.is_in_order log.old → OnErr result (MayMake (made (recording b how)) (L.content log.old) (L.content log.new)) }
+    ensures asked { OnErr result (IsSome how) }
+    ensures crash { L.is_in_order log.old → L.is_honest log.new →
+        LeavesAlso (made (recording b how)) (L.content log.old) (L.may_leave log.old) (L.may_leave log.new) }
+    ensures order { L.is_in_order log.old → L.is_in_order log.new }
+    ensures honest { L.is_honest log.new → L.is_honest log.old }
+    ensures faults { L.fault_count log.new ≡ faults_after result (L.fault_count log.old) }
+{
+    match how {
+        Some(how) => log.note_heuristic(b, how),
+        None => Ok(()),
+    }
+}
+
+/// The change that a record of a branch is, where there is one to make.
+fn change_of(b: Branch, how: Option<How>) -> Change
+    ensures { doubt_held result ≡ recording b how }
+{
+    match how {
+        Some(how) => Change::AddRecord(b, how),
+        None => Change::Nothing,
+    }
+}

@@ -1,0 +1,140 @@
+//! What ties the manager's book to histories. These functions do nothing: each contract is a theorem.
+
+ghost use Rattle.std.specs.Prelude.{◌≡◌, true, false};
+ghost use Rattle.xa_base.specs.Trace.{Fault, Fault.InRestart, Happening.Crashed, Happening.Failed};
+ghost use Rattle.xa_base.specs.declared.step.Part.{Part as Crashing};
+ghost use Rattle.xa_log.specs.Content.{bumped};
+ghost use Rattle.xa_log.specs.Contract.{LeavesAlso};
+ghost use Rattle.xa_tm.specs.Book.{Book, Doubt, Doubt.Settled, after, book_after, failed_restarts_after};
+ghost use Rattle.xa_tm.specs.Leaving.{IsLeft};
+ghost use Rattle.xa_tm.specs.Tied.{IsTied, made};
+ghost use Rattle.xa_tm.specs.Laws.{AnswersAskTheRecord, BooksFollowHistories, BranchesAreCounted};
+ghost use Rattle.xa_tm.specs.Laws.{DecisionsAskTheRow, DonesAskTheRow, DropsAreOne, DroppedRowsAreThere};
+ghost use Rattle.xa_tm.specs.Laws.{ManagersRefusalsAreAll, OpenHasNoRow, OpenResolvesAreRead};
+ghost use Rattle.xa_tm.specs.Laws.{RecoveriesCloseNone, RefusalsAreRead, ResolvesAreRead, RightBooksFollow};
+ghost use Rattle.xa_tm.specs.Laws.{RowsAreCounted, SettlementsAreCounted, StartRowsAreApart, VotesAreCounted};
+ghost use Rattle.xa_tm.specs.Limits.{AnswersAreCodes, BooksAreSound, EventsAreHappenings, FoundIsDemanded};
+ghost use Rattle.xa_tm.specs.Limits.{FoundIsThere, LimitsAreKept, OldStartsAreRight, RecordsFit};
+ghost use Rattle.xa_tm.specs.Merged.{RefusalsAreMerged};
+ghost use Rattle.xa_tm.specs.Starting.{StartsAreHistories, StartsHaveContent};
+
+use xa_log::DecisionLog;
+
+/// The book changes with each happening as the history does:
+///
+/// - `any`: of any history, where the numbers of rows change as they should;
+/// - `right`: of a right history over a start whose rows are of different transactions.
+pub fn books_follow_histories()
+    ensures any { BooksFollowHistories }
+    ensures right { RightBooksFollow }
+{}
+
+/// The rows of a right history over a start whose rows are of different transactions are counted:
+///
+/// - `counted`: a Done takes one row away, and a restart tells the numbers of the rows that are there;
+/// - `there`: a row whose removal is in doubt is there;
+/// - `one`: and its removal takes one row away.
+pub fn rows_are_counted()
+    ensures counted { RowsAreCounted }
+    ensures there { DroppedRowsAreThere }
+    ensures one { DropsAreOne }
+{}
+
+/// The numbers of a transaction that the book keeps are those of a count over its branches: of all (`branches`), of
+/// those that have not voted for commit (`votes`) and, while it is begun in this incarnation, of those that are not
+/// settled (`settlements`).
+pub fn branches_are_counted()
+    ensures branches { BranchesAreCounted }
+    ensures votes { VotesAreCounted }
+    ensures settlements { SettlementsAreCounted }
+{}
+
+/// The book of a right history of at most 10,000 events is sound, as each call of the manager requires:
+///
+/// - `sound`: it is, where the book of the start is, where the start has no more rows and records than a number of the
+///   log can tell, and where no restart gave a greater incarnation than the log can hold;
+/// - `kept`: one right happening more keeps within these limits, if there was room for one and no restart in it gives a
+///   greater incarnation;
+/// - `events`: there happened as much as there are events;
+/// - `starts`: a start is right whose rows and records are of earlier incarnations.
+pub fn books_are_sound()
+    ensures sound { BooksAreSound }
+    ensures kept { LimitsAreKept }
+    ensures events { EventsAreHappenings }
+    ensures starts { OldStartsAreRight }
+{}
+
+/// The answer that waits first on a line of a right history can be heard:
+///
+/// - `codes`: if it answers a call on a branch, it is a code;
+/// - `fits`: if it makes a record, the branch fits the log.
+pub fn answers_can_be_heard()
+    ensures codes { AnswersAreCodes }
+    ensures fits { RecordsFit }
+{}
+
+/// What the manager asks its log for, and what is in doubt where the log fails, is what the history says: the row of a
+/// decision with its participants (`decide`), the row that a Done takes away (`done`), the record of the answer that
+/// waits first (`hear`).
+pub fn log_is_asked()
+    ensures decide { DecisionsAskTheRow }
+    ensures done { DonesAskTheRow }
+    ensures hear { AnswersAskTheRecord }
+{}
+
+/// The calls of a recovery that are read off the book are those of the history: of one that decides nothing
+/// (`resolve`), and of one that first rolls back what is open (`open`). None of them is an xa_close (`closes`).
+pub fn recoveries_are_read()
+    ensures resolve { ResolvesAreRead }
+    ensures open { OpenResolvesAreRead }
+    ensures closes { RecoveriesCloseNone }
+{}
+
+/// What a restart of the manager finds, where its book allows it (`IsFound`): the numbers of rows that the history says
+/// are then there (`there`), and so a reply that the history demands (`demanded`).
+pub fn restarts_find_what_is_there()
+    ensures there { FoundIsThere }
+    ensures demanded { FoundIsDemanded }
+{}
+
+/// The refusals that are read off the book are those that the history forces.
+pub fn refusals_are_read()
+    ensures read { RefusalsAreRead }
+    ensures alone { ManagersRefusalsAreAll }
+    ensures merged { RefusalsAreMerged }
+{}
+
+/// A transaction that is begun and not committed has no row in the log.
+pub fn open_has_no_row()
+    ensures { OpenHasNoRow }
+{}
+
+/// A history that starts with what a log has (`content`: with its rows and records, as a start lists them) has the book
+/// of a start over the log (`book`), and rows of different transactions (`apart`).
+pub fn starts_are_histories()
+    ensures book { StartsAreHistories }
+    ensures content { StartsHaveContent }
+    ensures apart { StartRowsAreApart }
+{}
+
+/// Each content that a crash of the log's store may leave has what the book says, with or without the change in doubt,
+/// and an incarnation not lower:
+///
+/// - `up`: while the manager is up, of a log in order that is tied to the book;
+/// - `fault`: after a failure of the log in a call that asked it for one change;
+/// - `restart`: after a failed restart, if it was so before;
+/// - `crash`: after the crash of a part, if it was so before.
+pub fn crashes_leave_the_book<L: DecisionLog>()
+    ensures up { (k : Book) (log : L) → k.up ≡ true → L.is_in_order log → IsTied k (L.content log) →
+        IsLeft k (L.may_leave log) }
+    ensures fault { (k : Book) (asked : Doubt) (f : Fault) (old new : L) → k.up ≡ true →
+        failed_restarts_after (Failed f) k.failed_restarts ≡ k.failed_restarts →
+        L.is_in_order old → IsTied k (L.content old) →
+        LeavesAlso (made asked) (L.content old) (L.may_leave old) (L.may_leave new) →
+        IsLeft (book_after k asked (Failed f)) (L.may_leave new) }
+    ensures restart { (k : Book) (old new : L) → k.up ≡ false → IsTied k (L.content old) → IsLeft k (L.may_leave old) →
+        LeavesAlso bumped (L.content old) (L.may_leave old) (L.may_leave new) →
+        IsLeft (book_after k Settled (Failed InRestart)) (L.may_leave new) }
+    ensures crash { (k : Book) (part : Crashing) (log : L) → IsLeft k (L.may_leave log) →
+        IsLeft (after k (Crashed part)) (L.may_leave log) }
+{}

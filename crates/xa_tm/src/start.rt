@@ -1,0 +1,73 @@
+//! A manager starts over a log.
+
+ghost use Rattle.std.specs.Prelude.{◌≡◌, ◌+◌, IsSomeAnd, Err, IfOk};
+ghost use Rattle.xa_log.specs.Content.{bumped};
+ghost use Rattle.xa_log.specs.Contract.{Makes};
+ghost use Rattle.xa_tm.specs.Held.{IsSound};
+ghost use Rattle.xa_tm.specs.Kept.{book_in, log_in};
+ghost use Rattle.xa_tm.specs.Tied.{IsTied};
+ghost use Rattle.xa_tm.specs.Starting.{IsOld, started};
+ghost use Rattle.xa_base.specs.Distinct.{ApartRows};
+ghost use Rattle.xa_base.specs.Trace.{Origin, Trace.From};
+ghost use Rattle.xa_tm.specs.Begins.{BeginsWith, rows_begun};
+ghost use Rattle.xa_tm.specs.Book.{book_of};
+ghost use Rattle.xa_tm.specs.Limits.{HasRoomForRun};
+
+use crate::ascending::can_start;
+use crate::ledger::Ledger;
+use crate::manager::Manager;
+use std::alloc::Global;
+use std::snapshot::Snapshot;
+use thiserror::Error;
+use xa_log::DecisionLog;
+
+/// Why a manager didn't start.
+#[derive(Clone, Copy, Debug, PartialEq, Eq, Error)]
+pub enum StartFault {
+    /// The log failed, or has a row that no earlier incarnation wrote. The incarnation may have been raised.
+    #[error("the decision log failed, or has a row of no earlier incarnation")]
+    Log,
+    /// A request for memory was refused. The log is as it was.
+    #[error("out of memory")]
+    Memory,
+}
+
+impl<L: DecisionLog + Drop> Manager<L> {
+    /// A manager over a log, up in the next incarnation, that knows the log's rows and records and nothing else.
+    ///
+    /// The rows are read, and all room for them is made, before the incarnation is raised.
+    pub fn new(alloc: Global, threads: u32, rms: u32, mut log: L) -> Result<Manager<L>, StartFault>
+        ensures book { L.is_in_order log → IfOk result (λ m. L.is_honest (log_in m) →
+            IsSomeAnd (L.content (log_in m)) (λ c. book_in m ≡ started threads rms c)) }
+        ensures raised { L.is_in_order log → IfOk result (λ m. L.is_honest (log_in m) →
+            Makes bumped (L.content log) (L.content (log_in m))) }
+        ensures tied { L.is_in_order log → IfOk result (λ m. L.is_honest (log_in m) → IsTied (book_in m) (L.content (log_in m))) }
+        ensures sound { IfOk result (λ m. IsSound (book_in m)) }
+        ensures old { IfOk result (λ m. IsOld (book_in m)) }
+        ensures start { IfOk result (λ m. (o : Origin) → BeginsWith threads rms m o → book_in m ≡ book_of (From o)) }
+        ensures apart { IfOk result (λ m. ApartRows (rows_begun m)) }
+        ensures room { IfOk result (λ m. HasRoomForRun (book_in m)) }
+        ensures order { L.is_in_order log → IfOk result (λ m. L.is_in_order (log_in m)) }
+        ensures honest { IfOk result (λ m. L.is_honest (log_in m) → L.is_honest log) }
+        ensures faults { IfOk result (λ m. L.fault_count (log_in m) ≡ L.fault_count log) }
+    {
+        match log.rows() {
+            Err(_) => Err(StartFault::Log),
+            Ok(rows) => match Ledger::load(alloc, threads, rms, &rows) {
+                Err(_) => Err(StartFault::Memory),
+                Ok(mut ledger) => match log.bump() {
+                    Err(_) => Err(StartFault::Log),
+                    Ok(incarnation) => {
+                        if can_start(&rows, incarnation) {
+                            ledger.incarnation = incarnation;
+                            let began = Snapshot::of(&rows);
+                            Ok(Manager { ledger, log, began })
+                        } else {
+                            Err(StartFault::Log)
+                        }
+                    }
+                },
+            },
+        }
+    }
+}
