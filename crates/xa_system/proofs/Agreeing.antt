@@ -1,0 +1,12 @@
+-- A sound system started rightly.
+use Rattle.std.proofs.Common.{subst}
+use Rattle.xa_base.specs.History.{history}
+use Rattle.xa_base.specs.Right.{RightOrigin}
+use Rattle.xa_base.proofs.RecoveredStart.{origin_right}
+use Rattle.xa_system.specs.Parts.{Sees}
+use Rattle.xa_system.specs.Seen.{IsSound, start_of}
+use Rattle.xa_system.specs.declared.system.System.TheInside.{Inside}
+use Rattle.xa_system.proofs.Seeing.{origin_is}
+
+pub start_right : {R L : Type 0} (see : Sees R L) (a : Inside R L) → IsSound see a → RightOrigin (start_of see a.parts)
+start_right see a sound = subst RightOrigin (origin_is (start_of see a.parts) a.events.items) (origin_right (history (start_of see a.parts) a.events.items) sound.stands.kept.right)

@@ -1,0 +1,182 @@
+-- A new system stands where its history begins.
+use Rattle.std.proofs.Common.{◌≡◌, ◌≤◌, ◌<◌, ◌+◌, ◌⊎◌, inl, inr, ℕ, true, false, List, [], ◌∷◌, map, length, refl, sym, ap, subst, ◌∙◌, arith, rules, Global, Vec}
+use Rattle.std.specs.Prelude.{Option, Some, None, Contains, slice_get, vec_len}
+use Rattle.std.specs.Option.{option_map, option_map_or}
+use Rattle.std.specs.Ordering.{int_eq}
+use Rattle.std.specs.Vec.{vec_capacity}
+use Rattle.std.proofs.lemmas.Bool.{cases_Bool, cases_lt, true≢false}
+use Rattle.std.proofs.lemmas.List.{length-map}
+use Rattle.std.proofs.lemmas.Option.{slice_get-map, slice_get_cases, slice_get_within}
+use Rattle.xa_tm.proofs.Limits.{old_start_is_right}
+use Rattle.xa_tm.specs.Starting.{IsOld}
+use Rattle.xa_tm.specs.Limits.{HasRoomForRun}
+use Rattle.xa_tm.specs.Book.{book_of}
+use Rattle.xa_tm.specs.Held as books
+use Rattle.xa_base.specs.Branch.{branch_of_xid, own_format, xid_of_branch}
+use Rattle.xa_base.specs.HeldBranch.{HeldBranch, new_branch}
+use Rattle.xa_base.specs.History.{history}
+use Rattle.xa_base.specs.InDoubt.{xid_of_name}
+use Rattle.xa_base.specs.Recover.{IsInDoubtList}
+use Rattle.xa_base.specs.Right.{RightOrigin}
+use Rattle.xa_base.specs.Scan.{Scan, Scan.Behind, Scan.NotOpen}
+use Rattle.xa_base.specs.Standing.{fate_of, is_in_doubt}
+use Rattle.xa_base.specs.Trace.{Name.Foreign, Origin, Trace.From, line}
+use Rattle.xa_base.specs.Xid.{Xid}
+use Rattle.xa_base.specs.declared.reply.Event.{Event}
+use Rattle.xa_base.specs.declared.state.Fate.TheVariants as Fates
+use Rattle.xa_base.specs.declared.state.Standing.{Standing}
+use Rattle.xa_base.specs.declared.state.Standing.TheVariants.{Unstarted, Active, Idle, Prepared, RollbackOnly, Completed, Committed, RolledBack, Lost, ReadOnly, Forgotten}
+use Rattle.xa_line.specs.Grid.{Grid, line_at, new_grid}
+use Rattle.xa_line.proofs.GridLaws.{line_at-new_grid, whole-new_grid}
+use Rattle.xa_tm.specs.declared.manager.Manager.{Manager}
+use Rattle.xa_tm.specs.Kept.{book_in}
+use Rattle.xa_system.specs.Lines.{LineStands}
+use Rattle.xa_system.specs.Parts.{Sees, SiteStands, Stands, event_limit, origin_of}
+use Rattle.xa_system.specs.Seen.{AreClear, IsClear, IsStarted, IsSound, IsUnclear, new_site, start_of}
+use Rattle.xa_system.specs.Sites.{BeginsClear, Looks, RmStands, scan_by}
+use Rattle.xa_system.specs.declared.parts.Parts.{Parts}
+use Rattle.xa_system.specs.declared.site.Site.{Site}
+
+-- ** branches that never were
+
+never : (f : Standing) → fate_of f ≡ Fates.Unstarted → f ≡ Unstarted
+never Unstarted e = refl
+never Active e = absurd (cc)
+never Idle e = absurd (cc)
+never Prepared e = absurd (cc)
+never RollbackOnly e = absurd (cc)
+never (Completed how) e = absurd (cc)
+never Committed e = absurd (cc)
+never RolledBack e = absurd (cc)
+never Lost e = absurd (cc)
+never ReadOnly e = absurd (cc)
+never (Forgotten how) e = absurd (cc)
+
+own_format_of : (x : Xid) → int_eq x.format own_format ≡ true → x.format ≡ own_format
+own_format_of x e = search rules
+
+scan_back : (s : Scan Xid) → s ≡ scan_by xid_of_name (scan_by (λ x. Foreign x) s)
+scan_back NotOpen = refl
+scan_back (Behind None) = refl
+scan_back (Behind (Some x)) = refl
+
+-- ** the start
+
+mapped_site : {R : Type 0} (rms : List R) (r : ℕ) (site : Site R) → slice_get (map new_site rms) r ≡ Some site → (rm : R) × (slice_get rms r ≡ Some rm) × (new_site rm ≡ site)
+mapped_site rms r site e = from_option (slice_get rms r) refl (sym (slice_get-map new_site rms r) ∙ e)
+  where
+    from_option : (o : Option _) → slice_get rms r ≡ o → option_map new_site o ≡ Some site → (rm : _) × (slice_get rms r ≡ Some rm) × (new_site rm ≡ site)
+    from_option None at is = absurd cc
+    from_option (Some rm) at is = (rm, at, cc)
+
+pub back_again : {R : Type 0} (rms : List R) → map (λ (s : Site R). s.rm) (map new_site rms) ≡ rms
+back_again [] = refl
+back_again (x ∷ xs) = ap (λ ys. x ∷ ys) (back_again xs)
+
+module _ {R L : Type 0} (see : Sees R L) (threads : ℕ) (rms : List R) (manager : Manager L) (clear : AreClear see.look rms) (new : IsStarted threads (length rms) manager) where
+  -- the manager's book is that of the start
+  begun : book_in manager ≡ book_of (From (origin_of see threads rms manager))
+  begun = new.book (origin_of see threads rms manager) (record { threads_are = refl; rms_are = refl; incarnation = refl; rows = refl; records = refl })
+
+  held_there : (r : ℕ) (rm : R) → slice_get rms r ≡ Some rm → (origin_of see threads rms manager).held r ≡ see.look.held_of rm
+  held_there r rm at = ap (λ o. option_map_or see.look.held_of o (λ x. new_branch)) at
+
+  none_started : (r : ℕ) (x : Xid) → x.format ≡ own_format → ((origin_of see threads rms manager).held r x).standing ≡ Unstarted
+  none_started r x e = from_option (slice_get rms r) refl
+    where
+      from_option : (o : Option R) → slice_get rms r ≡ o → (option_map_or see.look.held_of o (λ x. new_branch) x).standing ≡ Unstarted
+      from_option None at = refl
+      from_option (Some rm) at = never _ ((clear r rm at).no_branch.unstarted x e)
+
+  pub starts_clear : BeginsClear (origin_of see threads rms manager)
+  starts_clear = record {
+    unstarted = λ r x e. ap (λ o. (option_map_or see.look.held_of o (λ x. new_branch) x).standing) refl ∙ none_started r x e;
+    listed = λ r lt.
+        elim ((slice_get_cases rms r).1) [
+          | inl w ↦ (
+              let at = w.2 in
+              subst (λ o. IsInDoubtList (option_map_or see.look.held_of o (λ x. new_branch)) (option_map_or see.look.in_doubt_of o [])) (sym at) (clear r w.0 at).listed)
+          | inr w ↦ absurd (omega (arith, w.0, lt))
+        ];
+  }
+
+  foreign_listed : (r : ℕ) (x : Xid) → Contains ((origin_of see threads rms manager).in_doubt r) x → branch_of_xid x ≡ None
+  foreign_listed r x listed = by_format (cases_Bool (int_eq x.format own_format)) (slice_get rms r) refl
+    where
+      by_format : (int_eq x.format own_format ≡ true) ⊎ (int_eq x.format own_format ≡ false) → (o : Option R) → slice_get rms r ≡ o → branch_of_xid x ≡ None
+      by_format (inr other) o at = rw other refl
+      by_format (inl own) None at =
+          let none : Contains {X = Xid} [] x = subst (λ o. Contains (option_map_or see.look.in_doubt_of o []) x) at listed in
+          absurd (omega (arith, none.1))
+      by_format (inl own) (Some rm) at =
+          let there : Contains (see.look.in_doubt_of rm) x = subst (λ o. Contains (option_map_or see.look.in_doubt_of o []) x) at listed in
+          let doubt = ((clear r rm at).listed.listed x).0 there in
+          let not_started = never _ ((clear r rm at).no_branch.unstarted x (own_format_of x own)) in
+          absurd (true≢false (sym doubt ∙ ap is_in_doubt not_started))
+
+  pub starts_right : RightOrigin (origin_of see threads rms manager)
+  starts_right = old_start_is_right (origin_of see threads rms manager) (subst IsOld begun new.old) foreign_listed
+
+  rm_starts : (r : ℕ) (rm : R) → slice_get rms r ≡ Some rm → RmStands see.look (From (origin_of see threads rms manager)) r rm
+  rm_starts r rm at = record {
+    branches = record {
+      own = λ b h here. record {
+        standing = never _ ((clear r rm at).no_branch.unstarted (xid_of_branch b) refl);
+        vote = ap (λ (f : Xid → HeldBranch). (f (xid_of_branch b)).vote) (sym (ap (origin_of see threads rms manager).held here ∙ held_there r rm at));
+        retries = ap (λ (f : Xid → HeldBranch). (f (xid_of_branch b)).retries) (sym (ap (origin_of see threads rms manager).held here ∙ held_there r rm at));
+        starter = inl (let u = never _ ((clear r rm at).no_branch.unstarted (xid_of_branch b) refl) in rw u refl);
+      };
+      others = λ x other. ap (λ (f : Xid → HeldBranch). is_in_doubt (f x).standing) (sym (held_there r rm at));
+    };
+    scan = scan_back (see.look.scan_of rm 0) ∙ ap (λ o. scan_by xid_of_name (option_map_or (λ q. scan_by (λ x. Foreign x) (see.look.scan_of q 0)) o NotOpen)) (sym at);
+  }
+
+  -- a system of new parts with no events is sound
+  pub new_sound : (parts : Parts R L) (events : Vec Event Global) → 0 < threads → parts.start.value.items ≡ rms → parts.began.value ≡ manager → parts.manager ≡ manager → parts.sites.items ≡ map new_site rms
+      → parts.lines ≡ new_grid threads (length rms) → events.items ≡ [] → vec_len events ≡ 0 → vec_capacity events ≡ event_limit → IsSound see (record { parts = parts; events = events })
+  new_sound parts events some same_start same_began same_manager sites lines none len room = record {
+    few = omega (arith, len);
+    room = omega (arith, room);
+    stands = subst (λ o. Stands see o parts) (sym (ap (λ es. history (start_of see parts) es) none ∙ ap From origin_same)) (record {
+      origin = sym origin_same;
+      some_thread = some;
+      kept = record { right = starts_right; numbers = tt; calls = λ l. tt; answers = λ l. tt; pages = λ r. tt };
+      clear = starts_clear;
+      apart = new.apart;
+      began = subst books.IsSound begun new.sound;
+      room = subst HasRoomForRun begun new.room;
+      fits = new.sound.fits;
+      count = parts.sites.ok.0 ∙ ap length sites ∙ length-map rms new_site;
+      sites = λ r site at.
+          let from = mapped_site rms r site (sym (ap (λ xs. slice_get xs r) sites) ∙ at) in
+          subst (SiteStands see (From (origin_of see threads rms manager)) r) from.2 (record { is_up = refl; rm = rm_starts r from.0 from.1 });
+      rms = ap (λ (g : Grid). g.rms) lines;
+      whole = rw lines (whole-new_grid threads (length rms));
+      lines = λ t r has. subst (LineStands (From (origin_of see threads rms manager)) (line t r)) (sym (ap (λ g. line_at g t r) lines ∙ line_at-new_grid threads (length rms) t r)) (record { all_issued = refl; all_answered = refl; all_heard = refl; each_answered = refl });
+      book = ap book_in same_manager ∙ begun;
+    });
+    demanded = rw none tt;
+  }
+    where
+      origin_same : start_of see parts ≡ origin_of see threads rms manager
+      origin_same = λ i. origin_of see (ap (λ (g : Grid). g.threads) lines i) (same_start i) (same_began i)
+
+-- ** the look at the resource managers
+
+module _ {R : Type 0} (look : Looks R) where
+  pub clear_more : (rms : List R) (n : ℕ) (rm : R) → ((r : ℕ) (x : R) → slice_get rms r ≡ Some x → r < n → IsClear look x) → slice_get rms n ≡ Some rm → IsClear look rm → (r : ℕ) (x : R) → slice_get rms r ≡ Some x → r < n + 1 → IsClear look x
+  clear_more rms n rm below at is r x there lt = elim (cases_lt r n) [
+    | inl less ↦ below r x there less
+    | inr more ↦ (
+        let same : r ≡ n = omega arith in
+        let one : Some rm ≡ Some x = sym at ∙ ap (slice_get rms) (sym same) ∙ there in
+        let is_same : rm ≡ x = cc in
+        subst (IsClear look) is_same is)
+  ]
+
+  pub clear_all : (rms : List R) (n : ℕ) → length rms ≤ n → ((r : ℕ) (x : R) → slice_get rms r ≡ Some x → r < n → IsClear look x) → AreClear look rms
+  clear_all rms n past below r rm at = below r rm at (let within = slice_get_within rms r rm at in omega (arith, within, past))
+
+  -- what is clear isn't unclear
+  pub not_both : (rms : List R) → AreClear look rms → IsUnclear look rms → ⊥
+  not_both rms clear un = un.holds.started ((clear un.place un.rm un.there).no_branch.unstarted un.holds.xid un.holds.format)

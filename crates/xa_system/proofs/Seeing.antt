@@ -1,0 +1,100 @@
+-- What is seen of a sound system.
+use Rattle.std.proofs.Common.{◌≡◌, ◌<◌, ◌+◌, ℕ, List, [], ◌∷◌, ◌++◌, map, length, refl, sym, ap, subst, ◌∙◌, arith, Global, Vec, Option, Some, None}
+use Rattle.std.specs.Prelude.{vec_len, slice_get}
+use Rattle.std.specs.Vec.{vec_capacity}
+use Rattle.std.specs.Option.{option_map}
+use Rattle.std.proofs.lemmas.List.{length-map}
+use Rattle.std.proofs.lemmas.Option.{slice_get-map}
+use Rattle.xa_tm.proofs.Limits.{events_happen}
+use Rattle.xa_base.specs.Demanded.{Demanded, with_steps}
+use Rattle.xa_base.specs.Branch.{IsBranch, xid_of_branch}
+use Rattle.xa_base.specs.Facts.{fate, origin}
+use Rattle.xa_base.specs.Standing.{fate_of}
+use Rattle.xa_base.specs.Xid.{Xid}
+use Rattle.xa_base.specs.declared.branch.Branch.{Branch}
+use Rattle.xa_base.specs.History.{AreDemanded, history, read, reply_of, step_of}
+use Rattle.xa_base.specs.Steps as known
+use Rattle.xa_base.specs.Steps.{happened}
+use Rattle.xa_base.specs.Trace.{Origin, Trace, Trace.From, Trace.Then}
+use Rattle.xa_base.specs.declared.reply.Event.{Event}
+use Rattle.xa_base.specs.declared.reply.Reply.{Reply}
+use Rattle.xa_base.specs.declared.step.Step.{Step}
+use Rattle.xa_base.proofs.Pushes.{demanded_push, history_push}
+use Rattle.xa_system.specs.Parts.{GoesOn, Sees, Stands, StandsSomewhere, event_limit}
+use Rattle.xa_system.specs.Seen.{HoldsItsTrace, IsSound, seen, start_of}
+use Rattle.xa_system.specs.Sites.{RmStands}
+use Rattle.xa_system.specs.declared.parts.Parts.{Parts}
+use Rattle.xa_system.specs.declared.site.Site.{Site}
+use Rattle.xa_system.specs.declared.system.System.TheInside.{Inside}
+use Rattle.xa_tm.specs.Limits.{happenings}
+
+-- ** histories
+
+origin_kept : (tr : Trace) (xs : List (known.Step × known.Reply)) → origin (with_steps tr xs) ≡ origin tr
+origin_kept tr [] = refl
+origin_kept tr (x ∷ xs) = origin_kept (Then tr (happened x.0 x.1)) xs
+
+pub origin_is : (o : Origin) (events : List Event) → origin (history o events) ≡ o
+origin_is o events = origin_kept (From o) (map read events)
+
+-- an element of a mapped list comes from one of the list
+mapped_at : {A B : Type 0} (f : A → B) (xs : List A) (k : ℕ) (y : B) → slice_get (map f xs) k ≡ Some y → (x : A) × (slice_get xs k ≡ Some x) × (f x ≡ y)
+mapped_at f xs k y e = from_option (slice_get xs k) refl (sym (slice_get-map f xs k) ∙ e)
+  where
+    from_option : (o : Option _) → slice_get xs k ≡ o → option_map f o ≡ Some y → (x : _) × (slice_get xs k ≡ Some x) × (f x ≡ y)
+    from_option None at is = absurd cc
+    from_option (Some x) at is = (x, at, cc)
+
+module _ {R L : Type 0} (see : Sees R L) where
+  pub holds : (a : Inside R L) → IsSound see a → HoldsItsTrace see (seen a)
+  holds a sound = record {
+    demanded = sound.demanded;
+    rms = λ r rm at.
+        let from = mapped_at (λ (site : Site R). site.rm) a.parts.sites.items r rm at in
+        subst (RmStands see.look (history (start_of see a.parts) a.events.items) r) from.2 (sound.stands.sites r from.0 from.1).rm;
+    lines = sound.stands.lines;
+  }
+
+  -- the parts stand, and there is room
+  pub somewhere : (a : Inside R L) → IsSound see a → vec_len a.events < event_limit → StandsSomewhere see a.parts
+  somewhere a sound few = (history (start_of see a.parts) a.events.items, sound.stands, subst (λ n. n < event_limit) (a.events.ok.0 ∙ sym (events_happen (start_of see a.parts) a.events.items)) few)
+
+  -- a system began where it began
+  pub start_stays : (old new : Parts R L) (tr : Trace) (step : Step Xid) (reply : Reply Xid) → Stands see tr old → happenings tr < event_limit → GoesOn see step reply old new → start_of see new ≡ start_of see old
+  start_stays old new tr step reply stands few goes = sym (goes tr stands few).stands.origin ∙ stands.origin
+
+  -- one event more
+  pub sound_then : (old : Inside R L) (new : Parts R L) (events : Vec Event Global) (step : Step Xid) (reply copy : Reply Xid) → IsSound see old → GoesOn see step reply old.parts new → copy ≡ reply
+      → vec_len old.events < event_limit → vec_len events ≡ vec_len old.events + 1 → events.items ≡ old.events.items ++ record { step = step; reply = copy } ∷ [] → vec_capacity events ≡ vec_capacity old.events
+      → IsSound see (record { parts = new; events = events })
+  unfolding somewhere
+  sound_then old new events step reply copy sound goes same few len items room =
+      let event : Event = record { step = step; reply = reply } in
+      let o = start_of see old.parts in
+      let here = somewhere old sound few in
+      let after = goes here.0 here.1 here.2 in
+      let start = start_stays old.parts new here.0 step reply here.1 here.2 goes in
+      let all = items ∙ ap (λ (r : Reply Xid). old.events.items ++ record { step = step; reply = r } ∷ []) same in
+      record {
+        few = omega (arith, few, len);
+        room = omega (arith, sound.room, room);
+        stands = subst (λ p. Stands see p new) (sym (ap (λ s. history s events.items) start ∙ ap (history o) all ∙ history_push o old.events.items event)) after.stands;
+        demanded = subst (λ s. AreDemanded s events.items) (sym start) (subst (AreDemanded o) (sym all) (demanded_push o old.events.items event sound.demanded after.demanded));
+      }
+
+  -- what the step was answered
+  pub was_demanded : (old : Inside R L) (new : Parts R L) (step : Step Xid) (reply : Reply Xid) → IsSound see old → GoesOn see step reply old.parts new → vec_len old.events < event_limit
+      → Demanded (history (start_of see old.parts) old.events.items) (step_of step) (reply_of reply)
+  unfolding somewhere
+  was_demanded old new step reply sound goes few = let here = somewhere old sound few in (goes here.0 here.1 here.2).demanded
+
+  pub start_kept : (old : Inside R L) (new : Parts R L) (step : Step Xid) (reply : Reply Xid) → IsSound see old → GoesOn see step reply old.parts new → vec_len old.events < event_limit → start_of see new ≡ start_of see old.parts
+  start_kept old new step reply sound goes few = let here = somewhere old sound few in start_stays old.parts new here.0 step reply here.1 here.2 goes
+
+  -- what became of a branch, as its resource manager says
+  pub fate_is : (a : Inside R L) → IsSound see a → (x : Xid) (found b : Branch) (site : Site R) → Some found ≡ Some b → IsBranch b → x ≡ xid_of_branch b → slice_get a.parts.sites.items found.rm ≡ Some site
+      → fate_of (see.look.held_of site.rm x).standing ≡ fate (history (start_of see a.parts) a.events.items) b
+  fate_is a sound x found b site same fits e at =
+      let is : found ≡ b = cc in
+      ap (λ y. fate_of (see.look.held_of site.rm y).standing) e
+      ∙ ap fate_of ((sound.stands.sites found.rm site at).rm.branches.own b fits (ap (λ (d : Branch). d.rm) (sym is))).standing

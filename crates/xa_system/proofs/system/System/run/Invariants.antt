@@ -1,0 +1,13 @@
+use Rattle.std.proofs.Common.{◌≡◌, ◌≤◌, ◌+◌, length, take}
+use Rattle.xa_system.specs.Parts.{event_limit, sees}
+use Rattle.xa_system.specs.Seen.{AddsSteps, origin_in}
+use Rattle.xa_system.proofs.system.System.run.Given as goal
+
+-- the steps so far are done, and the rest has room
+abbrev pub invariant-loop-step : goal.invariant-loop-step
+invariant-loop-step g l = record {
+  adds : AddsSteps (take l.step-index l.steps) l.fn.self.events l.self.events;
+  room : length l.self.events + length l.steps ≤ event_limit + l.step-index;
+  start : origin_in (sees g.R.ResourceManager.held_of g.R.ResourceManager.scan_of g.R.ResourceManager.in_doubt_of) l.self
+      ≡ origin_in (sees g.R.ResourceManager.held_of g.R.ResourceManager.scan_of g.R.ResourceManager.in_doubt_of) l.fn.self;
+}

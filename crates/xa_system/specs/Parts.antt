@@ -1,0 +1,147 @@
+-- How the parts that a system holds stand to its history.
+use Rattle.std.specs.Prelude.{◌≡◌, ◌<◌, ◌≤◌, ◌+◌, ℕ, Bool, not, nat_lt, if◌then◌else◌, List, [], length, Option, Some, None, slice_get, vec_len}
+use Rattle.std.specs.Option.{option_map_or}
+use Rattle.xa_base.specs.Demanded.{Demanded}
+use Rattle.xa_base.specs.Distinct.{ApartRows}
+use Rattle.xa_base.specs.Facts as facts
+use Rattle.xa_base.specs.HeldBranch.{HeldBranch, new_branch}
+use Rattle.xa_base.specs.History.{reply_of, step_of}
+use Rattle.xa_base.specs.Progress.{rm_up, waiting}
+use Rattle.xa_base.specs.Rules.{has_rm, must_refuse}
+use Rattle.xa_base.specs.Scan.{Scan, Scan.NotOpen}
+use Rattle.xa_base.specs.Steps.{happened}
+use Rattle.xa_base.specs.Trace.{Name, Name.Foreign, Origin, Recorded, Row, Trace, Trace.From, Trace.Then, line}
+use Rattle.xa_base.specs.Xid.{Xid}
+use Rattle.xa_base.specs.declared.refusal.Refusal.{Refusal}
+use Rattle.xa_base.specs.declared.refusal.Refusal.TheVariants as Refusals
+use Rattle.xa_base.specs.declared.reply.Reply.{Reply}
+use Rattle.xa_base.specs.declared.step.Step.{Step}
+use Rattle.xa_line.specs.Grid.{HasLine, IsWhole, line_at}
+use Rattle.xa_log.specs.Content.{last_number}
+use Rattle.xa_system.specs.Lines.{LineStands}
+use Rattle.xa_system.specs.Sites.{BeginsClear, Looks, RmStands, looks, scan_by}
+use Rattle.xa_system.specs.Trace.{IsKept}
+use Rattle.xa_system.specs.declared.parts.Parts.{Parts}
+use Rattle.xa_system.specs.declared.site.Site.{Site}
+use Rattle.xa_tm.specs.Begins.{records_begun, rows_begun}
+use Rattle.xa_tm.specs.Book.{book_of}
+use Rattle.xa_tm.specs.Held.{IsSound}
+use Rattle.xa_tm.specs.Kept.{book_in}
+use Rattle.xa_tm.specs.Limits.{HasRoomForRun, happenings}
+use Rattle.xa_tm.specs.declared.manager.Manager.{Manager}
+
+-- the most events of a run
+abbrev pub event_limit : ℕ
+event_limit = 10000
+
+-- what contracts see of the resource managers of a system whose log is one of these
+pub record Sees (R L : Type 0) : Type 0 where
+  pub look : Looks R
+
+abbrev pub sees : {R L : Type 0} → (R → Xid → HeldBranch) → (R → ℕ → Scan Xid) → (R → List Xid) → Sees R L
+sees held_of scan_of in_doubt_of = record { look = looks held_of scan_of in_doubt_of }
+
+-- ** the start
+
+-- what the resource managers hold, the first being number 0, and none beyond them
+abbrev pub held_in : {R : Type 0} → Looks R → List R → (rm : ℕ) → Xid → HeldBranch
+held_in look rms r = option_map_or look.held_of (slice_get rms r) (λ x. new_branch)
+
+abbrev pub doubt_in : {R : Type 0} → Looks R → List R → (rm : ℕ) → List Xid
+doubt_in look rms r = option_map_or look.in_doubt_of (slice_get rms r) []
+
+-- where the first thread's scan stands: behind an identifier, whatever that names
+abbrev pub scan_in : {R : Type 0} → Looks R → List R → (rm : ℕ) → Scan Name
+scan_in look rms r = option_map_or (λ rm. scan_by (λ x. Foreign x) (look.scan_of rm 0)) (slice_get rms r) NotOpen
+
+-- where a system starts whose manager begins so
+abbrev pub origin_from : {R L : Type 0} → Sees R L → (threads : ℕ) → List R
+    → (incarnation : ℕ) → List Row → List Recorded → Origin
+origin_from see threads rms incarnation rows records = record {
+  threads = threads;
+  rms = length rms;
+  incarnation = incarnation;
+  rows = rows;
+  heuristic_rows = records;
+  held = held_in see.look rms;
+  in_doubt = doubt_in see.look rms;
+  scans = scan_in see.look rms;
+}
+
+-- where a system of these parts starts
+abbrev pub origin_of : {R L : Type 0} → Sees R L → (threads : ℕ) → List R → Manager L → Origin
+origin_of see threads rms manager =
+    origin_from see threads rms (book_in manager).incarnation (rows_begun manager) (records_begun manager)
+
+-- ** recoveries
+
+-- why no recovery may begin
+abbrev pub recovery_why : (there up rm_up shut closed full : Bool) → Option Refusal
+recovery_why there up rm_up shut closed full =
+    if there then (if not up then Some Refusals.ManagerDown
+    else (if not rm_up then Some Refusals.RmDown
+    else (if shut then Some Refusals.NotOpen
+    else (if closed then Some Refusals.Closed
+    else (if full then Some Refusals.Full else None)))))
+    else Some Refusals.Limit
+
+-- ** where the parts stand
+
+module _ {R L : Type 0} (see : Sees R L) where
+  -- a resource manager, and whether it is up
+  pub record SiteStands (tr : Trace) (r : ℕ) (site : Site R) : Type 0 where
+    pub is_up : site.is_up ≡ rm_up tr r
+    pub rm : RmStands see.look tr r site.rm
+
+  -- the parts are where the history leaves them
+  pub record Stands (tr : Trace) (parts : Parts R L) : Type 0 where
+    pub origin : facts.origin tr ≡ origin_of see parts.lines.threads parts.start.value.items parts.began.value
+    pub some_thread : 0 < (facts.origin tr).threads
+    pub kept : IsKept tr
+    pub clear : BeginsClear (facts.origin tr)
+    pub apart : ApartRows (facts.origin tr).rows
+    pub began : IsSound (book_of (From (facts.origin tr)))
+    pub room : HasRoomForRun (book_of (From (facts.origin tr)))
+    pub fits : facts.incarnation tr ≤ last_number
+    pub count : vec_len parts.sites ≡ (facts.origin tr).rms
+    pub sites : (r : ℕ) (site : Site R) → slice_get parts.sites.items r ≡ Some site → SiteStands tr r site
+    pub rms : parts.lines.rms ≡ (facts.origin tr).rms
+    pub whole : IsWhole parts.lines
+    pub lines : (t r : ℕ) → HasLine parts.lines t r → LineStands tr (line t r) (line_at parts.lines t r)
+    pub book : book_in parts.manager ≡ book_of tr
+
+  -- ** steps
+
+  -- the step was answered as the history demands, and the parts then stand where one happening more leaves them
+  pub record OneMore (step : Step Xid) (reply : Reply Xid) (tr : Trace) (new : Parts R L) : Type 0 where
+    pub demanded : Demanded tr (step_of step) (reply_of reply)
+    pub stands : Stands (Then tr (happened (step_of step) (reply_of reply))) new
+
+  -- so it is wherever the parts stood
+  abbrev pub GoesOn : Step Xid → Reply Xid → Parts R L → Parts R L → Type 0
+  GoesOn step reply old new = (tr : Trace) → Stands tr old → happenings tr < event_limit → OneMore step reply tr new
+
+  -- so it is wherever the parts stood and the step is not refused
+  abbrev pub Leads : Step Xid → Reply Xid → Parts R L → Parts R L → Type 0
+  Leads step reply old new = (tr : Trace) → Stands tr old → happenings tr < event_limit
+      → must_refuse tr (step_of step) ≡ None → OneMore step reply tr new
+
+  -- wherever the parts stand, this is the refusal of the step, or none
+  abbrev pub Judges : Step Xid → Parts R L → Option Refusal → Type 0
+  Judges step parts refusal = (tr : Trace) → Stands tr parts → happenings tr < event_limit
+      → refusal ≡ must_refuse tr (step_of step)
+
+  -- the parts stand somewhere, and there is room for an event
+  abbrev pub StandsSomewhere : Parts R L → Type 0
+  StandsSomewhere parts = (tr : Trace) × Stands tr parts × (happenings tr < event_limit)
+
+  -- the parts stand somewhere where the step is not refused
+  abbrev pub IsAllowed : Step Xid → Parts R L → Type 0
+  IsAllowed step parts = (tr : Trace) × Stands tr parts × (happenings tr < event_limit)
+      × (must_refuse tr (step_of step) ≡ None)
+
+  -- wherever the parts stand, this is why no recovery of so many calls may begin at a resource manager
+  abbrev pub HindersRecovery : (rm calls : ℕ) → Parts R L → Option Refusal → Type 0
+  HindersRecovery r n parts refusal = (tr : Trace) → Stands tr parts
+      → refusal ≡ recovery_why (has_rm tr r) (facts.up tr) (rm_up tr r) (not (facts.is_open tr (line 0 r)))
+      (facts.is_closed tr (line 0 r)) (nat_lt 64 (waiting tr (line 0 r) + n))

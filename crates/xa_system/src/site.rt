@@ -1,0 +1,161 @@
+//! A resource manager of the system.
+ghost use Rattle.std.specs.Prelude.{◌≡◌, ◌≢◌, ◌≤◌, ◌<◌, ◌+◌, ◌++◌, ℕ, true, false, length, vec_len, slice_get, IsSomeAnd, OnErr, IfOk};
+ghost use Rattle.xa_base.specs.History.{name_of};
+ghost use Rattle.xa_base.specs.Opening.{has_closed, has_opened};
+ghost use Rattle.xa_base.specs.ReadBack.{CallHasXid};
+ghost use Rattle.xa_base.specs.Rules.{is_at};
+ghost use Rattle.xa_base.specs.declared.reply.Reply.TheVariants as Replies;
+ghost use Rattle.xa_base.specs.declared.refusal.Refusal.TheVariants as Refusals;
+ghost use Rattle.xa_line.specs.Grid.{new_grid};
+ghost use Rattle.xa_line.specs.Traffic.{barred, issued, places};
+ghost use Rattle.xa_system.specs.Lines.{with_more};
+ghost use Rattle.xa_system.specs.Sites.{looks};
+ghost use Rattle.xa_system.specs.Steps.{AllCrash, Applies, HearsOne, IsSame, Takes};
+
+use crate::spare::Spare;
+use crate::twin::Twin;
+use std::alloc::Global;
+use xa_base::{Answer, Call, Memory, Refusal, Reply, Xid};
+use xa_line::{Line, Lines};
+use xa_rm::ResourceManager;
+
+/// A resource manager, and whether it is up.
+#[derive(Drop)]
+pub struct Site<R: Drop> {
+    pub rm: R,
+    pub is_up: bool,
+}
+
+/// The identifier in a call is one. Nothing is done.
+fn has_xid(call: &Call)
+    ensures { CallHasXid call.now }
+{
+    if let Some(xid) = call.xid() {
+        let _ = xid.format();
+    }
+}
+
+/// Applies a call. The answer comes three times; room for the second and the third is made before.
+fn apply_thrice<R: ResourceManager>(
+    rm: &mut R,
+    alloc: Global,
+    thread: u32,
+    call: &Call,
+) -> Result<(Answer, Answer, Answer), Memory>
+    ensures applied { IfOk result (λ answers.
+        Applies (looks R.held_of R.scan_of R.in_doubt_of) thread call.now answers.0 rm.old rm.new) }
+    ensures second { IfOk result (λ answers. answers.1 ≡ answers.0) }
+    ensures third { IfOk result (λ answers. answers.2 ≡ answers.0) }
+    ensures err { OnErr result (IsSame (looks R.held_of R.scan_of R.in_doubt_of) rm.old rm.new) }
+{
+    let len = rm.in_doubt_len();
+    let second = Spare::new(alloc, len)?;
+    let third = Spare::new(alloc, len)?;
+    let answer = rm.apply(thread, call)?;
+    let second = second.fill(&answer);
+    let third = third.fill(&answer);
+    Ok((answer, second, third))
+}
+
+/// The resource manager takes the oldest call that waits on the thread's line, and answers it. The line has room for
+/// the answer.
+pub(crate) fn take<R: ResourceManager>(
+    rm: &mut R,
+    line: &mut Line,
+    alloc: Global,
+    thread: u32,
+) -> Twin
+    requires { length line.old.answers.waiting < places }
+    ensures { Takes (looks R.held_of R.scan_of R.in_doubt_of) thread rm.old rm.new line.old line.new result }
+{
+    let Some(call) = line.front() else {
+        return Twin::new(Reply::Nothing, Reply::Nothing);
+    };
+    let call = call.copy();
+    has_xid(&call);
+    match apply_thrice(rm, alloc, thread, &call) {
+        Ok((first, second, third)) => {
+            let _ = line.take();
+            let _ = line.answer(call.copy(), first);
+            Twin::new(Reply::Took(call.copy(), second), Reply::Took(call, third))
+        }
+        Err(_) => Twin::refused(Refusal::Memory),
+    }
+}
+
+/// All lines of all resource managers break.
+pub(crate) fn crash_all<R: ResourceManager + Drop>(sites: &mut Vec<Site<R>>)
+    ensures { AllCrash (looks R.held_of R.scan_of R.in_doubt_of) sites.old.items sites.new.items }
+{
+    for rm in 0..sites.len() {
+        sites[rm].rm.crash();
+    }
+}
+
+/// Why a line takes no such call, however little waits on it.
+pub(crate) fn bar(line: &Line, call: &Call) -> Option<Refusal>
+    ensures { result ≡ barred (issued line.now) call.now }
+{
+    if !matches!(call, Call::OpenRm) && !line.is_open() {
+        return Some(Refusal::NotOpen);
+    }
+    if line.is_closed() {
+        return Some(Refusal::Closed);
+    }
+    None
+}
+
+/// The line's oldest answer, which is heard; `copy` is that answer too.
+pub(crate) fn heard(line: &mut Line, copy: Answer) -> Twin
+    requires { IsSomeAnd (slice_get line.old.answers.waiting 0) (λ pair. pair.1 ≡ copy) }
+    ensures { IsSomeAnd (slice_get line.old.answers.waiting 0) (λ pair. HearsOne pair line.old line.new result) }
+{
+    match line.hear() {
+        Some((call, answer)) => {
+            Twin::new(Reply::Heard(call.copy(), copy), Reply::Heard(call, answer))
+        }
+        None => Twin::new(Reply::Nothing, Reply::Nothing),
+    }
+}
+
+/// A step that the manager didn't do. Where its log failed, it is down, and all lines break.
+pub(crate) fn undone<R: ResourceManager + Drop>(
+    sites: &mut Vec<Site<R>>,
+    lines: &mut Lines,
+    refusal: Refusal,
+) -> Twin
+    ensures reply { result ≡ Replies.Refused refusal }
+    ensures failed { refusal ≡ Refusals.LogFault →
+        AllCrash (looks R.held_of R.scan_of R.in_doubt_of) sites.old.items sites.new.items }
+    ensures broken { refusal ≡ Refusals.LogFault → lines.new ≡ new_grid lines.old.threads lines.old.rms }
+    ensures sites_stay { refusal ≢ Refusals.LogFault → sites.new ≡ sites.old }
+    ensures lines_stay { refusal ≢ Refusals.LogFault → lines.new ≡ lines.old }
+{
+    if let Refusal::LogFault = refusal {
+        crash_all(sites);
+        lines.renew_all();
+    }
+    Twin::refused(refusal)
+}
+
+/// Whether the identifier names a branch of this manager at the resource manager.
+pub(crate) fn is_at(xid: &Xid, rm: u32) -> bool
+    ensures { result ≡ is_at rm (name_of xid.now) }
+{
+    match xid.branch() {
+        Some(branch) => branch.rm == rm,
+        None => false,
+    }
+}
+
+/// Lets calls wait on a line that has room for all of them, is open, and isn't closed by one of them.
+pub(crate) fn issue_all(line: &mut Line, calls: Vec<Call>)
+    requires room { length line.old.calls.waiting + vec_len calls ≤ places }
+    requires open { has_opened (issued line.old) ≡ true }
+    requires unclosed { has_closed (issued line.old ++ calls.items) ≡ false }
+    ensures { line.new ≡ record line.old { calls = with_more line.old.calls calls.items } }
+{
+    for call in calls {
+        let _ = line.issue(call);
+    }
+}

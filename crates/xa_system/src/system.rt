@@ -1,0 +1,258 @@
+//! The system: its parts, with the events that left them where they stand.
+ghost use Rattle.std.specs.Prelude.{◌≡◌, ◌<◌, ◌≤◌, ◌+◌, ◌++◌, true, false, ◌∷◌, [], ◌⊎◌, All, length, map, Some, None, Err, IfOk, IsOk, OnErr, OnOk, vec_len, ℕ, List};
+ghost use Rattle.xa_base.specs.ReadBack.{StepHasXids};
+ghost use Rattle.xa_base.specs.declared.refusal.Refusal.TheVariants as Refusals;
+ghost use Rattle.xa_base.specs.declared.reply.Reply.TheVariants as Replies;
+ghost use Rattle.xa_system.specs.Parts.{sees};
+ghost use Rattle.xa_system.specs.Sites.{looks};
+ghost use Rattle.xa_system.specs.Seen.{AreClear, IsStarted, IsUnclear, new_site};
+ghost use Rattle.xa_system.specs.declared.system.NewFault.{NewFault};
+
+use crate::parts::Parts;
+use crate::site::Site;
+use std::alloc::{AllocFailed, Global};
+use std::marker::Model;
+use std::snapshot::Snapshot;
+use thiserror::Error;
+use xa_base::{Event, Fate, Refusal, Reply, Step, Xid};
+use xa_line::Lines;
+use xa_log::DecisionLog;
+use xa_rm::ResourceManager;
+use xa_tm::{Manager, StartFault};
+
+/// The most events of a run.
+pub const EVENT_LIMIT: usize = 10_000;
+
+/// All parts in one thread, with the events that leave them where they stand.
+#[derive(Drop)]
+pub struct System<R: ResourceManager + Drop, L: DecisionLog + Drop> {
+    parts: Parts<R, L>,
+    events: Vec<Event>,
+}
+
+impl<R: ResourceManager + Drop, L: DecisionLog + Drop> Model for System<R, L> {
+    ghost use Rattle.xa_system.specs.Parts.{sees};
+    ghost use Rattle.xa_system.specs.Seen.{Seen, seen, IsSound};
+
+    ghost Value = { Seen R L };
+
+    ghost view = { seen };
+
+    ghost invariant = { IsSound (sees R.held_of R.scan_of R.in_doubt_of) };
+}
+
+/// Why a system can't be made.
+#[derive(Clone, Copy, Debug, PartialEq, Eq, Error)]
+pub enum NewFault {
+    /// The threads or the resource managers are not 1 to 8.
+    #[error("not 1 to 8 threads and 1 to 8 resource managers")]
+    Limit,
+    /// A resource manager holds branches of this manager's format.
+    #[error("a resource manager holds branches of this manager's format")]
+    NotClear,
+    /// The decision log failed, or has rows that no earlier incarnation wrote. Its incarnation may have been raised.
+    #[error("the decision log failed, or has a row of no earlier incarnation")]
+    Log,
+    /// A request for memory was refused.
+    #[error("out of memory")]
+    Memory,
+}
+
+/// The format of this manager's identifiers.
+const OWN_FORMAT: i32 = 7;
+
+/// Whether no resource manager ever held a branch of this manager's format.
+fn are_clear<R: ResourceManager>(rms: &[R]) -> bool
+    ensures clear { result ≡ true → AreClear (looks R.held_of R.scan_of R.in_doubt_of) rms.now }
+    ensures unclear { result ≡ false → IsUnclear (looks R.held_of R.scan_of R.in_doubt_of) rms.now }
+{
+    for rm in rms {
+        if rm.holds_format(OWN_FORMAT) {
+            return false;
+        }
+        let _ = rm.in_doubt_len();
+    }
+    true
+}
+
+/// The resource managers, each up.
+fn sites_of<R: ResourceManager + Drop>(
+    alloc: Global,
+    rms: Vec<R>,
+) -> Result<Vec<Site<R>>, AllocFailed<Site<R>>>
+    ensures { IfOk result (λ sites. sites.items ≡ map new_site rms.items) }
+{
+    let mut sites = Vec::new(alloc);
+    for rm in rms {
+        sites.push(Site { rm, is_up: true })?;
+    }
+    Ok(sites)
+}
+
+/// A manager that starts over a log.
+fn start_manager<L: DecisionLog + Drop>(
+    alloc: Global,
+    threads: u32,
+    rms: u32,
+    log: L,
+) -> Result<Manager<L>, NewFault>
+    ensures { IfOk result (IsStarted threads rms) }
+{
+    match Manager::new(alloc, threads, rms, log) {
+        Ok(manager) => Ok(manager),
+        Err(StartFault::Log) => Err(NewFault::Log),
+        Err(StartFault::Memory) => Err(NewFault::Memory),
+    }
+}
+
+/// The identifiers in a step are such. Nothing is done.
+fn has_xids(step: &Step)
+    ensures { StepHasXids step.now }
+{
+    match step {
+        Step::Issue { call, .. } => {
+            if let Some(xid) = call.xid() {
+                let _ = xid.format();
+            }
+        }
+        Step::Vote { xid, .. } | Step::Busy { xid, .. } | Step::Heuristic { xid, .. } => {
+            let _ = xid.format();
+        }
+        _ => {}
+    }
+}
+
+impl<R: ResourceManager + Drop, L: DecisionLog + Drop> System<R, L> {
+    ghost use Rattle.xa_base.specs.Demanded.{Demanded};
+    ghost use Rattle.xa_base.specs.History.{IsDemanded, reply_of, step_of};
+    ghost use Rattle.xa_system.specs.Parts.{event_limit};
+    ghost use Rattle.xa_base.specs.Branch.{xid_of_branch};
+    ghost use Rattle.xa_base.specs.Facts.{fate};
+    ghost use Rattle.xa_base.specs.Headline.{Headline};
+    ghost use Rattle.xa_base.specs.declared.state.Fate.TheVariants as Fates;
+    ghost use Rattle.xa_base.specs.declared.branch.Branch.{Branch};
+    ghost use Rattle.xa_system.specs.Seen.{AddsSteps, HasWrongSize, HoldsItsTrace, IsOwnIn, origin_in, trace_in};
+
+    /// A system with no events, of 1 to 8 threads and 1 to 8 resource managers that hold no branch of this manager's
+    /// format, with a manager that starts over the log. Room for all events is made here, and all other room before the
+    /// log is asked.
+    pub fn new(alloc: Global, threads: u32, rms: Vec<R>, log: L) -> Result<System<R, L>, NewFault>
+        ensures limit { HasWrongSize threads (vec_len rms) → result ≡ Err NewFault.Limit }
+        ensures not_clear { (HasWrongSize threads (vec_len rms) → ⊥) →
+            IsUnclear (looks R.held_of R.scan_of R.in_doubt_of) rms.items → result ≡ Err NewFault.NotClear }
+        ensures ok { IfOk result (λ system. (system.events ≡ []) × (system.start ≡ rms.items) × (system.rms ≡ rms.items)
+            × (system.lines.threads ≡ threads) × HoldsItsTrace (sees R.held_of R.scan_of R.in_doubt_of) system) }
+    {
+        if threads == 0 || threads > 8 || rms.is_empty() || rms.len() > 8 {
+            return Err(NewFault::Limit);
+        }
+        if !are_clear::<R>(rms.as_slice()) {
+            return Err(NewFault::NotClear);
+        }
+        let Ok(events) = Vec::with_capacity(alloc, EVENT_LIMIT) else {
+            return Err(NewFault::Memory);
+        };
+        let Ok(lines) = Lines::new(alloc, threads, rms.len() as u32) else {
+            return Err(NewFault::Memory);
+        };
+        let start = Snapshot::of(&rms);
+        let Ok(sites) = sites_of(alloc, rms) else {
+            return Err(NewFault::Memory);
+        };
+        let manager = start_manager(alloc, threads, lines.rms(), log)?;
+        let began = Snapshot::of(&manager);
+        let parts = Parts {
+            alloc,
+            start,
+            began,
+            sites,
+            lines,
+            manager,
+        };
+        Ok(System { parts, events })
+    }
+
+    /// The events so far, oldest first.
+    pub fn trace(&self) -> &[Event]
+        ensures { result.now ≡ self.now.events }
+    {
+        self.events.as_slice()
+    }
+
+    /// Adds one event, where there is room, and leaves all parts where the history with it leaves them.
+    pub fn step(&mut self, step: Step) -> Reply
+        ensures full { event_limit ≤ length self.old.events →
+            (result ≡ Replies.Refused Refusals.Limit) × (self.new ≡ self.old) }
+        ensures adds { length self.old.events < event_limit →
+            self.new.events ≡ self.old.events ++ record { step = step; reply = result } ∷ [] }
+        ensures demanded { length self.old.events < event_limit →
+            Demanded (trace_in (sees R.held_of R.scan_of R.in_doubt_of) self.old)
+            (step_of step) (reply_of result) }
+        ensures parts { HoldsItsTrace (sees R.held_of R.scan_of R.in_doubt_of) self.new }
+        ensures start { origin_in (sees R.held_of R.scan_of R.in_doubt_of) self.new
+            ≡ origin_in (sees R.held_of R.scan_of R.in_doubt_of) self.old }
+        ensures headline { Headline (origin_in (sees R.held_of R.scan_of R.in_doubt_of) self.new) self.new.events }
+    {
+        if self.events.len() >= EVENT_LIMIT {
+            self.agree();
+            return Reply::Refused(Refusal::Limit);
+        }
+        has_xids(&step);
+        let (reply, copy) = self.parts.step(&step).split();
+        self.events.push_reserved(Event { step, reply: copy });
+        self.agree();
+        reply
+    }
+
+    /// What became of a branch; `Unstarted` where the identifier names no branch of this system.
+    pub fn fate(&self, xid: &Xid) -> Fate
+        ensures own { (b : Branch) → IsOwnIn self.now b → xid.now ≡ xid_of_branch b →
+            result ≡ fate (trace_in (sees R.held_of R.scan_of R.in_doubt_of) self.now) b }
+        ensures other { ((b : Branch) → IsOwnIn self.now b → xid.now ≡ xid_of_branch b → ⊥) → result ≡ Fates.Unstarted }
+    {
+        match xid.branch() {
+            Some(branch) if self.parts.has_line(branch.thread, branch.rm) => {
+                self.parts.sites[branch.rm as usize].rm.fate(xid)
+            }
+            _ => Fate::Unstarted,
+        }
+    }
+
+    /// How many more events fit.
+    pub fn room(&self) -> usize
+        ensures { result + length self.now.events ≡ event_limit }
+    {
+        EVENT_LIMIT - self.events.len()
+    }
+
+    /// What all that happened so far means, at every moment of it. Nothing is done.
+    pub fn agree(&self)
+        ensures parts { HoldsItsTrace (sees R.held_of R.scan_of R.in_doubt_of) self.now }
+        ensures headline { Headline (origin_in (sees R.held_of R.scan_of R.in_doubt_of) self.now) self.now.events }
+    {
+        let _ = &self.events;
+        xa_base::headline_holds();
+    }
+
+    /// Does all steps in order, or none where the trace lacks room for them.
+    pub fn run(&mut self, steps: &[Step]) -> Result<(), Refusal>
+        ensures limit { event_limit < length self.old.events + length steps.now → result ≡ Err Refusals.Limit }
+        ensures room { length self.old.events + length steps.now ≤ event_limit → IsOk result }
+        ensures err { OnErr result (self.new ≡ self.old) }
+        ensures adds { OnOk result (AddsSteps steps.now self.old.events self.new.events) }
+        ensures start { origin_in (sees R.held_of R.scan_of R.in_doubt_of) self.new
+            ≡ origin_in (sees R.held_of R.scan_of R.in_doubt_of) self.old }
+        ensures parts { HoldsItsTrace (sees R.held_of R.scan_of R.in_doubt_of) self.new }
+        ensures headline { Headline (origin_in (sees R.held_of R.scan_of R.in_doubt_of) self.new) self.new.events }
+    {
+        if self.room() < steps.len() {
+            self.agree();
+            return Err(Refusal::Limit);
+        }
+        for step in steps {
+            let _reply = self.step(step.copy());
+        }
+        self.agree();
+        Ok(())
+    }
+}
