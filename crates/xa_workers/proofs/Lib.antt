@@ -1,0 +1,12 @@
+pub mod Crossing
+pub mod FateOrder
+pub mod Keeps
+pub mod OwnBranches
+pub mod Places
+pub mod Ranges
+pub mod RowLaws
+pub mod Seating
+pub mod Settled
+pub mod Tabled
+pub mod Tied
+pub mod Turning

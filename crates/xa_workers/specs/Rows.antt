@@ -1,0 +1,70 @@
+-- The rows that a run of jobs adds to a log.
+use Rattle.std.specs.Prelude.{◌≡◌, ◌≢◌, ℕ, ◌+◌, ◌≤◌, Bool, true, false, ◌&&◌, if◌then◌else◌}
+use Rattle.std.specs.Prelude.{IsSomeAnd, List, Option, Some, None, slice_get, slice_index_or}
+use Rattle.std.specs.FinMap.{get}
+use Rattle.std.specs.List.{list_any}
+use Rattle.xa_base.specs.Branch.{branch_cmp}
+use Rattle.xa_base.specs.declared.branch.Gtrid.{Gtrid}
+use Rattle.xa_base.specs.declared.step.Outcome.{Outcome}
+use Rattle.xa_base.specs.declared.step.Outcome.TheVariants.{Commit}
+use Rattle.xa_log.specs.Content.{Content, bumped}
+use Rattle.xa_log.specs.KeySet.{KeySet, from_list}
+use Rattle.xa_log.specs.declared.decision_log.DecisionLog as DecisionLog
+use Rattle.xa_workers.specs.Jobs.{gtrid_of, is_yes, votes_of, yes_branches}
+use Rattle.xa_workers.specs.declared.jobs.Jobs.{Jobs}
+use Rattle.xa_workers.specs.declared.journal.Journal.{Journal}
+
+-- ** which jobs have rows
+
+abbrev pub is_commit : Option Outcome → Bool
+is_commit (Some Commit) = true
+is_commit _ = false
+
+-- whether job i has a row, where the jobs end so: it committed, and some branch voted yes
+abbrev pub has_row : Jobs → List Outcome → (i : ℕ) → Bool
+has_row jobs ends i = is_commit (slice_get ends i) && list_any is_yes (votes_of jobs i)
+
+-- the participants of job i: its branches that vote yes
+abbrev pub participants : Jobs → (incarnation i : ℕ) → KeySet branch_cmp
+participants jobs incarnation i = from_list (yes_branches jobs incarnation i)
+
+-- the row of each job that has one, as its participants
+abbrev pub rows_of : Jobs → (incarnation : ℕ) → List Outcome → (i : ℕ) → Option (KeySet branch_cmp)
+rows_of jobs incarnation ends i = if has_row jobs ends i then Some (participants jobs incarnation i) else None
+
+-- the rows of the jobs that are noted as written
+abbrev pub written_rows : (participants : ℕ → KeySet branch_cmp) → List Bool → (i : ℕ) → Option (KeySet branch_cmp)
+written_rows participants written i = if slice_index_or written i false then Some (participants i) else None
+
+-- ** what they make of a log
+
+-- no row is of this incarnation or a later one
+abbrev pub IsFresh : (incarnation : ℕ) → Content → Type 0
+IsFresh incarnation c = (g : Gtrid) → incarnation ≤ g.incarnation → get c.decisions g ≡ None
+
+-- the log has these rows of jobs, and besides just what it came with, where no row was of this incarnation
+pub record HasRows (incarnation : ℕ) (rows : ℕ → Option (KeySet branch_cmp)) (before after : Content) : Type 0 where
+  pub fresh : IsFresh incarnation before
+  pub jobs : (i : ℕ) → get after.decisions (gtrid_of incarnation i) ≡ rows i
+  pub others : (g : Gtrid) → ((i : ℕ) → g ≢ gtrid_of incarnation i) → get after.decisions g ≡ get before.decisions g
+  pub heuristics : after.heuristics ≡ before.heuristics
+  pub same_incarnation : after.incarnation ≡ before.incarnation
+
+-- no job has a row
+abbrev pub no_rows : (i : ℕ) → Option (KeySet branch_cmp)
+no_rows i = None
+
+-- what a log has become in a run: its incarnation has risen by one, to that of the run, and it has the rows that it came
+-- with, and these rows of jobs
+pub record Logs {L : Type 0} (g : DecisionLog.Ghosts L) (incarnation : ℕ) (rows : ℕ → Option (KeySet branch_cmp))
+    (first log : L) : Type 0 where
+  pub order : g.is_in_order first → g.is_in_order log
+  pub honest : g.is_honest log → g.is_honest first
+  pub rows_are : g.is_in_order first → g.is_honest log
+      → IsSomeAnd (g.content first) (λ before. (incarnation ≡ before.incarnation + 1)
+      × IsSomeAnd (g.content log) (λ after. HasRows incarnation rows (bumped before) after))
+
+-- the log of a journal has come to have the rows of the jobs that the journal notes as written
+abbrev pub HasWritten : {L : Type 0} → DecisionLog.Ghosts L → Jobs → (incarnation : ℕ) → Journal L → Type 0
+HasWritten g jobs incarnation journal =
+    Logs g incarnation (written_rows (participants jobs incarnation) journal.written.items) journal.first.value journal.log

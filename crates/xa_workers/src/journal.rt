@@ -1,0 +1,104 @@
+//! The log's worker.
+ghost use Rattle.std.specs.Prelude.{◌≡◌, ◌≤◌, ◌<◌, IfOk, OnOk, vec_len};
+ghost use Rattle.xa_log.specs.Content.{last_number};
+ghost use Rattle.xa_workers.specs.Rows.{HasWritten, Logs, no_rows};
+
+use crate::crew::Crew;
+use crate::docket::Task;
+use crate::fault::Halt;
+use crate::jobs::gtrid;
+use crate::roll::Run;
+use crate::{Gate, Jobs, WorkFault};
+use std::alloc::{AllocError, Global};
+use std::snapshot::Snapshot;
+use std::sync::Wait;
+use xa_log::DecisionLog;
+
+/// A run's log, and for each job whether the run wrote its row. `first` remembers the log as it was before the run.
+#[derive(Drop)]
+pub(crate) struct Journal<L> {
+    pub(crate) log: L,
+    pub(crate) first: Snapshot<L>,
+    pub(crate) written: Vec<bool>,
+}
+
+impl<L: DecisionLog> Journal<L> {
+    /// The journal of a log to which the run has written no row.
+    #[tactic(auto, using(crate::proofs::RowLaws::logs_same, crate::proofs::RowLaws::none_written))]
+    pub(crate) fn new(
+        alloc: Global,
+        jobs: &Jobs,
+        incarnation: u64,
+        first: Snapshot<L>,
+        log: L,
+    ) -> Result<Journal<L>, AllocError>
+    where
+        L: Drop,
+        requires { Logs L.DecisionLog incarnation no_rows first.value log }
+        ensures first { IfOk result (λ journal. journal.first ≡ first) }
+        ensures len { IfOk result (λ journal. vec_len journal.written ≡ vec_len jobs.now.votes) }
+        ensures kept { IfOk result (λ journal. HasWritten L.DecisionLog jobs.now incarnation journal) }
+    {
+        let written = vec![in alloc; false; jobs.votes.len()]?;
+        Ok(Journal {
+            log,
+            first,
+            written,
+        })
+    }
+
+    /// Writes the row of a job, with its branches that vote yes as participants.
+    fn write(
+        &mut self,
+        alloc: Global,
+        jobs: &Jobs,
+        incarnation: u64,
+        job: usize,
+    ) -> Result<(), WorkFault>
+        requires few { vec_len self.old.written ≤ 1000 }
+        requires some { 0 < jobs.now.threads }
+        requires fits { incarnation ≤ last_number }
+        requires kept { HasWritten L.DecisionLog jobs.now incarnation self.old }
+        ensures first { self.new.first ≡ self.old.first }
+        ensures len { vec_len self.new.written ≡ vec_len self.old.written }
+        ensures kept { OnOk result (HasWritten L.DecisionLog jobs.now incarnation self.new) }
+    {
+        if job >= self.written.len() {
+            return Err(WorkFault::Mixed);
+        }
+        let participants = jobs.yes_branches(alloc, incarnation, job)?;
+        self.log
+            .commit(gtrid(incarnation, job), participants.as_slice())?;
+        self.written[job] = true;
+        Ok(())
+    }
+}
+
+/// The log's worker: writes rows until all threads of control have ended.
+pub(crate) fn write_rows<J: Run, G: Gate, L: DecisionLog>(
+    rt: &impl Wait,
+    alloc: Global,
+    crew: &Crew<'_, J, G>,
+    journal: &mut Journal<L>,
+) -> Result<(), Halt>
+    requires few { vec_len journal.old.written ≤ 1000 }
+    requires kept { HasWritten L.DecisionLog crew.now.jobs.now crew.now.incarnation journal.old }
+    ensures first { journal.new.first ≡ journal.old.first }
+    ensures kept { OnOk result (HasWritten L.DecisionLog crew.now.jobs.now crew.now.incarnation journal.new) }
+{
+    for _ in rt.forever() {
+        let task = crew.docket.lock(rt).next();
+        match task {
+            Task::Write { thread, job } => {
+                let reply = journal.write(alloc, crew.jobs, crew.incarnation, job);
+                crew.docket.lock(rt).reply(thread, reply);
+                crew.signals.wake_thread(thread);
+                reply?;
+            }
+            Task::Sleep if crew.signals.is_stopped() => return Err(Halt::Stopped),
+            Task::Sleep => crew.signals.sleep_log(rt),
+            Task::End => return Ok(()),
+        }
+    }
+    unreachable!()
+}

@@ -1,0 +1,47 @@
+//! Jobs, each a global transaction, that worker threads run: one for each thread of control, one for each resource
+//! manager, one for the log and, where a recovery sweeps the jobs, one for that.
+//!
+//! [`run_jobs`] runs them. The calls of a thread of control go to a resource manager over a line of two rings, and on a
+//! [`Board`] the threads and the recovery decide without a lock how each job ends.
+//!
+//! "XA" in these pages is X/Open CAE Specification C193, "Distributed Transaction Processing: The XA Specification"
+//! (1991).
+#![tactic(auto)]
+
+mod board;
+#[cfg(test)]
+mod board_tests;
+mod control;
+mod crew;
+mod deal;
+mod docket;
+mod fault;
+mod gate;
+mod jobs;
+mod journal;
+mod kept;
+mod meet;
+mod numbered;
+mod outcomes;
+mod roll;
+mod rule;
+mod run;
+mod serve;
+mod settle;
+mod signals;
+mod start;
+mod sweep;
+mod talk;
+#[cfg(test)]
+mod tests;
+mod view;
+mod word;
+
+pub use board::{Board, BoardSeat};
+pub use fault::WorkFault;
+pub use gate::{Gate, Point};
+pub use jobs::Jobs;
+pub use outcomes::Outcomes;
+pub use run::run_jobs;
+pub use view::{Entry, View};
+pub use word::{Claim, Word};

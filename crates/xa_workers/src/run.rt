@@ -1,0 +1,268 @@
+//! Runs of jobs.
+ghost use Rattle.std.specs.Prelude.{◌≡◌, ◌≤◌, ◌<◌, ℕ, All, IfOk, false, true, vec_len};
+ghost use Rattle.xa_log.specs.Content.{last_number};
+ghost use Rattle.xa_workers.specs.Fates.{AreInOrder, HaveFates, fates_of};
+ghost use Rattle.xa_workers.specs.Jobs.{AreEndsOf, IsRunnable, ends_of, is_xid_of};
+ghost use Rattle.xa_workers.specs.Rows.{HasWritten, Logs, no_rows, rows_of};
+ghost use Rattle.xa_workers.specs.Tied.{ArePaired};
+
+use crate::crew::Crew;
+use crate::deal::{by_rm, by_thread, new_ends};
+use crate::docket::Docket;
+use crate::fault::Halt;
+use crate::journal::{Journal, write_rows};
+use crate::roll::Run;
+use crate::settle::{Work, settled};
+use crate::signals::Signals;
+use crate::start::{Hands, Joined, Team, start_all};
+use crate::{Board, Gate, Jobs, Outcomes, WorkFault};
+use std::alloc::Global;
+use std::marker::{Brand, PhantomData};
+use std::snapshot::Snapshot;
+use std::sync::{Mutex, Wait};
+use std::thread;
+use std::thread::{Scope, Threads};
+use xa_base::Gtrid;
+use xa_line::{Issuer, Taker};
+use xa_log::DecisionLog;
+
+/// Why workers left nothing, if they did.
+fn halt_of<T>(end: &Result<T, Halt>) -> Option<Halt> {
+    match end {
+        Ok(_) => None,
+        Err(halt) => Some(*halt),
+    }
+}
+
+/// The fault that comes first. It is `Mixed` where workers were told to end, and none of them said why.
+fn first_fault(halts: &[Option<Halt>]) -> WorkFault {
+    let mut first = WorkFault::Mixed;
+    for halt in halts {
+        if let Some(Halt::Fault(fault)) = halt {
+            first = first.min(*fault);
+        }
+    }
+    first
+}
+
+/// Starts all workers, writes the log in this thread, and joins all workers.
+fn run_crew<
+    's,
+    E,
+    J: Run + Send + Sync + 's,
+    R: Threads + Wait + Sync,
+    G: Gate + Sync,
+    L: DecisionLog + Drop,
+>(
+    scope: &'s Scope<'s, E>,
+    rt: &'s R,
+    alloc: Global,
+    crew: &'s Crew<'s, J, G>,
+    hands: Hands<J>,
+    mut journal: Journal<L>,
+) -> Result<Work<J, L>, WorkFault>
+    requires seat { hands.seat.board ≡ crew.now.board.now.table }
+    requires few { vec_len journal.written ≤ 1000 }
+    requires kept { HasWritten L.DecisionLog crew.now.jobs.now crew.now.incarnation journal }
+    ensures first { IfOk result (λ work. work.journal.first ≡ journal.first) }
+    ensures kept { IfOk result (λ work.
+        HasWritten L.DecisionLog crew.now.jobs.now crew.now.incarnation work.journal) }
+{
+    let mut team = Team::new(alloc);
+    let started = start_all(scope, rt, alloc, crew, hands, &mut team);
+    if started.is_err() {
+        crew.signals.stop();
+    }
+    let logged = write_rows(rt, alloc, crew, &mut journal);
+    if logged.is_err() {
+        crew.signals.stop();
+    }
+    let Joined {
+        controlled,
+        swept,
+        served,
+    } = team.joined(rt, alloc, crew);
+    let fault = first_fault(&[
+        halt_of(&started),
+        halt_of(&logged),
+        halt_of(&controlled),
+        halt_of(&swept),
+        halt_of(&served),
+    ]);
+    if started.is_err() || logged.is_err() || swept.is_err() {
+        return Err(fault);
+    }
+    let Ok(controlled) = controlled else {
+        return Err(fault);
+    };
+    let Ok(served) = served else {
+        return Err(fault);
+    };
+    Ok(Work {
+        controlled,
+        served,
+        journal,
+    })
+}
+
+/// Runs all workers, and returns once all have ended.
+fn run_all<J: Run + Send + Sync, R: Threads + Wait + Sync, G: Gate + Sync, L: DecisionLog + Drop>(
+    rt: &R,
+    alloc: Global,
+    crew: &Crew<'_, J, G>,
+    hands: Hands<J>,
+    journal: Journal<L>,
+) -> Result<Work<J, L>, WorkFault>
+    requires seat { hands.seat.board ≡ crew.now.board.now.table }
+    requires few { vec_len journal.written ≤ 1000 }
+    requires kept { HasWritten L.DecisionLog crew.now.jobs.now crew.now.incarnation journal }
+    ensures first { IfOk result (λ work. work.journal.first ≡ journal.first) }
+    ensures kept { IfOk result (λ work.
+        HasWritten L.DecisionLog crew.now.jobs.now crew.now.incarnation work.journal) }
+{
+    thread::scope(
+        thread::scope_env(),
+        rt,
+        |scope| -> Result<Work<J, L>, WorkFault>
+            requires seat { hands.seat.board ≡ crew.now.board.now.table }
+            requires few { vec_len journal.written ≤ 1000 }
+            requires kept { HasWritten L.DecisionLog crew.now.jobs.now crew.now.incarnation journal }
+            ensures first { IfOk result (λ work. work.journal.first ≡ journal.first) }
+            ensures kept { IfOk result (λ work.
+                HasWritten L.DecisionLog crew.entry.now.jobs.now crew.entry.now.incarnation work.journal) }
+        { run_crew(scope, rt, alloc, crew, hands, journal) },
+    )
+}
+
+/// A log that has given a run its incarnation. `first` remembers it as it was before.
+#[derive(Drop)]
+struct Begun<L> {
+    incarnation: u64,
+    first: Snapshot<L>,
+    log: L,
+}
+
+/// Whether all rows are of older incarnations.
+fn all_older(rows: &[Gtrid], incarnation: u64) -> bool
+    ensures { result ≡ true → All (λ g. g.incarnation < incarnation) rows.now }
+{
+    rows.iter().all(|row| row.incarnation < incarnation)
+}
+
+/// Raises a log's incarnation for a run. Rows of that incarnation or a later one are a fault.
+fn begin<L: DecisionLog + Drop>(mut log: L) -> Result<Begun<L>, WorkFault>
+    ensures first { IfOk result (λ begun. begun.first.value ≡ log) }
+    ensures most { IfOk result (λ begun. begun.incarnation ≤ last_number) }
+    ensures begun { IfOk result (λ begun. Logs L.DecisionLog begun.incarnation no_rows begun.first.value begun.log) }
+{
+    let first = Snapshot::of(&log);
+    let incarnation = log.bump()?;
+    let rows = log.rows()?;
+    let recorded = rows
+        .heuristics
+        .iter()
+        .all(|row| row.0.gtrid.incarnation < incarnation);
+    if recorded && all_older(&rows.decisions, incarnation) {
+        Ok(Begun {
+            incarnation,
+            first,
+            log,
+        })
+    } else {
+        Err(WorkFault::Log)
+    }
+}
+
+/// Runs the jobs over a log that has begun, and over the two ends of each line.
+fn run_named<J: Run + Send + Sync, R: Threads + Wait + Sync, L: DecisionLog + Drop, G: Gate + Sync>(
+    rt: &R,
+    alloc: Global,
+    jobs: &Jobs,
+    begun: Begun<L>,
+    gate: &G,
+    issuers: Vec<Issuer>,
+    takers: Vec<Taker>,
+) -> Result<Outcomes<L>, WorkFault>
+    requires few { vec_len jobs.now.votes ≤ 1000 }
+    requires some { 0 < jobs.now.threads }
+    requires some_rms { 0 < jobs.now.rms }
+    requires fits { begun.incarnation ≤ last_number }
+    requires own { J.is_own ≡ is_xid_of jobs.now begun.incarnation }
+    requires takers { takers.items ≡ J.takers }
+    requires paired { ArePaired issuers.items J.takers }
+    requires begun { Logs L.DecisionLog begun.incarnation no_rows begun.first.value begun.log }
+    ensures ends { IfOk result (λ o. AreEndsOf jobs.now o.ends.items) }
+    ensures fates { IfOk result (λ o. o.fates.items ≡ fates_of jobs.now begun.incarnation o.ends.items) }
+    ensures rms { IfOk result (λ o. HaveFates jobs.now begun.incarnation o.rms.items o.fates.items) }
+    ensures rows { IfOk result (λ o. Logs L.DecisionLog begun.incarnation
+        (rows_of jobs.now begun.incarnation o.ends.items) begun.first.value o.log) }
+{
+    let Begun {
+        incarnation,
+        first,
+        log,
+    } = begun;
+    let signals = Signals::new(alloc, jobs.threads, jobs.rms)?;
+    let docket = Mutex::new(Docket::new(alloc, jobs.threads)?);
+    let (board, seat) = Board::new(alloc, jobs.votes.len())?;
+    let crew = Crew::<J, G> {
+        jobs,
+        incarnation,
+        gate,
+        signals: &signals,
+        board: &board,
+        docket: &docket,
+        run: PhantomData,
+    };
+    let hands = Hands::<J> {
+        threads: by_thread(alloc, jobs, issuers)?,
+        rms: by_rm(alloc, jobs, takers)?,
+        seat,
+    };
+    let journal = Journal::new(alloc, jobs, incarnation, first, log)?;
+    let work = run_all(rt, alloc, &crew, hands, journal)?;
+    settled(alloc, jobs, incarnation, work)
+}
+
+/// Runs the jobs by two-phase commit with presumed rollback (XA, section 2.3): one worker for each thread of control, one
+/// for each resource manager, one for the recovery if it sweeps them, and this thread writes the log. All workers have
+/// ended when it returns.
+///
+/// A thread of control opens its lines, and sends the branches of each of its jobs xa_start, xa_end and xa_prepare,
+/// each to all its resource managers before it awaits the first answer. Once all votes are heard it claims the job at
+/// the board, has its row written and settles the claim, and then sends xa_commit to the branches that voted yes. A job
+/// with a no, and one whose claim isn't won, gets xa_rollback.
+///
+/// The clauses say what the jobs came to, for some incarnation that the log gave: `ends`, that each job ended as its
+/// votes say, or was rolled back by the recovery; `plain`, that without a recovery each ended as its votes say;
+/// `outcome`, the fates of all branches, that the resource managers have these and no other branch, and that the log has
+/// the rows that it came with and one for each committed job with a yes, with these branches as its participants;
+/// `order`, that the fates are listed in the order of the identifiers. After a fault nothing is said of the log.
+///
+/// - [`WorkFault::Memory`]: a request for memory, or for a thread, was refused.
+/// - [`WorkFault::Log`]: the log failed, has no incarnation left, or holds a row of the incarnation that it gave, or of a
+///   later one.
+/// - [`WorkFault::Stuck`]: a gate answered no to one worker 1,000,000 times in a row.
+/// - [`WorkFault::Mixed`]: what the workers gave back doesn't agree.
+///
+/// Of several faults the first in this order is the answer.
+pub fn run_jobs<R: Threads + Wait + Sync, L: DecisionLog + Drop, G: Gate + Sync>(
+    rt: &R,
+    alloc: Global,
+    jobs: &Jobs,
+    log: L,
+    gate: &G,
+) -> Result<Outcomes<L>, WorkFault>
+    requires { IsRunnable jobs.now }
+    ensures ends { IfOk result (λ o. AreEndsOf jobs.now o.ends.items) }
+    ensures plain { jobs.now.sweep ≡ false → IfOk result (λ o. o.ends.items ≡ ends_of jobs.now) }
+    ensures order { IfOk result (λ o. AreInOrder o.fates.items) }
+    ensures outcome { IfOk result (λ o. (incarnation : ℕ) ×
+        (o.fates.items ≡ fates_of jobs.now incarnation o.ends.items) ×
+        HaveFates jobs.now incarnation o.rms.items o.fates.items ×
+        Logs L.DecisionLog incarnation (rows_of jobs.now incarnation o.ends.items) log o.log) }
+{
+    let begun = begin(log)?;
+    let (issuers, takers) = new_ends(alloc, jobs)?;
+    run_named::<Brand, R, L, G>(rt, alloc, jobs, begun, gate, issuers, takers)
+}
