@@ -1,0 +1,3 @@
+pub mod DocumentLemmas
+pub mod FieldLemmas
+pub mod OutputLemmas

@@ -1,0 +1,22 @@
+-- The documents that texts are, and what their tops have in common.
+use Rattle.std.specs.Prelude.{ℕ, Bool, true, ◌&&◌, ◌==◌, is_some, if◌then◌else◌, List, Option, Some, None, Result}
+use Rattle.std.specs.Option.{ok_or}
+use Rattle.std.specs.Str.{is_utf8}
+use Rattle.toml.specs.Data.{Items, no_items, item, Members, as_table}
+use Rattle.toml.specs.Parse.{parse_document}
+use Rattle.xa_files.specs.Fields.{◌>>=◌, number_at}
+use Rattle.xa_files.specs.declared.fault.RunFault.{RunFault}
+use Rattle.xa_files.specs.declared.fault.RunFault.TheVariants.{NotToml}
+
+-- whether each of the items is a table
+abbrev pub are_tables : Items → Bool
+are_tables no_items = true
+are_tables (item value items) = is_some (as_table value) && are_tables items
+
+-- a number from 1 to the limit
+abbrev pub size_at : ℕ → List ℕ → Members → Option ℕ
+size_at limit key document = number_at limit key document >>= (λ n. if n == 0 then None else Some n)
+
+-- the document that a text is
+unfoldable pub document_of : List ℕ → Result Members RunFault
+document_of text = ok_or (if is_utf8 text then parse_document text else None) NotToml

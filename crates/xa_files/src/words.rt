@@ -1,0 +1,62 @@
+//! The words for calls, votes and flags.
+
+ghost use Rattle.std.specs.Prelude.{◌≡◌};
+ghost use Rattle.xa_files.specs.Words.{call_named, vote_named, flag_named};
+
+use xa_base::{
+    CallKind, RbCode, TMENDRSCAN, TMFAIL, TMJOIN, TMNOFLAGS, TMONEPHASE, TMSTARTRSCAN, TMSUCCESS,
+    Vote,
+};
+
+/// The kind of a call, by its `xa`: the name that it has in XA, chapter 5.
+pub fn call_named(word: &str) -> Option<CallKind>
+    ensures { result ≡ call_named word.now }
+{
+    match word {
+        "xa_open" => Some(CallKind::OpenRm),
+        "xa_close" => Some(CallKind::CloseRm),
+        "xa_start" => Some(CallKind::Start),
+        "xa_end" => Some(CallKind::End),
+        "xa_prepare" => Some(CallKind::Prepare),
+        "xa_commit" => Some(CallKind::Commit),
+        "xa_rollback" => Some(CallKind::Rollback),
+        "xa_forget" => Some(CallKind::Forget),
+        "xa_recover" => Some(CallKind::Recover),
+        _ => None,
+    }
+}
+
+/// A vote: `ok`, `ro`, or the number of a code that tells of a rollback (XA, section 4.5, Return Codes).
+pub fn vote_named(word: &str) -> Option<Vote>
+    ensures { result ≡ vote_named word.now }
+{
+    match word {
+        "ok" => Some(Vote::Yes),
+        "ro" => Some(Vote::ReadOnly),
+        "100" => Some(Vote::No(RbCode::Rollback)),
+        "101" => Some(Vote::No(RbCode::CommFail)),
+        "102" => Some(Vote::No(RbCode::Deadlock)),
+        "103" => Some(Vote::No(RbCode::Integrity)),
+        "104" => Some(Vote::No(RbCode::Other)),
+        "105" => Some(Vote::No(RbCode::Proto)),
+        "106" => Some(Vote::No(RbCode::Timeout)),
+        "107" => Some(Vote::No(RbCode::Transient)),
+        _ => None,
+    }
+}
+
+/// The value of a flag that some call takes (XA, section 4.4, Flag Definitions).
+pub fn flag_named(word: &str) -> Option<u32>
+    ensures { result ≡ flag_named word.now }
+{
+    match word {
+        "TMNOFLAGS" => Some(TMNOFLAGS),
+        "TMJOIN" => Some(TMJOIN),
+        "TMENDRSCAN" => Some(TMENDRSCAN),
+        "TMSTARTRSCAN" => Some(TMSTARTRSCAN),
+        "TMSUCCESS" => Some(TMSUCCESS),
+        "TMFAIL" => Some(TMFAIL),
+        "TMONEPHASE" => Some(TMONEPHASE),
+        _ => None,
+    }
+}
