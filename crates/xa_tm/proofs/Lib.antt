@@ -5,6 +5,7 @@ pub mod Decides
 pub mod Finds
 pub mod Given
 pub mod HeardBy
+pub mod InOrder
 pub mod Issuing
 pub mod Known
 pub mod Leaves
@@ -29,3 +30,4 @@ pub mod Starts
 pub mod Ties
 pub mod Unfinished
 pub mod Begins
+pub mod Pasts

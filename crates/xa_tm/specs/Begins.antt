@@ -10,10 +10,12 @@ use Rattle.xa_tm.specs.declared.manager.Manager.{Manager}
 
 -- ** rows and records
 
--- the rows that a list of transactions and one of their participants say, where each transaction's stand together and in that order
+-- the rows that a list of transactions and one of their participants say, where each transaction's stand together and
+-- in that order
 abbrev pub rows_listed : List Gtrid → List Branch → List Row
 rows_listed [] bs = []
-rows_listed (g ∷ gs) bs = record { gtrid = g; participants = run_of g bs } ∷ rows_listed gs (drop (length (run_of g bs)) bs)
+rows_listed (g ∷ gs) bs =
+    record { gtrid = g; participants = run_of g bs } ∷ rows_listed gs (drop (length (run_of g bs)) bs)
 
 abbrev pub records_listed : List (Branch × How) → List Recorded
 records_listed ends = map (λ (e : Branch × How). record { branch = e.0; how = e.1 }) ends

@@ -26,7 +26,15 @@ use Rattle.xa_tm.specs.declared.notes.Transaction.{Transaction}
 -- ** where nothing is noted
 
 abbrev pub no_transaction : Transaction
-no_transaction = record { outcome = None; is_handed_over = false; is_claimed = false; has_yes = false; branches = 0; unvoted = 0; unsettled = 0 }
+no_transaction = record {
+  outcome = None;
+  is_handed_over = false;
+  is_claimed = false;
+  has_yes = false;
+  branches = 0;
+  unvoted = 0;
+  unsettled = 0;
+}
 
 abbrev pub no_branch : BranchNotes
 no_branch = record {

@@ -21,7 +21,9 @@ waiting_call c = accepted (map_call name_of c)
 
 -- the call that ends a branch
 abbrev pub ending_call : Book → Xid → Branch → RustCall.Call Xid
-ending_call k x b = if is_some (k.recorded b) then Calls.Forget x else (if has_row_in k b.gtrid then Calls.Commit x false else Calls.Rollback x)
+ending_call k x b =
+    if is_some (k.recorded b) then Calls.Forget x
+    else (if has_row_in k b.gtrid then Calls.Commit x false else Calls.Rollback x)
 
 abbrev pub call_by : Book → Xid → Option Branch → Option (RustCall.Call Xid)
 call_by k x (Some b) = if live_in k b.gtrid then None else Some (ending_call k x b)

@@ -64,8 +64,8 @@ pub record FoundIn (i d h : ℕ) (c : Content) : Type 0 where
   pub rows : d ≡ len c.decisions
   pub records : h ≡ len c.heuristics
 
--- the numbers that a restart may find: the next incarnation after one that the failures since may have reached, and those of the
--- book, or of the book with the change in doubt. A record of a branch that has one adds none
+-- the numbers that a restart may find: the next incarnation after one that the failures since may have reached, and
+-- those of the book, or of the book with the change in doubt. A record of a branch that has one adds none
 abbrev pub rows_of : Doubt → ℕ → ℕ
 rows_of (Adds g set) n = n + 1
 rows_of (Drops g) n = n - 1
@@ -80,4 +80,5 @@ pub record IsFound (k : Book) (i d h : ℕ) : Type 0 where
 -- whether a restart may find these numbers
 abbrev pub may_find : Book → (i d h : ℕ) → Bool
 may_find k i d h = (nat_lt k.incarnation i && nat_le (i - k.incarnation - 1) k.failed_restarts)
-    && ((nat_eq d k.rows || nat_eq d (rows_of k.doubt k.rows)) && (nat_eq h k.records || nat_eq h (records_with k k.doubt k.records)))
+    && ((nat_eq d k.rows || nat_eq d (rows_of k.doubt k.rows))
+    && (nat_eq h k.records || nat_eq h (records_with k k.doubt k.records)))

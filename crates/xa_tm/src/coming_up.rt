@@ -1,6 +1,6 @@
 //! The manager comes up again over its log.
 
-ghost use Rattle.std.specs.Prelude.{◌⊎◌, ◌≡◌, ◌≤◌, Bool, IsSomeAnd, Err, IfOk, IfErr, OnOk, OnErr};
+ghost use Rattle.std.specs.Prelude.{◌⊎◌, ◌≡◌, ◌≢◌, ◌≤◌, Bool, IsSomeAnd, Err, IfOk, IfErr, OnOk, OnErr};
 ghost use Rattle.xa_base.specs.Trace.{Happening.Restarted, Fault.InRestart};
 ghost use Rattle.xa_base.specs.declared.refusal.Refusal.TheVariants as Refusals;
 ghost use Rattle.xa_log.specs.Content.{bumped, last_number};
@@ -39,6 +39,9 @@ impl<L: DecisionLog + Drop> Manager<L> {
             IsFound (book_in self.old) found.incarnation found.decisions found.heuristics) }
         ensures tied { L.is_in_order (log_in self.old) → L.is_honest (log_in self.new) →
             IsTied (book_in self.old) (L.content (log_in self.old)) → IsTied (book_in self.new) (L.content (log_in self.new)) }
+        ensures kept { IfErr result (λ n. n ≢ Refusals.LogFault → log_in self.new ≡ log_in self.old) }
+        ensures fault { L.is_in_order (log_in self.old) → L.is_honest (log_in self.new) → result ≡ Err Refusals.LogFault →
+            MayMake bumped (L.content (log_in self.old)) (L.content (log_in self.new)) }
         ensures crash { L.is_in_order (log_in self.old) → L.is_honest (log_in self.new) →
             LeavesAlso bumped (L.content (log_in self.old))
             (L.may_leave (log_in self.old)) (L.may_leave (log_in self.new)) }

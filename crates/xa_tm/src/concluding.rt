@@ -1,14 +1,14 @@
 //! The steps that decide a transaction, and the one that takes its row away (XA, section 2.3, Transaction Completion
 //! and Recovery).
 
-ghost use Rattle.std.specs.Prelude.{◌≡◌, Bool, Some, None, Err, IfErr, OnOk};
+ghost use Rattle.std.specs.Prelude.{◌≡◌, ◌≢◌, Bool, Some, None, Err, IfErr, OnOk};
 ghost use Rattle.xa_base.specs.declared.step.Step.TheVariants as Steps;
 ghost use Rattle.xa_base.specs.Trace.{Fault.InDecide, Fault.InDone, Happening.Decided, Happening.Done};
 ghost use Rattle.xa_base.specs.Trace.{Happening.Failed};
 ghost use Rattle.xa_base.specs.declared.refusal.Refusal.TheVariants as Refusals;
 ghost use Rattle.xa_base.specs.declared.step.Outcome.TheVariants as Outcomes;
 ghost use Rattle.xa_tm.specs.Book.{Doubt.Adds, Doubt.Drops, after, book_after, voted_yes};
-ghost use Rattle.xa_log.specs.Contract.{LeavesAlso};
+ghost use Rattle.xa_log.specs.Contract.{LeavesAlso, MayMake};
 ghost use Rattle.xa_tm.specs.Tied.{made};
 ghost use Rattle.xa_tm.specs.Held.{IsSound};
 ghost use Rattle.xa_tm.specs.Kept.{AddsRow, FailsBy, IsOpenIn, book_in, faults_by, log_in};
@@ -34,6 +34,9 @@ impl<L: DecisionLog + Drop> Manager<L> {
             AddsRow outcome ((book_in self.old).deal g) }
         ensures tied { L.is_in_order (log_in self.old) → L.is_honest (log_in self.new) →
             IsTied (book_in self.old) (L.content (log_in self.old)) → IsTied (book_in self.new) (L.content (log_in self.new)) }
+        ensures kept { IfErr result (λ n. n ≢ Refusals.LogFault → log_in self.new ≡ log_in self.old) }
+        ensures fault { L.is_in_order (log_in self.old) → result ≡ Err Refusals.LogFault →
+            MayMake (made (Adds g (voted_yes (book_in self.old) g))) (L.content (log_in self.old)) (L.content (log_in self.new)) }
         ensures crash { L.is_in_order (log_in self.old) → L.is_honest (log_in self.new) →
             LeavesAlso (made (Adds g (voted_yes (book_in self.old) g))) (L.content (log_in self.old))
             (L.may_leave (log_in self.old)) (L.may_leave (log_in self.new)) }
@@ -60,6 +63,9 @@ impl<L: DecisionLog + Drop> Manager<L> {
             AddsRow Outcomes.Commit ((book_in self.old).deal g) }
         ensures tied { L.is_in_order (log_in self.old) → L.is_honest (log_in self.new) →
             IsTied (book_in self.old) (L.content (log_in self.old)) → IsTied (book_in self.new) (L.content (log_in self.new)) }
+        ensures kept { IfErr result (λ n. n ≢ Refusals.LogFault → log_in self.new ≡ log_in self.old) }
+        ensures fault { L.is_in_order (log_in self.old) → result ≡ Err Refusals.LogFault →
+            MayMake (made (Adds g (voted_yes (book_in self.old) g))) (L.content (log_in self.old)) (L.content (log_in self.new)) }
         ensures crash { L.is_in_order (log_in self.old) → L.is_honest (log_in self.new) →
             LeavesAlso (made (Adds g (voted_yes (book_in self.old) g))) (L.content (log_in self.old))
             (L.may_leave (log_in self.old)) (L.may_leave (log_in self.new)) }
@@ -86,6 +92,9 @@ impl<L: DecisionLog + Drop> Manager<L> {
             AddsRow Outcomes.Rollback ((book_in self.old).deal g) }
         ensures tied { L.is_in_order (log_in self.old) → L.is_honest (log_in self.new) →
             IsTied (book_in self.old) (L.content (log_in self.old)) → IsTied (book_in self.new) (L.content (log_in self.new)) }
+        ensures kept { IfErr result (λ n. n ≢ Refusals.LogFault → log_in self.new ≡ log_in self.old) }
+        ensures fault { L.is_in_order (log_in self.old) → result ≡ Err Refusals.LogFault →
+            MayMake (made (Adds g (voted_yes (book_in self.old) g))) (L.content (log_in self.old)) (L.content (log_in self.new)) }
         ensures crash { L.is_in_order (log_in self.old) → L.is_honest (log_in self.new) →
             LeavesAlso (made (Adds g (voted_yes (book_in self.old) g))) (L.content (log_in self.old))
             (L.may_leave (log_in self.old)) (L.may_leave (log_in self.new)) }
@@ -110,6 +119,9 @@ impl<L: DecisionLog + Drop> Manager<L> {
             (book_in self.new ≡ book_after (book_in self.old) (Drops g) (Failed (InDone g)))) }
         ensures tied { L.is_in_order (log_in self.old) → L.is_honest (log_in self.new) →
             IsTied (book_in self.old) (L.content (log_in self.old)) → IsTied (book_in self.new) (L.content (log_in self.new)) }
+        ensures kept { IfErr result (λ n. n ≢ Refusals.LogFault → log_in self.new ≡ log_in self.old) }
+        ensures fault { L.is_in_order (log_in self.old) → result ≡ Err Refusals.LogFault →
+            MayMake (made (Drops g)) (L.content (log_in self.old)) (L.content (log_in self.new)) }
         ensures crash { L.is_in_order (log_in self.old) → L.is_honest (log_in self.new) →
             LeavesAlso (made (Drops g)) (L.content (log_in self.old))
             (L.may_leave (log_in self.old)) (L.may_leave (log_in self.new)) }
@@ -141,6 +153,9 @@ impl<L: DecisionLog + Drop> Manager<L> {
         ensures asked { result ≡ Err Refusals.LogFault → AddsRow outcome ((book_in self.old).deal g) }
         ensures tied { L.is_in_order (log_in self.old) → L.is_honest (log_in self.new) →
             IsTied (book_in self.old) (L.content (log_in self.old)) → IsTied (book_in self.new) (L.content (log_in self.new)) }
+        ensures kept { IfErr result (λ n. n ≢ Refusals.LogFault → log_in self.new ≡ log_in self.old) }
+        ensures fault { L.is_in_order (log_in self.old) → result ≡ Err Refusals.LogFault →
+            MayMake (made (Adds g (voted_yes (book_in self.old) g))) (L.content (log_in self.old)) (L.content (log_in self.new)) }
         ensures crash { L.is_in_order (log_in self.old) → L.is_honest (log_in self.new) →
             LeavesAlso (made (Adds g (voted_yes (book_in self.old) g))) (L.content (log_in self.old))
             (L.may_leave (log_in self.old)) (L.may_leave (log_in self.new)) }
@@ -169,6 +184,9 @@ impl<L: DecisionLog + Drop> Manager<L> {
         ensures err { IfErr result (FailsBy (Adds g (voted_yes (book_in self.old) g)) (InDecide g) (book_in self.old) (book_in self.new)) }
         ensures tied { L.is_in_order (log_in self.old) → L.is_honest (log_in self.new) →
             IsTied (book_in self.old) (L.content (log_in self.old)) → IsTied (book_in self.new) (L.content (log_in self.new)) }
+        ensures kept { IfErr result (λ n. n ≢ Refusals.LogFault → log_in self.new ≡ log_in self.old) }
+        ensures fault { L.is_in_order (log_in self.old) → result ≡ Err Refusals.LogFault →
+            MayMake (made (Adds g (voted_yes (book_in self.old) g))) (L.content (log_in self.old)) (L.content (log_in self.new)) }
         ensures crash { L.is_in_order (log_in self.old) → L.is_honest (log_in self.new) →
             LeavesAlso (made (Adds g (voted_yes (book_in self.old) g))) (L.content (log_in self.old))
             (L.may_leave (log_in self.old)) (L.may_leave (log_in self.new)) }

@@ -1,6 +1,6 @@
 //! What the manager makes of an answer.
 
-ghost use Rattle.std.specs.Prelude.{◌≡◌, Bool, Option, Some, None, IsSome, Err, IfErr, OnOk, OnErr};
+ghost use Rattle.std.specs.Prelude.{◌≡◌, ◌≢◌, Bool, Option, Some, None, IsSome, Err, IfErr, OnOk, OnErr};
 ghost use Rattle.xa_base.specs.StateTable.{on};
 ghost use Rattle.xa_base.specs.declared.answer.Answer.TheVariants.{Ret};
 ghost use Rattle.xa_base.specs.Trace.{Fault.InHear, Call as KnownCall, Kind, Line, line, Happening.Heard};
@@ -48,6 +48,11 @@ impl<L: DecisionLog + Drop> Manager<L> {
         ensures asked { result ≡ Err Refusals.LogFault → MakesRecord (map_call name_of call.now) (map_answer name_of answer.now) }
         ensures tied { L.is_in_order (log_in self.old) → L.is_honest (log_in self.new) →
             IsTied (book_in self.old) (L.content (log_in self.old)) → IsTied (book_in self.new) (L.content (log_in self.new)) }
+        ensures kept { IfErr result (λ n. n ≢ Refusals.LogFault → log_in self.new ≡ log_in self.old) }
+        ensures fault { L.is_in_order (log_in self.old) → result ≡ Err Refusals.LogFault →
+            (c : KnownCall) → accepted (map_call name_of call.now) ≡ Some c →
+            MayMake (made (doubt_of (record_of c (map_answer name_of answer.now))))
+            (L.content (log_in self.old)) (L.content (log_in self.new)) }
         ensures crash { L.is_in_order (log_in self.old) → L.is_honest (log_in self.new) →
             (c : KnownCall) → accepted (map_call name_of call.now) ≡ Some c →
             LeavesAlso (made (doubt_of (record_of c (map_answer name_of answer.now)))) (L.content (log_in self.old))
@@ -83,6 +88,9 @@ impl<L: DecisionLog + Drop> Manager<L> {
         ensures asked { result ≡ Err Refusals.LogFault → IsSome news.how }
         ensures tied { L.is_in_order (log_in self.old) → L.is_honest (log_in self.new) → (l : Line) (kind : Kind) (code : Code) → news ≡ news_by kind code →
             IsTied (book_in self.old) (L.content (log_in self.old)) → IsTied (book_in self.new) (L.content (log_in self.new)) }
+        ensures kept { IfErr result (λ n. n ≢ Refusals.LogFault → log_in self.new ≡ log_in self.old) }
+        ensures fault { L.is_in_order (log_in self.old) → result ≡ Err Refusals.LogFault →
+            MayMake (made (recording b news.how)) (L.content (log_in self.old)) (L.content (log_in self.new)) }
         ensures crash { L.is_in_order (log_in self.old) → L.is_honest (log_in self.new) →
             LeavesAlso (made (recording b news.how)) (L.content (log_in self.old))
             (L.may_leave (log_in self.old)) (L.may_leave (log_in self.new)) }

@@ -46,6 +46,15 @@ impl Ledger {
         if !self.is_up {
             return Some(Refusal::ManagerDown);
         }
+        self.may_call(thread, rm, call)
+    }
+
+    /// The same on a line of the system, while the manager is up.
+    fn may_call(&self, thread: u32, rm: u32, call: &Call) -> Option<Refusal>
+        requires { self.now.is_up ≡ Bool.true }
+        ensures { result ≡ first_of (applies_in (held self.now)
+            (Steps.Issue thread rm (map_call name_of call.now))) manager_rules }
+    {
         match call {
             Call::OpenRm => None,
             Call::CloseRm => self.may_close(thread, rm),
@@ -63,17 +72,8 @@ impl Ledger {
                 Some(b) => self.may_prepare(thread, rm, b),
                 None => Some(Refusal::UnknownTransaction),
             },
-            Call::Commit {
-                xid,
-                one_phase: true,
-            } => match xid.branch() {
-                Some(b) => self.may_hand_over(thread, rm, b),
-                None => Some(Refusal::UnknownTransaction),
-            },
-            Call::Commit {
-                xid,
-                one_phase: false,
-            } => match xid.branch() {
+            Call::Commit { xid, one_phase } => match xid.branch() {
+                Some(b) if *one_phase => self.may_hand_over(thread, rm, b),
                 Some(b) => self.may_commit(rm, b),
                 None => Some(Refusal::UnknownTransaction),
             },

@@ -25,9 +25,8 @@ mod restarting;
 mod room;
 mod rules;
 mod start;
+mod started;
 mod starting;
-#[cfg(test)]
-mod tests;
 
 pub use coming_up::Found;
 pub use laws::{

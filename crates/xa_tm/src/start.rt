@@ -1,12 +1,12 @@
 //! A manager starts over a log.
 
-ghost use Rattle.std.specs.Prelude.{◌≡◌, ◌+◌, IsSomeAnd, Err, IfOk};
-ghost use Rattle.xa_log.specs.Content.{bumped};
-ghost use Rattle.xa_log.specs.Contract.{Makes};
+ghost use Rattle.std.specs.Prelude.{◌≡◌, ◌⊎◌, ◌+◌, IsSomeAnd, Err, IfOk};
+ghost use Rattle.xa_log.specs.Content.{bumped, unchanged};
+ghost use Rattle.xa_log.specs.Contract.{Makes, one_more_fault};
 ghost use Rattle.xa_tm.specs.Held.{IsSound};
 ghost use Rattle.xa_tm.specs.Kept.{book_in, log_in};
 ghost use Rattle.xa_tm.specs.Tied.{IsTied};
-ghost use Rattle.xa_tm.specs.Starting.{IsOld, started};
+ghost use Rattle.xa_tm.specs.Starting.{IsOld, IsPast, started};
 ghost use Rattle.xa_base.specs.Distinct.{ApartRows};
 ghost use Rattle.xa_base.specs.Trace.{Origin, Trace.From};
 ghost use Rattle.xa_tm.specs.Begins.{BeginsWith, rows_begun};
@@ -24,7 +24,8 @@ use xa_log::DecisionLog;
 /// Why a manager didn't start.
 #[derive(Clone, Copy, Debug, PartialEq, Eq, Error)]
 pub enum StartFault {
-    /// The log failed, or has a row that no earlier incarnation wrote. The incarnation may have been raised.
+    /// The log failed, or has a row or a record of a later incarnation than its own, or out of order. The incarnation
+    /// may have been raised.
     #[error("the decision log failed, or has a row of no earlier incarnation")]
     Log,
     /// A request for memory was refused. The log is as it was.
@@ -50,6 +51,15 @@ impl<L: DecisionLog + Drop> Manager<L> {
         ensures order { L.is_in_order log → IfOk result (λ m. L.is_in_order (log_in m)) }
         ensures honest { IfOk result (λ m. L.is_honest (log_in m) → L.is_honest log) }
         ensures faults { IfOk result (λ m. L.fault_count (log_in m) ≡ L.fault_count log) }
+        ensures past { L.is_in_order log → IfOk result (λ m. L.is_honest (log_in m) →
+            IsSomeAnd (L.content log) IsPast) }
+        ensures log_fault { result ≡ Err StartFault.Log →
+            ((left : L) × ((L.fault_count left ≡ one_more_fault (L.fault_count log)) ⊎
+            ((L.fault_count left ≡ L.fault_count log) × (L.is_in_order log → L.is_honest left →
+            IsSomeAnd (L.content log) (λ c. ¬ IsPast c) × Makes bumped (L.content log) (L.content left))))) }
+        ensures memory_fault { result ≡ Err StartFault.Memory →
+            ((left : L) × ((L.fault_count left ≡ L.fault_count log) ×
+            (L.is_in_order log → L.is_honest left → Makes unchanged (L.content log) (L.content left)))) }
     {
         match log.rows() {
             Err(_) => Err(StartFault::Log),

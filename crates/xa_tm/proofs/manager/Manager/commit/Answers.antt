@@ -67,3 +67,8 @@ pub returns-in-Err-commit-clause-crash : goal.returns-in-Err-commit-clause-crash
 returns-in-Err-commit-clause-crash g c = λ order honest.
     subst (λ s. LeavesAlso (committed c.args.g s) (g.L.DecisionLog.content c.args.self.now.log) (g.L.DecisionLog.may_leave c.args.self.now.log) (g.L.DecisionLog.may_leave c.commit.new.self))
     (ap from_list c.as_slice.ensures.value ∙ c.in-Ok.ensures.all) (c.in-Err-commit.ensures.crash order honest)
+
+pub returns-in-Err-commit-clause-fault : goal.returns-in-Err-commit-clause-fault
+returns-in-Err-commit-clause-fault g c = λ order failed.
+    subst (λ s. MayMake (committed c.args.g s) (g.L.DecisionLog.content c.args.self.now.log) (g.L.DecisionLog.content c.commit.new.self))
+    (ap from_list c.as_slice.ensures.value ∙ c.in-Ok.ensures.all) (c.in-Err-commit.ensures.err order)

@@ -1,4 +1,4 @@
-use Rattle.std.proofs.Common.{◌≡◌, ◌<◌, ◌≤◌, ap, ◌∙◌, ◌-◌, arith, length, sym, subst, IsSomeAnd}
+use Rattle.std.proofs.Common.{◌≡◌, ◌<◌, ◌≤◌, inl, inr, ap, ◌∙◌, ◌-◌, arith, length, sym, subst, IsSomeAnd}
 use Rattle.std.specs.Prelude.{◌^◌}
 use Rattle.std.specs.List.{list_all}
 use Rattle.std.proofs.lemmas.Bool.{and_parts}
@@ -7,12 +7,14 @@ use Rattle.xa_base.specs.declared.code.How.{How}
 use Rattle.xa_base.specs.Distinct.{ApartRows}
 use Rattle.xa_log.specs.Content.{last_number}
 use Rattle.xa_log.specs.declared.log_rows.LogRows.{LogRows}
+use Rattle.xa_log.specs.Contract.{one_more_fault}
 use Rattle.xa_tm.specs.Begins.{records_listed, rows_listed}
 use Rattle.xa_tm.specs.Book.{Book}
 use Rattle.xa_tm.proofs.Begins.{begun_apart, begun_book}
 use Rattle.xa_tm.specs.Held.{IsSound}
 use Rattle.xa_tm.specs.Starting.{IsOld, ended_among, fits_before, loaded, started}
-use Rattle.xa_tm.proofs.Starts.{in_incarnation, start_old, start_sound, start_tied, started_over}
+use Rattle.xa_tm.proofs.Starts.{in_incarnation, raised_over, start_old, start_sound, start_tied, started_over}
+use Rattle.xa_tm.proofs.Pasts.{not_past, past_of}
 use Rattle.xa_tm.proofs.manager.Manager.new.Goals as goal
 
 pub returns-then-can_start-clause-book : goal.returns-then-can_start-clause-book
@@ -70,3 +72,46 @@ returns-then-can_start-clause-room g c =
     let some : length rows.decisions.items ≤ last_number = omega arith in
     let few : length rows.heuristics.items ≤ last_number = omega arith in
     record { rows = subst (λ n. n ≤ last_number) (sym (ap (λ (k : Book). k.rows) c.in-Ok-load.ensures)) some; records = subst (λ n. n ≤ last_number) (sym (ap (λ (k : Book). k.records) c.in-Ok-load.ensures)) few }
+
+-- ** the faults
+
+pub returns-in-Err-clause-log_fault : goal.returns-in-Err-clause-log_fault
+returns-in-Err-clause-log_fault g c = λ is. (c.rows.new.self, inl c.in-Err.ensures.faults)
+
+pub returns-in-Err-load-clause-memory_fault : goal.returns-in-Err-load-clause-memory_fault
+returns-in-Err-load-clause-memory_fault g c = λ is. (c.rows.new.self, (c.in-Ok.ensures.faults, λ order honest. c.in-Ok.ensures.ok order honest))
+
+pub returns-in-Err-bump-clause-log_fault : goal.returns-in-Err-bump-clause-log_fault
+returns-in-Err-bump-clause-log_fault g c = λ is. (c.bump.new.self, inl (c.in-Err-bump.ensures.faults ∙ ap one_more_fault c.in-Ok.ensures.faults))
+
+pub returns-else-can_start-clause-log_fault : goal.returns-else-can_start-clause-log_fault
+returns-else-can_start-clause-log_fault g c = λ is. (
+  c.bump.new.self,
+  inr (
+    c.in-Ok-bump.ensures.faults ∙ c.in-Ok.ensures.faults,
+    λ order honest.
+        let rows = c.in-Ok.rows in
+        let i = c.in-Ok-bump.incarnation in
+        let still = c.in-Ok-bump.ensures.honest honest in
+        let mid = g.L.DecisionLog.content c.rows.new.self in
+        let kept = c.in-Ok.ensures.ok order still in (
+          not_past i rows.decisions.items rows.heuristics.items (g.L.DecisionLog.content c.args.log) mid
+              (c.in-Ok.ensures.decisions order still) (c.in-Ok.ensures.heuristics order still) kept
+              (c.in-Ok-bump.ensures.answer (c.in-Ok.ensures.order order) honest)
+              (λ content is. g.met.L.DecisionLog.fits c.args.log content order is)
+              (sym c.can_start.ensures ∙ c.if-can_start.false),
+          raised_over c.args.threads c.args.rms i rows.decisions.items rows.participants.items rows.heuristics.items (g.L.DecisionLog.content c.args.log) mid (g.L.DecisionLog.content c.bump.new.self)
+              kept (c.in-Ok-bump.ensures.ok (c.in-Ok.ensures.order order) honest),
+        ),
+  ),
+)
+
+pub returns-then-can_start-clause-past : goal.returns-then-can_start-clause-past
+returns-then-can_start-clause-past g c = λ order honest.
+    let rows = c.in-Ok.rows in
+    let i = c.in-Ok-bump.incarnation in
+    let still = c.in-Ok-bump.ensures.honest honest in
+    past_of c.args.threads c.args.rms _ (g.L.DecisionLog.content c.args.log) (g.L.DecisionLog.content c.bump.new.self)
+    (raised_over c.args.threads c.args.rms i rows.decisions.items rows.participants.items rows.heuristics.items (g.L.DecisionLog.content c.args.log) (g.L.DecisionLog.content c.rows.new.self) (g.L.DecisionLog.content c.bump.new.self)
+    (c.in-Ok.ensures.ok order still) (c.in-Ok-bump.ensures.ok (c.in-Ok.ensures.order order) honest))
+    (returns-then-can_start-clause-book g c order honest) (returns-then-can_start-clause-old g c)

@@ -36,3 +36,6 @@ returns-in-Err-find_and_raise-clause-tied g c = λ order honest tied.
     let new = g.L.DecisionLog.content c.find_and_raise.new.log in
     subst (λ b. IsTied b new) (sym (c.fail_restart.ensures Settled ∙ ap (λ b. book_after b Settled (Failed InRestart)) c.prepare_restart.ensures.book))
     (tied_no_restart k (g.L.DecisionLog.content c.args.self.now.log) new c.if-self.false (c.in-Err-find_and_raise.ensures.err order honest) tied)
+
+pub returns-else-try_restart-clause-fault : goal.returns-else-try_restart-clause-fault
+returns-else-try_restart-clause-fault g c = λ order honest failed. inr (inr (c.in-Ok-find_and_raise.ensures.ok order honest))
