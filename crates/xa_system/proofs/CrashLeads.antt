@@ -27,15 +27,18 @@ use Rattle.xa_base.proofs.Keys.{line_eq-refl}
 use Rattle.xa_line.specs.Grid.{Grid, HasLine, RenewsRm, line_at, new_grid, with_line}
 use Rattle.xa_line.specs.Traffic.{Traffic, no_traffic}
 use Rattle.xa_line.proofs.GridLaws.{line_at-new_grid, whole-new_grid, whole-with_line}
-use Rattle.xa_system.specs.Lines.{LineStands}
+use Rattle.xa_line.specs.Histories.{LineStands}
 use Rattle.xa_system.specs.Parts.{OneMore, Sees, SiteStands, Stands}
 use Rattle.xa_system.specs.Steps.{AllCrash, Breaks, Crashes}
 use Rattle.xa_system.specs.declared.parts.Parts.{Parts}
 use Rattle.xa_system.specs.declared.site.Site.{Site}
 use Rattle.xa_system.proofs.Broken.{BreaksAll, break_stands, crash_stands}
-use Rattle.xa_system.proofs.LineLaws.{line_renewed, line_stays}
+use Rattle.xa_line.proofs.TrafficLaws.{line_renewed}
+use Rattle.xa_system.proofs.LineLaws.{line_stays}
 use Rattle.xa_system.proofs.Managing.{book_then}
-use Rattle.xa_system.proofs.Standing.{IsNothingTo, goes_as, has_line, lines_apart_rm, lines_with, sites_with, there_is}
+use Rattle.xa_system.specs.Logged.{LogFollows}
+use Rattle.xa_system.proofs.Logging.{log_stays}
+use Rattle.xa_system.proofs.Standing.{IsEvent, IsNothingTo, goes_as, has_line, lines_apart_rm, lines_with, sites_with, there_is}
 use Rattle.xa_tm.specs.Book.{Book, after}
 
 -- ** refusals
@@ -97,9 +100,10 @@ module _ {R L : Type 0} (see : Sees R L) where
 
   pub crash_line_leads : (parts : Parts R L) (t r : ℕ) (site : Site R) (rm : R) (x : Traffic) (manager : Manager L) (reply : Reply Xid) → reply ≡ Replies.Crashed → (nat_lt t parts.lines.threads && nat_lt r parts.lines.rms) ≡ true
       → (book_in parts.manager).up ≡ true → site.is_up ≡ true → x ≡ no_traffic → Breaks see.look t site.rm rm → book_in manager ≡ after (book_in parts.manager) (Crashed (KnownParts.Line t r))
+      → ((tr : Trace) → LogFollows see.logs tr (Crashed (KnownParts.Line t r)) parts.manager manager)
       → (tr : Trace) → Stands see tr parts → slice_get parts.sites.items r ≡ Some site
-      → OneMore see (Steps.Crash (KnownParts.Line t r)) reply tr (record { alloc = parts.alloc; start = parts.start; began = parts.began; sites = with_item parts.sites r (record { rm = rm; is_up = site.is_up }); lines = with_line parts.lines t r x; manager = manager })
-  crash_line_leads parts t r site rm x manager reply is there up site_up renewed broke book tr stands at =
+      → OneMore see (Steps.Crash (KnownParts.Line t r)) reply tr parts (record { alloc = parts.alloc; start = parts.start; began = parts.began; sites = with_item parts.sites r (record { rm = rm; is_up = site.is_up }); lines = with_line parts.lines t r x; manager = manager })
+  crash_line_leads parts t r site rm x manager reply is there up site_up renewed broke book log tr stands at =
       let has_tr = sym (there_is see tr parts t r stands) ∙ there in
       let has = has_line see tr parts t r stands has_tr in
       let e = Crashed (KnownParts.Line t r) in
@@ -119,6 +123,8 @@ module _ {R L : Type 0} (see : Sees R L) where
             (subst (LineStands (Then tr e) (line t r)) (sym renewed) (line_renewed tr e (line t r) (line_eq-refl (line t r))))
             (λ u s has_u apart. line_stays tr e (line u s) (line_at parts.lines u s) apart refl refl refl (stands.lines u s has_u));
         book = book_then see tr e parts manager stands tt book;
+        log = log tr;
+        unchanged = λ q. absurd (subst IsEvent q tt);
       })
 
   pub crash_line_limit : (tr : Trace) (parts : Parts R L) (t r : ℕ) → (nat_lt t parts.lines.threads && nat_lt r parts.lines.rms) ≡ false → Stands see tr parts → must_refuse tr (Steps.Crash (KnownParts.Line t r)) ≡ Some Refusals.Limit
@@ -157,9 +163,10 @@ module _ {R L : Type 0} (see : Sees R L) where
       by_rm (inr w) = subst (LineStands (Then tr e) (line t s)) (sym (renews.others t s has_old w.1)) (line_stays tr e (line t s) (line_at parts.lines t s) (ne_eqb r s (λ q. w.1 (sym q))) refl refl refl (stands.lines t s has_old))
 
   pub crash_rm_leads : (parts : Parts R L) (r : ℕ) (site : Site R) (rm : R) (lines : Grid) (manager : Manager L) (reply : Reply Xid) → reply ≡ Replies.Crashed → r < parts.lines.rms → site.is_up ≡ true → Crashes see.look site.rm rm → RenewsRm parts.lines lines r
-      → book_in manager ≡ after (book_in parts.manager) (Crashed (KnownParts.Rm r)) → (tr : Trace) → Stands see tr parts → slice_get parts.sites.items r ≡ Some site
-      → OneMore see (Steps.Crash (KnownParts.Rm r)) reply tr (record { alloc = parts.alloc; start = parts.start; began = parts.began; sites = with_item parts.sites r (record { rm = rm; is_up = false }); lines = lines; manager = manager })
-  crash_rm_leads parts r site rm lines manager reply is within site_up did renews book tr stands at =
+      → book_in manager ≡ after (book_in parts.manager) (Crashed (KnownParts.Rm r))
+      → ((tr : Trace) → LogFollows see.logs tr (Crashed (KnownParts.Rm r)) parts.manager manager) → (tr : Trace) → Stands see tr parts → slice_get parts.sites.items r ≡ Some site
+      → OneMore see (Steps.Crash (KnownParts.Rm r)) reply tr parts (record { alloc = parts.alloc; start = parts.start; began = parts.began; sites = with_item parts.sites r (record { rm = rm; is_up = false }); lines = lines; manager = manager })
+  crash_rm_leads parts r site rm lines manager reply is within site_up did renews book log tr stands at =
       let e = Crashed (KnownParts.Rm r) in
       let here = stands.sites r site at in
       let why : must_refuse tr (Steps.Crash (KnownParts.Rm r)) ≡ None = λ i. rm_why (rm_there tr parts r stands within i) ((sym here.is_up ∙ site_up) i) in
@@ -175,6 +182,8 @@ module _ {R L : Type 0} (see : Sees R L) where
         sites = sites_with see tr e parts.sites r site (record { rm = rm; is_up = false }) at (record { is_up = rw (eq-eqb r r refl) refl; rm = crash_stands see.look tr e r site.rm rm (crashed_rm tr r) did here.rm }) (rm_crash_elsewhere tr r) stands.sites;
         lines = renewed_lines tr parts r lines stands renews;
         book = book_then see tr e parts manager stands tt book;
+        log = log tr;
+        unchanged = λ q. absurd (subst IsEvent q tt);
       })
 
   pub crash_rm_limit : (tr : Trace) (parts : Parts R L) (r : ℕ) → parts.lines.rms ≤ r → Stands see tr parts → must_refuse tr (Steps.Crash (KnownParts.Rm r)) ≡ Some Refusals.Limit
@@ -192,7 +201,7 @@ module _ {R L : Type 0} (see : Sees R L) where
   restart_busy tr parts r site within at up stands = λ i. restart_why (rm_there tr parts r stands within i) ((sym (stands.sites r site at).is_up ∙ up) i)
 
   pub restart_leads : (parts : Parts R L) (r : ℕ) (site : Site R) (reply : Reply Xid) → reply ≡ Replies.RmRestarted → r < parts.lines.rms → site.is_up ≡ false → (tr : Trace) → Stands see tr parts → slice_get parts.sites.items r ≡ Some site
-      → OneMore see (Steps.Restart (Sides.Rm r)) reply tr (record { alloc = parts.alloc; start = parts.start; began = parts.began; sites = with_item parts.sites r (record { rm = site.rm; is_up = true }); lines = parts.lines; manager = parts.manager })
+      → OneMore see (Steps.Restart (Sides.Rm r)) reply tr parts (record { alloc = parts.alloc; start = parts.start; began = parts.began; sites = with_item parts.sites r (record { rm = site.rm; is_up = true }); lines = parts.lines; manager = parts.manager })
   restart_leads parts r site reply is within down tr stands at =
       let e = RmRestarted r in
       let here = stands.sites r site at in
@@ -212,6 +221,8 @@ module _ {R L : Type 0} (see : Sees R L) where
             stands.sites;
         lines = λ t s has. line_stays tr e (line t s) (line_at parts.lines t s) refl refl refl refl (stands.lines t s has);
         book = stands.book;
+        log = log_stays see.logs e parts.manager (λ n. refl);
+        unchanged = λ q. absurd (subst IsEvent q tt);
       })
 
   -- ** the manager
@@ -237,9 +248,10 @@ module _ {R L : Type 0} (see : Sees R L) where
   crash_manager_down tr parts down stands = λ i. line_why true ((sym (manager_up tr parts stands) ∙ down) i) true
 
   pub crash_manager_leads : (parts : Parts R L) (sites : Vec (Site R) Global) (lines : Grid) (manager : Manager L) (reply : Reply Xid) → reply ≡ Replies.Crashed → (book_in parts.manager).up ≡ true → AllCrash see.look parts.sites.items sites.items
-      → lines ≡ new_grid parts.lines.threads parts.lines.rms → book_in manager ≡ after (book_in parts.manager) (Crashed KnownParts.Manager) → (tr : Trace) → Stands see tr parts
-      → OneMore see (Steps.Crash KnownParts.Manager) reply tr (record { alloc = parts.alloc; start = parts.start; began = parts.began; sites = sites; lines = lines; manager = manager })
-  crash_manager_leads parts sites lines manager reply is up did renewed book tr stands =
+      → lines ≡ new_grid parts.lines.threads parts.lines.rms → book_in manager ≡ after (book_in parts.manager) (Crashed KnownParts.Manager)
+      → ((tr : Trace) → LogFollows see.logs tr (Crashed KnownParts.Manager) parts.manager manager) → (tr : Trace) → Stands see tr parts
+      → OneMore see (Steps.Crash KnownParts.Manager) reply tr parts (record { alloc = parts.alloc; start = parts.start; began = parts.began; sites = sites; lines = lines; manager = manager })
+  crash_manager_leads parts sites lines manager reply is up did renewed book log tr stands =
       let e = Crashed KnownParts.Manager in
       let why : must_refuse tr (Steps.Crash KnownParts.Manager) ≡ None = λ i. line_why true ((sym (manager_up tr parts stands) ∙ up) i) true in
       goes_as see tr (Steps.Crash KnownParts.Manager) reply Replies.Crashed parts _ stands tt (ap reply_of is) (As_value why refl)
@@ -254,4 +266,6 @@ module _ {R L : Type 0} (see : Sees R L) where
         sites = all_stand tr e parts.sites sites (crashed_manager tr) (λ r. refl) did stands.sites;
         lines = λ t r has. subst (LineStands (Then tr e) (line t r)) (sym (ap (λ g. line_at g t r) renewed ∙ line_at-new_grid parts.lines.threads parts.lines.rms t r)) (line_renewed tr e (line t r) refl);
         book = book_then see tr e parts manager stands tt book;
+        log = log tr;
+        unchanged = λ q. absurd (subst IsEvent q tt);
       })

@@ -1,6 +1,6 @@
 -- A new system stands where its history begins.
-use Rattle.std.proofs.Common.{◌≡◌, ◌≤◌, ◌<◌, ◌+◌, ◌⊎◌, inl, inr, ℕ, true, false, List, [], ◌∷◌, map, length, refl, sym, ap, subst, ◌∙◌, arith, rules, Global, Vec}
-use Rattle.std.specs.Prelude.{Option, Some, None, Contains, slice_get, vec_len}
+use Rattle.std.proofs.Common.{◌≡◌, ◌≤◌, ◌<◌, ◌+◌, ◌⊎◌, inl, inr, ℕ, true, false, List, [], ◌∷◌, map, length, refl, sym, ap, subst, ◌∙◌, arith, rules}
+use Rattle.std.specs.Prelude.{Option, Some, None, IsSomeAnd, Contains, slice_get, vec_len}
 use Rattle.std.specs.Option.{option_map, option_map_or}
 use Rattle.std.specs.Ordering.{int_eq}
 use Rattle.std.specs.Vec.{vec_capacity}
@@ -22,19 +22,22 @@ use Rattle.xa_base.specs.Scan.{Scan, Scan.Behind, Scan.NotOpen}
 use Rattle.xa_base.specs.Standing.{fate_of, is_in_doubt}
 use Rattle.xa_base.specs.Trace.{Name.Foreign, Origin, Trace.From, line}
 use Rattle.xa_base.specs.Xid.{Xid}
-use Rattle.xa_base.specs.declared.reply.Event.{Event}
 use Rattle.xa_base.specs.declared.state.Fate.TheVariants as Fates
 use Rattle.xa_base.specs.declared.state.Standing.{Standing}
 use Rattle.xa_base.specs.declared.state.Standing.TheVariants.{Unstarted, Active, Idle, Prepared, RollbackOnly, Completed, Committed, RolledBack, Lost, ReadOnly, Forgotten}
 use Rattle.xa_line.specs.Grid.{Grid, line_at, new_grid}
 use Rattle.xa_line.proofs.GridLaws.{line_at-new_grid, whole-new_grid}
 use Rattle.xa_tm.specs.declared.manager.Manager.{Manager}
-use Rattle.xa_tm.specs.Kept.{book_in}
-use Rattle.xa_system.specs.Lines.{LineStands}
+use Rattle.xa_tm.specs.Kept.{book_in, log_in}
+use Rattle.xa_tm.specs.Starting.{started}
+use Rattle.xa_tm.specs.Tied.{IsTied}
+use Rattle.xa_system.specs.Logged.{IsStartedOver, StartsOver}
+use Rattle.xa_system.specs.declared.system.System.TheInside.{Inside}
+use Rattle.xa_system.proofs.LogLaws.{starts_over}
+use Rattle.xa_line.specs.Histories.{LineStands}
 use Rattle.xa_system.specs.Parts.{Sees, SiteStands, Stands, event_limit, origin_of}
 use Rattle.xa_system.specs.Seen.{AreClear, IsClear, IsStarted, IsSound, IsUnclear, new_site, start_of}
 use Rattle.xa_system.specs.Sites.{BeginsClear, Looks, RmStands, scan_by}
-use Rattle.xa_system.specs.declared.parts.Parts.{Parts}
 use Rattle.xa_system.specs.declared.site.Site.{Site}
 
 -- ** branches that never were
@@ -132,12 +135,12 @@ module _ {R L : Type 0} (see : Sees R L) (threads : ℕ) (rms : List R) (manager
   }
 
   -- a system of new parts with no events is sound
-  pub new_sound : (parts : Parts R L) (events : Vec Event Global) → 0 < threads → parts.start.value.items ≡ rms → parts.began.value ≡ manager → parts.manager ≡ manager → parts.sites.items ≡ map new_site rms
-      → parts.lines ≡ new_grid threads (length rms) → events.items ≡ [] → vec_len events ≡ 0 → vec_capacity events ≡ event_limit → IsSound see (record { parts = parts; events = events })
-  new_sound parts events some same_start same_began same_manager sites lines none len room = record {
+  pub new_sound : (a : Inside R L) → 0 < threads → a.parts.start.value.items ≡ rms → a.parts.began.value ≡ manager → a.parts.manager ≡ manager → a.parts.sites.items ≡ map new_site rms
+      → a.parts.lines ≡ new_grid threads (length rms) → a.events.items ≡ [] → vec_len a.events ≡ 0 → vec_capacity a.events ≡ event_limit → IsStartedOver see.logs threads (length rms) a.handed.value manager → IsSound see a
+  new_sound a some same_start same_began same_manager sites lines none len room over = record {
     few = omega (arith, len);
     room = omega (arith, room);
-    stands = subst (λ o. Stands see o parts) (sym (ap (λ es. history (start_of see parts) es) none ∙ ap From origin_same)) (record {
+    stands = subst (λ o. Stands see o a.parts) (sym (ap (λ es. history (start_of see a.parts) es) none ∙ ap From origin_same)) (record {
       origin = sym origin_same;
       some_thread = some;
       kept = record { right = starts_right; numbers = tt; calls = λ l. tt; answers = λ l. tt; pages = λ r. tt };
@@ -146,7 +149,7 @@ module _ {R L : Type 0} (see : Sees R L) (threads : ℕ) (rms : List R) (manager
       began = subst books.IsSound begun new.sound;
       room = subst HasRoomForRun begun new.room;
       fits = new.sound.fits;
-      count = parts.sites.ok.0 ∙ ap length sites ∙ length-map rms new_site;
+      count = a.parts.sites.ok.0 ∙ ap length sites ∙ length-map rms new_site;
       sites = λ r site at.
           let from = mapped_site rms r site (sym (ap (λ xs. slice_get xs r) sites) ∙ at) in
           subst (SiteStands see (From (origin_of see threads rms manager)) r) from.2 (record { is_up = refl; rm = rm_starts r from.0 from.1 });
@@ -156,9 +159,21 @@ module _ {R L : Type 0} (see : Sees R L) (threads : ℕ) (rms : List R) (manager
       book = ap book_in same_manager ∙ begun;
     });
     demanded = rw none tt;
+    log = record {
+      order = λ h. subst (λ m. see.logs.is_in_order (log_in m)) (sym same_manager) (over.order h);
+      honest = λ h. over.honest (subst (λ m. see.logs.is_honest (log_in m)) same_manager h);
+      start = λ order honest.
+          let now = subst (λ m. see.logs.is_honest (log_in m)) same_manager honest in
+          subst (λ o. IsSomeAnd (see.logs.content a.handed.value) (StartsOver o)) (sym origin_same)
+          (starts_over (origin_of see threads rms manager) threads (length rms) (see.logs.content a.handed.value) (see.logs.content (log_in manager)) (over.raised order now)
+          (subst (λ k. IsSomeAnd (see.logs.content (log_in manager)) (λ c. k ≡ started threads (length rms) c)) begun (over.book order now)));
+      tied = λ order honest.
+          subst (λ m. IsTied (book_in m) (see.logs.content (log_in m))) (sym same_manager)
+          (over.tied order (subst (λ m. see.logs.is_honest (log_in m)) same_manager honest));
+    };
   }
     where
-      origin_same : start_of see parts ≡ origin_of see threads rms manager
+      origin_same : start_of see a.parts ≡ origin_of see threads rms manager
       origin_same = λ i. origin_of see (ap (λ (g : Grid). g.threads) lines i) (same_start i) (same_began i)
 
 -- ** the look at the resource managers

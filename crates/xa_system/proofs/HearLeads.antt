@@ -1,6 +1,6 @@
 -- An answer that is heard, and steps in which the log failed.
 use Rattle.std.proofs.Common.{◌≡◌, ◌≢◌, ◌<◌, ◌⊎◌, inl, inr, ℕ, Bool, true, false, List, [], ◌∷◌, map, refl, sym, ap, ◌∙◌, subst, Vec, Global}
-use Rattle.std.specs.Prelude.{◌&&◌, Option, Some, None, IsSomeAnd, slice_get, nat_lt, IsSome}
+use Rattle.std.specs.Prelude.{◌&&◌, Result, Ok, Err, Option, Some, None, IsSomeAnd, slice_get, nat_lt, IsSome}
 use Rattle.std.specs.Option.{option_map}
 use Rattle.std.proofs.lemmas.Bool.{true≢false}
 use Rattle.std.proofs.lemmas.List.{append-nil}
@@ -18,7 +18,7 @@ use Rattle.xa_base.specs.ReadBack.{StepHasXids}
 use Rattle.xa_base.specs.Right.{Right}
 use Rattle.xa_base.specs.Rules.{must_refuse}
 use Rattle.xa_base.specs.Steps.{happened, log_failed}
-use Rattle.xa_base.specs.Trace.{Answer, Call, Fault, Fault.InHear, Happening.Failed, Happening.Heard, Line, Trace, Trace.Then, line, Name.Ours, Name}
+use Rattle.xa_base.specs.Trace.{Answer, Call, Fault, Fault.InHear, Happening.Failed, Happening.Heard, Happening.Nothing, Line, Trace, Trace.Then, line, Name.Ours, Name}
 use Rattle.xa_base.specs.declared.code.How.{How}
 use Rattle.xa_base.specs.declared.answer.Answer as Given
 use Rattle.xa_base.specs.declared.answer.Answer.TheVariants as Answers
@@ -38,24 +38,30 @@ use Rattle.xa_line.proofs.FlowLaws.{all_of-PassesOn}
 use Rattle.xa_line.proofs.GridLaws.{line_at-new_grid, whole-new_grid, whole-with_line}
 use Rattle.xa_tm.specs.declared.manager.Manager.{Manager}
 use Rattle.xa_tm.specs.Asked.{FitsRecord, IsAnswerTo, MakesRecord}
-use Rattle.xa_tm.specs.Kept.{book_in}
+use Rattle.xa_tm.specs.Kept.{book_in, log_in}
 use Rattle.xa_tm.specs.Limits.{happenings}
 use Rattle.xa_tm.specs.News.{Asked, heuristic_end, news_by, news_for}
 use Rattle.xa_tm.proofs.Given.{answer_is_code, record_fits}
-use Rattle.xa_system.specs.Lines.{LineStands, known as known_call, known_answered}
+use Rattle.xa_line.specs.Histories.{LineStands, known as known_call, known_answered}
 use Rattle.xa_system.specs.Parts.{OneMore, Sees, Stands, event_limit}
 use Rattle.xa_system.specs.Steps.{AllCrash}
 use Rattle.xa_system.specs.declared.parts.Parts.{Parts}
 use Rattle.xa_system.specs.declared.site.Site.{Site}
 use Rattle.xa_system.proofs.Broken.{BreaksAll}
 use Rattle.xa_system.proofs.CrashLeads.{all_stand, line_why}
-use Rattle.xa_system.proofs.LineLaws.{line_goes_on, line_renewed, line_stays, no_waiting_answer, waiting_answer}
+use Rattle.xa_line.proofs.TrafficLaws.{line_goes_on, line_renewed}
+use Rattle.xa_system.proofs.LineLaws.{line_stays, no_waiting_answer, waiting_answer}
 use Rattle.xa_base.proofs.Replies.{accepted_ours}
 use Rattle.xa_base.specs.Steps.{if_ours}
 use Rattle.xa_system.proofs.OnBranch.{ours_back}
 use Rattle.xa_system.proofs.Lists.{some_is}
+use Rattle.xa_system.proofs.LogLaws.{made_is}
+use Rattle.xa_log.specs.Content.{Content}
+use Rattle.xa_tm.specs.Tied.{made}
+use Rattle.xa_system.proofs.Logging.{LogCalled, LogUndone, log_done, log_failing}
+use Rattle.xa_system.specs.Logged.{LogFollows, changed}
 use Rattle.xa_system.proofs.Managing.{book_then, within}
-use Rattle.xa_system.proofs.Standing.{Follows, goes_as, has_line, lacking_goes, lines_with, nothing_follows, site_stays, there_is}
+use Rattle.xa_system.proofs.Standing.{Follows, IsEvent, goes_as, has_line, lacking_goes, lines_with, nothing_follows, site_stays, there_is}
 use Rattle.xa_tm.specs.Kept.{FailsBy}
 use Rattle.xa_tm.specs.Book.{Book, after, asked_in, book_after, doubt_of}
 
@@ -127,8 +133,9 @@ module _ {R L : Type 0} (see : Sees R L) where
   pub fail_goes : (tr : Trace) (step : Step Xid) (f : Fault) (reply : Reply Xid) (parts : Parts R L) (sites : Vec (Site R) Global) (lines : Grid) (manager : Manager L) → Stands see tr parts → StepHasXids step → reply ≡ Replies.Refused Refusals.LogFault
       → must_refuse tr (step_of step) ≡ None → UsesLog tr (step_of step) → log_failed (step_of step) ≡ Failed f → facts.up tr ≡ true
       → AllCrash see.look parts.sites.items sites.items → lines ≡ new_grid parts.lines.threads parts.lines.rms → book_in manager ≡ book_after (book_in parts.manager) (asked_in tr (Failed f)) (Failed f)
-      → OneMore see step reply tr (record { alloc = parts.alloc; start = parts.start; began = parts.began; sites = sites; lines = lines; manager = manager })
-  fail_goes tr step f reply parts sites lines manager stands has is none uses fault up did renewed book =
+      → LogFollows see.logs tr (Failed f) parts.manager manager
+      → OneMore see step reply tr parts (record { alloc = parts.alloc; start = parts.start; began = parts.began; sites = sites; lines = lines; manager = manager })
+  fail_goes tr step f reply parts sites lines manager stands has is none uses fault up did renewed book log =
       let demanded : Demanded tr (step_of step) (Replies.Refused Refusals.LogFault) = For_log none uses refl in
       let e = Failed f in
       goes_as see tr step reply (Replies.Refused Refusals.LogFault) parts _ stands has (ap reply_of is) demanded
@@ -143,6 +150,8 @@ module _ {R L : Type 0} (see : Sees R L) where
         sites = all_stand see tr e parts.sites sites (failed_breaks tr f up) (λ r. refl) did stands.sites;
         lines = λ t r has. subst (LineStands (Then tr e) (line t r)) (sym (ap (λ g. line_at g t r) renewed ∙ line_at-new_grid parts.lines.threads parts.lines.rms t r)) (line_renewed tr e (line t r) up);
         book = book_then see tr e parts manager stands (subst (Right tr) fault (demanded_right tr (step_of step) (Replies.Refused Refusals.LogFault) demanded)) book;
+        log = log;
+        unchanged = λ q. absurd (subst IsEvent q tt);
       }))
 
   -- ** refusals of a Hear
@@ -178,23 +187,24 @@ module _ {R L : Type 0} (see : Sees R L) where
     pub hear_fits : (call : Asking.Call Xid) (a : Given.Answer Xid) → Some (call, a) ≡ slice_get (line_at parts.lines t r).answers.waiting 0 → happenings tr < event_limit → FitsRecord (map_call name_of call) (map_answer name_of a)
     hear_fits call a first few = let k = heard_known call a first in record_fits tr (within see tr parts stands few) (line t r) k.0 (map_answer name_of a) (map_call name_of call) k.2 k.1
 
-    pub hear_nothing : (reply : Reply Xid) → reply ≡ Replies.Nothing → None ≡ slice_get (line_at parts.lines t r).answers.waiting 0 → OneMore see (Steps.Hear t r) reply tr parts
+    pub hear_nothing : (reply : Reply Xid) → reply ≡ Replies.Nothing → None ≡ slice_get (line_at parts.lines t r).answers.waiting 0 → OneMore see (Steps.Hear t r) reply tr parts parts
     hear_nothing reply is first =
         goes_as see tr (Steps.Hear t r) reply Replies.Nothing parts parts stands tt (ap reply_of is)
         (As_value none (Hears_none (no_waiting_answer tr (line t r) (line_at parts.lines t r) (stands.lines t r has) (none_first (line_at parts.lines t r).answers.waiting first))))
-        (nothing_follows see tr parts parts.manager stands refl)
+        (nothing_follows see tr parts parts.manager stands refl refl)
 
-    pub hear_lacks : (call : Asking.Call Xid) (a : Given.Answer Xid) (manager : Manager L) (reply : Reply Xid) → Some (call, a) ≡ slice_get (line_at parts.lines t r).answers.waiting 0 → reply ≡ Replies.Refused Refusals.Memory → book_in manager ≡ book_in parts.manager
-        → OneMore see (Steps.Hear t r) reply tr (record { alloc = parts.alloc; start = parts.start; began = parts.began; sites = parts.sites; lines = parts.lines; manager = manager })
-    hear_lacks call a manager reply first is same =
+    pub hear_lacks : (call : Asking.Call Xid) (a : Given.Answer Xid) (manager : Manager L) (reply : Reply Xid) → Some (call, a) ≡ slice_get (line_at parts.lines t r).answers.waiting 0 → reply ≡ Replies.Refused Refusals.Memory → book_in manager ≡ book_in parts.manager → log_in manager ≡ log_in parts.manager
+        → OneMore see (Steps.Hear t r) reply tr parts (record { alloc = parts.alloc; start = parts.start; began = parts.began; sites = parts.sites; lines = parts.lines; manager = manager })
+    hear_lacks call a manager reply first is same log =
         let k = heard_known call a first in
-        lacking_goes see tr (Steps.Hear t r) parts manager reply stands tt is none (λ e. absurd (let two : Some (k.0, map_answer name_of a) ≡ None = sym k.2 ∙ e in cc)) same
+        lacking_goes see tr (Steps.Hear t r) parts manager reply stands tt is none (λ e. absurd (let two : Some (k.0, map_answer name_of a) ≡ None = sym k.2 ∙ e in cc)) same log
 
     pub hear_did : (call : Asking.Call Xid) (a : Given.Answer Xid) (x : Traffic) (manager : Manager L) (reply : Reply Xid) → Some (call, a) ≡ slice_get (line_at parts.lines t r).answers.waiting 0 → reply ≡ Replies.Heard call a
         → ((c : Call) → accepted (map_call name_of call) ≡ Some c → book_in manager ≡ after (book_in parts.manager) (Heard (line t r) c (map_answer name_of a)))
         → PassesOn (line_at parts.lines t r).answers (call, a) x.answers → x.calls ≡ (line_at parts.lines t r).calls
-        → OneMore see (Steps.Hear t r) reply tr (record { alloc = parts.alloc; start = parts.start; began = parts.began; sites = parts.sites; lines = with_line parts.lines t r x; manager = manager })
-    hear_did call a x manager reply first is book passes same =
+        → LogCalled see.logs (let y : Result (Unit {0}) Refusal = Ok tt in y) parts.manager manager
+        → OneMore see (Steps.Hear t r) reply tr parts (record { alloc = parts.alloc; start = parts.start; began = parts.began; sites = parts.sites; lines = with_line parts.lines t r x; manager = manager })
+    hear_did call a x manager reply first is book passes same called =
         let k = heard_known call a first in
         let e = Heard (line t r) k.0 (map_answer name_of a) in
         let happens : happened (Steps.Hear t r) (Replies.Heard (map_call Ours k.0) (map_answer name_of a)) ≡ e = ap (if_ours (λ d. Heard (line t r) d (map_answer name_of a))) (accepted_ours k.0) in
@@ -213,16 +223,19 @@ module _ {R L : Type 0} (see : Sees R L) where
               (heard_line tr (line t r) (call, a) k.0 (map_answer name_of a) (line_at parts.lines t r) x (stands.lines t r has) (ap (option_map (λ c. (c, map_answer name_of a))) k.1) passes same)
               (λ u q has_u apart. line_stays tr e (line u q) (line_at parts.lines u q) refl refl refl (rw apart refl) (stands.lines u q has_u));
           book = book_then see tr e parts manager stands (subst (Right tr) happens (demanded_right tr (Steps.Hear t r) (Replies.Heard (map_call Ours k.0) (map_answer name_of a)) demanded)) (book k.0 k.1);
+          log = log_done see.logs e tt parts.manager manager (λ n. refl) called;
+          unchanged = λ q. absurd (subst IsEvent q tt);
         }))
 
     pub hear_failed : (call : Asking.Call Xid) (a : Given.Answer Xid) (how : How) (sites : Vec (Site R) Global) (lines : Grid) (manager : Manager L) (reply : Reply Xid) → Some (call, a) ≡ slice_get (line_at parts.lines t r).answers.waiting 0 → reply ≡ Replies.Refused Refusals.LogFault
         → a ≡ Answers.Ret (Codes.Heuristic how) → facts.up tr ≡ true → AllCrash see.look parts.sites.items sites.items → lines ≡ new_grid parts.lines.threads parts.lines.rms
         → ((c : Call) → accepted (map_call name_of call) ≡ Some c → book_in manager ≡ book_after (book_in parts.manager) (doubt_of (facts.record_of c (map_answer name_of a))) (Failed (InHear (line t r))))
-        → OneMore see (Steps.Hear t r) reply tr (record { alloc = parts.alloc; start = parts.start; began = parts.began; sites = sites; lines = lines; manager = manager })
-    hear_failed call a how sites lines manager reply first is code up did renewed book =
+        → LogFollows see.logs tr (Failed (InHear (line t r))) parts.manager manager
+        → OneMore see (Steps.Hear t r) reply tr parts (record { alloc = parts.alloc; start = parts.start; began = parts.began; sites = sites; lines = lines; manager = manager })
+    hear_failed call a how sites lines manager reply first is code up did renewed book log =
         let k = heard_known call a first in
         fail_goes tr (Steps.Hear t r) (InHear (line t r)) reply parts sites lines manager stands tt is none (k.0, how, k.2 ∙ ap (λ b. Some (k.0, map_answer name_of b)) code) refl up did renewed
-        (book k.0 k.1 ∙ ap (λ d. book_after (book_in parts.manager) (doubt_of d) (Failed (InHear (line t r)))) (sym (ap facts.record_of_next k.2)))
+        (book k.0 k.1 ∙ ap (λ d. book_after (book_in parts.manager) (doubt_of d) (Failed (InHear (line t r)))) (sym (ap facts.record_of_next k.2))) log
 
     -- what waits is lost or stays, as the manager tells
     pub hear_undone : (call : Asking.Call Xid) (a : Given.Answer Xid) (n : Refusal) (sites : Vec (Site R) Global) (lines : Grid) (manager : Manager L) (reply : Reply Xid) → Some (call, a) ≡ slice_get (line_at parts.lines t r).answers.waiting 0 → reply ≡ Replies.Refused n
@@ -230,18 +243,23 @@ module _ {R L : Type 0} (see : Sees R L) where
         → (n ≡ Refusals.LogFault → (how : How) × (a ≡ Answers.Ret (Codes.Heuristic how)))
         → (n ≡ Refusals.LogFault → AllCrash see.look parts.sites.items sites.items) → (n ≡ Refusals.LogFault → lines ≡ new_grid parts.lines.threads parts.lines.rms)
         → (n ≢ Refusals.LogFault → sites ≡ parts.sites) → (n ≢ Refusals.LogFault → lines ≡ parts.lines)
-        → OneMore see (Steps.Hear t r) reply tr (record { alloc = parts.alloc; start = parts.start; began = parts.began; sites = sites; lines = lines; manager = manager })
-    hear_undone call a n sites lines manager reply first is up fails uses crash broken sites_stay lines_stay =
+        → ((c : Call) → accepted (map_call name_of call) ≡ Some c → LogUndone see.logs (Unit {0}) n (made (doubt_of (facts.record_of c (map_answer name_of a)))) parts.manager manager)
+        → OneMore see (Steps.Hear t r) reply tr parts (record { alloc = parts.alloc; start = parts.start; began = parts.began; sites = sites; lines = lines; manager = manager })
+    hear_undone call a n sites lines manager reply first is up fails uses crash broken sites_stay lines_stay called =
         let k = heard_known call a first in
         by_cause (fails k.0 k.1)
       where
         by_cause : ((n ≡ Refusals.Memory) × (book_in manager ≡ book_in parts.manager)) ⊎ ((n ≡ Refusals.LogFault) × (book_in manager ≡ book_after (book_in parts.manager) (doubt_of (facts.record_of (heard_known call a first).0 (map_answer name_of a))) (Failed (InHear (line t r)))))
-            → OneMore see (Steps.Hear t r) reply tr (record { alloc = parts.alloc; start = parts.start; began = parts.began; sites = sites; lines = lines; manager = manager })
+            → OneMore see (Steps.Hear t r) reply tr parts (record { alloc = parts.alloc; start = parts.start; began = parts.began; sites = sites; lines = lines; manager = manager })
         by_cause (inl w) =
             let no_fault : n ≢ Refusals.LogFault = λ e. absurd (let two : Refusals.Memory ≡ Refusals.LogFault = sym w.0 ∙ e in cc) in
-            subst (λ q. OneMore see (Steps.Hear t r) reply tr (record { alloc = parts.alloc; start = parts.start; began = parts.began; sites = q; lines = lines; manager = manager })) (sym (sites_stay no_fault))
-            (subst (λ q. OneMore see (Steps.Hear t r) reply tr (record { alloc = parts.alloc; start = parts.start; began = parts.began; sites = parts.sites; lines = q; manager = manager })) (sym (lines_stay no_fault))
-            (hear_lacks call a manager reply first (is ∙ ap (λ m. Replies.Refused m) w.0) w.1))
+            subst (λ q. OneMore see (Steps.Hear t r) reply tr parts (record { alloc = parts.alloc; start = parts.start; began = parts.began; sites = q; lines = lines; manager = manager })) (sym (sites_stay no_fault))
+            (subst (λ q. OneMore see (Steps.Hear t r) reply tr parts (record { alloc = parts.alloc; start = parts.start; began = parts.began; sites = parts.sites; lines = q; manager = manager })) (sym (lines_stay no_fault))
+            (hear_lacks call a manager reply first (is ∙ ap (λ m. Replies.Refused m) w.0) w.1 ((called (heard_known call a first).0 (heard_known call a first).1).kept no_fault)))
         by_cause (inr w) =
             hear_failed call a (uses w.0).0 sites lines manager reply first (is ∙ ap (λ m. Replies.Refused m) w.0) (uses w.0).1 up (crash w.0) (broken w.0)
             (λ c e. subst (λ d. book_in manager ≡ book_after (book_in parts.manager) (doubt_of (facts.record_of d (map_answer name_of a))) (Failed (InHear (line t r)))) (let two : Some (heard_known call a first).0 ≡ Some c = sym (heard_known call a first).1 ∙ e in some_is _ _ two) w.1)
+            (log_failing see.logs (InHear (line t r)) n parts.manager manager w.0
+            (subst (λ (d : Content → Content). LogUndone see.logs (Unit {0}) n d parts.manager manager)
+            (λ i d. (made_is (facts.record_of (heard_known call a first).0 (map_answer name_of a)) d ∙ ap (λ e. changed e d) (sym (ap facts.record_of_next (heard_known call a first).2))) i)
+            (called (heard_known call a first).0 (heard_known call a first).1)))

@@ -17,7 +17,8 @@ use Rattle.xa_base.specs.Right.{Right}
 use Rattle.xa_base.specs.Xid.{Xid}
 use Rattle.std.proofs.lemmas.Bool.{true≢false}
 use Rattle.xa_tm.specs.declared.manager.Manager.{Manager}
-use Rattle.xa_tm.specs.Kept.{book_in}
+use Rattle.xa_tm.specs.Kept.{book_in, log_in}
+use Rattle.xa_tm.specs.Tied.{IsTied}
 use Rattle.xa_system.proofs.Lists.{some_is}
 use Rattle.xa_base.specs.Rules.{applies, first_of, has_rm, has_thread, must_refuse, not_open, unknown_to}
 use Rattle.xa_base.specs.Steps.{happened}
@@ -34,13 +35,15 @@ use Rattle.xa_line.specs.Grid.{HasLine, line_at, with_line}
 use Rattle.xa_line.specs.Traffic.{Traffic, barred, heard, answered, issued, refusal, taken, with_one_more}
 use Rattle.xa_line.proofs.GridLaws.{whole-with_line}
 use Rattle.xa_system.proofs.OnBranch.{closed_alike, unopened_alike}
-use Rattle.xa_system.specs.Lines.{LineStands, known as known_call}
+use Rattle.xa_line.specs.Histories.{LineStands, known as known_call}
 use Rattle.xa_system.specs.Parts.{OneMore, Sees, Stands}
 use Rattle.xa_system.specs.declared.parts.Parts.{Parts}
 use Rattle.xa_system.specs.declared.site.Site.{Site}
-use Rattle.xa_system.proofs.LineLaws.{as_many_calls, line_goes_on, line_stays}
+use Rattle.xa_line.proofs.TrafficLaws.{as_many_calls, line_goes_on}
+use Rattle.xa_system.proofs.LineLaws.{line_stays}
+use Rattle.xa_system.proofs.Logging.{log_kept, tied_issued}
 use Rattle.xa_system.proofs.Managing.{book_then, judged}
-use Rattle.xa_system.proofs.Standing.{Follows, goes_as, has_line, lines_with, site_stays, there_is}
+use Rattle.xa_system.proofs.Standing.{Follows, IsEvent, goes_as, has_line, lines_with, site_stays, there_is}
 use Rattle.xa_tm.specs.Book.{Book, after}
 use Rattle.xa_tm.specs.Refusing.{managers_refusal, refusal_in}
 
@@ -192,11 +195,11 @@ module _ {R L : Type 0} (see : Sees R L) where
   -- the call waits
   pub issue_did : (parts : Parts R L) (t r : ℕ) (call : Asking.Call Xid) (site : Site R) (x : Traffic) (manager : Manager L) (reply : Reply Xid) → CallHasXid call → reply ≡ Replies.Issued → (nat_lt t parts.lines.threads && nat_lt r parts.lines.rms) ≡ true
       → (book_in parts.manager).up ≡ true → refusal_in (book_in parts.manager) (Steps.Issue t r (map_call name_of call)) ≡ None
-      → ((c : Call) → accepted (map_call name_of call) ≡ Some c → book_in manager ≡ after (book_in parts.manager) (Issued (line t r) c))
+      → ((c : Call) → accepted (map_call name_of call) ≡ Some c → book_in manager ≡ after (book_in parts.manager) (Issued (line t r) c)) → log_in manager ≡ log_in parts.manager
       → x ≡ record (line_at parts.lines t r) { calls = with_one_more (line_at parts.lines t r).calls call }
       → (tr : Trace) → Stands see tr parts → must_refuse tr (Steps.Issue t r (map_call name_of call)) ≡ None
-      → OneMore see (Steps.Issue t r call) reply tr (record { alloc = parts.alloc; start = parts.start; began = parts.began; sites = parts.sites; lines = with_line parts.lines t r x; manager = manager })
-  issue_did parts t r call site x manager reply has_xid is there up free book put tr stands why =
+      → OneMore see (Steps.Issue t r call) reply tr parts (record { alloc = parts.alloc; start = parts.start; began = parts.began; sites = parts.sites; lines = with_line parts.lines t r x; manager = manager })
+  issue_did parts t r call site x manager reply has_xid is there up free book same put tr stands why =
       let has_tr = sym (there_is see tr parts t r stands) ∙ there in
       let has = has_line see tr parts t r stands has_tr in
       let known_so = known_asked tr t r (map_call name_of call) (not_unknown tr t r (map_call name_of call) (same_book tr parts t r call stands has_tr (sym (up_is tr parts stands) ∙ up) ∙ free)) in
@@ -218,6 +221,8 @@ module _ {R L : Type 0} (see : Sees R L) where
             (issued_line tr t r c call (line_at parts.lines t r) x known_so.1 (stands.lines t r has) put)
             (λ u q has_u apart. line_stays tr e (line u q) (line_at parts.lines u q) refl (rw apart refl) refl refl (stands.lines u q has_u));
         book = book_then see tr e parts manager stands (subst (Right tr) happens (demanded_right tr (Steps.Issue t r (map_call name_of call)) Replies.Issued demanded)) (book c known_so.1);
+        log = log_kept see.logs e parts.manager manager (λ n. refl) same (λ held h. subst (λ k. IsTied k held) (sym (book c known_so.1)) (tied_issued (book_in parts.manager) (line t r) c held h));
+        unchanged = λ q. absurd (subst IsEvent q tt);
       }))
 
 -- whether calls fill a line, by its free places

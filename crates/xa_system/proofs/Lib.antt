@@ -4,6 +4,8 @@ pub mod CrashLeads
 pub mod InDoubtLaws
 pub mod LineLaws
 pub mod Lists
+pub mod LogLaws
+pub mod Logging
 pub mod OnBranch
 pub mod Order
 pub mod PageLaws
@@ -12,6 +14,7 @@ pub mod Took
 pub mod Reading
 pub mod TakeLaws
 pub mod Deciding
+pub mod FaultCounts
 pub mod Fresh
 pub mod HearLeads
 pub mod IssueLeads
@@ -25,3 +28,5 @@ pub mod Managing
 pub mod Broken
 pub mod ScriptLeads
 pub mod Recovering
+pub mod Within
+pub mod Reporting

@@ -1,6 +1,6 @@
 -- Steps that the manager does or refuses.
-use Rattle.std.proofs.Common.{◌≡◌, ◌≤◌, ◌<◌, ◌+◌, inl, inr, ℕ, [], false, refl, sym, ap, ◌∙◌, subst, arith}
-use Rattle.std.specs.Prelude.{Option, Some, None, Result, Err}
+use Rattle.std.proofs.Common.{◌≡◌, ◌≤◌, ◌<◌, ◌+◌, ◌≢◌, inl, inr, ℕ, [], false, refl, sym, ap, ◌∙◌, subst, arith}
+use Rattle.std.specs.Prelude.{Option, Some, None, Result, Ok, Err}
 use Rattle.xa_base.specs.Xid.{Xid}
 use Rattle.xa_base.specs.Demanded.{Demanded.As_value, IsValue, MayLackMemory}
 use Rattle.xa_base.specs.Facts as facts
@@ -10,7 +10,7 @@ use Rattle.xa_base.specs.Right.{AllRight, Right}
 use Rattle.xa_base.specs.Rules.{must_refuse}
 use Rattle.xa_base.specs.Steps as known
 use Rattle.xa_base.specs.Steps.{happened}
-use Rattle.xa_base.specs.Trace.{Fault, Happening, Happening.Begun, Happening.Claimed, Happening.Decided, Happening.Done, Trace, Trace.Then, line}
+use Rattle.xa_base.specs.Trace.{Fault, Happening, Happening.Begun, Happening.Claimed, Happening.Decided, Happening.Done, Happening.Nothing, Trace, Trace.Then, line}
 use Rattle.xa_base.specs.declared.branch.Gtrid.{Gtrid}
 use Rattle.xa_base.specs.declared.refusal.Refusal.{Refusal}
 use Rattle.xa_base.specs.declared.refusal.Refusal.TheVariants as Refusals
@@ -20,12 +20,15 @@ use Rattle.xa_base.specs.declared.step.Outcome.{Outcome}
 use Rattle.xa_base.specs.declared.step.Outcome.TheVariants as Outcomes
 use Rattle.xa_base.specs.declared.step.Step.{Step}
 use Rattle.xa_base.specs.declared.step.Step.TheVariants as Steps
-use Rattle.xa_base.proofs.Replies.{demanded_right}
+use Rattle.xa_base.proofs.Replies.{IsForced, demanded_right, forced}
 use Rattle.xa_line.specs.Grid.{line_at}
 use Rattle.xa_tm.specs.declared.manager.Manager.{Manager}
 use Rattle.xa_log.specs.Content.{last_number}
 use Rattle.xa_tm.specs.Held.{IsSound}
-use Rattle.xa_tm.specs.Kept.{FailsBy, book_in}
+use Rattle.xa_tm.specs.Kept.{FailsBy, book_in, log_in}
+use Rattle.xa_tm.specs.Tied.{IsTied}
+use Rattle.xa_system.specs.Logged.{LogFollows}
+use Rattle.xa_system.proofs.Logging.{LogCalled, log_done, log_kept, tied_begun, tied_claimed}
 use Rattle.xa_tm.specs.Laws.{IsLookedAt}
 use Rattle.xa_tm.specs.Limits.{IsWithinLimits}
 use Rattle.xa_tm.proofs.Limits.{book_is_sound}
@@ -34,7 +37,7 @@ use Rattle.xa_tm.proofs.RowCounts.{right_book}
 use Rattle.xa_system.specs.Parts.{GoesOn, OneMore, Sees, Stands, StandsSomewhere, event_limit}
 use Rattle.xa_system.specs.declared.parts.Parts.{Parts}
 use Rattle.xa_system.proofs.LineLaws.{line_stays}
-use Rattle.xa_system.proofs.Standing.{Follows, IsNothingTo, goes_as, lacking_goes, rule_goes, site_stays}
+use Rattle.xa_system.proofs.Standing.{Follows, IsEvent, IsNothingTo, goes_as, lacking_goes, rule_goes, site_stays}
 use Rattle.xa_tm.specs.Book.{Book, Doubt, after, asked_in, book_after, book_of}
 use Rattle.xa_tm.specs.Refusing.{managers_refusal, refusal_in}
 use Rattle.xa_base.specs.Distinct.{ApartRows}
@@ -42,6 +45,10 @@ use Rattle.xa_tm.specs.Limits.{happenings}
 
 pub err_is : {A : Type 0} (m n : Refusal) → (let x : Result A Refusal = Err m in x) ≡ Err n → m ≡ n
 err_is m n e = cc
+
+-- a refusal that a history forces is no fault of the log
+pub not_fault : (n : Refusal) → IsForced n → n ≢ Refusals.LogFault
+not_fault n f e = subst IsForced e f
 
 -- a call in which the log wasn't asked fails for want of memory
 pub only_memory : (asked : Doubt) (f : Fault) {old new : Book} {n : Refusal} → FailsBy asked f old new n → (n ≡ Refusals.LogFault → ⊥) → (n ≡ Refusals.Memory) × (new ≡ old)
@@ -74,13 +81,15 @@ module _ {R L : Type 0} (see : Sees R L) where
     pub taken : (t r : ℕ) → facts.new_taken e (line t r) ≡ []
     pub heard : (t r : ℕ) → facts.new_heard e (line t r) ≡ []
     pub fits : facts.incarnation tr ≤ last_number → facts.incarnation (Then tr e) ≤ last_number
+    pub event : IsEvent e
 
   -- the parts with another manager
   abbrev pub with_manager : Parts R L → Manager L → Parts R L
   with_manager parts manager = record { alloc = parts.alloc; start = parts.start; began = parts.began; sites = parts.sites; lines = parts.lines; manager = manager }
 
-  pub own_follows : (tr : Trace) (e : Happening) (parts : Parts R L) (manager : Manager L) → IsOwn tr e → Stands see tr parts → book_in manager ≡ book_of (Then tr e) → Follows see tr e parts (with_manager parts manager)
-  own_follows tr e parts manager own stands book = record {
+  pub own_follows : (tr : Trace) (e : Happening) (parts : Parts R L) (manager : Manager L) → IsOwn tr e → Stands see tr parts → book_in manager ≡ book_of (Then tr e)
+      → LogFollows see.logs tr e parts.manager manager → Follows see tr e parts (with_manager parts manager)
+  own_follows tr e parts manager own stands book log = record {
     start = refl;
     began = refl;
     threads = refl;
@@ -91,6 +100,8 @@ module _ {R L : Type 0} (see : Sees R L) where
     sites = λ r site at. site_stays see tr e r site (own.sites r) (stands.sites r site at);
     lines = λ t r has. line_stays tr e (line t r) (line_at parts.lines t r) (own.unbroken t r) (own.calls t r) (own.taken t r) (own.heard t r) (stands.lines t r has);
     book = book;
+    log = log;
+    unchanged = λ q. absurd (subst IsEvent q own.event);
   }
 
   -- ** steps of the manager alone
@@ -99,81 +110,96 @@ module _ {R L : Type 0} (see : Sees R L) where
   pub did_goes : (tr : Trace) (step : Step Xid) (reply : Reply Xid) (seen : known.Reply) (parts : Parts R L) (manager : Manager L) → Stands see tr parts → StepHasXids step → IsLookedAt (step_of step) → reply_of reply ≡ seen
       → managers_refusal tr (step_of step) ≡ must_refuse tr (step_of step) → refusal_in (book_in parts.manager) (step_of step) ≡ None → IsValue tr (step_of step) seen
       → IsOwn tr (happened (step_of step) seen) → asked_in tr (happened (step_of step) seen) ≡ Doubt.Settled → book_in manager ≡ after (book_in parts.manager) (happened (step_of step) seen)
-      → OneMore see step reply tr (with_manager parts manager)
-  did_goes tr step reply seen parts manager stands has looked is same none value own asked book =
+      → LogFollows see.logs tr (happened (step_of step) seen) parts.manager manager
+      → OneMore see step reply tr parts (with_manager parts manager)
+  did_goes tr step reply seen parts manager stands has looked is same none value own asked book log =
       let demanded = As_value (sym same ∙ sym (judged tr parts (step_of step) looked stands) ∙ none) value in
       let e = happened (step_of step) seen in
       goes_as see tr step reply seen parts (with_manager parts manager) stands has is demanded
-      (own_follows tr e parts manager own stands (book_then tr e parts manager stands (demanded_right tr (step_of step) seen demanded) (book ∙ ap (λ d. book_after (book_in parts.manager) d e) (sym asked))))
+      (own_follows tr e parts manager own stands (book_then tr e parts manager stands (demanded_right tr (step_of step) seen demanded) (book ∙ ap (λ d. book_after (book_in parts.manager) d e) (sym asked))) log)
 
   -- it refused the step by a rule, or memory was refused to it
   pub refused_or_lacking : (tr : Trace) (step : Step Xid) (reply : Reply Xid) (parts : Parts R L) (manager : Manager L) (n : Refusal) → Stands see tr parts → StepHasXids step → IsLookedAt (step_of step) → reply ≡ Replies.Refused n
       → managers_refusal tr (step_of step) ≡ must_refuse tr (step_of step) → MayLackMemory tr (step_of step)
       → ((m : Refusal) → refusal_in (book_in parts.manager) (step_of step) ≡ Some m → (m ≡ n) × (book_in manager ≡ book_in parts.manager))
       → (refusal_in (book_in parts.manager) (step_of step) ≡ None → (n ≡ Refusals.Memory) × (book_in manager ≡ book_in parts.manager))
-      → OneMore see step reply tr (with_manager parts manager)
-  refused_or_lacking tr step reply parts manager n stands has looked is same may refused lacking = by_rule (refusal_in (book_in parts.manager) (step_of step)) refl
+      → (n ≢ Refusals.LogFault → log_in manager ≡ log_in parts.manager)
+      → OneMore see step reply tr parts (with_manager parts manager)
+  refused_or_lacking tr step reply parts manager n stands has looked is same may refused lacking log = by_rule (refusal_in (book_in parts.manager) (step_of step)) refl
     where
       why : (o : Option Refusal) → refusal_in (book_in parts.manager) (step_of step) ≡ o → must_refuse tr (step_of step) ≡ o
       why o e = sym same ∙ sym (judged tr parts (step_of step) looked stands) ∙ e
 
-      by_rule : (o : Option Refusal) → refusal_in (book_in parts.manager) (step_of step) ≡ o → OneMore see step reply tr (with_manager parts manager)
+      by_rule : (o : Option Refusal) → refusal_in (book_in parts.manager) (step_of step) ≡ o → OneMore see step reply tr parts (with_manager parts manager)
       by_rule (Some m) e = rule_goes see tr step reply parts manager m stands has (is ∙ ap (λ k. Replies.Refused k) (sym (refused m e).0)) (why (Some m) e) (refused m e).1
+          (log (not_fault n (subst IsForced (refused m e).0 (forced tr (step_of step) m (why (Some m) e)))))
       by_rule None e = lacking_goes see tr step parts manager reply stands has (is ∙ ap (λ k. Replies.Refused k) (lacking e).0) (why None e) may (lacking e).1
+          (log (λ q. absurd (let two : Refusals.Memory ≡ Refusals.LogFault = sym (lacking e).0 ∙ q in cc)))
 
   -- ** its happenings
 
   pub own_begun : (tr : Trace) (g : Gtrid) → IsOwn tr (Begun g)
-  own_begun tr g = record { sites = λ r. record { quiet = record { branches = record { standing = λ b at. refl; vote = λ b at. refl; retries = λ b at. refl }; scan_stays = refl }; is_up = refl }; unbroken = λ t r. refl; calls = λ t r. refl; taken = λ t r. refl; heard = λ t r. refl; fits = λ h. h }
+  own_begun tr g = record { sites = λ r. record { quiet = record { branches = record { standing = λ b at. refl; vote = λ b at. refl; retries = λ b at. refl }; scan_stays = refl }; is_up = refl }; unbroken = λ t r. refl; calls = λ t r. refl; taken = λ t r. refl; heard = λ t r. refl; fits = λ h. h; event = tt }
 
   pub own_claimed : (tr : Trace) (g : Gtrid) → IsOwn tr (Claimed g)
-  own_claimed tr g = record { sites = λ r. record { quiet = record { branches = record { standing = λ b at. refl; vote = λ b at. refl; retries = λ b at. refl }; scan_stays = refl }; is_up = refl }; unbroken = λ t r. refl; calls = λ t r. refl; taken = λ t r. refl; heard = λ t r. refl; fits = λ h. h }
+  own_claimed tr g = record { sites = λ r. record { quiet = record { branches = record { standing = λ b at. refl; vote = λ b at. refl; retries = λ b at. refl }; scan_stays = refl }; is_up = refl }; unbroken = λ t r. refl; calls = λ t r. refl; taken = λ t r. refl; heard = λ t r. refl; fits = λ h. h; event = tt }
 
   pub own_decided : (tr : Trace) (g : Gtrid) (o : Outcome) → IsOwn tr (Decided g o)
-  own_decided tr g o = record { sites = λ r. record { quiet = record { branches = record { standing = λ b at. refl; vote = λ b at. refl; retries = λ b at. refl }; scan_stays = refl }; is_up = refl }; unbroken = λ t r. refl; calls = λ t r. refl; taken = λ t r. refl; heard = λ t r. refl; fits = λ h. h }
+  own_decided tr g o = record { sites = λ r. record { quiet = record { branches = record { standing = λ b at. refl; vote = λ b at. refl; retries = λ b at. refl }; scan_stays = refl }; is_up = refl }; unbroken = λ t r. refl; calls = λ t r. refl; taken = λ t r. refl; heard = λ t r. refl; fits = λ h. h; event = tt }
 
   pub own_done : (tr : Trace) (g : Gtrid) → IsOwn tr (Done g)
-  own_done tr g = record { sites = λ r. record { quiet = record { branches = record { standing = λ b at. refl; vote = λ b at. refl; retries = λ b at. refl }; scan_stays = refl }; is_up = refl }; unbroken = λ t r. refl; calls = λ t r. refl; taken = λ t r. refl; heard = λ t r. refl; fits = λ h. h }
+  own_done tr g = record { sites = λ r. record { quiet = record { branches = record { standing = λ b at. refl; vote = λ b at. refl; retries = λ b at. refl }; scan_stays = refl }; is_up = refl }; unbroken = λ t r. refl; calls = λ t r. refl; taken = λ t r. refl; heard = λ t r. refl; fits = λ h. h; event = tt }
 
   -- a Begin
   pub begin_did : (parts : Parts R L) (manager : Manager L) (t : ℕ) (g : Gtrid) (reply : Reply Xid) → reply ≡ Replies.Begun g → refusal_in (book_in parts.manager) (Steps.Begin t) ≡ None
       → g ≡ record { incarnation = (book_in parts.manager).incarnation; sequence = (book_in parts.manager).sequence + 1 } → book_in manager ≡ after (book_in parts.manager) (Begun g)
-      → GoesOn see (Steps.Begin t) reply parts (with_manager parts manager)
-  begin_did parts manager t g reply is none next book tr stands few =
+      → log_in manager ≡ log_in parts.manager → GoesOn see (Steps.Begin t) reply parts (with_manager parts manager)
+  begin_did parts manager t g reply is none next book log tr stands few =
       did_goes tr (Steps.Begin t) reply (Replies.Begun g) parts manager stands tt tt (ap reply_of is) refl none
       (ap (λ h. Replies.Begun h) (next ∙ ap (λ (k : Book). record { incarnation = k.incarnation; sequence = k.sequence + 1 }) stands.book)) (own_begun tr g) refl book
+      (log_kept see.logs (Begun g) parts.manager manager (λ k. refl) log (λ held h. subst (λ k. IsTied k held) (sym book) (tied_begun (book_in parts.manager) g held h)))
 
   -- a refusal of the manager, or want of memory
   pub manager_refused : {A : Type 0} (step : Step Xid) (parts : Parts R L) (manager : Manager L) (n : Refusal) (reply : Reply Xid) → StepHasXids step → IsLookedAt (step_of step) → ((tr : Trace) → managers_refusal tr (step_of step) ≡ must_refuse tr (step_of step))
       → ((tr : Trace) → MayLackMemory tr (step_of step)) → reply ≡ Replies.Refused n
       → ((m : Refusal) → refusal_in (book_in parts.manager) (step_of step) ≡ Some m → ((let x : Result A Refusal = Err n in x) ≡ Err m) × (manager ≡ parts.manager))
       → (refusal_in (book_in parts.manager) (step_of step) ≡ None → (n ≡ Refusals.Memory) × (book_in manager ≡ book_in parts.manager))
+      → (n ≢ Refusals.LogFault → log_in manager ≡ log_in parts.manager)
       → GoesOn see step reply parts (with_manager parts manager)
-  manager_refused step parts manager n reply has looked same may is refused lacking tr stands few =
-      refused_or_lacking tr step reply parts manager n stands has looked is (same tr) (may tr) (λ m e. (sym (err_is n m (refused m e).0), ap book_in (refused m e).1)) lacking
+  manager_refused step parts manager n reply has looked same may is refused lacking log tr stands few =
+      refused_or_lacking tr step reply parts manager n stands has looked is (same tr) (may tr) (λ m e. (sym (err_is n m (refused m e).0), ap book_in (refused m e).1)) lacking log
 
   -- a Claim and an Abandon
   pub claim_did : (parts : Parts R L) (manager : Manager L) (g : Gtrid) (reply : Reply Xid) → reply ≡ Replies.Claimed → refusal_in (book_in parts.manager) (Steps.Claim g) ≡ None
-      → book_in manager ≡ after (book_in parts.manager) (Claimed g) → GoesOn see (Steps.Claim g) reply parts (with_manager parts manager)
-  claim_did parts manager g reply is none book tr stands few =
+      → book_in manager ≡ after (book_in parts.manager) (Claimed g) → log_in manager ≡ log_in parts.manager → GoesOn see (Steps.Claim g) reply parts (with_manager parts manager)
+  claim_did parts manager g reply is none book log tr stands few =
       did_goes tr (Steps.Claim g) reply Replies.Claimed parts manager stands tt tt (ap reply_of is) refl none refl (own_claimed tr g) refl book
+      (log_kept see.logs (Claimed g) parts.manager manager (λ k. refl) log (λ held h. subst (λ k. IsTied k held) (sym book) (tied_claimed (book_in parts.manager) g held h)))
 
   pub abandon_did : (parts : Parts R L) (manager : Manager L) (g : Gtrid) (reply : Reply Xid) → reply ≡ Replies.Decided → refusal_in (book_in parts.manager) (Steps.Abandon g) ≡ None
-      → book_in manager ≡ after (book_in parts.manager) (Decided g Outcomes.Rollback) → GoesOn see (Steps.Abandon g) reply parts (with_manager parts manager)
-  abandon_did parts manager g reply is none book tr stands few =
+      → book_in manager ≡ after (book_in parts.manager) (Decided g Outcomes.Rollback) → LogCalled see.logs (let x : Result (Unit {0}) Refusal = Ok tt in x) parts.manager manager
+      → GoesOn see (Steps.Abandon g) reply parts (with_manager parts manager)
+  abandon_did parts manager g reply is none book did tr stands few =
       did_goes tr (Steps.Abandon g) reply Replies.Decided parts manager stands tt tt (ap reply_of is) refl none refl (own_decided tr g Outcomes.Rollback) refl book
+      (log_done see.logs (Decided g Outcomes.Rollback) tt parts.manager manager (λ k. refl) did)
 
   pub decide_did : (parts : Parts R L) (manager : Manager L) (g : Gtrid) (o : Outcome) (reply : Reply Xid) → reply ≡ Replies.Decided → refusal_in (book_in parts.manager) (Steps.Decide g o) ≡ None
-      → book_in manager ≡ after (book_in parts.manager) (Decided g o) → GoesOn see (Steps.Decide g o) reply parts (with_manager parts manager)
-  decide_did parts manager g o reply is none book tr stands few =
+      → book_in manager ≡ after (book_in parts.manager) (Decided g o) → LogCalled see.logs (let x : Result (Unit {0}) Refusal = Ok tt in x) parts.manager manager
+      → GoesOn see (Steps.Decide g o) reply parts (with_manager parts manager)
+  decide_did parts manager g o reply is none book did tr stands few =
       did_goes tr (Steps.Decide g o) reply Replies.Decided parts manager stands tt tt (ap reply_of is) refl none refl (own_decided tr g o) refl book
+      (log_done see.logs (Decided g o) tt parts.manager manager (λ k. refl) did)
 
   pub settle_did : (parts : Parts R L) (manager : Manager L) (g : Gtrid) (reply : Reply Xid) → reply ≡ Replies.Decided → refusal_in (book_in parts.manager) (Steps.Settle g) ≡ None
-      → book_in manager ≡ after (book_in parts.manager) (Decided g Outcomes.Commit) → GoesOn see (Steps.Settle g) reply parts (with_manager parts manager)
-  settle_did parts manager g reply is none book tr stands few =
+      → book_in manager ≡ after (book_in parts.manager) (Decided g Outcomes.Commit) → LogCalled see.logs (let x : Result (Unit {0}) Refusal = Ok tt in x) parts.manager manager
+      → GoesOn see (Steps.Settle g) reply parts (with_manager parts manager)
+  settle_did parts manager g reply is none book did tr stands few =
       did_goes tr (Steps.Settle g) reply Replies.Decided parts manager stands tt tt (ap reply_of is) refl none refl (own_decided tr g Outcomes.Commit) refl book
+      (log_done see.logs (Decided g Outcomes.Commit) tt parts.manager manager (λ k. refl) did)
 
   pub done_did : (parts : Parts R L) (manager : Manager L) (g : Gtrid) (reply : Reply Xid) → reply ≡ Replies.Noted → refusal_in (book_in parts.manager) (Steps.Done g) ≡ None
-      → book_in manager ≡ after (book_in parts.manager) (Done g) → GoesOn see (Steps.Done g) reply parts (with_manager parts manager)
-  done_did parts manager g reply is none book tr stands few =
+      → book_in manager ≡ after (book_in parts.manager) (Done g) → LogCalled see.logs (let x : Result (Unit {0}) Refusal = Ok tt in x) parts.manager manager
+      → GoesOn see (Steps.Done g) reply parts (with_manager parts manager)
+  done_did parts manager g reply is none book did tr stands few =
       did_goes tr (Steps.Done g) reply Replies.Noted parts manager stands tt tt (ap reply_of is) refl none refl (own_done tr g) refl book
+      (log_done see.logs (Done g) tt parts.manager manager (λ k. refl) did)

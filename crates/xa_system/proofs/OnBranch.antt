@@ -18,7 +18,7 @@ use Rattle.xa_base.specs.declared.branch.Branch.{Branch}
 use Rattle.xa_base.specs.declared.call.Call as Asking
 use Rattle.xa_base.specs.declared.call.Call.TheVariants as Calls
 use Rattle.xa_base.specs.declared.code.Code.{Code}
-use Rattle.xa_system.specs.Lines.{known}
+use Rattle.xa_line.specs.Histories.{known}
 use Rattle.xa_system.specs.Trace.{IsHome}
 use Rattle.xa_system.proofs.Lists.{some_is}
 

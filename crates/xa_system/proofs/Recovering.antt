@@ -13,6 +13,7 @@ use Rattle.xa_base.specs.declared.refusal.Refusal.{Refusal}
 use Rattle.xa_base.specs.declared.refusal.Refusal.TheVariants as Refusals
 use Rattle.xa_base.specs.declared.reply.Reply.{Reply}
 use Rattle.xa_base.specs.declared.step.Step.TheVariants as Steps
+use Rattle.xa_system.specs.Logged.{LogFollows}
 use Rattle.xa_system.specs.Parts.{GoesOn, Sees, Stands}
 use Rattle.xa_system.specs.declared.parts.Parts.{Parts}
 
@@ -43,4 +44,6 @@ recover_goes see r count start end reply old new goes tr stands few =
     record {
       demanded = same_demanded tr r count start end (reply_of reply) there one.demanded;
       stands = subst (λ e. Stands see (Then tr e) new) (same_happening tr r count start end (reply_of reply) one.demanded) one.stands;
+      log = subst (λ e. LogFollows see.logs tr e old.manager new.manager) (same_happening tr r count start end (reply_of reply) one.demanded) one.log;
+      unchanged = one.unchanged;
     }

@@ -1,6 +1,6 @@
 -- Recoveries, and the restart of the manager.
 use Rattle.std.proofs.Common.{◌-◌, ◌≡◌, ◌≤◌, ◌<◌, inl, inr, ℕ, suc, Bool, true, false, List, [], ◌∷◌, ◌++◌, length, map, refl, sym, ap, ◌∙◌, subst, arith, append_assoc, length-append}
-use Rattle.std.specs.Prelude.{◌&&◌, ◌||◌, ◌+◌, not, if◌then◌else◌, Option, Some, None, is_some, nat_le, nat_lt, slice_get, Result, OnOk}
+use Rattle.std.specs.Prelude.{◌&&◌, ◌||◌, ◌+◌, not, if◌then◌else◌, Option, Some, None, is_some, nat_le, nat_lt, slice_get, Result, Err, OnOk}
 use Rattle.std.specs.Result.{result_err}
 use Rattle.std.proofs.lemmas.Bool.Decides.{nat_tests}
 use Rattle.std.proofs.lemmas.Bool.{lt-ltb}
@@ -20,7 +20,7 @@ use Rattle.xa_base.specs.Right.{AllRight, Right}
 use Rattle.xa_base.specs.Rules.{has_rm, must_refuse}
 use Rattle.xa_base.specs.Steps as known
 use Rattle.xa_base.specs.Steps.{happened}
-use Rattle.xa_base.specs.Trace.{Call, Fault.InRestart, Happening, Happening.Failed, Happening.Resolved, Happening.ResolvedOpen, Happening.Restarted, Line, Name, Name.Foreign, Name.Ours, Recorded, Row, Trace, Trace.Then, line, line_eq}
+use Rattle.xa_base.specs.Trace.{Call, Fault.InRestart, Happening, Happening.Failed, Happening.Nothing, Happening.Resolved, Happening.ResolvedOpen, Happening.Restarted, Line, Name, Name.Foreign, Name.Ours, Recorded, Row, Trace, Trace.Then, line, line_eq}
 use Rattle.xa_base.specs.declared.branch.Branch.{Branch}
 use Rattle.xa_base.specs.declared.branch.Gtrid.{Gtrid}
 use Rattle.xa_base.specs.declared.call.Call as Asking
@@ -38,18 +38,24 @@ use Rattle.xa_line.specs.Traffic.{Traffic, answered, barred, refusal, with_one_m
 use Rattle.xa_line.proofs.GridLaws.{whole-with_line}
 use Rattle.xa_log.specs.Content.{last_number}
 use Rattle.xa_tm.specs.declared.manager.Manager.{Manager}
-use Rattle.xa_tm.specs.Kept.{book_in}
-use Rattle.xa_system.specs.Lines.{LineStands, known as known_call, with_more}
+use Rattle.xa_system.specs.Logged.{LogFollows}
+use Rattle.xa_system.proofs.Logging.{LogUndone, log_failing, log_stays}
+use Rattle.xa_tm.specs.declared.coming_up.Found.{Found}
+use Rattle.xa_log.specs.Content.{bumped}
+use Rattle.xa_tm.specs.Kept.{book_in, log_in}
+use Rattle.xa_line.specs.Histories.{LineStands, known as known_call}
+use Rattle.xa_system.specs.Lines.{with_more}
 use Rattle.xa_system.specs.Parts.{GoesOn, HindersRecovery, OneMore, Sees, Stands, StandsSomewhere, recovery_why}
 use Rattle.xa_system.specs.declared.parts.Parts.{Parts}
 use Rattle.xa_system.specs.declared.site.Site.{Site}
 use Rattle.xa_system.proofs.CrashLeads.{rm_there}
 use Rattle.xa_system.proofs.IssueLeads.{line_took}
-use Rattle.xa_system.proofs.LineLaws.{as_many_calls, line_goes_on, line_stays}
-use Rattle.xa_system.proofs.Lists.{same_length}
+use Rattle.xa_line.proofs.TrafficLaws.{as_many_calls, line_goes_on}
+use Rattle.xa_system.proofs.LineLaws.{line_stays}
+use Rattle.xa_line.proofs.TrafficLaws.{same_length}
 use Rattle.xa_system.proofs.Managing.{IsOwn, book_then, own_follows, with_manager}
 use Rattle.xa_system.proofs.OnBranch.{closed_alike, closes_on, opened_alike}
-use Rattle.xa_system.proofs.Standing.{Follows, IsNothingTo, goes_as, has_line, lacking_goes, lines_with, refused_goes, rule_goes, site_stays}
+use Rattle.xa_system.proofs.Standing.{Follows, IsEvent, IsNothingTo, goes_as, has_line, lacking_goes, lines_with, refused_goes, rule_goes, site_stays}
 use Rattle.xa_tm.specs.Book.{Book, Doubt.Settled, after, book_of}
 use Rattle.xa_tm.specs.Refusing.{live_in, resolved_in, resolved_open_in, resolving_calls_in, resolving_kind_in}
 use Rattle.xa_tm.specs.Kept.{FailsBy}
@@ -161,6 +167,7 @@ module _ {R L : Type 0} (see : Sees R L) where
     pub taken : (l : Line) → facts.new_taken e l ≡ []
     pub heard : (l : Line) → facts.new_heard e l ≡ []
     pub fits : facts.incarnation tr ≤ last_number → facts.incarnation (Then tr e) ≤ last_number
+    pub event : IsEvent e
 
   pub resolved_so : (tr : Trace) (r : ℕ) → IsRecovery tr (Resolved r) r (facts.resolving_calls tr (facts.page tr r))
   resolved_so tr r = record {
@@ -171,6 +178,7 @@ module _ {R L : Type 0} (see : Sees R L) where
     taken = λ l. refl;
     heard = λ l. refl;
     fits = λ h. h;
+    event = tt;
   }
 
   pub open_so : (tr : Trace) (r : ℕ) → IsRecovery tr (ResolvedOpen r) r (facts.resolving_calls (Then tr (ResolvedOpen r)) (facts.page tr r))
@@ -182,6 +190,7 @@ module _ {R L : Type 0} (see : Sees R L) where
     taken = λ l. refl;
     heard = λ l. refl;
     fits = λ h. h;
+    event = tt;
   }
 
   has_first : (tr : Trace) (parts : Parts R L) (r : ℕ) → Stands see tr parts → has_rm tr r ≡ true → HasLine parts.lines 0 r
@@ -193,8 +202,9 @@ module _ {R L : Type 0} (see : Sees R L) where
   pub recovery_goes : (tr : Trace) (step : Step Xid) (e : Happening) (r n : ℕ) (ks : List Call) (calls : List (Asking.Call Xid)) (parts : Parts R L) (x : Traffic) (manager : Manager L) (reply : Reply Xid) → Stands see tr parts → StepHasXids step
       → reply ≡ Replies.Resolved n → Demanded tr (step_of step) (Replies.Resolved n) → happened (step_of step) (Replies.Resolved n) ≡ e → IsRecovery tr e r ks → has_rm tr r ≡ true
       → map known_call calls ≡ map Some ks → x ≡ record (line_at parts.lines 0 r) { calls = with_more (line_at parts.lines 0 r).calls calls } → book_in manager ≡ book_of (Then tr e)
-      → OneMore see step reply tr (record { alloc = parts.alloc; start = parts.start; began = parts.began; sites = parts.sites; lines = with_line parts.lines 0 r x; manager = manager })
-  recovery_goes tr step e r n ks calls parts x manager reply stands has_xids is demanded happens recovery there are put book =
+      → LogFollows see.logs tr e parts.manager manager
+      → OneMore see step reply tr parts (record { alloc = parts.alloc; start = parts.start; began = parts.began; sites = parts.sites; lines = with_line parts.lines 0 r x; manager = manager })
+  recovery_goes tr step e r n ks calls parts x manager reply stands has_xids is demanded happens recovery there are put book log =
       let has = has_first tr parts r stands there in
       goes_as see tr step reply (Replies.Resolved n) parts _ stands has_xids (ap reply_of is) demanded
       (subst (λ h. Follows see tr h parts (record { alloc = parts.alloc; start = parts.start; began = parts.began; sites = parts.sites; lines = with_line parts.lines 0 r x; manager = manager })) (sym happens) (record {
@@ -210,6 +220,8 @@ module _ {R L : Type 0} (see : Sees R L) where
             (more_issued tr e (line 0 r) (line_at parts.lines 0 r) x calls (stands.lines 0 r has) (recovery.unbroken (line 0 r)) (recovery.taken (line 0 r)) (recovery.heard (line 0 r)) (are ∙ ap (map Some) (sym recovery.here)) put)
             (λ u q has_u apart. line_stays tr e (line u q) (line_at parts.lines u q) (recovery.unbroken (line u q)) (recovery.elsewhere (line u q) apart) (recovery.taken (line u q)) (recovery.heard (line u q)) (stands.lines u q has_u));
         book = book;
+        log = log;
+        unchanged = λ q. absurd (subst IsEvent q recovery.event);
       }))
 
   -- the calls that the manager finds are those of the history
@@ -223,11 +235,11 @@ module _ {R L : Type 0} (see : Sees R L) where
   -- ** the restart
 
   own_restarted : (tr : Trace) (i d h : ℕ) → i ≤ last_number → IsOwn see tr (Restarted i d h)
-  own_restarted tr i d h most = record { sites = λ r. record { quiet = record { branches = record { standing = λ b at. refl; vote = λ b at. refl; retries = λ b at. refl }; scan_stays = refl }; is_up = refl }; unbroken = λ t r. refl; calls = λ t r. refl; taken = λ t r. refl; heard = λ t r. refl; fits = λ fits. most }
+  own_restarted tr i d h most = record { sites = λ r. record { quiet = record { branches = record { standing = λ b at. refl; vote = λ b at. refl; retries = λ b at. refl }; scan_stays = refl }; is_up = refl }; unbroken = λ t r. refl; calls = λ t r. refl; taken = λ t r. refl; heard = λ t r. refl; fits = λ fits. most; event = tt }
 
   -- a failed restart breaks nothing
   own_failed : (tr : Trace) → facts.up tr ≡ false → IsOwn see tr (Failed InRestart)
-  own_failed tr down = record { sites = λ r. record { quiet = record { branches = record { standing = λ b at. rw down refl; vote = λ b at. refl; retries = λ b at. refl }; scan_stays = rw down refl }; is_up = refl }; unbroken = λ t r. down; calls = λ t r. refl; taken = λ t r. refl; heard = λ t r. refl; fits = λ h. h }
+  own_failed tr down = record { sites = λ r. record { quiet = record { branches = record { standing = λ b at. rw down refl; vote = λ b at. refl; retries = λ b at. refl }; scan_stays = rw down refl }; is_up = refl }; unbroken = λ t r. down; calls = λ t r. refl; taken = λ t r. refl; heard = λ t r. refl; fits = λ h. h; event = tt }
 
   up_is : (tr : Trace) (parts : Parts R L) → Stands see tr parts → (book_in parts.manager).up ≡ facts.up tr
   up_is tr parts stands = ap (λ (k : Book). k.up) stands.book
@@ -240,35 +252,40 @@ module _ {R L : Type 0} (see : Sees R L) where
 
   pub restart_did : (parts : Parts R L) (manager : Manager L) (i d h : ℕ) (reply : Reply Xid) → reply ≡ Replies.Restarted i d h → (book_in parts.manager).up ≡ false
       → book_in manager ≡ after (book_in parts.manager) (Restarted i d h) → IsFound (book_in parts.manager) i d h → i ≤ last_number
-      → (tr : Trace) → Stands see tr parts → OneMore see (Steps.Restart Sides.Manager) reply tr (with_manager see parts manager)
-  restart_did parts manager i d h reply is down book found most tr stands =
+      → ((tr : Trace) → LogFollows see.logs tr (Restarted i d h) parts.manager manager)
+      → (tr : Trace) → Stands see tr parts → OneMore see (Steps.Restart Sides.Manager) reply tr parts (with_manager see parts manager)
+  restart_did parts manager i d h reply is down book found most log tr stands =
       let e = Restarted i d h in
       let at : IsFound (book_of tr) i d h = subst (λ k. IsFound k i d h) stands.book found in
       let demanded : Demanded tr (Steps.Restart Sides.Manager) (Replies.Restarted i d h) =
       As_value (restart_free tr (sym (up_is tr parts stands) ∙ down)) (found_is_demanded tr i d h stands.kept.right stands.apart at) in
       goes_as see tr (Steps.Restart Sides.Manager) reply (Replies.Restarted i d h) parts (with_manager see parts manager) stands tt (ap reply_of is) demanded
       (own_follows see tr e parts manager (own_restarted tr i d h most) stands
-      (book_then see tr e parts manager stands (demanded_right tr (Steps.Restart Sides.Manager) (Replies.Restarted i d h) demanded) book))
+      (book_then see tr e parts manager stands (demanded_right tr (Steps.Restart Sides.Manager) (Replies.Restarted i d h) demanded) book) (log tr))
 
   pub restart_undone : (parts : Parts R L) (manager : Manager L) (n : Refusal) (reply : Reply Xid) → reply ≡ Replies.Refused n
       → ((book_in parts.manager).up ≡ true → (n ≡ Refusals.Busy) × (book_in manager ≡ book_in parts.manager))
       → ((book_in parts.manager).up ≡ false → FailsBy Settled InRestart (book_in parts.manager) (book_in manager) n)
-      → (tr : Trace) → Stands see tr parts → OneMore see (Steps.Restart Sides.Manager) reply tr (with_manager see parts manager)
-  restart_undone parts manager n reply is busy fails tr stands = by_up (book_in parts.manager).up refl
+      → LogUndone see.logs Found n bumped parts.manager manager
+      → (tr : Trace) → Stands see tr parts → OneMore see (Steps.Restart Sides.Manager) reply tr parts (with_manager see parts manager)
+  restart_undone parts manager n reply is busy fails undone tr stands = by_up (book_in parts.manager).up refl
     where
-      by_cause : facts.up tr ≡ false → FailsBy Settled InRestart (book_in parts.manager) (book_in manager) n → OneMore see (Steps.Restart Sides.Manager) reply tr (with_manager see parts manager)
+      by_cause : facts.up tr ≡ false → FailsBy Settled InRestart (book_in parts.manager) (book_in manager) n → OneMore see (Steps.Restart Sides.Manager) reply tr parts (with_manager see parts manager)
       by_cause down (inl w) = lacking_goes see tr (Steps.Restart Sides.Manager) parts manager reply stands tt (is ∙ ap (λ m. Replies.Refused m) w.0) (restart_free tr down) tt w.1
+          (undone.kept (λ q. absurd (let two : Refusals.Memory ≡ Refusals.LogFault = sym w.0 ∙ q in cc)))
       by_cause down (inr w) =
           let demanded : Demanded tr (Steps.Restart Sides.Manager) (Replies.Refused Refusals.LogFault) = For_log (restart_free tr down) tt refl in
           goes_as see tr (Steps.Restart Sides.Manager) reply (Replies.Refused Refusals.LogFault) parts (with_manager see parts manager) stands tt (ap reply_of (is ∙ ap (λ m. Replies.Refused m) w.0)) demanded
           (own_follows see tr (Failed InRestart) parts manager (own_failed tr down) stands
-          (book_then see tr (Failed InRestart) parts manager stands (demanded_right tr (Steps.Restart Sides.Manager) (Replies.Refused Refusals.LogFault) demanded) w.1))
+          (book_then see tr (Failed InRestart) parts manager stands (demanded_right tr (Steps.Restart Sides.Manager) (Replies.Refused Refusals.LogFault) demanded) w.1)
+          (log_failing see.logs InRestart n parts.manager manager w.0 undone))
 
-      by_up : (u : Bool) → (book_in parts.manager).up ≡ u → OneMore see (Steps.Restart Sides.Manager) reply tr (with_manager see parts manager)
+      by_up : (u : Bool) → (book_in parts.manager).up ≡ u → OneMore see (Steps.Restart Sides.Manager) reply tr parts (with_manager see parts manager)
       by_up true e =
           let w = busy e in
           let up : facts.up tr ≡ true = sym (up_is tr parts stands) ∙ e in
           rule_goes see tr (Steps.Restart Sides.Manager) reply parts manager Refusals.Busy stands tt (is ∙ ap (λ m. Replies.Refused m) w.0) (λ i. restart_why (up i)) w.1
+          (undone.kept (λ q. absurd (let two : Refusals.Busy ≡ Refusals.LogFault = sym w.0 ∙ q in cc)))
       by_up false e = by_cause (sym (up_is tr parts stands) ∙ e) (fails e)
 
   -- ** what hinders a recovery
@@ -331,7 +348,7 @@ module _ {R L : Type 0} (see : Sees R L) where
 
   pub resolve_lacks : (parts : Parts R L) (r n : ℕ) (o : Refusal) (reply : Reply Xid) → reply ≡ Replies.Refused o → o ≡ Refusals.Memory → n ≡ length (resolved_in (book_in parts.manager) r) → HindersRecovery see r n parts None → GoesOn see (Steps.Resolve r) reply parts parts
   resolve_lacks parts r n o reply is lack many hinders tr stands few =
-      lacking_goes see tr (Steps.Resolve r) parts parts.manager reply stands tt (is ∙ ap (λ m. Replies.Refused m) lack) (resolve_why tr parts r n None many hinders stands) tt refl
+      lacking_goes see tr (Steps.Resolve r) parts parts.manager reply stands tt (is ∙ ap (λ m. Replies.Refused m) lack) (resolve_why tr parts r n None many hinders stands) tt refl refl
 
   pub resolve_did : (parts : Parts R L) (r n : ℕ) (calls : List (Asking.Call Xid)) (x : Traffic) (reply : Reply Xid) → reply ≡ Replies.Resolved n → n ≡ length (resolved_in (book_in parts.manager) r) → HindersRecovery see r n parts None
       → map known_call calls ≡ map Some (resolved_in (book_in parts.manager) r) → x ≡ record (line_at parts.lines 0 r) { calls = with_more (line_at parts.lines 0 r).calls calls }
@@ -343,6 +360,7 @@ module _ {R L : Type 0} (see : Sees R L) where
       let demanded : Demanded tr (Steps.Resolve r) (Replies.Resolved n) = As_value (resolve_why tr parts r n None many hinders stands) (ap (λ m. Replies.Resolved m) (many ∙ ap length same)) in
       recovery_goes tr (Steps.Resolve r) e r n (facts.resolving_calls tr (facts.page tr r)) calls parts x parts.manager reply stands tt is demanded refl (resolved_so tr r) free.0
       (are ∙ ap (map Some) same) put (book_then see tr e parts parts.manager stands (demanded_right tr (Steps.Resolve r) (Replies.Resolved n) demanded) refl)
+      (log_stays see.logs e parts.manager (λ k. refl))
 
   -- ** ResolveOpen
 
@@ -357,18 +375,19 @@ module _ {R L : Type 0} (see : Sees R L) where
   open_hindered parts r n o reply is many hinders = refused_goes see (Steps.ResolveOpen r) parts reply o tt is (λ tr stands. open_why tr parts r n (Some o) many hinders stands)
 
   pub open_lacks : (parts : Parts R L) (manager : Manager L) (r n : ℕ) (o : Refusal) (reply : Reply Xid) → reply ≡ Replies.Refused o → (o ≡ Refusals.Memory) × (book_in manager ≡ book_in parts.manager) → n ≡ length (resolved_open_in (book_in parts.manager) r) → HindersRecovery see r n parts None
-      → GoesOn see (Steps.ResolveOpen r) reply parts (with_manager see parts manager)
-  open_lacks parts manager r n o reply is lack many hinders tr stands few =
-      lacking_goes see tr (Steps.ResolveOpen r) parts manager reply stands tt (is ∙ ap (λ m. Replies.Refused m) lack.0) (open_why tr parts r n None many hinders stands) tt lack.1
+      → log_in manager ≡ log_in parts.manager → GoesOn see (Steps.ResolveOpen r) reply parts (with_manager see parts manager)
+  open_lacks parts manager r n o reply is lack many hinders same tr stands few =
+      lacking_goes see tr (Steps.ResolveOpen r) parts manager reply stands tt (is ∙ ap (λ m. Replies.Refused m) lack.0) (open_why tr parts r n None many hinders stands) tt lack.1 same
 
   pub open_did : (parts : Parts R L) (r n : ℕ) (calls : List (Asking.Call Xid)) (x : Traffic) (manager : Manager L) (reply : Reply Xid) → reply ≡ Replies.Resolved n → n ≡ length (resolved_open_in (book_in parts.manager) r) → HindersRecovery see r n parts None
       → map known_call calls ≡ map Some (resolved_open_in (book_in parts.manager) r) → x ≡ record (line_at parts.lines 0 r) { calls = with_more (line_at parts.lines 0 r).calls calls }
       → book_in manager ≡ after (book_in parts.manager) (ResolvedOpen r)
+      → ((tr : Trace) → LogFollows see.logs tr (ResolvedOpen r) parts.manager manager)
       → GoesOn see (Steps.ResolveOpen r) reply parts (record { alloc = parts.alloc; start = parts.start; began = parts.began; sites = parts.sites; lines = with_line parts.lines 0 r x; manager = manager })
-  open_did parts r n calls x manager reply is many hinders are put book tr stands few =
+  open_did parts r n calls x manager reply is many hinders are put book log tr stands few =
       let e = ResolvedOpen r in
       let free = recovery_free _ _ _ _ _ _ (sym (hinders tr stands)) in
       let same = open_calls_found tr parts r stands in
       let demanded : Demanded tr (Steps.ResolveOpen r) (Replies.Resolved n) = As_value (open_why tr parts r n None many hinders stands) (ap (λ m. Replies.Resolved m) (many ∙ ap length same)) in
       recovery_goes tr (Steps.ResolveOpen r) e r n (facts.resolving_calls (Then tr e) (facts.page tr r)) calls parts x manager reply stands tt is demanded refl (open_so tr r) free.0
-      (are ∙ ap (map Some) same) put (book_then see tr e parts manager stands (free.1, free.3) book)
+      (are ∙ ap (map Some) same) put (book_then see tr e parts manager stands (free.1, free.3) book) (log tr)

@@ -1,12 +1,12 @@
 -- Scripts: votes, retries and heuristic ends.
 use Rattle.std.proofs.Common.{◌≡◌, ◌≢◌, ◌<◌, ◌≤◌, ◌⊎◌, inl, ℕ, Bool, true, false, [], refl, sym, ap, ◌∙◌, subst}
-use Rattle.std.specs.Prelude.{not, if◌then◌else◌, Option, Some, None, slice_get}
+use Rattle.std.specs.Prelude.{not, if◌then◌else◌, Option, Some, None, Result, Ok, Err, IfErr, OnOk, OnErr, slice_get}
 use Rattle.std.specs.Vec.{with_item}
 use Rattle.std.proofs.lemmas.Bool.{eqb-true, eq-eqb}
 use Rattle.xa_log.specs.Content.{last_number}
 use Rattle.xa_base.specs.declared.step.Step.TheVariants as Steps
 use Rattle.xa_base.specs.Branch.{IsBranch, branch_eq, xid_of_branch}
-use Rattle.xa_base.specs.Demanded.{Demanded, Demanded.As_value, IsValue}
+use Rattle.xa_base.specs.Demanded.{Demanded, Demanded.As_value, Demanded.By_rule, Demanded.For_memory, IsValue, MayLackMemory}
 use Rattle.xa_base.specs.Facts as facts
 use Rattle.xa_base.specs.HeldBranch.{HeldBranch, completed_by}
 use Rattle.xa_base.specs.History.{name_of, reply_of, step_of}
@@ -34,15 +34,19 @@ use Rattle.xa_base.proofs.Keys.{branch_eq-refl, branch_eq-true}
 use Rattle.xa_line.specs.Grid.{line_at}
 use Rattle.xa_rm.specs.ResourceManager.{changed_at, retrying, voting}
 use Rattle.xa_tm.specs.Kept.{book_in}
-use Rattle.xa_system.specs.Parts.{OneMore, Sees, Stands}
+use Rattle.xa_rm.specs.declared.fault.RmFault.{RmFault}
+use Rattle.xa_rm.specs.declared.fault.RmFault.TheVariants as Faults
+use Rattle.xa_tm.specs.Limits.{happenings}
+use Rattle.xa_system.specs.Parts.{GoesOn, HindersScript, OneMore, Sees, Stands, noted_as, script_why}
 use Rattle.xa_system.specs.Sites.{IsHeldAs, Looks, RmStands, scan_by}
 use Rattle.xa_system.specs.declared.parts.Parts.{Parts}
 use Rattle.xa_system.specs.declared.site.Site.{Site}
 use Rattle.xa_system.proofs.CrashLeads.{rm_missing, rm_there}
 use Rattle.xa_system.proofs.LineLaws.{line_stays}
+use Rattle.xa_system.proofs.Logging.{IsUncounted, log_stays}
 use Rattle.xa_system.proofs.Quiet.{IsQuiet}
 use Rattle.xa_system.proofs.Reading.{named_fits, named_is}
-use Rattle.xa_system.proofs.Standing.{Follows, goes_as, nothing_to, same_rm, site_stays, sites_with}
+use Rattle.xa_system.proofs.Standing.{Follows, IsEvent, goes_as, nothing_to, refused_goes, same_rm, site_same, site_stays, sites_with}
 use Rattle.xa_system.proofs.TakeLeads.{elsewhere}
 use Rattle.xa_system.proofs.Took.{other_apart, same_tests}
 use Rattle.xa_tm.specs.Book.{Book, book_of}
@@ -101,8 +105,19 @@ ended_alone tr c how = record {
 
 -- ** refusals
 
-abbrev pub script_why : (there up bad : Bool) → Option Refusal
-script_why there up bad = if there then (if not up then Some Refusals.RmDown else (if bad then Some Refusals.Script else None)) else Some Refusals.Limit
+-- a script that is refused before it is looked at is refused
+script_hindered : (there up at bad : Bool) (n : Refusal) → Some n ≡ script_why there up (not at) → (at ≡ false → bad ≡ true) → script_why there up bad ≡ Some n
+script_hindered true true false bad n e else_bad = ap (script_why true true) (else_bad refl) ∙ sym e
+script_hindered true true true bad n e else_bad = absurd cc
+script_hindered true false at bad n e else_bad = sym e
+script_hindered false up at bad n e else_bad = sym e
+
+-- one that isn't is looked at
+script_free : (there up at : Bool) → None ≡ script_why there up (not at) → (there ≡ true) × (up ≡ true) × (at ≡ true)
+script_free true true true e = (refl, refl, refl)
+script_free true true false e = absurd cc
+script_free true false at e = absurd cc
+script_free false up at e = absurd cc
 
 -- a name of a branch there
 pub named_there : (r : ℕ) (n : Name) → is_at r n ≡ true → (b : Branch) × (n ≡ Ours b) × (b.rm ≡ r)
@@ -139,17 +154,32 @@ heuristic_fine tr r n b how f is at same prepared = ap (λ m. bad_script tr (Ste
 pub heuristic_bad : (tr : Trace) (r : ℕ) (n : Name) (b : Branch) (how : How) (f : Standing) → n ≡ Ours b → b.rm ≡ r → f ≡ facts.standing tr b → is_prepared f ≡ false → bad_script tr (Steps.Heuristic r n how) ≡ true
 heuristic_bad tr r n b how f is at same unprepared = ap (λ m. bad_script tr (Steps.Heuristic r m how)) is ∙ rw (eq-eqb b.rm r at, ← same) (ap not unprepared)
 
+-- the branch that a name is of is there
+pub is_there : (r : ℕ) (n : Name) (b : Branch) → n ≡ Ours b → b.rm ≡ r → is_at r n ≡ true
+is_there r n b is at = ap (is_at r) is ∙ eq-eqb b.rm r at
+
+pub never_scripts : (told : Result (Unit {0}) RmFault) → told ≡ Err Faults.Script → IfErr told (λ fault. fault ≡ Faults.Memory) → ⊥
+never_scripts (Ok u) e h = absurd (cc)
+never_scripts (Err fault) e h = absurd (let two : Faults.Script ≡ Faults.Memory = sym (fault_is fault e) ∙ h in cc)
+  where
+    fault_is : (f : RmFault) → (let y : Result (Unit {0}) RmFault = Err f in y) ≡ Err Faults.Script → f ≡ Faults.Script
+    fault_is f q = cc
+
 -- a script is elsewhere to the other resource managers
 pub record IsScript (tr : Trace) (e : Happening) (c : Branch) : Type 0 where
   pub quiet : (r : ℕ) → r ≢ c.rm → IsQuiet tr e r
   pub ups : (r : ℕ) → rm_up (Then tr e) r ≡ rm_up tr r
   pub fits : facts.incarnation tr ≤ last_number → facts.incarnation (Then tr e) ≤ last_number
+  pub uncounted : IsUncounted e
+  pub event : IsEvent e
 
 pub voted_script : (tr : Trace) (c : Branch) (v : Vote) → IsScript tr (Voted c v) c
 voted_script tr c v = record {
   quiet = λ r apart. record { branches = record { standing = λ b at. refl; vote = λ b at. rw (elsewhere b c c.rm r apart refl at) refl; retries = λ b at. refl }; scan_stays = refl };
   ups = λ r. refl;
   fits = λ h. h;
+  uncounted = λ n. refl;
+  event = tt;
 }
 
 pub put_off_script : (tr : Trace) (c : Branch) (n : ℕ) → IsScript tr (PutOff c n) c
@@ -157,6 +187,8 @@ put_off_script tr c n = record {
   quiet = λ r apart. record { branches = record { standing = λ b at. refl; vote = λ b at. refl; retries = λ b at. rw (elsewhere b c c.rm r apart refl at) refl }; scan_stays = refl };
   ups = λ r. refl;
   fits = λ h. h;
+  uncounted = λ n. refl;
+  event = tt;
 }
 
 pub alone_script : (tr : Trace) (c : Branch) (how : How) → IsScript tr (EndedAlone c how) c
@@ -164,6 +196,8 @@ alone_script tr c how = record {
   quiet = λ r apart. record { branches = record { standing = λ b at. rw (elsewhere b c c.rm r apart refl at) refl; vote = λ b at. refl; retries = λ b at. refl }; scan_stays = refl };
   ups = λ r. refl;
   fits = λ h. h;
+  uncounted = λ n. refl;
+  event = tt;
 }
 
 module _ {R L : Type 0} (see : Sees R L) where
@@ -189,7 +223,7 @@ module _ {R L : Type 0} (see : Sees R L) where
       → IsXid x → name_of x ≡ Ours c → c.rm ≡ r → Scripts tr e c change → IsScript tr e c → ((l : Line) → facts.breaks tr e l ≡ false) → ((l : Line) → facts.new_calls tr e l ≡ [])
       → ((l : Line) → facts.new_taken e l ≡ []) → ((l : Line) → facts.new_heard e l ≡ []) → book_in parts.manager ≡ book_of (Then tr e)
       → ((y : Xid) → see.look.held_of rm y ≡ changed_at x change y (see.look.held_of site.rm y)) → ((t : ℕ) → see.look.scan_of rm t ≡ see.look.scan_of site.rm t)
-      → OneMore see step reply tr (with_rm parts r site rm)
+      → OneMore see step reply tr parts (with_rm parts r site rm)
   script_did tr step e parts r site rm reply x c change stands has at is none value happens xid is_name here scripts quiet unbroken calls taken heard book held scans =
       goes_as see tr step reply Replies.Noted parts _ stands has (ap reply_of is) (As_value none value)
       (subst (λ h. Follows see tr h parts (with_rm parts r site rm)) (sym happens) (record {
@@ -210,13 +244,15 @@ module _ {R L : Type 0} (see : Sees R L) where
             (λ s apart. record { quiet = quiet.quiet s (λ q. apart (q ∙ here)); is_up = quiet.ups s }) stands.sites;
         lines = λ t q has_q. line_stays tr e (line t q) (line_at parts.lines t q) (unbroken (line t q)) (calls (line t q)) (taken (line t q)) (heard (line t q)) (stands.lines t q has_q);
         book = book;
+        log = log_stays see.logs e parts.manager quiet.uncounted;
+        unchanged = λ q. absurd (subst IsEvent q quiet.event);
       }))
 
   -- it was not, and nothing has changed
   pub script_refused : (tr : Trace) (step : Step Xid) (parts : Parts R L) (r : ℕ) (site : Site R) (rm : R) (reply : Reply Xid) (seen : known.Reply) → Stands see tr parts → StepHasXids step → slice_get parts.sites.items r ≡ Some site
       → reply_of reply ≡ seen → Demanded tr (step_of step) seen → happened (step_of step) seen ≡ Nothing
       → ((y : Xid) → see.look.held_of rm y ≡ see.look.held_of site.rm y) → ((t : ℕ) → see.look.scan_of rm t ≡ see.look.scan_of site.rm t)
-      → OneMore see step reply tr (with_rm parts r site rm)
+      → OneMore see step reply tr parts (with_rm parts r site rm)
   script_refused tr step parts r site rm reply seen stands has at is demanded nothing held scans =
       goes_as see tr step reply seen parts _ stands has is demanded
       (subst (λ h. Follows see tr h parts (with_rm parts r site rm)) (sym nothing) (record {
@@ -232,4 +268,56 @@ module _ {R L : Type 0} (see : Sees R L) where
             (λ s apart. nothing_to see tr s) stands.sites;
         lines = λ t q has_q. line_stays tr Nothing (line t q) (line_at parts.lines t q) refl refl refl refl (stands.lines t q has_q);
         book = stands.book;
+        log = log_stays see.logs Nothing parts.manager (λ n. refl);
+        unchanged = λ q. record {
+          sites = site_same see parts.sites r site (record { rm = rm; is_up = site.is_up }) at refl (record { held = held; scans = scans });
+          lines = λ t q has_q. refl;
+          book = refl;
+          log = refl;
+        };
       }))
+
+  -- it was refused before it was looked at
+  pub script_hinders : (step : Step Xid) (parts : Parts R L) (r : ℕ) (x : Xid) (n : Refusal) (reply : Reply Xid) → StepHasXids step → reply ≡ Replies.Refused n → HindersScript see r (name_of x) parts (Some n)
+      → ((tr : Trace) → must_refuse tr (step_of step) ≡ script_why (has_rm tr r) (rm_up tr r) (bad_script tr (step_of step)))
+      → ((tr : Trace) → is_at r (name_of x) ≡ false → bad_script tr (step_of step) ≡ true) → GoesOn see step reply parts parts
+  script_hinders step parts r x n reply has is hinders rule else_bad =
+      refused_goes see step parts reply n has is
+      (λ tr stands. rule tr ∙ script_hindered (has_rm tr r) (rm_up tr r) (is_at r (name_of x)) (bad_script tr (step_of step)) n (hinders tr stands) (else_bad tr))
+
+  -- it was looked at
+  pub script_told : (tr : Trace) (step : Step Xid) (e : Branch → Happening) (parts : Parts R L) (r : ℕ) (site : Site R) (rm : R) (reply : Reply Xid) (x : Xid) (change : HeldBranch → HeldBranch) (told : Result (Unit {0}) RmFault)
+      → Stands see tr parts → StepHasXids step → slice_get parts.sites.items r ≡ Some site → reply ≡ noted_as told → HindersScript see r (name_of x) parts None
+      → must_refuse tr (step_of step) ≡ script_why (has_rm tr r) (rm_up tr r) (bad_script tr (step_of step))
+      → ((c : Branch) → name_of x ≡ Ours c → c.rm ≡ r → told ≡ Err Faults.Script → bad_script tr (step_of step) ≡ true)
+      → ((c : Branch) → name_of x ≡ Ours c → c.rm ≡ r → (told ≡ Err Faults.Script → ⊥) → bad_script tr (step_of step) ≡ false)
+      → IsValue tr (step_of step) Replies.Noted → MayLackMemory tr (step_of step) → ((c : Branch) → name_of x ≡ Ours c → happened (step_of step) Replies.Noted ≡ e c)
+      → IsXid x → ((c : Branch) → Scripts tr (e c) c change) → ((c : Branch) → IsScript tr (e c) c) → ((c : Branch) (l : Line) → facts.breaks tr (e c) l ≡ false) → ((c : Branch) (l : Line) → facts.new_calls tr (e c) l ≡ [])
+      → ((c : Branch) (l : Line) → facts.new_taken (e c) l ≡ []) → ((c : Branch) (l : Line) → facts.new_heard (e c) l ≡ []) → ((c : Branch) → book_in parts.manager ≡ book_of (Then tr (e c)))
+      → OnOk told ((y : Xid) → see.look.held_of rm y ≡ changed_at x change y (see.look.held_of site.rm y)) → OnErr told ((y : Xid) → see.look.held_of rm y ≡ see.look.held_of site.rm y)
+      → ((t : ℕ) → see.look.scan_of rm t ≡ see.look.scan_of site.rm t)
+      → OneMore see step reply tr parts (with_rm parts r site rm)
+  script_told tr step e parts r site rm reply x change told stands has at is hinders rule bad fine value may happens xid scripts quiet unbroken calls taken heard book held same scans =
+      by told (is) (bad b here.1 here.2) (fine b here.1 here.2) held same
+    where
+      free : (has_rm tr r ≡ true) × (rm_up tr r ≡ true) × (is_at r (name_of x) ≡ true)
+      free = script_free (has_rm tr r) (rm_up tr r) (is_at r (name_of x)) (hinders tr stands)
+
+      here : (b : Branch) × (name_of x ≡ Ours b) × (b.rm ≡ r)
+      here = named_there r (name_of x) free.2
+
+      b : Branch
+      b = here.0
+
+      why : (t : Bool) → bad_script tr (step_of step) ≡ t → must_refuse tr (step_of step) ≡ script_why true true t
+      why t q = rule ∙ (λ i. script_why (free.0 i) (free.1 i) (q i))
+
+      by : (o : Result (Unit {0}) RmFault) → reply ≡ noted_as o → (o ≡ Err Faults.Script → bad_script tr (step_of step) ≡ true) → ((o ≡ Err Faults.Script → ⊥) → bad_script tr (step_of step) ≡ false)
+          → OnOk o ((y : Xid) → see.look.held_of rm y ≡ changed_at x change y (see.look.held_of site.rm y)) → OnErr o ((y : Xid) → see.look.held_of rm y ≡ see.look.held_of site.rm y)
+          → OneMore see step reply tr parts (with_rm parts r site rm)
+      by (Ok u) q bad fine held same =
+          script_did tr step (e b) parts r site rm reply x b change stands has at q (why false (fine (λ w. absurd (cc)))) value (happens b here.1) xid here.1 here.2 (scripts b) (quiet b) (unbroken b) (calls b) (taken b) (heard b) (book b) held scans
+      by (Err Faults.Script) q bad fine held same =
+          script_refused tr step parts r site rm reply (Replies.Refused Refusals.Script) stands has at (ap reply_of q) (By_rule Refusals.Script (why true (bad refl)) refl) refl same scans
+      by (Err Faults.Memory) q bad fine held same =
+          script_refused tr step parts r site rm reply (Replies.Refused Refusals.Memory) stands has at (ap reply_of q) (For_memory (why false (fine (λ w. absurd (cc)))) may refl) refl same scans

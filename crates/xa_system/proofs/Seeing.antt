@@ -1,6 +1,6 @@
 -- What is seen of a sound system.
-use Rattle.std.proofs.Common.{◌≡◌, ◌<◌, ◌+◌, ℕ, List, [], ◌∷◌, ◌++◌, map, length, refl, sym, ap, subst, ◌∙◌, arith, Global, Vec, Option, Some, None}
-use Rattle.std.specs.Prelude.{vec_len, slice_get}
+use Rattle.std.proofs.Common.{◌≡◌, ◌≢◌, false, ◌<◌, ◌+◌, ℕ, List, [], ◌∷◌, ◌++◌, map, length, refl, sym, ap, subst, ◌∙◌, arith, Global, Vec, Option, Some, None}
+use Rattle.std.specs.Prelude.{IsSomeAnd, vec_len, slice_get}
 use Rattle.std.specs.Vec.{vec_capacity}
 use Rattle.std.specs.Option.{option_map}
 use Rattle.std.proofs.lemmas.List.{length-map}
@@ -8,25 +8,34 @@ use Rattle.std.proofs.lemmas.Option.{slice_get-map}
 use Rattle.xa_tm.proofs.Limits.{events_happen}
 use Rattle.xa_base.specs.Demanded.{Demanded, with_steps}
 use Rattle.xa_base.specs.Branch.{IsBranch, xid_of_branch}
-use Rattle.xa_base.specs.Facts.{fate, origin}
+use Rattle.xa_base.specs.Facts.{fate, origin, up}
 use Rattle.xa_base.specs.Standing.{fate_of}
 use Rattle.xa_base.specs.Xid.{Xid}
 use Rattle.xa_base.specs.declared.branch.Branch.{Branch}
 use Rattle.xa_base.specs.History.{AreDemanded, history, read, reply_of, step_of}
 use Rattle.xa_base.specs.Steps as known
-use Rattle.xa_base.specs.Steps.{happened}
+use Rattle.xa_base.specs.Steps.{happened, log_failed}
 use Rattle.xa_base.specs.Trace.{Origin, Trace, Trace.From, Trace.Then}
 use Rattle.xa_base.specs.declared.reply.Event.{Event}
 use Rattle.xa_base.specs.declared.reply.Reply.{Reply}
 use Rattle.xa_base.specs.declared.step.Step.{Step}
 use Rattle.xa_base.proofs.Pushes.{demanded_push, history_push}
 use Rattle.xa_system.specs.Parts.{GoesOn, Sees, Stands, StandsSomewhere, event_limit}
-use Rattle.xa_system.specs.Seen.{HoldsItsTrace, IsSound, seen, start_of}
+use Rattle.xa_base.specs.declared.refusal.Refusal.{Refusal}
+use Rattle.xa_base.specs.declared.refusal.Refusal.TheVariants as Refusals
+use Rattle.xa_base.specs.declared.reply.Reply.TheVariants as Replies
+use Rattle.xa_system.specs.Logged.{MayHaveFailed, StartsOver}
+use Rattle.xa_system.specs.Steps.{IsSame}
+use Rattle.xa_system.specs.Seen.{FaultsHaveCauses, HoldsItsTrace, IsAsBefore, IsSound, KeepsLog, seen, start_of}
 use Rattle.xa_system.specs.Sites.{RmStands}
 use Rattle.xa_system.specs.declared.parts.Parts.{Parts}
 use Rattle.xa_system.specs.declared.site.Site.{Site}
 use Rattle.xa_system.specs.declared.system.System.TheInside.{Inside}
+use Rattle.xa_system.proofs.FaultCounts.{causes_more, falls, rises}
+use Rattle.xa_system.proofs.LogLaws.{tied_stands}
+use Rattle.xa_tm.specs.Kept.{log_in}
 use Rattle.xa_tm.specs.Limits.{happenings}
+use Rattle.xa_tm.specs.Tied.{IsTied}
 
 -- ** histories
 
@@ -53,6 +62,11 @@ module _ {R L : Type 0} (see : Sees R L) where
         let from = mapped_at (λ (site : Site R). site.rm) a.parts.sites.items r rm at in
         subst (RmStands see.look (history (start_of see a.parts) a.events.items) r) from.2 (sound.stands.sites r from.0 from.1).rm;
     lines = sound.stands.lines;
+    log = λ order honest. record {
+      start = sound.log.start order honest;
+      stands = tied_stands (history (start_of see a.parts) a.events.items) (see.logs.content (log_in a.parts.manager))
+          (subst (λ k. IsTied k (see.logs.content (log_in a.parts.manager))) sound.stands.book (sound.log.tied order honest));
+    };
   }
 
   -- the parts stand, and there is room
@@ -63,10 +77,94 @@ module _ {R L : Type 0} (see : Sees R L) where
   pub start_stays : (old new : Parts R L) (tr : Trace) (step : Step Xid) (reply : Reply Xid) → Stands see tr old → happenings tr < event_limit → GoesOn see step reply old new → start_of see new ≡ start_of see old
   start_stays old new tr step reply stands few goes = sym (goes tr stands few).stands.origin ∙ stands.origin
 
+  -- the history after one event more
+  trace_then : (old : Inside R L) (new : Parts R L) (events : Vec Event Global) (step : Step Xid) (reply copy : Reply Xid) → IsSound see old → GoesOn see step reply old.parts new → copy ≡ reply
+      → vec_len old.events < event_limit → events.items ≡ old.events.items ++ record { step = step; reply = copy } ∷ []
+      → history (start_of see new) events.items ≡ Then (history (start_of see old.parts) old.events.items) (happened (step_of step) (reply_of reply))
+  unfolding somewhere
+  trace_then old new events step reply copy sound goes same few items =
+      let here = somewhere old sound few in
+      let event : Event = record { step = step; reply = reply } in
+      let all = items ∙ ap (λ (r : Reply Xid). old.events.items ++ record { step = step; reply = r } ∷ []) same in
+      ap (λ s. history s events.items) (start_stays old.parts new here.0 step reply here.1 here.2 goes)
+      ∙ ap (history (start_of see old.parts)) all ∙ history_push (start_of see old.parts) old.events.items event
+
+  -- a refused step leaves all as it is
+  pub as_before : (old : Inside R L) (new : Parts R L) (events : Vec Event Global) (step : Step Xid) (reply : Reply Xid) → IsSound see old → GoesOn see step reply old.parts new → vec_len old.events < event_limit
+      → (n : Refusal) → reply ≡ Replies.Refused n → n ≢ Refusals.LogFault → IsAsBefore see (seen old) (seen (record { handed = old.handed; parts = new; events = events }))
+  unfolding somewhere
+  as_before old new events step reply sound goes few n is other =
+      let here = somewhere old sound few in
+      let same = (goes here.0 here.1 here.2).unchanged n is other in
+      record {
+        rms = λ r rm at.
+            let from = mapped_at (λ (site : Site R). site.rm) old.parts.sites.items r rm at in
+            let to = same.sites r from.0 from.1 in
+            (to.0.rm, slice_get-map (λ (site : Site R). site.rm) new.sites.items r ∙ ap (option_map (λ (site : Site R). site.rm)) to.1, subst (λ m. IsSame see.look m to.0.rm) from.2 to.3);
+        lines = same.lines;
+        log = same.log;
+      }
+
+  -- after a failure of the log the manager is down
+  pub down_after : (old : Inside R L) (new : Parts R L) (events : Vec Event Global) (step : Step Xid) (reply copy : Reply Xid) → IsSound see old → GoesOn see step reply old.parts new → copy ≡ reply
+      → vec_len old.events < event_limit → events.items ≡ old.events.items ++ record { step = step; reply = copy } ∷ []
+      → reply ≡ Replies.Refused Refusals.LogFault → up (history (start_of see new) events.items) ≡ false
+  unfolding somewhere
+  down_after old new events step reply copy sound goes same few items is =
+      let here = somewhere old sound few in
+      let demanded = subst (λ r. Demanded here.0 (step_of step) (reply_of r)) is (goes here.0 here.1 here.2).demanded in
+      ap up (trace_then old new events step reply copy sound goes same few items ∙ ap (λ r. Then here.0 (happened (step_of step) (reply_of r))) is)
+      ∙ falls here.0 (step_of step) demanded
+
+  -- and the log may have made the step's change
+  pub failed_so : (old : Inside R L) (new : Parts R L) (step : Step Xid) (reply : Reply Xid) → IsSound see old → GoesOn see step reply old.parts new → vec_len old.events < event_limit
+      → reply ≡ Replies.Refused Refusals.LogFault → see.logs.is_in_order old.handed.value → see.logs.is_honest (log_in new.manager)
+      → MayHaveFailed (history (start_of see old.parts) old.events.items) (log_failed (step_of step)) (see.logs.content (log_in old.parts.manager)) (see.logs.content (log_in new.manager))
+  unfolding somewhere
+  failed_so old new step reply sound goes few is order honest =
+      let here = somewhere old sound few in
+      subst (λ r. MayHaveFailed here.0 (happened (step_of step) (reply_of r)) (see.logs.content (log_in old.parts.manager)) (see.logs.content (log_in new.manager))) is
+      ((goes here.0 here.1 here.2).log.failed (sound.log.order order) honest)
+
+  -- the log after one event more
+  log_then : (old : Inside R L) (new : Parts R L) (events : Vec Event Global) (step : Step Xid) (reply : Reply Xid) → IsSound see old → GoesOn see step reply old.parts new → vec_len old.events < event_limit
+      → KeepsLog see (record { handed = old.handed; parts = new; events = events })
+  unfolding somewhere
+  log_then old new events step reply sound goes few =
+      let here = somewhere old sound few in
+      let log = (goes here.0 here.1 here.2).log in
+      let start = start_stays old.parts new here.0 step reply here.1 here.2 goes in
+      record {
+        order = λ h. log.order (sound.log.order h);
+        honest = λ h. sound.log.honest (log.honest h);
+        start = λ order honest. subst (λ o. IsSomeAnd (see.logs.content old.handed.value) (StartsOver o)) (sym start) (sound.log.start order (log.honest honest));
+        tied = λ order honest. log.tied (sound.log.order order) honest (sound.log.tied order (log.honest honest));
+      }
+
+  -- what was honest since
+  pub honest_before : (old : Inside R L) (new : Parts R L) (step : Step Xid) (reply : Reply Xid) → IsSound see old → GoesOn see step reply old.parts new → vec_len old.events < event_limit
+      → see.logs.is_honest (log_in new.manager) → see.logs.is_honest (log_in old.parts.manager)
+  unfolding somewhere
+  honest_before old new step reply sound goes few h = let here = somewhere old sound few in (goes here.0 here.1 here.2).log.honest h
+
+  -- an event that was answered that the log failed has raised its count
+  pub fault_has_cause : (old : Inside R L) (new : Parts R L) (events : Vec Event Global) (step : Step Xid) (reply copy : Reply Xid) → IsSound see old → GoesOn see step reply old.parts new → copy ≡ reply
+      → vec_len old.events < event_limit → events.items ≡ old.events.items ++ record { step = step; reply = copy } ∷ []
+      → see.logs.is_in_order old.handed.value → see.logs.is_honest (log_in new.manager)
+      → FaultsHaveCauses see (seen old) (seen (record { handed = old.handed; parts = new; events = events }))
+  unfolding somewhere
+  fault_has_cause old new events step reply copy sound goes same few items order honest =
+      let here = somewhere old sound few in
+      let more = goes here.0 here.1 here.2 in
+      let counted = more.log.counted (sound.log.order order) honest (sound.log.tied order (more.log.honest honest)) in
+      let all = items ∙ ap (λ (r : Reply Xid). old.events.items ++ record { step = step; reply = r } ∷ []) same in
+      causes_more old.events.items events.items (record { step = step; reply = reply }) (see.logs.fault_count (log_in old.parts.manager)) (see.logs.fault_count (log_in new.manager)) _ all
+      (rises here.0 (step_of step) reply (see.logs.fault_count (log_in old.parts.manager)) more.demanded) counted
+
   -- one event more
   pub sound_then : (old : Inside R L) (new : Parts R L) (events : Vec Event Global) (step : Step Xid) (reply copy : Reply Xid) → IsSound see old → GoesOn see step reply old.parts new → copy ≡ reply
       → vec_len old.events < event_limit → vec_len events ≡ vec_len old.events + 1 → events.items ≡ old.events.items ++ record { step = step; reply = copy } ∷ [] → vec_capacity events ≡ vec_capacity old.events
-      → IsSound see (record { parts = new; events = events })
+      → IsSound see (record { handed = old.handed; parts = new; events = events })
   unfolding somewhere
   sound_then old new events step reply copy sound goes same few len items room =
       let event : Event = record { step = step; reply = reply } in
@@ -80,6 +178,7 @@ module _ {R L : Type 0} (see : Sees R L) where
         room = omega (arith, sound.room, room);
         stands = subst (λ p. Stands see p new) (sym (ap (λ s. history s events.items) start ∙ ap (history o) all ∙ history_push o old.events.items event)) after.stands;
         demanded = subst (λ s. AreDemanded s events.items) (sym start) (subst (AreDemanded o) (sym all) (demanded_push o old.events.items event sound.demanded after.demanded));
+        log = log_then old new events step reply sound goes few;
       }
 
   -- what the step was answered

@@ -25,12 +25,14 @@ use Rattle.xa_line.specs.Grid.{Grid, HasLine, IsWhole, line_at, with_line}
 use Rattle.xa_line.specs.Traffic.{Traffic}
 use Rattle.xa_line.proofs.GridLaws.{line_at-with_line_other_rm, line_at-with_line_other_thread, line_at-with_line_same}
 use Rattle.xa_tm.specs.declared.manager.Manager.{Manager}
-use Rattle.xa_tm.specs.Kept.{book_in}
-use Rattle.xa_system.specs.Lines.{LineStands}
-use Rattle.xa_system.specs.Parts.{GoesOn, OneMore, Sees, SiteStands, Stands, origin_of}
-use Rattle.xa_system.specs.Sites.{RmStands}
+use Rattle.xa_tm.specs.Kept.{book_in, log_in}
+use Rattle.xa_line.specs.Histories.{LineStands}
+use Rattle.xa_system.specs.Logged.{LogFollows}
+use Rattle.xa_system.specs.Parts.{GoesOn, IsUnchanged, OneMore, Sees, SiteStands, Stands, origin_of}
+use Rattle.xa_system.specs.Sites.{Looks, RmStands}
 use Rattle.xa_system.specs.Steps.{IsSame}
 use Rattle.xa_system.proofs.LineLaws.{line_stays}
+use Rattle.xa_system.proofs.Logging.{log_same_book}
 use Rattle.xa_system.specs.declared.parts.Parts.{Parts}
 use Rattle.xa_system.specs.declared.site.Site.{Site}
 use Rattle.xa_system.proofs.Kept.{kept_then}
@@ -78,6 +80,31 @@ lines_with tr g t r x whole has here others u s has_u =
       ])
     ]
 
+-- one line changed into what it was
+pub lines_same : (g : Grid) (t r : ℕ) (x : Traffic) → IsWhole g → HasLine g t r → x ≡ line_at g t r → (u s : ℕ) → HasLine g u s → line_at (with_line g t r x) u s ≡ line_at g u s
+lines_same g t r x whole has same u s has_u =
+    elim (eqb_tells s r) [
+      | inr apart ↦ line_at-with_line_other_rm g t r u s x has.1 has_u.1 apart.1
+      | inl same_rm ↦ (elim (eqb_tells u t) [
+        | inr apart ↦ line_at-with_line_other_thread g t r u s x has.1 has_u.1 apart.1
+        | inl same_thread ↦ subst (λ n. line_at (with_line g t r x) n s ≡ line_at g n s) (sym same_thread.1)
+            (subst (λ n. line_at (with_line g t r x) t n ≡ line_at g t n) (sym same_rm.1) (line_at-with_line_same g t r x whole has ∙ same))
+      ])
+    ]
+
+-- nothing happens in a refused step, unless the log failed
+pub refused_as_nothing : (n : Refusal) (s : Known) → n ≢ Refusals.LogFault → happened s (Replies.Refused n) ≡ Nothing
+refused_as_nothing Refusals.LogFault s other = absurd (other refl)
+refused_as_nothing n s other = refl
+
+-- something happened
+abbrev pub IsEvent : Happening → Type 0
+IsEvent Nothing = ⊥
+IsEvent e = Unit {0}
+
+pub stays_same : {R : Type 0} (look : Looks R) (rm : R) → IsSame look rm rm
+stays_same look rm = record { held = λ x. refl; scans = λ t. refl }
+
 module _ {R L : Type 0} (see : Sees R L) where
   -- ** sites
 
@@ -106,6 +133,18 @@ module _ {R L : Type 0} (see : Sees R L) where
         | inr apart ↦ site_stays tr e s site (others s apart.1) (stand s site (sym (get_set_other sites.items r s after apart.1) ∙ there))
       ]
 
+  -- one site changed into one that is the same
+  pub site_same : (sites : Vec (Site R) Global) (r : ℕ) (before after : Site R) → slice_get sites.items r ≡ Some before → after.is_up ≡ before.is_up → IsSame see.look before.rm after.rm
+      → (s : ℕ) (site : Site R) → slice_get sites.items s ≡ Some site → (now : Site R) × (slice_get (with_item sites r after).items s ≡ Some now) × (now.is_up ≡ site.is_up) × IsSame see.look site.rm now.rm
+  site_same sites r before after at up same s site there =
+      elim (eqb_tells s r) [
+        | inl w ↦ (
+            let one : Some before ≡ Some site = sym at ∙ ap (slice_get sites.items) (sym w.1) ∙ there in
+            let is : before ≡ site = cc in
+            (after, ap (slice_get (set sites.items r after)) w.1 ∙ get_set_same sites.items r after before at, up ∙ ap (λ (x : Site R). x.is_up) is, subst (λ (x : Site R). IsSame see.look x.rm after.rm) is same))
+        | inr apart ↦ (site, get_set_other sites.items r s after apart.1 ∙ there, refl, stays_same see.look site.rm)
+      ]
+
   -- ** the whole
 
   -- what one happening more makes of the parts
@@ -120,10 +159,12 @@ module _ {R L : Type 0} (see : Sees R L) where
     pub sites : (r : ℕ) (site : Site R) → slice_get new.sites.items r ≡ Some site → SiteStands see (Then tr e) r site
     pub lines : (t r : ℕ) → HasLine new.lines t r → LineStands (Then tr e) (line t r) (line_at new.lines t r)
     pub book : book_in new.manager ≡ book_of (Then tr e)
+    pub log : LogFollows see.logs tr e old.manager new.manager
+    pub unchanged : e ≡ Nothing → IsUnchanged see old new
 
   -- so one event more has happened
   pub goes : (tr : Trace) (step : Step Xid) (reply : Reply Xid) (old new : Parts R L) → Stands see tr old → StepHasXids step → Demanded tr (step_of step) (reply_of reply)
-      → Follows tr (happened (step_of step) (reply_of reply)) old new → OneMore see step reply tr new
+      → Follows tr (happened (step_of step) (reply_of reply)) old new → OneMore see step reply tr old new
   goes tr step reply old new stands has demanded follows = record {
     demanded = demanded;
     stands = record {
@@ -142,11 +183,13 @@ module _ {R L : Type 0} (see : Sees R L) where
       lines = follows.lines;
       book = follows.book;
     };
+    log = follows.log;
+    unchanged = λ n is other. follows.unchanged (ap (λ r. happened (step_of step) (reply_of r)) is ∙ refused_as_nothing n (step_of step) other);
   }
 
   -- the same, where what the history knows of the reply is at hand
   pub goes_as : (tr : Trace) (step : Step Xid) (reply : Reply Xid) (seen : KnownReply) (old new : Parts R L) → Stands see tr old → StepHasXids step → reply_of reply ≡ seen → Demanded tr (step_of step) seen
-      → Follows tr (happened (step_of step) seen) old new → OneMore see step reply tr new
+      → Follows tr (happened (step_of step) seen) old new → OneMore see step reply tr old new
   goes_as tr step reply seen old new stands has is demanded follows =
       goes tr step reply old new stands has (subst (Demanded tr (step_of step)) (sym is) demanded) (subst (λ r. Follows tr (happened (step_of step) r) old new) (sym is) follows)
 
@@ -183,8 +226,8 @@ module _ {R L : Type 0} (see : Sees R L) where
 
   -- where nothing happens, what the book says stays
   pub nothing_follows : (tr : Trace) (parts : Parts R L) (manager : Manager L) → Stands see tr parts → book_in manager ≡ book_in parts.manager
-      → Follows tr Nothing parts (record { alloc = parts.alloc; start = parts.start; began = parts.began; sites = parts.sites; lines = parts.lines; manager = manager })
-  nothing_follows tr parts manager stands same = record {
+      → log_in manager ≡ log_in parts.manager → Follows tr Nothing parts (record { alloc = parts.alloc; start = parts.start; began = parts.began; sites = parts.sites; lines = parts.lines; manager = manager })
+  nothing_follows tr parts manager stands same log = record {
     start = refl;
     began = refl;
     threads = refl;
@@ -195,6 +238,8 @@ module _ {R L : Type 0} (see : Sees R L) where
     sites = λ r site at. site_stays tr Nothing r site (nothing_to tr r) (stands.sites r site at);
     lines = λ t r has. line_stays tr Nothing (line t r) (line_at parts.lines t r) refl refl refl refl (stands.lines t r has);
     book = same ∙ stands.book;
+    log = log_same_book see.logs Nothing parts.manager manager (λ k. refl) log same;
+    unchanged = λ q. record { sites = λ r before at. (before, at, refl, stays_same see.look before.rm); lines = λ t r has. refl; book = same; log = log };
   }
 
   -- ** refusals
@@ -210,14 +255,14 @@ module _ {R L : Type 0} (see : Sees R L) where
   refused_goes step parts reply n has is forced_so tr stands few =
       let why = forced_so tr stands in
       goes_as tr step reply (Replies.Refused n) parts parts stands has (ap reply_of is) (By_rule n why refl)
-      (subst (λ e. Follows tr e parts parts) (sym (comes_to_nothing n (step_of step) (forced tr (step_of step) n why))) (nothing_follows tr parts parts.manager stands refl))
+      (subst (λ e. Follows tr e parts parts) (sym (comes_to_nothing n (step_of step) (forced tr (step_of step) n why))) (nothing_follows tr parts parts.manager stands refl refl))
 
   -- so does one that memory was refused to
   pub lacking_goes : (tr : Trace) (step : Step Xid) (parts : Parts R L) (manager : Manager L) (reply : Reply Xid) → Stands see tr parts → StepHasXids step → reply ≡ Replies.Refused Refusals.Memory → must_refuse tr (step_of step) ≡ None → MayLackMemory tr (step_of step)
-      → book_in manager ≡ book_in parts.manager
-      → OneMore see step reply tr (record { alloc = parts.alloc; start = parts.start; began = parts.began; sites = parts.sites; lines = parts.lines; manager = manager })
-  lacking_goes tr step parts manager reply stands has is none may same =
-      goes_as tr step reply (Replies.Refused Refusals.Memory) parts _ stands has (ap reply_of is) (For_memory none may refl) (nothing_follows tr parts manager stands same)
+      → book_in manager ≡ book_in parts.manager → log_in manager ≡ log_in parts.manager
+      → OneMore see step reply tr parts (record { alloc = parts.alloc; start = parts.start; began = parts.began; sites = parts.sites; lines = parts.lines; manager = manager })
+  lacking_goes tr step parts manager reply stands has is none may same log =
+      goes_as tr step reply (Replies.Refused Refusals.Memory) parts _ stands has (ap reply_of is) (For_memory none may refl) (nothing_follows tr parts manager stands same log)
 
   -- the site that was read
   pub site_read : (tr : Trace) (parts : Parts R L) (t r : ℕ) (site : Site R) → Stands see tr parts → (nat_lt t parts.lines.threads && nat_lt r parts.lines.rms) ≡ true → site ≡ get_or parts.sites.items r site
@@ -229,8 +274,8 @@ module _ {R L : Type 0} (see : Sees R L) where
 
   -- a refusal that is forced, where the manager holds what it held
   pub rule_goes : (tr : Trace) (step : Step Xid) (reply : Reply Xid) (parts : Parts R L) (manager : Manager L) (n : Refusal) → Stands see tr parts → StepHasXids step → reply ≡ Replies.Refused n → must_refuse tr (step_of step) ≡ Some n
-      → book_in manager ≡ book_in parts.manager
-      → OneMore see step reply tr (record { alloc = parts.alloc; start = parts.start; began = parts.began; sites = parts.sites; lines = parts.lines; manager = manager })
-  rule_goes tr step reply parts manager n stands has is why same =
+      → book_in manager ≡ book_in parts.manager → log_in manager ≡ log_in parts.manager
+      → OneMore see step reply tr parts (record { alloc = parts.alloc; start = parts.start; began = parts.began; sites = parts.sites; lines = parts.lines; manager = manager })
+  rule_goes tr step reply parts manager n stands has is why same log =
       goes_as tr step reply (Replies.Refused n) parts _ stands has (ap reply_of is) (By_rule n why refl)
-      (subst (λ e. Follows tr e parts (record { alloc = parts.alloc; start = parts.start; began = parts.began; sites = parts.sites; lines = parts.lines; manager = manager })) (sym (comes_to_nothing n (step_of step) (forced tr (step_of step) n why))) (nothing_follows tr parts manager stands same))
+      (subst (λ e. Follows tr e parts (record { alloc = parts.alloc; start = parts.start; began = parts.began; sites = parts.sites; lines = parts.lines; manager = manager })) (sym (comes_to_nothing n (step_of step) (forced tr (step_of step) n why))) (nothing_follows tr parts manager stands same log))

@@ -30,18 +30,20 @@ use Rattle.xa_line.specs.Grid.{HasLine, line_at}
 use Rattle.xa_line.specs.Traffic.{Flow, PassesOn, Traffic, all_of, answered, heard, issued, with_one_more}
 use Rattle.xa_line.proofs.FlowLaws.{all_of-PassesOn}
 use Rattle.xa_line.proofs.GridLaws.{whole-with_line}
-use Rattle.xa_system.specs.Lines.{LineStands, known}
+use Rattle.xa_line.specs.Histories.{LineStands, known}
 use Rattle.xa_system.specs.Parts.{Leads, OneMore, Sees, Stands}
 use Rattle.xa_system.specs.Steps.{IsSame, Takes, TakesOne}
 use Rattle.xa_system.specs.Trace.{IsHome}
 use Rattle.xa_system.specs.declared.parts.Parts.{Parts}
 use Rattle.xa_system.specs.declared.site.Site.{Site}
-use Rattle.xa_system.proofs.LineLaws.{as_many_answers, line_goes_on, line_stays, no_waiting_call, waiting_call}
+use Rattle.xa_system.proofs.Logging.{log_stays}
+use Rattle.xa_line.proofs.TrafficLaws.{as_many_answers, line_goes_on}
+use Rattle.xa_system.proofs.LineLaws.{line_stays, no_waiting_call, waiting_call}
 use Rattle.xa_base.proofs.Replies.{accepted_ours}
 use Rattle.xa_base.specs.Steps.{if_ours}
 use Rattle.xa_system.proofs.OnBranch.{ours_back, standing_none}
 use Rattle.xa_system.proofs.Quiet.{IsQuiet}
-use Rattle.xa_system.proofs.Standing.{Follows, goes_as, lines_apart_rm, has_line, lines_with, nothing_to, same_rm, site_stays, sites_with, there_is, with_site_and_line}
+use Rattle.xa_system.proofs.Standing.{Follows, IsEvent, lines_same, site_same, goes_as, lines_apart_rm, has_line, lines_with, nothing_to, same_rm, site_stays, sites_with, there_is, with_site_and_line}
 use Rattle.xa_system.proofs.TakeLaws.{took_rightly, waits_home}
 use Rattle.xa_system.proofs.Took.{retries_stay}
 
@@ -186,11 +188,18 @@ module _ {R L : Type 0} (see : Sees R L) where
         (subst (LineStands (Then tr Nothing) (line t r)) (sym same_line) (line_stays tr Nothing (line t r) (line_at parts.lines t r) refl refl refl refl (stands.lines t r has)))
         (λ u s has_u apart. line_stays tr Nothing (line u s) (line_at parts.lines u s) refl refl refl refl (stands.lines u s has_u));
     book = stands.book;
+    log = log_stays see.logs Nothing parts.manager (λ n. refl);
+    unchanged = λ q. record {
+      sites = site_same see parts.sites r site (record { rm = after; is_up = site.is_up }) at refl same;
+      lines = lines_same parts.lines t r x stands.whole has same_line;
+      book = refl;
+      log = refl;
+    };
   }
 
   took_one : (tr : Trace) (parts : Parts R L) (t r : ℕ) (site : Site R) (after : R) (x : Traffic) (call : Asking.Call Xid) (a : Given.Answer Xid) → slice_get parts.sites.items r ≡ Some site → HasLine parts.lines t r → Stands see tr parts
       → must_refuse tr (Steps.Take t r) ≡ None → TakesOne see.look t call a site.rm after (line_at parts.lines t r) x
-      → OneMore see (Steps.Take t r) (Replies.Took call a) tr (with_site_and_line see parts t r (record { rm = after; is_up = site.is_up }) x)
+      → OneMore see (Steps.Take t r) (Replies.Took call a) tr parts (with_site_and_line see parts t r (record { rm = after; is_up = site.is_up }) x)
   took_one tr parts t r site after x call a at has stands none took =
       let l = line t r in
       let here = stands.lines t r has in
@@ -217,6 +226,8 @@ module _ {R L : Type 0} (see : Sees R L) where
             (took_line tr l k call a (line_at parts.lines t r) x here waits.1 took.taken took.answered)
             (λ u s has_u apart. line_stays tr e (line u s) (line_at parts.lines u s) refl refl (rw apart refl) refl (stands.lines u s has_u));
         book = stands.book;
+        log = log_stays see.logs e parts.manager (λ n. refl);
+        unchanged = λ q. absurd (subst IsEvent q tt);
       }))
 
   pub take_leads : (parts : Parts R L) (t r : ℕ) (site : Site R) (after : R) (x : Traffic) (reply : Reply Xid) → slice_get parts.sites.items r ≡ Some site

@@ -1,5 +1,5 @@
 -- How the parts that a system holds stand to its history.
-use Rattle.std.specs.Prelude.{◌≡◌, ◌<◌, ◌≤◌, ◌+◌, ℕ, Bool, not, nat_lt, if◌then◌else◌, List, [], length, Option, Some, None, slice_get, vec_len}
+use Rattle.std.specs.Prelude.{◌≡◌, ◌≢◌, ◌<◌, ◌≤◌, ◌+◌, ℕ, Bool, not, nat_lt, if◌then◌else◌, List, [], length, Option, Some, None, slice_get, vec_len, Result, Ok, Err}
 use Rattle.std.specs.Option.{option_map_or}
 use Rattle.xa_base.specs.Demanded.{Demanded}
 use Rattle.xa_base.specs.Distinct.{ApartRows}
@@ -7,7 +7,7 @@ use Rattle.xa_base.specs.Facts as facts
 use Rattle.xa_base.specs.HeldBranch.{HeldBranch, new_branch}
 use Rattle.xa_base.specs.History.{reply_of, step_of}
 use Rattle.xa_base.specs.Progress.{rm_up, waiting}
-use Rattle.xa_base.specs.Rules.{has_rm, must_refuse}
+use Rattle.xa_base.specs.Rules.{has_rm, is_at, must_refuse}
 use Rattle.xa_base.specs.Scan.{Scan, Scan.NotOpen}
 use Rattle.xa_base.specs.Steps.{happened}
 use Rattle.xa_base.specs.Trace.{Name, Name.Foreign, Origin, Recorded, Row, Trace, Trace.From, Trace.Then, line}
@@ -15,18 +15,24 @@ use Rattle.xa_base.specs.Xid.{Xid}
 use Rattle.xa_base.specs.declared.refusal.Refusal.{Refusal}
 use Rattle.xa_base.specs.declared.refusal.Refusal.TheVariants as Refusals
 use Rattle.xa_base.specs.declared.reply.Reply.{Reply}
+use Rattle.xa_base.specs.declared.reply.Reply.TheVariants as Replies
 use Rattle.xa_base.specs.declared.step.Step.{Step}
 use Rattle.xa_line.specs.Grid.{HasLine, IsWhole, line_at}
 use Rattle.xa_log.specs.Content.{last_number}
-use Rattle.xa_system.specs.Lines.{LineStands}
+use Rattle.xa_line.specs.Histories.{LineStands}
+use Rattle.xa_log.specs.declared.decision_log.DecisionLog as DecisionLog
+use Rattle.xa_system.specs.Logged.{LogFollows}
 use Rattle.xa_system.specs.Sites.{BeginsClear, Looks, RmStands, looks, scan_by}
+use Rattle.xa_system.specs.Steps.{IsSame}
 use Rattle.xa_system.specs.Trace.{IsKept}
+use Rattle.xa_rm.specs.declared.fault.RmFault.{RmFault}
+use Rattle.xa_rm.specs.declared.fault.RmFault.TheVariants as Faults
 use Rattle.xa_system.specs.declared.parts.Parts.{Parts}
 use Rattle.xa_system.specs.declared.site.Site.{Site}
 use Rattle.xa_tm.specs.Begins.{records_begun, rows_begun}
 use Rattle.xa_tm.specs.Book.{book_of}
 use Rattle.xa_tm.specs.Held.{IsSound}
-use Rattle.xa_tm.specs.Kept.{book_in}
+use Rattle.xa_tm.specs.Kept.{book_in, log_in}
 use Rattle.xa_tm.specs.Limits.{HasRoomForRun, happenings}
 use Rattle.xa_tm.specs.declared.manager.Manager.{Manager}
 
@@ -34,12 +40,13 @@ use Rattle.xa_tm.specs.declared.manager.Manager.{Manager}
 abbrev pub event_limit : ℕ
 event_limit = 10000
 
--- what contracts see of the resource managers of a system whose log is one of these
-pub record Sees (R L : Type 0) : Type 0 where
+-- what contracts see of the resource managers and the log of a system
+pub record Sees (R L : Type 0) : Type 1 where
   pub look : Looks R
+  pub logs : DecisionLog.Ghosts L
 
-abbrev pub sees : {R L : Type 0} → (R → Xid → HeldBranch) → (R → ℕ → Scan Xid) → (R → List Xid) → Sees R L
-sees held_of scan_of in_doubt_of = record { look = looks held_of scan_of in_doubt_of }
+abbrev pub sees : {R L : Type 0} → (R → Xid → HeldBranch) → (R → ℕ → Scan Xid) → (R → List Xid) → DecisionLog.Ghosts L → Sees R L
+sees held_of scan_of in_doubt_of log = record { look = looks held_of scan_of in_doubt_of; logs = log }
 
 -- ** the start
 
@@ -55,23 +62,23 @@ abbrev pub scan_in : {R : Type 0} → Looks R → List R → (rm : ℕ) → Scan
 scan_in look rms r = option_map_or (λ rm. scan_by (λ x. Foreign x) (look.scan_of rm 0)) (slice_get rms r) NotOpen
 
 -- where a system starts whose manager begins so
-abbrev pub origin_from : {R L : Type 0} → Sees R L → (threads : ℕ) → List R
+abbrev pub origin_from : {R : Type 0} → Looks R → (threads : ℕ) → List R
     → (incarnation : ℕ) → List Row → List Recorded → Origin
-origin_from see threads rms incarnation rows records = record {
+origin_from look threads rms incarnation rows records = record {
   threads = threads;
   rms = length rms;
   incarnation = incarnation;
   rows = rows;
   heuristic_rows = records;
-  held = held_in see.look rms;
-  in_doubt = doubt_in see.look rms;
-  scans = scan_in see.look rms;
+  held = held_in look rms;
+  in_doubt = doubt_in look rms;
+  scans = scan_in look rms;
 }
 
 -- where a system of these parts starts
 abbrev pub origin_of : {R L : Type 0} → Sees R L → (threads : ℕ) → List R → Manager L → Origin
 origin_of see threads rms manager =
-    origin_from see threads rms (book_in manager).incarnation (rows_begun manager) (records_begun manager)
+    origin_from see.look threads rms (book_in manager).incarnation (rows_begun manager) (records_begun manager)
 
 -- ** recoveries
 
@@ -84,6 +91,18 @@ recovery_why there up rm_up shut closed full =
     else (if closed then Some Refusals.Closed
     else (if full then Some Refusals.Full else None)))))
     else Some Refusals.Limit
+
+-- ** scripts
+
+-- why a resource manager isn't told anything of a branch
+abbrev pub script_why : (there up bad : Bool) → Option Refusal
+script_why there up bad = if there then (if not up then Some Refusals.RmDown else (if bad then Some Refusals.Script else None)) else Some Refusals.Limit
+
+-- the reply to what a resource manager was told, by its result
+abbrev pub noted_as : Result (Unit {0}) RmFault → Reply Xid
+noted_as (Ok u) = Replies.Noted
+noted_as (Err Faults.Script) = Replies.Refused Refusals.Script
+noted_as (Err Faults.Memory) = Replies.Refused Refusals.Memory
 
 -- ** where the parts stand
 
@@ -112,19 +131,30 @@ module _ {R L : Type 0} (see : Sees R L) where
 
   -- ** steps
 
+  -- the resource managers, the lines, the manager and the log are as before
+  pub record IsUnchanged (old new : Parts R L) : Type 0 where
+    pub sites : (r : ℕ) (before : Site R) → slice_get old.sites.items r ≡ Some before
+        → (after : Site R) × (slice_get new.sites.items r ≡ Some after) × (after.is_up ≡ before.is_up)
+        × IsSame see.look before.rm after.rm
+    pub lines : (t r : ℕ) → HasLine old.lines t r → line_at new.lines t r ≡ line_at old.lines t r
+    pub book : book_in new.manager ≡ book_in old.manager
+    pub log : log_in new.manager ≡ log_in old.manager
+
   -- the step was answered as the history demands, and the parts then stand where one happening more leaves them
-  pub record OneMore (step : Step Xid) (reply : Reply Xid) (tr : Trace) (new : Parts R L) : Type 0 where
+  pub record OneMore (step : Step Xid) (reply : Reply Xid) (tr : Trace) (old new : Parts R L) : Type 0 where
     pub demanded : Demanded tr (step_of step) (reply_of reply)
     pub stands : Stands (Then tr (happened (step_of step) (reply_of reply))) new
+    pub log : LogFollows see.logs tr (happened (step_of step) (reply_of reply)) old.manager new.manager
+    pub unchanged : (n : Refusal) → reply ≡ Replies.Refused n → n ≢ Refusals.LogFault → IsUnchanged old new
 
   -- so it is wherever the parts stood
   abbrev pub GoesOn : Step Xid → Reply Xid → Parts R L → Parts R L → Type 0
-  GoesOn step reply old new = (tr : Trace) → Stands tr old → happenings tr < event_limit → OneMore step reply tr new
+  GoesOn step reply old new = (tr : Trace) → Stands tr old → happenings tr < event_limit → OneMore step reply tr old new
 
   -- so it is wherever the parts stood and the step is not refused
   abbrev pub Leads : Step Xid → Reply Xid → Parts R L → Parts R L → Type 0
   Leads step reply old new = (tr : Trace) → Stands tr old → happenings tr < event_limit
-      → must_refuse tr (step_of step) ≡ None → OneMore step reply tr new
+      → must_refuse tr (step_of step) ≡ None → OneMore step reply tr old new
 
   -- wherever the parts stand, this is the refusal of the step, or none
   abbrev pub Judges : Step Xid → Parts R L → Option Refusal → Type 0
@@ -139,6 +169,11 @@ module _ {R L : Type 0} (see : Sees R L) where
   abbrev pub IsAllowed : Step Xid → Parts R L → Type 0
   IsAllowed step parts = (tr : Trace) × Stands tr parts × (happenings tr < event_limit)
       × (must_refuse tr (step_of step) ≡ None)
+
+  -- wherever the parts stand, this is why a resource manager isn't told anything of what the name is of
+  abbrev pub HindersScript : (rm : ℕ) → Name → Parts R L → Option Refusal → Type 0
+  HindersScript r n parts refusal = (tr : Trace) → Stands tr parts
+      → refusal ≡ script_why (has_rm tr r) (rm_up tr r) (not (is_at r n))
 
   -- wherever the parts stand, this is why no recovery of so many calls may begin at a resource manager
   abbrev pub HindersRecovery : (rm calls : ℕ) → Parts R L → Option Refusal → Type 0

@@ -1,5 +1,5 @@
 -- What is seen of a system: where it started, its events, and the parts that it holds.
-use Rattle.std.specs.Prelude.{◌≡◌, ◌≤◌, ◌<◌, ◌⊎◌, ◌++◌, ℕ, true, Some, List, map, vec_len, slice_get}
+use Rattle.std.specs.Prelude.{◌≡◌, ◌≤◌, ◌<◌, ◌⊎◌, ◌+◌, ◌++◌, ℕ, true, Some, IsSomeAnd, List, map, vec_len, slice_get}
 use Rattle.std.specs.Vec.{vec_capacity}
 use Rattle.xa_base.specs.Xid.{Xid}
 use Rattle.xa_base.specs.Distinct.{ApartRows}
@@ -13,9 +13,11 @@ use Rattle.xa_system.specs.declared.site.Site.{Site}
 use Rattle.xa_base.specs.declared.reply.Event.{Event}
 use Rattle.xa_base.specs.declared.step.Step.{Step}
 use Rattle.xa_line.specs.Grid.{Grid, HasLine, line_at}
-use Rattle.xa_system.specs.Lines.{LineStands}
+use Rattle.xa_line.specs.Histories.{LineStands}
+use Rattle.xa_system.specs.Logged.{LogStands, StartsOver, greatest_count, log_faults}
 use Rattle.xa_system.specs.Parts.{Sees, Stands, event_limit, origin_from, origin_of}
 use Rattle.xa_system.specs.Sites.{Looks, RmStands}
+use Rattle.xa_system.specs.Steps.{IsSame}
 use Rattle.xa_system.specs.declared.parts.Parts.{Parts}
 use Rattle.xa_system.specs.declared.system.System.TheInside.{Inside}
 use Rattle.xa_tm.specs.Begins.{BeginsWith, records_begun, rows_begun}
@@ -24,12 +26,14 @@ use Rattle.xa_tm.specs.Held as books
 use Rattle.xa_tm.specs.Kept.{book_in, log_in}
 use Rattle.xa_tm.specs.Limits.{HasRoomForRun}
 use Rattle.xa_tm.specs.Starting.{IsOld}
+use Rattle.xa_tm.specs.Tied.{IsTied}
 use Rattle.xa_tm.specs.declared.manager.Manager.{Manager}
 
--- `start` has the resource managers as they were handed in; `incarnation`, `rows` and `records` are what the manager
+-- `start` has the resource managers and `handed` the log as they were handed in; `incarnation`, `rows` and `records` are what the manager
 -- began with
 pub record Seen (R L : Type 0) : Type 0 where
   pub start : List R
+  pub handed : L
   pub incarnation : ℕ
   pub rows : List Row
   pub records : List Recorded
@@ -41,6 +45,7 @@ pub record Seen (R L : Type 0) : Type 0 where
 abbrev pub seen : {R L : Type 0} → Inside R L → Seen R L
 seen a = record {
   start = a.parts.start.value.items;
+  handed = a.handed.value;
   incarnation = (book_in a.parts.began.value).incarnation;
   rows = rows_begun a.parts.began.value;
   records = records_begun a.parts.began.value;
@@ -50,30 +55,60 @@ seen a = record {
   log = log_in a.parts.manager;
 }
 
+-- where the system started
+abbrev pub origin_in : {R L : Type 0} → Looks R → Seen R L → Origin
+origin_in look s = origin_from look s.lines.threads s.start s.incarnation s.rows s.records
+
+-- its history
+abbrev pub trace_in : {R L : Type 0} → Looks R → Seen R L → Trace
+trace_in look s = history (origin_in look s) s.events
+
 module _ {R L : Type 0} (see : Sees R L) where
-  -- where the system started
-  abbrev pub origin_in : Seen R L → Origin
-  origin_in s = origin_from see s.lines.threads s.start s.incarnation s.rows s.records
+  -- the log that was handed in has the rows and the record of the start, and the log is where the history leaves it
+  pub record HoldsItsLog (s : Seen R L) : Type 0 where
+    pub start : IsSomeAnd (see.logs.content s.handed) (StartsOver (origin_in see.look s))
+    pub stands : LogStands (trace_in see.look s) (see.logs.content s.log)
 
-  -- its history
-  abbrev pub trace_in : Seen R L → Trace
-  trace_in s = history (origin_in s) s.events
-
-  -- each reply is the one that the history before it demands, and the parts are where the history leaves them
+  -- each reply is the one that the history before it demands, and the parts are where the history leaves them: the log,
+  -- where the one that was handed in was in order, and what it rests on has been honest
   pub record HoldsItsTrace (s : Seen R L) : Type 0 where
-    pub demanded : AreDemanded (origin_in s) s.events
-    pub rms : (r : ℕ) (rm : R) → slice_get s.rms r ≡ Some rm → RmStands see.look (trace_in s) r rm
-    pub lines : (t r : ℕ) → HasLine s.lines t r → LineStands (trace_in s) (line t r) (line_at s.lines t r)
+    pub demanded : AreDemanded (origin_in see.look s) s.events
+    pub rms : (r : ℕ) (rm : R) → slice_get s.rms r ≡ Some rm → RmStands see.look (trace_in see.look s) r rm
+    pub lines : (t r : ℕ) → HasLine s.lines t r → LineStands (trace_in see.look s) (line t r) (line_at s.lines t r)
+    pub log : see.logs.is_in_order s.handed → see.logs.is_honest s.log → HoldsItsLog s
 
   -- where the parts started
   abbrev pub start_of : Parts R L → Origin
   start_of parts = origin_of see parts.lines.threads parts.start.value.items parts.began.value
+
+  -- what is known of the log that was handed in, and of what became of it
+  pub record KeepsLog (a : Inside R L) : Type 0 where
+    pub order : see.logs.is_in_order a.handed.value → see.logs.is_in_order (log_in a.parts.manager)
+    pub honest : see.logs.is_honest (log_in a.parts.manager) → see.logs.is_honest a.handed.value
+    pub start : see.logs.is_in_order a.handed.value → see.logs.is_honest (log_in a.parts.manager)
+        → IsSomeAnd (see.logs.content a.handed.value) (StartsOver (start_of a.parts))
+    pub tied : see.logs.is_in_order a.handed.value → see.logs.is_honest (log_in a.parts.manager)
+        → IsTied (book_in a.parts.manager) (see.logs.content (log_in a.parts.manager))
 
   pub record IsSound (a : Inside R L) : Type 0 where
     pub few : vec_len a.events ≤ event_limit
     pub room : event_limit ≤ vec_capacity a.events
     pub stands : Stands see (history (start_of a.parts) a.events.items) a.parts
     pub demanded : AreDemanded (start_of a.parts) a.events.items
+    pub log : KeepsLog a
+
+  -- the resource managers, the lines and the log are as before
+  pub record IsAsBefore (old new : Seen R L) : Type 0 where
+    pub rms : (r : ℕ) (before : R) → slice_get old.rms r ≡ Some before
+        → (after : R) × (slice_get new.rms r ≡ Some after) × IsSame see.look before after
+    pub lines : (t r : ℕ) → HasLine old.lines t r → line_at new.lines t r ≡ line_at old.lines t r
+    pub log : new.log ≡ old.log
+
+  -- of the events since then, at most as many were answered that the log failed as its count rose by, unless the count
+  -- has come to the greatest number
+  abbrev pub FaultsHaveCauses : (old new : Seen R L) → Type 0
+  FaultsHaveCauses old new = (greatest_count ≤ see.logs.fault_count new.log)
+      ⊎ (log_faults new.events + see.logs.fault_count old.log ≤ log_faults old.events + see.logs.fault_count new.log)
 
 -- ** steps
 

@@ -1,12 +1,19 @@
 //! The system: its parts, with the events that left them where they stand.
-ghost use Rattle.std.specs.Prelude.{◌≡◌, ◌<◌, ◌≤◌, ◌+◌, ◌++◌, true, false, ◌∷◌, [], ◌⊎◌, All, length, map, Some, None, Err, IfOk, IsOk, OnErr, OnOk, vec_len, ℕ, List};
+ghost use Rattle.std.specs.Prelude.{◌≡◌, ◌≢◌, Bool, ◌<◌, ◌≤◌, ◌+◌, ◌++◌, true, false, ◌∷◌, [], ◌⊎◌, ◌↔◌, All, Contains, length, map, Some, None, Err, IfOk, IsOk, IsSomeAnd, OnErr, OnOk, vec_len, ℕ, List};
+ghost use Rattle.std.specs.List.Sorted.{IsStrictlySortedBy};
+ghost use Rattle.std.specs.Map.{keys_of};
 ghost use Rattle.xa_base.specs.ReadBack.{StepHasXids};
+ghost use Rattle.xa_base.specs.Xid.{xid_cmp};
 ghost use Rattle.xa_base.specs.declared.refusal.Refusal.TheVariants as Refusals;
 ghost use Rattle.xa_base.specs.declared.reply.Reply.TheVariants as Replies;
 ghost use Rattle.xa_system.specs.Parts.{sees};
+ghost use Rattle.xa_system.specs.Logged.{IsStartedOver, MayHaveFailed};
 ghost use Rattle.xa_system.specs.Sites.{looks};
 ghost use Rattle.xa_system.specs.Seen.{AreClear, IsStarted, IsUnclear, new_site};
+ghost use Rattle.xa_system.specs.Unmade.{IsToBlame, IsUnharmed};
 ghost use Rattle.xa_system.specs.declared.system.NewFault.{NewFault};
+ghost use Rattle.xa_tm.specs.Kept.{log_in};
+ghost use Rattle.xa_tm.specs.Starting.{IsPast};
 
 use crate::parts::Parts;
 use crate::site::Site;
@@ -14,7 +21,7 @@ use std::alloc::{AllocFailed, Global};
 use std::marker::Model;
 use std::snapshot::Snapshot;
 use thiserror::Error;
-use xa_base::{Event, Fate, Refusal, Reply, Step, Xid};
+use xa_base::{Event, Fate, Memory, Refusal, Reply, Step, Xid};
 use xa_line::Lines;
 use xa_log::DecisionLog;
 use xa_rm::ResourceManager;
@@ -26,6 +33,8 @@ pub const EVENT_LIMIT: usize = 10_000;
 /// All parts in one thread, with the events that leave them where they stand.
 #[derive(Drop)]
 pub struct System<R: ResourceManager + Drop, L: DecisionLog + Drop> {
+    /// The log as it was handed in, without a byte.
+    handed: Snapshot<L>,
     parts: Parts<R, L>,
     events: Vec<Event>,
 }
@@ -38,7 +47,7 @@ impl<R: ResourceManager + Drop, L: DecisionLog + Drop> Model for System<R, L> {
 
     ghost view = { seen };
 
-    ghost invariant = { IsSound (sees R.held_of R.scan_of R.in_doubt_of) };
+    ghost invariant = { IsSound (sees R.held_of R.scan_of R.in_doubt_of L.DecisionLog) };
 }
 
 /// Why a system can't be made.
@@ -50,10 +59,11 @@ pub enum NewFault {
     /// A resource manager holds branches of this manager's format.
     #[error("a resource manager holds branches of this manager's format")]
     NotClear,
-    /// The decision log failed, or has rows that no earlier incarnation wrote. Its incarnation may have been raised.
+    /// The decision log failed, or has a row or a record of a later incarnation than its own. The incarnation may have
+    /// been raised.
     #[error("the decision log failed, or has a row of no earlier incarnation")]
     Log,
-    /// A request for memory was refused.
+    /// A request for memory was refused. The log is as it was.
     #[error("out of memory")]
     Memory,
 }
@@ -96,7 +106,12 @@ fn start_manager<L: DecisionLog + Drop>(
     rms: u32,
     log: L,
 ) -> Result<Manager<L>, NewFault>
-    ensures { IfOk result (IsStarted threads rms) }
+    ensures manager { IfOk result (IsStarted threads rms) }
+    ensures log { IfOk result (IsStartedOver L.DecisionLog threads rms log) }
+    ensures past { L.is_in_order log → IfOk result (λ manager. L.is_honest (log_in manager) →
+        IsSomeAnd (L.content log) IsPast) }
+    ensures log_fault { result ≡ Err NewFault.Log → IsToBlame L.DecisionLog log }
+    ensures memory_fault { result ≡ Err NewFault.Memory → (left : L) × IsUnharmed L.DecisionLog log left }
 {
     match Manager::new(alloc, threads, rms, log) {
         Ok(manager) => Ok(manager),
@@ -127,21 +142,36 @@ impl<R: ResourceManager + Drop, L: DecisionLog + Drop> System<R, L> {
     ghost use Rattle.xa_base.specs.History.{IsDemanded, reply_of, step_of};
     ghost use Rattle.xa_system.specs.Parts.{event_limit};
     ghost use Rattle.xa_base.specs.Branch.{xid_of_branch};
-    ghost use Rattle.xa_base.specs.Facts.{fate};
+    ghost use Rattle.xa_base.specs.Facts.{fate, up};
+    ghost use Rattle.xa_base.specs.Steps.{happened, log_failed};
+    ghost use Rattle.xa_base.specs.Trace.{Happening.Nothing};
+    ghost use Rattle.xa_base.specs.declared.refusal.Refusal.{Refusal};
     ghost use Rattle.xa_base.specs.Headline.{Headline};
     ghost use Rattle.xa_base.specs.declared.state.Fate.TheVariants as Fates;
     ghost use Rattle.xa_base.specs.declared.branch.Branch.{Branch};
-    ghost use Rattle.xa_system.specs.Seen.{AddsSteps, HasWrongSize, HoldsItsTrace, IsOwnIn, origin_in, trace_in};
+    ghost use Rattle.xa_system.specs.Report.{IsReported};
+    ghost use Rattle.xa_system.specs.Seen.{AddsSteps, FaultsHaveCauses, HasWrongSize, HoldsItsTrace, IsAsBefore, IsOwnIn, origin_in, trace_in};
 
     /// A system with no events, of 1 to 8 threads and 1 to 8 resource managers that hold no branch of this manager's
     /// format, with a manager that starts over the log. Room for all events is made here, and all other room before the
     /// log is asked.
+    ///
+    /// `Log` blames the log alone: it failed, or has a row or a record of a later incarnation than its own, and then its
+    /// incarnation was raised. `Memory` leaves the log as it was, without a failure.
     pub fn new(alloc: Global, threads: u32, rms: Vec<R>, log: L) -> Result<System<R, L>, NewFault>
         ensures limit { HasWrongSize threads (vec_len rms) → result ≡ Err NewFault.Limit }
         ensures not_clear { (HasWrongSize threads (vec_len rms) → ⊥) →
             IsUnclear (looks R.held_of R.scan_of R.in_doubt_of) rms.items → result ≡ Err NewFault.NotClear }
+        ensures handed { IfOk result (λ system. system.handed ≡ log) }
+        ensures honest { IfOk result (λ system. L.is_honest system.log → L.is_honest log) }
+        ensures faults { IfOk result (λ system. L.fault_count system.log ≡ L.fault_count log) }
+        ensures past { L.is_in_order log → IfOk result (λ system. L.is_honest system.log →
+            IsSomeAnd (L.content log) IsPast) }
+        ensures log_fault { result ≡ Err NewFault.Log → IsToBlame L.DecisionLog log }
+        ensures memory_fault { result ≡ Err NewFault.Memory → (left : L) × IsUnharmed L.DecisionLog log left }
         ensures ok { IfOk result (λ system. (system.events ≡ []) × (system.start ≡ rms.items) × (system.rms ≡ rms.items)
-            × (system.lines.threads ≡ threads) × HoldsItsTrace (sees R.held_of R.scan_of R.in_doubt_of) system) }
+            × (system.lines.threads ≡ threads) × HoldsItsTrace
+            (sees R.held_of R.scan_of R.in_doubt_of L.DecisionLog) system) }
     {
         if threads == 0 || threads > 8 || rms.is_empty() || rms.len() > 8 {
             return Err(NewFault::Limit);
@@ -159,6 +189,7 @@ impl<R: ResourceManager + Drop, L: DecisionLog + Drop> System<R, L> {
         let Ok(sites) = sites_of(alloc, rms) else {
             return Err(NewFault::Memory);
         };
+        let handed = Snapshot::of(&log);
         let manager = start_manager(alloc, threads, lines.rms(), log)?;
         let began = Snapshot::of(&manager);
         let parts = Parts {
@@ -169,7 +200,11 @@ impl<R: ResourceManager + Drop, L: DecisionLog + Drop> System<R, L> {
             lines,
             manager,
         };
-        Ok(System { parts, events })
+        Ok(System {
+            handed,
+            parts,
+            events,
+        })
     }
 
     /// The events so far, oldest first.
@@ -180,18 +215,35 @@ impl<R: ResourceManager + Drop, L: DecisionLog + Drop> System<R, L> {
     }
 
     /// Adds one event, where there is room, and leaves all parts where the history with it leaves them.
+    ///
+    /// A refused step leaves them as they were. One in which the log failed leaves the manager down, all lines broken, and
+    /// the log as it was or with the step's one change.
     pub fn step(&mut self, step: Step) -> Reply
         ensures full { event_limit ≤ length self.old.events →
             (result ≡ Replies.Refused Refusals.Limit) × (self.new ≡ self.old) }
         ensures adds { length self.old.events < event_limit →
             self.new.events ≡ self.old.events ++ record { step = step; reply = result } ∷ [] }
         ensures demanded { length self.old.events < event_limit →
-            Demanded (trace_in (sees R.held_of R.scan_of R.in_doubt_of) self.old)
+            Demanded (trace_in (looks R.held_of R.scan_of R.in_doubt_of) self.old)
             (step_of step) (reply_of result) }
-        ensures parts { HoldsItsTrace (sees R.held_of R.scan_of R.in_doubt_of) self.new }
-        ensures start { origin_in (sees R.held_of R.scan_of R.in_doubt_of) self.new
-            ≡ origin_in (sees R.held_of R.scan_of R.in_doubt_of) self.old }
-        ensures headline { Headline (origin_in (sees R.held_of R.scan_of R.in_doubt_of) self.new) self.new.events }
+        ensures parts { HoldsItsTrace (sees R.held_of R.scan_of R.in_doubt_of L.DecisionLog) self.new }
+        ensures refused { (n : Refusal) → result ≡ Replies.Refused n → n ≢ Refusals.LogFault →
+            IsAsBefore (sees R.held_of R.scan_of R.in_doubt_of L.DecisionLog) self.old self.new }
+        ensures nothing { (n : Refusal) → result ≡ Replies.Refused n → n ≢ Refusals.LogFault →
+            happened (step_of step) (reply_of result) ≡ Nothing }
+        ensures down { result ≡ Replies.Refused Refusals.LogFault →
+            up (trace_in (looks R.held_of R.scan_of R.in_doubt_of) self.new) ≡ Bool.false }
+        ensures failed { result ≡ Replies.Refused Refusals.LogFault →
+            L.is_in_order self.old.handed → L.is_honest self.new.log →
+            MayHaveFailed (trace_in (looks R.held_of R.scan_of R.in_doubt_of) self.old) (log_failed (step_of step))
+            (L.content self.old.log) (L.content self.new.log) }
+        ensures handed { self.new.handed ≡ self.old.handed }
+        ensures honest { L.is_honest self.new.log → L.is_honest self.old.log }
+        ensures faults { L.is_in_order self.old.handed → L.is_honest self.new.log →
+            FaultsHaveCauses (sees R.held_of R.scan_of R.in_doubt_of L.DecisionLog) self.old self.new }
+        ensures start { origin_in (looks R.held_of R.scan_of R.in_doubt_of) self.new
+            ≡ origin_in (looks R.held_of R.scan_of R.in_doubt_of) self.old }
+        ensures headline { Headline (origin_in (looks R.held_of R.scan_of R.in_doubt_of) self.new) self.new.events }
     {
         if self.events.len() >= EVENT_LIMIT {
             self.agree();
@@ -207,7 +259,7 @@ impl<R: ResourceManager + Drop, L: DecisionLog + Drop> System<R, L> {
     /// What became of a branch; `Unstarted` where the identifier names no branch of this system.
     pub fn fate(&self, xid: &Xid) -> Fate
         ensures own { (b : Branch) → IsOwnIn self.now b → xid.now ≡ xid_of_branch b →
-            result ≡ fate (trace_in (sees R.held_of R.scan_of R.in_doubt_of) self.now) b }
+            result ≡ fate (trace_in (looks R.held_of R.scan_of R.in_doubt_of) self.now) b }
         ensures other { ((b : Branch) → IsOwnIn self.now b → xid.now ≡ xid_of_branch b → ⊥) → result ≡ Fates.Unstarted }
     {
         match xid.branch() {
@@ -216,6 +268,22 @@ impl<R: ResourceManager + Drop, L: DecisionLog + Drop> System<R, L> {
             }
             _ => Fate::Unstarted,
         }
+    }
+
+    /// All branches whose xa_start was accepted, in the order of their identifiers, each with what became of it.
+    pub fn report(&self, alloc: Global) -> Result<Vec<(Xid, Fate)>, Memory>
+        ensures in_order { IfOk result (λ list. IsStrictlySortedBy xid_cmp (keys_of list.items)) }
+        ensures listed { IfOk result (λ list. (x : _) (f : _) → Contains list.items (x, f)
+            ↔ IsReported (trace_in (looks R.held_of R.scan_of R.in_doubt_of) self.now) x f) }
+    {
+        let branches = self.parts.manager.started()?;
+        let mut list = Vec::with_capacity(alloc, branches.len())?;
+        for branch in &branches {
+            let xid = branch.xid();
+            let fate = self.fate(&xid);
+            list.push_reserved((xid, fate));
+        }
+        Ok(list)
     }
 
     /// How many more events fit.
@@ -227,8 +295,8 @@ impl<R: ResourceManager + Drop, L: DecisionLog + Drop> System<R, L> {
 
     /// What all that happened so far means, at every moment of it. Nothing is done.
     pub fn agree(&self)
-        ensures parts { HoldsItsTrace (sees R.held_of R.scan_of R.in_doubt_of) self.now }
-        ensures headline { Headline (origin_in (sees R.held_of R.scan_of R.in_doubt_of) self.now) self.now.events }
+        ensures parts { HoldsItsTrace (sees R.held_of R.scan_of R.in_doubt_of L.DecisionLog) self.now }
+        ensures headline { Headline (origin_in (looks R.held_of R.scan_of R.in_doubt_of) self.now) self.now.events }
     {
         let _ = &self.events;
         xa_base::headline_holds();
@@ -240,10 +308,14 @@ impl<R: ResourceManager + Drop, L: DecisionLog + Drop> System<R, L> {
         ensures room { length self.old.events + length steps.now ≤ event_limit → IsOk result }
         ensures err { OnErr result (self.new ≡ self.old) }
         ensures adds { OnOk result (AddsSteps steps.now self.old.events self.new.events) }
-        ensures start { origin_in (sees R.held_of R.scan_of R.in_doubt_of) self.new
-            ≡ origin_in (sees R.held_of R.scan_of R.in_doubt_of) self.old }
-        ensures parts { HoldsItsTrace (sees R.held_of R.scan_of R.in_doubt_of) self.new }
-        ensures headline { Headline (origin_in (sees R.held_of R.scan_of R.in_doubt_of) self.new) self.new.events }
+        ensures handed { self.new.handed ≡ self.old.handed }
+        ensures honest { L.is_honest self.new.log → L.is_honest self.old.log }
+        ensures faults { L.is_in_order self.old.handed → L.is_honest self.new.log →
+            FaultsHaveCauses (sees R.held_of R.scan_of R.in_doubt_of L.DecisionLog) self.old self.new }
+        ensures start { origin_in (looks R.held_of R.scan_of R.in_doubt_of) self.new
+            ≡ origin_in (looks R.held_of R.scan_of R.in_doubt_of) self.old }
+        ensures parts { HoldsItsTrace (sees R.held_of R.scan_of R.in_doubt_of L.DecisionLog) self.new }
+        ensures headline { Headline (origin_in (looks R.held_of R.scan_of R.in_doubt_of) self.new) self.new.events }
     {
         if self.room() < steps.len() {
             self.agree();

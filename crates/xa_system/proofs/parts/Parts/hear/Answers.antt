@@ -16,7 +16,7 @@ use Rattle.xa_system.proofs.parts.Parts.hear.Goals as goal
 
 pub returns-then-not-has_line : goal.returns-then-not-has_line
 returns-then-not-has_line g c =
-    let see : Sees g.row.R.Denot g.row.L.Denot = sees g.R.ResourceManager.held_of g.R.ResourceManager.scan_of g.R.ResourceManager.in_doubt_of in
+    let see : Sees g.row.R.Denot g.row.L.Denot = sees g.R.ResourceManager.held_of g.R.ResourceManager.scan_of g.R.ResourceManager.in_doubt_of g.L.DecisionLog in
     let p = c.args.self.now in
     let t = c.args.thread in
     let r = c.args.rm in
@@ -25,7 +25,7 @@ returns-then-not-has_line g c =
 
 pub returns-then-not-is_up : goal.returns-then-not-is_up
 returns-then-not-is_up g c =
-    let see : Sees g.row.R.Denot g.row.L.Denot = sees g.R.ResourceManager.held_of g.R.ResourceManager.scan_of g.R.ResourceManager.in_doubt_of in
+    let see : Sees g.row.R.Denot g.row.L.Denot = sees g.R.ResourceManager.held_of g.R.ResourceManager.scan_of g.R.ResourceManager.in_doubt_of g.L.DecisionLog in
     let p = c.args.self.now in
     let t = c.args.thread in
     let r = c.args.rm in
@@ -35,7 +35,7 @@ returns-then-not-is_up g c =
 
 pub returns-then-not-index : goal.returns-then-not-index
 returns-then-not-index g c =
-    let see : Sees g.row.R.Denot g.row.L.Denot = sees g.R.ResourceManager.held_of g.R.ResourceManager.scan_of g.R.ResourceManager.in_doubt_of in
+    let see : Sees g.row.R.Denot g.row.L.Denot = sees g.R.ResourceManager.held_of g.R.ResourceManager.scan_of g.R.ResourceManager.in_doubt_of g.L.DecisionLog in
     let p = c.args.self.now in
     let t = c.args.thread in
     let r = c.args.rm in
@@ -46,7 +46,7 @@ returns-then-not-index g c =
 
 pub returns-in_default : goal.returns-in_default
 returns-in_default g c tr stands few =
-    let see : Sees g.row.R.Denot g.row.L.Denot = sees g.R.ResourceManager.held_of g.R.ResourceManager.scan_of g.R.ResourceManager.in_doubt_of in
+    let see : Sees g.row.R.Denot g.row.L.Denot = sees g.R.ResourceManager.held_of g.R.ResourceManager.scan_of g.R.ResourceManager.in_doubt_of g.L.DecisionLog in
     let p = c.args.self.now in
     let t = c.args.thread in
     let r = c.args.rm in
@@ -57,7 +57,7 @@ returns-in_default g c tr stands few =
 
 pub returns-in_default-copy : goal.returns-in_default-copy
 returns-in_default-copy g c tr stands few =
-    let see : Sees g.row.R.Denot g.row.L.Denot = sees g.R.ResourceManager.held_of g.R.ResourceManager.scan_of g.R.ResourceManager.in_doubt_of in
+    let see : Sees g.row.R.Denot g.row.L.Denot = sees g.R.ResourceManager.held_of g.R.ResourceManager.scan_of g.R.ResourceManager.in_doubt_of g.L.DecisionLog in
     let p = c.args.self.now in
     let t = c.args.thread in
     let r = c.args.rm in
@@ -65,17 +65,17 @@ returns-in_default-copy g c tr stands few =
     let up = sym c.is_up.ensures ∙ c.if-not-is_up.false in
     let none = hear_found see tr p t r true true there up (sym (stands.sites r c.index.result.now (site_read see tr p t r c.index.result.now stands there c.index.ensures)).is_up ∙ c.if-not-index.false) stands in
     let first = sym (ap option_copied c.in-Some.is) ∙ c.front_answer.ensures ∙ ap (λ (l : Traffic). slice_get l.answers.waiting 0) c.line.ensures.value in
-    hear_lacks see tr p t r stands there none c.in-Some.field-0.now.0 c.in-Some.field-0.now.1 p.manager c.refused-in_default-copy.result first c.refused-in_default-copy.ensures refl
+    hear_lacks see tr p t r stands there none c.in-Some.field-0.now.0 c.in-Some.field-0.now.1 p.manager c.refused-in_default-copy.result first c.refused-in_default-copy.ensures refl refl
 
 pub hear-requires-clause-sound : goal.hear-requires-clause-sound
 hear-requires-clause-sound g c =
-    let see : Sees g.row.R.Denot g.row.L.Denot = sees g.R.ResourceManager.held_of g.R.ResourceManager.scan_of g.R.ResourceManager.in_doubt_of in
+    let see : Sees g.row.R.Denot g.row.L.Denot = sees g.R.ResourceManager.held_of g.R.ResourceManager.scan_of g.R.ResourceManager.in_doubt_of g.L.DecisionLog in
     let p = c.args.self.now in
     sound_book see p c.requires
 
 pub hear-requires-clause-answers : goal.hear-requires-clause-answers
 hear-requires-clause-answers g c =
-    let see : Sees g.row.R.Denot g.row.L.Denot = sees g.R.ResourceManager.held_of g.R.ResourceManager.scan_of g.R.ResourceManager.in_doubt_of in
+    let see : Sees g.row.R.Denot g.row.L.Denot = sees g.R.ResourceManager.held_of g.R.ResourceManager.scan_of g.R.ResourceManager.in_doubt_of g.L.DecisionLog in
     let p = c.args.self.now in
     let t = c.args.thread in
     let r = c.args.rm in
@@ -89,7 +89,7 @@ hear-requires-clause-answers g c =
 
 pub hear-requires-clause-fits : goal.hear-requires-clause-fits
 hear-requires-clause-fits g c =
-    let see : Sees g.row.R.Denot g.row.L.Denot = sees g.R.ResourceManager.held_of g.R.ResourceManager.scan_of g.R.ResourceManager.in_doubt_of in
+    let see : Sees g.row.R.Denot g.row.L.Denot = sees g.R.ResourceManager.held_of g.R.ResourceManager.scan_of g.R.ResourceManager.in_doubt_of g.L.DecisionLog in
     let p = c.args.self.now in
     let t = c.args.thread in
     let r = c.args.rm in
@@ -103,7 +103,7 @@ hear-requires-clause-fits g c =
 
 pub returns-in-Ok-hear : goal.returns-in-Ok-hear
 returns-in-Ok-hear g c tr stands few =
-    let see : Sees g.row.R.Denot g.row.L.Denot = sees g.R.ResourceManager.held_of g.R.ResourceManager.scan_of g.R.ResourceManager.in_doubt_of in
+    let see : Sees g.row.R.Denot g.row.L.Denot = sees g.R.ResourceManager.held_of g.R.ResourceManager.scan_of g.R.ResourceManager.in_doubt_of g.L.DecisionLog in
     let p = c.args.self.now in
     let t = c.args.thread in
     let r = c.args.rm in
@@ -114,10 +114,11 @@ returns-in-Ok-hear g c tr stands few =
     let did = subst (λ (l : Traffic). HearsOne c.in-Some.field-0.now l c.heard.new.line c.heard.result) c.line_mut.ensures.value
     (some_and (λ pair. HearsOne pair c.line_mut.result.now c.heard.new.line c.heard.result) (slice_get c.line_mut.result.now.answers.waiting 0) c.in-Some.field-0.now (first ∙ ap (λ (l : Traffic). slice_get l.answers.waiting 0) (sym c.line_mut.ensures.value)) c.heard.ensures) in
     hear_did see tr p t r stands there none c.in-Some.field-0.now.0 c.in-Some.field-0.now.1 c.heard.new.line c.hear.new.self c.heard.result first did.reply_is c.in-Ok-hear.ensures.ok did.heard did.calls
+    (record { order = c.in-Ok-hear.ensures.order; honest = c.in-Ok-hear.ensures.honest; tied = c.in-Ok-hear.ensures.tied; faults = λ o h t. c.in-Ok-hear.ensures.faults })
 
 pub returns-in-Err : goal.returns-in-Err
 returns-in-Err g c tr stands few =
-    let see : Sees g.row.R.Denot g.row.L.Denot = sees g.R.ResourceManager.held_of g.R.ResourceManager.scan_of g.R.ResourceManager.in_doubt_of in
+    let see : Sees g.row.R.Denot g.row.L.Denot = sees g.R.ResourceManager.held_of g.R.ResourceManager.scan_of g.R.ResourceManager.in_doubt_of g.L.DecisionLog in
     let p = c.args.self.now in
     let t = c.args.thread in
     let r = c.args.rm in
@@ -127,3 +128,4 @@ returns-in-Err g c tr stands few =
     let first = sym (ap option_copied c.in-Some.is) ∙ c.front_answer.ensures ∙ ap (λ (l : Traffic). slice_get l.answers.waiting 0) c.line.ensures.value in
     hear_undone see tr p t r stands there none c.in-Some.field-0.now.0 c.in-Some.field-0.now.1 c.in-Err.refusal c.undone.new.sites c.undone.new.lines c.hear.new.self c.undone.result first c.undone.ensures.reply
     (sym (book_up see tr p stands) ∙ up) (c.in-Err.ensures.err up) (λ e. recorded_answer (map_call name_of c.in-Some.field-0.now.0) c.in-Some.field-0.now.1 (c.in-Err.ensures.asked (ap (λ (m : Refusal). let x : Result (Unit {0}) Refusal = Err m in x) e))) c.undone.ensures.failed c.undone.ensures.broken c.undone.ensures.sites_stay c.undone.ensures.lines_stay
+    (λ known is_known. (record { called = record { order = c.in-Err.ensures.order; honest = c.in-Err.ensures.honest; tied = c.in-Err.ensures.tied; faults = λ o h t. c.in-Err.ensures.faults }; kept = c.in-Err.ensures.kept; failed = λ is order honest. c.in-Err.ensures.fault order (ap (λ (m : Refusal). let x : Result (Unit {0}) Refusal = Err m in x) is) known is_known }))

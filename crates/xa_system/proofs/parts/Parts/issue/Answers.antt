@@ -1,4 +1,4 @@
-use Rattle.std.proofs.Common.{length, true, sym, ap, ◌∙◌}
+use Rattle.std.proofs.Common.{refl, length, true, sym, ap, ◌∙◌}
 use Rattle.std.specs.Prelude.{nat_le}
 use Rattle.xa_base.specs.Call.{map_call}
 use Rattle.xa_base.specs.History.{name_of}
@@ -17,7 +17,7 @@ use Rattle.xa_system.proofs.parts.Parts.issue.Goals as goal
 
 pub note_issued-requires : goal.note_issued-requires
 note_issued-requires g c =
-    let see : Sees g.row.R.Denot g.row.L.Denot = sees g.R.ResourceManager.held_of g.R.ResourceManager.scan_of g.R.ResourceManager.in_doubt_of in
+    let see : Sees g.row.R.Denot g.row.L.Denot = sees g.R.ResourceManager.held_of g.R.ResourceManager.scan_of g.R.ResourceManager.in_doubt_of g.L.DecisionLog in
     let p = c.args.self.now in
     let t = c.args.thread in
     let r = c.args.rm in
@@ -26,7 +26,7 @@ note_issued-requires g c =
 
 pub returns-then-not-has_line : goal.returns-then-not-has_line
 returns-then-not-has_line g c =
-    let see : Sees g.row.R.Denot g.row.L.Denot = sees g.R.ResourceManager.held_of g.R.ResourceManager.scan_of g.R.ResourceManager.in_doubt_of in
+    let see : Sees g.row.R.Denot g.row.L.Denot = sees g.R.ResourceManager.held_of g.R.ResourceManager.scan_of g.R.ResourceManager.in_doubt_of g.L.DecisionLog in
     let p = c.args.self.now in
     let t = c.args.thread in
     let r = c.args.rm in
@@ -36,7 +36,7 @@ returns-then-not-has_line g c =
 
 pub returns-then-not-is_up : goal.returns-then-not-is_up
 returns-then-not-is_up g c =
-    let see : Sees g.row.R.Denot g.row.L.Denot = sees g.R.ResourceManager.held_of g.R.ResourceManager.scan_of g.R.ResourceManager.in_doubt_of in
+    let see : Sees g.row.R.Denot g.row.L.Denot = sees g.R.ResourceManager.held_of g.R.ResourceManager.scan_of g.R.ResourceManager.in_doubt_of g.L.DecisionLog in
     let p = c.args.self.now in
     let t = c.args.thread in
     let r = c.args.rm in
@@ -47,7 +47,7 @@ returns-then-not-is_up g c =
 
 pub returns-then-not-index : goal.returns-then-not-index
 returns-then-not-index g c =
-    let see : Sees g.row.R.Denot g.row.L.Denot = sees g.R.ResourceManager.held_of g.R.ResourceManager.scan_of g.R.ResourceManager.in_doubt_of in
+    let see : Sees g.row.R.Denot g.row.L.Denot = sees g.R.ResourceManager.held_of g.R.ResourceManager.scan_of g.R.ResourceManager.in_doubt_of g.L.DecisionLog in
     let p = c.args.self.now in
     let t = c.args.thread in
     let r = c.args.rm in
@@ -59,7 +59,7 @@ returns-then-not-index g c =
 
 pub returns-in-Some : goal.returns-in-Some
 returns-in-Some g c =
-    let see : Sees g.row.R.Denot g.row.L.Denot = sees g.R.ResourceManager.held_of g.R.ResourceManager.scan_of g.R.ResourceManager.in_doubt_of in
+    let see : Sees g.row.R.Denot g.row.L.Denot = sees g.R.ResourceManager.held_of g.R.ResourceManager.scan_of g.R.ResourceManager.in_doubt_of g.L.DecisionLog in
     let p = c.args.self.now in
     let t = c.args.thread in
     let r = c.args.rm in
@@ -72,7 +72,7 @@ returns-in-Some g c =
 
 pub returns-in-Some-may_issue : goal.returns-in-Some-may_issue
 returns-in-Some-may_issue g c =
-    let see : Sees g.row.R.Denot g.row.L.Denot = sees g.R.ResourceManager.held_of g.R.ResourceManager.scan_of g.R.ResourceManager.in_doubt_of in
+    let see : Sees g.row.R.Denot g.row.L.Denot = sees g.R.ResourceManager.held_of g.R.ResourceManager.scan_of g.R.ResourceManager.in_doubt_of g.L.DecisionLog in
     let p = c.args.self.now in
     let t = c.args.thread in
     let r = c.args.rm in
@@ -85,7 +85,7 @@ returns-in-Some-may_issue g c =
 
 pub returns-then-free_calls-eq0 : goal.returns-then-free_calls-eq0
 returns-then-free_calls-eq0 g c =
-    let see : Sees g.row.R.Denot g.row.L.Denot = sees g.R.ResourceManager.held_of g.R.ResourceManager.scan_of g.R.ResourceManager.in_doubt_of in
+    let see : Sees g.row.R.Denot g.row.L.Denot = sees g.R.ResourceManager.held_of g.R.ResourceManager.scan_of g.R.ResourceManager.in_doubt_of g.L.DecisionLog in
     let p = c.args.self.now in
     let t = c.args.thread in
     let r = c.args.rm in
@@ -100,7 +100,7 @@ returns-then-free_calls-eq0 g c =
 
 pub returns-in-Err : goal.returns-in-Err
 returns-in-Err g c tr stands few =
-    let see : Sees g.row.R.Denot g.row.L.Denot = sees g.R.ResourceManager.held_of g.R.ResourceManager.scan_of g.R.ResourceManager.in_doubt_of in
+    let see : Sees g.row.R.Denot g.row.L.Denot = sees g.R.ResourceManager.held_of g.R.ResourceManager.scan_of g.R.ResourceManager.in_doubt_of g.L.DecisionLog in
     let p = c.args.self.now in
     let t = c.args.thread in
     let r = c.args.rm in
@@ -111,11 +111,11 @@ returns-in-Err g c tr stands few =
     let free = sym c.may_issue.ensures ∙ c.in_default-may_issue.is in
     let full = has_room_at c.free_calls.result (length (line_at p.lines t r).calls.waiting) (rw c.line-2.ensures.value at c.free_calls.ensures) c.if-free_calls-eq0.false in
     let none = issue_found see tr p t r c.index.result.now call stands there up (site_read see tr p t r c.index.result.now stands there c.index.ensures) ∙ λ i. issue_why true true (c.if-not-index.false i) (barred_so i) (free i) (full i) in
-    lacking_goes see tr (Steps.Issue t r call) p c.note_issued.new.self c.refused-in-Err.result stands c.requires.has_xid (c.refused-in-Err.ensures ∙ ap (λ n. Replies.Refused n) c.in-Err.ensures.err.0) none tt c.in-Err.ensures.err.1
+    lacking_goes see tr (Steps.Issue t r call) p c.note_issued.new.self c.refused-in-Err.result stands c.requires.has_xid (c.refused-in-Err.ensures ∙ ap (λ n. Replies.Refused n) c.in-Err.ensures.err.0) none tt c.in-Err.ensures.err.1 c.in-Err.ensures.log
 
 pub returns : goal.returns
 returns g c tr stands few =
-    let see : Sees g.row.R.Denot g.row.L.Denot = sees g.R.ResourceManager.held_of g.R.ResourceManager.scan_of g.R.ResourceManager.in_doubt_of in
+    let see : Sees g.row.R.Denot g.row.L.Denot = sees g.R.ResourceManager.held_of g.R.ResourceManager.scan_of g.R.ResourceManager.in_doubt_of g.L.DecisionLog in
     let p = c.args.self.now in
     let t = c.args.thread in
     let r = c.args.rm in
@@ -127,4 +127,4 @@ returns g c tr stands few =
     let full = has_room_at c.free_calls.result (length (line_at p.lines t r).calls.waiting) (rw c.line-2.ensures.value at c.free_calls.ensures) c.if-free_calls-eq0.false in
     let none = issue_found see tr p t r c.index.result.now call stands there up (site_read see tr p t r c.index.result.now stands there c.index.ensures) ∙ λ i. issue_why true true (c.if-not-index.false i) (barred_so i) (free i) (full i) in
     let put = line_took (line_at p.lines t r) c.line_mut.result.now call c.copy.result c.issue.result c.issue.new.self c.line_mut.ensures.value c.copy.ensures c.issue.ensures.reason c.issue.ensures.accepted barred_so full in
-    issue_did see p t r call c.index.result.now c.issue.new.self c.note_issued.new.self c.new.result c.requires.has_xid c.new.ensures there up free c.in_default-note_issued.ensures.ok put tr stands none
+    issue_did see p t r call c.index.result.now c.issue.new.self c.note_issued.new.self c.new.result c.requires.has_xid c.new.ensures there up free c.in_default-note_issued.ensures.ok c.in_default-note_issued.ensures.log put tr stands none

@@ -1,6 +1,7 @@
 use Rattle.std.proofs.Common.{◌≡◌, ◌≤◌, ◌+◌, length, take}
 use Rattle.xa_system.specs.Parts.{event_limit, sees}
-use Rattle.xa_system.specs.Seen.{AddsSteps, origin_in}
+use Rattle.xa_system.specs.Sites.{looks}
+use Rattle.xa_system.specs.Seen.{AddsSteps, FaultsHaveCauses, origin_in}
 use Rattle.xa_system.proofs.system.System.run.Given as goal
 
 -- the steps so far are done, and the rest has room
@@ -8,6 +9,10 @@ abbrev pub invariant-loop-step : goal.invariant-loop-step
 invariant-loop-step g l = record {
   adds : AddsSteps (take l.step-index l.steps) l.fn.self.events l.self.events;
   room : length l.self.events + length l.steps ≤ event_limit + l.step-index;
-  start : origin_in (sees g.R.ResourceManager.held_of g.R.ResourceManager.scan_of g.R.ResourceManager.in_doubt_of) l.self
-      ≡ origin_in (sees g.R.ResourceManager.held_of g.R.ResourceManager.scan_of g.R.ResourceManager.in_doubt_of) l.fn.self;
+  start : origin_in (looks g.R.ResourceManager.held_of g.R.ResourceManager.scan_of g.R.ResourceManager.in_doubt_of) l.self
+      ≡ origin_in (looks g.R.ResourceManager.held_of g.R.ResourceManager.scan_of g.R.ResourceManager.in_doubt_of) l.fn.self;
+  handed : l.self.handed ≡ l.fn.self.handed;
+  honest : g.L.DecisionLog.is_honest l.self.log → g.L.DecisionLog.is_honest l.fn.self.log;
+  faults : g.L.DecisionLog.is_in_order l.fn.self.handed → g.L.DecisionLog.is_honest l.self.log
+      → FaultsHaveCauses (sees g.R.ResourceManager.held_of g.R.ResourceManager.scan_of g.R.ResourceManager.in_doubt_of g.L.DecisionLog) l.fn.self l.self;
 }

@@ -1,0 +1,121 @@
+-- The log has counted each of its failures that an event answers.
+use Rattle.std.proofs.Common.{◌≡◌, ◌≤◌, ◌+◌, ◌-◌, ◌⊎◌, inl, inr, ℕ, List, [], ◌∷◌, ◌++◌, Bool, true, false, length, filter, refl, sym, ap, subst, ◌∙◌, arith}
+use Rattle.std.specs.Prelude.{if◌then◌else◌, min}
+use Rattle.std.proofs.lemmas.Bool.{true≢false}
+use Rattle.std.proofs.lemmas.List.{length-append}
+use Rattle.std.proofs.lemmas.List.Elements.{filter-append}
+use Rattle.xa_base.specs.Demanded.{Demanded, Demanded.As_value, Demanded.By_rule, Demanded.For_log, Demanded.For_memory, Hears.Hears_none, Hears.Hears_one, IsValue, Restarts.Restarts_as, Takes.Takes_none, Takes.Takes_one, UsesLog}
+use Rattle.xa_base.specs.History.{reply_of}
+use Rattle.xa_base.specs.Steps as known
+use Rattle.xa_base.specs.Steps.{happened, log_failed}
+use Rattle.xa_base.specs.Facts.{up}
+use Rattle.xa_base.specs.Trace.{Happening, Happening.Failed, Trace, Trace.Then}
+use Rattle.xa_base.specs.Xid.{Xid}
+use Rattle.xa_base.specs.declared.refusal.Refusal.{Refusal}
+use Rattle.xa_base.specs.declared.refusal.Refusal.TheVariants as Refusals
+use Rattle.xa_base.specs.declared.reply.Event.{Event}
+use Rattle.xa_base.specs.declared.reply.Reply.{Reply}
+use Rattle.xa_base.specs.declared.reply.Reply.TheVariants as Replies
+use Rattle.xa_base.specs.declared.step.Outcome.TheVariants as Outcomes
+use Rattle.xa_base.specs.declared.step.Side.TheVariants as Sides
+use Rattle.xa_base.specs.declared.step.Step.TheVariants as Steps
+use Rattle.xa_base.proofs.Replies.{IsForced, forced}
+use Rattle.xa_log.specs.Contract.{one_more_fault}
+use Rattle.xa_system.specs.Logged.{count_after, greatest_count, log_faults, says_log_fault}
+
+-- a step in which the log may fail counts its failure
+failing : (tr : Trace) (s : known.Step) → UsesLog tr s → (n : ℕ) → count_after (log_failed s) n ≡ one_more_fault n
+failing tr (Steps.Decide g Outcomes.Commit) uses n = refl
+failing tr (Steps.Settle g) uses n = refl
+failing tr (Steps.Hear t r) uses n = refl
+failing tr (Steps.Done g) uses n = refl
+failing tr (Steps.Resolve r) uses n = refl
+failing tr (Steps.ResolveOpen r) uses n = refl
+failing tr (Steps.Restart Sides.Manager) uses n = refl
+failing tr s uses n = absurd uses
+
+is_fault : known.Reply → Bool
+is_fault (Replies.Refused Refusals.LogFault) = true
+is_fault reply = false
+
+-- a value says of no failure
+value_fails_not : (tr : Trace) (s : known.Step) (reply : known.Reply) → IsValue tr s reply → is_fault reply ≡ false
+unfolding is_fault
+value_fails_not tr (Steps.Begin t) reply v = ap is_fault v
+value_fails_not tr (Steps.Issue t r a) reply v = ap is_fault v
+value_fails_not tr (Steps.Take t r) reply (Takes_one c a next right) = refl
+value_fails_not tr (Steps.Take t r) reply (Takes_none none) = refl
+value_fails_not tr (Steps.Hear t r) reply (Hears_one c a next) = refl
+value_fails_not tr (Steps.Hear t r) reply (Hears_none none) = refl
+value_fails_not tr (Steps.Vote r x v) reply is = ap is_fault is
+value_fails_not tr (Steps.Busy r x n) reply v = ap is_fault v
+value_fails_not tr (Steps.Heuristic r x how) reply v = ap is_fault v
+value_fails_not tr (Steps.Decide g o) reply v = ap is_fault v
+value_fails_not tr (Steps.Claim g) reply v = ap is_fault v
+value_fails_not tr (Steps.Settle g) reply v = ap is_fault v
+value_fails_not tr (Steps.Abandon g) reply v = ap is_fault v
+value_fails_not tr (Steps.Recover r n start end) reply v = ap is_fault v
+value_fails_not tr (Steps.Resolve r) reply v = ap is_fault v
+value_fails_not tr (Steps.ResolveOpen r) reply v = ap is_fault v
+value_fails_not tr (Steps.Done g) reply v = ap is_fault v
+value_fails_not tr (Steps.Crash p) reply v = ap is_fault v
+value_fails_not tr (Steps.Restart (Sides.Rm r)) reply v = ap is_fault v
+value_fails_not tr (Steps.Restart Sides.Manager) reply (Restarts_as i d h most least rows records) = refl
+
+-- a failure that is answered is one of the log
+fails_so : (tr : Trace) (s : known.Step) → Demanded tr s (Replies.Refused Refusals.LogFault) → UsesLog tr s
+unfolding is_fault
+fails_so tr s (By_rule n e q) = absurd (subst IsForced (let same : n ≡ Refusals.LogFault = cc in same) (forced tr s n e))
+fails_so tr s (As_value e v) = absurd (true≢false (value_fails_not tr s (Replies.Refused Refusals.LogFault) v))
+fails_so tr s (For_memory e m q) = absurd (cc)
+fails_so tr s (For_log e uses q) = uses
+
+-- the manager falls, or stays down
+pub falls : (tr : Trace) (s : known.Step) → Demanded tr s (Replies.Refused Refusals.LogFault) → up (Then tr (log_failed s)) ≡ false
+falls tr s demanded = by s (fails_so tr s demanded)
+  where
+    by : (s : known.Step) → UsesLog tr s → up (Then tr (log_failed s)) ≡ false
+    by (Steps.Decide g Outcomes.Commit) uses = refl
+    by (Steps.Settle g) uses = refl
+    by (Steps.Hear t r) uses = refl
+    by (Steps.Done g) uses = refl
+    by (Steps.Resolve r) uses = refl
+    by (Steps.ResolveOpen r) uses = refl
+    by (Steps.Restart Sides.Manager) uses = refl
+    by s uses = absurd uses
+
+-- ** counts
+
+-- a count after one that answers a failure, or another event
+abbrev pub Rises : (fails : Bool) → (n m : ℕ) → Type 0
+Rises fails n m = (greatest_count ≤ m) ⊎ ((if fails then n + 1 else n) ≤ m)
+
+one_more_rises : (n : ℕ) → Rises true n (one_more_fault n)
+one_more_rises n = grind arith
+
+never_falls : (e : Happening) (n : ℕ) → Rises false n (count_after e n)
+never_falls (Failed f) n = grind arith
+never_falls e n = inr (omega arith)
+
+pub rises : (tr : Trace) (s : known.Step) (reply : Reply Xid) (n : ℕ) → Demanded tr s (reply_of reply) → Rises (says_log_fault reply) n (count_after (happened s (reply_of reply)) n)
+rises tr s (Replies.Refused Refusals.LogFault) n demanded = subst (Rises true n) (sym (failing tr s (fails_so tr s demanded) n)) (one_more_rises n)
+rises tr s reply n demanded = never_falls (happened s (reply_of reply)) n
+
+faults_push : (events : List Event) (event : Event) → log_faults (events ++ event ∷ []) ≡ (if says_log_fault event.reply then log_faults events + 1 else log_faults events)
+faults_push events event =
+    ap length (filter-append (λ (x : Event). says_log_fault x.reply) events (event ∷ []))
+    ∙ length-append (filter (λ (x : Event). says_log_fault x.reply) events) (filter (λ (x : Event). says_log_fault x.reply) (event ∷ []))
+    ∙ by (says_log_fault event.reply)
+  where
+    by : (t : Bool) → log_faults events + length (if t then event ∷ [] else []) ≡ (if t then log_faults events + 1 else log_faults events)
+    by true = refl
+    by false = omega arith
+
+pub causes_more : (old new : List Event) (event : Event) (n m k : ℕ) → new ≡ old ++ event ∷ [] → Rises (says_log_fault event.reply) n k → m ≡ k
+    → (greatest_count ≤ m) ⊎ (log_faults new + n ≤ log_faults old + m)
+causes_more old new event n m k all rises same = by (says_log_fault event.reply) rises (ap log_faults all ∙ faults_push old event)
+  where
+    by : (t : Bool) → Rises t n k → log_faults new ≡ (if t then log_faults old + 1 else log_faults old) → (greatest_count ≤ m) ⊎ (log_faults new + n ≤ log_faults old + m)
+    by t (inl most) e = inl (subst (λ c. greatest_count ≤ c) (sym same) most)
+    by true (inr more) e = inr (omega (arith, more, e, same))
+    by false (inr more) e = inr (omega (arith, more, e, same))

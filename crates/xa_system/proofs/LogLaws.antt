@@ -1,0 +1,77 @@
+-- The log of a system stands where its history leaves it.
+use Rattle.std.proofs.Common.{◌≡◌, ◌⊎◌, inl, inr, ℕ, List, [], ◌∷◌, Bool, true, false, refl, sym, ap, subst, ◌∙◌}
+use Rattle.std.specs.Prelude.{◌||◌, if◌then◌else◌, Option, Some, None, IsSomeAnd}
+use Rattle.xa_base.specs.Branch.{gtrid_eq}
+use Rattle.xa_base.specs.Facts as facts
+use Rattle.xa_base.specs.Facts.{Change, Change.AddRecord, Change.AddRow, Change.DropRow, Change.NoChange, lists_row, participants_in}
+use Rattle.xa_base.specs.Trace.{Origin, Row, Trace, Trace.From}
+use Rattle.xa_base.specs.declared.branch.Gtrid.{Gtrid}
+use Rattle.xa_log.specs.Content.{Content, bumped}
+use Rattle.xa_log.specs.Contract.{Makes}
+use Rattle.xa_log.specs.KeySet.{from_list}
+use Rattle.xa_tm.specs.Book.{Book, book_of, doubt_of, row_in}
+use Rattle.xa_tm.specs.Starting.{started}
+use Rattle.xa_tm.specs.Tied.{Holds, IsTied, MayHold, SameRows, TiedBy, made}
+use Rattle.xa_system.specs.Logged.{HoldsRows, LogStands, LogStandsBy, MayHoldRows, StartsOver, changed}
+
+-- ** rows
+
+row_in_is : (rows : List Row) (g : Gtrid) → row_in rows g ≡ (if lists_row rows g then Some (from_list (participants_in rows g)) else None)
+row_in_is [] g = refl
+row_in_is (x ∷ xs) g = by (gtrid_eq x.gtrid g) (row_in_is xs g)
+  where
+    by : (t : Bool) → row_in xs g ≡ (if lists_row xs g then Some (from_list (participants_in xs g)) else None)
+        → (if t then Some (from_list x.participants) else row_in xs g) ≡ (if (t || lists_row xs g) then Some (from_list (if t then x.participants else participants_in xs g)) else None)
+    by true e = refl
+    by false e = e
+
+pub made_is : (d : Change) (c : Content) → made (doubt_of d) c ≡ changed d c
+made_is (AddRow x) c = refl
+made_is (DropRow g) c = refl
+made_is (AddRecord x) c = refl
+made_is NoChange c = refl
+
+holds_rows : (tr : Trace) (c : Content) → Holds (book_of tr) c → HoldsRows tr c
+holds_rows tr c holds = record {
+  rows = λ g. holds.rows g ∙ row_in_is (facts.log tr) g;
+  row_number = holds.row_number;
+  records = holds.records;
+  record_number = holds.record_number;
+}
+
+may_hold_rows : (tr : Trace) (c : Content) → MayHold (book_of tr) c → MayHoldRows tr c
+may_hold_rows tr c holds = (holds.0, holds_rows tr holds.0 holds.1, by holds.2)
+  where
+    by : SameRows c holds.0 ⊎ SameRows c (made (doubt_of (facts.doubt tr)) holds.0) → SameRows c holds.0 ⊎ SameRows c (changed (facts.doubt tr) holds.0)
+    by (inl same) = inl same
+    by (inr same) = inr (subst (SameRows c) (made_is (facts.doubt tr) holds.0) same)
+
+-- what is tied to the book of a history is where the history leaves it
+pub tied_stands : (tr : Trace) (held : Option Content) → IsTied (book_of tr) held → LogStands tr held
+tied_stands tr held tied = by (facts.up tr) held tied
+  where
+    by : (u : Bool) (held : Option Content) → TiedBy u (book_of tr) held → LogStandsBy u tr held
+    by true None tied = absurd tied
+    by true (Some c) tied = record { rows = holds_rows tr c tied.holds; incarnation_is = tied.incarnation }
+    by false held tied = λ c is. record {
+      rows = may_hold_rows tr c (tied c is).holds;
+      least = (tied c is).incarnation.least;
+      most = (tied c is).incarnation.most;
+    }
+
+-- ** the start
+
+-- a history whose book is that of a start over a log starts over that log
+pub starts_over : (o : Origin) (threads rms : ℕ) (handed now : Option Content) → Makes bumped handed now → IsSomeAnd now (λ c. book_of (From o) ≡ started threads rms c) → IsSomeAnd handed (StartsOver o)
+starts_over o threads rms None now raised book = absurd raised
+starts_over o threads rms (Some c) now raised book =
+    let is : book_of (From o) ≡ started threads rms (bumped c) = subst (λ held. IsSomeAnd held (λ d. book_of (From o) ≡ started threads rms d)) raised book in
+    record {
+      rows = record {
+        rows = λ g. sym (ap (λ (k : Book). k.row g) is) ∙ row_in_is o.rows g;
+        row_number = sym (ap (λ (k : Book). k.rows) is);
+        records = λ b. sym (ap (λ (k : Book). k.recorded b) is);
+        record_number = sym (ap (λ (k : Book). k.records) is);
+      };
+      incarnation = ap (λ (k : Book). k.incarnation) is;
+    }

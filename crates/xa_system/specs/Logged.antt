@@ -1,0 +1,129 @@
+-- What a decision log holds, as the history of its system knows it.
+use Rattle.std.specs.Prelude.{◌≡◌, ◌≤◌, ◌⊎◌, ◌+◌, ◌-◌, ◌^◌, min, ℕ, Bool, true, false, filter, if◌then◌else◌, List, length, Option, Some, None, IsSomeAnd}
+use Rattle.std.specs.FinMap.{get, len}
+use Rattle.xa_base.specs.Branch.{branch_cmp}
+use Rattle.xa_base.specs.Demanded.{failed_restarts}
+use Rattle.xa_base.specs.Facts.{Change, Change.AddRecord, Change.AddRow, Change.DropRow, Change.NoChange, doubt, fault_change, has_row, heuristic_rows, incarnation, log, participants, recorded_as, up}
+use Rattle.xa_base.specs.Trace.{Fault, Fault.InRestart, Happening, Happening.Failed, Origin, Trace, Trace.From}
+use Rattle.xa_base.specs.Xid.{Xid}
+use Rattle.xa_base.specs.declared.branch.Branch.{Branch}
+use Rattle.xa_base.specs.declared.branch.Gtrid.{Gtrid}
+use Rattle.xa_base.specs.declared.refusal.Refusal.TheVariants as Refusals
+use Rattle.xa_base.specs.declared.reply.Event.{Event}
+use Rattle.xa_base.specs.declared.reply.Reply.{Reply}
+use Rattle.xa_base.specs.declared.reply.Reply.TheVariants as Replies
+use Rattle.xa_log.specs.Content.{Content, bumped, committed, recorded, without_decision}
+use Rattle.xa_log.specs.Contract.{Makes, MayMake, one_more_fault}
+use Rattle.xa_log.specs.declared.decision_log.DecisionLog as DecisionLog
+use Rattle.xa_log.specs.KeySet.{KeySet, from_list}
+use Rattle.xa_tm.specs.Kept.{book_in, log_in}
+use Rattle.xa_tm.specs.Starting.{started}
+use Rattle.xa_tm.specs.Tied.{IsTied, SameRows}
+use Rattle.xa_tm.specs.declared.manager.Manager.{Manager}
+
+-- ** rows and records
+
+-- the row of a transaction: the branches whose xa_commit it waits for
+abbrev pub row_of : Trace → Gtrid → Option (KeySet branch_cmp)
+row_of tr g = if has_row tr g then Some (from_list (participants tr g)) else None
+
+-- the log has just the rows of the history, each with its participants, and its record
+pub record HoldsRows (tr : Trace) (c : Content) : Type 0 where
+  pub rows : (g : Gtrid) → get c.decisions g ≡ row_of tr g
+  pub row_number : len c.decisions ≡ length (log tr)
+  pub records : (b : Branch) → get c.heuristics b ≡ recorded_as tr b
+  pub record_number : len c.heuristics ≡ length (heuristic_rows tr)
+
+-- a log with a change
+abbrev pub changed : Change → Content → Content
+changed (AddRow x) c = committed x.gtrid (from_list x.participants) c
+changed (DropRow g) c = without_decision g c
+changed (AddRecord x) c = recorded x.branch x.how c
+changed NoChange c = c
+
+-- the log has those rows and that record, with or without the change in doubt
+abbrev pub MayHoldRows : Trace → Content → Type 0
+MayHoldRows tr c = (before : Content) × HoldsRows tr before × (SameRows c before ⊎ SameRows c (changed (doubt tr) before))
+
+-- a history starts over a log that had just the rows and the record of its start, in the incarnation before
+pub record StartsOver (o : Origin) (c : Content) : Type 0 where
+  pub rows : HoldsRows (From o) c
+  pub incarnation : o.incarnation ≡ c.incarnation + 1
+
+-- ** the log of a manager that is up, and of one that is down
+
+pub record IsAsTold (tr : Trace) (c : Content) : Type 0 where
+  pub rows : HoldsRows tr c
+  pub incarnation_is : c.incarnation ≡ incarnation tr
+
+-- restarts that failed may have raised the incarnation
+pub record MayBeAsTold (tr : Trace) (c : Content) : Type 0 where
+  pub rows : MayHoldRows tr c
+  pub least : incarnation tr ≤ c.incarnation
+  pub most : c.incarnation ≤ incarnation tr + failed_restarts tr
+
+abbrev pub LogStandsBy : (is_up : Bool) → Trace → Option Content → Type 0
+LogStandsBy true tr held = IsSomeAnd held (IsAsTold tr)
+LogStandsBy false tr held = (c : Content) → held ≡ Some c → MayBeAsTold tr c
+
+-- the log is where the history leaves it. One that a failure has shut holds nothing that is known
+abbrev pub LogStands : Trace → Option Content → Type 0
+LogStands tr held = LogStandsBy (up tr) tr held
+
+-- ** failures
+
+-- the change that a step is to make in which the log fails: that of its fault, and a restart's is the next incarnation
+abbrev pub change_in : Trace → Fault → Content → Content
+change_in tr InRestart c = bumped c
+change_in tr f c = changed (fault_change tr f) c
+
+-- where the log failed, it is shut, or as before, or has that change
+abbrev pub MayHaveFailed : Trace → Happening → (old new : Option Content) → Type 0
+MayHaveFailed tr (Failed f) old new = MayMake (change_in tr f) old new
+MayHaveFailed tr e old new = Unit {0}
+
+-- a log counts each of its failures, up to this number
+abbrev pub greatest_count : ℕ
+greatest_count = 2 ^ 64 - 1
+
+-- its count after a happening
+abbrev pub count_after : Happening → ℕ → ℕ
+count_after (Failed f) n = one_more_fault n
+count_after e n = n
+
+-- the reply says that the log failed
+abbrev pub says_log_fault : Reply Xid → Bool
+says_log_fault (Replies.Refused Refusals.LogFault) = true
+says_log_fault reply = false
+
+-- how many of these events were answered so
+abbrev pub log_faults : List Event → ℕ
+log_faults events = length (filter (λ event. says_log_fault event.reply) events)
+
+-- ** a manager that was just started
+
+-- over a log that was handed to it
+pub record IsStartedOver {L : Type 0} (logs : DecisionLog.Ghosts L) (threads rms : ℕ) (handed : L) (manager : Manager L) : Type 0 where
+  pub order : logs.is_in_order handed → logs.is_in_order (log_in manager)
+  pub honest : logs.is_honest (log_in manager) → logs.is_honest handed
+  pub tied : logs.is_in_order handed → logs.is_honest (log_in manager)
+      → IsTied (book_in manager) (logs.content (log_in manager))
+  pub book : logs.is_in_order handed → logs.is_honest (log_in manager)
+      → IsSomeAnd (logs.content (log_in manager)) (λ c. book_in manager ≡ started threads rms c)
+  pub raised : logs.is_in_order handed → logs.is_honest (log_in manager)
+      → Makes bumped (logs.content handed) (logs.content (log_in manager))
+  pub faults : logs.fault_count (log_in manager) ≡ logs.fault_count handed
+
+-- ** one happening more
+
+-- what it does to the log of a manager. Its rows follow the book where they followed it before
+pub record LogFollows {L : Type 0} (logs : DecisionLog.Ghosts L) (tr : Trace) (e : Happening) (old new : Manager L) : Type 0 where
+  pub order : logs.is_in_order (log_in old) → logs.is_in_order (log_in new)
+  pub honest : logs.is_honest (log_in new) → logs.is_honest (log_in old)
+  pub tied : logs.is_in_order (log_in old) → logs.is_honest (log_in new)
+      → IsTied (book_in old) (logs.content (log_in old)) → IsTied (book_in new) (logs.content (log_in new))
+  pub counted : logs.is_in_order (log_in old) → logs.is_honest (log_in new)
+      → IsTied (book_in old) (logs.content (log_in old))
+      → logs.fault_count (log_in new) ≡ count_after e (logs.fault_count (log_in old))
+  pub failed : logs.is_in_order (log_in old) → logs.is_honest (log_in new)
+      → MayHaveFailed tr e (logs.content (log_in old)) (logs.content (log_in new))

@@ -1,0 +1,78 @@
+//! The manager ends what a resource manager lists.
+ghost use Rattle.xa_base.specs.declared.step.Step.TheVariants as Steps;
+ghost use Rattle.xa_system.specs.Parts.{GoesOn, HindersRecovery, StandsSomewhere, sees};
+
+use super::Parts;
+use crate::site::issue_all;
+use crate::twin::Twin;
+use xa_base::{Refusal, Reply};
+use xa_log::DecisionLog;
+use xa_rm::ResourceManager;
+
+impl<R: ResourceManager + Drop, L: DecisionLog + Drop> Parts<R, L> {
+    /// Why no recovery of so many calls may begin at a resource manager, looked for in the order of the numbers.
+    fn no_recovery(&self, rm: u32, count: usize) -> Option<Refusal>
+        requires { StandsSomewhere (sees R.held_of R.scan_of R.in_doubt_of L.DecisionLog) self.now }
+        ensures { HindersRecovery (sees R.held_of R.scan_of R.in_doubt_of L.DecisionLog)
+            rm count self.now result }
+    {
+        if rm >= self.lines.rms() {
+            return Some(Refusal::Limit);
+        }
+        if !self.manager.is_up() {
+            return Some(Refusal::ManagerDown);
+        }
+        if !self.sites[rm as usize].is_up {
+            return Some(Refusal::RmDown);
+        }
+        let line = self.lines.line(0, rm);
+        if !line.is_open() {
+            return Some(Refusal::NotOpen);
+        }
+        if line.is_closed() {
+            return Some(Refusal::Closed);
+        }
+        if line.is_full_for(count) {
+            return Some(Refusal::Full);
+        }
+        None
+    }
+
+    /// The manager ends the branches that a resource manager listed last: all of them, or none.
+    pub(super) fn resolve(&mut self, rm: u32) -> Twin
+        requires { StandsSomewhere (sees R.held_of R.scan_of R.in_doubt_of L.DecisionLog) self.old }
+        ensures { GoesOn (sees R.held_of R.scan_of R.in_doubt_of L.DecisionLog)
+            (Steps.Resolve rm) result self.old self.new }
+    {
+        let count = self.manager.resolve_len(rm);
+        if let Some(refusal) = self.no_recovery(rm, count) {
+            return Twin::refused(refusal);
+        }
+        match self.manager.resolve(rm) {
+            Ok(calls) => {
+                issue_all(self.lines.line_mut(0, rm), calls);
+                Twin::new(Reply::Resolved(count), Reply::Resolved(count))
+            }
+            Err(refusal) => Twin::refused(refusal),
+        }
+    }
+
+    /// The same, and before that it rolls back all that is open of what is listed.
+    pub(super) fn resolve_open(&mut self, rm: u32) -> Twin
+        requires { StandsSomewhere (sees R.held_of R.scan_of R.in_doubt_of L.DecisionLog) self.old }
+        ensures { GoesOn (sees R.held_of R.scan_of R.in_doubt_of L.DecisionLog)
+            (Steps.ResolveOpen rm) result self.old self.new }
+    {
+        let count = self.manager.resolve_open_len(rm);
+        if let Some(refusal) = self.no_recovery(rm, count) {
+            return Twin::refused(refusal);
+        }
+        match self.manager.resolve_open(rm) {
+            Ok(calls) => {
+                issue_all(self.lines.line_mut(0, rm), calls);
+                Twin::new(Reply::Resolved(count), Reply::Resolved(count))
+            }
+            Err(refusal) => Twin::refused(refusal),
+        }
+    }
+}

@@ -1,0 +1,84 @@
+//! What resource managers are told to do.
+ghost use Rattle.xa_base.specs.Xid.{IsXid};
+ghost use Rattle.xa_base.specs.declared.step.Step.TheVariants as Steps;
+ghost use Rattle.std.specs.Prelude.{◌≡◌, ◌<◌, None};
+ghost use Rattle.xa_base.specs.History.{name_of};
+ghost use Rattle.xa_system.specs.Parts.{GoesOn, HindersScript, StandsSomewhere, noted_as, sees};
+
+use super::Parts;
+use crate::site::is_at;
+use crate::twin::Twin;
+use xa_base::{How, Refusal, Reply, Vote, Xid};
+use xa_log::DecisionLog;
+use xa_rm::{ResourceManager, RmFault};
+
+/// What was told to a resource manager is noted, or refused.
+fn noted(told: Result<(), RmFault>) -> Twin
+    ensures { result ≡ noted_as told }
+{
+    match told {
+        Ok(()) => Twin::new(Reply::Noted, Reply::Noted),
+        Err(RmFault::Script) => Twin::refused(Refusal::Script),
+        Err(RmFault::Memory) => Twin::refused(Refusal::Memory),
+    }
+}
+
+impl<R: ResourceManager + Drop, L: DecisionLog + Drop> Parts<R, L> {
+    /// Why no resource manager is told anything of the branch, looked for in the order of the numbers.
+    fn no_script(&self, rm: u32, xid: &Xid) -> Option<Refusal>
+        requires { StandsSomewhere (sees R.held_of R.scan_of R.in_doubt_of L.DecisionLog) self.now }
+        ensures why { HindersScript (sees R.held_of R.scan_of R.in_doubt_of L.DecisionLog)
+            rm (name_of xid.now) self.now result }
+        ensures there { result ≡ None → rm < self.now.lines.rms }
+    {
+        if rm >= self.lines.rms() {
+            return Some(Refusal::Limit);
+        }
+        if !self.sites[rm as usize].is_up {
+            return Some(Refusal::RmDown);
+        }
+        if !is_at(xid, rm) {
+            return Some(Refusal::Script);
+        }
+        None
+    }
+
+    /// A resource manager is told how to vote.
+    pub(super) fn vote(&mut self, rm: u32, xid: &Xid, vote: Vote) -> Twin
+        requires stands { StandsSomewhere (sees R.held_of R.scan_of R.in_doubt_of L.DecisionLog) self.old }
+        requires has_xid { IsXid xid.now }
+        ensures { GoesOn (sees R.held_of R.scan_of R.in_doubt_of L.DecisionLog)
+            (Steps.Vote rm xid.now vote) result self.old self.new }
+    {
+        if let Some(refusal) = self.no_script(rm, xid) {
+            return Twin::refused(refusal);
+        }
+        noted(self.sites[rm as usize].rm.vote(xid, vote))
+    }
+
+    /// A resource manager is told how many commits to put off.
+    pub(super) fn busy(&mut self, rm: u32, xid: &Xid, times: u32) -> Twin
+        requires stands { StandsSomewhere (sees R.held_of R.scan_of R.in_doubt_of L.DecisionLog) self.old }
+        requires has_xid { IsXid xid.now }
+        ensures { GoesOn (sees R.held_of R.scan_of R.in_doubt_of L.DecisionLog)
+            (Steps.Busy rm xid.now times) result self.old self.new }
+    {
+        if let Some(refusal) = self.no_script(rm, xid) {
+            return Twin::refused(refusal);
+        }
+        noted(self.sites[rm as usize].rm.retry(xid, times))
+    }
+
+    /// A resource manager ends a prepared branch by itself.
+    pub(super) fn heuristic(&mut self, rm: u32, xid: &Xid, how: How) -> Twin
+        requires stands { StandsSomewhere (sees R.held_of R.scan_of R.in_doubt_of L.DecisionLog) self.old }
+        requires has_xid { IsXid xid.now }
+        ensures { GoesOn (sees R.held_of R.scan_of R.in_doubt_of L.DecisionLog)
+            (Steps.Heuristic rm xid.now how) result self.old self.new }
+    {
+        if let Some(refusal) = self.no_script(rm, xid) {
+            return Twin::refused(refusal);
+        }
+        noted(self.sites[rm as usize].rm.heuristic(xid, how))
+    }
+}
