@@ -1,0 +1,181 @@
+//! Rows in which nothing crashes before the end.
+
+use crate::play::play_all;
+use crate::ready::{NO_ROW, PREPARED_1, PREPARED_2, READY_1, READY_2};
+use std::alloc::Global;
+use std::process::Abort;
+use std::test::Fail;
+use xa_log::MemLog;
+
+/// Both vote for commit.
+pub(crate) const TWO_PHASE_COMMIT: &str = "\
+of 1.1 decide commit -> decided
+call 0 0 xa_commit 1.1.0.0 -> heard xa_commit 0
+call 0 1 xa_commit 1.1.0.1 -> heard xa_commit 0
+of 1.1 done -> noted
+fates -> 1.1.0.0 committed 1.1.0.1 committed
+";
+
+/// One votes for rollback.
+const ONE_NO: &str = "\
+on 1.1.0.1 vote 102 -> noted
+call 0 0 xa_prepare 1.1.0.0 -> heard xa_prepare 0
+call 0 1 xa_prepare 1.1.0.1 -> heard xa_prepare 102
+of 1.1 decide commit -> refused 10
+of 1.1 decide rollback -> decided
+call 0 0 xa_rollback 1.1.0.0 -> heard xa_rollback 0
+call 0 1 xa_rollback 1.1.0.1 -> heard xa_rollback -4
+fates -> 1.1.0.0 rolled-back 1.1.0.1 rolled-back
+";
+
+/// Neither has anything to commit.
+const ALL_READ_ONLY: &str = "\
+on 1.1.0.0 vote ro -> noted
+on 1.1.0.1 vote ro -> noted
+call 0 0 xa_prepare 1.1.0.0 -> heard xa_prepare 3
+call 0 1 xa_prepare 1.1.0.1 -> heard xa_prepare 3
+of 1.1 decide commit -> decided
+issue 0 0 xa_commit 1.1.0.0 -> refused 9
+fates -> 1.1.0.0 read-only 1.1.0.1 read-only
+";
+
+/// No call is accepted behind xa_close, and no xa_close before the branch is finished.
+const CLOSED_LINE: &str = "\
+issue 0 0 xa_close -> refused 11
+of 1.1 decide rollback -> decided
+call 0 0 xa_rollback 1.1.0.0 -> heard xa_rollback 0
+call 0 0 xa_close -> heard xa_close 0
+begin 0 -> begun 1.2
+issue 0 0 xa_start 1.2.0.0 -> refused 4
+fates -> 1.1.0.0 rolled-back
+";
+
+/// A resource manager ends its branch by itself, against the decision.
+const HEURISTIC: &str = "\
+on 1.1.0.1 heuristic rb -> noted
+of 1.1 decide commit -> decided
+call 0 0 xa_commit 1.1.0.0 -> heard xa_commit 0
+issue 0 1 xa_forget 1.1.0.1 -> refused 9
+call 0 1 xa_commit 1.1.0.1 -> heard xa_commit 6
+call 0 1 xa_forget 1.1.0.1 -> heard xa_forget 0
+of 1.1 done -> noted
+fates -> 1.1.0.0 committed 1.1.0.1 heuristic-rb
+crash manager -> crashed
+restart manager -> restarted 2 0 1
+";
+
+/// A resource manager puts its commit off three times.
+const RETRIES: &str = "\
+of 1.1 decide commit -> decided
+on 1.1.0.0 busy 3 -> noted
+call 0 0 xa_commit 1.1.0.0 -> heard xa_commit 4
+call 0 0 xa_commit 1.1.0.0 -> heard xa_commit 4
+call 0 0 xa_commit 1.1.0.0 -> heard xa_commit 4
+of 1.1 done -> refused 11
+call 0 0 xa_commit 1.1.0.0 -> heard xa_commit 0
+of 1.1 done -> noted
+fates -> 1.1.0.0 committed
+";
+
+/// The only branch is committed in one phase.
+const FIRST_RUN: &str = "\
+call 0 0 xa_commit 1.1.0.0 TMONEPHASE -> heard xa_commit 0
+fates -> 1.1.0.0 committed
+";
+
+/// The work of a branch fails, so that it can only be rolled back.
+const FAILED_END: &str = "\
+begin 0 -> begun 1.1
+call 0 0 xa_open -> heard xa_open 0
+call 0 0 xa_start 1.1.0.0 -> heard xa_start 0
+call 0 0 xa_end 1.1.0.0 TMFAIL -> heard xa_end 100
+call 0 0 xa_prepare 1.1.0.0 -> heard xa_prepare -6
+of 1.1 decide commit -> refused 10
+of 1.1 decide rollback -> decided
+call 0 0 xa_rollback 1.1.0.0 -> heard xa_rollback 100
+fates -> 1.1.0.0 rolled-back
+";
+
+/// Another thread rolls a branch back, once its start was answered and its work has ended.
+const ROLLBACK_ELSEWHERE: &str = "\
+call 0 0 xa_open -> heard xa_open 0
+call 1 0 xa_open -> heard xa_open 0
+begin 0 -> begun 1.1
+issue 0 0 xa_start 1.1.0.0 -> issued
+of 1.1 decide rollback -> decided
+issue 1 0 xa_rollback 1.1.0.0 -> refused 11
+take 0 0 -> took xa_start 0
+hear 0 0 -> heard xa_start 0
+call 1 0 xa_rollback 1.1.0.0 -> heard xa_rollback -6
+call 0 0 xa_end 1.1.0.0 TMSUCCESS -> heard xa_end 0
+call 1 0 xa_rollback 1.1.0.0 -> heard xa_rollback 0
+fates -> 1.1.0.0 rolled-back
+";
+
+/// Plays a row on one thread, and tells how many events it made.
+fn events_of(rt: &impl Abort, alloc: Global, rms: u32, row: &[&str]) -> Result<usize, Fail> {
+    play_all(rt, alloc, 1, rms, MemLog::new(alloc), row)
+}
+
+#[test]
+fn two_phase_commit(rt: HostRuntime) -> Result<(), Fail> {
+    let row = [READY_2, PREPARED_2, TWO_PHASE_COMMIT];
+    assert_eq!(rt; events_of(&rt, rt.alloc(), 2, &row)?, 33);
+    events_of(
+        &rt,
+        rt.alloc(),
+        2,
+        &[READY_2, PREPARED_2, TWO_PHASE_COMMIT, NO_ROW],
+    )?;
+    Ok(())
+}
+
+#[test]
+fn one_no(rt: HostRuntime) -> Result<(), Fail> {
+    events_of(&rt, rt.alloc(), 2, &[READY_2, ONE_NO, NO_ROW])?;
+    Ok(())
+}
+
+#[test]
+fn all_read_only(rt: HostRuntime) -> Result<(), Fail> {
+    events_of(&rt, rt.alloc(), 2, &[READY_2, ALL_READ_ONLY, NO_ROW])?;
+    Ok(())
+}
+
+#[test]
+fn closed_line(rt: HostRuntime) -> Result<(), Fail> {
+    events_of(&rt, rt.alloc(), 1, &[READY_1, CLOSED_LINE, NO_ROW])?;
+    Ok(())
+}
+
+#[test]
+fn heuristic(rt: HostRuntime) -> Result<(), Fail> {
+    events_of(&rt, rt.alloc(), 2, &[READY_2, PREPARED_2, HEURISTIC])?;
+    Ok(())
+}
+
+#[test]
+fn retries(rt: HostRuntime) -> Result<(), Fail> {
+    events_of(&rt, rt.alloc(), 1, &[READY_1, PREPARED_1, RETRIES, NO_ROW])?;
+    Ok(())
+}
+
+#[test]
+fn first_run(rt: HostRuntime) -> Result<(), Fail> {
+    assert_eq!(rt; events_of(&rt, rt.alloc(), 1, &[READY_1, FIRST_RUN])?, 13);
+    Ok(())
+}
+
+#[test]
+fn failed_end(rt: HostRuntime) -> Result<(), Fail> {
+    events_of(&rt, rt.alloc(), 1, &[FAILED_END, NO_ROW])?;
+    Ok(())
+}
+
+#[test]
+fn rollback_elsewhere(rt: HostRuntime) -> Result<(), Fail> {
+    let alloc = rt.alloc();
+    let row = &[ROLLBACK_ELSEWHERE, NO_ROW];
+    play_all(&rt, alloc, 2, 1, MemLog::new(alloc), row)?;
+    Ok(())
+}

@@ -1,0 +1,23 @@
+//! Worked rows through a whole system: each line of a row is a step, with the reply that it is to have.
+#![tactic(auto)]
+
+#[cfg(test)]
+mod claims;
+#[cfg(test)]
+mod crashes;
+#[cfg(test)]
+mod decisions;
+#[cfg(test)]
+mod faults;
+#[cfg(test)]
+mod logs;
+#[cfg(test)]
+mod play;
+#[cfg(test)]
+mod ready;
+#[cfg(test)]
+mod scans;
+#[cfg(test)]
+mod told;
+#[cfg(test)]
+mod words;
