@@ -9,8 +9,6 @@
 #![tactic(auto)]
 
 mod board;
-#[cfg(test)]
-mod board_tests;
 mod control;
 mod crew;
 mod deal;
@@ -32,8 +30,6 @@ mod signals;
 mod start;
 mod sweep;
 mod talk;
-#[cfg(test)]
-mod tests;
 mod view;
 mod word;
 

@@ -1,0 +1,123 @@
+//! How jobs end, and what the resource managers and the log then have.
+
+use crate::gates::Counting;
+use crate::plans::{NO, READ_ONLY, YES, are_fates, branch, four_jobs, gtrid, jobs, run, swept};
+use std::test::Fail;
+use xa_base::{Fate, Outcome};
+use xa_log::{DecisionLog, MemLog};
+use xa_workers::{Jobs, Outcomes, WorkFault};
+
+#[test]
+fn four_jobs_end_alike_for_each_number_of_threads(rt: HostRuntime) -> Result<(), Fail> {
+    let alloc = rt.alloc();
+    for threads in 1..9u32 {
+        let jobs = four_jobs(alloc, threads)?;
+        let done = run(&rt, alloc, &jobs, MemLog::new(alloc), &Counting::new())?;
+        let ends = [
+            Outcome::Commit,
+            Outcome::Rollback,
+            Outcome::Commit,
+            Outcome::Commit,
+        ];
+        assert_eq!(rt; done.ends.as_slice(), ends.as_slice());
+        assert!(rt;
+            are_fates(
+                &done,
+                &[
+                    (branch(1, 0, 0), Fate::Committed),
+                    (branch(1, 0, 1), Fate::Committed),
+                    (branch(2, 1 % threads, 0), Fate::RolledBack),
+                    (branch(2, 1 % threads, 1), Fate::RolledBack),
+                    (branch(3, 2 % threads, 0), Fate::ReadOnly),
+                    (branch(3, 2 % threads, 1), Fate::ReadOnly),
+                    (branch(4, 3 % threads, 1), Fate::Committed),
+                ]
+            )
+        );
+        let Outcomes { mut log, .. } = done;
+        let rows = log.rows()?;
+        assert_eq!(rt; rows.decisions.as_slice(), [gtrid(1), gtrid(4)].as_slice());
+        let participants = [branch(1, 0, 0), branch(1, 0, 1), branch(4, 3 % threads, 1)];
+        assert_eq!(rt; rows.participants.as_slice(), participants.as_slice());
+        assert_eq!(rt; log.bump()?, 2);
+    }
+    Ok(())
+}
+
+#[test]
+fn a_no_leaves_read_only_as_it_is(rt: HostRuntime) -> Result<(), Fail> {
+    let alloc = rt.alloc();
+    let one = jobs(alloc, 1, 2, &[&[READ_ONLY, NO]])?;
+    let done = run(&rt, alloc, &one, MemLog::new(alloc), &Counting::new())?;
+    assert_eq!(rt; done.ends.as_slice(), [Outcome::Rollback].as_slice());
+    let fates = [
+        (branch(1, 0, 0), Fate::ReadOnly),
+        (branch(1, 0, 1), Fate::RolledBack),
+    ];
+    assert!(rt; are_fates(&done, &fates));
+    Ok(())
+}
+
+/// A run that wants memory ends with a fault, with all its threads, and the same run again comes to its end. So this
+/// holds whichever one request for memory is refused.
+#[test]
+fn runs_again_after_want_of_memory(rt: HostRuntime) -> Result<(), Fail> {
+    let alloc = rt.alloc();
+    let jobs = swept(four_jobs(alloc, 2)?);
+    let done = match run(&rt, alloc, &jobs, MemLog::new(alloc), &Counting::new()) {
+        Err(WorkFault::Memory | WorkFault::Log) => {
+            run(&rt, alloc, &jobs, MemLog::new(alloc), &Counting::new())?
+        }
+        done => done?,
+    };
+    assert_eq!(rt; done.ends.len(), 4);
+    assert_eq!(rt; done.ends.get(1), Some(&Outcome::Rollback));
+    Ok(())
+}
+
+#[test]
+fn no_jobs_give_no_fate(rt: HostRuntime) -> Result<(), Fail> {
+    let alloc = rt.alloc();
+    let none = swept(jobs(alloc, 8, 8, &[])?);
+    let done = run(&rt, alloc, &none, MemLog::new(alloc), &Counting::new())?;
+    assert!(rt; done.fates.is_empty());
+    assert_eq!(rt; done.rms.len(), 8);
+    Ok(())
+}
+
+#[test]
+fn jobs_of_another_shape_cannot_be_run(rt: HostRuntime) -> Result<(), Fail> {
+    let alloc = rt.alloc();
+    assert!(rt; !jobs(alloc, 0, 1, &[])?.is_runnable());
+    assert!(rt; !jobs(alloc, 9, 1, &[])?.is_runnable());
+    assert!(rt; !jobs(alloc, 1, 9, &[])?.is_runnable());
+    assert!(rt; !jobs(alloc, 1, 2, &[&[YES]])?.is_runnable());
+    Ok(())
+}
+
+#[test]
+fn many_jobs_on_all_threads(rt: HostRuntime) -> Result<(), Fail> {
+    let alloc = rt.alloc();
+    let mut votes = Vec::new(alloc);
+    for job in 0..1000 {
+        let last = if job % 7 == 0 { NO } else { YES };
+        let row = [YES, READ_ONLY, None, last, YES, YES, None, YES];
+        votes.push(row.as_slice().to_vec(alloc)?)?;
+    }
+    for sweep in [false, true] {
+        let many = Jobs {
+            threads: 8,
+            rms: 8,
+            sweep,
+            votes: votes.clone()?,
+        };
+        let done = run(&rt, alloc, &many, MemLog::new(alloc), &Counting::new())?;
+        assert_eq!(rt; done.ends.len(), 1000);
+        assert_eq!(rt; done.fates.len(), 6000);
+        for (job, end) in done.ends.iter().enumerate() {
+            assert!(rt; job % 7 != 0 || *end == Outcome::Rollback);
+            assert!(rt; sweep || job % 7 == 0 || *end == Outcome::Commit);
+        }
+    }
+    Ok(())
+}

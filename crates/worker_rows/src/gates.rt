@@ -1,0 +1,114 @@
+//! Gates at which workers are counted, held back or wait for each other.
+
+use std::sync::atomic::{AtomicBool, AtomicU64, Ordering};
+use std::thread;
+use xa_workers::{Gate, Point};
+
+/// How often a gate looks in vain before it gives up.
+pub(crate) const LOOKS: u32 = 1_000_000;
+
+/// A gate that holds nobody back, and counts the answers of resource manager 0.
+#[derive(Drop)]
+pub(crate) struct Counting {
+    pub(crate) answered: AtomicU64,
+}
+
+impl Counting {
+    pub(crate) fn new() -> Counting {
+        Counting {
+            answered: AtomicU64::new(0),
+        }
+    }
+}
+
+impl Gate for Counting {
+    fn at(&self, point: Point) -> bool {
+        if point == Point::Answered(0) {
+            self.answered.fetch_add(1, Ordering::SeqCst);
+        }
+        true
+    }
+}
+
+/// A gate that lets nobody through.
+pub(crate) struct Closed;
+
+impl Gate for Closed {
+    fn at(&self, _point: Point) -> bool {
+        false
+    }
+}
+
+/// A gate at which two workers wait for each other.
+#[derive(Drop)]
+pub(crate) struct Meeting {
+    points: [Point; 2],
+    came: [AtomicBool; 2],
+    pub(crate) failed: AtomicBool,
+}
+
+impl Meeting {
+    pub(crate) fn new(points: [Point; 2]) -> Meeting {
+        Meeting {
+            points,
+            came: [AtomicBool::new(false), AtomicBool::new(false)],
+            failed: AtomicBool::new(false),
+        }
+    }
+
+    fn meet(&self, own: &AtomicBool, other: &AtomicBool) {
+        own.store(true, Ordering::SeqCst);
+        for _ in 0..LOOKS {
+            if other.load(Ordering::SeqCst) {
+                return;
+            }
+            thread::yield_now();
+        }
+        self.failed.store(true, Ordering::SeqCst);
+    }
+}
+
+impl Gate for Meeting {
+    fn at(&self, point: Point) -> bool {
+        let [first, second] = &self.came;
+        if point == self.points[0] {
+            self.meet(first, second);
+        } else if point == self.points[1] {
+            self.meet(second, first);
+        }
+        true
+    }
+}
+
+/// A gate that is shut at one point until it was told another so many times.
+#[derive(Drop)]
+pub(crate) struct After {
+    shut: Point,
+    awaited: Point,
+    times: u64,
+    told: AtomicU64,
+}
+
+impl After {
+    pub(crate) fn new(shut: Point, awaited: Point, times: u64) -> After {
+        After {
+            shut,
+            awaited,
+            times,
+            told: AtomicU64::new(0),
+        }
+    }
+}
+
+impl Gate for After {
+    fn at(&self, point: Point) -> bool {
+        if point == self.awaited {
+            self.told.fetch_add(1, Ordering::SeqCst);
+        }
+        if point == self.shut && self.told.load(Ordering::SeqCst) < self.times {
+            thread::yield_now();
+            return false;
+        }
+        true
+    }
+}

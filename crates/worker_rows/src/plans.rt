@@ -1,0 +1,87 @@
+//! Jobs to be run, and what became of them.
+
+use std::alloc::{AllocError, Global};
+use std::process::Abort;
+use std::sync::Wait;
+use std::thread::Threads;
+use xa_base::{Branch, Fate, Gtrid, RbCode, Vote};
+use xa_log::DecisionLog;
+use xa_workers::{Gate, Jobs, Outcomes, WorkFault, run_jobs};
+
+pub(crate) const YES: Option<Vote> = Some(Vote::Yes);
+
+pub(crate) const READ_ONLY: Option<Vote> = Some(Vote::ReadOnly);
+
+pub(crate) const NO: Option<Vote> = Some(Vote::No(RbCode::Deadlock));
+
+pub(crate) fn jobs(
+    alloc: Global,
+    threads: u32,
+    rms: u32,
+    rows: &[&[Option<Vote>]],
+) -> Result<Jobs, AllocError> {
+    let mut votes = Vec::new(alloc);
+    for row in rows {
+        votes.push(row.to_vec(alloc)?)?;
+    }
+    Ok(Jobs {
+        threads,
+        rms,
+        sweep: false,
+        votes,
+    })
+}
+
+pub(crate) fn swept(jobs: Jobs) -> Jobs {
+    Jobs {
+        sweep: true,
+        ..jobs
+    }
+}
+
+pub(crate) fn run<R: Threads + Wait + Sync + Abort, L: DecisionLog + Drop, G: Gate + Sync>(
+    rt: &R,
+    alloc: Global,
+    jobs: &Jobs,
+    log: L,
+    gate: &G,
+) -> Result<Outcomes<L>, WorkFault> {
+    assert!(rt; jobs.is_runnable());
+    run_jobs(rt, alloc, jobs, log, gate)
+}
+
+pub(crate) fn gtrid(sequence: u64) -> Gtrid {
+    Gtrid {
+        incarnation: 1,
+        sequence,
+    }
+}
+
+pub(crate) fn branch(sequence: u64, thread: u32, rm: u32) -> Branch {
+    Branch {
+        gtrid: gtrid(sequence),
+        thread,
+        rm,
+    }
+}
+
+pub(crate) fn four_jobs(alloc: Global, threads: u32) -> Result<Jobs, AllocError> {
+    jobs(
+        alloc,
+        threads,
+        2,
+        &[
+            &[YES, YES],
+            &[YES, NO],
+            &[READ_ONLY, READ_ONLY],
+            &[None, YES],
+        ],
+    )
+}
+
+/// Whether the fates are these, in this order.
+pub(crate) fn are_fates<L>(done: &Outcomes<L>, fates: &[(Branch, Fate)]) -> bool {
+    done.fates.len() == fates.len()
+        && done.fates.iter().zip(fates.iter()).all(|(left, right)| left.0 == right.0.xid()
+            && left.1 == right.1)
+}
