@@ -1,20 +1,32 @@
 //! How many jobs a second worker threads commit.
 //!
-//! Prints how many of 1,000 jobs with two yes votes were committed by 1, 2 and 4 threads of control at two resource
-//! managers. With the argument `time` it also prints how many they are a second.
+//! - without arguments: prints how many of 1,000 jobs with two yes votes are committed by 1, 2, 4 and 8 threads of
+//!   control at two resource managers;
+//! - `time [PATH]`: the same, and how many they are a second, over a log in memory and over one in the file at PATH;
+//! - `stress [RUNS]`: runs 1,000 jobs of mixed votes on 8 threads at 8 resource managers, 200 times or as often as it
+//!   says, each second time with a recovery that sweeps them. It ends at the first run that ends with a fault or not as
+//!   the votes say.
 #![tactic(auto)]
 
+mod stress;
+
+use crate::stress::stress;
 use std::alloc::{AllocError, Global};
 use std::env;
+use std::sync::Wait;
+use std::thread::Threads;
 use std::time::Instant;
 use xa_base::{Outcome, Vote};
-use xa_log::MemLog;
-use xa_workers::{Gate, Jobs, Point, run_jobs};
+use xa_log::{DecisionLog, MemLog, SqlLog};
+use xa_workers::{Gate, Jobs, Point, WorkFault, run_jobs};
 
 const YES: Option<Vote> = Some(Vote::Yes);
 
 /// How many jobs each run has.
 const JOBS: usize = 1000;
+
+/// How often jobs of mixed votes are run where the words don't say.
+const RUNS: u32 = 200;
 
 /// A gate that holds nobody back.
 struct Open;
@@ -25,7 +37,8 @@ impl Gate for Open {
     }
 }
 
-fn jobs(alloc: Global, threads: u32, sweep: bool) -> Result<Jobs, AllocError> {
+/// Jobs with two yes votes each.
+fn jobs(alloc: Global, threads: u32) -> Result<Jobs, AllocError> {
     let mut votes = Vec::new(alloc);
     for _ in 0..JOBS {
         votes.push([YES, YES].as_slice().to_vec(alloc)?)?;
@@ -33,33 +46,71 @@ fn jobs(alloc: Global, threads: u32, sweep: bool) -> Result<Jobs, AllocError> {
     Ok(Jobs {
         threads,
         rms: 2,
-        sweep,
+        sweep: false,
         votes,
     })
 }
 
-fn main(rt: HostRuntime) -> anyhow::Result<()> {
-    let timed = env::args(&rt)?.any(|arg| arg.as_str() == "time");
-    let alloc = rt.alloc();
-    for threads in [1, 2, 4] {
-        let jobs = jobs(alloc, threads, false)?;
-        if !jobs.is_runnable() {
-            return Ok(());
-        }
-        let start = Instant::now(&rt)?;
-        let done = run_jobs(&rt, alloc, &jobs, MemLog::new(alloc), &Open)?;
-        let micros = start.elapsed(&rt)?.as_micros();
-        let committed = done
-            .ends
+/// How many of the jobs a run commits.
+fn committed<T: Threads + Wait + Sync, L: DecisionLog + Drop>(
+    rt: &T,
+    alloc: Global,
+    jobs: &Jobs,
+    log: L,
+) -> Result<usize, WorkFault> {
+    if !jobs.is_runnable() {
+        return Ok(0);
+    }
+    let done = run_jobs(rt, alloc, jobs, log, &Open)?;
+    Ok(
+        done.ends
             .iter()
             .filter(|end| **end == Outcome::Commit)
-            .count();
-        println!(rt; "{threads} threads: {committed} committed")?;
-        if timed {
-            println!(rt;
-                "{} a second",
-                committed as u128 * 1_000_000 / micros.max(1)
-            )?;
+            .count(),
+    )
+}
+
+/// Times a run over a log, and prints how many jobs it committed a second.
+fn measure<T: Threads + Wait + Sync, L: DecisionLog + Drop>(
+    rt: &HostRuntime,
+    threads: &T,
+    jobs: &Jobs,
+    place: &str,
+    log: L,
+) -> anyhow::Result<()> {
+    let start = Instant::now(rt)?;
+    let count = committed(threads, rt.alloc(), jobs, log)?;
+    let micros = start.elapsed(rt)?.as_micros();
+    println!(rt;
+        "{} threads, log {place}: {} a second",
+        jobs.threads,
+        count as u128 * 1_000_000 / micros.max(1)
+    )?;
+    Ok(())
+}
+
+fn main(rt: HostRuntime) -> anyhow::Result<()> {
+    let alloc = rt.alloc();
+    let words: Vec<String> = env::args(&rt)?.collect(alloc)?;
+    let command = words.get(1).map(|word| word.as_str());
+    let word = words.get(2).map(|word| word.as_str());
+    if command == Some("stress") {
+        let runs = match word {
+            Some(word) => word.parse::<u32>()?,
+            None => RUNS,
+        };
+        return stress(&rt, &rt, runs);
+    }
+    for threads in [1, 2, 4, 8] {
+        let jobs = jobs(alloc, threads)?;
+        if command == Some("time") {
+            measure(&rt, &rt, &jobs, "in memory", MemLog::new(alloc))?;
+            if let Some(path) = word {
+                measure(&rt, &rt, &jobs, "in a file", SqlLog::open(&rt, path)?)?;
+            }
+        } else {
+            let count = committed(&rt, alloc, &jobs, MemLog::new(alloc))?;
+            println!(rt; "{threads} threads: {count} committed")?;
         }
     }
     Ok(())

@@ -1,14 +1,1 @@
-pub mod Entries
-pub mod Fates
 pub mod Failures
-pub mod Faults
-pub mod Fields
-pub mod Flags
-pub mod Headers
-pub mod Listed
-pub mod Outputs
-pub mod Requests
-pub mod Runs
-pub mod Scenarios
-pub mod Tables
-pub mod Words

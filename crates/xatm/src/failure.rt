@@ -1,14 +1,15 @@
 //! Why the program ends with a status other than 0.
 
 ghost use Rattle.std.specs.Prelude.{◌≡◌};
-ghost use Rattle.xatm.specs.Faults.{fault_status};
-ghost use Rattle.xatm.specs.declared.fault.RunFault.TheVariants as Faults;
+ghost use Rattle.xatm.specs.Failures.{fault_status};
+ghost use Rattle.xa_files.specs.declared.fault.RunFault.TheVariants as Faults;
 ghost use Rattle.xatm.specs.declared.failure.Failure.TheVariants.{Run};
 
-use crate::fault::RunFault;
 use std::alloc::AllocError;
 use std::io;
 use std::io::ErrorKind;
+use xa_files::RunFault;
+use xa_log::LogFault;
 
 /// Why the program ends early.
 #[derive(Debug, Drop)]
@@ -85,6 +86,19 @@ impl From<AllocError> for Failure {
 
     fn from(_error: AllocError) -> Failure {
         Failure::Run(RunFault::Memory)
+    }
+}
+
+impl From<LogFault> for Failure {
+    ghost use Rattle.xatm.specs.Failures.{fault_of_log};
+
+    ghost from_gives = { λ fault failure. failure ≡ Run (fault_of_log fault) };
+
+    fn from(fault: LogFault) -> Failure {
+        match fault {
+            LogFault::Memory => Failure::Run(RunFault::Memory),
+            LogFault::Store | LogFault::Version | LogFault::Spent => Failure::Run(RunFault::Log),
+        }
     }
 }
 

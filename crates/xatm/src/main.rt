@@ -1,34 +1,27 @@
-//! Runs and checks scenario files: the calls of threads to the resource managers of distributed transactions.
+//! Runs and checks scenario files, the calls of threads to the resource managers of distributed transactions; and runs
+//! jobs files, such transactions on threads.
 //!
 //! "XA" in these pages is X/Open CAE Specification C193, "Distributed Transaction Processing: The XA Specification"
 //! (1991).
 #![tactic(auto)]
 
 mod command;
-mod document;
-mod entry;
 mod failure;
-mod fault;
-mod fields;
-mod flags;
-mod print;
-mod run;
-mod runner;
-mod tables;
-#[cfg(test)]
-mod tests;
-mod words;
 
 use crate::command::{Command, command_of, parser};
 use crate::failure::Failure;
-use crate::fault::RunFault;
-use crate::run::{check_scenario, run_scenario};
+use std::io::Write;
 use std::process::ExitCode;
-use std::rt::{Env, Files};
+use std::sync::Wait;
+use std::thread::Threads;
 use std::{env, fs, io};
+use xa_files::RunFault;
+use xa_jobs::run_job_file;
+use xa_log::SqlLog;
+use xa_scenario::{check_scenario, run_scenario};
 
 fn main(rt: HostRuntime) -> ExitCode {
-    match work(&rt) {
+    match work(&rt, &rt) {
         Ok(()) => ExitCode::SUCCESS,
         Err(failure) => {
             // A text that can't be written changes no status.
@@ -38,14 +31,15 @@ fn main(rt: HostRuntime) -> ExitCode {
     }
 }
 
-/// Reads the command line and does what it asks.
-fn work<R: AllocGlobal + Env + Files + Print + Eprint>(rt: &R) -> Result<(), Failure> {
+/// Reads the command line and does what it asks. `threads` is the runtime too, which starts threads and waits for
+/// them.
+fn work<T: Threads + Wait + Sync>(rt: &HostRuntime, threads: &T) -> Result<(), Failure> {
     let alloc = rt.alloc();
     let words: Vec<String> = env::args(rt)
         .map_err(|error| Failure::Words.caused_by(&error))?
         .collect(alloc)?;
     match parser(alloc)?.try_get_matches_from(words.as_slice()) {
-        Ok(matches) => perform(rt, command_of(&matches).ok_or(Failure::Words)?),
+        Ok(matches) => perform(rt, threads, command_of(&matches).ok_or(Failure::Words)?),
         // Help that was asked for comes as an error of status 0.
         Err(error) if error.exit_code() == 0 => {
             error.print(rt).map_err(|_| Failure::Run(RunFault::Output))
@@ -55,15 +49,58 @@ fn work<R: AllocGlobal + Env + Files + Print + Eprint>(rt: &R) -> Result<(), Fai
 }
 
 /// Does what a command asks.
-fn perform<R: AllocGlobal + Files + Print>(rt: &R, command: Command) -> Result<(), Failure> {
-    let alloc = rt.alloc();
-    let (Command::Run { file } | Command::Check { file }) = command;
+fn perform<T: Threads + Wait + Sync>(
+    rt: &HostRuntime,
+    threads: &T,
+    command: Command,
+) -> Result<(), Failure> {
+    let (Command::Run { file, .. } | Command::Check { file } | Command::Threads { file, .. }) =
+        command;
     let text = fs::read(rt, file).map_err(|error| Failure::NotReadable.caused_by(&error))?;
     // Nothing is buffered: all that is printed goes out in one text.
     let mut out = io::writer(rt);
     match command {
-        Command::Run { .. } => run_scenario(alloc, &text, &mut out)?,
-        Command::Check { .. } => check_scenario(alloc, &text, &mut out)?,
+        Command::Run {
+            log,
+            with_trace,
+            ..
+        } => run(rt, &text, log, with_trace, &mut out)?,
+        Command::Check { .. } => check_scenario(rt.alloc(), &text, &mut out)?,
+        Command::Threads { log, .. } => run_threads(rt, threads, &text, log, &mut out)?,
+    }
+    Ok(())
+}
+
+/// Runs a scenario over the log at a path, or over one in memory. The log is opened before the text is read as a
+/// scenario.
+fn run<W: Write>(
+    rt: &HostRuntime,
+    text: &[u8],
+    log: Option<&str>,
+    with_trace: bool,
+    out: &mut W,
+) -> Result<(), Failure> {
+    let alloc = rt.alloc();
+    match log {
+        Some(path) => run_scenario(alloc, text, SqlLog::open(rt, path)?, with_trace, out)?,
+        None => run_scenario(alloc, text, SqlLog::open_in_memory(alloc)?, with_trace, out)?,
+    }
+    Ok(())
+}
+
+/// Runs the jobs of a file over the log at a path, or over one in memory. The log is opened before the text is read
+/// as a jobs file.
+fn run_threads<T: Threads + Wait + Sync, W: Write>(
+    rt: &HostRuntime,
+    threads: &T,
+    text: &[u8],
+    log: Option<&str>,
+    out: &mut W,
+) -> Result<(), Failure> {
+    let alloc = rt.alloc();
+    match log {
+        Some(path) => run_job_file(threads, alloc, text, SqlLog::open(rt, path)?, out)?,
+        None => run_job_file(threads, alloc, text, SqlLog::open_in_memory(alloc)?, out)?,
     }
     Ok(())
 }

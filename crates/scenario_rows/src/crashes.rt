@@ -1,0 +1,266 @@
+//! Crashes, and recoveries after them.
+
+use crate::files::{READY, READY_REPLIES, READY_TOO, READY_TOO_REPLIES, file, prints, run_over};
+use std::fs;
+use std::test::Fail;
+use xa_log::SqlLog;
+
+const FIRST: &str = "7:00000000000000010000000000000001:0000000000000000";
+
+const SECOND: &str = "7:00000000000000010000000000000001:0000000000000001";
+
+const PREPARE: &str = "do = 'call', thread = 0, rm = 0, xa = 'xa_prepare', tx = 'a'";
+
+const PREPARE_TOO: &str = "do = 'call', thread = 0, rm = 1, xa = 'xa_prepare', tx = 'a'";
+
+const DECIDE: &str = "do = 'decide', tx = 'a', outcome = 'commit'";
+
+#[test]
+fn lost_answer(rt: HostRuntime) -> Result<(), Fail> {
+    let alloc = rt.alloc();
+    let entries = [
+        "do = 'issue', thread = 0, rm = 0, xa = 'xa_commit', tx = 'a', flags = ['TMONEPHASE']",
+        "do = 'take', thread = 0, rm = 0",
+        "do = 'crash', part = 'line', thread = 0, rm = 0",
+        "do = 'call', thread = 0, rm = 0, xa = 'xa_open'",
+        "do = 'call', thread = 0, rm = 0, xa = 'xa_rollback', tx = 'a'",
+    ];
+    let text = file(alloc, 1, 1, &[&READY, &entries])?;
+    prints(
+        &rt,
+        alloc,
+        text.as_str(),
+        &[
+            &READY_REPLIES,
+            &[
+                "issued",
+                "took xa_commit 0",
+                "crashed",
+                "call xa_open 0",
+                "call xa_rollback -4",
+            ],
+        ],
+        &["7:00000000000000010000000000000001:0000000000000000 committed"],
+    )
+}
+
+#[test]
+fn presumed_rollback(rt: HostRuntime) -> Result<(), Fail> {
+    let alloc = rt.alloc();
+    let entries = [
+        PREPARE,
+        "do = 'crash', part = 'manager'",
+        "do = 'restart', part = 'manager'",
+        "do = 'call', thread = 0, rm = 0, xa = 'xa_open'",
+        "do = 'recover', rm = 0, count = 8, flags = ['TMSTARTRSCAN', 'TMENDRSCAN']",
+        "do = 'take', thread = 0, rm = 0",
+        "do = 'hear', thread = 0, rm = 0",
+        "do = 'resolve', rm = 0",
+        "do = 'take', thread = 0, rm = 0",
+        "do = 'hear', thread = 0, rm = 0",
+    ];
+    let text = file(alloc, 1, 1, &[&READY, &entries])?;
+    let page = format!(in alloc; "call xa_recover 1 {FIRST}")?;
+    prints(
+        &rt,
+        alloc,
+        text.as_str(),
+        &[
+            &READY_REPLIES,
+            &[
+                "call xa_prepare 0",
+                "crashed",
+                "restarted 2 0 0",
+                "call xa_open 0",
+                page.as_str(),
+                "resolved 1",
+                "took xa_rollback 0",
+                "heard xa_rollback 0",
+            ],
+        ],
+        &["7:00000000000000010000000000000001:0000000000000000 rolled-back"],
+    )
+}
+
+/// The calls of a recovery at both resource managers: the lines are opened, scanned and resolved.
+const RECOVERIES: [&str; 8] = [
+    "do = 'call', thread = 0, rm = 0, xa = 'xa_open'",
+    "do = 'recover', rm = 0, count = 8, flags = ['TMSTARTRSCAN', 'TMENDRSCAN']",
+    "do = 'drain', thread = 0, rm = 0",
+    "do = 'resolve', rm = 0",
+    "do = 'call', thread = 0, rm = 1, xa = 'xa_open'",
+    "do = 'recover', rm = 1, count = 8, flags = ['TMSTARTRSCAN', 'TMENDRSCAN']",
+    "do = 'drain', thread = 0, rm = 1",
+    "do = 'resolve', rm = 1",
+];
+
+/// The row of a transaction of an older incarnation leaves once both its branches have answered.
+#[test]
+fn acknowledged_later(rt: HostRuntime) -> Result<(), Fail> {
+    let alloc = rt.alloc();
+    let decided = [
+        PREPARE,
+        PREPARE_TOO,
+        DECIDE,
+        "do = 'crash', part = 'manager'",
+        "do = 'restart', part = 'manager'",
+    ];
+    let ended = [
+        "do = 'drain', thread = 0, rm = 0",
+        "do = 'done', tx = 'a'",
+        "do = 'drain', thread = 0, rm = 1",
+        "do = 'done', tx = 'a'",
+    ];
+    let text = file(
+        alloc,
+        1,
+        2,
+        &[&READY, &READY_TOO, &decided, &RECOVERIES, &ended],
+    )?;
+    let page = format!(in alloc; "call xa_recover 1 {FIRST}")?;
+    let page_too = format!(in alloc; "call xa_recover 1 {SECOND}")?;
+    prints(
+        &rt,
+        alloc,
+        text.as_str(),
+        &[
+            &READY_REPLIES,
+            &READY_TOO_REPLIES,
+            &[
+                "call xa_prepare 0",
+                "call xa_prepare 0",
+                "decided",
+                "crashed",
+                "restarted 2 1 0",
+                "call xa_open 0",
+                page.as_str(),
+                "nothing",
+                "nothing",
+                "resolved 1",
+                "call xa_open 0",
+                page_too.as_str(),
+                "nothing",
+                "nothing",
+                "resolved 1",
+                "took xa_commit 0",
+                "heard xa_commit 0",
+                "nothing",
+                "nothing",
+                "refused 11 Busy",
+                "took xa_commit 0",
+                "heard xa_commit 0",
+                "nothing",
+                "nothing",
+                "noted",
+            ],
+        ],
+        &[
+            "7:00000000000000010000000000000001:0000000000000000 committed",
+            "7:00000000000000010000000000000001:0000000000000001 committed",
+        ],
+    )
+}
+
+#[test]
+fn resource_manager_crash(rt: HostRuntime) -> Result<(), Fail> {
+    let alloc = rt.alloc();
+    let entries = [
+        PREPARE,
+        PREPARE_TOO,
+        DECIDE,
+        "do = 'call', thread = 0, rm = 0, xa = 'xa_commit', tx = 'a'",
+        "do = 'crash', part = 'rm', rm = 1",
+        "do = 'done', tx = 'a'",
+        "do = 'restart', part = 'rm', rm = 1",
+        "do = 'call', thread = 0, rm = 1, xa = 'xa_open'",
+        "do = 'recover', rm = 1, count = 8, flags = ['TMSTARTRSCAN', 'TMENDRSCAN']",
+        "do = 'take', thread = 0, rm = 1",
+        "do = 'hear', thread = 0, rm = 1",
+        "do = 'resolve', rm = 1",
+        "do = 'take', thread = 0, rm = 1",
+        "do = 'hear', thread = 0, rm = 1",
+        "do = 'done', tx = 'a'",
+    ];
+    let text = file(alloc, 1, 2, &[&READY, &READY_TOO, &entries])?;
+    let page = format!(in alloc; "call xa_recover 1 {SECOND}")?;
+    prints(
+        &rt,
+        alloc,
+        text.as_str(),
+        &[
+            &READY_REPLIES,
+            &READY_TOO_REPLIES,
+            &[
+                "call xa_prepare 0",
+                "call xa_prepare 0",
+                "decided",
+                "call xa_commit 0",
+                "crashed",
+                "refused 11 Busy",
+                "restarted",
+                "call xa_open 0",
+                page.as_str(),
+                "resolved 1",
+                "took xa_commit 0",
+                "heard xa_commit 0",
+                "noted",
+            ],
+        ],
+        &[
+            "7:00000000000000010000000000000001:0000000000000000 committed",
+            "7:00000000000000010000000000000001:0000000000000001 committed",
+        ],
+    )
+}
+
+#[test]
+fn line_crash(rt: HostRuntime) -> Result<(), Fail> {
+    let alloc = rt.alloc();
+    let entries = [
+        "do = 'begin', thread = 0, tx = 'a'",
+        "do = 'call', thread = 0, rm = 0, xa = 'xa_open'",
+        "do = 'issue', thread = 0, rm = 0, xa = 'xa_start', tx = 'a'",
+        "do = 'issue', thread = 0, rm = 0, xa = 'xa_end', tx = 'a', flags = ['TMSUCCESS']",
+        "do = 'issue', thread = 0, rm = 0, xa = 'xa_prepare', tx = 'a'",
+        "do = 'take', thread = 0, rm = 0",
+        "do = 'crash', part = 'line', thread = 0, rm = 0",
+        "do = 'take', thread = 0, rm = 0",
+    ];
+    let text = file(alloc, 1, 1, &[&entries])?;
+    prints(
+        &rt,
+        alloc,
+        text.as_str(),
+        &[&[
+            "begun 00000000000000010000000000000001",
+            "call xa_open 0",
+            "issued",
+            "issued",
+            "issued",
+            "took xa_start 0",
+            "crashed",
+            "nothing",
+        ]],
+        &["7:00000000000000010000000000000001:0000000000000000 lost"],
+    )
+}
+
+/// Two runs over one log in a file: the second is of the second incarnation.
+#[test]
+fn second_incarnation(rt: HostRuntime) -> Result<(), Fail> {
+    let alloc = rt.alloc();
+    let path = "second_incarnation.db";
+    let _missing = fs::remove_file(&rt, path);
+    let text = file(alloc, 1, 1, &[&READY])?;
+    let first = run_over(alloc, text.as_str(), SqlLog::open(&rt, path)?, false)?;
+    assert_eq!(rt;
+        first.as_str(),
+        "7:00000000000000010000000000000001:0000000000000000 idle\n"
+    );
+    let second = run_over(alloc, text.as_str(), SqlLog::open(&rt, path)?, false)?;
+    assert_eq!(rt;
+        second.as_str(),
+        "7:00000000000000020000000000000001:0000000000000000 idle\n"
+    );
+    Ok(())
+}

@@ -1,0 +1,25 @@
+-- The ends of jobs, and of the file that they were read from.
+use Rattle.std.proofs.Common.{◌≡◌, ◌∙◌, false, List, [], ◌∷◌, map, Option, Vec, Global, refl, sym, ap, subst}
+use Rattle.std.proofs.lemmas.List.{length-map}
+use Rattle.xa_base.specs.declared.step.Outcome.{Outcome}
+use Rattle.xa_base.specs.declared.vote.Vote.{Vote}
+use Rattle.xa_jobs.specs.JobFiles.{plan_of, rows_in}
+use Rattle.xa_jobs.specs.JobRuns.{AreEnds, planned_ends}
+use Rattle.xa_workers.specs.Jobs.{AreEndsOf, MayAllEnd, end_of, ends_of}
+use Rattle.xa_workers.specs.declared.jobs.Jobs.{Jobs}
+
+rows_end : (rows : List (Vec (Option Vote) Global)) → map (λ row. end_of row.items) rows ≡ map end_of (rows_in rows)
+rows_end [] = refl
+rows_end (row ∷ rows) = ap (λ ends. end_of row.items ∷ ends) (rows_end rows)
+
+planned : (jobs : Jobs) → ends_of jobs ≡ planned_ends (plan_of jobs)
+planned jobs = rows_end jobs.votes.items
+
+-- ends that a run allows are ends that the file allows
+pub are_ends : (jobs : Jobs) (ends : List Outcome) → AreEndsOf jobs ends → (jobs.sweep ≡ false → ends ≡ ends_of jobs)
+    → AreEnds (plan_of jobs) ends
+are_ends jobs ends are plain = record {
+  number = are.number ∙ sym (length-map jobs.votes.items (λ row. row.items));
+  each = subst (λ (planned : List Outcome). MayAllEnd jobs.sweep planned ends) (planned jobs) are.each;
+  plain = λ none. plain none ∙ planned jobs;
+}

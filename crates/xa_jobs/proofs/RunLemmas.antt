@@ -1,0 +1,105 @@
+-- Why a run ended.
+use Rattle.std.proofs.Common.{◌≡◌, ◌∙◌, List, ℕ, Option, Result, Ok, Err, IfErr, ◌⊎◌, inl, inr, refl, sym, subst}
+use Rattle.xa_files.specs.Reading.{Fails}
+use Rattle.xa_files.specs.declared.fault.RunFault.{RunFault}
+use Rattle.xa_files.specs.declared.fault.RunFault.TheVariants.{NotToml, Header, Step, Job, Log, Memory, Work, Output}
+use Rattle.xa_jobs.specs.JobFiles.{Plan, jobs_of}
+use Rattle.xa_jobs.specs.JobRuns.{Begins, BeginsEnds, Explains, IsRunFault, IsWorkFault, Prints, PrintsEnds, fault_of}
+use Rattle.xa_workers.specs.declared.fault.WorkFault.{WorkFault}
+use Rattle.xa_workers.specs.declared.fault.WorkFault.TheVariants as work
+use Rattle.xa_jobs.proofs.TextFaults.{faults_are_of_texts}
+
+-- ** a fault of the reading
+
+pub explains : (fault : RunFault) (text : List ℕ) → Fails fault (jobs_of text) → Explains fault (jobs_of text)
+explains NotToml text is = is
+explains Header text is = is
+explains (Step n) text is = is
+explains (Job n) text is = is
+explains Log text is = absurd (faults_are_of_texts text Log is)
+explains Memory text is = tt
+explains Work text is = absurd (faults_are_of_texts text Work is)
+explains Output text is = absurd (faults_are_of_texts text Output is)
+
+same_fault : (a b : RunFault) (read : Result Plan RunFault) → read ≡ Err a → read ≡ Err b → a ≡ b
+same_fault a b read first second = let e : ◌≡◌ {A = Result Plan RunFault} (Err a) (Err b) = sym first ∙ second in cc
+
+-- a reader's fault is that of the text, or want of memory
+pub ends_with : (found fault : RunFault) (read : Result Plan RunFault) → Fails found read → read ≡ Err fault
+    → (found ≡ fault) ⊎ (found ≡ Memory)
+ends_with NotToml fault read is known = inl (same_fault NotToml fault read is known)
+ends_with Header fault read is known = inl (same_fault Header fault read is known)
+ends_with (Step n) fault read is known = inl (same_fault (Step n) fault read is known)
+ends_with (Job n) fault read is known = inl (same_fault (Job n) fault read is known)
+ends_with Log fault read is known = inl (same_fault Log fault read is known)
+ends_with Memory fault read is known = inr refl
+ends_with Work fault read is known = inl (same_fault Work fault read is known)
+ends_with Output fault read is known = inl (same_fault Output fault read is known)
+
+-- no reading ends with a fault of the output
+pub not_of_output : (fault : RunFault) (text : List ℕ) → Fails fault (jobs_of text) → fault ≡ Output → ⊥
+not_of_output fault text fails e = faults_are_of_texts text Output
+    (subst (λ (f : RunFault). Fails f (jobs_of text)) e fails)
+
+-- ** a fault of the run
+
+pub is_work_fault : (fault : WorkFault) → IsWorkFault (fault_of fault)
+is_work_fault work.Memory = tt
+is_work_fault work.Log = tt
+is_work_fault work.Stuck = tt
+is_work_fault work.Mixed = tt
+
+pub work_is_run : (fault : RunFault) → IsWorkFault fault → IsRunFault fault
+work_is_run Log is = tt
+work_is_run Memory is = tt
+work_is_run Work is = tt
+work_is_run NotToml is = elim is [ ]
+work_is_run Header is = elim is [ ]
+work_is_run (Step n) is = elim is [ ]
+work_is_run (Job n) is = elim is [ ]
+work_is_run Output is = elim is [ ]
+
+-- it comes before the writes
+pub not_output : (fault : RunFault) → IsWorkFault fault → fault ≡ Output → ⊥
+not_output fault is e = subst IsWorkFault e is
+
+explained : (plan : Plan) (fault : RunFault) → IsRunFault fault → Explains fault (Ok plan)
+explained plan Log is = refl
+explained plan Memory is = tt
+explained plan Work is = refl
+explained plan Output is = refl
+explained plan NotToml is = elim is [ ]
+explained plan Header is = elim is [ ]
+explained plan (Step n) is = elim is [ ]
+explained plan (Job n) is = elim is [ ]
+
+explained_by : (plan : Plan) (result : Result (Unit {0}) RunFault) → IfErr result IsRunFault
+    → IfErr result (λ e. Explains e (Ok plan))
+explained_by plan (Ok done) is = tt
+explained_by plan (Err e) is = explained plan e is
+
+-- a file that was read has faults of the run only
+pub run_explains : (plan : Plan) (read : Result Plan RunFault) (result : Result (Unit {0}) RunFault) → read ≡ Ok plan
+    → IfErr result IsRunFault → IfErr result (λ e. Explains e read)
+run_explains plan read result is faults =
+    subst (λ (r : Result Plan RunFault). IfErr result (λ e. Explains e r)) (sym is) (explained_by plan result faults)
+
+-- and none of its own
+pub no_fault : (plan : Plan) (read : Result Plan RunFault) (fault : RunFault) → read ≡ Ok plan → read ≡ Err fault → ⊥
+no_fault plan read fault is other = let e : ◌≡◌ {A = Result Plan RunFault} (Ok plan) (Err fault) = sym is ∙ other in cc
+
+-- ** what was written
+
+pub ends_printed : (text : List ℕ) (plan : Plan) (old new : Option (List ℕ)) → jobs_of text ≡ Ok plan
+    → PrintsEnds plan old new → Prints text old new
+ends_printed text plan old new reads lines = record { plan = plan; reads = reads; lines = lines }
+
+pub ends_begun : (text : List ℕ) (plan : Plan) (old new : Option (List ℕ)) → jobs_of text ≡ Ok plan
+    → BeginsEnds plan old new → Begins text old new
+ends_begun text plan old new reads lines = record { plan = plan; reads = reads; lines = lines }
+
+-- what a fault of the output leaves
+pub on_output : (result : Result (Unit {0}) RunFault) (P Q : Type 0) → (P → Q)
+    → IfErr result (λ e. e ≡ Output → P) → IfErr result (λ e. e ≡ Output → Q)
+on_output (Ok done) P Q f h = tt
+on_output (Err e) P Q f h = λ is. f (h is)

@@ -1,0 +1,36 @@
+use Rattle.std.proofs.lemmas.Result.{err_from_is_err_and}
+use Rattle.xa_jobs.specs.JobFiles.{jobs_of, plan_of}
+use Rattle.xa_jobs.proofs.RunLemmas.{explains, ends_with, not_of_output, run_explains, no_fault, ends_begun, on_output}
+use Rattle.xa_jobs.proofs.run.run_job_file.Goals as goal
+
+pub returns-in_err-jobs-clause-fault : goal.returns-in_err-jobs-clause-fault
+returns-in_err-jobs-clause-fault g c =
+    let p = err_from_is_err_and c.from_residual.result c.from_residual.ensures.1 in
+    rw (p.1, p.2) (explains c.in_err-jobs.field-0.0 c.args.text.now c.in_err-jobs.ensures.read)
+
+pub returns-in_err-jobs-clause-refused : goal.returns-in_err-jobs-clause-refused
+returns-in_err-jobs-clause-refused g c =
+    let p = err_from_is_err_and c.from_residual.result c.from_residual.ensures.1 in
+    λ e known. rw (p.1, p.2) (ends_with c.in_err-jobs.field-0.0 e (jobs_of c.args.text.now)
+    c.in_err-jobs.ensures.read known)
+
+pub returns-in_err-jobs-clause-begun : goal.returns-in_err-jobs-clause-begun
+returns-in_err-jobs-clause-begun g c =
+    let p = err_from_is_err_and c.from_residual.result c.from_residual.ensures.1 in
+    rw (p.1, p.2) (λ e. absurd (not_of_output c.in_err-jobs.field-0.0 c.args.text.now c.in_err-jobs.ensures.read e))
+
+pub returns-clause-fault : goal.returns-clause-fault
+returns-clause-fault g c = run_explains (plan_of c.in_ok-jobs.jobs) (jobs_of c.args.text.now) c.run_and_print.result
+    c.in_ok-jobs.ensures.read c.run_and_print.ensures.fault
+
+pub returns-clause-refused : goal.returns-clause-refused
+returns-clause-refused g c = λ e other. absurd
+    (no_fault (plan_of c.in_ok-jobs.jobs) (jobs_of c.args.text.now) e c.in_ok-jobs.ensures.read other)
+
+pub returns-clause-begun : goal.returns-clause-begun
+returns-clause-begun g c =
+    let contents = g.W.Write.contents in
+    on_output c.run_and_print.result _ _
+    (λ written. ends_begun c.args.text.now (plan_of c.in_ok-jobs.jobs) (contents c.args.out.now)
+    (contents c.run_and_print.new.out) c.in_ok-jobs.ensures.read written)
+    c.run_and_print.ensures.begun

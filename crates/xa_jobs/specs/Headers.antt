@@ -1,0 +1,37 @@
+-- The top of a jobs file.
+use Rattle.std.specs.Prelude.{ℕ, Bool, false, if◌then◌else◌, List, [], ◌∷◌, codes, Option, Some, None, Result}
+use Rattle.std.specs.Option.{ok_or}
+use Rattle.toml.specs.Data.{Items, no_items, Members, get_member, as_array, as_bool}
+use Rattle.xa_files.specs.Documents.{are_tables, size_at}
+use Rattle.xa_files.specs.Fields.{◌>>=◌, has_only, holds}
+use Rattle.xa_files.specs.declared.fault.RunFault.{RunFault}
+use Rattle.xa_files.specs.declared.fault.RunFault.TheVariants.{Header}
+
+-- whether a recovery sweeps the jobs; not where the key is missing
+unfoldable pub sweep_at : Members → Option Bool
+sweep_at document =
+    if holds (codes "sweep") document then get_member (codes "sweep") document >>= as_bool else Some false
+
+-- the tables of the jobs, none where the key is missing
+unfoldable pub jobs_at : Members → Option Items
+jobs_at document =
+    if holds (codes "job") document
+    then get_member (codes "job") document >>= as_array >>= (λ items. if are_tables items then Some items else None)
+    else Some no_items
+
+-- the keys that there may be
+abbrev pub header_keys : List (List ℕ)
+header_keys = codes "threads" ∷ codes "rms" ∷ codes "sweep" ∷ codes "job" ∷ []
+
+-- the numbers of threads and of resource managers, 1 to 8 each, whether a recovery sweeps, and the tables of the jobs
+unfoldable pub header_at : Members → Option (ℕ × ℕ × Bool × Items)
+header_at document = if has_only header_keys document then (do
+  threads ← size_at 8 (codes "threads") document
+  rms ← size_at 8 (codes "rms") document
+  sweep ← sweep_at document
+  jobs ← jobs_at document
+  Some (threads, rms, sweep, jobs)) else None
+
+-- the same, with its fault
+abbrev pub header_of : Members → Result (ℕ × ℕ × Bool × Items) RunFault
+header_of document = ok_or (header_at document) Header

@@ -1,0 +1,81 @@
+-- Which texts are jobs files, and the fault of each other text.
+use Rattle.std.specs.Prelude.{ℕ, ◌+◌, ◌==◌, nat_lt, Bool, if◌then◌else◌, List, [], ◌∷◌, length, map, codes, Option}
+use Rattle.std.specs.Prelude.{Some, None, Result, Ok, Err, option_map}
+use Rattle.std.specs.Str.{bytes_eq}
+use Rattle.std.specs.Global.{Vec}
+use Rattle.std.specs.Option.{ok_or, option_and_then}
+use Rattle.toml.specs.Data.{Data, Items, no_items, item, Members, as_array, as_str, as_table, get_member}
+use Rattle.xa_base.specs.declared.vote.Vote.{Vote}
+use Rattle.xa_files.specs.Documents.{document_of}
+use Rattle.xa_files.specs.Fields.{has_only}
+use Rattle.xa_files.specs.Reading.{◌>>=◌}
+use Rattle.xa_files.specs.declared.fault.RunFault.{RunFault}
+use Rattle.xa_files.specs.declared.fault.RunFault.TheVariants.{Job}
+use Rattle.xa_jobs.specs.Headers.{header_of}
+use Rattle.xa_files.specs.Words.{vote_named}
+use Rattle.xa_workers.specs.declared.jobs.Jobs.{Jobs}
+
+-- the votes of a job, by the resource managers
+abbrev pub Votes : Type 0
+Votes = List (Option Vote)
+
+-- how many threads and resource managers there are, whether a recovery sweeps, and the votes of each job
+pub record Plan : Type 0 where
+  pub threads : ℕ
+  pub rms : ℕ
+  pub sweep : Bool
+  pub votes : List Votes
+
+-- the votes of jobs, without where they lie in memory
+abbrev pub rows_in : List (Vec (Option Vote)) → List Votes
+rows_in rows = map (λ row. row.items) rows
+
+abbrev pub plan_of : Jobs → Plan
+plan_of jobs = record { threads = jobs.threads; rms = jobs.rms; sweep = jobs.sweep; votes = rows_in jobs.votes.items }
+
+-- what a word says of a branch: `none` that the job has none, another how it votes
+unfoldable pub branch_named : List ℕ → Option (Option Vote)
+branch_named word = if bytes_eq word (codes "none") then Some None else option_map Some (vote_named word)
+
+-- the same of an item
+unfoldable pub branch_in : Data → Option (Option Vote)
+branch_in value = option_and_then branch_named (as_str value)
+
+-- the votes that the items name, if each names one
+unfoldable pub votes_of : Items → Option Votes
+votes_of no_items = Some []
+votes_of (item value items) = option_and_then
+    (λ vote. option_and_then (λ votes. Some (vote ∷ votes)) (votes_of items)) (branch_in value)
+
+-- the votes if they are of this number
+abbrev pub if_number : ℕ → Votes → Option Votes
+if_number rms votes = if length votes == rms then Some votes else None
+
+-- the votes of a job's table, which has no other key; there is one or none for each resource manager
+unfoldable pub row_of : (rms : ℕ) → Members → Option Votes
+row_of rms table =
+    if has_only (codes "votes" ∷ []) table
+    then option_and_then (if_number rms) (option_and_then votes_of
+    (option_and_then as_array (get_member (codes "votes") table)))
+    else None
+
+-- the votes of the job of a number: there are at most 1,000
+abbrev pub job_at : (rms number : ℕ) → Data → Result Votes RunFault
+job_at rms number value =
+    if nat_lt 1000 number then Err (Job number) else ok_or (option_and_then (row_of rms) (as_table value)) (Job number)
+
+-- the votes of the jobs in turn, or the first faulty one; the first has this number
+unfoldable pub jobs_from : (rms number : ℕ) → Items → Result (List Votes) RunFault
+jobs_from rms number no_items = Ok []
+jobs_from rms number (item value items) = do
+  votes ← job_at rms number value
+  others ← jobs_from rms (number + 1) items
+  Ok (votes ∷ others)
+
+-- the jobs that a text asks for, or the first fault
+unfoldable pub jobs_of : List ℕ → Result Plan RunFault
+jobs_of text = do
+  document ← document_of text
+  header ← header_of document
+  votes ← jobs_from header.1 1 header.3
+  Ok (record { threads = header.0; rms = header.1; sweep = header.2; votes = votes })

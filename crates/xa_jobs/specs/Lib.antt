@@ -1,0 +1,5 @@
+pub mod Headers
+pub mod JobFiles
+pub mod JobRuns
+pub mod Lines
+pub mod Listed

@@ -1,0 +1,103 @@
+//! Runs of jobs files, over any log and any writer.
+
+ghost use Rattle.std.specs.Prelude.{◌≡◌, ◌≢◌, Err, IfErr, IfOk, IsErr, OnOk};
+ghost use Rattle.std.specs.Io.KnownBytes.{Keeps};
+ghost use Rattle.xa_files.specs.declared.fault.RunFault.{RunFault};
+ghost use Rattle.xa_files.specs.declared.fault.RunFault.TheVariants.{Output};
+ghost use Rattle.xa_jobs.specs.JobFiles.{jobs_of, plan_of};
+ghost use Rattle.xa_jobs.specs.JobRuns.{AreEnds, Begins, BeginsEnds, EndsWith, Explains, Prints, PrintsEnds};
+ghost use Rattle.xa_jobs.specs.JobRuns.{IsRunFault, IsWorkFault, fault_of};
+ghost use Rattle.xa_workers.specs.Jobs.{IsRunnable};
+
+use crate::jobs::read_jobs;
+use crate::lines::print_ends;
+use std::alloc::Global;
+use std::io::Write;
+use std::sync::Wait;
+use std::thread::Threads;
+use xa_base::Outcome;
+use xa_files::RunFault;
+use xa_log::DecisionLog;
+use xa_workers::{Gate, Jobs, Point, WorkFault, run_jobs};
+
+/// A gate that holds nobody back.
+struct Open;
+
+impl Gate for Open {
+    fn at(&self, _point: Point) -> bool {
+        true
+    }
+}
+
+/// What the fault of a run is to the file.
+fn fault_of(fault: WorkFault) -> RunFault
+    ensures { result ≡ fault_of fault }
+{
+    match fault {
+        WorkFault::Memory => RunFault::Memory,
+        WorkFault::Log => RunFault::Log,
+        WorkFault::Stuck | WorkFault::Mixed => RunFault::Work,
+    }
+}
+
+/// Runs jobs over a log, and gives how each ended.
+fn ends_of_run<R: Threads + Wait + Sync, L: DecisionLog + Drop>(
+    rt: &R,
+    alloc: Global,
+    jobs: &Jobs,
+    log: L,
+) -> Result<Vec<Outcome>, RunFault>
+    requires { IsRunnable jobs.now }
+    ensures ends { IfOk result (λ ends. AreEnds (plan_of jobs.now) ends.items) }
+    ensures fault { IfErr result IsWorkFault }
+{
+    match run_jobs(rt, alloc, jobs, log, &Open) {
+        Ok(done) => Ok(done.ends),
+        Err(fault) => Err(fault_of(fault)),
+    }
+}
+
+/// Runs jobs over a log, and prints how each ended.
+fn run_and_print<R: Threads + Wait + Sync, L: DecisionLog + Drop, W: Write>(
+    rt: &R,
+    alloc: Global,
+    jobs: &Jobs,
+    log: L,
+    out: &mut W,
+) -> Result<(), RunFault>
+    requires { IsRunnable jobs.now }
+    ensures ends { OnOk result (PrintsEnds (plan_of jobs.now) (W.contents out.old) (W.contents out.new)) }
+    ensures begun { IfErr result (λ e. e ≡ Output →
+        BeginsEnds (plan_of jobs.now) (W.contents out.old) (W.contents out.new)) }
+    ensures kept { IfErr result (λ e. e ≢ Output → Keeps (W.contents out.old) (W.contents out.new)) }
+    ensures fault { IfErr result IsRunFault }
+{
+    let ends = ends_of_run(rt, alloc, jobs, log)?;
+    print_ends(alloc, &ends, out)
+}
+
+/// Runs the jobs of a file over a log by [`run_jobs`], and prints a line for each job, in order, once all have ended.
+///
+/// A file that is no jobs file is refused before anything is run, by NotToml, Header or Job. Of a run, Memory comes
+/// where a request for memory or for a thread was refused, Log where the log failed or can't begin a run, Work where
+/// the workers stood still or don't agree; nothing is written then. Output comes where a write failed: what was
+/// written before it is left, and is a beginning of what is printed otherwise. After a fault nothing is said of the log.
+pub fn run_job_file<R: Threads + Wait + Sync, L: DecisionLog + Drop, W: Write>(
+    rt: &R,
+    alloc: Global,
+    text: &[u8],
+    log: L,
+    out: &mut W,
+) -> Result<(), RunFault>
+    ensures ok { OnOk result (Prints text.now (W.contents out.old) (W.contents out.new)) }
+    ensures fault { IfErr result (λ e. Explains e (jobs_of text.now)) }
+    ensures refused { (e : RunFault) → jobs_of text.now ≡ Err e → EndsWith e result }
+    // A file that is no jobs file writes nothing.
+    ensures unwritten { IsErr (jobs_of text.now) → Keeps (W.contents out.old) (W.contents out.new) }
+    // Nor does a run that ends by another fault than that of the output.
+    ensures kept { IfErr result (λ e. e ≢ Output → Keeps (W.contents out.old) (W.contents out.new)) }
+    ensures begun { IfErr result (λ e. e ≡ Output → Begins text.now (W.contents out.old) (W.contents out.new)) }
+{
+    let jobs = read_jobs(alloc, text)?;
+    run_and_print(rt, alloc, &jobs, log, out)
+}

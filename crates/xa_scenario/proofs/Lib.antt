@@ -1,0 +1,9 @@
+pub mod BranchLemmas
+pub mod EntryLemmas
+pub mod FlagLemmas
+pub mod LineLemmas
+pub mod ListedLemmas
+pub mod PlayLemmas
+pub mod RunLemmas
+pub mod StartLemmas
+pub mod TextFaults

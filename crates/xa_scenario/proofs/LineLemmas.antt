@@ -1,0 +1,44 @@
+-- Lines, one after the other.
+use Rattle.std.proofs.Common.{◌≡◌, ◌∙◌, ℕ, ◌+◌, ◌<◌, List, [], ◌∷◌, ◌++◌, length, get_or, take, sym, ap, append_assoc, append-nil, arith, add-zero}
+use Rattle.std.proofs.lemmas.List.{take_more, length-take-le}
+use Rattle.std.proofs.lemmas.List.Concat.{flat_map-append}
+use Rattle.std.specs.List.{flat_map}
+use Rattle.xa_base.specs.declared.reply.Event.{Event}
+use Rattle.xa_scenario.specs.Replies.{trace_line, trace_lines}
+
+-- one text more behind those of a list
+pub text_more : {A : Type 0} (f : A → List ℕ) (start text more : List ℕ) (xs : List A) (i : ℕ) (x : A) → i < length xs → x ≡ get_or xs i x
+    → text ≡ start ++ flat_map f (take i xs) → more ≡ f x → text ++ more ≡ start ++ flat_map f (take (i + 1) xs)
+text_more f start text more xs i x within is so_far same =
+    let before = flat_map f (take i xs) in
+    ap (λ t. t ++ more) so_far ∙ ap (λ m. start ++ before ++ m) same ∙ append_assoc start before (f x)
+    ∙ ap (λ t. start ++ (before ++ t)) (sym (append-nil (f x)))
+    ∙ ap (λ t. start ++ t) (sym (flat_map-append f (take i xs) (x ∷ [])) ∙ ap (λ y. flat_map f (take i xs ++ y ∷ [])) is
+    ∙ ap (flat_map f) (sym (take_more xs i x within)))
+
+lines_push : (number : ℕ) (events : List Event) (event : Event)
+    → trace_lines number (events ++ event ∷ []) ≡ trace_lines number events ++ trace_line (number + length events) event
+lines_push number [] event = append-nil (trace_line number event) ∙ ap (λ n. trace_line n event) (sym (add-zero number))
+lines_push number (e ∷ events) event =
+    ap (λ text. trace_line number e ++ text) (lines_push (number + 1) events event)
+    ∙ sym (append_assoc (trace_line number e) (trace_lines (number + 1) events) (trace_line (number + 1 + length events) event))
+    ∙ ap (λ n. trace_line number e ++ trace_lines (number + 1) events ++ trace_line n event) (omega arith)
+
+-- one line more of a trace
+pub line_more : (text more : List ℕ) (events : List Event) (i : ℕ) (event : Event) → i < length events → event ≡ get_or events i event
+    → text ≡ trace_lines 1 (take i events) → more ≡ trace_line (i + 1) event → text ++ more ≡ trace_lines 1 (take (i + 1) events)
+line_more text more events i event within is so_far same =
+    let before = trace_lines 1 (take i events) in
+    let number : i + 1 ≡ 1 + length (take i events) = omega (arith, length-take-le i events (omega arith)) in
+    ap (λ t. t ++ more) so_far ∙ ap (λ m. before ++ m) (same ∙ ap (λ n. trace_line n event) number)
+    ∙ sym (lines_push 1 (take i events) event) ∙ ap (λ y. trace_lines 1 (take i events ++ y ∷ [])) is
+    ∙ ap (trace_lines 1) (sym (take_more events i event within))
+
+-- the pieces of a line, as a write of it gives them
+pub four_pieces : (a b d e : List ℕ) → a ++ (b ++ (d ++ e)) ≡ a ++ b ++ d ++ e
+four_pieces a b d e = sym (append_assoc a b (d ++ e)) ∙ sym (append_assoc (a ++ b) d e)
+
+pub six_pieces : (a b d e f h : List ℕ) → a ++ (b ++ (d ++ (e ++ (f ++ h)))) ≡ a ++ b ++ d ++ e ++ f ++ h
+six_pieces a b d e f h =
+    sym (append_assoc a b (d ++ (e ++ (f ++ h)))) ∙ sym (append_assoc (a ++ b) d (e ++ (f ++ h)))
+    ∙ sym (append_assoc (a ++ b ++ d) e (f ++ h)) ∙ sym (append_assoc (a ++ b ++ d ++ e) f h)

@@ -1,0 +1,93 @@
+-- Why a run ended.
+use Rattle.std.proofs.Common.{◌≡◌, Bool, List, [], ℕ, Option, Result, Ok, Err, IfOk, IfErr, OnErr, String, Global, string_bytes, ap, ◌⊎◌, inl, inr, refl, sym, subst, ◌∙◌}
+use Rattle.xa_base.specs.Headline.{Headline}
+use Rattle.xa_base.specs.History.{AreDemanded}
+use Rattle.xa_base.specs.Trace.{Origin}
+use Rattle.xa_base.specs.Xid.{Xid}
+use Rattle.xa_base.specs.declared.reply.Event.{Event}
+use Rattle.xa_base.specs.declared.state.Fate.{Fate}
+use Rattle.xa_files.specs.Outputs.{AppendsBeginning}
+use Rattle.xa_files.specs.Reading.{Fails}
+use Rattle.xa_files.specs.declared.fault.RunFault.{RunFault}
+use Rattle.xa_files.specs.declared.fault.RunFault.TheVariants.{NotToml, Header, Step, Job, Log, Memory, Work, Output}
+use Rattle.xa_scenario.specs.Plays.{IsPlay, Performs}
+use Rattle.xa_scenario.specs.Runs.{Begins, BeginsCheck, BeginsRun, Explains, IsReportOf, IsRunOf, IsStartOf, IsTextOf, Prints, PrintsRun, check_line, run_text}
+use Rattle.xa_scenario.specs.Scenarios.{Plan, scenario_of}
+use Rattle.xa_scenario.proofs.TextFaults.{faults_are_of_texts}
+
+-- a fault of the reading, which is not that of the output
+pub explains : (fault : RunFault) (text : List ℕ) → Fails fault (scenario_of text) → Explains fault (scenario_of text)
+explains NotToml text is = is
+explains Header text is = is
+explains (Step n) text is = is
+explains (Job n) text is = is
+explains Log text is = absurd (faults_are_of_texts text Log is)
+explains Memory text is = tt
+explains Work text is = absurd (faults_are_of_texts text Work is)
+explains Output text is = absurd (faults_are_of_texts text Output is)
+
+same_fault : (a b : RunFault) (read : Result Plan RunFault) → read ≡ Err a → read ≡ Err b → a ≡ b
+same_fault a b read first second = let e : ◌≡◌ {A = Result Plan RunFault} (Err a) (Err b) = sym first ∙ second in cc
+
+-- a reader's fault is that of the text, or want of memory
+pub ends_with : (found fault : RunFault) (read : Result Plan RunFault) → Fails found read → read ≡ Err fault → (found ≡ fault) ⊎ (found ≡ Memory)
+ends_with NotToml fault read is known = inl (same_fault NotToml fault read is known)
+ends_with Header fault read is known = inl (same_fault Header fault read is known)
+ends_with (Step n) fault read is known = inl (same_fault (Step n) fault read is known)
+ends_with (Job n) fault read is known = inl (same_fault (Job n) fault read is known)
+ends_with Log fault read is known = inl (same_fault Log fault read is known)
+ends_with Memory fault read is known = inr refl
+ends_with Work fault read is known = inl (same_fault Work fault read is known)
+ends_with Output fault read is known = inl (same_fault Output fault read is known)
+
+-- no reading ends with a fault of the output
+pub not_of_output : (fault : RunFault) (text : List ℕ) → Fails fault (scenario_of text) → fault ≡ Output → ⊥
+not_of_output fault text fails e = faults_are_of_texts text Output (subst (λ (f : RunFault). Fails f (scenario_of text)) e fails)
+
+-- what a fault of the output leaves
+pub on_output : (result : Result (Unit {0}) RunFault) (P Q : Type 0) → (P → Q)
+    → IfErr result (λ e. e ≡ Output → P) → IfErr result (λ e. e ≡ Output → Q)
+on_output (Ok done) P Q f h = tt
+on_output (Err e) P Q f h = λ is. f (h is)
+
+pub on_output_of : (result : Result (Unit {0}) RunFault) (P Q : Type 0) → (P → Q) → OnErr result P → IfErr result (λ e. e ≡ Output → Q)
+on_output_of (Ok done) P Q f h = tt
+on_output_of (Err e) P Q f h = λ is. f h
+
+-- a beginning of a check
+pub begins_check : (text : List ℕ) (plan : Plan) (old new : Option (List ℕ)) → scenario_of text ≡ Ok plan → AppendsBeginning old new (check_line plan)
+    → BeginsCheck text old new
+begins_check text plan old new reads written = record { plan = plan; reads = reads; begins = written }
+
+-- ** the text of a run
+
+-- what was played is a run of the scenario
+pub is_run : (plan : Plan) (start end : Origin) (begun events : List Event) → end ≡ start → IsStartOf plan start → begun ≡ []
+    → Performs (IsPlay [] plan.entries) begun events → AreDemanded end events → Headline end events → IsRunOf plan end events
+is_run plan start end begun events same starts none played demanded headline = record {
+  start = subst (IsStartOf plan) (sym same) starts;
+  played = subst (λ old. Performs (IsPlay [] plan.entries) old events) none played;
+  demanded = demanded;
+  headline = headline;
+}
+
+-- of a text that is the scenario
+pub prints_text : (text : List ℕ) (plan : Plan) (with_trace : Bool) (old new : Option (List ℕ)) → scenario_of text ≡ Ok plan → PrintsRun plan with_trace old new
+    → Prints text with_trace old new
+prints_text text plan with_trace old new reads run = record { plan = plan; reads = reads; run = run }
+
+pub begins_text : (text : List ℕ) (plan : Plan) (with_trace : Bool) (old new : Option (List ℕ)) → scenario_of text ≡ Ok plan → BeginsRun plan with_trace old new
+    → Begins text with_trace old new
+begins_text text plan with_trace old new reads run = record { plan = plan; reads = reads; run = run }
+
+-- a text that was made of the events and of their report
+pub told : (r : Result (String Global) RunFault) (with_trace : Bool) (o : Origin) (events given : List Event) (fates listed : List (Xid × Fate))
+    → given ≡ events → listed ≡ fates → IsReportOf o events fates
+    → IfOk r (λ text. string_bytes text ≡ run_text with_trace given listed)
+    → IfOk r (λ text. IsTextOf with_trace o events (string_bytes text))
+told (Ok text) with_trace o events given fates listed same same_fates report is = record {
+  fates = fates;
+  report = report;
+  spelled = is ∙ ap (λ es. run_text with_trace es listed) same ∙ ap (λ fs. run_text with_trace events fs) same_fates;
+}
+told (Err e) with_trace o events given fates listed same same_fates report is = tt

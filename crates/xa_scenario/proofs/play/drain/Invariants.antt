@@ -1,0 +1,16 @@
+use Rattle.std.proofs.Common.{◌≡◌, ◌-◌, length}
+use Rattle.xa_scenario.specs.Plays.{IsDrain}
+use Rattle.xa_scenario.proofs.PlayLemmas.{GoesOn}
+use Rattle.xa_system.specs.Seen.{origin_in}
+use Rattle.xa_system.specs.Sites.{looks}
+use Rattle.xa_scenario.proofs.play.drain.Given as goal
+
+abbrev pub invariant-pairs : goal.invariant-pairs
+invariant-pairs g l = record {
+  goes_on : GoesOn (IsDrain l.thread l.rm) l.fn.system.events l.system.events;
+  start : origin_in (looks g.R.ResourceManager.held_of g.R.ResourceManager.scan_of g.R.ResourceManager.in_doubt_of) l.system
+      ≡ origin_in (looks g.R.ResourceManager.held_of g.R.ResourceManager.scan_of g.R.ResourceManager.in_doubt_of) l.fn.system;
+}
+
+abbrev pub decreases-pairs : goal.decreases-pairs
+decreases-pairs g l = 10000 - length l.system.events

@@ -1,0 +1,19 @@
+use Rattle.std.proofs.lemmas.Result.{err_from_is_err_and}
+use Rattle.xa_scenario.specs.Scenarios.{scenario_of}
+use Rattle.xa_scenario.proofs.RunLemmas.{explains, ends_with, not_of_output}
+use Rattle.xa_scenario.proofs.run.run_scenario.Goals as goal
+
+pub returns-in_err-scenario-clause-fault : goal.returns-in_err-scenario-clause-fault
+returns-in_err-scenario-clause-fault g c =
+    let p = err_from_is_err_and c.from_residual.result c.from_residual.ensures.1 in
+    rw (p.1, p.2) (explains c.in_err-scenario.field-0.0 c.args.text.now c.in_err-scenario.ensures)
+
+pub returns-in_err-scenario-clause-refused : goal.returns-in_err-scenario-clause-refused
+returns-in_err-scenario-clause-refused g c =
+    let p = err_from_is_err_and c.from_residual.result c.from_residual.ensures.1 in
+    λ e known. rw (p.1, p.2) (ends_with c.in_err-scenario.field-0.0 e (scenario_of c.args.text.now) c.in_err-scenario.ensures known)
+
+pub returns-in_err-scenario-clause-begun : goal.returns-in_err-scenario-clause-begun
+returns-in_err-scenario-clause-begun g c =
+    let p = err_from_is_err_and c.from_residual.result c.from_residual.ensures.1 in
+    rw (p.1, p.2) (λ e. absurd (not_of_output c.in_err-scenario.field-0.0 c.args.text.now c.in_err-scenario.ensures e))

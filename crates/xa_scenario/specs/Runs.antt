@@ -1,0 +1,123 @@
+-- What a run of a scenario file prints, and why it ends early.
+use Rattle.std.specs.Prelude.{◌≡◌, ◌⊎◌, ◌↔◌, ℕ, Bool, if◌then◌else◌, List, [], ◌++◌, length, codes, Contains, Option, Result, Ok, Err, IsOk, IsErrAnd}
+use Rattle.std.specs.Fmt.{decimal}
+use Rattle.std.specs.Io.KnownBytes.{Appends}
+use Rattle.std.specs.List.Sorted.{IsStrictlySortedBy}
+use Rattle.std.specs.Map.{keys_of}
+use Rattle.xa_base.specs.Headline.{Headline}
+use Rattle.xa_base.specs.HeldBranch.{new_branch}
+use Rattle.xa_base.specs.History.{AreDemanded, history}
+use Rattle.xa_base.specs.Trace.{Origin}
+use Rattle.xa_base.specs.Xid.{Xid, xid_cmp}
+use Rattle.xa_base.specs.declared.reply.Event.{Event}
+use Rattle.xa_base.specs.declared.state.Fate.{Fate}
+use Rattle.xa_files.specs.Outputs.{AppendsBeginning}
+use Rattle.xa_files.specs.declared.fault.RunFault.{RunFault}
+use Rattle.xa_files.specs.declared.fault.RunFault.TheVariants.{Log, Memory, Work, Output}
+use Rattle.xa_scenario.specs.Fates.{fate_lines}
+use Rattle.xa_scenario.specs.Plays.{IsPlay, Performs}
+use Rattle.xa_scenario.specs.Replies.{trace_lines}
+use Rattle.xa_scenario.specs.Scenarios.{Plan, scenario_of}
+use Rattle.xa_system.specs.Report.{IsReported}
+
+-- ** runs
+
+-- where a run of a scenario starts: a system as large as it says, at whose resource managers no branch ever was
+pub record IsStartOf (plan : Plan) (o : Origin) : Type 0 where
+  pub threads : o.threads ≡ plan.threads
+  pub rms : o.rms ≡ plan.rms
+  pub unstarted : (r : ℕ) (x : Xid) → o.held r x ≡ new_branch
+
+-- The events are those of the scenario's entries in turn, as far as there is room for them; each is answered as the
+-- history before it demands, and so they are all that the headline says.
+pub record IsRunOf (plan : Plan) (o : Origin) (events : List Event) : Type 0 where
+  pub start : IsStartOf plan o
+  pub played : Performs (IsPlay [] plan.entries) [] events
+  pub demanded : AreDemanded o events
+  pub headline : Headline o events
+
+-- the branches with an accepted xa_start, each once and in the order of their identifiers, with their fates
+pub record IsReportOf (o : Origin) (events : List Event) (fates : List (Xid × Fate)) : Type 0 where
+  pub in_order : IsStrictlySortedBy xid_cmp (keys_of fates)
+  pub listed : (x : Xid) (f : Fate) → Contains fates (x, f) ↔ IsReported (history o events) x f
+
+-- ** what is printed
+
+-- the trace, where it is asked for, and then the fates
+abbrev pub run_text : Bool → List Event → List (Xid × Fate) → List ℕ
+run_text with_trace events fates = (if with_trace then trace_lines 1 events else []) ++ fate_lines fates
+
+-- the text of these events from this start, with its report
+pub record IsTextOf (with_trace : Bool) (o : Origin) (events : List Event) (text : List ℕ) : Type 0 where
+  pub fates : List (Xid × Fate)
+  pub report : IsReportOf o events fates
+  pub spelled : text ≡ run_text with_trace events fates
+
+-- What was written is the text of a run of the scenario.
+pub record PrintsRun (plan : Plan) (with_trace : Bool) (old new : Option (List ℕ)) : Type 0 where
+  pub origin : Origin
+  pub events : List Event
+  pub text : List ℕ
+  pub run : IsRunOf plan origin events
+  pub told : IsTextOf with_trace origin events text
+  pub writes : Appends old new text
+
+-- What was written is a beginning of the text of a run of the scenario.
+pub record BeginsRun (plan : Plan) (with_trace : Bool) (old new : Option (List ℕ)) : Type 0 where
+  pub origin : Origin
+  pub events : List Event
+  pub text : List ℕ
+  pub run : IsRunOf plan origin events
+  pub told : IsTextOf with_trace origin events text
+  pub begins : AppendsBeginning old new text
+
+-- The text is a scenario, and what was written is the text of a run of it.
+pub record Prints (text : List ℕ) (with_trace : Bool) (old new : Option (List ℕ)) : Type 0 where
+  pub plan : Plan
+  pub reads : scenario_of text ≡ Ok plan
+  pub run : PrintsRun plan with_trace old new
+
+-- The text is a scenario, and what was written is a beginning of that.
+pub record Begins (text : List ℕ) (with_trace : Bool) (old new : Option (List ℕ)) : Type 0 where
+  pub plan : Plan
+  pub reads : scenario_of text ≡ Ok plan
+  pub run : BeginsRun plan with_trace old new
+
+-- ** checks
+
+-- the one line of a check
+abbrev pub check_line : Plan → List ℕ
+check_line plan =
+    codes "ok " ++ decimal plan.threads ++ codes " " ++ decimal plan.rms ++ codes " " ++ decimal (length plan.entries)
+    ++ codes "\n"
+
+-- The text is a scenario, and its sizes were written.
+pub record PrintsCheck (text : List ℕ) (old new : Option (List ℕ)) : Type 0 where
+  pub plan : Plan
+  pub reads : scenario_of text ≡ Ok plan
+  pub writes : Appends old new (check_line plan)
+
+-- The text is a scenario, and a beginning of that line was written.
+pub record BeginsCheck (text : List ℕ) (old new : Option (List ℕ)) : Type 0 where
+  pub plan : Plan
+  pub reads : scenario_of text ≡ Ok plan
+  pub begins : AppendsBeginning old new (check_line plan)
+
+-- ** faults
+
+-- what a fault tells of the reading of the text: want of memory tells nothing, a fault of the log, of the work or of
+-- the output that it is a scenario, and each other fault is the text's own
+abbrev pub Explains : RunFault → Result Plan RunFault → Type 0
+Explains Memory read = Unit {0}
+Explains Log read = IsOk read
+Explains Work read = IsOk read
+Explains Output read = IsOk read
+Explains fault read = read ≡ Err fault
+
+-- a run of a text with this fault ends with it, unless memory ran out
+abbrev pub EndsWith : RunFault → Result (Unit {0}) RunFault → Type 0
+EndsWith fault result = IsErrAnd result (λ e. (e ≡ fault) ⊎ (e ≡ Memory))
+
+-- a fault of a system that couldn't be started
+abbrev pub IsStartFault : RunFault → Type 0
+IsStartFault fault = (fault ≡ Log) ⊎ ((fault ≡ Memory) ⊎ (fault ≡ Work))

@@ -1,0 +1,58 @@
+-- Which texts are scenarios, and the fault of each other text.
+use Rattle.std.specs.Prelude.{ℕ, ◌+◌, nat_lt, if◌then◌else◌, List, [], ◌∷◌, ◌++◌, Option, Some, None, Result, Ok, Err}
+use Rattle.std.specs.Option.{ok_or, option_and_then}
+use Rattle.toml.specs.Data.{Data, Items, no_items, item, Members, as_table}
+use Rattle.xa_files.specs.Documents.{document_of}
+use Rattle.xa_files.specs.Reading.{◌>>=◌}
+use Rattle.xa_scenario.specs.Begins.{name_begun}
+use Rattle.xa_scenario.specs.Branches.{Names}
+use Rattle.xa_scenario.specs.Headers.{header_at}
+use Rattle.xa_scenario.specs.Tables.{entry_of}
+use Rattle.xa_scenario.specs.declared.entry.Entry.{Entry}
+use Rattle.xa_scenario.specs.declared.document.Scenario.{Scenario}
+use Rattle.xa_files.specs.declared.fault.RunFault.{RunFault}
+use Rattle.xa_files.specs.declared.fault.RunFault.TheVariants.{Header, Step}
+
+-- how large the system is, and what is asked of it
+pub record Plan : Type 0 where
+  pub threads : ℕ
+  pub rms : ℕ
+  pub entries : List Entry
+
+-- the plan of a scenario, without where it lies in memory
+abbrev pub plan_of : Scenario → Plan
+plan_of s = record { threads = s.threads; rms = s.rms; entries = s.entries.items }
+
+-- the name that an item begins, if it is a table that begins one
+abbrev pub name_in : Data → Option (List ℕ)
+name_in value = option_and_then name_begun (as_table value)
+
+-- the names so far, with the one that an item begins
+abbrev pub names_after : Names → Data → Names
+names_after begun value = elim (name_in value) [ None ↦ begun | Some name ↦ begun ++ name ∷ [] ]
+
+-- what the table of a number asks for: there are at most 10,000
+abbrev pub entry_at : ℕ → Names → Data → Result Entry RunFault
+entry_at number begun value =
+    if nat_lt 10000 number then Err (Step number)
+    else ok_or (option_and_then (entry_of begun) (as_table value)) (Step number)
+
+-- what the tables ask for in turn, or the first faulty one; the first has this number
+unfoldable pub entries_from : ℕ → Names → Items → Result (List Entry) RunFault
+entries_from number begun no_items = Ok []
+entries_from number begun (item value items) = do
+  entry ← entry_at number begun value
+  others ← entries_from (number + 1) (names_after begun value) items
+  Ok (entry ∷ others)
+
+-- its top
+abbrev pub header_of : Members → Result (ℕ × ℕ × Items) RunFault
+header_of document = ok_or (header_at document) Header
+
+-- the scenario that a text is, or the first fault
+unfoldable pub scenario_of : List ℕ → Result Plan RunFault
+scenario_of text = do
+  document ← document_of text
+  header ← header_of document
+  entries ← entries_from 1 [] header.2
+  Ok (record { threads = header.0; rms = header.1; entries = entries })

@@ -1,0 +1,139 @@
+//! A scenario file as a whole.
+
+ghost use Rattle.std.specs.Prelude.{◌≡◌, ℕ, ◌^◌, ◌+◌, List, [], codes, map, option_map, is_some};
+ghost use Rattle.toml.specs.View.{view, table_view, items_view};
+ghost use Rattle.xa_scenario.specs.Headers.{steps_at, header_at};
+ghost use Rattle.xa_files.specs.Documents.{are_tables, size_at};
+ghost use Rattle.xa_scenario.specs.Scenarios.{plan_of, entry_at, name_in, names_after, entries_from, header_of, scenario_of};
+ghost use Rattle.xa_files.specs.Reading.{Gives};
+ghost use Rattle.xa_files.specs.Documents.{document_of};
+ghost use Rattle.xa_scenario.specs.Listed.{EachIsRead, FirstIsFaulty, FaultsAreOfTexts};
+
+use crate::begins::name_begun;
+use crate::entry::Entry;
+use crate::tables::entry_of;
+use std::alloc::Global;
+use toml::{Table, Value};
+use xa_files::{RunFault, are_tables, document_of, has_only, size_at, value_at};
+
+/// The most entries of a scenario.
+const MAX_ENTRIES: usize = 10_000;
+
+/// The most threads.
+const MAX_THREADS: u32 = 8;
+
+/// The most resource managers.
+const MAX_RMS: u32 = 8;
+
+/// A scenario: how large the system is, and what is asked of it.
+#[derive(Debug, Drop)]
+pub struct Scenario {
+    /// How many threads of control there are.
+    pub threads: u32,
+    /// How many resource managers there are.
+    pub rms: u32,
+    /// What is asked, in turn.
+    pub entries: Vec<Entry>,
+}
+
+/// The tables of the steps, of which there may be none.
+#[tactic(auto, unfolding(crate::specs::Headers::steps_at))]
+fn steps_at(document: &Table) -> Option<&[Value]>
+    ensures { option_map (λ items. items_view items.now) result ≡ steps_at (table_view document.now) }
+{
+    match value_at(document, "step") {
+        None => Some(&[]),
+        Some(value) => {
+            let items = value.as_array()?.as_slice();
+            if are_tables(items) { Some(items) } else { None }
+        }
+    }
+}
+
+/// The top of a document: the threads, the resource managers and the tables of the steps.
+#[tactic(auto, unfolding(crate::specs::Headers::header_at))]
+fn header_at(document: &Table) -> Option<(u32, u32, &[Value])>
+    ensures { option_map (λ h. (h.0, h.1, items_view h.2.now)) result ≡ header_at (table_view document.now) }
+{
+    if !has_only(document, &["threads", "rms", "step"]) {
+        return None;
+    }
+    let threads = size_at(document, "threads", MAX_THREADS)?;
+    let rms = size_at(document, "rms", MAX_RMS)?;
+    let steps = steps_at(document)?;
+    Some((threads, rms, steps))
+}
+
+/// The same, with its fault.
+fn header_of(document: &Table) -> Result<(u32, u32, &[Value]), RunFault>
+    ensures { Gives (λ h. (h.0, h.1, items_view h.2.now)) result (header_of (table_view document.now)) }
+{
+    match header_at(document) {
+        Some(header) => Ok(header),
+        None => Err(RunFault::Header),
+    }
+}
+
+/// The name that an item begins.
+fn name_in(value: &Value) -> Option<&str>
+    ensures { option_map (λ name. name.now) result ≡ name_in (view value.now) }
+{
+    name_begun(value.as_table()?)
+}
+
+/// What the table of a number asks for.
+fn entry_at(number: usize, begun: &[&str], value: &Value) -> Result<Entry, RunFault>
+    ensures { result ≡ entry_at number (map (λ name. name.now) begun.now) (view value.now) }
+{
+    let fault = RunFault::Step(number);
+    if number > MAX_ENTRIES {
+        return Err(fault);
+    }
+    match value.as_table() {
+        Some(table) => entry_of(table, begun).ok_or(fault),
+        None => Err(fault),
+    }
+}
+
+/// What the tables ask for in turn.
+fn entries_of(alloc: Global, items: &[Value]) -> Result<Vec<Entry>, RunFault>
+    ensures { Gives (λ entries. entries.items) result (entries_from 1 [] (items_view items.now)) }
+{
+    let mut entries = Vec::new(alloc);
+    let mut begun = Vec::new(alloc);
+    for (i, value) in items.iter().enumerate() {
+        entries.push(entry_at(i + 1, &begun, value)?)?;
+        if let Some(name) = name_in(value) {
+            begun.push(name)?;
+        }
+    }
+    Ok(entries)
+}
+
+/// Reads a scenario file.
+///
+/// The fault is NotToml, Header or Step, whichever is found first in this order, or Memory where a request was refused.
+#[tactic(auto, unfolding(crate::specs::Scenarios::scenario_of))]
+pub fn read_scenario(alloc: Global, text: &[u8]) -> Result<Scenario, RunFault>
+    ensures { Gives plan_of result (scenario_of text.now) }
+{
+    let document = document_of(alloc, text)?;
+    let (threads, rms, steps) = header_of(&document)?;
+    let entries = entries_of(alloc, steps)?;
+    Ok(Scenario {
+        threads,
+        rms,
+        entries,
+    })
+}
+
+/// The tables are read each by itself, after the names that those before it begin, and a fault is the first one.
+pub fn tables_are_read_in_turn()
+    ensures each_is_read { EachIsRead }
+    ensures first_is_faulty { FirstIsFaulty }
+{}
+
+/// A text has no other faults than these: it is no TOML, its header is faulty, or a step.
+pub fn faults_are_of_texts()
+    ensures { FaultsAreOfTexts }
+{}

@@ -1,0 +1,30 @@
+//! Scenario files: what they ask of the resource managers of distributed transactions, how they are read, and what is
+//! printed of a run of one.
+//!
+//! "XA" in these pages is X/Open CAE Specification C193, "Distributed Transaction Processing: The XA Specification"
+//! (1991).
+#![tactic(auto)]
+
+mod begins;
+mod branches;
+mod calls;
+mod crashes;
+mod document;
+mod endings;
+mod entry;
+mod fates;
+mod flags;
+mod moves;
+mod names;
+mod play;
+mod print;
+mod recoveries;
+mod replies;
+mod run;
+mod scripts;
+mod tables;
+mod words;
+
+pub use document::{Scenario, faults_are_of_texts, read_scenario, tables_are_read_in_turn};
+pub use entry::{BranchEntry, Ending, Entry, Script};
+pub use run::{check_scenario, run_scenario};

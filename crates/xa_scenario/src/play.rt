@@ -1,0 +1,126 @@
+//! What a run of a scenario does.
+
+ghost use Rattle.std.specs.Prelude.{◌≡◌, ◌||◌, ◌∷◌, [], map, OnOk};
+ghost use Rattle.std.specs.Option.{option_to_list};
+ghost use Rattle.xa_scenario.specs.Plays.{HaveSteps, IsAnswered, IsDrain, IsPlay, Makes, Performs, after, gtrids_of, moves};
+ghost use Rattle.xa_system.specs.Seen.{origin_in};
+ghost use Rattle.xa_system.specs.Sites.{looks};
+
+use crate::entry::Entry;
+use crate::names::{begins, gtrid_in, issue_of, step_of};
+use std::alloc::{AllocError, Global};
+use xa_base::{Gtrid, Reply, Step};
+use xa_log::DecisionLog;
+use xa_rm::ResourceManager;
+use xa_system::System;
+
+/// Does a step.
+fn act<R: ResourceManager + Drop, L: DecisionLog + Drop>(
+    system: &mut System<R, L>,
+    step: Step,
+) -> Reply
+    ensures answered { IsAnswered system.old.events result }
+    ensures added { system.new.events ≡ after system.old.events (record { step = step; reply = result }) }
+    ensures start { origin_in (looks R.held_of R.scan_of R.in_doubt_of) system.new
+        ≡ origin_in (looks R.held_of R.scan_of R.in_doubt_of) system.old }
+{
+    system.step(step)
+}
+
+/// Whether the reply took or heard something.
+fn moves(reply: &Reply) -> bool
+    ensures { result ≡ moves reply.now }
+{
+    matches!(reply, Reply::Took(..) | Reply::Heard(..))
+}
+
+/// Whether one of the two did.
+fn pair_moves(took: Reply, heard: Reply) -> bool
+    ensures { result ≡ (moves took || moves heard) }
+{
+    moves(&took) || moves(&heard)
+}
+
+/// Takes and hears on a line until a pair moves nothing.
+fn drain<R: ResourceManager + Drop, L: DecisionLog + Drop>(
+    system: &mut System<R, L>,
+    thread: u32,
+    rm: u32,
+)
+    ensures performs { Performs (IsDrain thread rm) system.old.events system.new.events }
+    ensures start { origin_in (looks R.held_of R.scan_of R.in_doubt_of) system.new
+        ≡ origin_in (looks R.held_of R.scan_of R.in_doubt_of) system.old }
+{
+    'pairs: loop {
+        let took = act(system, Step::Take { thread, rm });
+        let heard = act(system, Step::Hear { thread, rm });
+        if !pair_moves(took, heard) {
+            return;
+        }
+    }
+}
+
+/// Does a step, and gives the transaction that it begins, if it is a begin.
+fn play_step<R: ResourceManager + Drop, L: DecisionLog + Drop>(
+    system: &mut System<R, L>,
+    step: Step,
+) -> Option<Gtrid>
+    ensures performs { Performs (λ here. HaveSteps (step ∷ []) here × (gtrids_of here ≡ option_to_list result))
+        system.old.events system.new.events }
+    ensures start { origin_in (looks R.held_of R.scan_of R.in_doubt_of) system.new
+        ≡ origin_in (looks R.held_of R.scan_of R.in_doubt_of) system.old }
+{
+    let is_begin = begins(&step);
+    let reply = act(system, step);
+    let gtrid = gtrid_in(reply);
+    if is_begin { Some(gtrid) } else { None }
+}
+
+/// Plays one entry, and gives the transaction that it begins, if it is a begin.
+fn play_entry<R: ResourceManager + Drop, L: DecisionLog + Drop>(
+    system: &mut System<R, L>,
+    gtrids: &[Gtrid],
+    entry: &Entry,
+) -> Option<Gtrid>
+    ensures performs { Performs (λ here. Makes gtrids.now entry.now here × (gtrids_of here ≡ option_to_list result))
+        system.old.events system.new.events }
+    ensures start { origin_in (looks R.held_of R.scan_of R.in_doubt_of) system.new
+        ≡ origin_in (looks R.held_of R.scan_of R.in_doubt_of) system.old }
+{
+    match *entry {
+        Entry::Call {
+            thread,
+            rm,
+            ref call,
+        } => {
+            let _issued = act(system, issue_of(gtrids, thread, rm, call));
+            let _took = act(system, Step::Take { thread, rm });
+            let _heard = act(system, Step::Hear { thread, rm });
+            None
+        }
+        Entry::Drain { thread, rm } => {
+            drain(system, thread, rm);
+            None
+        }
+        _ => play_step(system, step_of(gtrids, entry)?),
+    }
+}
+
+/// Plays the entries in turn.
+pub fn play<R: ResourceManager + Drop, L: DecisionLog + Drop>(
+    alloc: Global,
+    system: &mut System<R, L>,
+    entries: &[Entry],
+) -> Result<(), AllocError>
+    ensures performs { OnOk result (Performs (IsPlay [] entries.now) system.old.events system.new.events) }
+    ensures start { origin_in (looks R.held_of R.scan_of R.in_doubt_of) system.new
+        ≡ origin_in (looks R.held_of R.scan_of R.in_doubt_of) system.old }
+{
+    let mut gtrids = Vec::new(alloc);
+    for entry in entries {
+        if let Some(gtrid) = play_entry(system, &gtrids, entry) {
+            gtrids.push(gtrid)?;
+        }
+    }
+    Ok(())
+}

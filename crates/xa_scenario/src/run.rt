@@ -1,0 +1,144 @@
+//! The work of the program, over any log and any writer.
+
+ghost use Rattle.std.specs.Prelude.{◌≡◌, ◌⊎◌, [], All, Err, IfErr, IfOk, IsErr, OnOk, vec_len};
+ghost use Rattle.std.specs.Io.KnownBytes.{Keeps};
+ghost use Rattle.std.specs.String.{string_bytes};
+ghost use Rattle.xa_base.specs.HeldBranch.{new_branch};
+ghost use Rattle.xa_base.specs.Xid.{Xid};
+ghost use Rattle.xa_files.specs.declared.fault.RunFault.{RunFault};
+ghost use Rattle.xa_files.specs.declared.fault.RunFault.TheVariants.{Memory, Output};
+ghost use Rattle.xa_scenario.specs.Runs.{Begins, BeginsCheck, BeginsRun, EndsWith, Explains, IsStartFault, IsStartOf, IsTextOf, Prints, PrintsCheck, PrintsRun};
+ghost use Rattle.xa_scenario.specs.Scenarios.{plan_of, scenario_of};
+ghost use Rattle.xa_system.specs.Seen.{origin_in};
+ghost use Rattle.xa_system.specs.Sites.{looks};
+
+use crate::document::{Scenario, read_scenario};
+use crate::play::play;
+use crate::print::{check_line, run_text};
+use std::alloc::Global;
+use std::io::Write;
+use xa_files::{RunFault, write_text};
+use xa_log::DecisionLog;
+use xa_rm::{MemRm, ResourceManager};
+use xa_system::{NewFault, System};
+
+/// New resource managers.
+fn rms_of(alloc: Global, count: u32) -> Result<Vec<MemRm>, RunFault>
+    ensures count { IfOk result (λ rms. vec_len rms ≡ count) }
+    ensures unstarted { IfOk result (λ rms.
+        All (λ rm. (x : Xid) → ⟦<MemRm as ResourceManager>⟧.held_of rm x ≡ new_branch) rms.items) }
+    ensures fault { IfErr result (λ e. e ≡ Memory) }
+{
+    let mut rms = Vec::new(alloc);
+    for _rm in 0..count {
+        rms.push(MemRm::new(alloc))?;
+    }
+    Ok(rms)
+}
+
+/// The system of a scenario, at resource managers where no branch ever was.
+fn system_of<R: ResourceManager + Drop, L: DecisionLog + Drop>(
+    alloc: Global,
+    scenario: &Scenario,
+    rms: Vec<R>,
+    log: L,
+) -> Result<System<R, L>, RunFault>
+    requires count { vec_len rms ≡ scenario.now.rms }
+    requires unstarted { All (λ rm. (x : Xid) → R.held_of rm x ≡ new_branch) rms.items }
+    ensures empty { IfOk result (λ system. system.events ≡ []) }
+    ensures start { IfOk result (λ system.
+        IsStartOf (plan_of scenario.now) (origin_in (looks R.held_of R.scan_of R.in_doubt_of) system)) }
+    ensures fault { IfErr result IsStartFault }
+{
+    match System::new(alloc, scenario.threads, rms, log) {
+        Ok(system) => Ok(system),
+        Err(NewFault::Log) => Err(RunFault::Log),
+        Err(NewFault::Memory) => Err(RunFault::Memory),
+        Err(NewFault::Limit | NewFault::NotClear) => Err(RunFault::Work),
+    }
+}
+
+/// The text of what a system did, with its report.
+fn text_of<R: ResourceManager + Drop, L: DecisionLog + Drop>(
+    alloc: Global,
+    system: &System<R, L>,
+    with_trace: bool,
+) -> Result<String, RunFault>
+    ensures text { IfOk result (λ text. IsTextOf with_trace
+        (origin_in (looks R.held_of R.scan_of R.in_doubt_of) system.now) system.now.events (string_bytes text)) }
+    ensures fault { IfErr result (λ e. e ≡ Memory) }
+{
+    let fates = system.report(alloc)?;
+    run_text(alloc, with_trace, system.trace(), &fates)
+}
+
+/// Runs a scenario at a new system, and prints its trace, where that is asked for, and what became of its branches.
+fn run<R: ResourceManager + Drop, L: DecisionLog + Drop, W: Write>(
+    alloc: Global,
+    scenario: &Scenario,
+    mut system: System<R, L>,
+    with_trace: bool,
+    out: &mut W,
+) -> Result<(), RunFault>
+    requires empty { system.events ≡ [] }
+    requires start { IsStartOf (plan_of scenario.now) (origin_in (looks R.held_of R.scan_of R.in_doubt_of) system) }
+    ensures prints { OnOk result (PrintsRun (plan_of scenario.now) with_trace
+        (W.contents out.old) (W.contents out.new)) }
+    ensures begun { IfErr result (λ e. e ≡ Output →
+        BeginsRun (plan_of scenario.now) with_trace (W.contents out.old) (W.contents out.new)) }
+    ensures memory { IfErr result (λ e. e ≡ Memory → Keeps (W.contents out.old) (W.contents out.new)) }
+    ensures fault { IfErr result (λ e. (e ≡ Memory) ⊎ (e ≡ Output)) }
+{
+    play(alloc, &mut system, &scenario.entries)?;
+    let text = text_of(alloc, &system, with_trace)?;
+    system.agree();
+    write_text(text.as_bytes(), out)
+}
+
+/// Runs a scenario file at new resource managers and a decision log, whatever that holds. It prints a line for each
+/// event, where the trace is asked for, and then a line for each branch whose xa_start was accepted, in the order of their
+/// identifiers.
+///
+/// A file that is no scenario is refused before anything is run, by NotToml, Header or Step. Log comes where the log
+/// can't be started. Memory comes where a request was refused outside of a step; nothing is written then. Output comes
+/// where a write failed: what was written before it is left, and is a beginning of what is printed otherwise. Work
+/// comes where no system can be made that is as large as the file says, which is never so.
+pub fn run_scenario<L: DecisionLog + Drop, W: Write>(
+    alloc: Global,
+    text: &[u8],
+    log: L,
+    with_trace: bool,
+    out: &mut W,
+) -> Result<(), RunFault>
+    ensures ok { OnOk result (Prints text.now with_trace (W.contents out.old) (W.contents out.new)) }
+    ensures fault { IfErr result (λ e. Explains e (scenario_of text.now)) }
+    ensures refused { (e : RunFault) → scenario_of text.now ≡ Err e → EndsWith e result }
+    // A file that is no scenario writes nothing.
+    ensures unwritten { IsErr (scenario_of text.now) → Keeps (W.contents out.old) (W.contents out.new) }
+    // Nor does a run that wants memory.
+    ensures memory { IfErr result (λ e. e ≡ Memory → Keeps (W.contents out.old) (W.contents out.new)) }
+    ensures begun { IfErr result (λ e. e ≡ Output →
+        Begins text.now with_trace (W.contents out.old) (W.contents out.new)) }
+{
+    let scenario = read_scenario(alloc, text)?;
+    let rms = rms_of(alloc, scenario.rms)?;
+    let system = system_of(alloc, &scenario, rms, log)?;
+    run(alloc, &scenario, system, with_trace, out)
+}
+
+/// Reads a scenario file only, and prints how many threads, resource managers and entries it has, as in `ok 1 1 5`.
+///
+/// The faults are those of `run_scenario`, but for Log and Work.
+pub fn check_scenario<W: Write>(alloc: Global, text: &[u8], out: &mut W) -> Result<(), RunFault>
+    ensures ok { OnOk result (PrintsCheck text.now (W.contents out.old) (W.contents out.new)) }
+    ensures fault { IfErr result (λ e. Explains e (scenario_of text.now)) }
+    ensures refused { (e : RunFault) → scenario_of text.now ≡ Err e → EndsWith e result }
+    // A file that is no scenario writes nothing.
+    ensures unwritten { IsErr (scenario_of text.now) → Keeps (W.contents out.old) (W.contents out.new) }
+    ensures memory { IfErr result (λ e. e ≡ Memory → Keeps (W.contents out.old) (W.contents out.new)) }
+    ensures begun { IfErr result (λ e. e ≡ Output → BeginsCheck text.now (W.contents out.old) (W.contents out.new)) }
+{
+    let plan = read_scenario(alloc, text)?;
+    let line = check_line(alloc, &plan)?;
+    write_text(line.as_bytes(), out)
+}

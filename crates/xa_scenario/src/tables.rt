@@ -1,0 +1,53 @@
+//! What each table of a scenario file asks for.
+
+ghost use Rattle.std.specs.Prelude.{◌≡◌, map};
+ghost use Rattle.toml.specs.View.{table_view};
+ghost use Rattle.xa_scenario.specs.Tables.{entry_of, row_of};
+
+use crate::begins::begin_row;
+use crate::calls::{call_row, issue_row};
+use crate::crashes::{crash_row, restart_row};
+use crate::endings::{abandon_row, claim_row, decide_row, done_row, settle_row};
+use crate::entry::Entry;
+use crate::moves::{drain_row, hear_row, take_row};
+use crate::recoveries::{recover_row, resolve_open_row, resolve_row};
+use crate::scripts::{busy_row, heuristic_row, vote_row};
+use crate::words::{EntryKind, entry_named};
+use toml::Table;
+use xa_files::text_at;
+
+/// What a table of a kind asks for.
+fn row_of(kind: EntryKind, table: &Table, begun: &[&str]) -> Option<Entry>
+    ensures { result ≡ row_of kind (map (λ name. name.now) begun.now) (table_view table.now) }
+{
+    match kind {
+        EntryKind::Begin => begin_row(table, begun),
+        EntryKind::Issue => issue_row(table, begun),
+        EntryKind::Call => call_row(table, begun),
+        EntryKind::Take => take_row(table),
+        EntryKind::Hear => hear_row(table),
+        EntryKind::Drain => drain_row(table),
+        EntryKind::Vote => vote_row(table, begun),
+        EntryKind::Busy => busy_row(table, begun),
+        EntryKind::Heuristic => heuristic_row(table, begun),
+        EntryKind::Decide => decide_row(table, begun),
+        EntryKind::Recover => recover_row(table),
+        EntryKind::Resolve => resolve_row(table),
+        EntryKind::Done => done_row(table, begun),
+        EntryKind::Crash => crash_row(table),
+        EntryKind::Restart => restart_row(table),
+        EntryKind::Claim => claim_row(table, begun),
+        EntryKind::Settle => settle_row(table, begun),
+        EntryKind::Abandon => abandon_row(table, begun),
+        EntryKind::ResolveOpen => resolve_open_row(table),
+    }
+}
+
+/// What a table asks for, where `begun` are the names that were begun before it.
+#[tactic(auto, unfolding(crate::specs::Tables::entry_of))]
+pub fn entry_of(table: &Table, begun: &[&str]) -> Option<Entry>
+    ensures { result ≡ entry_of (map (λ name. name.now) begun.now) (table_view table.now) }
+{
+    let kind = entry_named(text_at(table, "do")?)?;
+    row_of(kind, table, begun)
+}
