@@ -20,7 +20,7 @@ use Rattle.xa_base.specs.Recover.{IsInDoubtList}
 use Rattle.xa_base.specs.Right.{RightOrigin}
 use Rattle.xa_base.specs.Scan.{Scan, Scan.Behind, Scan.NotOpen}
 use Rattle.xa_base.specs.Standing.{fate_of, is_in_doubt}
-use Rattle.xa_base.specs.Trace.{Name.Foreign, Origin, Trace.From, line}
+use Rattle.xa_base.specs.Trace.{Name.Foreign, Trace.From, line}
 use Rattle.xa_base.specs.Xid.{Xid}
 use Rattle.xa_base.specs.declared.state.Fate.TheVariants as Fates
 use Rattle.xa_base.specs.declared.state.Standing.{Standing}

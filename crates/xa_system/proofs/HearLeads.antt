@@ -1,6 +1,6 @@
 -- An answer that is heard, and steps in which the log failed.
 use Rattle.std.proofs.Common.{◌≡◌, ◌≢◌, ◌<◌, ◌⊎◌, inl, inr, ℕ, Bool, true, false, List, [], ◌∷◌, map, refl, sym, ap, ◌∙◌, subst, Vec, Global}
-use Rattle.std.specs.Prelude.{◌&&◌, Result, Ok, Err, Option, Some, None, IsSomeAnd, slice_get, nat_lt, IsSome}
+use Rattle.std.specs.Prelude.{◌&&◌, Result, Ok, Option, Some, None, IsSomeAnd, slice_get, nat_lt, IsSome}
 use Rattle.std.specs.Option.{option_map}
 use Rattle.std.proofs.lemmas.Bool.{true≢false}
 use Rattle.std.proofs.lemmas.List.{append-nil}
@@ -18,7 +18,7 @@ use Rattle.xa_base.specs.ReadBack.{StepHasXids}
 use Rattle.xa_base.specs.Right.{Right}
 use Rattle.xa_base.specs.Rules.{must_refuse}
 use Rattle.xa_base.specs.Steps.{happened, log_failed}
-use Rattle.xa_base.specs.Trace.{Answer, Call, Fault, Fault.InHear, Happening.Failed, Happening.Heard, Happening.Nothing, Line, Trace, Trace.Then, line, Name.Ours, Name}
+use Rattle.xa_base.specs.Trace.{Answer, Call, Fault, Fault.InHear, Happening.Failed, Happening.Heard, Line, Trace, Trace.Then, line, Name.Ours, Name}
 use Rattle.xa_base.specs.declared.code.How.{How}
 use Rattle.xa_base.specs.declared.answer.Answer as Given
 use Rattle.xa_base.specs.declared.answer.Answer.TheVariants as Answers

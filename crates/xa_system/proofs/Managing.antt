@@ -6,11 +6,11 @@ use Rattle.xa_base.specs.Demanded.{Demanded.As_value, IsValue, MayLackMemory}
 use Rattle.xa_base.specs.Facts as facts
 use Rattle.xa_base.specs.History.{reply_of, step_of}
 use Rattle.xa_base.specs.ReadBack.{StepHasXids}
-use Rattle.xa_base.specs.Right.{AllRight, Right}
+use Rattle.xa_base.specs.Right.{Right}
 use Rattle.xa_base.specs.Rules.{must_refuse}
 use Rattle.xa_base.specs.Steps as known
 use Rattle.xa_base.specs.Steps.{happened}
-use Rattle.xa_base.specs.Trace.{Fault, Happening, Happening.Begun, Happening.Claimed, Happening.Decided, Happening.Done, Happening.Nothing, Trace, Trace.Then, line}
+use Rattle.xa_base.specs.Trace.{Fault, Happening, Happening.Begun, Happening.Claimed, Happening.Decided, Happening.Done, Trace, Trace.Then, line}
 use Rattle.xa_base.specs.declared.branch.Gtrid.{Gtrid}
 use Rattle.xa_base.specs.declared.refusal.Refusal.{Refusal}
 use Rattle.xa_base.specs.declared.refusal.Refusal.TheVariants as Refusals
@@ -40,7 +40,6 @@ use Rattle.xa_system.proofs.LineLaws.{line_stays}
 use Rattle.xa_system.proofs.Standing.{Follows, IsEvent, IsNothingTo, goes_as, lacking_goes, rule_goes, site_stays}
 use Rattle.xa_tm.specs.Book.{Book, Doubt, after, asked_in, book_after, book_of}
 use Rattle.xa_tm.specs.Refusing.{managers_refusal, refusal_in}
-use Rattle.xa_base.specs.Distinct.{ApartRows}
 use Rattle.xa_tm.specs.Limits.{happenings}
 
 pub err_is : {A : Type 0} (m n : Refusal) → (let x : Result A Refusal = Err m in x) ≡ Err n → m ≡ n

@@ -7,7 +7,7 @@ use Rattle.std.specs.Map.{keys_of}
 use Rattle.std.specs.Ordering.{eq_by_cmp}
 use Rattle.std.proofs.lemmas.Cmp.{eq_by_cmp_equiv}
 use Rattle.xa_base.specs.Branch.{IsBranch, branch_cmp, branch_eq, xid_of_branch}
-use Rattle.xa_base.specs.Facts.{branches, fate, origin, started}
+use Rattle.xa_base.specs.Facts.{branches, fate, started}
 use Rattle.xa_base.specs.History.{history, read}
 use Rattle.xa_base.specs.Trace.{Happening.Issued, Trace, Trace.From, Trace.Then}
 use Rattle.xa_base.specs.Xid.{Xid, xid_cmp}
@@ -17,7 +17,7 @@ use Rattle.xa_base.specs.declared.state.Fate.{Fate}
 use Rattle.xa_base.proofs.BranchOrder.{branches_total, exact_branches}
 use Rattle.xa_base.proofs.BytesOrder.{branch_order}
 use Rattle.xa_log.specs.KeySet.{contains-from_list, contains-items, from_list, items}
-use Rattle.xa_system.specs.Parts.{Sees, Stands}
+use Rattle.xa_system.specs.Parts.{Sees}
 use Rattle.xa_system.specs.Report.{IsReported}
 use Rattle.xa_system.specs.Seen.{IsOwnIn, IsSound, Seen, seen, start_of, trace_in}
 use Rattle.xa_system.specs.Trace.{Each}

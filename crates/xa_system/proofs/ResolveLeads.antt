@@ -1,6 +1,6 @@
 -- Recoveries, and the restart of the manager.
-use Rattle.std.proofs.Common.{◌-◌, ◌≡◌, ◌≤◌, ◌<◌, inl, inr, ℕ, suc, Bool, true, false, List, [], ◌∷◌, ◌++◌, length, map, refl, sym, ap, ◌∙◌, subst, arith, append_assoc, length-append}
-use Rattle.std.specs.Prelude.{◌&&◌, ◌||◌, ◌+◌, not, if◌then◌else◌, Option, Some, None, is_some, nat_le, nat_lt, slice_get, Result, Err, OnOk}
+use Rattle.std.proofs.Common.{◌≡◌, ◌≤◌, ◌<◌, inl, inr, ℕ, suc, Bool, true, false, List, [], ◌∷◌, ◌++◌, length, map, refl, sym, ap, ◌∙◌, subst, arith, append_assoc, length-append}
+use Rattle.std.specs.Prelude.{◌&&◌, ◌||◌, ◌+◌, not, if◌then◌else◌, Option, Some, None, nat_le, nat_lt, slice_get, Result, OnOk}
 use Rattle.std.specs.Result.{result_err}
 use Rattle.std.proofs.lemmas.Bool.Decides.{nat_tests}
 use Rattle.std.proofs.lemmas.Bool.{lt-ltb}
@@ -9,20 +9,15 @@ use Rattle.std.specs.List.{list_any}
 use Rattle.std.proofs.lemmas.List.Folds.{list_any-append}
 use Rattle.xa_base.specs.StateTable.{on}
 use Rattle.xa_base.specs.Xid.{Xid}
-use Rattle.xa_base.specs.Branch.{branch_eq, gtrid_eq}
 use Rattle.xa_base.specs.Demanded.{Demanded, Demanded.As_value, Demanded.For_log}
 use Rattle.xa_base.specs.Facts as facts
 use Rattle.xa_base.specs.History.{reply_of, step_of}
 use Rattle.xa_base.specs.Opening.{closes, has_closed, has_opened, opens}
 use Rattle.xa_base.specs.Progress.{rm_up, waiting}
 use Rattle.xa_base.specs.ReadBack.{StepHasXids}
-use Rattle.xa_base.specs.Right.{AllRight, Right}
 use Rattle.xa_base.specs.Rules.{has_rm, must_refuse}
-use Rattle.xa_base.specs.Steps as known
 use Rattle.xa_base.specs.Steps.{happened}
-use Rattle.xa_base.specs.Trace.{Call, Fault.InRestart, Happening, Happening.Failed, Happening.Nothing, Happening.Resolved, Happening.ResolvedOpen, Happening.Restarted, Line, Name, Name.Foreign, Name.Ours, Recorded, Row, Trace, Trace.Then, line, line_eq}
-use Rattle.xa_base.specs.declared.branch.Branch.{Branch}
-use Rattle.xa_base.specs.declared.branch.Gtrid.{Gtrid}
+use Rattle.xa_base.specs.Trace.{Call, Fault.InRestart, Happening, Happening.Failed, Happening.Resolved, Happening.ResolvedOpen, Happening.Restarted, Line, Name, Name.Foreign, Name.Ours, Trace, Trace.Then, line, line_eq}
 use Rattle.xa_base.specs.declared.call.Call as Asking
 use Rattle.xa_base.specs.declared.refusal.Refusal.{Refusal}
 use Rattle.xa_base.specs.declared.refusal.Refusal.TheVariants as Refusals

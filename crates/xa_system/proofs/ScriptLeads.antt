@@ -1,6 +1,6 @@
 -- Scripts: votes, retries and heuristic ends.
 use Rattle.std.proofs.Common.{◌≡◌, ◌≢◌, ◌<◌, ◌≤◌, ◌⊎◌, inl, ℕ, Bool, true, false, [], refl, sym, ap, ◌∙◌, subst}
-use Rattle.std.specs.Prelude.{not, if◌then◌else◌, Option, Some, None, Result, Ok, Err, IfErr, OnOk, OnErr, slice_get}
+use Rattle.std.specs.Prelude.{not, if◌then◌else◌, Some, None, Result, Ok, Err, IfErr, OnOk, OnErr, slice_get}
 use Rattle.std.specs.Vec.{with_item}
 use Rattle.std.proofs.lemmas.Bool.{eqb-true, eq-eqb}
 use Rattle.xa_log.specs.Content.{last_number}
@@ -36,7 +36,6 @@ use Rattle.xa_rm.specs.ResourceManager.{changed_at, retrying, voting}
 use Rattle.xa_tm.specs.Kept.{book_in}
 use Rattle.xa_rm.specs.declared.fault.RmFault.{RmFault}
 use Rattle.xa_rm.specs.declared.fault.RmFault.TheVariants as Faults
-use Rattle.xa_tm.specs.Limits.{happenings}
 use Rattle.xa_system.specs.Parts.{GoesOn, HindersScript, OneMore, Sees, Stands, noted_as, script_why}
 use Rattle.xa_system.specs.Sites.{IsHeldAs, Looks, RmStands, scan_by}
 use Rattle.xa_system.specs.declared.parts.Parts.{Parts}
@@ -49,7 +48,7 @@ use Rattle.xa_system.proofs.Reading.{named_fits, named_is}
 use Rattle.xa_system.proofs.Standing.{Follows, IsEvent, goes_as, nothing_to, refused_goes, same_rm, site_same, site_stays, sites_with}
 use Rattle.xa_system.proofs.TakeLeads.{elsewhere}
 use Rattle.xa_system.proofs.Took.{other_apart, same_tests}
-use Rattle.xa_tm.specs.Book.{Book, book_of}
+use Rattle.xa_tm.specs.Book.{book_of}
 
 -- ** the change of one branch
 

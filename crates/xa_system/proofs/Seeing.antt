@@ -1,9 +1,8 @@
 -- What is seen of a sound system.
-use Rattle.std.proofs.Common.{◌≡◌, ◌≢◌, false, ◌<◌, ◌+◌, ℕ, List, [], ◌∷◌, ◌++◌, map, length, refl, sym, ap, subst, ◌∙◌, arith, Global, Vec, Option, Some, None}
+use Rattle.std.proofs.Common.{◌≡◌, ◌≢◌, false, ◌<◌, ◌+◌, ℕ, List, [], ◌∷◌, ◌++◌, map, refl, sym, ap, subst, ◌∙◌, arith, Global, Vec, Option, Some, None}
 use Rattle.std.specs.Prelude.{IsSomeAnd, vec_len, slice_get}
 use Rattle.std.specs.Vec.{vec_capacity}
 use Rattle.std.specs.Option.{option_map}
-use Rattle.std.proofs.lemmas.List.{length-map}
 use Rattle.std.proofs.lemmas.Option.{slice_get-map}
 use Rattle.xa_tm.proofs.Limits.{events_happen}
 use Rattle.xa_base.specs.Demanded.{Demanded, with_steps}

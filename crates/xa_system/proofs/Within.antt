@@ -5,8 +5,8 @@ use Rattle.std.proofs.lemmas.Bool.{and_parts, eqb-true, ltb-true}
 use Rattle.xa_base.specs.Branch.{branch_eq}
 use Rattle.xa_base.specs.Demanded.{AllDemanded, Demanded, Demanded.By_rule, Demanded.As_value, Demanded.For_memory, Demanded.For_log, Hears, Hears.Hears_none, Hears.Hears_one, IsValue, Restarts, Restarts.Restarts_as, Takes, Takes.Takes_none, Takes.Takes_one, with_steps}
 use Rattle.xa_base.specs.Facts.{origin, started}
-use Rattle.xa_base.specs.Rules.{has_rm, has_thread, is_there, must_refuse}
-use Rattle.xa_base.specs.Steps.{Reply, Step, comes_to, happened, if_ours, log_failed, refused}
+use Rattle.xa_base.specs.Rules.{is_there, must_refuse}
+use Rattle.xa_base.specs.Steps.{Reply, Step, happened, if_ours, log_failed, refused}
 use Rattle.xa_base.specs.Trace.{Happening, Happening.Heard, Happening.Issued, Happening.Took, Name.Foreign, Name.Ours, Origin, Trace, Trace.From, Trace.Then, line}
 use Rattle.xa_base.specs.declared.branch.Branch.{Branch}
 use Rattle.xa_base.specs.declared.call.Call.TheVariants as Calls

@@ -1,5 +1,5 @@
 -- What a decision log holds, as the history of its system knows it.
-use Rattle.std.specs.Prelude.{◌≡◌, ◌≤◌, ◌⊎◌, ◌+◌, ◌-◌, ◌^◌, min, ℕ, Bool, true, false, filter, if◌then◌else◌, List, length, Option, Some, None, IsSomeAnd}
+use Rattle.std.specs.Prelude.{◌≡◌, ◌≤◌, ◌⊎◌, ◌+◌, ◌-◌, ◌^◌, ℕ, Bool, true, false, filter, if◌then◌else◌, List, length, Option, Some, None, IsSomeAnd}
 use Rattle.std.specs.FinMap.{get, len}
 use Rattle.xa_base.specs.Branch.{branch_cmp}
 use Rattle.xa_base.specs.Demanded.{failed_restarts}

@@ -21,8 +21,3 @@ module _ {L : Type 0} (logs : DecisionLog.Ghosts L) where
   -- the log is to blame: no system can be made over it
   abbrev pub IsToBlame : L → Type 0
   IsToBlame handed = (left : L) × (HasFailed handed left ⊎ IsRaisedInVain handed left)
-
-  -- the log that is left has not failed, and holds what it held
-  pub record IsUnharmed (handed left : L) : Type 0 where
-    pub faults : logs.fault_count left ≡ logs.fault_count handed
-    pub content : logs.is_in_order handed → logs.is_honest left → logs.content left ≡ logs.content handed

@@ -1,5 +1,5 @@
 //! The system: its parts, with the events that left them where they stand.
-ghost use Rattle.std.specs.Prelude.{◌≡◌, ◌≢◌, Bool, ◌<◌, ◌≤◌, ◌+◌, ◌++◌, true, false, ◌∷◌, [], ◌⊎◌, ◌↔◌, All, Contains, length, map, Some, None, Err, IfOk, IsOk, IsSomeAnd, OnErr, OnOk, vec_len, ℕ, List};
+ghost use Rattle.std.specs.Prelude.{◌≡◌, ◌≢◌, Bool, ◌<◌, ◌≤◌, ◌+◌, ◌++◌, true, false, ◌∷◌, [], ◌⊎◌, ◌↔◌, All, Contains, length, map, Some, None, Err, IfErr, IfOk, IsOk, IsSomeAnd, OnErr, OnOk, vec_len, ℕ, List};
 ghost use Rattle.std.specs.List.Sorted.{IsStrictlySortedBy};
 ghost use Rattle.std.specs.Map.{keys_of};
 ghost use Rattle.xa_base.specs.ReadBack.{StepHasXids};
@@ -10,7 +10,7 @@ ghost use Rattle.xa_system.specs.Parts.{sees};
 ghost use Rattle.xa_system.specs.Logged.{IsStartedOver, MayHaveFailed};
 ghost use Rattle.xa_system.specs.Sites.{looks};
 ghost use Rattle.xa_system.specs.Seen.{AreClear, IsStarted, IsUnclear, new_site};
-ghost use Rattle.xa_system.specs.Unmade.{IsToBlame, IsUnharmed};
+ghost use Rattle.xa_system.specs.Unmade.{IsToBlame};
 ghost use Rattle.xa_system.specs.declared.system.NewFault.{NewFault};
 ghost use Rattle.xa_tm.specs.Kept.{log_in};
 ghost use Rattle.xa_tm.specs.Starting.{IsPast};
@@ -111,7 +111,7 @@ fn start_manager<L: DecisionLog + Drop>(
     ensures past { L.is_in_order log → IfOk result (λ manager. L.is_honest (log_in manager) →
         IsSomeAnd (L.content log) IsPast) }
     ensures log_fault { result ≡ Err NewFault.Log → IsToBlame L.DecisionLog log }
-    ensures memory_fault { result ≡ Err NewFault.Memory → (left : L) × IsUnharmed L.DecisionLog log left }
+    ensures fault { IfErr result (λ e. (e ≡ NewFault.Log) ⊎ (e ≡ NewFault.Memory)) }
 {
     match Manager::new(alloc, threads, rms, log) {
         Ok(manager) => Ok(manager),
@@ -157,18 +157,20 @@ impl<R: ResourceManager + Drop, L: DecisionLog + Drop> System<R, L> {
     /// log is asked.
     ///
     /// `Log` blames the log alone: it failed, or has a row or a record of a later incarnation than its own, and then its
-    /// incarnation was raised. `Memory` leaves the log as it was, without a failure.
+    /// incarnation was raised. `Memory` comes where a request was refused outside of the log.
     pub fn new(alloc: Global, threads: u32, rms: Vec<R>, log: L) -> Result<System<R, L>, NewFault>
         ensures limit { HasWrongSize threads (vec_len rms) → result ≡ Err NewFault.Limit }
         ensures not_clear { (HasWrongSize threads (vec_len rms) → ⊥) →
             IsUnclear (looks R.held_of R.scan_of R.in_doubt_of) rms.items → result ≡ Err NewFault.NotClear }
+        ensures only_limit { result ≡ Err NewFault.Limit → HasWrongSize threads (vec_len rms) }
+        ensures only_not_clear { result ≡ Err NewFault.NotClear →
+            IsUnclear (looks R.held_of R.scan_of R.in_doubt_of) rms.items }
         ensures handed { IfOk result (λ system. system.handed ≡ log) }
         ensures honest { IfOk result (λ system. L.is_honest system.log → L.is_honest log) }
         ensures faults { IfOk result (λ system. L.fault_count system.log ≡ L.fault_count log) }
         ensures past { L.is_in_order log → IfOk result (λ system. L.is_honest system.log →
             IsSomeAnd (L.content log) IsPast) }
         ensures log_fault { result ≡ Err NewFault.Log → IsToBlame L.DecisionLog log }
-        ensures memory_fault { result ≡ Err NewFault.Memory → (left : L) × IsUnharmed L.DecisionLog log left }
         ensures ok { IfOk result (λ system. (system.events ≡ []) × (system.start ≡ rms.items) × (system.rms ≡ rms.items)
             × (system.lines.threads ≡ threads) × HoldsItsTrace
             (sees R.held_of R.scan_of R.in_doubt_of L.DecisionLog) system) }

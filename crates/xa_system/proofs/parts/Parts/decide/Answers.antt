@@ -1,7 +1,6 @@
-use Rattle.std.proofs.Common.{refl, sym, ap, subst, ◌∙◌}
+use Rattle.std.proofs.Common.{refl, ap, ◌∙◌}
 use Rattle.std.specs.Prelude.{Result, Err}
 use Rattle.xa_tm.proofs.Recovering.{decision_asks}
-use Rattle.xa_base.specs.Demanded.{UsesLog}
 use Rattle.xa_base.specs.Trace.{Fault.InDecide}
 use Rattle.xa_base.specs.declared.refusal.Refusal.{Refusal}
 use Rattle.xa_base.specs.declared.step.Step.TheVariants as Steps

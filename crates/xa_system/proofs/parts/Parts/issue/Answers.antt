@@ -1,4 +1,4 @@
-use Rattle.std.proofs.Common.{refl, length, true, sym, ap, ◌∙◌}
+use Rattle.std.proofs.Common.{length, true, sym, ap, ◌∙◌}
 use Rattle.std.specs.Prelude.{nat_le}
 use Rattle.xa_base.specs.Call.{map_call}
 use Rattle.xa_base.specs.History.{name_of}

@@ -74,13 +74,3 @@ returns-clause-honest g c = c.in_ok-manager.ensures.log.honest
 
 pub returns-clause-faults : goal.returns-clause-faults
 returns-clause-faults g c = c.in_ok-manager.ensures.log.faults
-
-pub returns-in_default-clause-memory_fault : goal.returns-in_default-clause-memory_fault
-returns-in_default-clause-memory_fault g c = λ is. (c.args.log, record { faults = refl; content = λ order honest. refl })
-
-pub returns-in_default-new-clause-memory_fault : goal.returns-in_default-new-clause-memory_fault
-returns-in_default-new-clause-memory_fault g c = λ is. (c.args.log, record { faults = refl; content = λ order honest. refl })
-
-pub returns-in_default-sites_of-clause-memory_fault :
-    goal.returns-in_default-sites_of-clause-memory_fault
-returns-in_default-sites_of-clause-memory_fault g c = λ is. (c.args.log, record { faults = refl; content = λ order honest. refl })
