@@ -10,6 +10,8 @@ mod decisions;
 #[cfg(test)]
 mod faults;
 #[cfg(test)]
+mod growth;
+#[cfg(test)]
 mod logs;
 #[cfg(test)]
 mod play;
