@@ -5,9 +5,11 @@ use std::fs;
 use std::test::Fail;
 use xa_log::SqlLog;
 
-const FIRST: &str = "7:00000000000000010000000000000001:0000000000000000";
+/// A page with the branch at resource manager 0 alone, as it is printed.
+const PAGE: &str = "call xa_recover 1 7:00000000000000010000000000000001:0000000000000000";
 
-const SECOND: &str = "7:00000000000000010000000000000001:0000000000000001";
+/// The same of the branch at resource manager 1.
+const PAGE_TOO: &str = "call xa_recover 1 7:00000000000000010000000000000001:0000000000000001";
 
 const PREPARE: &str = "do = 'call', thread = 0, rm = 0, xa = 'xa_prepare', tx = 'a'";
 
@@ -60,7 +62,6 @@ fn presumed_rollback(rt: HostRuntime) -> Result<(), Fail> {
         "do = 'hear', thread = 0, rm = 0",
     ];
     let text = file(alloc, 1, 1, &[&READY, &entries])?;
-    let page = format!(in alloc; "call xa_recover 1 {FIRST}")?;
     prints(
         &rt,
         alloc,
@@ -72,7 +73,7 @@ fn presumed_rollback(rt: HostRuntime) -> Result<(), Fail> {
                 "crashed",
                 "restarted 2 0 0",
                 "call xa_open 0",
-                page.as_str(),
+                PAGE,
                 "resolved 1",
                 "took xa_rollback 0",
                 "heard xa_rollback 0",
@@ -117,8 +118,6 @@ fn acknowledged_later(rt: HostRuntime) -> Result<(), Fail> {
         2,
         &[&READY, &READY_TOO, &decided, &RECOVERIES, &ended],
     )?;
-    let page = format!(in alloc; "call xa_recover 1 {FIRST}")?;
-    let page_too = format!(in alloc; "call xa_recover 1 {SECOND}")?;
     prints(
         &rt,
         alloc,
@@ -133,12 +132,12 @@ fn acknowledged_later(rt: HostRuntime) -> Result<(), Fail> {
                 "crashed",
                 "restarted 2 1 0",
                 "call xa_open 0",
-                page.as_str(),
+                PAGE,
                 "nothing",
                 "nothing",
                 "resolved 1",
                 "call xa_open 0",
-                page_too.as_str(),
+                PAGE_TOO,
                 "nothing",
                 "nothing",
                 "resolved 1",
@@ -182,7 +181,6 @@ fn resource_manager_crash(rt: HostRuntime) -> Result<(), Fail> {
         "do = 'done', tx = 'a'",
     ];
     let text = file(alloc, 1, 2, &[&READY, &READY_TOO, &entries])?;
-    let page = format!(in alloc; "call xa_recover 1 {SECOND}")?;
     prints(
         &rt,
         alloc,
@@ -199,7 +197,7 @@ fn resource_manager_crash(rt: HostRuntime) -> Result<(), Fail> {
                 "refused 11 Busy",
                 "restarted",
                 "call xa_open 0",
-                page.as_str(),
+                PAGE_TOO,
                 "resolved 1",
                 "took xa_commit 0",
                 "heard xa_commit 0",

@@ -153,13 +153,19 @@ fn refused_begin(rt: HostRuntime) -> Result<(), Fail> {
     )
 }
 
+/// A part of the calls that fill a trace.
+const OPENS: [&str; 1700] = [OPEN; 1700];
+
+/// A part of their replies.
+const OPENED: [&str; 1111] = ["call xa_open 0"; 1111];
+
 /// 3,400 calls fill the trace, and what comes past it has no line.
 #[test]
 fn full_trace(rt: HostRuntime) -> Result<(), Fail> {
     let alloc = rt.alloc();
-    let text = file(alloc, 1, 1, &[&[OPEN; 3400]])?;
+    let text = file(alloc, 1, 1, &[&OPENS, &OPENS])?;
     let printed = run_of(alloc, text.as_str(), true)?;
-    let expected = lines(alloc, &[&["call xa_open 0"; 3333], &["issued"]], &[])?;
+    let expected = lines(alloc, &[&OPENED, &OPENED, &OPENED, &["issued"]], &[])?;
     assert_eq!(rt; printed.as_str(), expected.as_str());
     assert_eq!(rt; printed.lines().count(), 10_000);
     Ok(())
