@@ -10,7 +10,7 @@ use Rattle.std.proofs.Math.Arith.{mod-mul}
 use Rattle.std.proofs.lemmas.Nat.{mul-le, mod_below}
 use Rattle.xa_base.specs.Branch.{IsBranch, xid_of_branch, branch_cmp}
 use Rattle.xa_base.specs.Xid.{xid_cmp}
-use Rattle.xa_base.specs.Trace.{Branch}
+use Rattle.xa_base.specs.declared.branch.Branch.{Branch}
 
 below : (p h l i m : ℕ) → h < i → l < p → h * p + l < i * p + m
 below p h l i m q f = let k : (h + 1) * p ≤ i * p = mul-le (h + 1) p i p (omega arith) (omega arith) in omega (arith, k)

@@ -11,7 +11,11 @@ use Rattle.xa_base.specs.declared.code.How.TheVariants.{Mix}
 use Rattle.xa_base.specs.declared.state.Standing.{Standing}
 use Rattle.xa_base.specs.declared.state.Standing.TheVariants.{Unstarted, Active, Idle, Prepared, RollbackOnly, Completed, Committed, RolledBack, Lost}
 use Rattle.xa_base.specs.declared.vote.Vote.TheVariants as Votes
-use Rattle.xa_base.proofs.Worked.{own}
+use Rattle.xa_base.specs.declared.branch.Branch.{Branch}
+
+-- a branch of one transaction, by its resource manager
+abbrev own : (rm : ℕ) → Branch
+own rm = record { gtrid = record { incarnation = 1; sequence = 1 }; thread = 0; rm = rm }
 
 -- a branch that would vote yes
 abbrev held : Standing → (starter retries : ℕ) → HeldBranch
@@ -46,10 +50,10 @@ starters = refl
 -- ** the branch that a call names
 
 named : Xid
-named = xid_of_branch (own 1 0 0)
+named = xid_of_branch (own 0)
 
 other : Xid
-other = xid_of_branch (own 1 0 1)
+other = xid_of_branch (own 1)
 
 -- a call changes the branch that it names, and no other
 one_changed : held_after 1 (Calls.Start named false) named new_branch ∷ held_after 1 (Calls.Start named false) other new_branch ∷ held_after 1 Calls.OpenRm named new_branch ∷ []

@@ -4,10 +4,10 @@ use Rattle.std.proofs.lemmas.Option.{none-some, same_Some}
 use Rattle.std.specs.List.{list_any}
 use Rattle.std.specs.Option.{option_map}
 use Rattle.xa_base.specs.Call.{map_call}
-use Rattle.xa_base.specs.History.{name_of}
+use Rattle.xa_model.specs.Replies.History.{name_of}
 use Rattle.xa_base.specs.Opening.{opens, closes, has_opened, has_closed}
-use Rattle.xa_base.specs.Steps.{ours_of}
-use Rattle.xa_base.specs.Trace.{Call as KnownCall}
+use Rattle.xa_model.specs.Replies.Steps.{ours_of}
+use Rattle.xa_model.specs.Trace.{Call as KnownCall}
 use Rattle.xa_base.specs.Xid.{Xid}
 use Rattle.xa_base.specs.declared.branch.Branch.{Branch}
 use Rattle.xa_base.specs.declared.call.Call.{Call}

@@ -4,9 +4,9 @@ use Rattle.std.proofs.lemmas.List.{map-append, length-map}
 use Rattle.std.proofs.lemmas.Option.{slice_get-map}
 use Rattle.std.specs.List.{slice_get}
 use Rattle.std.specs.Option.{option_map}
-use Rattle.xa_base.specs.Facts as facts
-use Rattle.xa_base.specs.Progress.{unheard, waiting}
-use Rattle.xa_base.specs.Trace.{Happening, Line, Trace, Trace.Then}
+use Rattle.xa_model.specs.Facts as facts
+use Rattle.xa_model.specs.Facts.{unheard, waiting}
+use Rattle.xa_model.specs.Trace.{Happening, Line, Trace, Trace.Then}
 use Rattle.xa_base.specs.Xid.{Xid}
 use Rattle.xa_base.specs.declared.answer.Answer.{Answer}
 use Rattle.xa_base.specs.declared.call.Call.{Call}

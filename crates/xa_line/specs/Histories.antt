@@ -3,10 +3,10 @@ use Rattle.std.specs.Prelude.{◌≡◌, List, map, Option, Some}
 use Rattle.std.specs.Option.{option_map}
 use Rattle.xa_base.specs.Answer.{map_answer}
 use Rattle.xa_base.specs.Call.{map_call}
-use Rattle.xa_base.specs.Facts as facts
-use Rattle.xa_base.specs.History.{name_of}
-use Rattle.xa_base.specs.Steps.{accepted}
-use Rattle.xa_base.specs.Trace.{Line, Trace, Answer as KnownAnswer, Call as KnownCall}
+use Rattle.xa_model.specs.Facts as facts
+use Rattle.xa_model.specs.Replies.History.{name_of}
+use Rattle.xa_model.specs.Replies.Steps.{accepted}
+use Rattle.xa_model.specs.Trace.{Line, Trace, Answer as KnownAnswer, Call as KnownCall}
 use Rattle.xa_base.specs.Xid.{Xid}
 use Rattle.xa_base.specs.declared.answer.Answer.{Answer}
 use Rattle.xa_base.specs.declared.call.Call.{Call}

@@ -1,12 +1,12 @@
 //! Lines, and those of histories.
 ghost use Rattle.std.specs.Prelude.{◌≡◌, ◌++◌, ℕ, length, List, map, slice_get, Some, true, false};
 ghost use Rattle.std.specs.Option.{option_map};
-ghost use Rattle.xa_base.specs.Facts as facts;
-ghost use Rattle.xa_base.specs.History.{step_of};
+ghost use Rattle.xa_model.specs.Facts as facts;
+ghost use Rattle.xa_model.specs.Replies.History.{step_of};
 ghost use Rattle.xa_base.specs.Opening.{comes_unopened, has_closed};
-ghost use Rattle.xa_base.specs.Progress.{unheard, waiting};
-ghost use Rattle.xa_base.specs.Rules as rules;
-ghost use Rattle.xa_base.specs.Trace.{Happening, Line, Origin, Trace, Trace.From, Trace.Then, line};
+ghost use Rattle.xa_model.specs.Facts.{unheard, waiting};
+ghost use Rattle.xa_model.specs.Replies.Rules as rules;
+ghost use Rattle.xa_model.specs.Trace.{Happening, Line, Origin, Trace, Trace.From, Trace.Then, line};
 ghost use Rattle.xa_base.specs.Xid.{Xid};
 ghost use Rattle.xa_base.specs.declared.answer.Answer.{Answer};
 ghost use Rattle.xa_base.specs.declared.call.Call.{Call};

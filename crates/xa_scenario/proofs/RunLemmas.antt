@@ -1,8 +1,8 @@
 -- Why a run ended.
 use Rattle.std.proofs.Common.{◌≡◌, Bool, List, [], ℕ, Option, Result, Ok, Err, IfOk, IfErr, OnErr, String, Global, string_bytes, ap, ◌⊎◌, inl, inr, refl, sym, subst, ◌∙◌}
-use Rattle.xa_base.specs.Headline.{Headline}
-use Rattle.xa_base.specs.History.{AreDemanded}
-use Rattle.xa_base.specs.Trace.{Origin}
+use Rattle.xa_model.specs.Promises.Headline.{Headline}
+use Rattle.xa_model.specs.Replies.History.{AreDemanded}
+use Rattle.xa_model.specs.Trace.{Origin}
 use Rattle.xa_base.specs.Xid.{Xid}
 use Rattle.xa_base.specs.declared.reply.Event.{Event}
 use Rattle.xa_base.specs.declared.state.Fate.{Fate}

@@ -4,10 +4,10 @@ use Rattle.std.specs.Fmt.{decimal}
 use Rattle.std.specs.Io.KnownBytes.{Appends}
 use Rattle.std.specs.List.Sorted.{IsStrictlySortedBy}
 use Rattle.std.specs.Map.{keys_of}
-use Rattle.xa_base.specs.Headline.{Headline}
+use Rattle.xa_model.specs.Promises.Headline.{Headline}
 use Rattle.xa_base.specs.HeldBranch.{new_branch}
-use Rattle.xa_base.specs.History.{AreDemanded, history}
-use Rattle.xa_base.specs.Trace.{Origin}
+use Rattle.xa_model.specs.Replies.History.{AreDemanded, history}
+use Rattle.xa_model.specs.Trace.{Origin}
 use Rattle.xa_base.specs.Xid.{Xid, xid_cmp}
 use Rattle.xa_base.specs.declared.reply.Event.{Event}
 use Rattle.xa_base.specs.declared.state.Fate.{Fate}

@@ -1,8 +1,8 @@
 -- A sound system started rightly.
 use Rattle.std.proofs.Common.{subst}
-use Rattle.xa_base.specs.History.{history}
-use Rattle.xa_base.specs.Right.{RightOrigin}
-use Rattle.xa_base.proofs.RecoveredStart.{origin_right}
+use Rattle.xa_model.specs.Replies.History.{history}
+use Rattle.xa_model.specs.Protocol.{RightOrigin}
+use Rattle.xa_model.proofs.RecoveryLemmas.RecoveredStart.{origin_right}
 use Rattle.xa_system.specs.Parts.{Sees}
 use Rattle.xa_system.specs.Seen.{IsSound, start_of}
 use Rattle.xa_system.specs.declared.system.System.TheInside.{Inside}

@@ -9,12 +9,12 @@ use Rattle.xa_tm.specs.declared.manager.Manager.{Manager}
 use Rattle.xa_tm.specs.Kept.{book_in}
 use Rattle.xa_system.proofs.Quiet.{rm_stays}
 use Rattle.xa_base.specs.Xid.{Xid}
-use Rattle.xa_base.specs.Demanded.{Demanded.As_value}
-use Rattle.xa_base.specs.Facts as facts
-use Rattle.xa_base.specs.History.{reply_of}
-use Rattle.xa_base.specs.Progress.{rm_up}
-use Rattle.xa_base.specs.Rules.{has_rm, must_refuse}
-use Rattle.xa_base.specs.Trace.{Happening, Happening.Crashed, Happening.RmRestarted, Trace, Trace.Then, line, line_eq}
+use Rattle.xa_model.specs.Replies.Demanded.{Demanded.As_value}
+use Rattle.xa_model.specs.Facts as facts
+use Rattle.xa_model.specs.Replies.History.{reply_of}
+use Rattle.xa_model.specs.Facts.{rm_up}
+use Rattle.xa_model.specs.Replies.Rules.{has_rm, must_refuse}
+use Rattle.xa_model.specs.Trace.{Happening, Happening.Crashed, Happening.RmRestarted, Trace, Trace.Then, line, line_eq}
 use Rattle.xa_base.specs.declared.branch.Branch.{Branch}
 use Rattle.xa_base.specs.declared.refusal.Refusal.{Refusal}
 use Rattle.xa_base.specs.declared.refusal.Refusal.TheVariants as Refusals
@@ -23,7 +23,7 @@ use Rattle.xa_base.specs.declared.reply.Reply.TheVariants as Replies
 use Rattle.xa_base.specs.declared.step.Part.TheVariants as KnownParts
 use Rattle.xa_base.specs.declared.step.Side.TheVariants as Sides
 use Rattle.xa_base.specs.declared.step.Step.TheVariants as Steps
-use Rattle.xa_base.proofs.Keys.{line_eq-refl}
+use Rattle.xa_model.proofs.Keys.{line_eq-refl}
 use Rattle.xa_line.specs.Grid.{Grid, HasLine, RenewsRm, line_at, new_grid, with_line}
 use Rattle.xa_line.specs.Traffic.{Traffic, no_traffic}
 use Rattle.xa_line.proofs.GridLaws.{line_at-new_grid, whole-new_grid, whole-with_line}

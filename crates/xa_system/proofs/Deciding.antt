@@ -1,30 +1,29 @@
 -- Steps of the manager in which its log may fail.
 use Rattle.std.proofs.Common.{◌≡◌, ◌≢◌, inl, inr, Bool, true, false, refl, sym, ap, ◌∙◌, subst, Vec, Global}
 use Rattle.std.specs.Prelude.{not, ◌&&◌, Option, Some, None, Result, Err}
-use Rattle.xa_tm.specs.Kept.{AddsRow}
+use Rattle.xa_tm.specs.Kept.{AddsRow, book_in, FailsBy}
 use Rattle.xa_base.specs.declared.step.Step.TheVariants as Steps
 use Rattle.xa_base.specs.declared.step.Outcome.TheVariants as Outcomes
 use Rattle.xa_base.specs.declared.step.Outcome.{Outcome}
 use Rattle.xa_base.specs.declared.branch.Gtrid.{Gtrid}
 use Rattle.xa_tm.specs.Laws.{IsLookedAt}
 use Rattle.xa_base.specs.Xid.{Xid}
-use Rattle.xa_base.specs.Demanded.{MayLackMemory, UsesLog}
-use Rattle.xa_base.specs.Facts as facts
-use Rattle.xa_base.specs.History.{step_of}
-use Rattle.xa_base.specs.ReadBack.{StepHasXids}
-use Rattle.xa_base.specs.Rules.{asks_manager, must_refuse}
-use Rattle.xa_base.specs.Steps as known
-use Rattle.xa_base.specs.Steps.{log_failed}
-use Rattle.xa_base.specs.Trace.{Fault, Happening.Failed, Trace}
+use Rattle.xa_model.specs.Replies.Demanded.{MayLackMemory, UsesLog}
+use Rattle.xa_model.specs.Facts as facts
+use Rattle.xa_model.specs.Replies.History.{step_of}
+use Rattle.xa_model.specs.Replies.ReadBack.{StepHasXids}
+use Rattle.xa_model.specs.Replies.Rules.{asks_manager, must_refuse}
+use Rattle.xa_model.specs.Replies.Steps as known
+use Rattle.xa_model.specs.Replies.Steps.{log_failed}
+use Rattle.xa_model.specs.Trace.{Fault, Happening.Failed, Trace}
 use Rattle.xa_base.specs.declared.refusal.Refusal.{Refusal}
 use Rattle.xa_base.specs.declared.refusal.Refusal.TheVariants as Refusals
 use Rattle.xa_base.specs.declared.reply.Reply.{Reply}
 use Rattle.xa_base.specs.declared.reply.Reply.TheVariants as Replies
 use Rattle.xa_base.specs.declared.step.Step.{Step}
-use Rattle.xa_base.proofs.Replies.{IsForced, forced, none_applies}
+use Rattle.xa_model.proofs.Replies.Replies.{IsForced, forced, none_applies}
 use Rattle.xa_line.specs.Grid.{Grid, new_grid}
 use Rattle.xa_tm.specs.declared.manager.Manager.{Manager}
-use Rattle.xa_tm.specs.Kept.{book_in}
 use Rattle.xa_log.specs.Content.{Content}
 use Rattle.xa_system.specs.Logged.{change_in}
 use Rattle.xa_system.specs.Parts.{GoesOn, OneMore, Sees}
@@ -37,7 +36,6 @@ use Rattle.xa_system.proofs.Managing.{err_is, judged, not_fault}
 use Rattle.xa_system.proofs.Standing.{lacking_goes, rule_goes}
 use Rattle.xa_tm.specs.Book.{Book, Doubt, asked_in, book_after, book_of}
 use Rattle.xa_tm.specs.Refusing.{managers_refusal, refusal_in}
-use Rattle.xa_tm.specs.Kept.{FailsBy}
 
 module _ {R L : Type 0} (see : Sees R L) where
   pub manager_undone : {A : Type 0} (step : Step Xid) (f : Fault) (asked : Doubt) (change : Content → Content) (parts : Parts R L) (n : Refusal) (sites : Vec (Site R) Global) (lines : Grid) (manager : Manager L) (reply : Reply Xid) → StepHasXids step → IsLookedAt (step_of step)

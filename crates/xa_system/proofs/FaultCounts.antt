@@ -4,12 +4,12 @@ use Rattle.std.specs.Prelude.{if◌then◌else◌}
 use Rattle.std.proofs.lemmas.Bool.{true≢false}
 use Rattle.std.proofs.lemmas.List.{length-append}
 use Rattle.std.proofs.lemmas.List.Elements.{filter-append}
-use Rattle.xa_base.specs.Demanded.{Demanded, Demanded.As_value, Demanded.By_rule, Demanded.For_log, Demanded.For_memory, Hears.Hears_none, Hears.Hears_one, IsValue, Restarts.Restarts_as, Takes.Takes_none, Takes.Takes_one, UsesLog}
-use Rattle.xa_base.specs.History.{reply_of}
-use Rattle.xa_base.specs.Steps as known
-use Rattle.xa_base.specs.Steps.{happened, log_failed}
-use Rattle.xa_base.specs.Facts.{up}
-use Rattle.xa_base.specs.Trace.{Happening, Happening.Failed, Trace, Trace.Then}
+use Rattle.xa_model.specs.Replies.Demanded.{Demanded, Demanded.As_value, Demanded.By_rule, Demanded.For_log, Demanded.For_memory, Hears.Hears_none, Hears.Hears_one, IsValue, Restarts.Restarts_as, Takes.Takes_none, Takes.Takes_one, UsesLog}
+use Rattle.xa_model.specs.Replies.History.{reply_of}
+use Rattle.xa_model.specs.Replies.Steps as known
+use Rattle.xa_model.specs.Replies.Steps.{happened, log_failed}
+use Rattle.xa_model.specs.Facts.{up}
+use Rattle.xa_model.specs.Trace.{Happening, Happening.Failed, Trace, Trace.Then}
 use Rattle.xa_base.specs.Xid.{Xid}
 use Rattle.xa_base.specs.declared.refusal.Refusal.TheVariants as Refusals
 use Rattle.xa_base.specs.declared.reply.Event.{Event}
@@ -18,7 +18,7 @@ use Rattle.xa_base.specs.declared.reply.Reply.TheVariants as Replies
 use Rattle.xa_base.specs.declared.step.Outcome.TheVariants as Outcomes
 use Rattle.xa_base.specs.declared.step.Side.TheVariants as Sides
 use Rattle.xa_base.specs.declared.step.Step.TheVariants as Steps
-use Rattle.xa_base.proofs.Replies.{IsForced, forced}
+use Rattle.xa_model.proofs.Replies.Replies.{IsForced, forced}
 use Rattle.xa_log.specs.Contract.{one_more_fault}
 use Rattle.xa_system.specs.Logged.{count_after, greatest_count, log_faults, says_log_fault}
 

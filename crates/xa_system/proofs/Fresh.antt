@@ -8,19 +8,19 @@ use Rattle.std.proofs.lemmas.Bool.{cases_Bool, cases_lt, true≢false}
 use Rattle.std.proofs.lemmas.List.{length-map}
 use Rattle.std.proofs.lemmas.Option.{slice_get-map, slice_get_cases, slice_get_within}
 use Rattle.xa_tm.proofs.Limits.{old_start_is_right}
-use Rattle.xa_tm.specs.Starting.{IsOld}
+use Rattle.xa_tm.specs.Starting.{IsOld, started}
 use Rattle.xa_tm.specs.Limits.{HasRoomForRun}
 use Rattle.xa_tm.specs.Book.{book_of}
 use Rattle.xa_tm.specs.Held as books
 use Rattle.xa_base.specs.Branch.{branch_of_xid, own_format, xid_of_branch}
 use Rattle.xa_base.specs.HeldBranch.{HeldBranch, new_branch}
-use Rattle.xa_base.specs.History.{history}
-use Rattle.xa_base.specs.InDoubt.{xid_of_name}
+use Rattle.xa_model.specs.Replies.History.{history}
+use Rattle.xa_model.specs.Facts.InDoubt.{xid_of_name}
 use Rattle.xa_base.specs.Recover.{IsInDoubtList}
-use Rattle.xa_base.specs.Right.{RightOrigin}
+use Rattle.xa_model.specs.Protocol.{RightOrigin}
 use Rattle.xa_base.specs.Scan.{Scan, Scan.Behind, Scan.NotOpen}
 use Rattle.xa_base.specs.Standing.{fate_of, is_in_doubt}
-use Rattle.xa_base.specs.Trace.{Name.Foreign, Trace.From, line}
+use Rattle.xa_model.specs.Trace.{Name.Foreign, Trace.From, line}
 use Rattle.xa_base.specs.Xid.{Xid}
 use Rattle.xa_base.specs.declared.state.Fate.TheVariants as Fates
 use Rattle.xa_base.specs.declared.state.Standing.{Standing}
@@ -29,7 +29,6 @@ use Rattle.xa_line.specs.Grid.{Grid, line_at, new_grid}
 use Rattle.xa_line.proofs.GridLaws.{line_at-new_grid, whole-new_grid}
 use Rattle.xa_tm.specs.declared.manager.Manager.{Manager}
 use Rattle.xa_tm.specs.Kept.{book_in, log_in}
-use Rattle.xa_tm.specs.Starting.{started}
 use Rattle.xa_tm.specs.Tied.{IsTied}
 use Rattle.xa_system.specs.Logged.{IsStartedOver, StartsOver}
 use Rattle.xa_system.specs.declared.system.System.TheInside.{Inside}

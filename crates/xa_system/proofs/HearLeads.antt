@@ -7,18 +7,17 @@ use Rattle.std.proofs.lemmas.List.{append-nil}
 use Rattle.xa_base.specs.declared.code.Code.{Code}
 use Rattle.xa_base.specs.StateTable.{asks_of, Kind, Kind.Start, Kind.Join, Kind.End, Kind.Prepare, Kind.Commit, Kind.OnePhase, Kind.Rollback, Kind.Forget}
 use Rattle.xa_base.specs.Xid.{Xid}
-use Rattle.xa_base.specs.Demanded.{Demanded, Demanded.As_value, Demanded.For_log, Hears.Hears_none, Hears.Hears_one, UsesLog}
-use Rattle.xa_base.specs.Facts as facts
+use Rattle.xa_model.specs.Replies.Demanded.{Demanded, Demanded.As_value, Demanded.For_log, Hears.Hears_none, Hears.Hears_one, UsesLog}
+use Rattle.xa_model.specs.Facts as facts
 use Rattle.xa_base.specs.Call.{map_call}
 use Rattle.xa_base.specs.Answer.{map_answer}
-use Rattle.xa_base.specs.Steps.{accepted}
-use Rattle.xa_base.specs.History.{reply_of, step_of, name_of}
-use Rattle.xa_base.specs.Progress.{rm_up}
-use Rattle.xa_base.specs.ReadBack.{StepHasXids}
-use Rattle.xa_base.specs.Right.{Right}
-use Rattle.xa_base.specs.Rules.{must_refuse}
-use Rattle.xa_base.specs.Steps.{happened, log_failed}
-use Rattle.xa_base.specs.Trace.{Answer, Call, Fault, Fault.InHear, Happening.Failed, Happening.Heard, Line, Trace, Trace.Then, line, Name.Ours, Name}
+use Rattle.xa_model.specs.Replies.Steps.{accepted, happened, log_failed, if_ours}
+use Rattle.xa_model.specs.Replies.History.{reply_of, step_of, name_of}
+use Rattle.xa_model.specs.Facts.{rm_up}
+use Rattle.xa_model.specs.Replies.ReadBack.{StepHasXids}
+use Rattle.xa_model.specs.Protocol.{Right}
+use Rattle.xa_model.specs.Replies.Rules.{must_refuse}
+use Rattle.xa_model.specs.Trace.{Answer, Call, Fault, Fault.InHear, Happening.Failed, Happening.Heard, Line, Trace, Trace.Then, line, Name.Ours, Name}
 use Rattle.xa_base.specs.declared.code.How.{How}
 use Rattle.xa_base.specs.declared.answer.Answer as Given
 use Rattle.xa_base.specs.declared.answer.Answer.TheVariants as Answers
@@ -30,15 +29,15 @@ use Rattle.xa_base.specs.declared.reply.Reply.{Reply}
 use Rattle.xa_base.specs.declared.reply.Reply.TheVariants as Replies
 use Rattle.xa_base.specs.declared.step.Step.{Step}
 use Rattle.xa_base.specs.declared.step.Step.TheVariants as Steps
-use Rattle.xa_base.proofs.Keys.{line_eq-refl}
-use Rattle.xa_base.proofs.Replies.{demanded_right}
+use Rattle.xa_model.proofs.Keys.{line_eq-refl}
+use Rattle.xa_model.proofs.Replies.Replies.{demanded_right, accepted_ours}
 use Rattle.xa_line.specs.Grid.{Grid, HasLine, line_at, new_grid, with_line}
 use Rattle.xa_line.specs.Traffic.{Flow, PassesOn, Traffic, all_of, answered, issued}
 use Rattle.xa_line.proofs.FlowLaws.{all_of-PassesOn}
 use Rattle.xa_line.proofs.GridLaws.{line_at-new_grid, whole-new_grid, whole-with_line}
 use Rattle.xa_tm.specs.declared.manager.Manager.{Manager}
 use Rattle.xa_tm.specs.Asked.{FitsRecord, IsAnswerTo, MakesRecord}
-use Rattle.xa_tm.specs.Kept.{book_in, log_in}
+use Rattle.xa_tm.specs.Kept.{book_in, log_in, FailsBy}
 use Rattle.xa_tm.specs.Limits.{happenings}
 use Rattle.xa_tm.specs.News.{Asked, heuristic_end, news_by, news_for}
 use Rattle.xa_tm.proofs.Given.{answer_is_code, record_fits}
@@ -51,8 +50,6 @@ use Rattle.xa_system.proofs.Broken.{BreaksAll}
 use Rattle.xa_system.proofs.CrashLeads.{all_stand, line_why}
 use Rattle.xa_line.proofs.TrafficLaws.{line_goes_on, line_renewed}
 use Rattle.xa_system.proofs.LineLaws.{line_stays, no_waiting_answer, waiting_answer}
-use Rattle.xa_base.proofs.Replies.{accepted_ours}
-use Rattle.xa_base.specs.Steps.{if_ours}
 use Rattle.xa_system.proofs.OnBranch.{ours_back}
 use Rattle.xa_system.proofs.Lists.{some_is}
 use Rattle.xa_system.proofs.LogLaws.{made_is}
@@ -62,7 +59,6 @@ use Rattle.xa_system.proofs.Logging.{LogCalled, LogUndone, log_done, log_failing
 use Rattle.xa_system.specs.Logged.{LogFollows, changed}
 use Rattle.xa_system.proofs.Managing.{book_then, within}
 use Rattle.xa_system.proofs.Standing.{Follows, IsEvent, goes_as, has_line, lacking_goes, lines_with, nothing_follows, site_stays, there_is}
-use Rattle.xa_tm.specs.Kept.{FailsBy}
 use Rattle.xa_tm.specs.Book.{Book, after, asked_in, book_after, doubt_of}
 
 failed_breaks : (tr : Trace) (f : Fault) → facts.up tr ≡ true → (r : ℕ) → BreaksAll tr (Failed f) r

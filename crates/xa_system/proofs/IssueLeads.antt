@@ -6,31 +6,30 @@ use Rattle.std.specs.Result.{result_err}
 use Rattle.std.proofs.lemmas.Bool.Decides.{nat_tests}
 use Rattle.std.proofs.lemmas.List.{append-nil}
 use Rattle.xa_base.specs.declared.call.Call.TheVariants as Calls
-use Rattle.xa_base.specs.Demanded.{Demanded, Demanded.As_value}
-use Rattle.xa_base.specs.Facts as facts
+use Rattle.xa_model.specs.Replies.Demanded.{Demanded, Demanded.As_value}
+use Rattle.xa_model.specs.Facts as facts
 use Rattle.xa_base.specs.Call.{map_call}
-use Rattle.xa_base.specs.Steps.{accepted}
-use Rattle.xa_base.specs.History.{reply_of, name_of}
-use Rattle.xa_base.specs.Progress.{rm_up, waiting}
-use Rattle.xa_base.specs.ReadBack.{CallHasXid}
-use Rattle.xa_base.specs.Right.{Right}
+use Rattle.xa_model.specs.Replies.Steps.{accepted, happened}
+use Rattle.xa_model.specs.Replies.History.{reply_of, name_of}
+use Rattle.xa_model.specs.Facts.{rm_up, waiting}
+use Rattle.xa_model.specs.Replies.ReadBack.{CallHasXid}
+use Rattle.xa_model.specs.Protocol.{Right}
 use Rattle.xa_base.specs.Xid.{Xid}
 use Rattle.std.proofs.lemmas.Bool.{true≢false}
 use Rattle.xa_tm.specs.declared.manager.Manager.{Manager}
 use Rattle.xa_tm.specs.Kept.{book_in, log_in}
 use Rattle.xa_tm.specs.Tied.{IsTied}
 use Rattle.xa_system.proofs.Lists.{some_is}
-use Rattle.xa_base.specs.Rules.{applies, first_of, has_rm, has_thread, must_refuse, not_open, unknown_to}
-use Rattle.xa_base.specs.Steps.{happened}
-use Rattle.xa_base.specs.Trace.{Call, Happening.Issued, Name.Foreign, Name.Ours, Trace, Trace.Then, line, Name}
+use Rattle.xa_model.specs.Replies.Rules.{applies, first_of, has_rm, has_thread, must_refuse, not_open, unknown_to}
+use Rattle.xa_model.specs.Trace.{Call, Happening.Issued, Name.Foreign, Name.Ours, Trace, Trace.Then, line, Name}
 use Rattle.xa_base.specs.declared.call.Call as Asking
 use Rattle.xa_base.specs.declared.refusal.Refusal.{Refusal}
 use Rattle.xa_base.specs.declared.refusal.Refusal.TheVariants as Refusals
 use Rattle.xa_base.specs.declared.reply.Reply.{Reply}
 use Rattle.xa_base.specs.declared.reply.Reply.TheVariants as Replies
 use Rattle.xa_base.specs.declared.step.Step.TheVariants as Steps
-use Rattle.xa_base.proofs.Keys.{line_eq-refl}
-use Rattle.xa_base.proofs.Replies.{demanded_right, peel}
+use Rattle.xa_model.proofs.Keys.{line_eq-refl}
+use Rattle.xa_model.proofs.Replies.Replies.{demanded_right, peel}
 use Rattle.xa_line.specs.Grid.{HasLine, line_at, with_line}
 use Rattle.xa_line.specs.Traffic.{Traffic, barred, heard, answered, issued, refusal, taken, with_one_more}
 use Rattle.xa_line.proofs.GridLaws.{whole-with_line}

@@ -2,9 +2,9 @@
 use Rattle.std.proofs.Common.{◌≡◌, ◌⊎◌, inl, inr, ℕ, List, [], ◌∷◌, Bool, true, false, refl, sym, ap, subst, ◌∙◌}
 use Rattle.std.specs.Prelude.{◌||◌, if◌then◌else◌, Option, Some, None, IsSomeAnd}
 use Rattle.xa_base.specs.Branch.{gtrid_eq}
-use Rattle.xa_base.specs.Facts as facts
-use Rattle.xa_base.specs.Facts.{Change, Change.AddRecord, Change.AddRow, Change.DropRow, Change.NoChange, lists_row, participants_in}
-use Rattle.xa_base.specs.Trace.{Origin, Row, Trace, Trace.From}
+use Rattle.xa_model.specs.Facts as facts
+use Rattle.xa_model.specs.Facts.{Change, Change.AddRecord, Change.AddRow, Change.DropRow, Change.NoChange, lists_row, participants_in}
+use Rattle.xa_model.specs.Trace.{Origin, Row, Trace, Trace.From}
 use Rattle.xa_base.specs.declared.branch.Gtrid.{Gtrid}
 use Rattle.xa_log.specs.Content.{Content, bumped}
 use Rattle.xa_log.specs.Contract.{Makes}

@@ -1,7 +1,7 @@
 -- What a happening does to the log of a manager.
 use Rattle.std.proofs.Common.{◌≡◌, ◌≢◌, ℕ, refl, sym, ap, subst, ◌∙◌, arith}
 use Rattle.std.specs.Prelude.{Option, Result, Ok, Err}
-use Rattle.xa_base.specs.Trace.{Call, Fault, Happening, Happening.Begun, Happening.Claimed, Happening.Failed, Happening.Issued, Line, Trace}
+use Rattle.xa_model.specs.Trace.{Call, Fault, Happening, Happening.Begun, Happening.Claimed, Happening.Failed, Happening.Issued, Line, Trace}
 use Rattle.xa_base.specs.declared.branch.Gtrid.{Gtrid}
 use Rattle.xa_base.specs.declared.refusal.Refusal.{Refusal}
 use Rattle.xa_base.specs.declared.refusal.Refusal.TheVariants as Refusals

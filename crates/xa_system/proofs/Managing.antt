@@ -2,15 +2,15 @@
 use Rattle.std.proofs.Common.{◌≡◌, ◌≤◌, ◌<◌, ◌+◌, ◌≢◌, inl, inr, ℕ, [], false, refl, sym, ap, ◌∙◌, subst, arith}
 use Rattle.std.specs.Prelude.{Option, Some, None, Result, Ok, Err}
 use Rattle.xa_base.specs.Xid.{Xid}
-use Rattle.xa_base.specs.Demanded.{Demanded.As_value, IsValue, MayLackMemory}
-use Rattle.xa_base.specs.Facts as facts
-use Rattle.xa_base.specs.History.{reply_of, step_of}
-use Rattle.xa_base.specs.ReadBack.{StepHasXids}
-use Rattle.xa_base.specs.Right.{Right}
-use Rattle.xa_base.specs.Rules.{must_refuse}
-use Rattle.xa_base.specs.Steps as known
-use Rattle.xa_base.specs.Steps.{happened}
-use Rattle.xa_base.specs.Trace.{Fault, Happening, Happening.Begun, Happening.Claimed, Happening.Decided, Happening.Done, Trace, Trace.Then, line}
+use Rattle.xa_model.specs.Replies.Demanded.{Demanded.As_value, IsValue, MayLackMemory}
+use Rattle.xa_model.specs.Facts as facts
+use Rattle.xa_model.specs.Replies.History.{reply_of, step_of}
+use Rattle.xa_model.specs.Replies.ReadBack.{StepHasXids}
+use Rattle.xa_model.specs.Protocol.{Right}
+use Rattle.xa_model.specs.Replies.Rules.{must_refuse}
+use Rattle.xa_model.specs.Replies.Steps as known
+use Rattle.xa_model.specs.Replies.Steps.{happened}
+use Rattle.xa_model.specs.Trace.{Fault, Happening, Happening.Begun, Happening.Claimed, Happening.Decided, Happening.Done, Trace, Trace.Then, line}
 use Rattle.xa_base.specs.declared.branch.Gtrid.{Gtrid}
 use Rattle.xa_base.specs.declared.refusal.Refusal.{Refusal}
 use Rattle.xa_base.specs.declared.refusal.Refusal.TheVariants as Refusals
@@ -20,7 +20,7 @@ use Rattle.xa_base.specs.declared.step.Outcome.{Outcome}
 use Rattle.xa_base.specs.declared.step.Outcome.TheVariants as Outcomes
 use Rattle.xa_base.specs.declared.step.Step.{Step}
 use Rattle.xa_base.specs.declared.step.Step.TheVariants as Steps
-use Rattle.xa_base.proofs.Replies.{IsForced, demanded_right, forced}
+use Rattle.xa_model.proofs.Replies.Replies.{IsForced, demanded_right, forced}
 use Rattle.xa_line.specs.Grid.{line_at}
 use Rattle.xa_tm.specs.declared.manager.Manager.{Manager}
 use Rattle.xa_log.specs.Content.{last_number}
@@ -30,7 +30,7 @@ use Rattle.xa_tm.specs.Tied.{IsTied}
 use Rattle.xa_system.specs.Logged.{LogFollows}
 use Rattle.xa_system.proofs.Logging.{LogCalled, log_done, log_kept, tied_begun, tied_claimed}
 use Rattle.xa_tm.specs.Laws.{IsLookedAt}
-use Rattle.xa_tm.specs.Limits.{IsWithinLimits}
+use Rattle.xa_tm.specs.Limits.{IsWithinLimits, happenings}
 use Rattle.xa_tm.proofs.Limits.{book_is_sound}
 use Rattle.xa_tm.proofs.Refused.{refusal_is}
 use Rattle.xa_tm.proofs.RowCounts.{right_book}
@@ -40,7 +40,6 @@ use Rattle.xa_system.proofs.LineLaws.{line_stays}
 use Rattle.xa_system.proofs.Standing.{Follows, IsEvent, IsNothingTo, goes_as, lacking_goes, rule_goes, site_stays}
 use Rattle.xa_tm.specs.Book.{Book, Doubt, after, asked_in, book_after, book_of}
 use Rattle.xa_tm.specs.Refusing.{managers_refusal, refusal_in}
-use Rattle.xa_tm.specs.Limits.{happenings}
 
 pub err_is : {A : Type 0} (m n : Refusal) → (let x : Result A Refusal = Err m in x) ≡ Err n → m ≡ n
 err_is m n e = cc

@@ -2,16 +2,16 @@
 use Rattle.std.proofs.Common.{false, ◌≡◌, ℕ, List, [], ◌∷◌, map, Bool, not, ◌&&◌, ◌||◌, Some, None, refl, sym, ap, ◌∙◌}
 use Rattle.std.specs.Prelude.{if◌then◌else◌}
 use Rattle.xa_base.specs.Branch.{branch_eq}
-use Rattle.xa_base.specs.Branches.{moved_by}
+use Rattle.xa_model.specs.Facts.Branches.{moved_by}
 use Rattle.xa_base.specs.Call.{map_call}
-use Rattle.xa_base.specs.Facts as facts
-use Rattle.xa_base.specs.History.{name_of}
-use Rattle.xa_base.specs.InDoubt.{scan}
+use Rattle.xa_model.specs.Facts as facts
+use Rattle.xa_model.specs.Replies.History.{name_of}
+use Rattle.xa_model.specs.Facts.InDoubt.{scan}
 use Rattle.xa_base.specs.Opening.{closes, comes_unopened, has_closed, has_opened, opens}
-use Rattle.xa_base.specs.Right.{RightAnswer}
+use Rattle.xa_model.specs.Protocol.{RightAnswer}
 use Rattle.xa_base.specs.StateTable.{Kind, Kind.Start, Kind.Join, Kind.End, Kind.Prepare, Kind.Commit, Kind.OnePhase, Kind.Rollback, Kind.Forget, answer, asks_of, moved, on, state_of}
-use Rattle.xa_base.specs.Steps.{accepted}
-use Rattle.xa_base.specs.Trace.{Answer, Call, Happening.Took, Line, Name, Name.Foreign, Name.Ours, Trace, Trace.Then}
+use Rattle.xa_model.specs.Replies.Steps.{accepted}
+use Rattle.xa_model.specs.Trace.{Answer, Call, Happening.Took, Line, Name, Name.Foreign, Name.Ours, Trace, Trace.Then}
 use Rattle.xa_base.specs.Xid.{Xid}
 use Rattle.xa_base.specs.declared.answer.Answer.TheVariants.{Ret, Page}
 use Rattle.xa_base.specs.declared.branch.Branch.{Branch}

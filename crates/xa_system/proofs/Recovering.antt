@@ -2,12 +2,12 @@
 use Rattle.std.proofs.Common.{◌≡◌, ℕ, ℤ, Bool, true, refl, sym, ap, ◌∙◌, subst}
 use Rattle.std.proofs.lemmas.Bool.{lt-ltb}
 use Rattle.xa_base.specs.Xid.{Xid}
-use Rattle.xa_base.specs.Demanded.{Demanded, Demanded.As_value, Demanded.By_rule, Demanded.For_log, Demanded.For_memory}
-use Rattle.xa_base.specs.History.{reply_of}
-use Rattle.xa_base.specs.Rules.{has_thread, must_refuse}
-use Rattle.xa_base.specs.Steps as known
-use Rattle.xa_base.specs.Steps.{happened, refused}
-use Rattle.xa_base.specs.Trace.{Trace, Trace.Then}
+use Rattle.xa_model.specs.Replies.Demanded.{Demanded, Demanded.As_value, Demanded.By_rule, Demanded.For_log, Demanded.For_memory}
+use Rattle.xa_model.specs.Replies.History.{reply_of}
+use Rattle.xa_model.specs.Replies.Rules.{has_thread, must_refuse}
+use Rattle.xa_model.specs.Replies.Steps as known
+use Rattle.xa_model.specs.Replies.Steps.{happened, refused}
+use Rattle.xa_model.specs.Trace.{Trace, Trace.Then}
 use Rattle.xa_base.specs.declared.call.Call.TheVariants as Calls
 use Rattle.xa_base.specs.declared.refusal.Refusal.{Refusal}
 use Rattle.xa_base.specs.declared.refusal.Refusal.TheVariants as Refusals

@@ -7,9 +7,9 @@ use Rattle.std.specs.Map.{keys_of}
 use Rattle.std.specs.Ordering.{eq_by_cmp}
 use Rattle.std.proofs.lemmas.Cmp.{eq_by_cmp_equiv}
 use Rattle.xa_base.specs.Branch.{IsBranch, branch_cmp, branch_eq, xid_of_branch}
-use Rattle.xa_base.specs.Facts.{branches, fate, started}
-use Rattle.xa_base.specs.History.{history, read}
-use Rattle.xa_base.specs.Trace.{Happening.Issued, Trace, Trace.From, Trace.Then}
+use Rattle.xa_model.specs.Facts.{branches, fate, started}
+use Rattle.xa_model.specs.Replies.History.{history, read}
+use Rattle.xa_model.specs.Trace.{Happening.Issued, Trace, Trace.From, Trace.Then}
 use Rattle.xa_base.specs.Xid.{Xid, xid_cmp}
 use Rattle.xa_base.specs.declared.branch.Branch.{Branch}
 use Rattle.xa_base.specs.declared.call.Call.TheVariants as Calls

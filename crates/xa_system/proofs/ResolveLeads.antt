@@ -9,15 +9,15 @@ use Rattle.std.specs.List.{list_any}
 use Rattle.std.proofs.lemmas.List.Folds.{list_any-append}
 use Rattle.xa_base.specs.StateTable.{on}
 use Rattle.xa_base.specs.Xid.{Xid}
-use Rattle.xa_base.specs.Demanded.{Demanded, Demanded.As_value, Demanded.For_log}
-use Rattle.xa_base.specs.Facts as facts
-use Rattle.xa_base.specs.History.{reply_of, step_of}
+use Rattle.xa_model.specs.Replies.Demanded.{Demanded, Demanded.As_value, Demanded.For_log}
+use Rattle.xa_model.specs.Facts as facts
+use Rattle.xa_model.specs.Replies.History.{reply_of, step_of}
 use Rattle.xa_base.specs.Opening.{closes, has_closed, has_opened, opens}
-use Rattle.xa_base.specs.Progress.{rm_up, waiting}
-use Rattle.xa_base.specs.ReadBack.{StepHasXids}
-use Rattle.xa_base.specs.Rules.{has_rm, must_refuse}
-use Rattle.xa_base.specs.Steps.{happened}
-use Rattle.xa_base.specs.Trace.{Call, Fault.InRestart, Happening, Happening.Failed, Happening.Resolved, Happening.ResolvedOpen, Happening.Restarted, Line, Name, Name.Foreign, Name.Ours, Trace, Trace.Then, line, line_eq}
+use Rattle.xa_model.specs.Facts.{rm_up, waiting}
+use Rattle.xa_model.specs.Replies.ReadBack.{StepHasXids}
+use Rattle.xa_model.specs.Replies.Rules.{has_rm, must_refuse}
+use Rattle.xa_model.specs.Replies.Steps.{happened}
+use Rattle.xa_model.specs.Trace.{Call, Fault.InRestart, Happening, Happening.Failed, Happening.Resolved, Happening.ResolvedOpen, Happening.Restarted, Line, Name, Name.Foreign, Name.Ours, Trace, Trace.Then, line, line_eq}
 use Rattle.xa_base.specs.declared.call.Call as Asking
 use Rattle.xa_base.specs.declared.refusal.Refusal.{Refusal}
 use Rattle.xa_base.specs.declared.refusal.Refusal.TheVariants as Refusals
@@ -26,18 +26,17 @@ use Rattle.xa_base.specs.declared.reply.Reply.TheVariants as Replies
 use Rattle.xa_base.specs.declared.step.Side.TheVariants as Sides
 use Rattle.xa_base.specs.declared.step.Step.{Step}
 use Rattle.xa_base.specs.declared.step.Step.TheVariants as Steps
-use Rattle.xa_base.proofs.Keys.{line_eq-refl}
-use Rattle.xa_base.proofs.Replies.{demanded_right}
+use Rattle.xa_model.proofs.Keys.{line_eq-refl}
+use Rattle.xa_model.proofs.Replies.Replies.{demanded_right}
 use Rattle.xa_line.specs.Grid.{HasLine, line_at, with_line}
 use Rattle.xa_line.specs.Traffic.{Traffic, answered, barred, refusal, with_one_more, heard, issued, taken}
 use Rattle.xa_line.proofs.GridLaws.{whole-with_line}
-use Rattle.xa_log.specs.Content.{last_number}
+use Rattle.xa_log.specs.Content.{last_number, bumped}
 use Rattle.xa_tm.specs.declared.manager.Manager.{Manager}
 use Rattle.xa_system.specs.Logged.{LogFollows}
 use Rattle.xa_system.proofs.Logging.{LogUndone, log_failing, log_stays}
 use Rattle.xa_tm.specs.declared.coming_up.Found.{Found}
-use Rattle.xa_log.specs.Content.{bumped}
-use Rattle.xa_tm.specs.Kept.{book_in, log_in}
+use Rattle.xa_tm.specs.Kept.{book_in, log_in, FailsBy}
 use Rattle.xa_line.specs.Histories.{LineStands, known as known_call}
 use Rattle.xa_system.specs.Lines.{with_more}
 use Rattle.xa_system.specs.Parts.{GoesOn, HindersRecovery, OneMore, Sees, Stands, StandsSomewhere, recovery_why}
@@ -45,15 +44,13 @@ use Rattle.xa_system.specs.declared.parts.Parts.{Parts}
 use Rattle.xa_system.specs.declared.site.Site.{Site}
 use Rattle.xa_system.proofs.CrashLeads.{rm_there}
 use Rattle.xa_system.proofs.IssueLeads.{line_took}
-use Rattle.xa_line.proofs.TrafficLaws.{as_many_calls, line_goes_on}
+use Rattle.xa_line.proofs.TrafficLaws.{as_many_calls, line_goes_on, same_length}
 use Rattle.xa_system.proofs.LineLaws.{line_stays}
-use Rattle.xa_line.proofs.TrafficLaws.{same_length}
 use Rattle.xa_system.proofs.Managing.{IsOwn, book_then, own_follows, with_manager}
 use Rattle.xa_system.proofs.OnBranch.{closed_alike, closes_on, opened_alike}
 use Rattle.xa_system.proofs.Standing.{Follows, IsEvent, IsNothingTo, goes_as, has_line, lacking_goes, lines_with, refused_goes, rule_goes, site_stays}
 use Rattle.xa_tm.specs.Book.{Book, Doubt.Settled, after, book_of}
 use Rattle.xa_tm.specs.Refusing.{live_in, resolved_in, resolved_open_in, resolving_calls_in, resolving_kind_in}
-use Rattle.xa_tm.specs.Kept.{FailsBy}
 use Rattle.xa_tm.specs.Tied.{IsFound}
 use Rattle.xa_tm.proofs.Finds.{found_is_demanded}
 use Rattle.xa_tm.proofs.Recovering.{resolved_is, resolved_open_is}

@@ -6,19 +6,19 @@ use Rattle.std.proofs.lemmas.Bool.{eqb-true, eq-eqb}
 use Rattle.xa_log.specs.Content.{last_number}
 use Rattle.xa_base.specs.declared.step.Step.TheVariants as Steps
 use Rattle.xa_base.specs.Branch.{IsBranch, branch_eq, xid_of_branch}
-use Rattle.xa_base.specs.Demanded.{Demanded, Demanded.As_value, Demanded.By_rule, Demanded.For_memory, IsValue, MayLackMemory}
-use Rattle.xa_base.specs.Facts as facts
+use Rattle.xa_model.specs.Replies.Demanded.{Demanded, Demanded.As_value, Demanded.By_rule, Demanded.For_memory, IsValue, MayLackMemory}
+use Rattle.xa_model.specs.Facts as facts
 use Rattle.xa_base.specs.HeldBranch.{HeldBranch, completed_by}
-use Rattle.xa_base.specs.History.{name_of, reply_of, step_of}
-use Rattle.xa_base.specs.InDoubt.{scan, xid_of_name}
-use Rattle.xa_base.specs.Progress.{rm_up}
-use Rattle.xa_base.specs.ReadBack.{StepHasXids}
-use Rattle.xa_base.specs.Rules.{bad_script, has_rm, is_at, must_refuse}
+use Rattle.xa_model.specs.Replies.History.{name_of, reply_of, step_of}
+use Rattle.xa_model.specs.Facts.InDoubt.{scan, xid_of_name}
+use Rattle.xa_model.specs.Facts.{rm_up}
+use Rattle.xa_model.specs.Replies.ReadBack.{StepHasXids}
+use Rattle.xa_model.specs.Replies.Rules.{bad_script, has_rm, is_at, must_refuse}
 use Rattle.xa_base.specs.Standing.{is_in_doubt, is_prepared}
 use Rattle.xa_base.specs.StateTable.{broken, completed}
-use Rattle.xa_base.specs.Steps as known
-use Rattle.xa_base.specs.Steps.{happened}
-use Rattle.xa_base.specs.Trace.{Happening, Happening.EndedAlone, Happening.Nothing, Happening.PutOff, Happening.Voted, Name, Name.Foreign, Name.Ours, Line, Trace, Trace.Then, line}
+use Rattle.xa_model.specs.Replies.Steps as known
+use Rattle.xa_model.specs.Replies.Steps.{happened}
+use Rattle.xa_model.specs.Trace.{Happening, Happening.EndedAlone, Happening.Nothing, Happening.PutOff, Happening.Voted, Name, Name.Foreign, Name.Ours, Line, Trace, Trace.Then, line}
 use Rattle.xa_base.specs.Xid.{IsXid, Xid}
 use Rattle.xa_base.specs.declared.branch.Branch.{Branch}
 use Rattle.xa_base.specs.declared.code.How.{How}
@@ -30,7 +30,7 @@ use Rattle.xa_base.specs.declared.state.Standing.{Standing}
 use Rattle.xa_base.specs.declared.state.Standing.TheVariants.{Prepared}
 use Rattle.xa_base.specs.declared.step.Step.{Step}
 use Rattle.xa_base.specs.declared.vote.Vote.{Vote}
-use Rattle.xa_base.proofs.Keys.{branch_eq-refl, branch_eq-true}
+use Rattle.xa_base.proofs.BranchKeys.{branch_eq-refl, branch_eq-true}
 use Rattle.xa_line.specs.Grid.{line_at}
 use Rattle.xa_rm.specs.ResourceManager.{changed_at, retrying, voting}
 use Rattle.xa_tm.specs.Kept.{book_in}

@@ -5,20 +5,20 @@ use Rattle.std.specs.Vec.{vec_capacity}
 use Rattle.std.specs.Option.{option_map}
 use Rattle.std.proofs.lemmas.Option.{slice_get-map}
 use Rattle.xa_tm.proofs.Limits.{events_happen}
-use Rattle.xa_base.specs.Demanded.{Demanded, with_steps}
+use Rattle.xa_model.specs.Replies.Demanded.{Demanded, with_steps}
 use Rattle.xa_base.specs.Branch.{IsBranch, xid_of_branch}
-use Rattle.xa_base.specs.Facts.{fate, origin, up}
+use Rattle.xa_model.specs.Facts.{fate, origin, up}
 use Rattle.xa_base.specs.Standing.{fate_of}
 use Rattle.xa_base.specs.Xid.{Xid}
 use Rattle.xa_base.specs.declared.branch.Branch.{Branch}
-use Rattle.xa_base.specs.History.{AreDemanded, history, read, reply_of, step_of}
-use Rattle.xa_base.specs.Steps as known
-use Rattle.xa_base.specs.Steps.{happened, log_failed}
-use Rattle.xa_base.specs.Trace.{Origin, Trace, Trace.From, Trace.Then}
+use Rattle.xa_model.specs.Replies.History.{AreDemanded, history, read, reply_of, step_of}
+use Rattle.xa_model.specs.Replies.Steps as known
+use Rattle.xa_model.specs.Replies.Steps.{happened, log_failed}
+use Rattle.xa_model.specs.Trace.{Origin, Trace, Trace.From, Trace.Then}
 use Rattle.xa_base.specs.declared.reply.Event.{Event}
 use Rattle.xa_base.specs.declared.reply.Reply.{Reply}
 use Rattle.xa_base.specs.declared.step.Step.{Step}
-use Rattle.xa_base.proofs.Pushes.{demanded_push, history_push}
+use Rattle.xa_model.proofs.Replies.Pushes.{demanded_push, history_push}
 use Rattle.xa_system.specs.Parts.{GoesOn, Sees, Stands, StandsSomewhere, event_limit}
 use Rattle.xa_base.specs.declared.refusal.Refusal.{Refusal}
 use Rattle.xa_base.specs.declared.refusal.Refusal.TheVariants as Refusals

@@ -6,20 +6,20 @@ use Rattle.std.proofs.lemmas.Bool.{and_parts, ltb-true, ne_eqb}
 use Rattle.std.proofs.lemmas.Bool.Decides.{eqb_tells}
 use Rattle.std.proofs.lemmas.Option.{slice_get_read}
 use Rattle.xa_log.specs.Content.{last_number}
-use Rattle.xa_base.specs.Facts as facts
+use Rattle.xa_model.specs.Facts as facts
 use Rattle.xa_base.specs.Xid.{Xid}
-use Rattle.xa_base.specs.Demanded.{Demanded, Demanded.By_rule, Demanded.For_memory, MayLackMemory}
-use Rattle.xa_base.specs.History.{reply_of, step_of}
-use Rattle.xa_base.specs.Progress.{rm_up}
-use Rattle.xa_base.specs.ReadBack.{StepHasXids}
-use Rattle.xa_base.specs.Rules.{has_rm, has_thread, must_refuse}
-use Rattle.xa_base.specs.Steps.{Reply as KnownReply, Step as Known, happened}
-use Rattle.xa_base.specs.Trace.{Happening, Happening.Nothing, Trace, Trace.Then, line, line_eq}
+use Rattle.xa_model.specs.Replies.Demanded.{Demanded, Demanded.By_rule, Demanded.For_memory, MayLackMemory}
+use Rattle.xa_model.specs.Replies.History.{reply_of, step_of}
+use Rattle.xa_model.specs.Facts.{rm_up}
+use Rattle.xa_model.specs.Replies.ReadBack.{StepHasXids}
+use Rattle.xa_model.specs.Replies.Rules.{has_rm, has_thread, must_refuse}
+use Rattle.xa_model.specs.Replies.Steps.{Reply as KnownReply, Step as Known, happened}
+use Rattle.xa_model.specs.Trace.{Happening, Happening.Nothing, Trace, Trace.Then, line, line_eq}
 use Rattle.xa_base.specs.declared.refusal.Refusal.{Refusal}
 use Rattle.xa_base.specs.declared.refusal.Refusal.TheVariants as Refusals
 use Rattle.xa_base.specs.declared.reply.Reply.{Reply}
 use Rattle.xa_base.specs.declared.reply.Reply.TheVariants as Replies
-use Rattle.xa_base.proofs.Replies.{IsForced, forced}
+use Rattle.xa_model.proofs.Replies.Replies.{IsForced, forced}
 use Rattle.xa_base.specs.declared.step.Step.{Step}
 use Rattle.xa_line.specs.Grid.{Grid, HasLine, IsWhole, line_at, with_line}
 use Rattle.xa_line.specs.Traffic.{Traffic}

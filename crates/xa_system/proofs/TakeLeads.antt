@@ -9,14 +9,14 @@ use Rattle.xa_base.specs.StateTable.{on}
 use Rattle.xa_base.specs.declared.answer.Answer.TheVariants.{Ret, Page}
 use Rattle.xa_base.specs.Xid.{Xid}
 use Rattle.xa_base.specs.Branch.{branch_eq, gtrid_eq}
-use Rattle.xa_base.specs.Demanded.{Demanded.As_value, Demanded.For_memory, Takes.Takes_none, Takes.Takes_one}
-use Rattle.xa_base.specs.Facts as facts
+use Rattle.xa_model.specs.Replies.Demanded.{Demanded.As_value, Demanded.For_memory, Takes.Takes_none, Takes.Takes_one}
+use Rattle.xa_model.specs.Facts as facts
 use Rattle.xa_base.specs.Call.{map_call}
 use Rattle.xa_base.specs.Answer.{map_answer}
-use Rattle.xa_base.specs.History.{name_of}
-use Rattle.xa_base.specs.Progress.{rm_up, unheard}
-use Rattle.xa_base.specs.Rules.{has_rm, has_thread, must_refuse}
-use Rattle.xa_base.specs.Trace.{Answer, Call, Happening.Nothing, Happening.Took, Kind, Kind.Commit, Line, Name, Trace, Trace.Then, line, Name.Ours, Kind.Start, Kind.Join, Kind.End, Kind.Prepare, Kind.OnePhase, Kind.Rollback, Kind.Forget}
+use Rattle.xa_model.specs.Replies.History.{name_of}
+use Rattle.xa_model.specs.Facts.{rm_up, unheard}
+use Rattle.xa_model.specs.Replies.Rules.{has_rm, has_thread, must_refuse}
+use Rattle.xa_model.specs.Trace.{Answer, Call, Happening.Nothing, Happening.Took, Kind, Kind.Commit, Line, Name, Trace, Trace.Then, line, Name.Ours, Kind.Start, Kind.Join, Kind.End, Kind.Prepare, Kind.OnePhase, Kind.Rollback, Kind.Forget}
 use Rattle.xa_base.specs.declared.answer.Answer as Given
 use Rattle.xa_base.specs.declared.branch.Branch.{Branch}
 use Rattle.xa_base.specs.declared.call.Call as Asking
@@ -25,7 +25,7 @@ use Rattle.xa_base.specs.declared.refusal.Refusal.TheVariants as Refusals
 use Rattle.xa_base.specs.declared.reply.Reply.{Reply}
 use Rattle.xa_base.specs.declared.reply.Reply.TheVariants as Replies
 use Rattle.xa_base.specs.declared.step.Step.TheVariants as Steps
-use Rattle.xa_base.proofs.Keys.{line_eq-refl}
+use Rattle.xa_model.proofs.Keys.{line_eq-refl}
 use Rattle.xa_line.specs.Grid.{HasLine, line_at}
 use Rattle.xa_line.specs.Traffic.{Flow, PassesOn, Traffic, all_of, answered, heard, issued, with_one_more}
 use Rattle.xa_line.proofs.FlowLaws.{all_of-PassesOn}
@@ -39,8 +39,8 @@ use Rattle.xa_system.specs.declared.site.Site.{Site}
 use Rattle.xa_system.proofs.Logging.{log_stays}
 use Rattle.xa_line.proofs.TrafficLaws.{as_many_answers, line_goes_on}
 use Rattle.xa_system.proofs.LineLaws.{line_stays, no_waiting_call, waiting_call}
-use Rattle.xa_base.proofs.Replies.{accepted_ours}
-use Rattle.xa_base.specs.Steps.{if_ours}
+use Rattle.xa_model.proofs.Replies.Replies.{accepted_ours}
+use Rattle.xa_model.specs.Replies.Steps.{if_ours}
 use Rattle.xa_system.proofs.OnBranch.{ours_back, standing_none}
 use Rattle.xa_system.proofs.Quiet.{IsQuiet}
 use Rattle.xa_system.proofs.Standing.{Follows, IsEvent, lines_same, site_same, goes_as, lines_apart_rm, has_line, lines_with, nothing_to, same_rm, site_stays, sites_with, there_is, with_site_and_line}

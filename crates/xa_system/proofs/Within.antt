@@ -3,19 +3,19 @@ use Rattle.std.proofs.Common.{◌≡◌, ◌<◌, Bool, true, false, refl, sym, 
 use Rattle.std.specs.Prelude.{not, ◌&&◌, ◌||◌, if◌then◌else◌, nat_eq, nat_lt, Option, Some, None}
 use Rattle.std.proofs.lemmas.Bool.{and_parts, eqb-true, ltb-true}
 use Rattle.xa_base.specs.Branch.{branch_eq}
-use Rattle.xa_base.specs.Demanded.{AllDemanded, Demanded, Demanded.By_rule, Demanded.As_value, Demanded.For_memory, Demanded.For_log, Hears, Hears.Hears_none, Hears.Hears_one, IsValue, Restarts, Restarts.Restarts_as, Takes, Takes.Takes_none, Takes.Takes_one, with_steps}
-use Rattle.xa_base.specs.Facts.{origin, started}
-use Rattle.xa_base.specs.Rules.{is_there, must_refuse}
-use Rattle.xa_base.specs.Steps.{Reply, Step, happened, if_ours, log_failed, refused}
-use Rattle.xa_base.specs.Trace.{Happening, Happening.Heard, Happening.Issued, Happening.Took, Name.Foreign, Name.Ours, Origin, Trace, Trace.From, Trace.Then, line}
+use Rattle.xa_model.specs.Replies.Demanded.{AllDemanded, Demanded, Demanded.By_rule, Demanded.As_value, Demanded.For_memory, Demanded.For_log, Hears, Hears.Hears_none, Hears.Hears_one, IsValue, Restarts, Restarts.Restarts_as, Takes, Takes.Takes_none, Takes.Takes_one, with_steps}
+use Rattle.xa_model.specs.Facts.{origin, started}
+use Rattle.xa_model.specs.Replies.Rules.{is_there, must_refuse}
+use Rattle.xa_model.specs.Replies.Steps.{Reply, Step, happened, if_ours, log_failed, refused}
+use Rattle.xa_model.specs.Trace.{Happening, Happening.Heard, Happening.Issued, Happening.Took, Name.Foreign, Name.Ours, Origin, Trace, Trace.From, Trace.Then, line}
 use Rattle.xa_base.specs.declared.branch.Branch.{Branch}
 use Rattle.xa_base.specs.declared.call.Call.TheVariants as Calls
 use Rattle.xa_base.specs.declared.refusal.Refusal.{Refusal}
 use Rattle.xa_base.specs.declared.refusal.Refusal.TheVariants as Refusals
 use Rattle.xa_base.specs.declared.step.Side.TheVariants as Side
 use Rattle.xa_base.specs.declared.step.Step.TheVariants as Steps
-use Rattle.xa_base.proofs.Keys.{branch_eq-true}
-use Rattle.xa_base.proofs.Replies.{accepted_ours, none_applies}
+use Rattle.xa_base.proofs.BranchKeys.{branch_eq-true}
+use Rattle.xa_model.proofs.Replies.Replies.{accepted_ours, none_applies}
 
 -- the branch's line is one of these
 abbrev pub IsWithin : Origin → Branch → Type 0

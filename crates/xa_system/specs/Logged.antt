@@ -2,9 +2,9 @@
 use Rattle.std.specs.Prelude.{◌≡◌, ◌≤◌, ◌⊎◌, ◌+◌, ◌-◌, ◌^◌, ℕ, Bool, true, false, filter, if◌then◌else◌, List, length, Option, Some, None, IsSomeAnd}
 use Rattle.std.specs.FinMap.{get, len}
 use Rattle.xa_base.specs.Branch.{branch_cmp}
-use Rattle.xa_base.specs.Demanded.{failed_restarts}
-use Rattle.xa_base.specs.Facts.{Change, Change.AddRecord, Change.AddRow, Change.DropRow, Change.NoChange, doubt, fault_change, has_row, heuristic_rows, incarnation, log, participants, recorded_as, up}
-use Rattle.xa_base.specs.Trace.{Fault, Fault.InRestart, Happening, Happening.Failed, Origin, Trace, Trace.From}
+use Rattle.xa_model.specs.Replies.Demanded.{failed_restarts}
+use Rattle.xa_model.specs.Facts.{Change, Change.AddRecord, Change.AddRow, Change.DropRow, Change.NoChange, doubt, fault_change, has_row, heuristic_rows, incarnation, log, participants, recorded_as, up}
+use Rattle.xa_model.specs.Trace.{Fault, Fault.InRestart, Happening, Happening.Failed, Origin, Trace, Trace.From}
 use Rattle.xa_base.specs.Xid.{Xid}
 use Rattle.xa_base.specs.declared.branch.Branch.{Branch}
 use Rattle.xa_base.specs.declared.branch.Gtrid.{Gtrid}

@@ -1,16 +1,16 @@
 -- How the parts that a system holds stand to its history.
 use Rattle.std.specs.Prelude.{◌≡◌, ◌≢◌, ◌<◌, ◌≤◌, ◌+◌, ℕ, Bool, not, nat_lt, if◌then◌else◌, List, [], length, Option, Some, None, slice_get, vec_len, Result, Ok, Err}
 use Rattle.std.specs.Option.{option_map_or}
-use Rattle.xa_base.specs.Demanded.{Demanded}
-use Rattle.xa_base.specs.Distinct.{ApartRows}
-use Rattle.xa_base.specs.Facts as facts
+use Rattle.xa_model.specs.Replies.Demanded.{Demanded}
+use Rattle.xa_model.specs.Facts.Distinct.{ApartRows}
+use Rattle.xa_model.specs.Facts as facts
 use Rattle.xa_base.specs.HeldBranch.{HeldBranch, new_branch}
-use Rattle.xa_base.specs.History.{reply_of, step_of}
-use Rattle.xa_base.specs.Progress.{rm_up, waiting}
-use Rattle.xa_base.specs.Rules.{has_rm, is_at, must_refuse}
+use Rattle.xa_model.specs.Replies.History.{reply_of, step_of}
+use Rattle.xa_model.specs.Facts.{rm_up, waiting}
+use Rattle.xa_model.specs.Replies.Rules.{has_rm, is_at, must_refuse}
 use Rattle.xa_base.specs.Scan.{Scan, Scan.NotOpen}
-use Rattle.xa_base.specs.Steps.{happened}
-use Rattle.xa_base.specs.Trace.{Name, Name.Foreign, Origin, Recorded, Row, Trace, Trace.From, Trace.Then, line}
+use Rattle.xa_model.specs.Replies.Steps.{happened}
+use Rattle.xa_model.specs.Trace.{Name, Name.Foreign, Origin, Recorded, Row, Trace, Trace.From, Trace.Then, line}
 use Rattle.xa_base.specs.Xid.{Xid}
 use Rattle.xa_base.specs.declared.refusal.Refusal.{Refusal}
 use Rattle.xa_base.specs.declared.refusal.Refusal.TheVariants as Refusals

@@ -1,8 +1,8 @@
 -- What is told of the branches at the end.
 use Rattle.std.specs.Prelude.{◌≡◌, true}
 use Rattle.xa_base.specs.Branch.{xid_of_branch}
-use Rattle.xa_base.specs.Facts.{fate, started}
-use Rattle.xa_base.specs.Trace.{Trace}
+use Rattle.xa_model.specs.Facts.{fate, started}
+use Rattle.xa_model.specs.Trace.{Trace}
 use Rattle.xa_base.specs.Xid.{Xid}
 use Rattle.xa_base.specs.declared.branch.Branch.{Branch}
 use Rattle.xa_base.specs.declared.state.Fate.{Fate}

@@ -2,9 +2,9 @@
 use Rattle.std.specs.Prelude.{◌≡◌, ◌≤◌, ◌<◌, ◌⊎◌, ◌+◌, ◌++◌, ℕ, true, Some, IsSomeAnd, List, map, vec_len, slice_get}
 use Rattle.std.specs.Vec.{vec_capacity}
 use Rattle.xa_base.specs.Xid.{Xid}
-use Rattle.xa_base.specs.Distinct.{ApartRows}
-use Rattle.xa_base.specs.History.{AreDemanded, history}
-use Rattle.xa_base.specs.Trace.{Origin, Recorded, Row, Trace, Trace.From, line}
+use Rattle.xa_model.specs.Facts.Distinct.{ApartRows}
+use Rattle.xa_model.specs.Replies.History.{AreDemanded, history}
+use Rattle.xa_model.specs.Trace.{Origin, Recorded, Row, Trace, Trace.From, line}
 use Rattle.xa_base.specs.Branch.{IsBranch, own_format}
 use Rattle.xa_base.specs.Recover.{IsInDoubtList}
 use Rattle.xa_base.specs.declared.branch.Branch.{Branch}

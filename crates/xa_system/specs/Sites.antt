@@ -2,15 +2,15 @@
 use Rattle.std.specs.Prelude.{◌≡◌, ◌⊎◌, ◌<◌, ℕ, List}
 use Rattle.std.specs.Option.{option_map}
 use Rattle.xa_base.specs.Branch.{IsBranch, own_format, xid_of_branch}
-use Rattle.xa_base.specs.Facts as facts
+use Rattle.xa_model.specs.Facts as facts
 use Rattle.xa_base.specs.HeldBranch.{HeldBranch}
-use Rattle.xa_base.specs.InDoubt.{scan, xid_of_name}
+use Rattle.xa_model.specs.Facts.InDoubt.{scan, xid_of_name}
 use Rattle.xa_base.specs.Recover.{IsInDoubtList}
 use Rattle.xa_base.specs.Scan.{Scan, Scan.NotOpen, Scan.Behind}
 use Rattle.xa_base.specs.Standing.{is_in_doubt}
 use Rattle.xa_base.specs.StateTable.{broken}
 use Rattle.xa_base.specs.declared.state.Standing.TheVariants.{Unstarted}
-use Rattle.xa_base.specs.Trace.{Origin, Trace}
+use Rattle.xa_model.specs.Trace.{Origin, Trace}
 use Rattle.xa_base.specs.declared.branch.Branch.{Branch}
 use Rattle.xa_base.specs.Xid.{Xid}
 

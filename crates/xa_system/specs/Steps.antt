@@ -3,7 +3,7 @@ use Rattle.std.specs.Prelude.{◌≡◌, ◌==◌, ℕ, List, [], length, if◌t
 use Rattle.xa_base.specs.Scan.{Scan.NotOpen}
 use Rattle.xa_system.specs.declared.site.Site.{Site}
 use Rattle.xa_base.specs.HeldBranch.{broken_by, crashed, held_after}
-use Rattle.xa_base.specs.ReadBack.{CallHasXid}
+use Rattle.xa_model.specs.Replies.ReadBack.{CallHasXid}
 use Rattle.xa_base.specs.Recover.{IsInDoubtList}
 use Rattle.xa_base.specs.Xid.{Xid}
 use Rattle.xa_base.specs.declared.answer.Answer.{Answer}

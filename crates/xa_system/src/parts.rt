@@ -1,6 +1,6 @@
 //! What a step reads and changes.
 ghost use Rattle.std.specs.Prelude.{◌≡◌, ◌&&◌, nat_lt};
-ghost use Rattle.xa_base.specs.ReadBack.{StepHasXids};
+ghost use Rattle.xa_model.specs.Replies.ReadBack.{StepHasXids};
 ghost use Rattle.xa_system.specs.Parts.{GoesOn, StandsSomewhere, sees};
 
 mod calls;

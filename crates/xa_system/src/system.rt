@@ -2,7 +2,7 @@
 ghost use Rattle.std.specs.Prelude.{◌≡◌, ◌≢◌, Bool, ◌<◌, ◌≤◌, ◌+◌, ◌++◌, true, false, ◌∷◌, [], ◌⊎◌, ◌↔◌, All, Contains, length, map, Some, None, Err, IfErr, IfOk, IsOk, IsSomeAnd, OnErr, OnOk, vec_len, ℕ, List};
 ghost use Rattle.std.specs.List.Sorted.{IsStrictlySortedBy};
 ghost use Rattle.std.specs.Map.{keys_of};
-ghost use Rattle.xa_base.specs.ReadBack.{StepHasXids};
+ghost use Rattle.xa_model.specs.Replies.ReadBack.{StepHasXids};
 ghost use Rattle.xa_base.specs.Xid.{xid_cmp};
 ghost use Rattle.xa_base.specs.declared.refusal.Refusal.TheVariants as Refusals;
 ghost use Rattle.xa_base.specs.declared.reply.Reply.TheVariants as Replies;
@@ -138,15 +138,15 @@ fn has_xids(step: &Step)
 }
 
 impl<R: ResourceManager + Drop, L: DecisionLog + Drop> System<R, L> {
-    ghost use Rattle.xa_base.specs.Demanded.{Demanded};
-    ghost use Rattle.xa_base.specs.History.{IsDemanded, reply_of, step_of};
+    ghost use Rattle.xa_model.specs.Replies.Demanded.{Demanded};
+    ghost use Rattle.xa_model.specs.Replies.History.{IsDemanded, reply_of, step_of};
     ghost use Rattle.xa_system.specs.Parts.{event_limit};
     ghost use Rattle.xa_base.specs.Branch.{xid_of_branch};
-    ghost use Rattle.xa_base.specs.Facts.{fate, up};
-    ghost use Rattle.xa_base.specs.Steps.{happened, log_failed};
-    ghost use Rattle.xa_base.specs.Trace.{Happening.Nothing};
+    ghost use Rattle.xa_model.specs.Facts.{fate, up};
+    ghost use Rattle.xa_model.specs.Replies.Steps.{happened, log_failed};
+    ghost use Rattle.xa_model.specs.Trace.{Happening.Nothing};
     ghost use Rattle.xa_base.specs.declared.refusal.Refusal.{Refusal};
-    ghost use Rattle.xa_base.specs.Headline.{Headline};
+    ghost use Rattle.xa_model.specs.Promises.Headline.{Headline};
     ghost use Rattle.xa_base.specs.declared.state.Fate.TheVariants as Fates;
     ghost use Rattle.xa_base.specs.declared.branch.Branch.{Branch};
     ghost use Rattle.xa_system.specs.Report.{IsReported};
@@ -301,7 +301,7 @@ impl<R: ResourceManager + Drop, L: DecisionLog + Drop> System<R, L> {
         ensures headline { Headline (origin_in (looks R.held_of R.scan_of R.in_doubt_of) self.now) self.now.events }
     {
         let _ = &self.events;
-        xa_base::headline_holds();
+        xa_model::headline_holds();
     }
 
     /// Does all steps in order, or none where the trace lacks room for them.

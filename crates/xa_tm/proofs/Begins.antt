@@ -8,14 +8,14 @@ use Rattle.std.specs.Option.{option_or}
 use Rattle.std.proofs.lemmas.Bool.{and_parts}
 use Rattle.std.proofs.lemmas.List.{length-map}
 use Rattle.xa_base.specs.Branch.{branch_cmp, gtrid_cmp, gtrid_eq}
-use Rattle.xa_base.specs.Distinct.{ApartRows}
-use Rattle.xa_base.specs.Facts.{how_in, lists_row}
-use Rattle.xa_base.specs.Trace.{Origin, Trace.From}
+use Rattle.xa_model.specs.Facts.Distinct.{ApartRows}
+use Rattle.xa_model.specs.Facts.{how_in, lists_row}
+use Rattle.xa_model.specs.Trace.{Origin, Trace.From}
 use Rattle.xa_base.specs.declared.branch.Branch.{Branch}
 use Rattle.xa_base.specs.declared.branch.Gtrid.{Gtrid}
 use Rattle.xa_base.specs.declared.code.How.{How}
 use Rattle.xa_base.proofs.BranchOrder.{branches_total, gtrids_total}
-use Rattle.xa_base.proofs.Keys.{gtrid_eq-true}
+use Rattle.xa_base.proofs.BranchKeys.{gtrid_eq-true}
 use Rattle.xa_log.specs.KeySet.{from_list}
 use Rattle.xa_tm.specs.Ascending.{ascends, ascends_behind, is_behind}
 use Rattle.xa_tm.specs.Begins.{records_listed, rows_listed}

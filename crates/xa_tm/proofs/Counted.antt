@@ -4,10 +4,9 @@ use Rattle.std.specs.Prelude.{if◌then◌else◌}
 use Rattle.xa_base.specs.declared.branch.Branch.{Branch}
 use Rattle.xa_base.specs.declared.branch.Gtrid.{Gtrid}
 use Rattle.xa_base.specs.Branch.{gtrid_eq}
-use Rattle.xa_base.specs.Facts.{begun, branches, settled}
-use Rattle.xa_base.specs.Progress.{has_voted}
-use Rattle.xa_base.specs.Right.{AllRight}
-use Rattle.xa_base.specs.Trace.{Trace}
+use Rattle.xa_model.specs.Facts.{begun, branches, settled, has_voted}
+use Rattle.xa_model.specs.Protocol.{AllRight}
+use Rattle.xa_model.specs.Trace.{Trace}
 use Rattle.xa_tm.specs.Counts.{branch_count, unsettled, unvoted}
 use Rattle.xa_tm.proofs.Counting.{count, counted_branches, counted_votes, same_count}
 use Rattle.xa_tm.proofs.Settling.{counted_settled, settled_is}

@@ -13,9 +13,9 @@ use Rattle.xa_base.specs.declared.branch.Branch.{Branch}
 use Rattle.xa_base.specs.declared.branch.Gtrid.{Gtrid}
 use Rattle.xa_base.specs.declared.step.Outcome.{Outcome}
 use Rattle.xa_base.specs.declared.step.Outcome.TheVariants as Outcomes
-use Rattle.xa_base.specs.Trace.{Line, Happening.Begun, Happening.Issued, Happening.Claimed, Happening.Decided}
+use Rattle.xa_model.specs.Trace.{Line, Happening.Begun, Happening.Issued, Happening.Claimed, Happening.Decided}
 use Rattle.xa_base.proofs.BranchOrder.{gtrids_total, exact_gtrids, branches_total, exact_branches}
-use Rattle.xa_base.proofs.Keys.{gtrid_eq-true, gtrid_eq-refl, branch_eq-true, branch_eq-refl}
+use Rattle.xa_base.proofs.BranchKeys.{gtrid_eq-true, gtrid_eq-refl, branch_eq-true, branch_eq-refl}
 use Rattle.xa_tm.specs.Book.{Deal, Book, Waiting, deal_after, with_branch, settled_in}
 use Rattle.xa_tm.specs.Held.{HasKept, transaction_at, no_transaction, begun_by, deal_of, row_at, waiting_of}
 use Rattle.xa_tm.specs.Outcomes.{is_commit, is_rollback}

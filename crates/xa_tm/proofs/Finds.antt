@@ -3,11 +3,11 @@ use Rattle.std.proofs.Common.{◌≡◌, ◌≢◌, ◌⊎◌, inl, inr, ◌+◌
 use Rattle.std.specs.Prelude.{if◌then◌else◌, is_some, nat_eq}
 use Rattle.std.proofs.lemmas.Bool.Decides.{eqb_tells}
 use Rattle.xa_base.specs.declared.reply.Reply.TheVariants as Replies
-use Rattle.xa_base.specs.Demanded.{Restarts, Restarts.Restarts_as}
-use Rattle.xa_base.specs.Distinct.{ApartRows}
-use Rattle.xa_base.specs.Facts.{Change, Change.AddRecord, Change.AddRow, Change.DropRow, Change.NoChange, doubt, has_record, heuristic_rows, heuristics_changed, how_in, log, origin, rows_changed}
-use Rattle.xa_base.specs.Right.{AllRight}
-use Rattle.xa_base.specs.Trace.{Happening.Restarted, Recorded, Trace, Trace.Then}
+use Rattle.xa_model.specs.Replies.Demanded.{Restarts, Restarts.Restarts_as}
+use Rattle.xa_model.specs.Facts.Distinct.{ApartRows}
+use Rattle.xa_model.specs.Facts.{Change, Change.AddRecord, Change.AddRow, Change.DropRow, Change.NoChange, doubt, has_record, heuristic_rows, heuristics_changed, how_in, log, origin, rows_changed}
+use Rattle.xa_model.specs.Protocol.{AllRight}
+use Rattle.xa_model.specs.Trace.{Happening.Restarted, Recorded, Trace, Trace.Then}
 use Rattle.xa_tm.specs.Book.{book_of, doubt_of, records_with}
 use Rattle.xa_tm.specs.Tied.{IsFound, rows_of}
 use Rattle.xa_tm.proofs.OneMore.{has_record_is}

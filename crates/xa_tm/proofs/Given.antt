@@ -7,13 +7,14 @@ use Rattle.xa_base.specs.declared.call.Call.TheVariants as Calls
 use Rattle.xa_base.specs.declared.code.Code.{Code}
 use Rattle.xa_base.specs.declared.code.Code.TheVariants as Codes
 use Rattle.xa_base.specs.declared.code.How.{How}
-use Rattle.xa_base.specs.Facts.{heard, next_answer, standing, started, taken}
-use Rattle.xa_base.specs.Right.{AllRight, Right, RightAnswer}
-use Rattle.xa_base.specs.Steps.{accepted, ours_of}
-use Rattle.xa_base.specs.Trace.{Answer, Call, Happening.Took, Line, Name, Name.Foreign, Name.Ours, Trace, Trace.From, Trace.Then}
-use Rattle.xa_base.proofs.Invariant.{AnswerFact, HeuristicFact, Inv, IsHeuristic}
-use Rattle.xa_base.proofs.Lines.{NewTaken, NewTaken.Now, NewTaken.Was, get_none, taken_back}
-use Rattle.xa_base.proofs.Preserved.{always}
+use Rattle.xa_model.specs.Facts.{heard, next_answer, standing, started, taken}
+use Rattle.xa_model.specs.Protocol.{AllRight, Right, RightAnswer}
+use Rattle.xa_model.specs.Replies.Steps.{accepted, ours_of}
+use Rattle.xa_model.specs.Trace.{Answer, Call, Happening.Took, Line, Name, Name.Foreign, Name.Ours, Trace, Trace.From, Trace.Then}
+use Rattle.xa_model.proofs.Invariant.{AnswerFact, HeuristicFact, Inv, IsHeuristic}
+use Rattle.xa_model.proofs.Invariant.Lines.{NewTaken, NewTaken.Now, NewTaken.Was, taken_back}
+use Rattle.xa_base.proofs.Lists.{get_none}
+use Rattle.xa_model.proofs.Invariant.Preserved.{always}
 use Rattle.xa_log.specs.Contract.{FitsRow}
 use Rattle.xa_tm.specs.Asked.{FitsRecord, IsAnswerTo, branch_asked}
 use Rattle.xa_tm.specs.Limits.{IsWithinLimits}

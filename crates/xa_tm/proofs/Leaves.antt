@@ -1,7 +1,7 @@
 -- What a crash of the log's store may leave.
 use Rattle.std.proofs.Common.{◌≡◌, ◌≤◌, ◌+◌, ◌⊎◌, inl, inr, true, false, Option, Some, None, IsSomeAnd, refl, sym, ap, subst, arith}
 use Rattle.xa_base.specs.declared.step.Part.{Part}
-use Rattle.xa_base.specs.Trace.{Fault, Fault.InRestart, Happening.Crashed, Happening.Failed}
+use Rattle.xa_model.specs.Trace.{Fault, Fault.InRestart, Happening.Crashed, Happening.Failed}
 use Rattle.xa_log.specs.Content.{Content, bumped}
 use Rattle.xa_log.specs.Contract.{LeavesAlso}
 use Rattle.xa_tm.specs.Book.{Book, Doubt, Doubt.Settled, after, book_after, failed_restarts_after}

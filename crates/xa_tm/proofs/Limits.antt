@@ -9,18 +9,17 @@ use Rattle.xa_base.specs.declared.reply.Event.{Event}
 use Rattle.xa_base.specs.declared.step.Outcome.TheVariants as Outcome
 use Rattle.xa_base.specs.declared.step.Part.TheVariants as Part
 use Rattle.xa_base.specs.Branch.{branch_eq, branch_of_xid, gtrid_eq}
-use Rattle.xa_base.specs.Demanded.{failed_restarts, with_steps}
-use Rattle.xa_base.specs.Facts.{Change, Change.AddRow, Change.DropRow, Change.AddRecord, Change.NoChange, adds_row, begun, doubt, fault_change, had_row, has_record, heuristic_rows, heuristics_changed, incarnation, lists_row, live, log, next_answer, origin, record_of, record_of_next, row_for, rows_changed, says_yes_in, sequence, started, told, up, without}
-use Rattle.xa_base.specs.History.{history, read}
-use Rattle.xa_base.specs.Progress.{begins, has_voted}
-use Rattle.xa_base.specs.Right.{AllRight, Right, RightFault, RightOrigin}
-use Rattle.xa_base.specs.Steps.{Reply, Step, happened}
-use Rattle.xa_base.specs.Trace.{Fault, Fault.InDecide, Fault.InHear, Fault.InRestart, Happening, Happening.Begun, Happening.Crashed, Happening.Decided, Happening.Done, Happening.Failed, Happening.Heard, Happening.Issued, Happening.Restarted, Origin, Recorded, Row, Trace, Trace.From, Trace.Then}
+use Rattle.xa_model.specs.Replies.Demanded.{failed_restarts, with_steps}
+use Rattle.xa_model.specs.Facts.{Change, Change.AddRow, Change.DropRow, Change.AddRecord, Change.NoChange, adds_row, begun, doubt, fault_change, had_row, has_record, heuristic_rows, heuristics_changed, incarnation, lists_row, live, log, next_answer, origin, record_of, record_of_next, row_for, rows_changed, says_yes_in, sequence, started, told, up, without, begins, has_voted}
+use Rattle.xa_model.specs.Replies.History.{history, read}
+use Rattle.xa_model.specs.Protocol.{AllRight, Right, RightFault, RightOrigin}
+use Rattle.xa_model.specs.Replies.Steps.{Reply, Step, happened}
+use Rattle.xa_model.specs.Trace.{Fault, Fault.InDecide, Fault.InHear, Fault.InRestart, Happening, Happening.Begun, Happening.Crashed, Happening.Decided, Happening.Done, Happening.Failed, Happening.Heard, Happening.Issued, Happening.Restarted, Origin, Recorded, Row, Trace, Trace.From, Trace.Then}
 use Rattle.xa_base.specs.Xid.{Xid}
-use Rattle.xa_base.proofs.Invariant.{Inv, Old}
-use Rattle.xa_base.proofs.Keys.{branch_eq-true, gtrid_eq-true}
-use Rattle.xa_base.proofs.Preserved.{always}
-use Rattle.xa_base.proofs.Rows.{NewRow, NewRow.Had, NewRow.By_decision, NewRow.By_restart, rowed_new}
+use Rattle.xa_model.proofs.Invariant.{Inv, Old}
+use Rattle.xa_base.proofs.BranchKeys.{branch_eq-true, gtrid_eq-true}
+use Rattle.xa_model.proofs.Invariant.Preserved.{always}
+use Rattle.xa_model.proofs.Invariant.Rows.{NewRow, NewRow.Had, NewRow.By_decision, NewRow.By_restart, rowed_new}
 use Rattle.xa_log.specs.Content.{last_number}
 use Rattle.xa_log.specs.Contract.{FitsRow}
 use Rattle.xa_tm.specs.Book.{book_of, row_in}

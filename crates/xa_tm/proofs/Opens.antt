@@ -1,15 +1,14 @@
 -- What is open and listed is rolled back.
-use Rattle.std.proofs.Common.{◌≡◌, ℕ, ◌+◌, ◌<◌, List, [], ◌∷◌, length, drop, get_or, map, Bool, true, false, not, ◌&&◌, ◌||◌, Option, Some, None, IsSome, refl, sym, ap, ◌∙◌, subst}
-use Rattle.std.proofs.Common.{◌≤◌}
+use Rattle.std.proofs.Common.{◌≡◌, ℕ, ◌+◌, ◌<◌, List, [], ◌∷◌, length, drop, get_or, map, Bool, true, false, not, ◌&&◌, ◌||◌, Option, Some, None, IsSome, refl, sym, ap, ◌∙◌, subst, ◌≤◌}
 use Rattle.std.proofs.lemmas.List.{drop_all, drop_more}
 use Rattle.std.specs.Prelude.{if◌then◌else◌}
 use Rattle.std.specs.BTreeMap.{BTreeMap, get}
 use Rattle.std.specs.List.{cons_option, filter_map}
-use Rattle.xa_base.proofs.Keys.{gtrid_eq-true}
+use Rattle.xa_base.proofs.BranchKeys.{gtrid_eq-true}
 use Rattle.xa_base.specs.Branch.{branch_of_xid, gtrid_cmp, gtrid_eq}
-use Rattle.xa_base.specs.Heard.{lists_one_of}
-use Rattle.xa_base.specs.History.{name_by, name_of}
-use Rattle.xa_base.specs.Trace.{Happening.ResolvedOpen}
+use Rattle.xa_model.specs.Facts.Heard.{lists_one_of}
+use Rattle.xa_model.specs.Replies.History.{name_by, name_of}
+use Rattle.xa_model.specs.Trace.{Happening.ResolvedOpen}
 use Rattle.xa_base.specs.Xid.{Xid}
 use Rattle.xa_base.specs.declared.branch.Branch.{Branch}
 use Rattle.xa_base.specs.declared.branch.Gtrid.{Gtrid}

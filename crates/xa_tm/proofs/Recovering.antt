@@ -3,10 +3,10 @@ use Rattle.std.proofs.Common.{◌≡◌, ℕ, List, [], ◌∷◌, Bool, true, f
 use Rattle.std.specs.Prelude.{if◌then◌else◌, Some}
 use Rattle.xa_base.specs.declared.branch.Branch.{Branch}
 use Rattle.xa_base.specs.declared.branch.Gtrid.{Gtrid}
-use Rattle.xa_base.specs.Facts.{live, next_answer, page, record_of, record_of_next, resolving_calls, resolving_kind}
+use Rattle.xa_model.specs.Facts.{live, next_answer, page, record_of, record_of_next, resolving_calls, resolving_kind}
 use Rattle.xa_base.specs.Opening.{closes, has_closed}
 use Rattle.xa_base.specs.StateTable.{on}
-use Rattle.xa_base.specs.Trace.{Answer, Call, Fault.InDecide, Fault.InHear, Happening.Failed, Happening.ResolvedOpen, Kind, Kind.Commit, Kind.End, Kind.Forget, Kind.Join, Kind.OnePhase, Kind.Prepare, Kind.Rollback, Kind.Start, Line, Name, Name.Foreign, Name.Ours, Trace, Trace.Then}
+use Rattle.xa_model.specs.Trace.{Answer, Call, Fault.InDecide, Fault.InHear, Happening.Failed, Happening.ResolvedOpen, Kind, Kind.Commit, Kind.End, Kind.Forget, Kind.Join, Kind.OnePhase, Kind.Prepare, Kind.Rollback, Kind.Start, Line, Name, Name.Foreign, Name.Ours, Trace, Trace.Then}
 use Rattle.xa_tm.specs.Book.{Book, Doubt.Adds, after, asked_in, book_of, doubt_of, voted_yes}
 use Rattle.xa_tm.specs.Refusing.{live_in, resolved_in, resolved_open_in, resolving_calls_in, resolving_kind_in}
 use Rattle.xa_tm.proofs.OneMore.{one_more, voted_yes_is}

@@ -8,12 +8,12 @@ use Rattle.std.specs.FinMap.{FinMap, entries, keys, get, len, len-entries, inser
 use Rattle.std.proofs.lemmas.Bool.{true≢false, and_parts, eqb-true, eq-eqb, leb-true, ltb-true}
 use Rattle.std.proofs.lemmas.Cmp.{eq_by_cmp_equiv}
 use Rattle.xa_base.specs.Branch.{branch_cmp, branch_eq, gtrid_cmp, gtrid_eq}
-use Rattle.xa_base.specs.Trace.{Fault.InRestart, Happening.Failed, Happening.Restarted}
+use Rattle.xa_model.specs.Trace.{Fault.InRestart, Happening.Failed, Happening.Restarted}
 use Rattle.xa_base.specs.declared.branch.Branch.{Branch}
 use Rattle.xa_base.specs.declared.branch.Gtrid.{Gtrid}
 use Rattle.xa_base.specs.declared.code.How.{How}
 use Rattle.xa_base.proofs.BranchOrder.{branches_total, gtrids_total}
-use Rattle.xa_base.proofs.Keys.{branch_eq-true, gtrid_eq-true}
+use Rattle.xa_base.proofs.BranchKeys.{branch_eq-true, gtrid_eq-true}
 use Rattle.xa_log.specs.Content.{Content, bumped, unchanged}
 use Rattle.xa_log.specs.Contract.{Makes, MayMake}
 use Rattle.xa_tm.specs.Book.{Book, Waiting, Doubt, Doubt.Adds, Doubt.Drops, Doubt.Records, Doubt.Settled, after, book_after, row_with, recorded_with, records_with}

@@ -6,13 +6,13 @@ use Rattle.xa_base.specs.declared.branch.Gtrid.{Gtrid}
 use Rattle.xa_base.specs.declared.call.Call.TheVariants as Calls
 use Rattle.xa_base.specs.declared.code.Code.TheVariants as Codes
 use Rattle.xa_base.specs.Branch.{gtrid_eq}
-use Rattle.xa_base.specs.Distinct.{ApartRows}
-use Rattle.xa_base.specs.Facts.{Change.DropRow, Change.AddRecord, Change.NoChange, doubt, fault_change, has_row, lists_row, log, next_answer, origin, record_of, record_of_next, up, without}
-use Rattle.xa_base.specs.Right.{AllRight, Right, RightFault}
-use Rattle.xa_base.specs.Trace.{Answer, Call, Fault, Fault.InDecide, Fault.InDone, Fault.InHear, Happening, Happening.Decided, Happening.Done, Happening.Failed, Happening.Restarted, Recorded, Row, Trace, Trace.From, Trace.Then}
-use Rattle.xa_base.proofs.Distinct.{rows_apart}
-use Rattle.xa_base.proofs.Keys.{gtrid_eq-true}
-use Rattle.xa_base.proofs.Preserved.{always}
+use Rattle.xa_model.specs.Facts.Distinct.{ApartRows}
+use Rattle.xa_model.specs.Facts.{Change.DropRow, Change.AddRecord, Change.NoChange, doubt, fault_change, has_row, lists_row, log, next_answer, origin, record_of, record_of_next, up, without}
+use Rattle.xa_model.specs.Protocol.{AllRight, Right, RightFault}
+use Rattle.xa_model.specs.Trace.{Answer, Call, Fault, Fault.InDecide, Fault.InDone, Fault.InHear, Happening, Happening.Decided, Happening.Done, Happening.Failed, Happening.Restarted, Recorded, Row, Trace, Trace.From, Trace.Then}
+use Rattle.xa_model.proofs.AgreementLemmas.Distinct.{rows_apart}
+use Rattle.xa_base.proofs.BranchKeys.{gtrid_eq-true}
+use Rattle.xa_model.proofs.Invariant.Preserved.{always}
 use Rattle.xa_tm.specs.Book.{asked_in, book_after, book_of}
 use Rattle.xa_tm.specs.Laws.{CountsRows}
 use Rattle.xa_tm.proofs.OneMore.{one_more}

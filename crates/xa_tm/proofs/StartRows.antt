@@ -5,9 +5,9 @@ use Rattle.std.specs.List.{AllByRecursion}
 use Rattle.std.specs.List.Sorted.{IsStrictlySortedBy}
 use Rattle.xa_base.specs.declared.branch.Gtrid.{Gtrid}
 use Rattle.xa_base.specs.Branch.{gtrid_cmp}
-use Rattle.xa_base.specs.Distinct.{ApartRows}
-use Rattle.xa_base.specs.Facts.{lists_row}
-use Rattle.xa_base.specs.Trace.{Row}
+use Rattle.xa_model.specs.Facts.Distinct.{ApartRows}
+use Rattle.xa_model.specs.Facts.{lists_row}
+use Rattle.xa_model.specs.Trace.{Row}
 use Rattle.xa_base.proofs.BranchOrder.{exact_gtrids, gtrids_total}
 use Rattle.xa_log.specs.Content.{Content}
 use Rattle.xa_log.specs.KeySet.{items}

@@ -7,14 +7,13 @@ use Rattle.std.specs.Ordering.{eq_by_cmp}
 use Rattle.std.specs.FinMap.{find, entries, entries_sorted, get-entries, keys, len-entries}
 use Rattle.std.proofs.lemmas.Bool.{and_parts, leb-true, ltb-true, true≢false}
 use Rattle.std.proofs.lemmas.Cmp.{eq_by_cmp_equiv}
-use Rattle.std.proofs.lemmas.List.{length-map}
+use Rattle.std.proofs.lemmas.List.{length-map, drop_more, drop_all}
 use Rattle.std.proofs.lemmas.List.Sums.{take_while-cons}
 use Rattle.std.proofs.Math.Seq.{drop-append_seam}
 use Rattle.std.specs.Option.{option_or}
-use Rattle.std.proofs.lemmas.List.{drop_more, drop_all}
 use Rattle.xa_base.specs.Branch.{gtrid_cmp, gtrid_eq, branch_eq, branch_cmp}
 use Rattle.xa_base.proofs.BranchOrder.{branches_total, exact_branches, gtrids_total, exact_gtrids}
-use Rattle.xa_base.proofs.Keys.{gtrid_eq-refl, gtrid_eq-true, branch_eq-true}
+use Rattle.xa_base.proofs.BranchKeys.{gtrid_eq-refl, gtrid_eq-true, branch_eq-true}
 use Rattle.xa_base.specs.declared.branch.Branch.{Branch}
 use Rattle.xa_base.specs.declared.branch.Gtrid.{Gtrid}
 use Rattle.xa_base.specs.declared.code.How.{How}
@@ -23,7 +22,7 @@ use Rattle.xa_log.specs.Contract.{FitsRow, Makes}
 use Rattle.xa_log.specs.KeySet.{KeySet, contains, contains-from_list, contains-items, from_list, items, same_set}
 use Rattle.xa_log.proofs.Keyed.{risen}
 use Rattle.xa_log.proofs.Contents.{equal_is}
-use Rattle.xa_base.specs.Facts.{how_in}
+use Rattle.xa_model.specs.Facts.{how_in}
 use Rattle.xa_tm.specs.Book.{Book, Waiting, row_in}
 use Rattle.xa_tm.specs.Held.{IsSound, begun_by, held, no_branch, transaction_at}
 use Rattle.xa_tm.specs.declared.ledger.Ledger.{Ledger}

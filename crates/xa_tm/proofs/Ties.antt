@@ -14,11 +14,11 @@ use Rattle.xa_base.specs.declared.step.Outcome.TheVariants as Outcomes
 use Rattle.xa_base.specs.declared.refusal.Refusal.TheVariants as Refusals
 use Rattle.xa_base.specs.declared.step.Part.{Part}
 use Rattle.xa_base.specs.declared.step.Part.TheVariants as Parts
-use Rattle.xa_base.specs.Trace.{Line, Call, Answer, Fault, Happening.ResolvedOpen, Happening.Heard, Happening.Crashed, Happening.Decided, Happening.Done, Happening.Failed}
+use Rattle.xa_model.specs.Trace.{Line, Call, Answer, Fault, Happening.ResolvedOpen, Happening.Heard, Happening.Crashed, Happening.Decided, Happening.Done, Happening.Failed}
 use Rattle.xa_tm.specs.Refusing.{refusal_in, outlived_in, has_row_in, row_settled_in}
-use Rattle.xa_base.specs.Facts.{record_of}
+use Rattle.xa_model.specs.Facts.{record_of}
 use Rattle.xa_base.proofs.BranchOrder.{gtrids_total, branches_total}
-use Rattle.xa_base.proofs.Keys.{branch_eq-true}
+use Rattle.xa_base.proofs.BranchKeys.{branch_eq-true}
 use Rattle.xa_log.specs.Content.{Content, committed, without_decision}
 use Rattle.xa_log.specs.Contract.{Makes, MayMake}
 use Rattle.xa_tm.specs.Book.{Book, Waiting, doubt_of, Doubt, Doubt.Adds, Doubt.Drops, Doubt.Records, Doubt.Settled, after, book_after, failed_restarts_after, row_with, recorded_with, records_with, voted_yes}

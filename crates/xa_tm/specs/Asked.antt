@@ -3,9 +3,9 @@ use Rattle.std.specs.Prelude.{false, true, ◌≡◌, IsSome, Option, Some, None
 use Rattle.xa_base.specs.declared.call.Call.TheVariants as Calls
 use Rattle.std.specs.Option.{option_and_then}
 use Rattle.xa_base.specs.Call.{xid_in}
-use Rattle.xa_base.specs.Steps.{ours_of}
+use Rattle.xa_model.specs.Replies.Steps.{ours_of}
 use Rattle.xa_base.specs.declared.answer.Answer.TheVariants.{Ret, Page}
-use Rattle.xa_base.specs.Trace.{Name.Ours, Answer}
+use Rattle.xa_model.specs.Trace.{Name.Ours, Answer}
 use Rattle.xa_base.specs.declared.branch.Branch.{Branch}
 use Rattle.xa_log.specs.Contract.{FitsRow}
 use Rattle.xa_tm.specs.News.{Asked, news_to}

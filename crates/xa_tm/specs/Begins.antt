@@ -1,6 +1,6 @@
 -- What a manager began with: the rows and records that its log gave at the start.
 use Rattle.std.specs.Prelude.{ℕ, ◌≡◌, List, [], ◌∷◌, drop, length, map}
-use Rattle.xa_base.specs.Trace.{Origin, Recorded, Row}
+use Rattle.xa_model.specs.Trace.{Origin, Recorded, Row}
 use Rattle.xa_base.specs.declared.branch.Branch.{Branch}
 use Rattle.xa_base.specs.declared.branch.Gtrid.{Gtrid}
 use Rattle.xa_base.specs.declared.code.How.{How}

@@ -6,9 +6,9 @@ use Rattle.std.specs.Ordering.{nat_cmp}
 use Rattle.std.specs.Global.{Vec}
 use Rattle.std.specs.Map.{keys_of}
 use Rattle.xa_base.specs.Branch.{gtrid_cmp, branch_cmp}
-use Rattle.xa_base.specs.History.{name_of}
+use Rattle.xa_model.specs.Replies.History.{name_of}
 use Rattle.xa_base.specs.declared.step.Part.{Part}
-use Rattle.xa_base.specs.Trace.{Name, Happening.Crashed, line_of}
+use Rattle.xa_model.specs.Trace.{Name, Happening.Crashed, line_of}
 use Rattle.xa_base.specs.Xid.{Xid}
 use Rattle.xa_base.specs.declared.branch.Branch.{Branch}
 use Rattle.xa_base.specs.declared.branch.Gtrid.{Gtrid}

@@ -2,18 +2,17 @@
 use Rattle.std.specs.Prelude.{ℕ, ◌-◌, ◌≡◌, length, filter, not, ◌&&◌, true, false, None, Some}
 use Rattle.xa_base.specs.declared.step.Step.TheVariants as Steps
 use Rattle.xa_base.specs.Branch.{gtrid_eq}
-use Rattle.xa_base.specs.Distinct.{ApartRows}
+use Rattle.xa_model.specs.Facts.Distinct.{ApartRows}
 use Rattle.xa_base.specs.declared.branch.Gtrid.{Gtrid}
 use Rattle.xa_base.specs.declared.step.Outcome.TheVariants as Outcome
 use Rattle.xa_base.specs.declared.step.Part.TheVariants as Part
 use Rattle.xa_base.specs.declared.step.Side.TheVariants as Side
-use Rattle.xa_base.specs.Facts.{Change.DropRow, begun, branches, decided_so, doubt, has_row, heuristic_rows, log, next_answer, origin, page, record_of, resolving_calls, settled, without}
+use Rattle.xa_model.specs.Facts.{Change.DropRow, begun, branches, decided_so, doubt, has_row, heuristic_rows, log, next_answer, origin, page, record_of, resolving_calls, settled, without, has_voted}
 use Rattle.xa_base.specs.Opening.{has_closed}
-use Rattle.xa_base.specs.Progress.{has_voted}
-use Rattle.xa_base.specs.Right.{AllRight, Right}
-use Rattle.xa_base.specs.Rules.{must_refuse}
-use Rattle.xa_base.specs.Steps.{Step}
-use Rattle.xa_base.specs.Trace.{Answer, Call, Fault.InDecide, Fault.InDone, Fault.InHear, Happening, Happening.Done, Happening.Failed, Happening.ResolvedOpen, Happening.Restarted, Line, Trace, Trace.Then}
+use Rattle.xa_model.specs.Protocol.{AllRight, Right}
+use Rattle.xa_model.specs.Replies.Rules.{must_refuse}
+use Rattle.xa_model.specs.Replies.Steps.{Step}
+use Rattle.xa_model.specs.Trace.{Answer, Call, Fault.InDecide, Fault.InDone, Fault.InHear, Happening, Happening.Done, Happening.Failed, Happening.ResolvedOpen, Happening.Restarted, Line, Trace, Trace.Then}
 use Rattle.xa_log.specs.Content.{Content}
 use Rattle.xa_tm.specs.Book.{Book, Doubt.Adds, Doubt.Drops, asked_in, book_after, book_of, doubt_of, voted_yes}
 use Rattle.xa_tm.specs.Refusing.{managers_refusal, refusal_in, resolved_in, resolved_open_in}

@@ -1,13 +1,13 @@
 -- What bounds the numbers of a book: how much has happened, and what the start had.
 use Rattle.std.specs.Prelude.{ℕ, ◌+◌, ◌<◌, ◌≡◌, ◌≤◌, List, length, Contains, Some, None}
 use Rattle.xa_base.specs.Branch.{branch_of_xid}
-use Rattle.xa_base.specs.Demanded.{Restarts}
-use Rattle.xa_base.specs.Distinct.{ApartRows}
-use Rattle.xa_base.specs.Facts.{heuristic_rows, incarnation, log, next_answer, origin}
-use Rattle.xa_base.specs.History.{history}
-use Rattle.xa_base.specs.Right.{AllRight, Right, RightOrigin}
-use Rattle.xa_base.specs.Steps.{accepted}
-use Rattle.xa_base.specs.Trace.{Answer, Call, Happening, Happening.Restarted, Line, Origin, Trace, Trace.From, Trace.Then}
+use Rattle.xa_model.specs.Replies.Demanded.{Restarts}
+use Rattle.xa_model.specs.Facts.Distinct.{ApartRows}
+use Rattle.xa_model.specs.Facts.{heuristic_rows, incarnation, log, next_answer, origin}
+use Rattle.xa_model.specs.Replies.History.{history}
+use Rattle.xa_model.specs.Protocol.{AllRight, Right, RightOrigin}
+use Rattle.xa_model.specs.Replies.Steps.{accepted}
+use Rattle.xa_model.specs.Trace.{Answer, Call, Happening, Happening.Restarted, Line, Origin, Trace, Trace.From, Trace.Then}
 use Rattle.xa_base.specs.Xid.{Xid}
 use Rattle.xa_base.specs.declared.reply.Event.{Event}
 use Rattle.xa_base.specs.declared.reply.Reply.TheVariants as Replies

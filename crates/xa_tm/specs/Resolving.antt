@@ -1,10 +1,10 @@
 -- The calls that end the branches of a page.
 use Rattle.std.specs.Prelude.{List, [], ◌∷◌, Bool, false, not, ◌&&◌, ◌||◌, if◌then◌else◌, Option, Some, None, is_some}
 use Rattle.xa_base.specs.Call.{map_call}
-use Rattle.xa_base.specs.Steps.{accepted}
-use Rattle.xa_base.specs.History.{name_of}
+use Rattle.xa_model.specs.Replies.Steps.{accepted}
+use Rattle.xa_model.specs.Replies.History.{name_of}
 use Rattle.xa_base.specs.Branch.{branch_of_xid, gtrid_eq}
-use Rattle.xa_base.specs.Trace.{Call}
+use Rattle.xa_model.specs.Trace.{Call}
 use Rattle.xa_base.specs.Xid.{Xid}
 use Rattle.xa_base.specs.declared.branch.Branch.{Branch}
 use Rattle.xa_base.specs.declared.branch.Gtrid.{Gtrid}

@@ -4,11 +4,11 @@ ghost use Rattle.std.specs.Prelude.{◌≡◌, ℕ, ◌<◌, ◌-◌, ◌^◌, �
 ghost use Rattle.xa_base.specs.StateTable.{on};
 ghost use Rattle.xa_base.specs.Branch.{gtrid_eq, branch_eq};
 ghost use Rattle.xa_base.specs.declared.answer.Answer.TheVariants.{Page as Listed, Ret};
-ghost use Rattle.xa_base.specs.Trace.{Kind, Call as KnownCall, Happening.Heard, Line, line, line_eq};
+ghost use Rattle.xa_model.specs.Trace.{Kind, Call as KnownCall, Happening.Heard, Line, line, line_eq};
 ghost use Rattle.xa_tm.specs.Book.{after};
 ghost use Rattle.xa_base.specs.Call.{map_call};
-ghost use Rattle.xa_base.specs.Steps.{accepted};
-ghost use Rattle.xa_base.specs.History.{name_of};
+ghost use Rattle.xa_model.specs.Replies.Steps.{accepted};
+ghost use Rattle.xa_model.specs.Replies.History.{name_of};
 ghost use Rattle.xa_tm.specs.Asked.{IsAnswerTo};
 ghost use Rattle.xa_tm.specs.News.{news_by};
 ghost use Rattle.xa_base.specs.declared.code.Code.{Code};

@@ -1,7 +1,7 @@
 //! The manager comes up again over its log.
 
 ghost use Rattle.std.specs.Prelude.{◌⊎◌, ◌≡◌, ◌≢◌, ◌≤◌, Bool, IsSomeAnd, Err, IfOk, IfErr, OnOk, OnErr};
-ghost use Rattle.xa_base.specs.Trace.{Happening.Restarted, Fault.InRestart};
+ghost use Rattle.xa_model.specs.Trace.{Happening.Restarted, Fault.InRestart};
 ghost use Rattle.xa_base.specs.declared.refusal.Refusal.TheVariants as Refusals;
 ghost use Rattle.xa_log.specs.Content.{bumped, last_number};
 ghost use Rattle.xa_tm.specs.Book.{Doubt.Settled, after};

@@ -3,8 +3,8 @@
 
 ghost use Rattle.std.specs.Prelude.{◌≡◌, ◌≢◌, Bool, Some, None, Err, IfErr, OnOk};
 ghost use Rattle.xa_base.specs.declared.step.Step.TheVariants as Steps;
-ghost use Rattle.xa_base.specs.Trace.{Fault.InDecide, Fault.InDone, Happening.Decided, Happening.Done};
-ghost use Rattle.xa_base.specs.Trace.{Happening.Failed};
+ghost use Rattle.xa_model.specs.Trace.{Fault.InDecide, Fault.InDone, Happening.Decided, Happening.Done};
+ghost use Rattle.xa_model.specs.Trace.{Happening.Failed};
 ghost use Rattle.xa_base.specs.declared.refusal.Refusal.TheVariants as Refusals;
 ghost use Rattle.xa_base.specs.declared.step.Outcome.TheVariants as Outcomes;
 ghost use Rattle.xa_tm.specs.Book.{Doubt.Adds, Doubt.Drops, after, book_after, voted_yes};

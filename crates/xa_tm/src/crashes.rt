@@ -1,7 +1,7 @@
 //! What a crash of a part, and a failure of the log, make of the manager's book.
 
 ghost use Rattle.std.specs.Prelude.{true, false, ◌≡◌, ℕ, [], ◌-◌, if◌then◌else◌, Bool, ◌&&◌};
-ghost use Rattle.xa_base.specs.Trace.{Happening.Crashed, Happening.Failed, Line, Fault, line, line_eq, line_of};
+ghost use Rattle.xa_model.specs.Trace.{Happening.Crashed, Happening.Failed, Line, Fault, line, line_eq, line_of};
 ghost use Rattle.xa_tm.specs.Book.{after, book_after, breaks_in, failed_restarts_after};
 ghost use Rattle.xa_tm.specs.Held.{branch_at, doubt_held, held, known_in, off_line, page_at};
 

@@ -2,7 +2,7 @@
 
 ghost use Rattle.std.specs.Prelude.{◌≡◌, ◌<◌, ◌-◌, ◌^◌, ◌+◌, Bool, ◌&&◌, Some, None, IsSome, IfOk, OnOk, OnErr};
 ghost use Rattle.std.specs.List.{AllByRecursion};
-ghost use Rattle.xa_base.specs.Trace.{Happening.Decided, Happening.Done};
+ghost use Rattle.xa_model.specs.Trace.{Happening.Decided, Happening.Done};
 ghost use Rattle.xa_base.specs.declared.step.Outcome.TheVariants.{Commit};
 ghost use Rattle.xa_tm.specs.Book.{after, deal_after, voted_yes};
 ghost use Rattle.xa_tm.specs.Outcomes.{is_commit};

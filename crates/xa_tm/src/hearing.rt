@@ -3,14 +3,14 @@
 ghost use Rattle.std.specs.Prelude.{◌≡◌, ◌≢◌, Bool, Option, Some, None, IsSome, Err, IfErr, OnOk, OnErr};
 ghost use Rattle.xa_base.specs.StateTable.{on};
 ghost use Rattle.xa_base.specs.declared.answer.Answer.TheVariants.{Ret};
-ghost use Rattle.xa_base.specs.Trace.{Fault.InHear, Call as KnownCall, Kind, Line, line, Happening.Heard};
+ghost use Rattle.xa_model.specs.Trace.{Fault.InHear, Call as KnownCall, Kind, Line, line, Happening.Heard};
 ghost use Rattle.xa_base.specs.declared.refusal.Refusal.TheVariants as Refusals;
 ghost use Rattle.xa_tm.specs.Book.{after, doubt_of};
-ghost use Rattle.xa_base.specs.Facts.{record_of};
+ghost use Rattle.xa_model.specs.Facts.{record_of};
 ghost use Rattle.xa_base.specs.Call.{map_call};
 ghost use Rattle.xa_base.specs.Answer.{map_answer};
-ghost use Rattle.xa_base.specs.Steps.{accepted};
-ghost use Rattle.xa_base.specs.History.{name_of};
+ghost use Rattle.xa_model.specs.Replies.Steps.{accepted};
+ghost use Rattle.xa_model.specs.Replies.History.{name_of};
 ghost use Rattle.xa_base.specs.declared.code.Code.{Code};
 ghost use Rattle.xa_log.specs.Contract.{LeavesAlso, FitsRow, MayMake, faults_after};
 ghost use Rattle.xa_tm.specs.Asked.{FitsRecord, IsAnswerTo, MakesRecord};

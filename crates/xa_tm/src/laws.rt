@@ -1,7 +1,7 @@
 //! What ties the manager's book to histories. These functions do nothing: each contract is a theorem.
 
 ghost use Rattle.std.specs.Prelude.{◌≡◌, true, false};
-ghost use Rattle.xa_base.specs.Trace.{Fault, Fault.InRestart, Happening.Crashed, Happening.Failed};
+ghost use Rattle.xa_model.specs.Trace.{Fault, Fault.InRestart, Happening.Crashed, Happening.Failed};
 ghost use Rattle.xa_base.specs.declared.step.Part.{Part as Crashing};
 ghost use Rattle.xa_log.specs.Content.{bumped};
 ghost use Rattle.xa_log.specs.Contract.{LeavesAlso};

@@ -2,7 +2,7 @@
 
 ghost use Rattle.std.specs.Prelude.{true, false, ◌≡◌, ◌<◌, ◌-◌, ◌^◌, ◌+◌, Bool, ◌&&◌, Option, IfOk, OnOk, OnErr};
 ghost use Rattle.xa_base.specs.declared.call.Call.TheVariants as Calls;
-ghost use Rattle.xa_base.specs.Trace.{Happening.Begun, Happening.Claimed, Happening.Issued, Line};
+ghost use Rattle.xa_model.specs.Trace.{Happening.Begun, Happening.Claimed, Happening.Issued, Line};
 ghost use Rattle.xa_tm.specs.Book.{after, settled_in};
 ghost use Rattle.xa_tm.specs.Held.{HasBranch, HasTransaction, begun_by, branch_at, held, known_in, transaction_at};
 

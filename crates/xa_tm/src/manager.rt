@@ -2,14 +2,14 @@
 
 ghost use Rattle.std.specs.Prelude.{◌≡◌, ◌+◌, map, length, Option, Some, None, Err, IfOk, IfErr, OnOk};
 ghost use Rattle.xa_base.specs.declared.step.Step.TheVariants as Steps;
-ghost use Rattle.xa_base.specs.Trace.{Call as KnownCall, line, Happening.Issued, Happening.Begun, Happening.Claimed};
-ghost use Rattle.xa_base.specs.Trace.{Happening.Crashed, Happening.ResolvedOpen};
+ghost use Rattle.xa_model.specs.Trace.{Call as KnownCall, line, Happening.Issued, Happening.Begun, Happening.Claimed};
+ghost use Rattle.xa_model.specs.Trace.{Happening.Crashed, Happening.ResolvedOpen};
 ghost use Rattle.xa_base.specs.declared.refusal.Refusal.TheVariants as Refusals;
 ghost use Rattle.xa_log.specs.Content.{Content};
 ghost use Rattle.xa_tm.specs.Book.{after};
 ghost use Rattle.xa_base.specs.Call.{map_call};
-ghost use Rattle.xa_base.specs.Steps.{accepted};
-ghost use Rattle.xa_base.specs.History.{name_of};
+ghost use Rattle.xa_model.specs.Replies.Steps.{accepted};
+ghost use Rattle.xa_model.specs.Replies.History.{name_of};
 ghost use Rattle.xa_tm.specs.Held.{IsSound};
 ghost use Rattle.xa_tm.specs.Kept.{book_in, log_in};
 ghost use Rattle.xa_tm.specs.Refusing.{refusal_in, resolved_in, resolved_open_in};

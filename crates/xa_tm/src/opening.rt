@@ -4,8 +4,8 @@
 ghost use Rattle.std.specs.Prelude.{◌≡◌, ◌&&◌, map, Option, Some, IfOk, OnOk, OnErr, IsSome, if◌then◌else◌};
 ghost use Rattle.std.specs.BTreeMap.{get};
 ghost use Rattle.xa_base.specs.Branch.{gtrid_cmp, gtrid_eq};
-ghost use Rattle.xa_base.specs.Heard.{lists_one_of};
-ghost use Rattle.xa_base.specs.Trace.{Happening.ResolvedOpen};
+ghost use Rattle.xa_model.specs.Facts.Heard.{lists_one_of};
+ghost use Rattle.xa_model.specs.Trace.{Happening.ResolvedOpen};
 ghost use Rattle.xa_tm.specs.Book.{after};
 ghost use Rattle.xa_tm.specs.Held.{HasKept, HaveRoom, held, transaction_at};
 ghost use Rattle.xa_tm.specs.Refusing.{resolved_open_in};

@@ -1,7 +1,7 @@
 //! The calls that end the branches which a recovery page lists (XA, section 2.3, Transaction Completion and Recovery).
 
 ghost use Rattle.std.specs.Prelude.{◌≡◌, map, length, Option, Some, IfOk};
-ghost use Rattle.xa_base.specs.History.{name_of};
+ghost use Rattle.xa_model.specs.Replies.History.{name_of};
 ghost use Rattle.xa_tm.specs.Held.{held, page_at};
 ghost use Rattle.xa_tm.specs.Refusing.{resolved_in, resolved_open_in};
 ghost use Rattle.xa_tm.specs.Resolving.{call_for, ending_call, open_call_for, waiting_call};

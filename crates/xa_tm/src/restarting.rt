@@ -5,7 +5,7 @@ ghost use Rattle.std.specs.Prelude.{false, Bool, Option, Some, None, is_some, Is
 ghost use Rattle.std.specs.BTreeMap.{get};
 ghost use Rattle.std.specs.Option.{option_map};
 ghost use Rattle.xa_base.specs.Branch.{gtrid_cmp, gtrid_eq, branch_eq};
-ghost use Rattle.xa_base.specs.Trace.{Happening.Failed, Happening.Restarted, Fault.InRestart};
+ghost use Rattle.xa_model.specs.Trace.{Happening.Failed, Happening.Restarted, Fault.InRestart};
 ghost use Rattle.xa_tm.specs.Tied.{may_find, rows_of};
 ghost use Rattle.xa_tm.specs.Book.{records_with, after, book_after, Doubt};
 ghost use Rattle.xa_tm.specs.News.{found_ended};

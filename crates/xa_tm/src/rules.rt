@@ -2,7 +2,7 @@
 
 ghost use Rattle.std.specs.Prelude.{◌≡◌};
 ghost use Rattle.xa_base.specs.declared.step.Step.TheVariants as Steps;
-ghost use Rattle.xa_base.specs.Facts.{each_of_some};
+ghost use Rattle.xa_model.specs.Facts.{each_of_some};
 ghost use Rattle.xa_tm.specs.Held.{held};
 ghost use Rattle.xa_tm.specs.Refusing.{has_row_in, row_settled_in, settled_lately_in, waits_for_none, is_shut_in};
 ghost use Rattle.xa_tm.specs.Refusing.{is_taken_up_in, live_in, outlived_in, refusal_in};

@@ -1,5 +1,5 @@
 //! Calls that are issued, taken and heard.
-ghost use Rattle.xa_base.specs.ReadBack.{CallHasXid};
+ghost use Rattle.xa_model.specs.Replies.ReadBack.{CallHasXid};
 ghost use Rattle.xa_base.specs.declared.step.Step.TheVariants as Steps;
 ghost use Rattle.xa_system.specs.Parts.{GoesOn, StandsSomewhere, sees};
 

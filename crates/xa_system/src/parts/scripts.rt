@@ -2,7 +2,7 @@
 ghost use Rattle.xa_base.specs.Xid.{IsXid};
 ghost use Rattle.xa_base.specs.declared.step.Step.TheVariants as Steps;
 ghost use Rattle.std.specs.Prelude.{◌≡◌, ◌<◌, None};
-ghost use Rattle.xa_base.specs.History.{name_of};
+ghost use Rattle.xa_model.specs.Replies.History.{name_of};
 ghost use Rattle.xa_system.specs.Parts.{GoesOn, HindersScript, StandsSomewhere, noted_as, sees};
 
 use super::Parts;

@@ -1,6 +1,6 @@
 use Rattle.xa_base.proofs.BranchLemmas.{numbers_fit}
 use Rattle.xa_base.proofs.BytesOrder.{branch_order}
-use Rattle.xa_base.proofs.SameTests.{gtrid_ties, branch_ties}
+use Rattle.xa_base.proofs.BranchOrder.{gtrid_ties, branch_ties}
 use Rattle.xa_base.proofs.identifiers.branches_in_order.Goals as goal
 
 pub returns-clause-fit : goal.returns-clause-fit

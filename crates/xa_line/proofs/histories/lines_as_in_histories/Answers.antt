@@ -1,7 +1,7 @@
 use Rattle.std.proofs.Common.{sym, ◌&&◌, not}
-use Rattle.xa_base.specs.Facts as facts
-use Rattle.xa_base.specs.History.{name_of}
-use Rattle.xa_base.specs.Trace.{line}
+use Rattle.xa_model.specs.Facts as facts
+use Rattle.xa_model.specs.Replies.History.{name_of}
+use Rattle.xa_model.specs.Trace.{line}
 use Rattle.xa_line.proofs.HistoryLaws.{opens_mapped, opened_known, closed_known}
 use Rattle.xa_line.proofs.histories.lines_as_in_histories.Goals as goal
 use Rattle.xa_line.specs.Traffic.{issued}

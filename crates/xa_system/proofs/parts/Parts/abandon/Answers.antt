@@ -1,6 +1,6 @@
 use Rattle.std.specs.Prelude.{Result, Err}
 use Rattle.std.proofs.Common.{refl, ap}
-use Rattle.xa_base.specs.Trace.{Fault.InDecide}
+use Rattle.xa_model.specs.Trace.{Fault.InDecide}
 use Rattle.xa_tm.specs.Book.{Doubt.Adds, voted_yes}
 use Rattle.xa_tm.specs.Kept.{book_in}
 use Rattle.xa_base.specs.declared.refusal.Refusal.{Refusal}

@@ -1,9 +1,9 @@
 use Rattle.std.proofs.Common.{refl, sym, ap, ◌∙◌}
 use Rattle.std.specs.Prelude.{not}
-use Rattle.xa_base.specs.History.{name_of}
+use Rattle.xa_model.specs.Replies.History.{name_of}
 use Rattle.xa_base.specs.declared.reply.Reply.TheVariants as Replies
-use Rattle.xa_base.specs.Steps as known
-use Rattle.xa_base.specs.Trace.{Happening.PutOff}
+use Rattle.xa_model.specs.Replies.Steps as known
+use Rattle.xa_model.specs.Trace.{Happening.PutOff}
 use Rattle.xa_base.specs.declared.step.Step.TheVariants as Steps
 use Rattle.xa_rm.specs.ResourceManager.{retrying}
 use Rattle.xa_system.specs.Parts.{Sees, sees}

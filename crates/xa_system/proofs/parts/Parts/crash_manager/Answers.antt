@@ -2,7 +2,7 @@ use Rattle.std.proofs.Common.{refl, sym, ◌∙◌}
 use Rattle.xa_base.specs.declared.refusal.Refusal.TheVariants as Refusals
 use Rattle.xa_base.specs.declared.step.Part.TheVariants as KnownParts
 use Rattle.xa_base.specs.declared.step.Step.TheVariants as Steps
-use Rattle.xa_base.specs.Trace.{Happening.Crashed}
+use Rattle.xa_model.specs.Trace.{Happening.Crashed}
 use Rattle.xa_system.proofs.Logging.{log_kept}
 use Rattle.xa_system.specs.Parts.{Sees, sees}
 use Rattle.xa_system.proofs.CrashLeads.{crash_manager_down, crash_manager_leads}

@@ -1,5 +1,5 @@
 use Rattle.std.proofs.Common.{ap, refl, inr}
-use Rattle.xa_base.specs.Trace.{Fault.InDone}
+use Rattle.xa_model.specs.Trace.{Fault.InDone}
 use Rattle.xa_base.specs.declared.step.Step.TheVariants as Steps
 use Rattle.xa_tm.specs.Tied.{made}
 use Rattle.std.specs.Prelude.{Result, Err}

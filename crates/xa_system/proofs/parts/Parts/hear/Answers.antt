@@ -2,7 +2,7 @@ use Rattle.std.proofs.Common.{true, false, refl, sym, ap, subst, ◌∙◌}
 use Rattle.std.specs.Option.{option_copied}
 use Rattle.std.specs.Prelude.{Result, Err, slice_get}
 use Rattle.xa_base.specs.Call.{map_call}
-use Rattle.xa_base.specs.History.{name_of}
+use Rattle.xa_model.specs.Replies.History.{name_of}
 use Rattle.xa_base.specs.declared.refusal.Refusal.{Refusal}
 use Rattle.xa_system.specs.Steps.{HearsOne}
 use Rattle.xa_base.specs.declared.refusal.Refusal.TheVariants as Refusals

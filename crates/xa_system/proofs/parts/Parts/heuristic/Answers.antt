@@ -1,8 +1,8 @@
 use Rattle.std.proofs.Common.{refl, sym, ap, ◌∙◌}
-use Rattle.xa_base.specs.History.{name_of}
+use Rattle.xa_model.specs.Replies.History.{name_of}
 use Rattle.xa_base.specs.declared.reply.Reply.TheVariants as Replies
-use Rattle.xa_base.specs.Steps as known
-use Rattle.xa_base.specs.Trace.{Happening.EndedAlone}
+use Rattle.xa_model.specs.Replies.Steps as known
+use Rattle.xa_model.specs.Trace.{Happening.EndedAlone}
 use Rattle.xa_base.specs.declared.step.Step.TheVariants as Steps
 use Rattle.xa_base.specs.HeldBranch.{completed_by}
 use Rattle.xa_system.specs.Parts.{Sees, sees}

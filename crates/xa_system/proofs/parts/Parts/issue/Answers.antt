@@ -1,7 +1,7 @@
 use Rattle.std.proofs.Common.{length, true, sym, ap, ◌∙◌}
 use Rattle.std.specs.Prelude.{nat_le}
 use Rattle.xa_base.specs.Call.{map_call}
-use Rattle.xa_base.specs.History.{name_of}
+use Rattle.xa_model.specs.Replies.History.{name_of}
 use Rattle.xa_base.specs.declared.refusal.Refusal.TheVariants as Refusals
 use Rattle.xa_base.specs.declared.reply.Reply.TheVariants as Replies
 use Rattle.xa_base.specs.declared.step.Step.TheVariants as Steps

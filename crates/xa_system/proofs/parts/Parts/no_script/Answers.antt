@@ -1,7 +1,7 @@
 use Rattle.std.proofs.Common.{true, false, arith, sym, ap, ◌∙◌}
 use Rattle.std.specs.Prelude.{not}
-use Rattle.xa_base.specs.History.{name_of}
-use Rattle.xa_base.specs.Rules.{is_at}
+use Rattle.xa_model.specs.Replies.History.{name_of}
+use Rattle.xa_model.specs.Replies.Rules.{is_at}
 use Rattle.xa_system.specs.Parts.{Sees, script_why, sees}
 use Rattle.xa_system.proofs.CrashLeads.{rm_read}
 use Rattle.xa_system.proofs.ScriptLeads.{script_found, script_limit}

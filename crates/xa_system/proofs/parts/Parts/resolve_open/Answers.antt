@@ -1,7 +1,7 @@
 use Rattle.std.proofs.Common.{refl, sym, ap, ◌∙◌}
 use Rattle.xa_line.specs.Traffic.{Traffic}
 use Rattle.xa_tm.specs.Kept.{book_in}
-use Rattle.xa_base.specs.Trace.{Happening.ResolvedOpen}
+use Rattle.xa_model.specs.Trace.{Happening.ResolvedOpen}
 use Rattle.xa_system.proofs.Logging.{log_kept}
 use Rattle.xa_system.specs.Lines.{with_more}
 use Rattle.xa_system.specs.Parts.{Sees, sees}

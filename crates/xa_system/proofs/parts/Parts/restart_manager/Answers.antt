@@ -1,7 +1,7 @@
 use Rattle.std.proofs.Common.{refl, ap}
 use Rattle.xa_tm.specs.Kept.{book_in}
 use Rattle.std.specs.Prelude.{Result, Err}
-use Rattle.xa_base.specs.Trace.{Happening.Restarted}
+use Rattle.xa_model.specs.Trace.{Happening.Restarted}
 use Rattle.xa_base.specs.declared.refusal.Refusal.{Refusal}
 use Rattle.xa_system.proofs.Logging.{log_done}
 use Rattle.xa_system.specs.Parts.{Sees, sees}

@@ -1,5 +1,5 @@
 use Rattle.std.proofs.Common.{subst}
-use Rattle.xa_base.specs.Headline.{Headline}
+use Rattle.xa_model.specs.Promises.Headline.{Headline}
 use Rattle.xa_system.specs.Parts.{Sees, sees}
 use Rattle.xa_system.specs.Seen.{HoldsItsTrace, origin_in, seen}
 use Rattle.xa_system.proofs.Agreeing.{start_right}

@@ -1,5 +1,5 @@
 use Rattle.std.proofs.Common.{◌≡◌, sym, subst, ◌∙◌}
-use Rattle.xa_base.specs.Facts.{fate}
+use Rattle.xa_model.specs.Facts.{fate}
 use Rattle.xa_system.specs.Parts.{Sees, sees}
 use Rattle.xa_system.specs.Seen.{trace_in}
 use Rattle.xa_system.proofs.Seeing.{fate_is}

@@ -1,7 +1,7 @@
 use Rattle.std.proofs.Common.{◌≡◌, inr, refl, subst, sym, ap, ◌∙◌, arith}
-use Rattle.xa_base.specs.Demanded.{Demanded}
-use Rattle.xa_base.specs.History.{reply_of, step_of}
-use Rattle.xa_base.specs.Steps.{happened, log_failed}
+use Rattle.xa_model.specs.Replies.Demanded.{Demanded}
+use Rattle.xa_model.specs.Replies.History.{reply_of, step_of}
+use Rattle.xa_model.specs.Replies.Steps.{happened, log_failed}
 use Rattle.xa_system.specs.Logged.{MayHaveFailed}
 use Rattle.xa_system.proofs.Standing.{refused_as_nothing, stays_same}
 use Rattle.xa_system.specs.Parts.{Sees, sees}

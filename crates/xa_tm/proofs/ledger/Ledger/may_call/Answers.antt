@@ -1,8 +1,8 @@
 use Rattle.std.proofs.Common.{ap, ◌∙◌}
 use Rattle.xa_base.specs.declared.call.Call.TheVariants as Calls
 use Rattle.xa_base.specs.Call.{map_call}
-use Rattle.xa_base.specs.History.{name_of}
-use Rattle.xa_base.specs.Trace.{Kind.End, Kind.Commit, Kind.Rollback, Kind.Forget}
+use Rattle.xa_model.specs.Replies.History.{name_of}
+use Rattle.xa_model.specs.Trace.{Kind.End, Kind.Commit, Kind.Rollback, Kind.Forget}
 use Rattle.xa_tm.specs.Held.{held}
 use Rattle.xa_tm.proofs.Issuing.{asked_ours}
 use Rattle.xa_tm.proofs.ledger.Ledger.may_call.Goals as goal

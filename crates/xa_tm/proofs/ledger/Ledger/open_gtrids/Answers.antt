@@ -4,7 +4,7 @@ use Rattle.std.proofs.lemmas.Iterator.Consumers.{YieldsList-from_filter_map, Yie
 use Rattle.std.proofs.lemmas.Result.{IfOk-weaker}
 use Rattle.std.specs.List.{filter_map}
 use Rattle.std.specs.Vec.{vec_items}
-use Rattle.xa_base.specs.Heard.{lists_one_of}
+use Rattle.xa_model.specs.Facts.Heard.{lists_one_of}
 use Rattle.xa_tm.specs.Held.{held}
 use Rattle.xa_tm.specs.Resolving.{is_one_of, open_gtrid_for, open_in}
 use Rattle.xa_tm.proofs.Opens.{opens_are}

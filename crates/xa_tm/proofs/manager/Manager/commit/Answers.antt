@@ -1,6 +1,6 @@
 use Rattle.std.proofs.Common.{inl, inr, refl, sym, ap, ◌∙◌, subst}
 use Rattle.xa_base.specs.declared.step.Outcome.TheVariants as Outcomes
-use Rattle.xa_base.specs.Trace.{Fault.InDecide, Happening.Decided, Happening.Failed}
+use Rattle.xa_model.specs.Trace.{Fault.InDecide, Happening.Decided, Happening.Failed}
 use Rattle.xa_log.specs.Content.{committed}
 use Rattle.xa_log.specs.Contract.{LeavesAlso, MayMake}
 use Rattle.xa_log.specs.KeySet.{from_list}

@@ -1,10 +1,10 @@
 use Rattle.std.proofs.Common.{◌≡◌, sym, ap, ◌∙◌, subst}
 use Rattle.xa_base.specs.declared.answer.Answer.TheVariants.{Ret}
-use Rattle.xa_base.specs.Facts.{record_of}
+use Rattle.xa_model.specs.Facts.{record_of}
 use Rattle.xa_base.specs.Call.{map_call}
 use Rattle.xa_base.specs.Answer.{map_answer}
-use Rattle.xa_base.specs.History.{name_of}
-use Rattle.xa_base.specs.Trace.{Call, Answer, Fault.InHear, Happening.Heard, line}
+use Rattle.xa_model.specs.Replies.History.{name_of}
+use Rattle.xa_model.specs.Trace.{Call, Answer, Fault.InHear, Happening.Heard, line}
 use Rattle.xa_tm.specs.Book.{after, doubt_of}
 use Rattle.xa_tm.specs.Held.{held}
 use Rattle.xa_log.specs.Contract.{LeavesAlso, MayMake}

@@ -4,7 +4,7 @@ use Rattle.std.specs.List.{list_all}
 use Rattle.std.proofs.lemmas.Bool.{and_parts}
 use Rattle.xa_base.specs.declared.branch.Branch.{Branch}
 use Rattle.xa_base.specs.declared.code.How.{How}
-use Rattle.xa_base.specs.Distinct.{ApartRows}
+use Rattle.xa_model.specs.Facts.Distinct.{ApartRows}
 use Rattle.xa_log.specs.Content.{last_number}
 use Rattle.xa_log.specs.declared.log_rows.LogRows.{LogRows}
 use Rattle.xa_log.specs.Contract.{one_more_fault}

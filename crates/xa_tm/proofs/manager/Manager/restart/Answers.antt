@@ -1,5 +1,5 @@
 use Rattle.std.proofs.Common.{inr, refl, sym, ap, ◌∙◌, subst}
-use Rattle.xa_base.specs.Trace.{Fault.InRestart, Happening.Failed, Happening.Restarted}
+use Rattle.xa_model.specs.Trace.{Fault.InRestart, Happening.Failed, Happening.Restarted}
 use Rattle.xa_tm.specs.Book.{Doubt.Settled, after, book_after}
 use Rattle.xa_tm.specs.Held.{held}
 use Rattle.xa_tm.specs.Tied.{IsTied, may_find}

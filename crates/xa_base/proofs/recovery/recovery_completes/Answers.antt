@@ -1,5 +1,0 @@
-use Rattle.xa_base.proofs.RecoveredStart.{recovered}
-use Rattle.xa_base.proofs.recovery.recovery_completes.Goals as goal
-
-pub returns : goal.returns
-returns c tr r count names answers a m d = recovered tr r count names answers a m d

@@ -1,0 +1,6 @@
+-- What agreement rests on beyond the invariant: each of its promises by its lemmas.
+pub mod Alike
+pub mod Distinct
+pub mod Ends
+pub mod Prefix
+pub mod Simulation

@@ -1,0 +1,277 @@
+-- Each happening is some steps of the abstract commitment.
+use Rattle.std.proofs.Common.{◌≡◌, List, [], ◌∷◌, Bool, true, false, refl, sym, ap, ◌∙◌, subst, ◌⊎◌}
+use Rattle.std.specs.Prelude.{if◌then◌else◌}
+use mathlib.Core.Logic.{◌⊎◌.inl, ◌⊎◌.inr}
+use Rattle.xa_base.specs.declared.call.Call.TheVariants as Calls
+use Rattle.xa_model.specs.Trace.{Gtrid, Branch, Happening, Happening.Issued, Trace, Trace.From, Trace.Then}
+use Rattle.xa_base.specs.Branch.{gtrid_eq, branch_eq}
+use Rattle.xa_base.specs.declared.state.Standing.{Standing}
+use Rattle.xa_base.specs.declared.state.Standing.TheVariants.{Idle, Prepared, RollbackOnly, Completed, Committed, RolledBack, Lost, ReadOnly, Forgotten}
+use Rattle.xa_model.specs.Facts.{handed_over, started, had_row, standing}
+use Rattle.xa_model.specs.Protocol.{AllRight}
+use Rattle.xa_model.proofs.Invariant.{Closed, IsGood, Inv}
+use Rattle.xa_base.proofs.BranchKeys.{gtrid_eq-true, branch_eq-true, gtrid_eq-refl, branch_eq-refl}
+use Rattle.xa_model.proofs.Invariant.Moves.{Move, Move.Stays, Move.Starts, Move.Completes, Move.Rolls_back, CanRollBack, Move.Ends, Move.Fails, Move.Prepares, Move.Only_reads, Move.Refuses, Move.In_one_phase, Move.Commits, Move.Forgets, Move.Loses_active, Move.Loses_idle, Move.Loses_rollback_only}
+use Rattle.xa_model.proofs.Invariant.Grows.{closed_kept, started_kept, handed_kept}
+use Rattle.xa_model.proofs.Invariant.Rows.{or_here, rowed_kept}
+use Rattle.xa_model.proofs.Invariant.Now.{step_move, started_back}
+use Rattle.xa_model.proofs.Invariant.Kept.{ended_kept}
+use Rattle.xa_model.proofs.Invariant.Preserved.{always}
+use Rattle.xa_model.specs.Promises.Commitment.{Phase, Phase.Working, Phase.Prepared as Willing, Phase.Committed as Kept, Phase.Aborted, MayGo.Prepares as Becomes_willing, MayGo.Commits as Keeps, MayGo.Aborts, with_phase, Leads, Leads.There, Leads.Step, phase_of}
+use Rattle.xa_model.specs.Promises.Agreement.{after, IsUndone, IsBranchOf, phases, IsCommitment}
+use Rattle.xa_model.proofs.AgreementLemmas.Alike.{are_alike}
+use Rattle.xa_model.proofs.AgreementLemmas.Ends.{right_before}
+
+-- ** from one map of phases to another, a branch at a time
+
+abbrev IsEager : Phase → Type 0
+IsEager x = (x ≡ Willing) ⊎ (x ≡ Kept)
+
+-- how one branch changes, with what holds of all members before and after
+data Change2 (Member : Branch → Type 0) (p q : Branch → Phase) (b : Branch) : Type 0 where
+  Same : p b ≡ q b → Change2 Member p q b
+  To_willing : p b ≡ Working → q b ≡ Willing → Change2 Member p q b
+  To_kept : p b ≡ Willing → q b ≡ Kept → ((c : Branch) → Member c → IsEager (p c) × IsEager (q c)) → Change2 Member p q b
+  In_one : p b ≡ Working → q b ≡ Kept → ((c : Branch) → Member c → c ≡ b) → Change2 Member p q b
+  To_aborted : (p b ≡ Working) ⊎ (p b ≡ Willing) → q b ≡ Aborted → ((c : Branch) → Member c → (p c ≡ Kept → ⊥) × (q c ≡ Kept → ⊥)) → Change2 Member p q b
+
+abbrev Within : List Branch → Branch → Type 0
+Within [] c = ⊥
+Within (x ∷ xs) c = (x ≡ c) ⊎ Within xs c
+
+abbrev Mixed : (Branch → Type 0) → (p q m : Branch → Phase) → Type 0
+Mixed Member p q m = (c : Branch) → Member c → (m c ≡ p c) ⊎ (m c ≡ q c)
+
+abbrev DoneBut : (Branch → Type 0) → (q m : Branch → Phase) → List Branch → Type 0
+DoneBut Member q m xs = (c : Branch) → Member c → (m c ≡ q c) ⊎ Within xs c
+
+-- n is m with the branch x changed to what it is in q
+record SetTo (q m n : Branch → Phase) (x : Branch) : Type 0 where
+  there : n x ≡ q x
+  elsewhere : (c : Branch) → (x ≡ c) ⊎ (n c ≡ m c)
+
+set_here : (m : Branch → Phase) (x : Branch) (y : Phase) → with_phase m x y x ≡ y
+set_here m x y = ap (λ t. if t then y else m x) (branch_eq-refl x)
+
+set_elsewhere : (m : Branch → Phase) (x : Branch) (y : Phase) (c : Branch) → (x ≡ c) ⊎ (with_phase m x y c ≡ m c)
+set_elsewhere m x y c = by_test (branch_eq x c) refl
+  where
+    by_test : (t : Bool) → branch_eq x c ≡ t → (x ≡ c) ⊎ ((if t then y else m c) ≡ m c)
+    by_test true s = inl (branch_eq-true x c s)
+    by_test false s = inr refl
+
+set_once : (q m : Branch → Phase) (x : Branch) (y : Phase) → q x ≡ y → SetTo q m (with_phase m x y) x
+set_once q m x y e = record { there = set_here m x y ∙ sym e; elsewhere = set_elsewhere m x y }
+
+set_twice : (q m : Branch → Phase) (x : Branch) (y z : Phase) → q x ≡ z → SetTo q m (with_phase (with_phase m x y) x z) x
+set_twice q m x y z e = record { there = set_here (with_phase m x y) x z ∙ sym e; elsewhere = λ c. by_last c (set_elsewhere (with_phase m x y) x z c) (set_elsewhere m x y c) }
+  where
+    by_last : (c : Branch) → (x ≡ c) ⊎ (with_phase (with_phase m x y) x z c ≡ with_phase m x y c) → (x ≡ c) ⊎ (with_phase m x y c ≡ m c) → (x ≡ c) ⊎ (with_phase (with_phase m x y) x z c ≡ m c)
+    by_last c (inl h) k = inl h
+    by_last c (inr h) (inl k) = inl k
+    by_last c (inr h) (inr k) = inr (h ∙ k)
+
+mixed_set : (Member : Branch → Type 0) (p q m n : Branch → Phase) (x : Branch) → SetTo q m n x → Mixed Member p q m → Mixed Member p q n
+mixed_set Member p q m n x s h c k = by_place (s.elsewhere c)
+  where
+    old : n c ≡ m c → (m c ≡ p c) ⊎ (m c ≡ q c) → (n c ≡ p c) ⊎ (n c ≡ q c)
+    old e (inl z) = inl (e ∙ z)
+    old e (inr z) = inr (e ∙ z)
+
+    by_place : (x ≡ c) ⊎ (n c ≡ m c) → (n c ≡ p c) ⊎ (n c ≡ q c)
+    by_place (inl e) = inr (subst (λ z. n z ≡ q z) e s.there)
+    by_place (inr e) = old e (h c k)
+
+done_set : (Member : Branch → Type 0) (q m n : Branch → Phase) (x : Branch) (xs : List Branch) → SetTo q m n x → DoneBut Member q m (x ∷ xs) → DoneBut Member q n xs
+done_set Member q m n x xs s h c k = by_place (s.elsewhere c)
+  where
+    here : x ≡ c → (n c ≡ q c) ⊎ Within xs c
+    here e = inl (subst (λ z. n z ≡ q z) e s.there)
+
+    old : n c ≡ m c → (m c ≡ q c) ⊎ Within (x ∷ xs) c → (n c ≡ q c) ⊎ Within xs c
+    old e (inl z) = inl (e ∙ z)
+    old e (inr (inl z)) = here z
+    old e (inr (inr z)) = inr z
+
+    by_place : (x ≡ c) ⊎ (n c ≡ m c) → (n c ≡ q c) ⊎ Within xs c
+    by_place (inl e) = here e
+    by_place (inr e) = old e (h c k)
+
+done_skip : (Member : Branch → Type 0) (q m : Branch → Phase) (x : Branch) (xs : List Branch) → (Member x → m x ≡ q x) → DoneBut Member q m (x ∷ xs) → DoneBut Member q m xs
+done_skip Member q m x xs f h c k = by_place (h c k)
+  where
+    by_place : (m c ≡ q c) ⊎ Within (x ∷ xs) c → (m c ≡ q c) ⊎ Within xs c
+    by_place (inl z) = inl z
+    by_place (inr (inl z)) = inl (subst (λ y. m y ≡ q y) z (f (subst Member (sym z) k)))
+    by_place (inr (inr z)) = inr z
+
+eager_mix : (p q m : Phase) → IsEager p × IsEager q → (m ≡ p) ⊎ (m ≡ q) → IsEager m
+eager_mix p q m h (inl e) = subst IsEager (sym e) h.0
+eager_mix p q m h (inr e) = subst IsEager (sym e) h.1
+
+kept_mix : (p q m : Phase) → (p ≡ Kept → ⊥) × (q ≡ Kept → ⊥) → (m ≡ p) ⊎ (m ≡ q) → m ≡ Kept → ⊥
+kept_mix p q m h (inl e) k = h.0 (sym e ∙ k)
+kept_mix p q m h (inr e) k = h.1 (sym e ∙ k)
+
+still : (p m : Phase) → m ≡ p → (p ≡ Working) ⊎ (p ≡ Willing) → (m ≡ Working) ⊎ (m ≡ Willing)
+still p m e (inl h) = inl (e ∙ h)
+still p m e (inr h) = inr (e ∙ h)
+
+-- the branch x goes next, where it is not yet as in q
+go : (Member : Branch → Type 0) (p q m : Branch → Phase) (x : Branch) (xs : List Branch) → Member x → m x ≡ p x → Change2 Member p q x → Mixed Member p q m → DoneBut Member q m (x ∷ xs) → ((n : Branch → Phase) → Mixed Member p q n → DoneBut Member q n xs → Leads Member q n) → Leads Member q m
+go Member p q m x xs k e (Same s) mx d rec = rec m mx (done_skip Member q m x xs (λ z. e ∙ s) d)
+go Member p q m x xs k e (To_willing a b) mx d rec =
+    let s = set_once q m x Willing b in
+    Step m x Willing k (Becomes_willing (e ∙ a)) (rec _ (mixed_set Member p q m _ x s mx) (done_set Member q m _ x xs s d))
+go Member p q m x xs k e (To_kept a b f) mx d rec =
+    let s = set_once q m x Kept b in
+    Step m x Kept k (Keeps (e ∙ a) (λ c z. eager_mix (p c) (q c) (m c) (f c z) (mx c z))) (rec _ (mixed_set Member p q m _ x s mx) (done_set Member q m _ x xs s d))
+go Member p q m x xs k e (In_one a b f) mx d rec =
+    let s = set_twice q m x Willing Kept b in
+    let n = with_phase m x Willing in
+    Step m x Willing k (Becomes_willing (e ∙ a)) (Step n x Kept k (Keeps (set_here m x Willing) (λ c z. inl (ap n (f c z) ∙ set_here m x Willing))) (rec _ (mixed_set Member p q m _ x s mx) (done_set Member q m _ x xs s d)))
+go Member p q m x xs k e (To_aborted a b f) mx d rec =
+    let s = set_once q m x Aborted b in
+    Step m x Aborted k (Aborts (still (p x) (m x) e a) (λ c z. kept_mix (p c) (q c) (m c) (f c z) (mx c z))) (rec _ (mixed_set Member p q m _ x s mx) (done_set Member q m _ x xs s d))
+
+go_or_skip : (Member : Branch → Type 0) (p q m : Branch → Phase) (x : Branch) (xs : List Branch) → Member x → (m x ≡ p x) ⊎ (m x ≡ q x) → Change2 Member p q x → Mixed Member p q m → DoneBut Member q m (x ∷ xs) → ((n : Branch → Phase) → Mixed Member p q n → DoneBut Member q n xs → Leads Member q n) → Leads Member q m
+go_or_skip Member p q m x xs k (inl e) c mx d rec = go Member p q m x xs k e c mx d rec
+go_or_skip Member p q m x xs k (inr e) c mx d rec = rec m mx (done_skip Member q m x xs (λ z. e) d)
+
+all_go : (Member : Branch → Type 0) (p q : Branch → Phase) → ((x : Branch) → Member x ⊎ (Member x → ⊥)) → ((x : Branch) → Member x → Change2 Member p q x) → (xs : List Branch) (m : Branch → Phase) → Mixed Member p q m → DoneBut Member q m xs → Leads Member q m
+all_go Member p q dec f [] m mx d = There m (λ c k. none c (d c k))
+  where
+    none : (c : Branch) → (m c ≡ q c) ⊎ ⊥ → m c ≡ q c
+    none c (inl e) = e
+    none c (inr e) = absurd e
+all_go Member p q dec f (x ∷ xs) m mx d = by_member (dec x) (λ n nx nd. all_go Member p q dec f xs n nx nd)
+  where
+    by_member : Member x ⊎ (Member x → ⊥) → ((n : Branch → Phase) → Mixed Member p q n → DoneBut Member q n xs → Leads Member q n) → Leads Member q m
+    by_member (inl k) rec = go_or_skip Member p q m x xs k (mx x k) (f x k) mx d rec
+    by_member (inr k) rec = rec m mx (done_skip Member q m x xs (λ z. absurd (k z)) d)
+
+-- ** the branches of a transaction
+
+started_list : Trace → List Branch
+started_list (From o) = []
+started_list (Then tr (Issued l (Calls.Start c false))) = c ∷ started_list tr
+started_list (Then tr (Issued l (Calls.Start c true))) = c ∷ started_list tr
+started_list (Then tr _) = started_list tr
+
+started_within : (tr : Trace) (b : Branch) → started tr b ≡ true → Within (started_list tr) b
+unfolding started_list
+started_within (From o) b s = cc
+started_within (Then tr (Issued l (Calls.Start c false))) b s = by_case (or_here _ _ s) (λ k. started_within tr b k)
+  where
+    by_case : (branch_eq c b ≡ true) ⊎ (started tr b ≡ true) → (started tr b ≡ true → Within (started_list tr) b) → (c ≡ b) ⊎ Within (started_list tr) b
+    by_case (inl h) f = inl (branch_eq-true c b h)
+    by_case (inr h) f = inr (f h)
+started_within (Then tr (Issued l (Calls.Start c true))) b s = by_case (or_here _ _ s) (λ k. started_within tr b k)
+  where
+    by_case : (branch_eq c b ≡ true) ⊎ (started tr b ≡ true) → (started tr b ≡ true → Within (started_list tr) b) → (c ≡ b) ⊎ Within (started_list tr) b
+    by_case (inl h) f = inl (branch_eq-true c b h)
+    by_case (inr h) f = inr (f h)
+started_within (Then tr _) b s = started_within tr b s
+
+member_test : (tr : Trace) (g : Gtrid) (b : Branch) → IsBranchOf tr g b ⊎ (IsBranchOf tr g b → ⊥)
+member_test tr g b = by_tests (gtrid_eq b.gtrid g) refl (started tr b) refl
+  where
+    by_tests : (t : Bool) → gtrid_eq b.gtrid g ≡ t → (u : Bool) → started tr b ≡ u → IsBranchOf tr g b ⊎ (IsBranchOf tr g b → ⊥)
+    by_tests true s true k = inl (gtrid_eq-true b.gtrid g s, k)
+    by_tests true s false k = inr (λ h. let z = h.1 in cc)
+    by_tests false s u k = inr (λ h. let z = ap (gtrid_eq b.gtrid) h.0 in let y = gtrid_eq-refl b.gtrid in cc)
+
+-- a transaction that is closed has all its branches
+started_before : (tr : Trace) (es : List Happening) (b : Branch) → AllRight (after tr es) → Closed tr b.gtrid → started (after tr es) b ≡ true → started tr b ≡ true
+started_before tr [] b r c s = s
+started_before tr (e ∷ es) b r c s =
+    let r' = right_before (Then tr e) es r in
+    started_back tr e b r'.1 c.not_live (started_before (Then tr e) es b r (closed_kept tr e b.gtrid r'.1 c) s)
+
+handed_later : (tr : Trace) (es : List Happening) (g : Gtrid) → handed_over tr g ≡ true → handed_over (after tr es) g ≡ true
+handed_later tr [] g h = h
+handed_later tr (e ∷ es) g h = handed_later (Then tr e) es g (handed_kept tr e g h)
+
+-- ** one happening
+
+data PhaseMove (tr : Trace) (b : Branch) : Phase → Phase → Type 0 where
+  P_same : (x : Phase) → PhaseMove tr b x x
+  P_willing : PhaseMove tr b Working Willing
+  P_kept : had_row tr b.gtrid ≡ true → PhaseMove tr b Willing Kept
+  P_one : handed_over tr b.gtrid ≡ true → PhaseMove tr b Working Kept
+  P_aborted : (x : Phase) → (x ≡ Working) ⊎ (x ≡ Willing) → PhaseMove tr b x Aborted
+
+can_roll_back_phase : (f : Standing) → CanRollBack f → (phase_of f ≡ Working) ⊎ (phase_of f ≡ Willing)
+can_roll_back_phase Idle c = inl refl
+can_roll_back_phase Prepared c = inr refl
+can_roll_back_phase RollbackOnly c = inl refl
+can_roll_back_phase _ c = absurd c
+
+phase_move : (tr : Trace) (b : Branch) (f g : Standing) → Move tr b f g → PhaseMove tr b (phase_of f) (phase_of g)
+phase_move tr b f g (Stays x) = P_same (phase_of x)
+phase_move tr b f g (Starts s) = P_same Working
+phase_move tr b f g Ends = P_same Working
+phase_move tr b f g Fails = P_same Working
+phase_move tr b f g Prepares = P_willing
+phase_move tr b f g Only_reads = P_willing
+phase_move tr b f g Refuses = P_aborted Working (inl refl)
+phase_move tr b f g (In_one_phase h) = P_one h
+phase_move tr b f g (Commits h) = P_kept h
+phase_move tr b f g (Rolls_back x c p q) = P_aborted (phase_of x) (can_roll_back_phase x c)
+phase_move tr b f g (Completes how) = P_same Willing
+phase_move tr b f g (Forgets how h) = P_same Willing
+phase_move tr b f g Loses_active = P_aborted Working (inl refl)
+phase_move tr b f g Loses_idle = P_aborted Working (inl refl)
+phase_move tr b f g Loses_rollback_only = P_aborted Working (inl refl)
+
+kept_fate : (f : Standing) → phase_of f ≡ Kept → f ≡ Committed
+kept_fate Committed h = refl
+kept_fate _ h = cc
+
+aborted_fate : (f : Standing) → phase_of f ≡ Aborted → IsUndone f
+aborted_fate RolledBack h = inl refl
+aborted_fate Lost h = inr refl
+aborted_fate _ h = absurd (cc)
+
+eager_fate : (f : Standing) → IsGood f → IsEager (phase_of f)
+eager_fate Prepared h = inl refl
+eager_fate (Completed how) h = inl refl
+eager_fate Committed h = inr refl
+eager_fate ReadOnly h = inl refl
+eager_fate (Forgotten how) h = inl refl
+eager_fate _ h = absurd h
+
+one_change : (tr : Trace) (e : Happening) (es : List Happening) (g : Gtrid) (b : Branch) (x y : Phase) → AllRight (after (Then tr e) es) → IsBranchOf (after (Then tr e) es) g b → PhaseMove tr b x y → phases tr b ≡ x → phases (Then tr e) b ≡ y → Change2 (IsBranchOf (after (Then tr e) es) g) (phases tr) (phases (Then tr e)) b
+one_change tr e es g b x y r k (P_same z) p q = Same (p ∙ sym q)
+one_change tr e es g b x y r k P_willing p q = To_willing p q
+one_change tr e es g b x y r k (P_kept h) p q = To_kept p q (λ c m. (eager_fate _ ((inv.rows b.gtrid h).good c (same c m) (before c m)), eager_fate _ ((inv'.rows b.gtrid (rowed_kept tr e b.gtrid h)).good c (same c m) (started_kept tr e c (before c m)))))
+  where
+    r' : AllRight (Then tr e)
+    r' = right_before (Then tr e) es r
+
+    inv : Inv tr
+    inv = always tr r'.0
+
+    inv' : Inv (Then tr e)
+    inv' = always (Then tr e) r'
+
+    same : (c : Branch) → IsBranchOf (after (Then tr e) es) g c → c.gtrid ≡ b.gtrid
+    same c m = m.0 ∙ sym k.0
+
+    before : (c : Branch) → IsBranchOf (after (Then tr e) es) g c → started tr c ≡ true
+    before c m = started_before tr (e ∷ es) c r (subst (Closed tr) (sym (same c m)) (inv.rows b.gtrid h).closed) m.1
+one_change tr e es g b x y r k (P_one h) p q = In_one p q (λ c m. sym ((always (after (Then tr e) es) r).handed_one b c (handed_later tr (e ∷ es) b.gtrid h) (m.0 ∙ sym k.0) k.1 m.1))
+one_change tr e es g b x y r k (P_aborted z o) p q = To_aborted (still z (phases tr b) p o) q (λ c m. (λ w. none c m (ended_kept tr e c Committed (always tr r'.0) r'.1 tt (kept_fate _ w)), λ w. none c m (kept_fate _ w)))
+  where
+    r' : AllRight (Then tr e)
+    r' = right_before (Then tr e) es r
+
+    none : (c : Branch) → IsBranchOf (after (Then tr e) es) g c → standing (Then tr e) c ≡ Committed → ⊥
+    none c m f = are_alike (Then tr e) (always (Then tr e) r') c b (m.0 ∙ sym k.0) f (aborted_fate _ q)
+
+pub commitment : (tr : Trace) (e : Happening) (es : List Happening) → AllRight (after (Then tr e) es) → IsCommitment tr e (after (Then tr e) es)
+commitment tr e es r g =
+    let r' = right_before (Then tr e) es r in
+    all_go (IsBranchOf (after (Then tr e) es) g) (phases tr) (phases (Then tr e)) (member_test (after (Then tr e) es) g)
+    (λ b k. one_change tr e es g b _ _ r k (phase_move tr b _ _ (step_move tr e b (always tr r'.0) r'.1)) refl refl)
+    (started_list (after (Then tr e) es)) (phases tr) (λ c k. inl refl) (λ c k. inr (started_within (after (Then tr e) es) c k.1))

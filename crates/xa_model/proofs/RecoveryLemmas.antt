@@ -1,0 +1,4 @@
+-- What a page lists, and what a whole recovery does.
+pub mod Pages
+pub mod Recovered
+pub mod RecoveredStart

@@ -1,0 +1,6 @@
+-- From demanded replies to right histories.
+pub mod Computed
+pub mod Determined
+pub mod Needed
+pub mod Pushes
+pub mod Replies

@@ -1,0 +1,351 @@
+-- A demanded reply is a right happening.
+use Rattle.std.proofs.Common.{◌≡◌, ℕ, List, [], ◌∷◌, Bool, true, false, not, ◌&&◌, ◌||◌, refl, sym, ap, ◌∙◌, subst, ◌⊎◌}
+use Rattle.std.specs.Prelude.{if◌then◌else◌, nat_eq, Option, Some, None}
+use mathlib.Core.Logic.{◌⊎◌.inl, ◌⊎◌.inr}
+use Rattle.std.proofs.lemmas.Bool.{and_parts, eqb-true}
+use Rattle.xa_base.specs.Branch.{gtrid_eq, branch_eq}
+use Rattle.xa_base.specs.Call.{map_call}
+use Rattle.xa_base.specs.Standing.{is_prepared}
+use Rattle.xa_base.specs.declared.state.Standing.{Standing}
+use Rattle.xa_base.specs.declared.state.Standing.TheVariants.{Prepared}
+use Rattle.xa_base.specs.declared.step.Side.TheVariants as Side
+use Rattle.xa_model.specs.Replies.Demanded.{Takes, Takes.Takes_one, Takes.Takes_none, Hears, Hears.Hears_one, Hears.Hears_none, Restarts, Restarts.Restarts_as, IsValue, UsesLog, Demanded, Demanded.By_rule, Demanded.As_value, Demanded.For_memory, Demanded.For_log, with_steps, AllDemanded}
+use Rattle.xa_model.specs.Facts.{branches, outlived, participants_settled, decided_so, claimed, up, begun, live, started, settled, all_of, has_voted, is_taken_up, is_shut}
+use Rattle.xa_model.specs.Protocol.{IsKnown, IsRowSettled, HasVoted, MayBeCalled, IsOpen, RightCall, IsOnOwnThread, RightClaim, RightDecision, RightDone, Right, AllRight}
+use Rattle.xa_model.specs.Replies.Rules.{is_own, asks_manager, applies, rules, first_of, is_there, must_refuse, on_wrong_thread}
+use Rattle.xa_base.specs.declared.reply.Reply.TheVariants as Replies
+use Rattle.xa_base.specs.declared.step.Step.TheVariants as Steps
+use Rattle.xa_model.specs.Replies.Steps.{Step, Refusal, Reply, accepted, if_ours, happened}
+use Rattle.xa_base.specs.declared.call.Call.TheVariants as Calls
+use Rattle.xa_base.specs.StateTable.{on}
+use Rattle.xa_model.specs.Trace.{Gtrid, Branch, Call, Name.Ours, Name.Foreign, Kind, Kind.Start, Kind.Join, Kind.End, Kind.Prepare, Kind.Commit, Kind.OnePhase, Kind.Rollback, Kind.Forget, Outcome, Happening, Happening.Issued, Trace, Trace.From, Trace.Then, line}
+use Rattle.xa_base.proofs.BranchKeys.{branch_eq-true, gtrid_eq-refl}
+use Rattle.xa_model.proofs.Invariant.Rows.{or_here}
+
+-- ** no rule applies
+
+abbrev pub In : List Refusal → Refusal → Type 0
+In [] n = ⊥
+In (x ∷ xs) n = (x ≡ n) ⊎ In xs n
+
+pub peel : (t : Bool) (n : Refusal) (rest : Option Refusal) → (if t then Some n else rest) ≡ None → (t ≡ false) × (rest ≡ None)
+peel true n rest e = absurd (cc)
+peel false n rest e = (refl, e)
+
+pub first_none : (test : Refusal → Bool) (ns : List Refusal) (n : Refusal) → first_of test ns ≡ None → In ns n → test n ≡ false
+first_none test [] n e i = absurd i
+first_none test (x ∷ ns) n e (inl q) = ap test (sym q) ∙ (peel (test x) x (first_of test ns) e).0
+first_none test (x ∷ ns) n e (inr i) = first_none test ns n (peel (test x) x (first_of test ns) e).1 i
+
+-- each refusal is in the list, or never applies
+pub each_rule : (n : Refusal) → In rules n ⊎ ((tr : Trace) (s : Step) → applies tr s n ≡ false)
+each_rule Refusal.ManagerDown = inl (inl refl)
+each_rule Refusal.RmDown = inl (inr (inl refl))
+each_rule Refusal.NotOpen = inl (inr (inr (inl refl)))
+each_rule Refusal.Closed = inl (inr (inr (inr (inl refl))))
+each_rule Refusal.UnknownTransaction = inl (inr (inr (inr (inr (inl refl)))))
+each_rule Refusal.WrongThread = inl (inr (inr (inr (inr (inr (inl refl))))))
+each_rule Refusal.AlreadyStarted = inl (inr (inr (inr (inr (inr (inr (inl refl)))))))
+each_rule Refusal.Decided = inl (inr (inr (inr (inr (inr (inr (inr (inl refl))))))))
+each_rule Refusal.NotDecided = inl (inr (inr (inr (inr (inr (inr (inr (inr (inl refl)))))))))
+each_rule Refusal.Votes = inl (inr (inr (inr (inr (inr (inr (inr (inr (inr (inl refl))))))))))
+each_rule Refusal.Busy = inl (inr (inr (inr (inr (inr (inr (inr (inr (inr (inr (inl refl)))))))))))
+each_rule Refusal.Full = inl (inr (inr (inr (inr (inr (inr (inr (inr (inr (inr (inr (inl refl))))))))))))
+each_rule Refusal.Script = inl (inr (inr (inr (inr (inr (inr (inr (inr (inr (inr (inr (inr (inl refl)))))))))))))
+each_rule Refusal.Limit = inl (inr (inr (inr (inr (inr (inr (inr (inr (inr (inr (inr (inr (inr (inl refl))))))))))))))
+each_rule Refusal.LogFault = inr (λ tr s. refl)
+each_rule Refusal.Memory = inr (λ tr s. refl)
+
+pub none_refused : (t : Bool) (o : Option Refusal) → (if t then o else Some Refusal.Limit) ≡ None → o ≡ None
+none_refused true o e = e
+none_refused false o e = absurd (cc)
+
+pub none_applies : (tr : Trace) (s : Step) (n : Refusal) → must_refuse tr s ≡ None → applies tr s n ≡ false
+none_applies tr s n e = by_place (each_rule n)
+  where
+    by_place : In rules n ⊎ ((tr : Trace) (s : Step) → applies tr s n ≡ false) → applies tr s n ≡ false
+    by_place (inl i) = first_none (applies tr s) rules n (none_refused (is_there tr s) _ e) i
+    by_place (inr f) = f tr s
+
+-- ** the refusal that applies
+
+-- a history forces neither LogFault nor Memory
+abbrev pub IsForced : Refusal → Type 0
+IsForced Refusal.LogFault = ⊥
+IsForced Refusal.Memory = ⊥
+IsForced _ = Unit
+
+pub first_some : (test : Refusal → Bool) (ns : List Refusal) (n : Refusal) → first_of test ns ≡ Some n → In ns n
+first_some test [] n e = absurd (cc)
+first_some test (x ∷ ns) n e = by_test (test x) e (first_some test ns n)
+  where
+    by_test : (t : Bool) → (if t then Some x else first_of test ns) ≡ Some n → (first_of test ns ≡ Some n → In ns n) → (x ≡ n) ⊎ In ns n
+    by_test true e f = inl (cc)
+    by_test false e f = inr (f e)
+
+pub AllForced : List Refusal → Type 0
+AllForced [] = Unit
+AllForced (x ∷ xs) = IsForced x × AllForced xs
+
+pub of_all_forced : (ns : List Refusal) (n : Refusal) → AllForced ns → In ns n → IsForced n
+unfolding AllForced
+of_all_forced [] n a i = absurd i
+of_all_forced (x ∷ ns) n a (inl e) = subst IsForced e a.0
+of_all_forced (x ∷ ns) n a (inr i) = of_all_forced ns n a.1 i
+
+pub rules_forced : AllForced rules
+unfolding AllForced
+rules_forced = (tt, (tt, (tt, (tt, (tt, (tt, (tt, (tt, (tt, (tt, (tt, (tt, (tt, (tt, tt))))))))))))))
+
+pub forced : (tr : Trace) (s : Step) (n : Refusal) → must_refuse tr s ≡ Some n → IsForced n
+forced tr s n e = by_place (is_there tr s) e
+  where
+    by_place : (t : Bool) → (if t then first_of (applies tr s) rules else Some Refusal.Limit) ≡ Some n → IsForced n
+    by_place true e = of_all_forced rules n rules_forced (first_some (applies tr s) rules n e)
+    by_place false e = let p : Refusal.Limit ≡ n = cc in subst IsForced p tt
+
+-- ** tests
+
+abbrev pub InBranches : List Branch → Branch → Type 0
+InBranches [] b = ⊥
+InBranches (x ∷ xs) b = (x ≡ b) ⊎ InBranches xs b
+
+pub not_back : (t : Bool) → not t ≡ false → t ≡ true
+not_back true e = refl
+not_back false e = cc
+
+pub or_none : (s t : Bool) → (s || t) ≡ false → (s ≡ false) × (t ≡ false)
+or_none true t e = absurd (cc)
+or_none false t e = (refl, e)
+
+pub is_up : (tr : Trace) (s : Step) → must_refuse tr s ≡ None → asks_manager s ≡ true → up tr ≡ true
+is_up tr s e a = not_back (up tr) (by_ask (asks_manager s) a (none_applies tr s Refusal.ManagerDown e))
+  where
+    by_ask : (t : Bool) → t ≡ true → (t && not (up tr)) ≡ false → not (up tr) ≡ false
+    by_ask true a e = e
+    by_ask false a e = absurd (cc)
+
+pub is_live : (tr : Trace) (g : Gtrid) → begun tr g ≡ true → is_taken_up tr g ≡ false → live tr g ≡ true
+is_live tr g b n = by_tests (begun tr g) (decided_so Outcome.Commit tr g) (outlived tr g) _ b n
+  where
+    by_tests : (s c o t : Bool) → s ≡ true → ((c || o) || t) ≡ false → (s && not (c || t)) ≡ true
+    by_tests true false false false b n = refl
+    by_tests true false false true b n = cc
+    by_tests true false true t b n = cc
+    by_tests true true o t b n = cc
+    by_tests false c o t b n = cc
+
+pub is_open : (tr : Trace) (g : Gtrid) → begun tr g ≡ true → is_shut tr g ≡ false → IsOpen tr g
+is_open tr g b n = let p = or_none _ _ n in record { is_live = is_live tr g b p.0; unclaimed = p.1 }
+
+pub voted_of : (tr : Trace) (b : Branch) → has_voted tr b ≡ true → HasVoted tr b
+voted_of tr b h = or_here _ _ h
+
+pub all_of_step : (g : Gtrid) (test : Branch → Bool) (x b : Branch) (rest : Bool) → x ≡ b → b.gtrid ≡ g → ((not (gtrid_eq x.gtrid g) || test x) && rest) ≡ true → test b ≡ true
+all_of_step g test x b rest e q h = by_test (not (gtrid_eq x.gtrid g)) (test x) (and_parts _ _ h).0 (ap (λ y. not (gtrid_eq y.gtrid g)) e ∙ (ap (λ y. not (gtrid_eq y g)) q ∙ ap not (gtrid_eq-refl g))) (ap test e)
+  where
+    by_test : (s t : Bool) → (s || t) ≡ true → s ≡ false → t ≡ test b → test b ≡ true
+    by_test true t h n k = cc
+    by_test false t h n k = sym k ∙ h
+
+pub all_of-started : (tr : Trace) (g : Gtrid) (test : Branch → Bool) (bs : List Branch) (b : Branch) → all_of g test bs ≡ true → InBranches bs b → b.gtrid ≡ g → test b ≡ true
+all_of-started tr g test [] b h i q = absurd i
+all_of-started tr g test (x ∷ bs) b h (inl e) q = all_of_step g test x b _ e q h
+all_of-started tr g test (x ∷ bs) b h (inr i) q = all_of-started tr g test bs b (and_parts _ _ h).1 i q
+
+pub started_in : (tr : Trace) (b : Branch) → started tr b ≡ true → InBranches (branches tr) b
+started_in (From o) b s = absurd (cc)
+started_in (Then tr (Issued l (Calls.Start c false))) b s = by_case (or_here _ _ s) (λ k. started_in tr b k)
+  where
+    by_case : (branch_eq c b ≡ true) ⊎ (started tr b ≡ true) → (started tr b ≡ true → InBranches (branches tr) b) → (c ≡ b) ⊎ InBranches (branches tr) b
+    by_case (inl h) f = inl (branch_eq-true c b h)
+    by_case (inr h) f = inr (f h)
+started_in (Then tr (Issued l (Calls.Start c true))) b s = by_case (or_here _ _ s) (λ k. started_in tr b k)
+  where
+    by_case : (branch_eq c b ≡ true) ⊎ (started tr b ≡ true) → (started tr b ≡ true → InBranches (branches tr) b) → (c ≡ b) ⊎ InBranches (branches tr) b
+    by_case (inl h) f = inl (branch_eq-true c b h)
+    by_case (inr h) f = inr (f h)
+started_in (Then tr _) b s = started_in tr b s
+
+pub each_started : (tr : Trace) (g : Gtrid) (test : Branch → Bool) → not (all_of g test (branches tr)) ≡ false → (b : Branch) → b.gtrid ≡ g → started tr b ≡ true → test b ≡ true
+each_started tr g test h b q s = all_of-started tr g test (branches tr) b (not_back _ h) (started_in tr b s) q
+
+pub prepared_of : (f : Standing) → not (is_prepared f) ≡ false → f ≡ Prepared
+prepared_of Prepared h = refl
+prepared_of _ h = cc
+
+-- ** steps that no rule refuses
+
+pub is_known : (tr : Trace) (t n : ℕ) (k : Kind) (b : Branch) → must_refuse tr (Steps.Issue t n (on k (Ours b))) ≡ None → IsKnown tr k b.gtrid
+is_known tr t n Start b e = not_back _ (none_applies tr (Steps.Issue t n (Calls.Start (Ours b) false)) Refusal.UnknownTransaction e)
+is_known tr t n Join b e = not_back _ (none_applies tr (Steps.Issue t n (Calls.Start (Ours b) true)) Refusal.UnknownTransaction e)
+is_known tr t n (End fail) b e = not_back _ (none_applies tr (Steps.Issue t n (Calls.End (Ours b) fail)) Refusal.UnknownTransaction e)
+is_known tr t n Prepare b e = not_back _ (none_applies tr (Steps.Issue t n (Calls.Prepare (Ours b))) Refusal.UnknownTransaction e)
+is_known tr t n OnePhase b e = not_back _ (none_applies tr (Steps.Issue t n (Calls.Commit (Ours b) true)) Refusal.UnknownTransaction e)
+is_known tr t n Commit b e = not_back _ (none_applies tr (Steps.Issue t n (Calls.Commit (Ours b) false)) Refusal.UnknownTransaction e)
+is_known tr t n Rollback b e = not_back _ (none_applies tr (Steps.Issue t n (Calls.Rollback (Ours b))) Refusal.UnknownTransaction e)
+is_known tr t n Forget b e = not_back _ (none_applies tr (Steps.Issue t n (Calls.Forget (Ours b))) Refusal.UnknownTransaction e)
+
+pub may_be_called : (tr : Trace) (t n : ℕ) (k : Kind) (b : Branch) → must_refuse tr (Steps.Issue t n (on k (Ours b))) ≡ None → IsKnown tr k b.gtrid → MayBeCalled tr k b
+may_be_called tr t n Start b e h = (none_applies tr (Steps.Issue t n (Calls.Start (Ours b) false)) Refusal.AlreadyStarted e, is_open tr b.gtrid h (none_applies tr (Steps.Issue t n (Calls.Start (Ours b) false)) Refusal.Decided e))
+may_be_called tr t n Join b e h = (none_applies tr (Steps.Issue t n (Calls.Start (Ours b) true)) Refusal.AlreadyStarted e, is_open tr b.gtrid h (none_applies tr (Steps.Issue t n (Calls.Start (Ours b) true)) Refusal.Decided e))
+may_be_called tr t n (End fail) b e h = tt
+may_be_called tr t n Prepare b e h = is_open tr b.gtrid h (none_applies tr (Steps.Issue t n (Calls.Prepare (Ours b))) Refusal.Decided e)
+may_be_called tr t n OnePhase b e h =
+    let v = and_parts _ _ (not_back _ (none_applies tr (Steps.Issue t n (Calls.Commit (Ours b) true)) Refusal.Votes e)) in
+    (is_open tr b.gtrid h (none_applies tr (Steps.Issue t n (Calls.Commit (Ours b) true)) Refusal.Decided e), (v.0, λ c q s. branch_eq-true c b (all_of-started tr b.gtrid (λ d. branch_eq d b) (branches tr) c v.1 (started_in tr c s) q)))
+may_be_called tr t n Commit b e h = not_back _ (none_applies tr (Steps.Issue t n (Calls.Commit (Ours b) false)) Refusal.NotDecided e)
+may_be_called tr t n Rollback b e h = or_here _ _ (not_back _ (none_applies tr (Steps.Issue t n (Calls.Rollback (Ours b))) Refusal.NotDecided e))
+may_be_called tr t n Forget b e h = not_back _ (none_applies tr (Steps.Issue t n (Calls.Forget (Ours b))) Refusal.NotDecided e)
+
+pub own_thread : (t n : ℕ) (k : Kind) (b : Branch) → (not (nat_eq n b.rm) || (is_own k && not (nat_eq t b.thread))) ≡ false → IsOnOwnThread k (line t n) b
+own_thread t n Start b e = eqb-true _ _ (not_back _ (or_none _ _ e).1)
+own_thread t n Join b e = eqb-true _ _ (not_back _ (or_none _ _ e).1)
+own_thread t n (End fail) b e = eqb-true _ _ (not_back _ (or_none _ _ e).1)
+own_thread t n Prepare b e = eqb-true _ _ (not_back _ (or_none _ _ e).1)
+own_thread t n OnePhase b e = eqb-true _ _ (not_back _ (or_none _ _ e).1)
+own_thread t n Commit b e = tt
+own_thread t n Rollback b e = tt
+own_thread t n Forget b e = tt
+
+wrong_thread : (t n : ℕ) (k : Kind) (b : Branch) → on_wrong_thread (Steps.Issue t n (on k (Ours b))) ≡ (not (nat_eq n b.rm) || (is_own k && not (nat_eq t b.thread)))
+wrong_thread t n Start b = refl
+wrong_thread t n Join b = refl
+wrong_thread t n (End fail) b = refl
+wrong_thread t n Prepare b = refl
+wrong_thread t n Commit b = refl
+wrong_thread t n OnePhase b = refl
+wrong_thread t n Rollback b = refl
+wrong_thread t n Forget b = refl
+
+pub right_call : (tr : Trace) (t n : ℕ) (k : Kind) (b : Branch) → must_refuse tr (Steps.Issue t n (on k (Ours b))) ≡ None → RightCall tr (line t n) k b
+right_call tr t n k b e =
+    let h = is_known tr t n k b e in
+    let w = sym (wrong_thread t n k b) ∙ none_applies tr (Steps.Issue t n (on k (Ours b))) Refusal.WrongThread e in
+    record { known = h; own_rm = eqb-true _ _ (not_back _ (or_none _ _ w).0); own_thread = own_thread t n k b w; may_be = may_be_called tr t n k b e h }
+
+pub right_decision : (tr : Trace) (g : Gtrid) (o : Outcome) → must_refuse tr (Steps.Decide g o) ≡ None → RightDecision tr g o
+right_decision tr g o e = record {
+  is_up = is_up tr (Steps.Decide g o) e refl;
+  is_live = is_live tr g (not_back _ (none_applies tr (Steps.Decide g o) Refusal.UnknownTransaction e)) (or_none _ _ (none_applies tr (Steps.Decide g o) Refusal.Decided e)).0;
+  votes = λ q. inl (λ b k s. voted_of tr b (each_started tr g (has_voted tr) (none_applies tr (Steps.Decide g Outcome.Commit) Refusal.Votes (subst (λ x. must_refuse tr (Steps.Decide g x) ≡ None) q e)) b k s));
+}
+
+pub right_claim : (tr : Trace) (g : Gtrid) → must_refuse tr (Steps.Claim g) ≡ None → RightClaim tr g
+right_claim tr g e = record {
+  is_up = is_up tr (Steps.Claim g) e refl;
+  is_live = is_live tr g (not_back _ (none_applies tr (Steps.Claim g) Refusal.UnknownTransaction e)) (or_none _ _ (none_applies tr (Steps.Claim g) Refusal.Decided e)).0;
+  votes = λ b k s. voted_of tr b (each_started tr g (has_voted tr) (none_applies tr (Steps.Claim g) Refusal.Votes e) b k s);
+}
+
+pub claimed_of : (s t : Bool) → s ≡ true → (s && not t) ≡ false → t ≡ true
+claimed_of true t p e = not_back t e
+claimed_of false t p e = absurd (cc)
+
+pub right_settle : (tr : Trace) (g : Gtrid) → must_refuse tr (Steps.Settle g) ≡ None → RightDecision tr g Outcome.Commit
+right_settle tr g e =
+    let l = is_live tr g (not_back _ (none_applies tr (Steps.Settle g) Refusal.UnknownTransaction e)) (none_applies tr (Steps.Settle g) Refusal.Decided e) in
+    record { is_up = is_up tr (Steps.Settle g) e refl; is_live = l; votes = λ q. inr (claimed_of (live tr g) (claimed tr g) l (none_applies tr (Steps.Settle g) Refusal.NotDecided e)) }
+
+pub right_abandon : (tr : Trace) (g : Gtrid) → must_refuse tr (Steps.Abandon g) ≡ None → RightDecision tr g Outcome.Rollback
+right_abandon tr g e =
+    let l = is_live tr g (not_back _ (none_applies tr (Steps.Abandon g) Refusal.UnknownTransaction e)) (none_applies tr (Steps.Abandon g) Refusal.Decided e) in
+    record { is_up = is_up tr (Steps.Abandon g) e refl; is_live = l; votes = λ q. absurd (cc) }
+
+pub right_done : (tr : Trace) (g : Gtrid) → must_refuse tr (Steps.Done g) ≡ None → RightDone tr g
+right_done tr g e = record {
+  is_up = is_up tr (Steps.Done g) e refl;
+  has = not_back _ (none_applies tr (Steps.Done g) Refusal.NotDecided e);
+  is_settled = by_begun (begun tr g) refl (none_applies tr (Steps.Done g) Refusal.UnknownTransaction e) (none_applies tr (Steps.Done g) Refusal.Busy e);
+}
+  where
+    by_begun : (t : Bool) → begun tr g ≡ t → not (t || outlived tr g) ≡ false → not (if t then all_of g (settled tr) (branches tr) else participants_settled tr g) ≡ false → IsRowSettled tr g
+    by_begun true q u h = inl (q, λ b k s. each_started tr g (settled tr) h b k s)
+    by_begun false q u h = inr (not_back _ u, not_back _ h)
+
+-- ** replies
+
+pub by : (tr : Trace) (s : Step) (r v : Reply) → r ≡ v → Right tr (happened s v) → Right tr (happened s r)
+by tr s r v q h = subst (λ x. Right tr (happened s x)) (sym q) h
+
+-- a call on a branch of this manager is the one that was asked for
+pub accepted_ours : (c : Call) → accepted (map_call Ours c) ≡ Some c
+accepted_ours Calls.OpenRm = refl
+accepted_ours _ = refl
+
+pub takes_right : (tr : Trace) (t n : ℕ) (r : Reply) → Takes tr (line t n) r → Right tr (happened (Steps.Take t n) r)
+takes_right tr t n r (Takes_one c a h k) = subst (λ o. Right tr (if_ours (λ d. Happening.Took (line t n) d a) o)) (sym (accepted_ours c)) (h, k)
+takes_right tr t n r (Takes_none h) = tt
+
+pub hears_right : (tr : Trace) (t n : ℕ) (r : Reply) → up tr ≡ true → Hears tr (line t n) r → Right tr (happened (Steps.Hear t n) r)
+hears_right tr t n r u (Hears_one c a h) = subst (λ o. Right tr (if_ours (λ d. Happening.Heard (line t n) d a) o)) (sym (accepted_ours c)) (u, h)
+hears_right tr t n r u (Hears_none h) = tt
+
+pub restarts_right : (tr : Trace) (r : Reply) → up tr ≡ false → Restarts tr r → Right tr (happened (Steps.Restart Side.Manager) r)
+restarts_right tr r u (Restarts_as i d h a m b c) = (u, a, b, c)
+
+pub value_right : (tr : Trace) (s : Step) (r : Reply) → must_refuse tr s ≡ None → IsValue tr s r → Right tr (happened s r)
+value_right tr (Steps.Begin t) r e v = by tr (Steps.Begin t) r _ v (is_up tr (Steps.Begin t) e refl, refl, refl)
+value_right tr (Steps.Issue t n Calls.OpenRm) r e v = by tr (Steps.Issue t n Calls.OpenRm) r _ v (is_up tr (Steps.Issue t n Calls.OpenRm) e refl, tt, none_applies tr (Steps.Issue t n Calls.OpenRm) Refusal.Closed e)
+value_right tr (Steps.Issue t n Calls.CloseRm) r e v = by tr (Steps.Issue t n Calls.CloseRm) r _ v (is_up tr (Steps.Issue t n Calls.CloseRm) e refl, tt, none_applies tr (Steps.Issue t n Calls.CloseRm) Refusal.Closed e)
+value_right tr (Steps.Issue t n (Calls.Start (Ours b) false)) r e v = by tr (Steps.Issue t n (Calls.Start (Ours b) false)) r _ v (is_up tr (Steps.Issue t n (Calls.Start (Ours b) false)) e refl, right_call tr t n Start b e, none_applies tr (Steps.Issue t n (Calls.Start (Ours b) false)) Refusal.Closed e)
+value_right tr (Steps.Issue t n (Calls.Start (Ours b) true)) r e v = by tr (Steps.Issue t n (Calls.Start (Ours b) true)) r _ v (is_up tr (Steps.Issue t n (Calls.Start (Ours b) true)) e refl, right_call tr t n Join b e, none_applies tr (Steps.Issue t n (Calls.Start (Ours b) true)) Refusal.Closed e)
+value_right tr (Steps.Issue t n (Calls.End (Ours b) fail)) r e v = by tr (Steps.Issue t n (Calls.End (Ours b) fail)) r _ v (is_up tr (Steps.Issue t n (Calls.End (Ours b) fail)) e refl, right_call tr t n (End fail) b e, none_applies tr (Steps.Issue t n (Calls.End (Ours b) fail)) Refusal.Closed e)
+value_right tr (Steps.Issue t n (Calls.Prepare (Ours b))) r e v = by tr (Steps.Issue t n (Calls.Prepare (Ours b))) r _ v (is_up tr (Steps.Issue t n (Calls.Prepare (Ours b))) e refl, right_call tr t n Prepare b e, none_applies tr (Steps.Issue t n (Calls.Prepare (Ours b))) Refusal.Closed e)
+value_right tr (Steps.Issue t n (Calls.Commit (Ours b) false)) r e v = by tr (Steps.Issue t n (Calls.Commit (Ours b) false)) r _ v (is_up tr (Steps.Issue t n (Calls.Commit (Ours b) false)) e refl, right_call tr t n Commit b e, none_applies tr (Steps.Issue t n (Calls.Commit (Ours b) false)) Refusal.Closed e)
+value_right tr (Steps.Issue t n (Calls.Commit (Ours b) true)) r e v = by tr (Steps.Issue t n (Calls.Commit (Ours b) true)) r _ v (is_up tr (Steps.Issue t n (Calls.Commit (Ours b) true)) e refl, right_call tr t n OnePhase b e, none_applies tr (Steps.Issue t n (Calls.Commit (Ours b) true)) Refusal.Closed e)
+value_right tr (Steps.Issue t n (Calls.Rollback (Ours b))) r e v = by tr (Steps.Issue t n (Calls.Rollback (Ours b))) r _ v (is_up tr (Steps.Issue t n (Calls.Rollback (Ours b))) e refl, right_call tr t n Rollback b e, none_applies tr (Steps.Issue t n (Calls.Rollback (Ours b))) Refusal.Closed e)
+value_right tr (Steps.Issue t n (Calls.Forget (Ours b))) r e v = by tr (Steps.Issue t n (Calls.Forget (Ours b))) r _ v (is_up tr (Steps.Issue t n (Calls.Forget (Ours b))) e refl, right_call tr t n Forget b e, none_applies tr (Steps.Issue t n (Calls.Forget (Ours b))) Refusal.Closed e)
+value_right tr (Steps.Issue t n (Calls.Start (Foreign x) join)) r e v = by tr (Steps.Issue t n (Calls.Start (Foreign x) join)) r _ v tt
+value_right tr (Steps.Issue t n (Calls.End (Foreign x) fail)) r e v = by tr (Steps.Issue t n (Calls.End (Foreign x) fail)) r _ v tt
+value_right tr (Steps.Issue t n (Calls.Prepare (Foreign x))) r e v = by tr (Steps.Issue t n (Calls.Prepare (Foreign x))) r _ v tt
+value_right tr (Steps.Issue t n (Calls.Commit (Foreign x) one_phase)) r e v = by tr (Steps.Issue t n (Calls.Commit (Foreign x) one_phase)) r _ v tt
+value_right tr (Steps.Issue t n (Calls.Rollback (Foreign x))) r e v = by tr (Steps.Issue t n (Calls.Rollback (Foreign x))) r _ v tt
+value_right tr (Steps.Issue t n (Calls.Forget (Foreign x))) r e v = by tr (Steps.Issue t n (Calls.Forget (Foreign x))) r _ v tt
+value_right tr (Steps.Issue t n (Calls.Recover k x y)) r e v = by tr (Steps.Issue t n (Calls.Recover k x y)) r _ v (is_up tr (Steps.Issue t n (Calls.Recover k x y)) e refl, tt, none_applies tr (Steps.Issue t n (Calls.Recover k x y)) Refusal.Closed e)
+value_right tr (Steps.Take t n) r e v = takes_right tr t n r v
+value_right tr (Steps.Hear t n) r e v = hears_right tr t n r (is_up tr (Steps.Hear t n) e refl) v
+value_right tr (Steps.Vote n (Ours b) x) r e v = by tr (Steps.Vote n (Ours b) x) r _ v tt
+value_right tr (Steps.Vote n (Foreign y) x) r e v = by tr (Steps.Vote n (Foreign y) x) r _ v tt
+value_right tr (Steps.Busy n (Ours b) x) r e v = by tr (Steps.Busy n (Ours b) x) r _ v tt
+value_right tr (Steps.Busy n (Foreign y) x) r e v = by tr (Steps.Busy n (Foreign y) x) r _ v tt
+value_right tr (Steps.Heuristic n (Ours b) how) r e v = by tr (Steps.Heuristic n (Ours b) how) r _ v (prepared_of _ (or_none _ _ (none_applies tr (Steps.Heuristic n (Ours b) how) Refusal.Script e)).1)
+value_right tr (Steps.Heuristic n (Foreign y) how) r e v = by tr (Steps.Heuristic n (Foreign y) how) r _ v tt
+value_right tr (Steps.Decide g o) r e v = by tr (Steps.Decide g o) r _ v (right_decision tr g o e)
+value_right tr (Steps.Claim g) r e v = by tr (Steps.Claim g) r _ v (right_claim tr g e)
+value_right tr (Steps.Settle g) r e v = by tr (Steps.Settle g) r _ v (right_settle tr g e)
+value_right tr (Steps.Abandon g) r e v = by tr (Steps.Abandon g) r _ v (right_abandon tr g e)
+value_right tr (Steps.ResolveOpen n) r e v = by tr (Steps.ResolveOpen n) r _ v (is_up tr (Steps.ResolveOpen n) e refl, none_applies tr (Steps.ResolveOpen n) Refusal.Closed e)
+value_right tr (Steps.Recover n k x y) r e v = by tr (Steps.Recover n k x y) r _ v (is_up tr (Steps.Recover n k x y) e refl, tt, none_applies tr (Steps.Recover n k x y) Refusal.Closed e)
+value_right tr (Steps.Resolve n) r e v = by tr (Steps.Resolve n) r _ v (is_up tr (Steps.Resolve n) e refl, none_applies tr (Steps.Resolve n) Refusal.Closed e)
+value_right tr (Steps.Done g) r e v = by tr (Steps.Done g) r _ v (right_done tr g e)
+value_right tr (Steps.Crash p) r e v = by tr (Steps.Crash p) r _ v tt
+value_right tr (Steps.Restart (Side.Rm n)) r e v = by tr (Steps.Restart (Side.Rm n)) r _ v tt
+value_right tr (Steps.Restart Side.Manager) r e v = restarts_right tr r (none_applies tr (Steps.Restart Side.Manager) Refusal.Busy e) v
+
+pub fault_right : (tr : Trace) (s : Step) → must_refuse tr s ≡ None → UsesLog tr s → Right tr (happened s (Replies.Refused Refusal.LogFault))
+fault_right tr (Steps.Decide g Outcome.Commit) e u = (right_decision tr g Outcome.Commit e, u)
+fault_right tr (Steps.Settle g) e u = (right_settle tr g e, u)
+fault_right tr (Steps.ResolveOpen n) e u = is_up tr (Steps.ResolveOpen n) e refl
+fault_right tr (Steps.Hear t n) e u = is_up tr (Steps.Hear t n) e refl
+fault_right tr (Steps.Done g) e u = right_done tr g e
+fault_right tr (Steps.Resolve n) e u = is_up tr (Steps.Resolve n) e refl
+fault_right tr (Steps.Restart Side.Manager) e u = none_applies tr (Steps.Restart Side.Manager) Refusal.Busy e
+fault_right tr _ e u = absurd u
+
+-- a refusal that is forced comes to nothing
+pub rule_right : (tr : Trace) (s : Step) (n : Refusal) → IsForced n → Right tr (happened s (Replies.Refused n))
+rule_right tr s Refusal.LogFault f = absurd f
+rule_right tr s _ f = tt
+
+pub demanded_right : (tr : Trace) (s : Step) (r : Reply) → Demanded tr s r → Right tr (happened s r)
+demanded_right tr s r (By_rule n e q) = by tr s r _ q (rule_right tr s n (forced tr s n e))
+demanded_right tr s r (As_value e v) = value_right tr s r e v
+demanded_right tr s r (For_memory e m q) = by tr s r _ q tt
+demanded_right tr s r (For_log e u q) = by tr s r _ q (fault_right tr s e u)
+
+-- ** a whole history
+
+pub all_right : (tr : Trace) (xs : List (Step × Reply)) → AllRight tr → AllDemanded tr xs → AllRight (with_steps tr xs)
+all_right tr [] r d = r
+all_right tr (x ∷ xs) r d = all_right (Then tr (happened x.0 x.1)) xs (r, demanded_right tr x.0 x.1 d.0) d.1

@@ -1,0 +1,19 @@
+-- Lists of rows, of records and of branches that name nothing twice, so that their lengths count what they name.
+use Rattle.std.specs.Prelude.{◌≡◌, List, [], ◌∷◌, false}
+use Rattle.xa_model.specs.Facts.{lists_row, has_record, has_branch}
+use Rattle.xa_model.specs.Trace.{Branch, Row, Recorded}
+
+-- no transaction has two of these rows
+abbrev pub ApartRows : List Row → Type 0
+ApartRows [] = Unit
+ApartRows (x ∷ xs) = (lists_row xs x.gtrid ≡ false) × ApartRows xs
+
+-- no branch has two of these records
+abbrev pub ApartRecords : List Recorded → Type 0
+ApartRecords [] = Unit
+ApartRecords (x ∷ xs) = (has_record xs x.branch ≡ false) × ApartRecords xs
+
+-- none of these branches comes twice
+abbrev pub ApartBranches : List Branch → Type 0
+ApartBranches [] = Unit
+ApartBranches (b ∷ bs) = (has_branch bs b ≡ false) × ApartBranches bs

@@ -1,0 +1,5 @@
+pub mod Facts
+pub mod Promises
+pub mod Protocol
+pub mod Replies
+pub mod Trace

@@ -1,0 +1,60 @@
+//! What a stored list of events says.
+ghost use Rattle.std.specs.Prelude.{◌≡◌, ◌++◌, [], ◌∷◌, List};
+ghost use Rattle.xa_base.specs.declared.reply.Event.{Event};
+ghost use Rattle.xa_model.specs.Promises.Agreement.{IsMoment};
+ghost use Rattle.xa_model.specs.Replies.Demanded.{AllDemanded, Demanded, IsDetermined, IsValue, with_steps};
+ghost use Rattle.xa_model.specs.Replies.History.{AreDemanded, IsDemanded, happening_of, history};
+ghost use Rattle.xa_model.specs.Protocol.{AllRight, RightOrigin};
+ghost use Rattle.xa_model.specs.Facts.Distinct.{ApartBranches, ApartRecords, ApartRows};
+ghost use Rattle.xa_model.specs.Facts.{branches, heuristic_rows, log, origin};
+ghost use Rattle.xa_model.specs.Replies.Steps.{Reply, Step};
+ghost use Rattle.xa_model.specs.Trace.{Origin, Trace, Trace.Then};
+
+/// The replies that a history demands:
+///
+/// - `replies`, `events`: where each reply is one that the history before it demands, each thing happened rightly: of
+///   steps and replies whose identifiers are read as names, and so of the events that a system keeps;
+/// - `answered`: no step is left without a reply;
+/// - `valued`: each step has a value, the reply that is demanded where nothing refuses it, memory is there and the log
+///   doesn't fail;
+/// - `determined`: that value is the only one, but for a restart of the manager, which may come up with more than one
+///   incarnation, and finds the change in doubt in the log or not.
+pub fn demanded()
+    ensures replies { (tr : Trace) (xs : List (Step × Reply)) →
+        AllRight tr → AllDemanded tr xs → AllRight (with_steps tr xs) }
+    ensures events { (o : Origin) (events : List Event) →
+        RightOrigin o → AreDemanded o events → AllRight (history o events) }
+    ensures answered { (tr : Trace) (s : Step) → (r : Reply) × Demanded tr s r }
+    ensures valued { (tr : Trace) (s : Step) → (r : Reply) × IsValue tr s r }
+    ensures determined { (tr : Trace) (s : Step) (q r : Reply) →
+        IsDetermined s → IsValue tr s q → IsValue tr s r → q ≡ r }
+{}
+
+/// One event more at the end of a list of events:
+///
+/// - `history`: one thing more has happened;
+/// - `demanded`: all replies are demanded, if they were and its own is;
+/// - `before`: if all are, then those of each beginning of the list were;
+/// - `moment`: each event of a list is a moment of its history.
+pub fn one_more_event()
+    ensures history { (o : Origin) (events : List Event) (e : Event) →
+        history o (events ++ e ∷ []) ≡ Then (history o events) (happening_of e) }
+    ensures demanded { (o : Origin) (events : List Event) (e : Event) →
+        AreDemanded o events → IsDemanded (history o events) e → AreDemanded o (events ++ e ∷ []) }
+    ensures before { (o : Origin) (events later : List Event) →
+        AreDemanded o (events ++ later) → AreDemanded o events }
+    ensures moment { (o : Origin) (events later : List Event) (e : Event) →
+        IsMoment (history o events) (happening_of e) (history o (events ++ e ∷ later)) }
+{}
+
+/// Nothing is listed twice, so that the numbers of rows, records and branches are those of their lists:
+///
+/// - `rows`: no transaction has two rows in the log, where none had at the start;
+/// - `records`: no branch has two records, where none had at the start;
+/// - `branches`: no branch is started twice.
+pub fn listed_once()
+    ensures rows { (tr : Trace) → AllRight tr → ApartRows (origin tr).rows → ApartRows (log tr) }
+    ensures records { (tr : Trace) →
+        ApartRecords (origin tr).heuristic_rows → ApartRecords (heuristic_rows tr) }
+    ensures branches { (tr : Trace) → AllRight tr → ApartBranches (branches tr) }
+{}
