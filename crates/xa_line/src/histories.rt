@@ -22,13 +22,13 @@ ghost use Rattle.xa_line.specs.Traffic.{Traffic, answered, heard, is_full, issue
 pub fn lines_as_in_histories()
     ensures not_open { (tr : Trace) (t r : ℕ) (c : Call Xid) (l : Traffic) →
         AreKnownAs (issued l) (facts.issued tr (line t r)) →
-        comes_unopened (issued l) c ≡ rules.not_open tr (step_of (Issue t r c)) }
+        comes_unopened (issued l) c ≡ rules.forces_not_open tr (step_of (Issue t r c)) }
     ensures on_closed { (tr : Trace) (t r : ℕ) (c : Call Xid) (l : Traffic) →
         AreKnownAs (issued l) (facts.issued tr (line t r)) →
-        has_closed (issued l) ≡ rules.on_closed tr (step_of (Issue t r c)) }
+        has_closed (issued l) ≡ rules.forces_closed tr (step_of (Issue t r c)) }
     ensures full { (tr : Trace) (t r : ℕ) (c : Call Xid) (l : Traffic) →
         length l.calls.waiting ≡ waiting tr (line t r) →
-        is_full l ≡ rules.is_full tr (step_of (Issue t r c)) }
+        is_full l ≡ rules.forces_full tr (step_of (Issue t r c)) }
 {}
 
 /// What waits on a line is what waits in a history, wherever the two stand alike (`LineStands`: the calls issued,

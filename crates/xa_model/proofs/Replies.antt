@@ -1,4 +1,5 @@
 -- From demanded replies to right histories.
+pub mod ByStep
 pub mod Computed
 pub mod Determined
 pub mod Needed

@@ -2,7 +2,7 @@
 use Rattle.std.specs.Prelude.{ℕ, ◌||◌, ◌+◌, ◌<◌, ◌≡◌, ◌⊎◌, List, length, true, false, Option, Some, None, IfSome, Contains, slice_get}
 use Rattle.xa_base.specs.declared.call.Call.TheVariants as Calls
 use Rattle.xa_base.specs.declared.answer.Answer.TheVariants.{Ret}
-use Rattle.xa_model.specs.Trace.{Gtrid, Branch, Code, Line, Name, Kind, Kind.Start, Kind.Join, Kind.End, Kind.Prepare, Kind.Commit, Kind.OnePhase, Kind.Rollback, Kind.Forget, Call, Answer, Outcome, Fault, Fault.InDecide, Fault.InDone, Fault.InHear, Fault.InResolve, Fault.InRestart, Happening, Happening.Begun, Happening.Issued, Happening.Resolved, Happening.ResolvedOpen, Happening.Claimed, Happening.Took, Happening.Heard, Happening.EndedAlone, Happening.Decided, Happening.Done, Happening.Crashed, Happening.Failed, Happening.Restarted, Origin, Trace, Trace.From, Trace.Then, line}
+use Rattle.xa_model.specs.Trace.{Gtrid, Branch, Code, Line, Name, Kind, Kind.Start, Kind.Join, Kind.End, Kind.Prepare, Kind.Commit, Kind.OnePhase, Kind.Rollback, Kind.Forget, Call, Answer, Outcome, Fault, Fault.InDecide, Fault.InDone, Fault.InHear, Fault.InResolve, Fault.InRestart, Happening, Happening.Begun, Happening.Issued, Happening.Resolved, Happening.ResolvedOpen, Happening.Claimed, Happening.Took, Happening.Heard, Happening.CompletedAlone, Happening.Decided, Happening.Done, Happening.Crashed, Happening.Failed, Happening.Restarted, Origin, Trace, Trace.From, Trace.Then, line}
 use Rattle.xa_base.specs.declared.code.Code.TheVariants as Codes
 use Rattle.xa_base.specs.StateTable.{state_of, asks_of, answer}
 use Rattle.xa_base.specs.declared.state.Standing.TheVariants.{Prepared}
@@ -119,7 +119,7 @@ Right tr (ResolvedOpen r) = (up tr ≡ true) × (is_closed tr (line 0 r) ≡ fal
 Right tr (Claimed g) = RightClaim tr g
 Right tr (Took l c a) = (next_call tr l ≡ Some c) × RightAnswer tr l c a
 Right tr (Heard l c a) = (up tr ≡ true) × (next_answer tr l ≡ Some (c, a))
-Right tr (EndedAlone b how) = standing tr b ≡ Prepared
+Right tr (CompletedAlone b how) = standing tr b ≡ Prepared
 Right tr (Decided g o) = RightDecision tr g o
 Right tr (Done g) = RightDone tr g
 Right tr (Crashed part) = Unit

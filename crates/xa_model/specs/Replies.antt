@@ -1,6 +1,7 @@
 -- Steps and replies: what the system is asked, which refusal a history forces, which reply it demands, and how a stored
 -- list of events is read as a history.
 pub mod Demanded
+pub mod Guards
 pub mod History
 pub mod ReadBack
 pub mod Rules

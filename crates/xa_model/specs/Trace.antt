@@ -53,7 +53,7 @@ pub data Happening : Type 0 where
   ResolvedOpen : (rm : ℕ) → Happening
   Took : Line → Call → Answer → Happening
   Heard : Line → Call → Answer → Happening
-  EndedAlone : Branch → How → Happening
+  CompletedAlone : Branch → How → Happening
   Voted : Branch → Vote → Happening
   PutOff : Branch → (times : ℕ) → Happening
   Claimed : Gtrid → Happening

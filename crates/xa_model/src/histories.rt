@@ -3,6 +3,8 @@ ghost use Rattle.std.specs.Prelude.{◌≡◌, ◌++◌, [], ◌∷◌, List};
 ghost use Rattle.xa_base.specs.declared.reply.Event.{Event};
 ghost use Rattle.xa_model.specs.Promises.Agreement.{IsMoment};
 ghost use Rattle.xa_model.specs.Replies.Demanded.{AllDemanded, Demanded, IsDetermined, IsValue, with_steps};
+ghost use Rattle.xa_model.specs.Replies.Guards.{refused_by_guards};
+ghost use Rattle.xa_model.specs.Replies.Rules.{must_refuse};
 ghost use Rattle.xa_model.specs.Replies.History.{AreDemanded, IsDemanded, happening_of, history};
 ghost use Rattle.xa_model.specs.Protocol.{AllRight, RightOrigin};
 ghost use Rattle.xa_model.specs.Facts.Distinct.{ApartBranches, ApartRecords, ApartRows};
@@ -14,6 +16,7 @@ ghost use Rattle.xa_model.specs.Trace.{Origin, Trace, Trace.Then};
 ///
 /// - `replies`, `events`: where each reply is one that the history before it demands, each thing happened rightly: of
 ///   steps and replies whose identifiers are read as names, and so of the events that a system keeps;
+/// - `guards`: the refusals as they are listed by step are those that are listed by refusal;
 /// - `answered`: no step is left without a reply;
 /// - `valued`: each step has a value, the reply that is demanded where nothing refuses it, memory is there and the log
 ///   doesn't fail;
@@ -24,6 +27,7 @@ pub fn demanded()
         AllRight tr → AllDemanded tr xs → AllRight (with_steps tr xs) }
     ensures events { (o : Origin) (events : List Event) →
         RightOrigin o → AreDemanded o events → AllRight (history o events) }
+    ensures guards { (tr : Trace) (s : Step) → must_refuse tr s ≡ refused_by_guards tr s }
     ensures answered { (tr : Trace) (s : Step) → (r : Reply) × Demanded tr s r }
     ensures valued { (tr : Trace) (s : Step) → (r : Reply) × IsValue tr s r }
     ensures determined { (tr : Trace) (s : Step) (q r : Reply) →

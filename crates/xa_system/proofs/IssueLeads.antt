@@ -20,7 +20,7 @@ use Rattle.xa_tm.specs.declared.manager.Manager.{Manager}
 use Rattle.xa_tm.specs.Kept.{book_in, log_in}
 use Rattle.xa_tm.specs.Tied.{IsTied}
 use Rattle.xa_system.proofs.Lists.{some_is}
-use Rattle.xa_model.specs.Replies.Rules.{applies, first_of, has_rm, has_thread, must_refuse, not_open, unknown_to}
+use Rattle.xa_model.specs.Replies.Rules.{applies, first_of, has_rm, has_thread, must_refuse, forces_not_open, forces_unknown_transaction}
 use Rattle.xa_model.specs.Trace.{Call, Happening.Issued, Name.Foreign, Name.Ours, Trace, Trace.Then, line, Name}
 use Rattle.xa_base.specs.declared.call.Call as Asking
 use Rattle.xa_base.specs.declared.refusal.Refusal.{Refusal}
@@ -86,9 +86,9 @@ module _ (tr : Trace) (t r : ℕ) (a : Asked) where
   unfolding book_of_it by_book
   tail_is = first_append (applies tr (Steps.Issue t r a)) (Refusals.UnknownTransaction ∷ Refusals.WrongThread ∷ Refusals.AlreadyStarted ∷ Refusals.Decided ∷ Refusals.NotDecided ∷ Refusals.Votes ∷ Refusals.Busy ∷ []) (Refusals.Full ∷ Refusals.Script ∷ Refusals.Limit ∷ [])
 
-  pub issue_rule : must_refuse tr (Steps.Issue t r a) ≡ issue_why (has_thread tr t && has_rm tr r) (facts.up tr) (rm_up tr r) (bar_of (not_open tr (Steps.Issue t r a)) (facts.is_closed tr (line t r))) book_of_it (nat_le 64 (waiting tr (line t r)))
+  pub issue_rule : must_refuse tr (Steps.Issue t r a) ≡ issue_why (has_thread tr t && has_rm tr r) (facts.up tr) (rm_up tr r) (bar_of (forces_not_open tr (Steps.Issue t r a)) (facts.is_closed tr (line t r))) book_of_it (nat_le 64 (waiting tr (line t r)))
   unfolding book_of_it by_book
-  issue_rule = by_tests (has_thread tr t && has_rm tr r) (facts.up tr) (rm_up tr r) (not_open tr (Steps.Issue t r a)) (facts.is_closed tr (line t r))
+  issue_rule = by_tests (has_thread tr t && has_rm tr r) (facts.up tr) (rm_up tr r) (forces_not_open tr (Steps.Issue t r a)) (facts.is_closed tr (line t r))
     where
       by_tests : (there up up_rm shut closed : Bool)
           → (if there then (if not up then Some Refusals.ManagerDown else (if not up_rm then Some Refusals.RmDown else (if shut then Some Refusals.NotOpen else (if closed then Some Refusals.Closed else tail)))) else Some Refusals.Limit)
@@ -109,7 +109,7 @@ module _ (tr : Trace) (t r : ℕ) (a : Asked) where
 -- ** the call
 
 -- a call that isn't on an unknown transaction is one that a history knows
-known_asked : (tr : Trace) (t r : ℕ) (a : Asked) → unknown_to tr (Steps.Issue t r a) ≡ false → (c : Call) × (accepted a ≡ Some c)
+known_asked : (tr : Trace) (t r : ℕ) (a : Asked) → forces_unknown_transaction tr (Steps.Issue t r a) ≡ false → (c : Call) × (accepted a ≡ Some c)
 known_asked tr t r Calls.OpenRm e = (_, refl)
 known_asked tr t r Calls.CloseRm e = (_, refl)
 known_asked tr t r (Calls.Start (Ours b) j) e = (_, refl)
@@ -143,9 +143,9 @@ call_is t r (Calls.Forget (Ours b)) c e = ap (λ k. Issued (line t r) k) (some_i
 call_is t r (Calls.Forget (Foreign x)) c e = absurd (cc)
 call_is t r (Calls.Recover n x y) c e = ap (λ k. Issued (line t r) k) (some_is _ _ e)
 
-not_unknown : (tr : Trace) (t r : ℕ) (a : Asked) → book_of_it tr t r a ≡ None → unknown_to tr (Steps.Issue t r a) ≡ false
+not_unknown : (tr : Trace) (t r : ℕ) (a : Asked) → book_of_it tr t r a ≡ None → forces_unknown_transaction tr (Steps.Issue t r a) ≡ false
 unfolding book_of_it by_book
-not_unknown tr t r a e = (peel (unknown_to tr (Steps.Issue t r a)) Refusals.UnknownTransaction _ e).0
+not_unknown tr t r a e = (peel (forces_unknown_transaction tr (Steps.Issue t r a)) Refusals.UnknownTransaction _ e).0
 
 -- what a line did, where nothing refused the call
 pub issued_so : {P : Type 0} (result : Result (Unit {0}) Refusal) → result_err result ≡ None → OnOk result P → P
@@ -162,7 +162,7 @@ issued_line tr t r c call old new is stands put =
 module _ {R L : Type 0} (see : Sees R L) where
   -- what the line says of the call is what the history says
   same_bar : (tr : Trace) (parts : Parts R L) (t r : ℕ) (call : Asking.Call Xid) → Stands see tr parts → HasLine parts.lines t r
-      → bar_of (not_open tr (Steps.Issue t r (map_call name_of call))) (facts.is_closed tr (line t r)) ≡ barred (issued (line_at parts.lines t r)) call
+      → bar_of (forces_not_open tr (Steps.Issue t r (map_call name_of call))) (facts.is_closed tr (line t r)) ≡ barred (issued (line_at parts.lines t r)) call
   same_bar tr parts t r call stands has =
       let alike = (stands.lines t r has).all_issued in
       λ i. bar_of (sym (unopened_alike (issued (line_at parts.lines t r)) (facts.issued tr (line t r)) call alike) i) (sym (closed_alike (issued (line_at parts.lines t r)) (facts.issued tr (line t r)) alike) i)
@@ -186,10 +186,10 @@ module _ {R L : Type 0} (see : Sees R L) where
       issue_rule tr t r (map_call name_of call) ∙ λ i. issue_why (has_tr i) (up_tr i) (sym (stands.sites r site at).is_up i) (same_bar tr parts t r call stands has i) (same_book tr parts t r call stands has_tr up_tr i) (nat_le 64 (sym many i))
 
   pub issue_limit : (tr : Trace) (parts : Parts R L) (t r : ℕ) (call : Asking.Call Xid) → (nat_lt t parts.lines.threads && nat_lt r parts.lines.rms) ≡ false → Stands see tr parts → must_refuse tr (Steps.Issue t r (map_call name_of call)) ≡ Some Refusals.Limit
-  issue_limit tr parts t r call e stands = issue_rule tr t r (map_call name_of call) ∙ λ i. issue_why ((sym (there_is see tr parts t r stands) ∙ e) i) (facts.up tr) (rm_up tr r) (bar_of (not_open tr (Steps.Issue t r (map_call name_of call))) (facts.is_closed tr (line t r))) (book_of_it tr t r (map_call name_of call)) (nat_le 64 (waiting tr (line t r)))
+  issue_limit tr parts t r call e stands = issue_rule tr t r (map_call name_of call) ∙ λ i. issue_why ((sym (there_is see tr parts t r stands) ∙ e) i) (facts.up tr) (rm_up tr r) (bar_of (forces_not_open tr (Steps.Issue t r (map_call name_of call))) (facts.is_closed tr (line t r))) (book_of_it tr t r (map_call name_of call)) (nat_le 64 (waiting tr (line t r)))
 
   pub issue_manager_down : (tr : Trace) (parts : Parts R L) (t r : ℕ) (call : Asking.Call Xid) → (nat_lt t parts.lines.threads && nat_lt r parts.lines.rms) ≡ true → (book_in parts.manager).up ≡ false → Stands see tr parts → must_refuse tr (Steps.Issue t r (map_call name_of call)) ≡ Some Refusals.ManagerDown
-  issue_manager_down tr parts t r call e down stands = issue_rule tr t r (map_call name_of call) ∙ λ i. issue_why ((sym (there_is see tr parts t r stands) ∙ e) i) ((sym (up_is tr parts stands) ∙ down) i) (rm_up tr r) (bar_of (not_open tr (Steps.Issue t r (map_call name_of call))) (facts.is_closed tr (line t r))) (book_of_it tr t r (map_call name_of call)) (nat_le 64 (waiting tr (line t r)))
+  issue_manager_down tr parts t r call e down stands = issue_rule tr t r (map_call name_of call) ∙ λ i. issue_why ((sym (there_is see tr parts t r stands) ∙ e) i) ((sym (up_is tr parts stands) ∙ down) i) (rm_up tr r) (bar_of (forces_not_open tr (Steps.Issue t r (map_call name_of call))) (facts.is_closed tr (line t r))) (book_of_it tr t r (map_call name_of call)) (nat_le 64 (waiting tr (line t r)))
 
   -- the call waits
   pub issue_did : (parts : Parts R L) (t r : ℕ) (call : Asking.Call Xid) (site : Site R) (x : Traffic) (manager : Manager L) (reply : Reply Xid) → CallHasXid call → reply ≡ Replies.Issued → (nat_lt t parts.lines.threads && nat_lt r parts.lines.rms) ≡ true

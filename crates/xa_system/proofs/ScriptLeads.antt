@@ -13,12 +13,12 @@ use Rattle.xa_model.specs.Replies.History.{name_of, reply_of, step_of}
 use Rattle.xa_model.specs.Facts.InDoubt.{scan, xid_of_name}
 use Rattle.xa_model.specs.Facts.{rm_up}
 use Rattle.xa_model.specs.Replies.ReadBack.{StepHasXids}
-use Rattle.xa_model.specs.Replies.Rules.{bad_script, has_rm, is_at, must_refuse}
+use Rattle.xa_model.specs.Replies.Rules.{forces_script, has_rm, is_at, must_refuse}
 use Rattle.xa_base.specs.Standing.{is_in_doubt, is_prepared}
 use Rattle.xa_base.specs.StateTable.{broken, completed}
 use Rattle.xa_model.specs.Replies.Steps as known
 use Rattle.xa_model.specs.Replies.Steps.{happened}
-use Rattle.xa_model.specs.Trace.{Happening, Happening.EndedAlone, Happening.Nothing, Happening.PutOff, Happening.Voted, Name, Name.Foreign, Name.Ours, Line, Trace, Trace.Then, line}
+use Rattle.xa_model.specs.Trace.{Happening, Happening.CompletedAlone, Happening.Nothing, Happening.PutOff, Happening.Voted, Name, Name.Foreign, Name.Ours, Line, Trace, Trace.Then, line}
 use Rattle.xa_base.specs.Xid.{IsXid, Xid}
 use Rattle.xa_base.specs.declared.branch.Branch.{Branch}
 use Rattle.xa_base.specs.declared.code.How.{How}
@@ -95,7 +95,7 @@ still_owned : (f : Standing) (how : How) (starter thread : ℕ) → (broken f �
 still_owned Prepared how starter thread o = inl refl
 still_owned f how starter thread o = o
 
-pub ended_alone : (tr : Trace) (c : Branch) (how : How) → Scripts tr (EndedAlone c how) c (completed_by how)
+pub ended_alone : (tr : Trace) (c : Branch) (how : How) → Scripts tr (CompletedAlone c how) c (completed_by how)
 ended_alone tr c how = record {
   own = λ h a. record { standing = rw (branch_eq-refl c) (ap (λ f. completed f how) a.standing); vote = a.vote; retries = a.retries; starter = still_owned h.standing how h.starter c.thread a.starter };
   others = λ b apart h a. record { standing = rw apart a.standing; vote = a.vote; retries = a.retries; starter = a.starter };
@@ -123,11 +123,11 @@ pub named_there : (r : ℕ) (n : Name) → is_at r n ≡ true → (b : Branch) �
 named_there r (Ours b) e = (b, refl, eqb-true b.rm r e)
 named_there r (Foreign x) e = absurd (cc)
 
-pub vote_elsewhere : (tr : Trace) (r : ℕ) (n : Name) (v : Vote) → is_at r n ≡ false → bad_script tr (Steps.Vote r n v) ≡ true
+pub vote_elsewhere : (tr : Trace) (r : ℕ) (n : Name) (v : Vote) → is_at r n ≡ false → forces_script tr (Steps.Vote r n v) ≡ true
 vote_elsewhere tr r (Ours b) v e = rw e refl
 vote_elsewhere tr r (Foreign x) v e = refl
 
-pub heuristic_elsewhere : (tr : Trace) (r : ℕ) (n : Name) (how : How) → is_at r n ≡ false → bad_script tr (Steps.Heuristic r n how) ≡ true
+pub heuristic_elsewhere : (tr : Trace) (r : ℕ) (n : Name) (how : How) → is_at r n ≡ false → forces_script tr (Steps.Heuristic r n how) ≡ true
 heuristic_elsewhere tr r (Ours b) how e = rw e refl
 heuristic_elsewhere tr r (Foreign x) how e = refl
 
@@ -137,21 +137,21 @@ not_true : (t : Bool) → (t ≡ true → ⊥) → t ≡ false
 not_true true f = absurd (f refl)
 not_true false f = refl
 
-pub vote_fine : (tr : Trace) (r : ℕ) (n : Name) (b : Branch) (v : Vote) (f : Standing) → n ≡ Ours b → b.rm ≡ r → f ≡ facts.standing tr b → (is_in_doubt f ≡ true → ⊥) → bad_script tr (Steps.Vote r n v) ≡ false
-vote_fine tr r n b v f is at same no_doubt = ap (λ m. bad_script tr (Steps.Vote r m v)) is ∙ rw (eq-eqb b.rm r at, ← same) (not_true (is_in_doubt f) no_doubt)
+pub vote_fine : (tr : Trace) (r : ℕ) (n : Name) (b : Branch) (v : Vote) (f : Standing) → n ≡ Ours b → b.rm ≡ r → f ≡ facts.standing tr b → (is_in_doubt f ≡ true → ⊥) → forces_script tr (Steps.Vote r n v) ≡ false
+vote_fine tr r n b v f is at same no_doubt = ap (λ m. forces_script tr (Steps.Vote r m v)) is ∙ rw (eq-eqb b.rm r at, ← same) (not_true (is_in_doubt f) no_doubt)
 
-pub vote_bad : (tr : Trace) (r : ℕ) (n : Name) (b : Branch) (v : Vote) (f : Standing) → n ≡ Ours b → b.rm ≡ r → f ≡ facts.standing tr b → is_in_doubt f ≡ true → bad_script tr (Steps.Vote r n v) ≡ true
-vote_bad tr r n b v f is at same doubt = ap (λ m. bad_script tr (Steps.Vote r m v)) is ∙ rw (eq-eqb b.rm r at, ← same) doubt
+pub vote_bad : (tr : Trace) (r : ℕ) (n : Name) (b : Branch) (v : Vote) (f : Standing) → n ≡ Ours b → b.rm ≡ r → f ≡ facts.standing tr b → is_in_doubt f ≡ true → forces_script tr (Steps.Vote r n v) ≡ true
+vote_bad tr r n b v f is at same doubt = ap (λ m. forces_script tr (Steps.Vote r m v)) is ∙ rw (eq-eqb b.rm r at, ← same) doubt
 
-pub heuristic_fine : (tr : Trace) (r : ℕ) (n : Name) (b : Branch) (how : How) (f : Standing) → n ≡ Ours b → b.rm ≡ r → f ≡ facts.standing tr b → (is_prepared f ≡ false → ⊥) → bad_script tr (Steps.Heuristic r n how) ≡ false
-heuristic_fine tr r n b how f is at same prepared = ap (λ m. bad_script tr (Steps.Heuristic r m how)) is ∙ rw (eq-eqb b.rm r at, ← same) (by_test (is_prepared f) prepared)
+pub heuristic_fine : (tr : Trace) (r : ℕ) (n : Name) (b : Branch) (how : How) (f : Standing) → n ≡ Ours b → b.rm ≡ r → f ≡ facts.standing tr b → (is_prepared f ≡ false → ⊥) → forces_script tr (Steps.Heuristic r n how) ≡ false
+heuristic_fine tr r n b how f is at same prepared = ap (λ m. forces_script tr (Steps.Heuristic r m how)) is ∙ rw (eq-eqb b.rm r at, ← same) (by_test (is_prepared f) prepared)
   where
     by_test : (t : Bool) → (t ≡ false → ⊥) → not t ≡ false
     by_test true g = refl
     by_test false g = absurd (g refl)
 
-pub heuristic_bad : (tr : Trace) (r : ℕ) (n : Name) (b : Branch) (how : How) (f : Standing) → n ≡ Ours b → b.rm ≡ r → f ≡ facts.standing tr b → is_prepared f ≡ false → bad_script tr (Steps.Heuristic r n how) ≡ true
-heuristic_bad tr r n b how f is at same unprepared = ap (λ m. bad_script tr (Steps.Heuristic r m how)) is ∙ rw (eq-eqb b.rm r at, ← same) (ap not unprepared)
+pub heuristic_bad : (tr : Trace) (r : ℕ) (n : Name) (b : Branch) (how : How) (f : Standing) → n ≡ Ours b → b.rm ≡ r → f ≡ facts.standing tr b → is_prepared f ≡ false → forces_script tr (Steps.Heuristic r n how) ≡ true
+heuristic_bad tr r n b how f is at same unprepared = ap (λ m. forces_script tr (Steps.Heuristic r m how)) is ∙ rw (eq-eqb b.rm r at, ← same) (ap not unprepared)
 
 -- the branch that a name is of is there
 pub is_there : (r : ℕ) (n : Name) (b : Branch) → n ≡ Ours b → b.rm ≡ r → is_at r n ≡ true
@@ -190,7 +190,7 @@ put_off_script tr c n = record {
   event = tt;
 }
 
-pub alone_script : (tr : Trace) (c : Branch) (how : How) → IsScript tr (EndedAlone c how) c
+pub alone_script : (tr : Trace) (c : Branch) (how : How) → IsScript tr (CompletedAlone c how) c
 alone_script tr c how = record {
   quiet = λ r apart. record { branches = record { standing = λ b at. rw (elsewhere b c c.rm r apart refl at) refl; vote = λ b at. refl; retries = λ b at. refl }; scan_stays = refl };
   ups = λ r. refl;
@@ -278,18 +278,18 @@ module _ {R L : Type 0} (see : Sees R L) where
 
   -- it was refused before it was looked at
   pub script_hinders : (step : Step Xid) (parts : Parts R L) (r : ℕ) (x : Xid) (n : Refusal) (reply : Reply Xid) → StepHasXids step → reply ≡ Replies.Refused n → HindersScript see r (name_of x) parts (Some n)
-      → ((tr : Trace) → must_refuse tr (step_of step) ≡ script_why (has_rm tr r) (rm_up tr r) (bad_script tr (step_of step)))
-      → ((tr : Trace) → is_at r (name_of x) ≡ false → bad_script tr (step_of step) ≡ true) → GoesOn see step reply parts parts
+      → ((tr : Trace) → must_refuse tr (step_of step) ≡ script_why (has_rm tr r) (rm_up tr r) (forces_script tr (step_of step)))
+      → ((tr : Trace) → is_at r (name_of x) ≡ false → forces_script tr (step_of step) ≡ true) → GoesOn see step reply parts parts
   script_hinders step parts r x n reply has is hinders rule else_bad =
       refused_goes see step parts reply n has is
-      (λ tr stands. rule tr ∙ script_hindered (has_rm tr r) (rm_up tr r) (is_at r (name_of x)) (bad_script tr (step_of step)) n (hinders tr stands) (else_bad tr))
+      (λ tr stands. rule tr ∙ script_hindered (has_rm tr r) (rm_up tr r) (is_at r (name_of x)) (forces_script tr (step_of step)) n (hinders tr stands) (else_bad tr))
 
   -- it was looked at
   pub script_told : (tr : Trace) (step : Step Xid) (e : Branch → Happening) (parts : Parts R L) (r : ℕ) (site : Site R) (rm : R) (reply : Reply Xid) (x : Xid) (change : HeldBranch → HeldBranch) (told : Result (Unit {0}) RmFault)
       → Stands see tr parts → StepHasXids step → slice_get parts.sites.items r ≡ Some site → reply ≡ noted_as told → HindersScript see r (name_of x) parts None
-      → must_refuse tr (step_of step) ≡ script_why (has_rm tr r) (rm_up tr r) (bad_script tr (step_of step))
-      → ((c : Branch) → name_of x ≡ Ours c → c.rm ≡ r → told ≡ Err Faults.Script → bad_script tr (step_of step) ≡ true)
-      → ((c : Branch) → name_of x ≡ Ours c → c.rm ≡ r → (told ≡ Err Faults.Script → ⊥) → bad_script tr (step_of step) ≡ false)
+      → must_refuse tr (step_of step) ≡ script_why (has_rm tr r) (rm_up tr r) (forces_script tr (step_of step))
+      → ((c : Branch) → name_of x ≡ Ours c → c.rm ≡ r → told ≡ Err Faults.Script → forces_script tr (step_of step) ≡ true)
+      → ((c : Branch) → name_of x ≡ Ours c → c.rm ≡ r → (told ≡ Err Faults.Script → ⊥) → forces_script tr (step_of step) ≡ false)
       → IsValue tr (step_of step) Replies.Noted → MayLackMemory tr (step_of step) → ((c : Branch) → name_of x ≡ Ours c → happened (step_of step) Replies.Noted ≡ e c)
       → IsXid x → ((c : Branch) → Scripts tr (e c) c change) → ((c : Branch) → IsScript tr (e c) c) → ((c : Branch) (l : Line) → facts.breaks tr (e c) l ≡ false) → ((c : Branch) (l : Line) → facts.new_calls tr (e c) l ≡ [])
       → ((c : Branch) (l : Line) → facts.new_taken (e c) l ≡ []) → ((c : Branch) (l : Line) → facts.new_heard (e c) l ≡ []) → ((c : Branch) → book_in parts.manager ≡ book_of (Then tr (e c)))
@@ -308,10 +308,10 @@ module _ {R L : Type 0} (see : Sees R L) where
       b : Branch
       b = here.0
 
-      why : (t : Bool) → bad_script tr (step_of step) ≡ t → must_refuse tr (step_of step) ≡ script_why true true t
+      why : (t : Bool) → forces_script tr (step_of step) ≡ t → must_refuse tr (step_of step) ≡ script_why true true t
       why t q = rule ∙ (λ i. script_why (free.0 i) (free.1 i) (q i))
 
-      by : (o : Result (Unit {0}) RmFault) → reply ≡ noted_as o → (o ≡ Err Faults.Script → bad_script tr (step_of step) ≡ true) → ((o ≡ Err Faults.Script → ⊥) → bad_script tr (step_of step) ≡ false)
+      by : (o : Result (Unit {0}) RmFault) → reply ≡ noted_as o → (o ≡ Err Faults.Script → forces_script tr (step_of step) ≡ true) → ((o ≡ Err Faults.Script → ⊥) → forces_script tr (step_of step) ≡ false)
           → OnOk o ((y : Xid) → see.look.held_of rm y ≡ changed_at x change y (see.look.held_of site.rm y)) → OnErr o ((y : Xid) → see.look.held_of rm y ≡ see.look.held_of site.rm y)
           → OneMore see step reply tr parts (with_rm parts r site rm)
       by (Ok u) q bad fine held same =

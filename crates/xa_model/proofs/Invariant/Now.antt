@@ -6,7 +6,7 @@ use Rattle.std.proofs.lemmas.Bool.{and_parts}
 use Rattle.xa_base.specs.declared.call.Call.TheVariants as Calls
 use Rattle.xa_base.specs.StateTable.{on, state_of, answer, moved, broken, completed}
 use Rattle.xa_base.specs.declared.answer.Answer.TheVariants.{Ret, Page}
-use Rattle.xa_model.specs.Trace.{Gtrid, Branch, Line, Kind, Kind.Start, Kind.Join, Kind.End, Kind.Prepare, Kind.Commit, Kind.OnePhase, Kind.Rollback, Kind.Forget, Call, How, Code, Outcome, Happening, Happening.Issued, Happening.Took, Happening.EndedAlone, Trace, Trace.Then, line_of, Answer}
+use Rattle.xa_model.specs.Trace.{Gtrid, Branch, Line, Kind, Kind.Start, Kind.Join, Kind.End, Kind.Prepare, Kind.Commit, Kind.OnePhase, Kind.Rollback, Kind.Forget, Call, How, Code, Outcome, Happening, Happening.Issued, Happening.Took, Happening.CompletedAlone, Trace, Trace.Then, line_of, Answer}
 use Rattle.xa_base.specs.Branch.{branch_eq}
 use Rattle.xa_base.specs.declared.state.Standing.{Standing}
 use Rattle.xa_base.specs.declared.state.Standing.TheVariants.{Prepared, Completed, Forgotten}
@@ -108,7 +108,7 @@ step_move tr (Took l (Calls.Commit c false) (Ret a)) b inv r = took_or_stays tr 
 step_move tr (Took l (Calls.Commit c true) (Ret a)) b inv r = took_or_stays tr l OnePhase c a b inv r.0 (code_of r.1) (branch_eq c b) refl
 step_move tr (Took l (Calls.Rollback c) (Ret a)) b inv r = took_or_stays tr l Rollback c a b inv r.0 (code_of r.1) (branch_eq c b) refl
 step_move tr (Took l (Calls.Forget c) (Ret a)) b inv r = took_or_stays tr l Forget c a b inv r.0 (code_of r.1) (branch_eq c b) refl
-step_move tr (EndedAlone c how) b inv r = by_branch (branch_eq c b) refl
+step_move tr (CompletedAlone c how) b inv r = by_branch (branch_eq c b) refl
   where
     by_branch : (t : Bool) → branch_eq c b ≡ t → Move tr b (standing tr b) (if t then completed (standing tr b) how else standing tr b)
     by_branch true s = scripted_move tr b how (standing tr b) (ap (standing tr) (sym (branch_eq-true c b s)) ∙ r)

@@ -4,7 +4,7 @@ use Rattle.std.specs.Prelude.{if◌then◌else◌, Option, Some, None, slice_get
 use mathlib.Core.Logic.{◌⊎◌.inl, ◌⊎◌.inr}
 use Rattle.xa_base.specs.declared.call.Call.TheVariants as Calls
 use Rattle.xa_base.specs.declared.answer.Answer.TheVariants.{Ret, Page}
-use Rattle.xa_model.specs.Trace.{Gtrid, Branch, Line, Name, Name.Ours, Name.Foreign, Kind, Kind.Start, Kind.Join, Kind.End, Kind.Prepare, Kind.Commit, Kind.OnePhase, Kind.Rollback, Kind.Forget, Call, Code, Answer, Happening, Happening.Issued, Happening.Resolved, Happening.ResolvedOpen, Happening.Took, Happening.EndedAlone, Happening.Crashed, Happening.Failed, Happening.Restarted, Trace, Trace.Then, line_eq, line, line_of}
+use Rattle.xa_model.specs.Trace.{Gtrid, Branch, Line, Name, Name.Ours, Name.Foreign, Kind, Kind.Start, Kind.Join, Kind.End, Kind.Prepare, Kind.Commit, Kind.OnePhase, Kind.Rollback, Kind.Forget, Call, Code, Answer, Happening, Happening.Issued, Happening.Resolved, Happening.ResolvedOpen, Happening.Took, Happening.CompletedAlone, Happening.Crashed, Happening.Failed, Happening.Restarted, Trace, Trace.Then, line_eq, line, line_of}
 use Rattle.xa_base.specs.declared.step.Outcome.TheVariants as Outcome
 use Rattle.xa_base.specs.declared.step.Part.TheVariants as Part
 use Rattle.xa_base.specs.Branch.{branch_eq}
@@ -49,7 +49,7 @@ unstarted_stays tr (Took l (Calls.Commit c false) (Ret a)) b n u = took_unstarte
 unstarted_stays tr (Took l (Calls.Commit c true) (Ret a)) b n u = took_unstarted tr OnePhase c a b (branch_eq c b) refl (λ q. let p : ⊥ = cc in p) u
 unstarted_stays tr (Took l (Calls.Rollback c) (Ret a)) b n u = took_unstarted tr Rollback c a b (branch_eq c b) refl (λ q. let p : ⊥ = cc in p) u
 unstarted_stays tr (Took l (Calls.Forget c) (Ret a)) b n u = took_unstarted tr Forget c a b (branch_eq c b) refl (λ q. let p : ⊥ = cc in p) u
-unstarted_stays tr (EndedAlone c how) b n u = by_branch (branch_eq c b)
+unstarted_stays tr (CompletedAlone c how) b n u = by_branch (branch_eq c b)
   where
     by_branch : (t : Bool) → (if t then completed (standing tr b) how else standing tr b) ≡ Unstarted
     by_branch true = ap (λ f. completed f how) u

@@ -12,7 +12,7 @@ use Rattle.xa_base.specs.declared.step.Side.TheVariants as Side
 use Rattle.xa_model.specs.Replies.Demanded.{Takes, Takes.Takes_one, Takes.Takes_none, Hears, Hears.Hears_one, Hears.Hears_none, Restarts, Restarts.Restarts_as, IsValue, UsesLog, Demanded, Demanded.By_rule, Demanded.As_value, Demanded.For_memory, Demanded.For_log, with_steps, AllDemanded}
 use Rattle.xa_model.specs.Facts.{branches, outlived, participants_settled, decided_so, claimed, up, begun, live, started, settled, all_of, has_voted, is_taken_up, is_shut}
 use Rattle.xa_model.specs.Protocol.{IsKnown, IsRowSettled, HasVoted, MayBeCalled, IsOpen, RightCall, IsOnOwnThread, RightClaim, RightDecision, RightDone, Right, AllRight}
-use Rattle.xa_model.specs.Replies.Rules.{is_own, asks_manager, applies, rules, first_of, is_there, must_refuse, on_wrong_thread}
+use Rattle.xa_model.specs.Replies.Rules.{is_own, asks_manager, applies, rules, first_of, is_there, must_refuse, forces_wrong_thread}
 use Rattle.xa_base.specs.declared.reply.Reply.TheVariants as Replies
 use Rattle.xa_base.specs.declared.step.Step.TheVariants as Steps
 use Rattle.xa_model.specs.Replies.Steps.{Step, Refusal, Reply, accepted, if_ours, happened}
@@ -208,7 +208,7 @@ own_thread t n Commit b e = tt
 own_thread t n Rollback b e = tt
 own_thread t n Forget b e = tt
 
-wrong_thread : (t n : ℕ) (k : Kind) (b : Branch) → on_wrong_thread (Steps.Issue t n (on k (Ours b))) ≡ (not (nat_eq n b.rm) || (is_own k && not (nat_eq t b.thread)))
+wrong_thread : (t n : ℕ) (k : Kind) (b : Branch) → forces_wrong_thread (Steps.Issue t n (on k (Ours b))) ≡ (not (nat_eq n b.rm) || (is_own k && not (nat_eq t b.thread)))
 wrong_thread t n Start b = refl
 wrong_thread t n Join b = refl
 wrong_thread t n (End fail) b = refl

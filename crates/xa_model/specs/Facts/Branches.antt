@@ -12,7 +12,7 @@ use Rattle.xa_base.specs.Standing.{fate_of}
 use Rattle.xa_model.specs.Facts.Manager.{breaks}
 use Rattle.xa_base.specs.declared.call.Call.TheVariants as Calls
 use Rattle.xa_base.specs.declared.answer.Answer.TheVariants.{Ret}
-use Rattle.xa_model.specs.Trace.{Branch, Vote, Happening, Happening.Took, Happening.EndedAlone, Happening.Voted, Happening.PutOff, Origin, Trace, Trace.From, Trace.Then, line_of}
+use Rattle.xa_model.specs.Trace.{Branch, Vote, Happening, Happening.Took, Happening.CompletedAlone, Happening.Voted, Happening.PutOff, Origin, Trace, Trace.From, Trace.Then, line_of}
 
 -- what the branch's resource manager held of it at the start
 abbrev pub held_of : Origin → Branch → HeldBranch
@@ -26,7 +26,7 @@ moved_by None a b f = f
 -- a call that is taken moves its branch by the state table; its resource manager may end it alone; a break of its line loses it
 abbrev pub standing_after : Trace → Happening → Branch → Standing → Standing
 standing_after tr (Took l c (Ret a)) b f = moved_by (asks_of c) a b f
-standing_after tr (EndedAlone c how) b f = if branch_eq c b then completed f how else f
+standing_after tr (CompletedAlone c how) b f = if branch_eq c b then completed f how else f
 standing_after tr e b f = if breaks tr e (line_of b) then broken f else f
 
 -- where a branch stands: no branch of this manager was there at the start

@@ -34,37 +34,37 @@ asks_manager (Steps.Crash Part.Manager) = true
 asks_manager _ = false
 
 -- the step asks a resource manager that is down
-abbrev pub rm_down : Trace → Step → Bool
-rm_down tr (Steps.Issue t r a) = not (rm_up tr r)
-rm_down tr (Steps.Take t r) = not (rm_up tr r)
-rm_down tr (Steps.Hear t r) = not (rm_up tr r)
-rm_down tr (Steps.Vote r x v) = not (rm_up tr r)
-rm_down tr (Steps.Busy r x n) = not (rm_up tr r)
-rm_down tr (Steps.Heuristic r x how) = not (rm_up tr r)
-rm_down tr (Steps.Recover r n start end) = not (rm_up tr r)
-rm_down tr (Steps.Resolve r) = not (rm_up tr r)
-rm_down tr (Steps.ResolveOpen r) = not (rm_up tr r)
-rm_down tr (Steps.Crash (Part.Line t r)) = not (rm_up tr r)
-rm_down tr (Steps.Crash (Part.Rm r)) = not (rm_up tr r)
-rm_down tr _ = false
+abbrev pub forces_rm_down : Trace → Step → Bool
+forces_rm_down tr (Steps.Issue t r a) = not (rm_up tr r)
+forces_rm_down tr (Steps.Take t r) = not (rm_up tr r)
+forces_rm_down tr (Steps.Hear t r) = not (rm_up tr r)
+forces_rm_down tr (Steps.Vote r x v) = not (rm_up tr r)
+forces_rm_down tr (Steps.Busy r x n) = not (rm_up tr r)
+forces_rm_down tr (Steps.Heuristic r x how) = not (rm_up tr r)
+forces_rm_down tr (Steps.Recover r n start end) = not (rm_up tr r)
+forces_rm_down tr (Steps.Resolve r) = not (rm_up tr r)
+forces_rm_down tr (Steps.ResolveOpen r) = not (rm_up tr r)
+forces_rm_down tr (Steps.Crash (Part.Line t r)) = not (rm_up tr r)
+forces_rm_down tr (Steps.Crash (Part.Rm r)) = not (rm_up tr r)
+forces_rm_down tr _ = false
 
 -- ** the line
 
 -- a call other than xa_open on a line where no xa_open was issued
-abbrev pub not_open : Trace → Step → Bool
-not_open tr (Steps.Issue t r c) = comes_unopened (issued tr (line t r)) c
-not_open tr (Steps.Recover r n start end) = not (is_open tr (line 0 r))
-not_open tr (Steps.Resolve r) = not (is_open tr (line 0 r))
-not_open tr (Steps.ResolveOpen r) = not (is_open tr (line 0 r))
-not_open tr _ = false
+abbrev pub forces_not_open : Trace → Step → Bool
+forces_not_open tr (Steps.Issue t r c) = comes_unopened (issued tr (line t r)) c
+forces_not_open tr (Steps.Recover r n start end) = not (is_open tr (line 0 r))
+forces_not_open tr (Steps.Resolve r) = not (is_open tr (line 0 r))
+forces_not_open tr (Steps.ResolveOpen r) = not (is_open tr (line 0 r))
+forces_not_open tr _ = false
 
 -- any call on a line where xa_close was issued
-abbrev pub on_closed : Trace → Step → Bool
-on_closed tr (Steps.Issue t r a) = is_closed tr (line t r)
-on_closed tr (Steps.Recover r n start end) = is_closed tr (line 0 r)
-on_closed tr (Steps.Resolve r) = is_closed tr (line 0 r)
-on_closed tr (Steps.ResolveOpen r) = is_closed tr (line 0 r)
-on_closed tr _ = false
+abbrev pub forces_closed : Trace → Step → Bool
+forces_closed tr (Steps.Issue t r a) = is_closed tr (line t r)
+forces_closed tr (Steps.Recover r n start end) = is_closed tr (line 0 r)
+forces_closed tr (Steps.Resolve r) = is_closed tr (line 0 r)
+forces_closed tr (Steps.ResolveOpen r) = is_closed tr (line 0 r)
+forces_closed tr _ = false
 
 -- ** the transaction and the branch
 
@@ -75,15 +75,15 @@ is_unknown tr (Some (Foreign x)) = true
 is_unknown tr None = false
 
 -- a transaction that wasn't begun in this incarnation. To xa_commit in two phases, and to Done, a row of an older one will do
-abbrev pub unknown_to : Trace → Step → Bool
-unknown_to tr (Steps.Issue t r (Calls.Commit (Ours b) false)) = not (begun tr b.gtrid || outlived tr b.gtrid)
-unknown_to tr (Steps.Issue t r c) = is_unknown tr (xid_in c)
-unknown_to tr (Steps.Decide g o) = not (begun tr g)
-unknown_to tr (Steps.Claim g) = not (begun tr g)
-unknown_to tr (Steps.Settle g) = not (begun tr g)
-unknown_to tr (Steps.Abandon g) = not (begun tr g)
-unknown_to tr (Steps.Done g) = not (begun tr g || outlived tr g)
-unknown_to tr _ = false
+abbrev pub forces_unknown_transaction : Trace → Step → Bool
+forces_unknown_transaction tr (Steps.Issue t r (Calls.Commit (Ours b) false)) = not (begun tr b.gtrid || outlived tr b.gtrid)
+forces_unknown_transaction tr (Steps.Issue t r c) = is_unknown tr (xid_in c)
+forces_unknown_transaction tr (Steps.Decide g o) = not (begun tr g)
+forces_unknown_transaction tr (Steps.Claim g) = not (begun tr g)
+forces_unknown_transaction tr (Steps.Settle g) = not (begun tr g)
+forces_unknown_transaction tr (Steps.Abandon g) = not (begun tr g)
+forces_unknown_transaction tr (Steps.Done g) = not (begun tr g || outlived tr g)
+forces_unknown_transaction tr _ = false
 
 -- whether a call is for the thread of the branch alone
 abbrev pub is_own : Kind → Bool
@@ -97,64 +97,64 @@ abbrev pub is_elsewhere : (thread rm : ℕ) → Option (Kind × Name) → Bool
 is_elsewhere t r (Some (k, Ours b)) = not (nat_eq r b.rm) || (is_own k && not (nat_eq t b.thread))
 is_elsewhere t r _ = false
 
-abbrev pub on_wrong_thread : Step → Bool
-on_wrong_thread (Steps.Issue t r (Calls.Recover n start end)) = not (nat_eq t 0)
-on_wrong_thread (Steps.Issue t r c) = is_elsewhere t r (asks_of c)
-on_wrong_thread _ = false
+abbrev pub forces_wrong_thread : Step → Bool
+forces_wrong_thread (Steps.Issue t r (Calls.Recover n start end)) = not (nat_eq t 0)
+forces_wrong_thread (Steps.Issue t r c) = is_elsewhere t r (asks_of c)
+forces_wrong_thread _ = false
 
 -- an xa_start of a branch whose xa_start was accepted before
-abbrev pub starts_again : Trace → Step → Bool
-starts_again tr (Steps.Issue t r (Calls.Start (Ours b) join)) = started tr b
-starts_again tr _ = false
+abbrev pub forces_already_started : Trace → Step → Bool
+forces_already_started tr (Steps.Issue t r (Calls.Start (Ours b) join)) = started tr b
+forces_already_started tr _ = false
 
 -- work on a transaction, or a decision, where that is decided already
-abbrev pub comes_late : Trace → Step → Bool
-comes_late tr (Steps.Issue t r (Calls.Start (Ours b) join)) = is_shut tr b.gtrid
-comes_late tr (Steps.Issue t r (Calls.Prepare (Ours b))) = is_shut tr b.gtrid
-comes_late tr (Steps.Issue t r (Calls.Commit (Ours b) true)) = is_shut tr b.gtrid
-comes_late tr (Steps.Decide g o) = is_shut tr g
-comes_late tr (Steps.Claim g) = is_shut tr g
-comes_late tr (Steps.Settle g) = is_taken_up tr g
-comes_late tr (Steps.Abandon g) = is_taken_up tr g
-comes_late tr _ = false
+abbrev pub forces_decided : Trace → Step → Bool
+forces_decided tr (Steps.Issue t r (Calls.Start (Ours b) join)) = is_shut tr b.gtrid
+forces_decided tr (Steps.Issue t r (Calls.Prepare (Ours b))) = is_shut tr b.gtrid
+forces_decided tr (Steps.Issue t r (Calls.Commit (Ours b) true)) = is_shut tr b.gtrid
+forces_decided tr (Steps.Decide g o) = is_shut tr g
+forces_decided tr (Steps.Claim g) = is_shut tr g
+forces_decided tr (Steps.Settle g) = is_taken_up tr g
+forces_decided tr (Steps.Abandon g) = is_taken_up tr g
+forces_decided tr _ = false
 
 -- the end of a branch or a transaction where that isn't decided yet
-abbrev pub comes_early : Trace → Step → Bool
-comes_early tr (Steps.Issue t r (Calls.Commit (Ours b) false)) = not (has_row tr b.gtrid)
-comes_early tr (Steps.Issue t r (Calls.Rollback (Ours b))) = not (decided_so Outcome.Rollback tr b.gtrid || handed_over tr b.gtrid)
-comes_early tr (Steps.Issue t r (Calls.Forget (Ours b))) = not (recorded tr b)
-comes_early tr (Steps.Settle g) = live tr g && not (claimed tr g)
-comes_early tr (Steps.Abandon g) = live tr g && not (claimed tr g)
-comes_early tr (Steps.Done g) = not (has_row tr g)
-comes_early tr _ = false
+abbrev pub forces_not_decided : Trace → Step → Bool
+forces_not_decided tr (Steps.Issue t r (Calls.Commit (Ours b) false)) = not (has_row tr b.gtrid)
+forces_not_decided tr (Steps.Issue t r (Calls.Rollback (Ours b))) = not (decided_so Outcome.Rollback tr b.gtrid || handed_over tr b.gtrid)
+forces_not_decided tr (Steps.Issue t r (Calls.Forget (Ours b))) = not (recorded tr b)
+forces_not_decided tr (Steps.Settle g) = live tr g && not (claimed tr g)
+forces_not_decided tr (Steps.Abandon g) = live tr g && not (claimed tr g)
+forces_not_decided tr (Steps.Done g) = not (has_row tr g)
+forces_not_decided tr _ = false
 
 -- a decision to commit without all votes, or in one phase where the branch isn't the only one
-abbrev pub lacks_votes : Trace → Step → Bool
-lacks_votes tr (Steps.Decide g Outcome.Commit) = not (all_of g (has_voted tr) (branches tr))
-lacks_votes tr (Steps.Claim g) = not (all_of g (has_voted tr) (branches tr))
-lacks_votes tr (Steps.Issue t r (Calls.Commit (Ours b) true)) = not (started tr b && all_of b.gtrid (λ c. branch_eq c b) (branches tr))
-lacks_votes tr _ = false
+abbrev pub forces_votes : Trace → Step → Bool
+forces_votes tr (Steps.Decide g Outcome.Commit) = not (all_of g (has_voted tr) (branches tr))
+forces_votes tr (Steps.Claim g) = not (all_of g (has_voted tr) (branches tr))
+forces_votes tr (Steps.Issue t r (Calls.Commit (Ours b) true)) = not (started tr b && all_of b.gtrid (λ c. branch_eq c b) (branches tr))
+forces_votes tr _ = false
 
 -- ** what isn't over yet, and limits
 
 -- xa_close before all branches of the line are finished, xa_rollback while the xa_start may still come, Done before all is settled,
 -- a restart of what is up
-abbrev pub is_busy : Trace → Step → Bool
-is_busy tr (Steps.Issue t r Calls.CloseRm) = has_unfinished tr (line t r) (branches tr)
-is_busy tr (Steps.Issue t r (Calls.Rollback (Ours b))) = on_line tr b && not (told tr (answers_start b))
-is_busy tr (Steps.Done g) = not (row_settled tr g)
-is_busy tr (Steps.Restart (Side.Rm r)) = rm_up tr r
-is_busy tr (Steps.Restart Side.Manager) = up tr
-is_busy tr _ = false
+abbrev pub forces_busy : Trace → Step → Bool
+forces_busy tr (Steps.Issue t r Calls.CloseRm) = has_unfinished tr (line t r) (branches tr)
+forces_busy tr (Steps.Issue t r (Calls.Rollback (Ours b))) = on_line tr b && not (told tr (answers_start b))
+forces_busy tr (Steps.Done g) = not (row_settled tr g)
+forces_busy tr (Steps.Restart (Side.Rm r)) = rm_up tr r
+forces_busy tr (Steps.Restart Side.Manager) = up tr
+forces_busy tr _ = false
 
 -- a line holds 64 calls and 64 answers
-abbrev pub is_full : Trace → Step → Bool
-is_full tr (Steps.Issue t r a) = nat_le 64 (waiting tr (line t r))
-is_full tr (Steps.Recover r n start end) = nat_le 64 (waiting tr (line 0 r))
-is_full tr (Steps.Resolve r) = nat_lt 64 (waiting tr (line 0 r) + length (resolving_calls tr (page tr r)))
-is_full tr (Steps.ResolveOpen r) = nat_lt 64 (waiting tr (line 0 r) + length (resolving_calls (Then tr (ResolvedOpen r)) (page tr r)))
-is_full tr (Steps.Take t r) = nat_le 64 (unheard tr (line t r))
-is_full tr _ = false
+abbrev pub forces_full : Trace → Step → Bool
+forces_full tr (Steps.Issue t r a) = nat_le 64 (waiting tr (line t r))
+forces_full tr (Steps.Recover r n start end) = nat_le 64 (waiting tr (line 0 r))
+forces_full tr (Steps.Resolve r) = nat_lt 64 (waiting tr (line 0 r) + length (resolving_calls tr (page tr r)))
+forces_full tr (Steps.ResolveOpen r) = nat_lt 64 (waiting tr (line 0 r) + length (resolving_calls (Then tr (ResolvedOpen r)) (page tr r)))
+forces_full tr (Steps.Take t r) = nat_le 64 (unheard tr (line t r))
+forces_full tr _ = false
 
 -- whether a name is a branch of this manager at the resource manager
 abbrev pub is_at : (rm : ℕ) → Name → Bool
@@ -162,37 +162,37 @@ is_at r (Ours b) = nat_eq b.rm r
 is_at r (Foreign x) = false
 
 -- a script that has no sense: of no branch there, a vote after the vote, a heuristic end of what isn't prepared
-abbrev pub bad_script : Trace → Step → Bool
-bad_script tr (Steps.Vote r (Ours b) v) = not (nat_eq b.rm r) || is_in_doubt (standing tr b)
-bad_script tr (Steps.Vote r (Foreign x) v) = true
-bad_script tr (Steps.Busy r x n) = not (is_at r x)
-bad_script tr (Steps.Heuristic r (Ours b) how) = not (nat_eq b.rm r) || not (is_prepared (standing tr b))
-bad_script tr (Steps.Heuristic r (Foreign x) how) = true
-bad_script tr _ = false
+abbrev pub forces_script : Trace → Step → Bool
+forces_script tr (Steps.Vote r (Ours b) v) = not (nat_eq b.rm r) || is_in_doubt (standing tr b)
+forces_script tr (Steps.Vote r (Foreign x) v) = true
+forces_script tr (Steps.Busy r x n) = not (is_at r x)
+forces_script tr (Steps.Heuristic r (Ours b) how) = not (nat_eq b.rm r) || not (is_prepared (standing tr b))
+forces_script tr (Steps.Heuristic r (Foreign x) how) = true
+forces_script tr _ = false
 
 -- a run begins 1,000 transactions
-abbrev pub past_limit : Trace → Step → Bool
-past_limit tr (Steps.Begin t) = nat_le 1000 (begins tr)
-past_limit tr _ = false
+abbrev pub forces_limit : Trace → Step → Bool
+forces_limit tr (Steps.Begin t) = nat_le 1000 (begins tr)
+forces_limit tr _ = false
 
 -- ** the refusal
 
 -- whether a refusal applies. A history forces neither LogFault nor Memory
 abbrev pub applies : Trace → Step → Refusal → Bool
 applies tr s Refusal.ManagerDown = asks_manager s && not (up tr)
-applies tr s Refusal.RmDown = rm_down tr s
-applies tr s Refusal.NotOpen = not_open tr s
-applies tr s Refusal.Closed = on_closed tr s
-applies tr s Refusal.UnknownTransaction = unknown_to tr s
-applies tr s Refusal.WrongThread = on_wrong_thread s
-applies tr s Refusal.AlreadyStarted = starts_again tr s
-applies tr s Refusal.Decided = comes_late tr s
-applies tr s Refusal.NotDecided = comes_early tr s
-applies tr s Refusal.Votes = lacks_votes tr s
-applies tr s Refusal.Busy = is_busy tr s
-applies tr s Refusal.Full = is_full tr s
-applies tr s Refusal.Script = bad_script tr s
-applies tr s Refusal.Limit = past_limit tr s
+applies tr s Refusal.RmDown = forces_rm_down tr s
+applies tr s Refusal.NotOpen = forces_not_open tr s
+applies tr s Refusal.Closed = forces_closed tr s
+applies tr s Refusal.UnknownTransaction = forces_unknown_transaction tr s
+applies tr s Refusal.WrongThread = forces_wrong_thread s
+applies tr s Refusal.AlreadyStarted = forces_already_started tr s
+applies tr s Refusal.Decided = forces_decided tr s
+applies tr s Refusal.NotDecided = forces_not_decided tr s
+applies tr s Refusal.Votes = forces_votes tr s
+applies tr s Refusal.Busy = forces_busy tr s
+applies tr s Refusal.Full = forces_full tr s
+applies tr s Refusal.Script = forces_script tr s
+applies tr s Refusal.Limit = forces_limit tr s
 applies tr s _ = false
 
 -- the refusals that a history forces, in their order

@@ -97,7 +97,7 @@ call_issued _ = Happening.Nothing
 abbrev pub noted : Step → Happening
 noted (Steps.Vote r (Ours b) v) = Happening.Voted b v
 noted (Steps.Busy r (Ours b) n) = Happening.PutOff b n
-noted (Steps.Heuristic r (Ours b) how) = Happening.EndedAlone b how
+noted (Steps.Heuristic r (Ours b) how) = Happening.CompletedAlone b how
 noted (Steps.Done g) = Happening.Done g
 noted _ = Happening.Nothing
 

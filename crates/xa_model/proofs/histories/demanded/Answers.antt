@@ -1,3 +1,4 @@
+use Rattle.xa_model.proofs.Replies.ByStep.{guards_are_rules}
 use Rattle.xa_model.proofs.Replies.Computed.{reply, reply_demanded, value, value_is}
 use Rattle.xa_model.proofs.Replies.Determined.{determined}
 use Rattle.xa_model.proofs.Replies.Replies.{all_right}
@@ -8,6 +9,9 @@ returns-clause-replies c tr xs r d = all_right tr xs r d
 
 pub returns-clause-events : goal.returns-clause-events
 returns-clause-events c o events r d = all_right _ _ r d
+
+pub returns-clause-guards : goal.returns-clause-guards
+returns-clause-guards c tr s = guards_are_rules tr s
 
 pub returns-clause-answered : goal.returns-clause-answered
 returns-clause-answered c tr s = (reply tr s, reply_demanded tr s)
