@@ -1,6 +1,7 @@
 -- The orders of transactions and of branches are total, only the same tie, and the tests say so.
-use Rattle.std.proofs.Common.{◌≡◌, ℕ, ap, nat_cmp, Ordering, Bool, true, false, ◌&&◌, refl, ◌∙◌}
-use Rattle.std.specs.Ordering.{ordering_then, eq_by_cmp}
+use Rattle.std.proofs.Common.{◌≡◌, ℕ, ap, nat_cmp, Ordering, ◌&&◌, refl}
+use Rattle.std.specs.Prelude.{nat_eq}
+use Rattle.std.specs.Ordering.{ordering_then}
 use Rattle.std.specs.Cmp.{IsTotalOrder, nat_cmp_total, both_tied, unsigned_ties}
 use Rattle.std.proofs.lemmas.Cmp.{on_total, then_total}
 use Rattle.std.proofs.lemmas.Map.Lookups.{CmpEqualImpliesEq, exact_pairs, exact_unsigned}
@@ -24,18 +25,16 @@ pub exact_branches : CmpEqualImpliesEq branch_cmp
 exact_branches a b h = ap (λ (p : Gtrid × (ℕ × ℕ)). record { gtrid = p.0; thread = p.1.0; rm = p.1.1 })
     (exact_pairs gtrid_cmp pair_cmp exact_gtrids (exact_pairs nat_cmp nat_cmp exact_unsigned exact_unsigned) (a.gtrid, (a.thread, a.rm)) (b.gtrid, (b.thread, b.rm)) h)
 
-pub gtrid_ties : (g h : Gtrid) → gtrid_eq g h ≡ eq_by_cmp gtrid_cmp g h
-gtrid_ties g h =
+-- ** the numbers of what is the same
+
+pub gtrid_numbers : (g h : Gtrid) → (nat_eq g.incarnation h.incarnation && nat_eq g.sequence h.sequence) ≡ gtrid_eq g h
+gtrid_numbers g h =
     both_tied _ _ (nat_cmp g.incarnation h.incarnation) (nat_cmp g.sequence h.sequence)
     (unsigned_ties g.incarnation h.incarnation) (unsigned_ties g.sequence h.sequence)
 
-and_assoc : (a b c : Bool) → ((a && b) && c) ≡ (a && (b && c))
-and_assoc true b c = refl
-and_assoc false b c = refl
-
-pub branch_ties : (b c : Branch) → branch_eq b c ≡ eq_by_cmp branch_cmp b c
-branch_ties b c =
-    and_assoc (gtrid_eq b.gtrid c.gtrid) _ _
-    ∙ both_tied _ _ (gtrid_cmp b.gtrid c.gtrid) (ordering_then (nat_cmp b.thread c.thread) (nat_cmp b.rm c.rm))
-    (gtrid_ties b.gtrid c.gtrid)
+pub branch_numbers :
+    (b c : Branch)
+    → (gtrid_eq b.gtrid c.gtrid && (nat_eq b.thread c.thread && nat_eq b.rm c.rm)) ≡ branch_eq b c
+branch_numbers b c =
+    both_tied _ _ (gtrid_cmp b.gtrid c.gtrid) (ordering_then (nat_cmp b.thread c.thread) (nat_cmp b.rm c.rm)) refl
     (both_tied _ _ (nat_cmp b.thread c.thread) (nat_cmp b.rm c.rm) (unsigned_ties b.thread c.thread) (unsigned_ties b.rm c.rm))
