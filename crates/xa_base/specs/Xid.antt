@@ -1,4 +1,5 @@
 -- Identifiers of transaction branches (XA, section 4.2, Transaction Identification).
+use Rattle.xa_base.specs.declared.xid.TheConstants.{PART_LEN}
 use Rattle.std.specs.Prelude.{◌≡◌, refl, ℕ, ◌&&◌, not, ◌++◌, codes, nat_eq, nat_le, Bool, if◌then◌else◌, ℤ, List, length, Result, Ok, Err, negsuc, FitsSigned}
 use Rattle.std.specs.Fmt.{signed_decimal}
 use Rattle.std.specs.Int.{w32}
@@ -22,7 +23,7 @@ null_format = negsuc 0
 
 -- whether either part has an allowed length
 abbrev pub has_part_length : List ℕ → Bool
-has_part_length part = nat_le 1 (length part) && nat_le (length part) 64
+has_part_length part = nat_le 1 (length part) && nat_le (length part) PART_LEN
 
 -- an identifier of these parts, or the first fault that they have
 abbrev pub xid_of : ℤ → List ℕ → List ℕ → Result Xid XidFault

@@ -1,5 +1,6 @@
 -- The traffic of a line since it was new or renewed: the calls to the resource manager, and the answers back.
 -- Which calls a line takes is the model's rule, over what the line itself has seen.
+use Rattle.xa_base.specs.declared.limits.TheConstants.{LINE_LIMIT}
 use Rattle.std.specs.Prelude.{ℕ, Bool, Option, Some, None, List, [], ◌∷◌, ◌++◌, length, nat_le, ◌≡◌, if◌then◌else◌}
 use Rattle.std.specs.Option.{option_or}
 use Rattle.xa_base.specs.declared.answer.Answer.{Answer}
@@ -36,7 +37,7 @@ module _ {T : Type 0} where
 
 -- the places of a flow
 abbrev pub places : ℕ
-places = 64
+places = LINE_LIMIT
 
 -- ** both directions
 

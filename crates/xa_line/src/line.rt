@@ -1,11 +1,11 @@
 //! The line of one thread of control to one resource manager.
 
 use crate::gate::Gate;
-use crate::queue::{PLACES, Queue};
+use crate::queue::Queue;
 use crate::{Issuer, Taker};
 use std::alloc::Global;
 use std::marker::Model;
-use xa_base::{Answer, Call, Memory, Refusal};
+use xa_base::{Answer, Call, LINE_LIMIT, Memory, Refusal};
 
 /// The line of one thread of control to one resource manager: at most 64 calls that wait, and at most 64 answers.
 /// Calls come out in the order in which they went in, and so do answers.
@@ -68,7 +68,7 @@ impl Line {
         ensures refused { OnErr result (self.new ≡ self.old) }
     {
         self.gate.check(&call)?;
-        if self.calls.len() >= PLACES {
+        if self.calls.len() >= LINE_LIMIT {
             return Err(Refusal::Full);
         }
         self.gate = self.gate.after(&call);
@@ -97,7 +97,7 @@ impl Line {
         ensures back { IfErr result (λ back. back ≡ (call, answer)) }
         ensures refused { OnErr result (self.new ≡ self.old) }
     {
-        if self.answers.len() >= PLACES {
+        if self.answers.len() >= LINE_LIMIT {
             return Err((call, answer));
         }
         self.answers.push((call, answer));
@@ -156,21 +156,21 @@ impl Line {
     pub fn free_calls(&self) -> usize
         ensures { result ≡ places - length self.now.calls.waiting }
     {
-        PLACES - self.calls.len()
+        LINE_LIMIT - self.calls.len()
     }
 
     /// Whether this many calls more are too many to wait: with those that wait they would be over 64.
     pub fn is_full_for(&self, count: usize) -> bool
         ensures { result ≡ nat_lt places (length self.now.calls.waiting + count) }
     {
-        count > PLACES || self.calls.len() > PLACES - count
+        count > LINE_LIMIT || self.calls.len() > LINE_LIMIT - count
     }
 
     /// How many more answers may wait, 0 to 64.
     pub fn free_answers(&self) -> usize
         ensures { result ≡ places - length self.now.answers.waiting }
     {
-        PLACES - self.answers.len()
+        LINE_LIMIT - self.answers.len()
     }
 
     /// Takes the line apart, for two threads. What waits stays in it.

@@ -6,10 +6,7 @@ use rtrb::RingBuffer;
 use std::alloc::Global;
 use std::marker::Model;
 use std::snapshot::Snapshot;
-use xa_base::Memory;
-
-/// The places of a queue.
-pub const PLACES: usize = 64;
+use xa_base::{LINE_LIMIT, Memory};
 
 /// A queue of at most 64 items. One thread holds both ends, and each has seen all that the other did.
 #[derive(Drop)]
@@ -40,7 +37,7 @@ impl<T: Drop> Queue<T> {
     pub fn new(alloc: Global) -> Result<Queue<T>, Memory>
         ensures { IfOk result (λ q. q ≡ empty_flow) }
     {
-        let (producer, consumer) = RingBuffer::new(alloc, PLACES)?;
+        let (producer, consumer) = RingBuffer::new(alloc, LINE_LIMIT)?;
         let entry_start = Snapshot::of(&producer);
         let exit_start = Snapshot::of(&consumer);
         Ok(Queue {

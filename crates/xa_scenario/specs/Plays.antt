@@ -19,18 +19,18 @@ use Rattle.xa_scenario.specs.declared.entry.Entry.{Entry}
 use Rattle.xa_scenario.specs.declared.entry.Entry.TheVariants as entries
 use Rattle.xa_scenario.specs.declared.entry.Script.{Script}
 use Rattle.xa_scenario.specs.declared.entry.Script.TheVariants as scripts
-use Rattle.xa_system.specs.Parts.{event_limit}
+use Rattle.xa_system.specs.declared.system.TheConstants.{EVENT_LIMIT}
 
 -- ** steps with their replies, in turn
 
 -- a step that finds the trace full is refused for that
 abbrev pub IsAnswered : List Event → Reply Xid → Type 0
 IsAnswered trace reply =
-    MatchBool (nat_lt (length trace) event_limit) (Unit {0}) (reply ≡ replies.Refused refusals.Limit)
+    MatchBool (nat_lt (length trace) EVENT_LIMIT) (Unit {0}) (reply ≡ replies.Refused refusals.Limit)
 
 -- the trace after a step: it holds no more events, once it is full
 abbrev pub after : List Event → Event → List Event
-after trace event = if nat_lt (length trace) event_limit then trace ++ event ∷ [] else trace
+after trace event = if nat_lt (length trace) EVENT_LIMIT then trace ++ event ∷ [] else trace
 
 abbrev pub AreAnswered : List Event → List Event → Type 0
 AreAnswered trace [] = Unit {0}

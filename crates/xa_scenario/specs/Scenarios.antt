@@ -1,4 +1,5 @@
 -- Which texts are scenarios, and the fault of each other text.
+use Rattle.xa_system.specs.declared.system.TheConstants.{EVENT_LIMIT}
 use Rattle.std.specs.Prelude.{ℕ, ◌+◌, nat_lt, if◌then◌else◌, List, [], ◌∷◌, ◌++◌, Option, Some, None, Result, Ok, Err}
 use Rattle.std.specs.Option.{ok_or, option_and_then}
 use Rattle.toml.specs.Data.{Data, Items, no_items, item, Members, as_table}
@@ -34,7 +35,7 @@ names_after begun value = elim (name_in value) [ None ↦ begun | Some name ↦ 
 -- what the table of a number asks for: there are at most 10,000
 abbrev pub entry_at : ℕ → Names → Data → Result Entry RunFault
 entry_at number begun value =
-    if nat_lt 10000 number then Err (Step number)
+    if nat_lt EVENT_LIMIT number then Err (Step number)
     else ok_or (option_and_then (entry_of begun) (as_table value)) (Step number)
 
 -- what the tables ask for in turn, or the first faulty one; the first has this number

@@ -34,7 +34,8 @@ use Rattle.xa_system.specs.Logged.{IsStartedOver, StartsOver}
 use Rattle.xa_system.specs.declared.system.System.TheInside.{Inside}
 use Rattle.xa_system.proofs.LogLaws.{starts_over}
 use Rattle.xa_line.specs.Histories.{LineStands}
-use Rattle.xa_system.specs.Parts.{Sees, SiteStands, Stands, event_limit, origin_of}
+use Rattle.xa_system.specs.Parts.{Sees, SiteStands, Stands, origin_of}
+use Rattle.xa_system.specs.declared.system.TheConstants.{EVENT_LIMIT}
 use Rattle.xa_system.specs.Seen.{AreClear, IsClear, IsStarted, IsSound, IsUnclear, new_site, start_of}
 use Rattle.xa_system.specs.Sites.{BeginsClear, Looks, RmStands, scan_by}
 use Rattle.xa_system.specs.declared.site.Site.{Site}
@@ -135,7 +136,7 @@ module _ {R L : Type 0} (see : Sees R L) (threads : ℕ) (rms : List R) (manager
 
   -- a system of new parts with no events is sound
   pub new_sound : (a : Inside R L) → 0 < threads → a.parts.start.value.items ≡ rms → a.parts.began.value ≡ manager → a.parts.manager ≡ manager → a.parts.sites.items ≡ map new_site rms
-      → a.parts.lines ≡ new_grid threads (length rms) → a.events.items ≡ [] → vec_len a.events ≡ 0 → vec_capacity a.events ≡ event_limit → IsStartedOver see.logs threads (length rms) a.handed.value manager → IsSound see a
+      → a.parts.lines ≡ new_grid threads (length rms) → a.events.items ≡ [] → vec_len a.events ≡ 0 → vec_capacity a.events ≡ EVENT_LIMIT → IsStartedOver see.logs threads (length rms) a.handed.value manager → IsSound see a
   new_sound a some same_start same_began same_manager sites lines none len room over = record {
     few = omega (arith, len);
     room = omega (arith, room);

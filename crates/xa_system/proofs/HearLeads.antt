@@ -42,7 +42,8 @@ use Rattle.xa_tm.specs.Limits.{happenings}
 use Rattle.xa_tm.specs.News.{Asked, heuristic_end, news_by, news_for}
 use Rattle.xa_tm.proofs.Given.{answer_is_code, record_fits}
 use Rattle.xa_line.specs.Histories.{LineStands, known as known_call, known_answered}
-use Rattle.xa_system.specs.Parts.{OneMore, Sees, Stands, event_limit}
+use Rattle.xa_system.specs.Parts.{OneMore, Sees, Stands}
+use Rattle.xa_system.specs.declared.system.TheConstants.{EVENT_LIMIT}
 use Rattle.xa_system.specs.Steps.{AllCrash}
 use Rattle.xa_system.specs.declared.parts.Parts.{Parts}
 use Rattle.xa_system.specs.declared.site.Site.{Site}
@@ -180,7 +181,7 @@ module _ {R L : Type 0} (see : Sees R L) where
     pub hear_answers : (call : Asking.Call Xid) (a : Given.Answer Xid) → Some (call, a) ≡ slice_get (line_at parts.lines t r).answers.waiting 0 → IsAnswerTo (map_call name_of call) (map_answer name_of a)
     hear_answers call a first = let k = heard_known call a first in answer_is_code tr (line t r) k.0 (map_answer name_of a) (map_call name_of call) stands.kept.right k.2 k.1
 
-    pub hear_fits : (call : Asking.Call Xid) (a : Given.Answer Xid) → Some (call, a) ≡ slice_get (line_at parts.lines t r).answers.waiting 0 → happenings tr < event_limit → FitsRecord (map_call name_of call) (map_answer name_of a)
+    pub hear_fits : (call : Asking.Call Xid) (a : Given.Answer Xid) → Some (call, a) ≡ slice_get (line_at parts.lines t r).answers.waiting 0 → happenings tr < EVENT_LIMIT → FitsRecord (map_call name_of call) (map_answer name_of a)
     hear_fits call a first few = let k = heard_known call a first in record_fits tr (within see tr parts stands few) (line t r) k.0 (map_answer name_of a) (map_call name_of call) k.2 k.1
 
     pub hear_nothing : (reply : Reply Xid) → reply ≡ Replies.Nothing → None ≡ slice_get (line_at parts.lines t r).answers.waiting 0 → OneMore see (Steps.Hear t r) reply tr parts parts

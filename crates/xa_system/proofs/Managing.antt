@@ -34,7 +34,8 @@ use Rattle.xa_tm.specs.Limits.{IsWithinLimits, happenings}
 use Rattle.xa_tm.proofs.Limits.{book_is_sound}
 use Rattle.xa_tm.proofs.Refused.{refusal_is}
 use Rattle.xa_tm.proofs.RowCounts.{right_book}
-use Rattle.xa_system.specs.Parts.{GoesOn, OneMore, Sees, Stands, StandsSomewhere, event_limit}
+use Rattle.xa_system.specs.Parts.{GoesOn, OneMore, Sees, Stands, StandsSomewhere}
+use Rattle.xa_system.specs.declared.system.TheConstants.{EVENT_LIMIT}
 use Rattle.xa_system.specs.declared.parts.Parts.{Parts}
 use Rattle.xa_system.proofs.LineLaws.{line_stays}
 use Rattle.xa_system.proofs.Standing.{Follows, IsEvent, IsNothingTo, goes_as, lacking_goes, rule_goes, site_stays}
@@ -55,7 +56,7 @@ only_memory asked f (inr w) never = absurd (never w.0)
 
 module _ {R L : Type 0} (see : Sees R L) where
   -- the history is within the limits
-  pub within : (tr : Trace) (parts : Parts R L) → Stands see tr parts → happenings tr < event_limit → IsWithinLimits tr
+  pub within : (tr : Trace) (parts : Parts R L) → Stands see tr parts → happenings tr < EVENT_LIMIT → IsWithinLimits tr
   within tr parts stands few = record { right = stands.kept.right; events = omega (arith, few); fits = stands.fits }
 
   -- the book that the manager holds is sound

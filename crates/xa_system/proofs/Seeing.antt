@@ -19,7 +19,8 @@ use Rattle.xa_base.specs.declared.reply.Event.{Event}
 use Rattle.xa_base.specs.declared.reply.Reply.{Reply}
 use Rattle.xa_base.specs.declared.step.Step.{Step}
 use Rattle.xa_model.proofs.Replies.Pushes.{demanded_push, history_push}
-use Rattle.xa_system.specs.Parts.{GoesOn, Sees, Stands, StandsSomewhere, event_limit}
+use Rattle.xa_system.specs.Parts.{GoesOn, Sees, Stands, StandsSomewhere}
+use Rattle.xa_system.specs.declared.system.TheConstants.{EVENT_LIMIT}
 use Rattle.xa_base.specs.declared.refusal.Refusal.{Refusal}
 use Rattle.xa_base.specs.declared.refusal.Refusal.TheVariants as Refusals
 use Rattle.xa_base.specs.declared.reply.Reply.TheVariants as Replies
@@ -69,16 +70,16 @@ module _ {R L : Type 0} (see : Sees R L) where
   }
 
   -- the parts stand, and there is room
-  pub somewhere : (a : Inside R L) → IsSound see a → vec_len a.events < event_limit → StandsSomewhere see a.parts
-  somewhere a sound few = (history (start_of see a.parts) a.events.items, sound.stands, subst (λ n. n < event_limit) (a.events.ok.0 ∙ sym (events_happen (start_of see a.parts) a.events.items)) few)
+  pub somewhere : (a : Inside R L) → IsSound see a → vec_len a.events < EVENT_LIMIT → StandsSomewhere see a.parts
+  somewhere a sound few = (history (start_of see a.parts) a.events.items, sound.stands, subst (λ n. n < EVENT_LIMIT) (a.events.ok.0 ∙ sym (events_happen (start_of see a.parts) a.events.items)) few)
 
   -- a system began where it began
-  pub start_stays : (old new : Parts R L) (tr : Trace) (step : Step Xid) (reply : Reply Xid) → Stands see tr old → happenings tr < event_limit → GoesOn see step reply old new → start_of see new ≡ start_of see old
+  pub start_stays : (old new : Parts R L) (tr : Trace) (step : Step Xid) (reply : Reply Xid) → Stands see tr old → happenings tr < EVENT_LIMIT → GoesOn see step reply old new → start_of see new ≡ start_of see old
   start_stays old new tr step reply stands few goes = sym (goes tr stands few).stands.origin ∙ stands.origin
 
   -- the history after one event more
   trace_then : (old : Inside R L) (new : Parts R L) (events : Vec Event Global) (step : Step Xid) (reply copy : Reply Xid) → IsSound see old → GoesOn see step reply old.parts new → copy ≡ reply
-      → vec_len old.events < event_limit → events.items ≡ old.events.items ++ record { step = step; reply = copy } ∷ []
+      → vec_len old.events < EVENT_LIMIT → events.items ≡ old.events.items ++ record { step = step; reply = copy } ∷ []
       → history (start_of see new) events.items ≡ Then (history (start_of see old.parts) old.events.items) (happened (step_of step) (reply_of reply))
   unfolding somewhere
   trace_then old new events step reply copy sound goes same few items =
@@ -89,7 +90,7 @@ module _ {R L : Type 0} (see : Sees R L) where
       ∙ ap (history (start_of see old.parts)) all ∙ history_push (start_of see old.parts) old.events.items event
 
   -- a refused step leaves all as it is
-  pub as_before : (old : Inside R L) (new : Parts R L) (events : Vec Event Global) (step : Step Xid) (reply : Reply Xid) → IsSound see old → GoesOn see step reply old.parts new → vec_len old.events < event_limit
+  pub as_before : (old : Inside R L) (new : Parts R L) (events : Vec Event Global) (step : Step Xid) (reply : Reply Xid) → IsSound see old → GoesOn see step reply old.parts new → vec_len old.events < EVENT_LIMIT
       → (n : Refusal) → reply ≡ Replies.Refused n → n ≢ Refusals.LogFault → IsAsBefore see (seen old) (seen (record { handed = old.handed; parts = new; events = events }))
   unfolding somewhere
   as_before old new events step reply sound goes few n is other =
@@ -106,7 +107,7 @@ module _ {R L : Type 0} (see : Sees R L) where
 
   -- after a failure of the log the manager is down
   pub down_after : (old : Inside R L) (new : Parts R L) (events : Vec Event Global) (step : Step Xid) (reply copy : Reply Xid) → IsSound see old → GoesOn see step reply old.parts new → copy ≡ reply
-      → vec_len old.events < event_limit → events.items ≡ old.events.items ++ record { step = step; reply = copy } ∷ []
+      → vec_len old.events < EVENT_LIMIT → events.items ≡ old.events.items ++ record { step = step; reply = copy } ∷ []
       → reply ≡ Replies.Refused Refusals.LogFault → up (history (start_of see new) events.items) ≡ false
   unfolding somewhere
   down_after old new events step reply copy sound goes same few items is =
@@ -116,7 +117,7 @@ module _ {R L : Type 0} (see : Sees R L) where
       ∙ falls here.0 (step_of step) demanded
 
   -- and the log may have made the step's change
-  pub failed_so : (old : Inside R L) (new : Parts R L) (step : Step Xid) (reply : Reply Xid) → IsSound see old → GoesOn see step reply old.parts new → vec_len old.events < event_limit
+  pub failed_so : (old : Inside R L) (new : Parts R L) (step : Step Xid) (reply : Reply Xid) → IsSound see old → GoesOn see step reply old.parts new → vec_len old.events < EVENT_LIMIT
       → reply ≡ Replies.Refused Refusals.LogFault → see.logs.is_in_order old.handed.value → see.logs.is_honest (log_in new.manager)
       → MayHaveFailed (history (start_of see old.parts) old.events.items) (log_failed (step_of step)) (see.logs.content (log_in old.parts.manager)) (see.logs.content (log_in new.manager))
   unfolding somewhere
@@ -126,7 +127,7 @@ module _ {R L : Type 0} (see : Sees R L) where
       ((goes here.0 here.1 here.2).log.failed (sound.log.order order) honest)
 
   -- the log after one event more
-  log_then : (old : Inside R L) (new : Parts R L) (events : Vec Event Global) (step : Step Xid) (reply : Reply Xid) → IsSound see old → GoesOn see step reply old.parts new → vec_len old.events < event_limit
+  log_then : (old : Inside R L) (new : Parts R L) (events : Vec Event Global) (step : Step Xid) (reply : Reply Xid) → IsSound see old → GoesOn see step reply old.parts new → vec_len old.events < EVENT_LIMIT
       → KeepsLog see (record { handed = old.handed; parts = new; events = events })
   unfolding somewhere
   log_then old new events step reply sound goes few =
@@ -141,14 +142,14 @@ module _ {R L : Type 0} (see : Sees R L) where
       }
 
   -- what was honest since
-  pub honest_before : (old : Inside R L) (new : Parts R L) (step : Step Xid) (reply : Reply Xid) → IsSound see old → GoesOn see step reply old.parts new → vec_len old.events < event_limit
+  pub honest_before : (old : Inside R L) (new : Parts R L) (step : Step Xid) (reply : Reply Xid) → IsSound see old → GoesOn see step reply old.parts new → vec_len old.events < EVENT_LIMIT
       → see.logs.is_honest (log_in new.manager) → see.logs.is_honest (log_in old.parts.manager)
   unfolding somewhere
   honest_before old new step reply sound goes few h = let here = somewhere old sound few in (goes here.0 here.1 here.2).log.honest h
 
   -- an event that was answered that the log failed has raised its count
   pub fault_has_cause : (old : Inside R L) (new : Parts R L) (events : Vec Event Global) (step : Step Xid) (reply copy : Reply Xid) → IsSound see old → GoesOn see step reply old.parts new → copy ≡ reply
-      → vec_len old.events < event_limit → events.items ≡ old.events.items ++ record { step = step; reply = copy } ∷ []
+      → vec_len old.events < EVENT_LIMIT → events.items ≡ old.events.items ++ record { step = step; reply = copy } ∷ []
       → see.logs.is_in_order old.handed.value → see.logs.is_honest (log_in new.manager)
       → FaultsHaveCauses see (seen old) (seen (record { handed = old.handed; parts = new; events = events }))
   unfolding somewhere
@@ -162,7 +163,7 @@ module _ {R L : Type 0} (see : Sees R L) where
 
   -- one event more
   pub sound_then : (old : Inside R L) (new : Parts R L) (events : Vec Event Global) (step : Step Xid) (reply copy : Reply Xid) → IsSound see old → GoesOn see step reply old.parts new → copy ≡ reply
-      → vec_len old.events < event_limit → vec_len events ≡ vec_len old.events + 1 → events.items ≡ old.events.items ++ record { step = step; reply = copy } ∷ [] → vec_capacity events ≡ vec_capacity old.events
+      → vec_len old.events < EVENT_LIMIT → vec_len events ≡ vec_len old.events + 1 → events.items ≡ old.events.items ++ record { step = step; reply = copy } ∷ [] → vec_capacity events ≡ vec_capacity old.events
       → IsSound see (record { handed = old.handed; parts = new; events = events })
   unfolding somewhere
   sound_then old new events step reply copy sound goes same few len items room =
@@ -181,12 +182,12 @@ module _ {R L : Type 0} (see : Sees R L) where
       }
 
   -- what the step was answered
-  pub was_demanded : (old : Inside R L) (new : Parts R L) (step : Step Xid) (reply : Reply Xid) → IsSound see old → GoesOn see step reply old.parts new → vec_len old.events < event_limit
+  pub was_demanded : (old : Inside R L) (new : Parts R L) (step : Step Xid) (reply : Reply Xid) → IsSound see old → GoesOn see step reply old.parts new → vec_len old.events < EVENT_LIMIT
       → Demanded (history (start_of see old.parts) old.events.items) (step_of step) (reply_of reply)
   unfolding somewhere
   was_demanded old new step reply sound goes few = let here = somewhere old sound few in (goes here.0 here.1 here.2).demanded
 
-  pub start_kept : (old : Inside R L) (new : Parts R L) (step : Step Xid) (reply : Reply Xid) → IsSound see old → GoesOn see step reply old.parts new → vec_len old.events < event_limit → start_of see new ≡ start_of see old.parts
+  pub start_kept : (old : Inside R L) (new : Parts R L) (step : Step Xid) (reply : Reply Xid) → IsSound see old → GoesOn see step reply old.parts new → vec_len old.events < EVENT_LIMIT → start_of see new ≡ start_of see old.parts
   start_kept old new step reply sound goes few = let here = somewhere old sound few in start_stays old.parts new here.0 step reply here.1 here.2 goes
 
   -- what became of a branch, as its resource manager says

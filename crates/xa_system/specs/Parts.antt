@@ -1,4 +1,5 @@
 -- How the parts that a system holds stand to its history.
+use Rattle.xa_base.specs.declared.limits.TheConstants.{LINE_LIMIT}
 use Rattle.std.specs.Prelude.{◌≡◌, ◌≢◌, ◌<◌, ◌≤◌, ◌+◌, ℕ, Bool, not, nat_lt, if◌then◌else◌, List, [], length, Option, Some, None, slice_get, vec_len, Result, Ok, Err}
 use Rattle.std.specs.Option.{option_map_or}
 use Rattle.xa_model.specs.Replies.Demanded.{Demanded}
@@ -35,10 +36,6 @@ use Rattle.xa_tm.specs.Held.{IsSound}
 use Rattle.xa_tm.specs.Kept.{book_in, log_in}
 use Rattle.xa_tm.specs.Limits.{HasRoomForRun, happenings}
 use Rattle.xa_tm.specs.declared.manager.Manager.{Manager}
-
--- the most events of a run
-abbrev pub event_limit : ℕ
-event_limit = 10000
 
 -- what contracts see of the resource managers and the log of a system
 pub record Sees (R L : Type 0) : Type 1 where
@@ -149,25 +146,25 @@ module _ {R L : Type 0} (see : Sees R L) where
 
   -- so it is wherever the parts stood
   abbrev pub GoesOn : Step Xid → Reply Xid → Parts R L → Parts R L → Type 0
-  GoesOn step reply old new = (tr : Trace) → Stands tr old → happenings tr < event_limit → OneMore step reply tr old new
+  GoesOn step reply old new = (tr : Trace) → Stands tr old → happenings tr < EVENT_LIMIT → OneMore step reply tr old new
 
   -- so it is wherever the parts stood and the step is not refused
   abbrev pub Leads : Step Xid → Reply Xid → Parts R L → Parts R L → Type 0
-  Leads step reply old new = (tr : Trace) → Stands tr old → happenings tr < event_limit
+  Leads step reply old new = (tr : Trace) → Stands tr old → happenings tr < EVENT_LIMIT
       → must_refuse tr (step_of step) ≡ None → OneMore step reply tr old new
 
   -- wherever the parts stand, this is the refusal of the step, or none
   abbrev pub Judges : Step Xid → Parts R L → Option Refusal → Type 0
-  Judges step parts refusal = (tr : Trace) → Stands tr parts → happenings tr < event_limit
+  Judges step parts refusal = (tr : Trace) → Stands tr parts → happenings tr < EVENT_LIMIT
       → refusal ≡ must_refuse tr (step_of step)
 
   -- the parts stand somewhere, and there is room for an event
   abbrev pub StandsSomewhere : Parts R L → Type 0
-  StandsSomewhere parts = (tr : Trace) × Stands tr parts × (happenings tr < event_limit)
+  StandsSomewhere parts = (tr : Trace) × Stands tr parts × (happenings tr < EVENT_LIMIT)
 
   -- the parts stand somewhere where the step is not refused
   abbrev pub IsAllowed : Step Xid → Parts R L → Type 0
-  IsAllowed step parts = (tr : Trace) × Stands tr parts × (happenings tr < event_limit)
+  IsAllowed step parts = (tr : Trace) × Stands tr parts × (happenings tr < EVENT_LIMIT)
       × (must_refuse tr (step_of step) ≡ None)
 
   -- wherever the parts stand, this is why a resource manager isn't told anything of what the name is of
@@ -179,4 +176,4 @@ module _ {R L : Type 0} (see : Sees R L) where
   abbrev pub HindersRecovery : (rm calls : ℕ) → Parts R L → Option Refusal → Type 0
   HindersRecovery r n parts refusal = (tr : Trace) → Stands tr parts
       → refusal ≡ recovery_why (has_rm tr r) (facts.up tr) (rm_up tr r) (not (facts.is_open tr (line 0 r)))
-      (facts.is_closed tr (line 0 r)) (nat_lt 64 (waiting tr (line 0 r) + n))
+      (facts.is_closed tr (line 0 r)) (nat_lt LINE_LIMIT (waiting tr (line 0 r) + n))

@@ -15,7 +15,8 @@ use Rattle.xa_base.specs.declared.step.Step.{Step}
 use Rattle.xa_line.specs.Grid.{Grid, HasLine, line_at}
 use Rattle.xa_line.specs.Histories.{LineStands}
 use Rattle.xa_system.specs.Logged.{LogStands, StartsOver, greatest_count, log_faults}
-use Rattle.xa_system.specs.Parts.{Sees, Stands, event_limit, origin_from, origin_of}
+use Rattle.xa_system.specs.Parts.{Sees, Stands, origin_from, origin_of}
+use Rattle.xa_system.specs.declared.system.TheConstants.{EVENT_LIMIT}
 use Rattle.xa_system.specs.Sites.{Looks, RmStands}
 use Rattle.xa_system.specs.Steps.{IsSame}
 use Rattle.xa_system.specs.declared.parts.Parts.{Parts}
@@ -91,8 +92,8 @@ module _ {R L : Type 0} (see : Sees R L) where
         → IsTied (book_in a.parts.manager) (see.logs.content (log_in a.parts.manager))
 
   pub record IsSound (a : Inside R L) : Type 0 where
-    pub few : vec_len a.events ≤ event_limit
-    pub room : event_limit ≤ vec_capacity a.events
+    pub few : vec_len a.events ≤ EVENT_LIMIT
+    pub room : EVENT_LIMIT ≤ vec_capacity a.events
     pub stands : Stands see (history (start_of a.parts) a.events.items) a.parts
     pub demanded : AreDemanded (start_of a.parts) a.events.items
     pub log : KeepsLog a

@@ -140,7 +140,7 @@ fn has_xids(step: &Step)
 impl<R: ResourceManager + Drop, L: DecisionLog + Drop> System<R, L> {
     ghost use Rattle.xa_model.specs.Replies.Demanded.{Demanded};
     ghost use Rattle.xa_model.specs.Replies.History.{IsDemanded, reply_of, step_of};
-    ghost use Rattle.xa_system.specs.Parts.{event_limit};
+    ghost use Rattle.xa_system.specs.declared.system.TheConstants.{EVENT_LIMIT};
     ghost use Rattle.xa_base.specs.Branch.{xid_of_branch};
     ghost use Rattle.xa_model.specs.Facts.{fate, up};
     ghost use Rattle.xa_model.specs.Replies.Steps.{happened, log_failed};
@@ -221,11 +221,11 @@ impl<R: ResourceManager + Drop, L: DecisionLog + Drop> System<R, L> {
     /// A refused step leaves them as they were. One in which the log failed leaves the manager down, all lines broken, and
     /// the log as it was or with the step's one change.
     pub fn step(&mut self, step: Step) -> Reply
-        ensures full { event_limit ≤ length self.old.events →
+        ensures full { EVENT_LIMIT ≤ length self.old.events →
             (result ≡ Replies.Refused Refusals.Limit) × (self.new ≡ self.old) }
-        ensures adds { length self.old.events < event_limit →
+        ensures adds { length self.old.events < EVENT_LIMIT →
             self.new.events ≡ self.old.events ++ record { step = step; reply = result } ∷ [] }
-        ensures demanded { length self.old.events < event_limit →
+        ensures demanded { length self.old.events < EVENT_LIMIT →
             Demanded (trace_in (looks R.held_of R.scan_of R.in_doubt_of) self.old)
             (step_of step) (reply_of result) }
         ensures parts { HoldsItsTrace (sees R.held_of R.scan_of R.in_doubt_of L.DecisionLog) self.new }
@@ -290,7 +290,7 @@ impl<R: ResourceManager + Drop, L: DecisionLog + Drop> System<R, L> {
 
     /// How many more events fit.
     pub fn room(&self) -> usize
-        ensures { result + length self.now.events ≡ event_limit }
+        ensures { result + length self.now.events ≡ EVENT_LIMIT }
     {
         EVENT_LIMIT - self.events.len()
     }
@@ -306,8 +306,8 @@ impl<R: ResourceManager + Drop, L: DecisionLog + Drop> System<R, L> {
 
     /// Does all steps in order, or none where the trace lacks room for them.
     pub fn run(&mut self, steps: &[Step]) -> Result<(), Refusal>
-        ensures limit { event_limit < length self.old.events + length steps.now → result ≡ Err Refusals.Limit }
-        ensures room { length self.old.events + length steps.now ≤ event_limit → IsOk result }
+        ensures limit { EVENT_LIMIT < length self.old.events + length steps.now → result ≡ Err Refusals.Limit }
+        ensures room { length self.old.events + length steps.now ≤ EVENT_LIMIT → IsOk result }
         ensures err { OnErr result (self.new ≡ self.old) }
         ensures adds { OnOk result (AddsSteps steps.now self.old.events self.new.events) }
         ensures handed { self.new.handed ≡ self.old.handed }

@@ -8,10 +8,7 @@ ghost use Rattle.xa_tm.specs.Refusing.{has_row_in, row_settled_in, settled_latel
 ghost use Rattle.xa_tm.specs.Refusing.{is_taken_up_in, live_in, outlived_in, refusal_in};
 
 use crate::ledger::Ledger;
-use xa_base::{Branch, Gtrid, Outcome, Refusal};
-
-/// How many transactions may be begun.
-const MOST_BEGINS: u64 = 1000;
+use xa_base::{BEGIN_LIMIT, Branch, Gtrid, Outcome, Refusal};
 
 impl Ledger {
     /// Whether a transaction has a row in the log.
@@ -59,7 +56,7 @@ impl Ledger {
         if !self.is_up {
             return Some(Refusal::ManagerDown);
         }
-        if self.begins >= MOST_BEGINS {
+        if self.begins >= BEGIN_LIMIT {
             return Some(Refusal::Limit);
         }
         None

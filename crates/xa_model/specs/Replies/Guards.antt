@@ -1,5 +1,6 @@
 -- The refusals by step: what each step is refused for, in the order in which the refusals are looked at. `Rules` says the same by
 -- refusal; the manager and the lines follow this view.
+use Rattle.xa_base.specs.declared.limits.TheConstants.{BEGIN_LIMIT, LINE_LIMIT}
 use Rattle.std.specs.Prelude.{ℕ, ◌+◌, List, [], ◌∷◌, ◌++◌, length, Bool, true, false, not, ◌&&◌, ◌||◌, if◌then◌else◌, Option, Some, None, nat_eq, nat_le, nat_lt}
 use Rattle.xa_base.specs.Branch.{branch_eq}
 use Rattle.xa_base.specs.Standing.{is_in_doubt, is_prepared}
@@ -70,7 +71,7 @@ recovery_guards tr r calls =
     ∷ (Refusal.RmDown, not (rm_up tr r))
     ∷ (Refusal.NotOpen, not (is_open tr (line 0 r)))
     ∷ (Refusal.Closed, is_closed tr (line 0 r))
-    ∷ (Refusal.Full, nat_lt 64 (waiting tr (line 0 r) + calls)) ∷ []
+    ∷ (Refusal.Full, nat_lt LINE_LIMIT (waiting tr (line 0 r) + calls)) ∷ []
 
 -- what the end of a claim is refused for
 abbrev pub conclusion_guards : Trace → Gtrid → List Guard
@@ -82,14 +83,14 @@ conclusion_guards tr g =
 
 -- what a step is refused for
 abbrev pub guards : Trace → Step → List Guard
-guards tr (Steps.Begin t) = (Refusal.ManagerDown, not (up tr)) ∷ (Refusal.Limit, nat_le 1000 (begins tr)) ∷ []
+guards tr (Steps.Begin t) = (Refusal.ManagerDown, not (up tr)) ∷ (Refusal.Limit, nat_le BEGIN_LIMIT (begins tr)) ∷ []
 guards tr (Steps.Issue t r c) =
     (Refusal.ManagerDown, not (up tr))
     ∷ (Refusal.RmDown, not (rm_up tr r))
     ∷ (Refusal.NotOpen, comes_unopened (issued tr (line t r)) c)
     ∷ (Refusal.Closed, is_closed tr (line t r))
-    ∷ (call_guards tr t r c ++ (Refusal.Full, nat_le 64 (waiting tr (line t r))) ∷ [])
-guards tr (Steps.Take t r) = (Refusal.RmDown, not (rm_up tr r)) ∷ (Refusal.Full, nat_le 64 (unheard tr (line t r))) ∷ []
+    ∷ (call_guards tr t r c ++ (Refusal.Full, nat_le LINE_LIMIT (waiting tr (line t r))) ∷ [])
+guards tr (Steps.Take t r) = (Refusal.RmDown, not (rm_up tr r)) ∷ (Refusal.Full, nat_le LINE_LIMIT (unheard tr (line t r))) ∷ []
 guards tr (Steps.Hear t r) = (Refusal.ManagerDown, not (up tr)) ∷ (Refusal.RmDown, not (rm_up tr r)) ∷ []
 guards tr (Steps.Vote r (Ours b) v) =
     (Refusal.RmDown, not (rm_up tr r)) ∷ (Refusal.Script, not (nat_eq b.rm r) || is_in_doubt (standing tr b)) ∷ []
@@ -119,7 +120,7 @@ guards tr (Steps.Recover r n start end) =
     ∷ (Refusal.RmDown, not (rm_up tr r))
     ∷ (Refusal.NotOpen, not (is_open tr (line 0 r)))
     ∷ (Refusal.Closed, is_closed tr (line 0 r))
-    ∷ (Refusal.Full, nat_le 64 (waiting tr (line 0 r))) ∷ []
+    ∷ (Refusal.Full, nat_le LINE_LIMIT (waiting tr (line 0 r))) ∷ []
 guards tr (Steps.Resolve r) = recovery_guards tr r (length (resolving_calls tr (page tr r)))
 guards tr (Steps.ResolveOpen r) = recovery_guards tr r (length (resolving_calls (Then tr (ResolvedOpen r)) (page tr r)))
 guards tr (Steps.Done g) =

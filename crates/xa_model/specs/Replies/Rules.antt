@@ -1,4 +1,5 @@
 -- Which refusal a history forces on a step. The refusals are this manager's own; what they guard is XA's (chapter 5, and section 2.3).
+use Rattle.xa_base.specs.declared.limits.TheConstants.{BEGIN_LIMIT, LINE_LIMIT}
 use Rattle.std.specs.Prelude.{ℕ, ◌+◌, List, [], ◌∷◌, length, Bool, true, false, not, ◌&&◌, ◌||◌, nat_eq, if◌then◌else◌, Option, Some, None, nat_le, nat_lt}
 use Rattle.xa_base.specs.Branch.{branch_eq}
 use Rattle.xa_base.specs.Standing.{is_in_doubt, is_prepared}
@@ -149,11 +150,11 @@ forces_busy tr _ = false
 
 -- a line holds 64 calls and 64 answers
 abbrev pub forces_full : Trace → Step → Bool
-forces_full tr (Steps.Issue t r a) = nat_le 64 (waiting tr (line t r))
-forces_full tr (Steps.Recover r n start end) = nat_le 64 (waiting tr (line 0 r))
-forces_full tr (Steps.Resolve r) = nat_lt 64 (waiting tr (line 0 r) + length (resolving_calls tr (page tr r)))
-forces_full tr (Steps.ResolveOpen r) = nat_lt 64 (waiting tr (line 0 r) + length (resolving_calls (Then tr (ResolvedOpen r)) (page tr r)))
-forces_full tr (Steps.Take t r) = nat_le 64 (unheard tr (line t r))
+forces_full tr (Steps.Issue t r a) = nat_le LINE_LIMIT (waiting tr (line t r))
+forces_full tr (Steps.Recover r n start end) = nat_le LINE_LIMIT (waiting tr (line 0 r))
+forces_full tr (Steps.Resolve r) = nat_lt LINE_LIMIT (waiting tr (line 0 r) + length (resolving_calls tr (page tr r)))
+forces_full tr (Steps.ResolveOpen r) = nat_lt LINE_LIMIT (waiting tr (line 0 r) + length (resolving_calls (Then tr (ResolvedOpen r)) (page tr r)))
+forces_full tr (Steps.Take t r) = nat_le LINE_LIMIT (unheard tr (line t r))
 forces_full tr _ = false
 
 -- whether a name is a branch of this manager at the resource manager
@@ -172,7 +173,7 @@ forces_script tr _ = false
 
 -- a run begins 1,000 transactions
 abbrev pub forces_limit : Trace → Step → Bool
-forces_limit tr (Steps.Begin t) = nat_le 1000 (begins tr)
+forces_limit tr (Steps.Begin t) = nat_le BEGIN_LIMIT (begins tr)
 forces_limit tr _ = false
 
 -- ** the refusal

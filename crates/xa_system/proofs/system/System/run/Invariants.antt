@@ -1,5 +1,6 @@
 use Rattle.std.proofs.Common.{◌≡◌, ◌≤◌, ◌+◌, length, take}
-use Rattle.xa_system.specs.Parts.{event_limit, sees}
+use Rattle.xa_system.specs.declared.system.TheConstants.{EVENT_LIMIT}
+use Rattle.xa_system.specs.Parts.{sees}
 use Rattle.xa_system.specs.Sites.{looks}
 use Rattle.xa_system.specs.Seen.{AddsSteps, FaultsHaveCauses, origin_in}
 use Rattle.xa_system.proofs.system.System.run.Given as goal
@@ -8,7 +9,7 @@ use Rattle.xa_system.proofs.system.System.run.Given as goal
 abbrev pub invariant-loop-step : goal.invariant-loop-step
 invariant-loop-step g l = record {
   adds : AddsSteps (take l.step-index l.steps) l.fn.self.events l.self.events;
-  room : length l.self.events + length l.steps ≤ event_limit + l.step-index;
+  room : length l.self.events + length l.steps ≤ EVENT_LIMIT + l.step-index;
   start : origin_in (looks g.R.ResourceManager.held_of g.R.ResourceManager.scan_of g.R.ResourceManager.in_doubt_of) l.self
       ≡ origin_in (looks g.R.ResourceManager.held_of g.R.ResourceManager.scan_of g.R.ResourceManager.in_doubt_of) l.fn.self;
   handed : l.self.handed ≡ l.fn.self.handed;
