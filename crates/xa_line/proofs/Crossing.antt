@@ -15,20 +15,20 @@ use Rattle.xa_base.specs.contracts.xid.Xid as Xid
 use Rattle.xa_base.proofs.call.Call.TheSendSync as CallSent
 use Rattle.xa_base.proofs.answer.Answer.TheSendSync as AnswerSent
 use Rattle.xa_base.proofs.xid.Xid.TheSendSync as XidSent
-use Rattle.xa_line.specs.contracts.entry.Entry as Entry
-use Rattle.xa_line.specs.contracts.exit.Exit as Exit
-use Rattle.xa_line.specs.contracts.gate.Gate as Gate
+use Rattle.xa_line.specs.contracts.inlet.Inlet as Inlet
+use Rattle.xa_line.specs.contracts.outlet.Outlet as Outlet
+use Rattle.xa_line.specs.contracts.latch.Latch as Latch
 use Rattle.xa_line.specs.contracts.issuer.Issuer as Issuer
 use Rattle.xa_line.specs.contracts.taker.Taker as Taker
 
-entry_send : (T : RattleType) → IsSend T → IsSend (Entry.the_row T)
-entry_send T s =
-    declared_send (Entry.the_type T)
+inlet_send : (T : RattleType) → IsSend T → IsSend (Inlet.the_row T)
+inlet_send T s =
+    declared_send (Inlet.the_type T)
     (Producer.the_send T Global.the_row AnyItems.the_row _ _ s (search (sendable, crosses)) frees, (search (sendable, crosses), tt))
 
-exit_send : (T : RattleType) → IsSend T → IsSend (Exit.the_row T)
-exit_send T s =
-    declared_send (Exit.the_type T)
+outlet_send : (T : RattleType) → IsSend T → IsSend (Outlet.the_row T)
+outlet_send T s =
+    declared_send (Outlet.the_type T)
     (Consumer.the_send T Global.the_row AnyItems.the_row _ _ s (search (sendable, crosses)) frees, (search (sendable, crosses), tt))
 
 abbrev call : RattleType
@@ -49,15 +49,15 @@ pair = Tuple (call ∷ answer ∷ [])
 pair_send : IsSend pair
 pair_send = search (sendable, call_send, answer_send)
 
-gate_send : IsSend Gate.the_row
-gate_send = declared_send Gate.the_type (search sendable, (search sendable, tt))
+latch_send : IsSend Latch.the_row
+latch_send = declared_send Latch.the_type (search sendable, (search sendable, tt))
 
 pub issuer_send : IsSend Issuer.the_row
 issuer_send =
     declared_send Issuer.the_type
-    (entry_send call call_send, (exit_send pair pair_send, (gate_send, tt)))
+    (inlet_send call call_send, (outlet_send pair pair_send, (latch_send, tt)))
 
 pub taker_send : IsSend Taker.the_row
 taker_send =
     declared_send Taker.the_type
-    (exit_send call call_send, (entry_send pair pair_send, tt))
+    (outlet_send call call_send, (inlet_send pair pair_send, tt))

@@ -3,7 +3,7 @@ use Rattle.std.specs.Prelude.{ℕ, List}
 use Rattle.xa_base.specs.declared.answer.Answer.{Answer}
 use Rattle.xa_base.specs.Xid.{Xid}
 use Rattle.xa_base.specs.declared.call.Call.{Call}
-use Rattle.xa_line.specs.Queue.{pushed, popped, seen, free, SameEntry, SameExit, AreEnds}
+use Rattle.xa_line.specs.Queue.{pushed, popped, seen, free, SameInlet, SameOutlet, AreEnds}
 use Rattle.xa_line.specs.declared.issuer.Issuer.{Issuer}
 use Rattle.xa_line.specs.declared.taker.Taker.{Taker}
 
@@ -45,12 +45,12 @@ free_answers_of t = free t.answers
 
 -- an end of the same line
 pub record SameIssuer (a b : Issuer) : Type 0 where
-  pub calls : SameEntry a.calls b.calls
-  pub answers : SameExit a.answers b.answers
+  pub calls : SameInlet a.calls b.calls
+  pub answers : SameOutlet a.answers b.answers
 
 pub record SameTaker (a b : Taker) : Type 0 where
-  pub calls : SameExit a.calls b.calls
-  pub answers : SameEntry a.answers b.answers
+  pub calls : SameOutlet a.calls b.calls
+  pub answers : SameInlet a.answers b.answers
 
 -- the two ends of one line
 pub record AreEndsOfOne (i : Issuer) (t : Taker) : Type 0 where

@@ -1,5 +1,5 @@
 pub mod Ends
-pub mod Gate
+pub mod Latch
 pub mod Grid
 pub mod Histories
 pub mod Lending

@@ -3,41 +3,41 @@
 use Rattle.std.specs.Prelude.{◌≡◌, ℕ, ◌+◌, ◌≤◌, List, ◌++◌, length, drop}
 use Rattle.rtrb.specs.Ring.{sent, known_free, producer_capacity, received, known_items, IsPair, SameProducer, SameConsumer}
 use Rattle.xa_line.specs.Traffic.{places}
-use Rattle.xa_line.specs.declared.entry.Entry.{Entry}
-use Rattle.xa_line.specs.declared.exit.Exit.{Exit}
+use Rattle.xa_line.specs.declared.inlet.Inlet.{Inlet}
+use Rattle.xa_line.specs.declared.outlet.Outlet.{Outlet}
 
 module _ {T : Type 0} where
   -- what went in since the queue was new or renewed, oldest first
-  abbrev pub pushed : Entry T → List T
+  abbrev pub pushed : Inlet T → List T
   pushed e = drop (length (sent e.start.value)) (sent e.producer)
 
   -- what came out since then, oldest first
-  abbrev pub popped : Exit T → List T
+  abbrev pub popped : Outlet T → List T
   popped x = drop (length (received x.start.value)) (received x.consumer)
 
   -- the items that this end has seen to wait
-  abbrev pub seen : Exit T → List T
+  abbrev pub seen : Outlet T → List T
   seen x = known_items x.consumer
 
   -- the places that this end has seen to be free
-  abbrev pub free : Entry T → ℕ
+  abbrev pub free : Inlet T → ℕ
   free e = known_free e.producer
 
   -- an end of the same queue, not renewed between
-  abbrev pub SameEntry : Entry T → Entry T → Type 0
-  SameEntry a b = SameProducer a.producer b.producer × (b.start ≡ a.start)
+  abbrev pub SameInlet : Inlet T → Inlet T → Type 0
+  SameInlet a b = SameProducer a.producer b.producer × (b.start ≡ a.start)
 
-  abbrev pub SameExit : Exit T → Exit T → Type 0
-  SameExit a b = SameConsumer a.consumer b.consumer × (b.start ≡ a.start)
+  abbrev pub SameOutlet : Outlet T → Outlet T → Type 0
+  SameOutlet a b = SameConsumer a.consumer b.consumer × (b.start ≡ a.start)
 
   -- the two ends of one queue
-  pub record AreEnds (e : Entry T) (x : Exit T) : Type 0 where
+  pub record AreEnds (e : Inlet T) (x : Outlet T) : Type 0 where
     pub pair : IsPair e.producer x.consumer
     pub capacity : producer_capacity e.producer ≡ places
     pub same_start : length (sent e.start.value) ≡ length (received x.start.value)
 
   -- the two are in one thread, and each has seen all that the other did
-  pub record SeeEachOther (e : Entry T) (x : Exit T) : Type 0 where
+  pub record SeeEachOther (e : Inlet T) (x : Outlet T) : Type 0 where
     pub ends : AreEnds e x
     pub all_seen : received x.consumer ++ seen x ≡ sent e.producer
     pub room : places ≤ free e + length (seen x)

@@ -1,20 +1,20 @@
 //! The end of a line that a thread of control has.
-ghost use Rattle.xa_line.specs.Gate.{Knows};
+ghost use Rattle.xa_line.specs.Latch.{Knows};
 ghost use Rattle.xa_line.specs.Queue.{pushed};
 
-use crate::entry::Entry;
-use crate::exit::Exit;
-use crate::gate::Gate;
+use crate::inlet::Inlet;
+use crate::latch::Latch;
+use crate::outlet::Outlet;
 use xa_base::{Answer, Call, Refusal};
 
 /// The end of a line that the thread of control has, in a thread of its own: it issues calls and hears their
 /// answers. No call waits for the other end, locks or takes memory.
 #[derive(Drop)]
 pub struct Issuer {
-    pub(crate) calls: Entry<Call>,
-    pub(crate) answers: Exit<(Call, Answer)>,
-    pub(crate) gate: Gate,
-    ghost gate_knows: { Knows gate (pushed calls) },
+    pub(crate) calls: Inlet<Call>,
+    pub(crate) answers: Outlet<(Call, Answer)>,
+    pub(crate) latch: Latch,
+    ghost latch_knows: { Knows latch (pushed calls) },
 }
 
 impl Issuer {
@@ -42,12 +42,12 @@ impl Issuer {
         ensures succeeds { barred (issued_by self.old) call ≡ None →
             0 < free_calls_of self.old → IsOk result }
     {
-        self.gate.check(&call)?;
-        let gate = self.gate.after(&call);
+        self.latch.check(&call)?;
+        let latch = self.latch.after(&call);
         if self.calls.push(call).is_err() {
             return Err(Refusal::Full);
         }
-        self.gate = gate;
+        self.latch = latch;
         Ok(())
     }
 

@@ -12,13 +12,13 @@
 //! Specification" (1991).
 #![tactic(auto)]
 
-mod entry;
-mod exit;
-mod gate;
 mod histories;
+mod inlet;
 mod issuer;
+mod latch;
 mod line;
 mod lines;
+mod outlet;
 mod queue;
 mod taker;
 #[cfg(test)]

@@ -1,6 +1,6 @@
 //! The line of one thread of control to one resource manager.
 
-use crate::gate::Gate;
+use crate::latch::Latch;
 use crate::queue::Queue;
 use crate::{Issuer, Taker};
 use std::alloc::Global;
@@ -15,7 +15,7 @@ use xa_base::{Answer, Call, LINE_LIMIT, Memory, Refusal};
 pub struct Line {
     calls: Queue<Call>,
     answers: Queue<(Call, Answer)>,
-    gate: Gate,
+    latch: Latch,
 }
 
 impl Model for Line {
@@ -23,11 +23,11 @@ impl Model for Line {
 
     ghost Value = { Traffic };
 
-    ghost use Rattle.xa_line.specs.Gate.{Knows};
+    ghost use Rattle.xa_line.specs.Latch.{Knows};
 
     ghost view = { λ l. record { calls = l.calls; answers = l.answers } };
 
-    ghost invariant = { λ l. Knows l.gate (all_of l.calls) };
+    ghost invariant = { λ l. Knows l.latch (all_of l.calls) };
 }
 
 impl Line {
@@ -48,7 +48,7 @@ impl Line {
         Ok(Line {
             calls: Queue::new(alloc)?,
             answers: Queue::new(alloc)?,
-            gate: Gate::NEW,
+            latch: Latch::NEW,
         })
     }
 
@@ -67,11 +67,11 @@ impl Line {
         ensures issued { OnOk result (issued self.new ≡ issued self.old ++ call ∷ []) }
         ensures refused { OnErr result (self.new ≡ self.old) }
     {
-        self.gate.check(&call)?;
+        self.latch.check(&call)?;
         if self.calls.len() >= LINE_LIMIT {
             return Err(Refusal::Full);
         }
-        self.gate = self.gate.after(&call);
+        self.latch = self.latch.after(&call);
         self.calls.push(call);
         Ok(())
     }
@@ -121,7 +121,7 @@ impl Line {
     {
         self.calls.renew();
         self.answers.renew();
-        self.gate = Gate::NEW;
+        self.latch = Latch::NEW;
     }
 
     /// The oldest waiting call, which [`Line::take`] gives next.
@@ -142,14 +142,14 @@ impl Line {
     pub fn is_open(&self) -> bool
         ensures { result ≡ has_opened (issued self.now) }
     {
-        self.gate.opened
+        self.latch.opened
     }
 
     /// Whether an xa_close was issued since the line was new or renewed.
     pub fn is_closed(&self) -> bool
         ensures { result ≡ has_closed (issued self.now) }
     {
-        self.gate.closed
+        self.latch.closed
     }
 
     /// How many more calls may wait, 0 to 64.
@@ -188,14 +188,14 @@ impl Line {
         let Line {
             calls,
             answers,
-            gate,
+            latch,
         } = self;
         let (calls_in, calls_out) = calls.split();
         let (answers_in, answers_out) = answers.split();
         let issuer = Issuer {
             calls: calls_in,
             answers: answers_out,
-            gate,
+            latch,
         };
         let taker = Taker {
             calls: calls_out,
@@ -215,7 +215,7 @@ impl Line {
         let Issuer {
             calls: calls_in,
             answers: answers_out,
-            gate,
+            latch,
         } = issuer;
         let Taker {
             calls: calls_out,
@@ -224,7 +224,7 @@ impl Line {
         Line {
             calls: Queue::meet(calls_in, calls_out),
             answers: Queue::meet(answers_in, answers_out),
-            gate,
+            latch,
         }
     }
 }

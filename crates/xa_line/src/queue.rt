@@ -1,7 +1,7 @@
 //! Queues of at most 64 items, over rings.
 
-use crate::entry::Entry;
-use crate::exit::Exit;
+use crate::inlet::Inlet;
+use crate::outlet::Outlet;
 use rtrb::RingBuffer;
 use std::alloc::Global;
 use std::marker::Model;
@@ -11,8 +11,8 @@ use xa_base::{LINE_LIMIT, Memory};
 /// A queue of at most 64 items. One thread holds both ends, and each has seen all that the other did.
 #[derive(Drop)]
 pub struct Queue<T> {
-    entry: Entry<T>,
-    exit: Exit<T>,
+    inlet: Inlet<T>,
+    outlet: Outlet<T>,
 }
 
 impl<T> Model for Queue<T> {
@@ -22,9 +22,9 @@ impl<T> Model for Queue<T> {
 
     ghost use Rattle.xa_line.specs.Queue.{SeeEachOther, popped, seen};
 
-    ghost view = { λ q. record { gone = popped q.exit; waiting = seen q.exit } };
+    ghost view = { λ q. record { gone = popped q.outlet; waiting = seen q.outlet } };
 
-    ghost invariant = { λ q. SeeEachOther q.entry q.exit };
+    ghost invariant = { λ q. SeeEachOther q.inlet q.outlet };
 }
 
 impl<T: Drop> Queue<T> {
@@ -41,11 +41,11 @@ impl<T: Drop> Queue<T> {
         let entry_start = Snapshot::of(&producer);
         let exit_start = Snapshot::of(&consumer);
         Ok(Queue {
-            entry: Entry {
+            inlet: Inlet {
                 producer,
                 start: entry_start,
             },
-            exit: Exit {
+            outlet: Outlet {
                 consumer,
                 start: exit_start,
             },
@@ -57,17 +57,17 @@ impl<T: Drop> Queue<T> {
         ensures value { result ≡ length self.now.waiting }
         ensures most { result ≤ places }
     {
-        self.exit.consumer.cached_slots()
+        self.outlet.consumer.cached_slots()
     }
 
     /// The oldest waiting item.
     pub fn front(&self) -> Option<&T>
         ensures { option_copied result ≡ slice_get self.now.waiting 0 }
     {
-        if self.exit.consumer.cached_slots() == 0 {
+        if self.outlet.consumer.cached_slots() == 0 {
             return None;
         }
-        Some(self.exit.consumer.peek_known())
+        Some(self.outlet.consumer.peek_known())
     }
 
     /// Lets an item wait, last.
@@ -75,8 +75,8 @@ impl<T: Drop> Queue<T> {
         requires { length self.old.waiting < places }
         ensures { self.new ≡ with_one_more self.old item }
     {
-        self.entry.producer.push_reserved(item);
-        self.entry.look(&mut self.exit);
+        self.inlet.producer.push_reserved(item);
+        self.inlet.look(&mut self.outlet);
     }
 
     /// Takes the oldest waiting item out.
@@ -85,11 +85,11 @@ impl<T: Drop> Queue<T> {
         ensures none { IfNone result ((self.old.waiting ≡ []) × (self.new ≡ self.old)) }
         ensures all { all_of self.new ≡ all_of self.old }
     {
-        if self.exit.consumer.cached_slots() == 0 {
+        if self.outlet.consumer.cached_slots() == 0 {
             return None;
         }
-        let item = self.exit.consumer.pop_known();
-        self.entry.look(&mut self.exit);
+        let item = self.outlet.consumer.pop_known();
+        self.inlet.look(&mut self.outlet);
         Some(item)
     }
 
@@ -105,31 +105,31 @@ impl<T: Drop> Queue<T> {
         ensures { self.new ≡ empty_flow }
     {
         self.clear();
-        self.entry.start = Snapshot::of(&self.entry.producer);
-        self.exit.start = Snapshot::of(&self.exit.consumer);
+        self.inlet.start = Snapshot::of(&self.inlet.producer);
+        self.outlet.start = Snapshot::of(&self.outlet.consumer);
     }
 
     /// Takes the queue apart, for two threads.
-    pub fn split(self) -> (Entry<T>, Exit<T>)
+    pub fn split(self) -> (Inlet<T>, Outlet<T>)
         ensures ends { AreEnds result.0 result.1 }
         ensures pushed { pushed result.0 ≡ all_of self }
         ensures popped { popped result.1 ≡ self.gone }
         ensures seen { seen result.1 ≡ self.waiting }
         ensures room { places ≤ free result.0 + length self.waiting }
     {
-        let Queue { entry, exit } = self;
-        (entry, exit)
+        let Queue { inlet, outlet } = self;
+        (inlet, outlet)
     }
 
     /// Puts the two ends together again, in one thread.
-    pub fn meet(entry: Entry<T>, exit: Exit<T>) -> Queue<T>
-        requires { AreEnds entry exit }
-        ensures pushed { all_of result ≡ pushed entry }
-        ensures popped { result.gone ≡ popped exit }
+    pub fn meet(inlet: Inlet<T>, outlet: Outlet<T>) -> Queue<T>
+        requires { AreEnds inlet outlet }
+        ensures pushed { all_of result ≡ pushed inlet }
+        ensures popped { result.gone ≡ popped outlet }
     {
-        let mut entry = entry;
-        let mut exit = exit;
-        entry.look(&mut exit);
-        Queue { entry, exit }
+        let mut inlet = inlet;
+        let mut outlet = outlet;
+        inlet.look(&mut outlet);
+        Queue { inlet, outlet }
     }
 }

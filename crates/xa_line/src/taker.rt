@@ -1,15 +1,15 @@
 //! The end of a line that a resource manager has.
 
-use crate::entry::Entry;
-use crate::exit::Exit;
+use crate::inlet::Inlet;
+use crate::outlet::Outlet;
 use xa_base::{Answer, Call};
 
 /// The end of a line that the resource manager has, in a thread of its own: it takes calls and answers them. No
 /// call waits for the other end, locks or takes memory.
 #[derive(Drop)]
 pub struct Taker {
-    pub(crate) calls: Exit<Call>,
-    pub(crate) answers: Entry<(Call, Answer)>,
+    pub(crate) calls: Outlet<Call>,
+    pub(crate) answers: Inlet<(Call, Answer)>,
 }
 
 impl Taker {

@@ -7,20 +7,20 @@ use std::snapshot::Snapshot;
 
 /// The end of a queue that items come out of. `start` remembers it as it was when the queue was new or renewed.
 #[derive(Drop)]
-pub struct Exit<T> {
+pub struct Outlet<T> {
     pub(crate) consumer: Consumer<T>,
     pub(crate) start: Snapshot<Consumer<T>>,
     ghost started: { length (received start.value) ≤ length (received consumer) },
 }
 
-impl<T> Exit<T> {
+impl<T> Outlet<T> {
     ghost use Rattle.std.specs.Prelude.{◌≡◌, ◌<◌, ◌∷◌, ◌++◌, [], length, IsSome, IfSome, IfNone};
     ghost use mathlib.Core.List.{IsPrefix};
-    ghost use Rattle.xa_line.specs.Queue.{SameExit, popped, seen};
+    ghost use Rattle.xa_line.specs.Queue.{SameOutlet, popped, seen};
 
     /// Takes the oldest item out, if one was seen.
     pub fn pop(&mut self) -> Option<T>
-        ensures same { SameExit self.old self.new }
+        ensures same { SameOutlet self.old self.new }
         ensures some { IfSome result (λ x. popped self.new ≡ popped self.old ++ x ∷ []) }
         ensures seen { IfSome result (λ x. IsPrefix (seen self.old) (x ∷ seen self.new)) }
         ensures none { IfNone result ((popped self.new ≡ popped self.old) × (seen self.new ≡ [])) }

@@ -6,18 +6,18 @@ use xa_base::{Call, Refusal};
 
 /// Whether an xa_open and an xa_close were issued on a line since it was new or renewed.
 #[derive(Clone, Copy)]
-pub struct Gate {
+pub struct Latch {
     pub(crate) opened: bool,
     pub(crate) closed: bool,
 }
 
-impl Gate {
+impl Latch {
     ghost use Rattle.std.specs.Prelude.{◌||◌, ◌&&◌, false, if◌then◌else◌, None, not, Some};
     ghost use Rattle.std.specs.Result.{result_err};
     ghost use Rattle.xa_base.specs.declared.refusal.Refusal.TheVariants.{Closed, NotOpen};
 
-    /// The gate of a line where nothing was issued.
-    pub const NEW: Gate = Gate {
+    /// The latch of a line where nothing was issued.
+    pub const NEW: Latch = Latch {
         opened: false,
         closed: false,
     };
@@ -36,12 +36,12 @@ impl Gate {
         Ok(())
     }
 
-    /// The gate once the call is issued.
-    pub fn after(self, call: &Call) -> Gate
+    /// The latch once the call is issued.
+    pub fn after(self, call: &Call) -> Latch
         ensures opened { result.opened ≡ self.opened || opens call.now }
         ensures closed { result.closed ≡ self.closed || closes call.now }
     {
-        Gate {
+        Latch {
             opened: self.opened || opens(call),
             closed: self.closed || closes(call),
         }

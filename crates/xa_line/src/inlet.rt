@@ -2,26 +2,26 @@
 ghost use Rattle.std.specs.Prelude.{◌≤◌, length};
 ghost use Rattle.rtrb.specs.Ring.{sent};
 
-use crate::exit::Exit;
+use crate::outlet::Outlet;
 use rtrb::{Producer, PushError};
 use std::snapshot::Snapshot;
 
 /// The end of a queue that items go into. `start` remembers it as it was when the queue was new or renewed.
 #[derive(Drop)]
-pub struct Entry<T> {
+pub struct Inlet<T> {
     pub(crate) producer: Producer<T>,
     pub(crate) start: Snapshot<Producer<T>>,
     ghost started: { length (sent start.value) ≤ length (sent producer) },
 }
 
-impl<T> Entry<T> {
+impl<T> Inlet<T> {
     ghost use Rattle.std.specs.Prelude.{◌≡◌, ◌<◌, ◌≤◌, ◌+◌, ◌∷◌, ◌++◌, [], IsOk, OnErr, OnOk, IfErr};
     ghost use Rattle.rtrb.specs.Ring.{received, sent};
-    ghost use Rattle.xa_line.specs.Queue.{AreEnds, SameEntry, SameExit, SeeEachOther, free, pushed};
+    ghost use Rattle.xa_line.specs.Queue.{AreEnds, SameInlet, SameOutlet, SeeEachOther, free, pushed};
 
     /// Puts an item in, or gives it back where no free place was seen.
     pub fn push(&mut self, item: T) -> Result<(), T>
-        ensures same { SameEntry self.old self.new }
+        ensures same { SameInlet self.old self.new }
         ensures ok { OnOk result (pushed self.new ≡ pushed self.old ++ item ∷ []) }
         ensures free { OnOk result (free self.old ≤ free self.new + 1) }
         ensures back { IfErr result (λ back. back ≡ item) }
@@ -35,16 +35,16 @@ impl<T> Entry<T> {
     }
 
     /// Lets each end see all that the other did. That takes both ends in one thread.
-    pub fn look(&mut self, exit: &mut Exit<T>)
-        requires { AreEnds self.old exit.old }
-        ensures entry { SameEntry self.old self.new ×
+    pub fn look(&mut self, outlet: &mut Outlet<T>)
+        requires { AreEnds self.old outlet.old }
+        ensures inlet { SameInlet self.old self.new ×
             (sent self.new.producer ≡ sent self.old.producer) }
-        ensures exit { SameExit exit.old exit.new ×
-            (received exit.new.consumer ≡ received exit.old.consumer) }
-        ensures seen { SeeEachOther self.new exit.new }
+        ensures outlet { SameOutlet outlet.old outlet.new ×
+            (received outlet.new.consumer ≡ received outlet.old.consumer) }
+        ensures seen { SeeEachOther self.new outlet.new }
     {
         let producer = &mut self.producer;
-        let consumer = &mut exit.consumer;
+        let consumer = &mut outlet.consumer;
         producer.slots_beside(consumer);
         consumer.slots_beside(producer);
     }
