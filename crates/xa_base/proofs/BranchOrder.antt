@@ -13,7 +13,8 @@ pub gtrids_total : IsTotalOrder gtrid_cmp
 gtrids_total = then_total (on_total (λ g. g.incarnation) nat_cmp_total) (on_total (λ g. g.sequence) nat_cmp_total)
 
 pub exact_gtrids : CmpEqualImpliesEq gtrid_cmp
-exact_gtrids a b h = ap (λ (p : ℕ × ℕ). record { incarnation = p.0; sequence = p.1 }) (exact_pairs nat_cmp nat_cmp exact_unsigned exact_unsigned (a.incarnation, a.sequence) (b.incarnation, b.sequence) h)
+exact_gtrids a b h =
+    ap (λ (p : ℕ × ℕ). record { incarnation = p.0; sequence = p.1 }) (exact_pairs nat_cmp nat_cmp exact_unsigned exact_unsigned (a.incarnation, a.sequence) (b.incarnation, b.sequence) h)
 
 pub branches_total : IsTotalOrder branch_cmp
 branches_total = then_total (on_total (λ b. b.gtrid) gtrids_total) (then_total (on_total (λ b. b.thread) nat_cmp_total) (on_total (λ b. b.rm) nat_cmp_total))

@@ -66,7 +66,8 @@ found_here : (Q : Call Xid → Type 0) (p : Call Xid → Bool) (first : Call Xid
 found_here Q p first calls call true is here others later h = let same : first ≡ call = cc in (rw (← same) is, rw (← same) here)
 found_here Q p first calls call false is here others later h = later h
 
-found : (Q : Call Xid → Type 0) (p : Call Xid → Bool) (calls : List (Call Xid)) (call : Call Xid) → Each Q calls → find p calls ≡ Some call → (p call ≡ true) × Q call
+found : (Q : Call Xid → Type 0) (p : Call Xid → Bool) (calls : List (Call Xid)) (call : Call Xid) → Each Q calls
+    → find p calls ≡ Some call → (p call ≡ true) × Q call
 found Q p [] call each h = let no : ⊥ = cc in absurd no
 found Q p (first ∷ calls) call each h = found_here Q p first calls call (p first) refl each.0 each.1 (found Q p calls call each.1) h
 

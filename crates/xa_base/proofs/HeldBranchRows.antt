@@ -36,7 +36,8 @@ three_retries = refl
 
 -- only XA_RETRY uses up a retry
 retries_stay : told ((0, Start) ∷ (0, End false) ∷ (0, Commit) ∷ (0, Prepare) ∷ (0, Rollback) ∷ []) (held Unstarted 0 2)
-    ≡ (Codes.Success, held Active 0 2) ∷ (Codes.Success, held Idle 0 2) ∷ (Codes.Protocol, held Idle 0 2) ∷ (Codes.Success, held Prepared 0 2) ∷ (Codes.Success, held RolledBack 0 2) ∷ []
+    ≡ (Codes.Success, held Active 0 2) ∷ (Codes.Success, held Idle 0 2) ∷ (Codes.Protocol, held Idle 0 2)
+        ∷ (Codes.Success, held Prepared 0 2) ∷ (Codes.Success, held RolledBack 0 2) ∷ []
 unfolding told
 retries_stay = refl
 
@@ -56,7 +57,8 @@ other : Xid
 other = xid_of_branch (own 1)
 
 -- a call changes the branch that it names, and no other
-one_changed : held_after 1 (Calls.Start named false) named new_branch ∷ held_after 1 (Calls.Start named false) other new_branch ∷ held_after 1 Calls.OpenRm named new_branch ∷ []
+one_changed : held_after 1 (Calls.Start named false) named new_branch ∷ held_after 1 (Calls.Start named false) other new_branch
+    ∷ held_after 1 Calls.OpenRm named new_branch ∷ []
     ≡ held Active 1 0 ∷ new_branch ∷ new_branch ∷ []
 unfolding named other
 one_changed = refl
@@ -81,7 +83,8 @@ later_breaks : map (broken_by 1) (called 2 (End true) (held Active 1 0) ∷ held
 later_breaks = refl
 
 -- a crash loses what any thread started
-crashes : map crashed (held Active 0 0 ∷ held Idle 1 0 ∷ held RollbackOnly 2 0 ∷ held Prepared 1 3 ∷ []) ≡ held Lost 0 0 ∷ held Lost 1 0 ∷ held Lost 2 0 ∷ held Prepared 1 3 ∷ []
+crashes : map crashed (held Active 0 0 ∷ held Idle 1 0 ∷ held RollbackOnly 2 0 ∷ held Prepared 1 3 ∷ []) ≡ held Lost 0 0
+    ∷ held Lost 1 0 ∷ held Lost 2 0 ∷ held Prepared 1 3 ∷ []
 crashes = refl
 
 -- ** heuristic ends

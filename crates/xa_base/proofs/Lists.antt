@@ -4,12 +4,14 @@ use Rattle.std.specs.Prelude.{if◌then◌else◌, Some, slice_get}
 use mathlib.Core.Logic.{◌⊎◌.inl, ◌⊎◌.inr}
 
 -- an item of xs ++ ys is one of xs at the same place, or the i-th of ys behind them
-pub get_append : {X : Type 0} (xs ys : List X) (k : ℕ) (x : X) → slice_get (xs ++ ys) k ≡ Some x → (slice_get xs k ≡ Some x) ⊎ ((i : ℕ) × (k ≡ length xs + i) × (slice_get ys i ≡ Some x))
+pub get_append : {X : Type 0} (xs ys : List X) (k : ℕ) (x : X) → slice_get (xs ++ ys) k ≡ Some x
+    → (slice_get xs k ≡ Some x) ⊎ ((i : ℕ) × (k ≡ length xs + i) × (slice_get ys i ≡ Some x))
 get_append [] ys k x e = inr (k, omega arith, e)
 get_append (y ∷ xs) ys zero x e = inl e
 get_append (y ∷ xs) ys (suc k) x e = shift (get_append xs ys k x e)
   where
-    shift : (slice_get xs k ≡ Some x) ⊎ ((i : ℕ) × (k ≡ length xs + i) × (slice_get ys i ≡ Some x)) → (slice_get xs k ≡ Some x) ⊎ ((i : ℕ) × (suc k ≡ length (y ∷ xs) + i) × (slice_get ys i ≡ Some x))
+    shift : (slice_get xs k ≡ Some x) ⊎ ((i : ℕ) × (k ≡ length xs + i) × (slice_get ys i ≡ Some x))
+        → (slice_get xs k ≡ Some x) ⊎ ((i : ℕ) × (suc k ≡ length (y ∷ xs) + i) × (slice_get ys i ≡ Some x))
     shift (inl h) = inl h
     shift (inr h) = let e : k ≡ length xs + h.0 = h.1 in inr (h.0, omega arith, h.2)
 

@@ -165,7 +165,8 @@ pub record Inv (tr : Trace) : Type 0 where
   pub in_doubt : DoubtFact tr (doubt tr)
   pub waiting_up : (l : Line) (c : Call) → Waits tr l c → up tr ≡ true
   pub waiting : (l : Line) (k : Kind) (b : Branch) → Waits tr l (on k b) → CallFact tr l k b
-  pub start_once : (l : Line) (b : Branch) (x y : Kind) (j k : ℕ) → Starts x → Starts y → slice_get (issued tr l) j ≡ Some (on x b) → slice_get (issued tr l) k ≡ Some (on y b) → j ≡ k
+  pub start_once : (l : Line) (b : Branch) (x y : Kind) (j k : ℕ) → Starts x → Starts y
+      → slice_get (issued tr l) j ≡ Some (on x b) → slice_get (issued tr l) k ≡ Some (on y b) → j ≡ k
   pub start_issued : (l : Line) (b : Branch) (x : Kind) (j : ℕ) → Starts x → slice_get (issued tr l) j ≡ Some (on x b) → started tr b ≡ true
   pub answered : (l : Line) (k : ℕ) (c : Call) (a : Answer) → slice_get (taken tr l) k ≡ Some (c, a) → AnswerFact tr c a
   pub voted_yes : (b : Branch) → told tr (says_yes b) ≡ true → YesFact tr b

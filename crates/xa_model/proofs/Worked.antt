@@ -59,7 +59,8 @@ abbrev pub foreign : ℤ → List ℕ → Xid
 foreign format bqual = record { format = format; gtrid = 1 ∷ []; bqual = bqual }
 
 abbrev pub with_foreign : Origin
-with_foreign = record (fresh 1 1) { in_doubt = λ r. foreign (pos 1) (2 ∷ 1 ∷ []) ∷ foreign (pos 8) (2 ∷ []) ∷ foreign (negsuc 1) (9 ∷ []) ∷ foreign (pos 1) (2 ∷ []) ∷ [] }
+with_foreign =
+    record (fresh 1 1) { in_doubt = λ r. foreign (pos 1) (2 ∷ 1 ∷ []) ∷ foreign (pos 8) (2 ∷ []) ∷ foreign (negsuc 1) (9 ∷ []) ∷ foreign (pos 1) (2 ∷ []) ∷ [] }
 
 -- ** steps
 

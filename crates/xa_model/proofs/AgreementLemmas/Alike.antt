@@ -118,7 +118,8 @@ down_empty (Then tr e) r u l = by_case (down_empty tr r.0) (down_after tr e l r.
     kept : ((m : Line) → (issued tr m ≡ []) × (taken tr m ≡ [])) → up tr ≡ false → (issued tr l ++ new_calls tr e l ≡ []) × (taken tr l ++ new_taken e l ≡ [])
     kept f d = (λ i. (f l).0 i ++ down_no_calls tr e l r.1 d i, λ i. (f l).1 i ++ down_no_answers tr e l r.1 (λ m. (f m).0) i)
 
-    by_break : (t : Bool) → (issued tr l ++ new_calls tr e l ≡ []) × (taken tr l ++ new_taken e l ≡ []) → ((if t then [] else issued tr l ++ new_calls tr e l) ≡ []) × ((if t then [] else taken tr l ++ new_taken e l) ≡ [])
+    by_break : (t : Bool) → (issued tr l ++ new_calls tr e l ≡ []) × (taken tr l ++ new_taken e l ≡ [])
+        → ((if t then [] else issued tr l ++ new_calls tr e l) ≡ []) × ((if t then [] else taken tr l ++ new_taken e l) ≡ [])
     by_break true p = (refl, refl)
     by_break false p = p
 
@@ -126,7 +127,8 @@ down_empty (Then tr e) r u l = by_case (down_empty tr r.0) (down_after tr e l r.
     broken_line true q = (refl, refl)
     broken_line false q = absurd (cc)
 
-    by_case : (up tr ≡ false → (m : Line) → (issued tr m ≡ []) × (taken tr m ≡ [])) → (breaks tr e l ≡ true) ⊎ (up tr ≡ false) → ((if breaks tr e l then [] else issued tr l ++ new_calls tr e l) ≡ []) × ((if breaks tr e l then [] else taken tr l ++ new_taken e l) ≡ [])
+    by_case : (up tr ≡ false → (m : Line) → (issued tr m ≡ []) × (taken tr m ≡ [])) → (breaks tr e l ≡ true) ⊎ (up tr ≡ false)
+        → ((if breaks tr e l then [] else issued tr l ++ new_calls tr e l) ≡ []) × ((if breaks tr e l then [] else taken tr l ++ new_taken e l) ≡ [])
     by_case f (inl q) = broken_line (breaks tr e l) q
     by_case f (inr q) = by_break (breaks tr e l) (kept (f q) q)
 

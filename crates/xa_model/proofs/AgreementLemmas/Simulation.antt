@@ -64,9 +64,11 @@ set_once : (q m : Branch → Phase) (x : Branch) (y : Phase) → q x ≡ y → S
 set_once q m x y e = record { there = set_here m x y ∙ sym e; elsewhere = set_elsewhere m x y }
 
 set_twice : (q m : Branch → Phase) (x : Branch) (y z : Phase) → q x ≡ z → SetTo q m (with_phase (with_phase m x y) x z) x
-set_twice q m x y z e = record { there = set_here (with_phase m x y) x z ∙ sym e; elsewhere = λ c. by_last c (set_elsewhere (with_phase m x y) x z c) (set_elsewhere m x y c) }
+set_twice q m x y z e =
+    record { there = set_here (with_phase m x y) x z ∙ sym e; elsewhere = λ c. by_last c (set_elsewhere (with_phase m x y) x z c) (set_elsewhere m x y c) }
   where
-    by_last : (c : Branch) → (x ≡ c) ⊎ (with_phase (with_phase m x y) x z c ≡ with_phase m x y c) → (x ≡ c) ⊎ (with_phase m x y c ≡ m c) → (x ≡ c) ⊎ (with_phase (with_phase m x y) x z c ≡ m c)
+    by_last : (c : Branch) → (x ≡ c) ⊎ (with_phase (with_phase m x y) x z c ≡ with_phase m x y c)
+        → (x ≡ c) ⊎ (with_phase m x y c ≡ m c) → (x ≡ c) ⊎ (with_phase (with_phase m x y) x z c ≡ m c)
     by_last c (inl h) k = inl h
     by_last c (inr h) (inl k) = inl k
     by_last c (inr h) (inr k) = inr (h ∙ k)
@@ -82,7 +84,8 @@ mixed_set Member p q m n x s h c k = by_place (s.elsewhere c)
     by_place (inl e) = inr (subst (λ z. n z ≡ q z) e s.there)
     by_place (inr e) = old e (h c k)
 
-done_set : (Member : Branch → Type 0) (q m n : Branch → Phase) (x : Branch) (xs : List Branch) → SetTo q m n x → DoneBut Member q m (x ∷ xs) → DoneBut Member q n xs
+done_set : (Member : Branch → Type 0) (q m n : Branch → Phase) (x : Branch) (xs : List Branch) → SetTo q m n x
+    → DoneBut Member q m (x ∷ xs) → DoneBut Member q n xs
 done_set Member q m n x xs s h c k = by_place (s.elsewhere c)
   where
     here : x ≡ c → (n c ≡ q c) ⊎ Within xs c
@@ -97,7 +100,8 @@ done_set Member q m n x xs s h c k = by_place (s.elsewhere c)
     by_place (inl e) = here e
     by_place (inr e) = old e (h c k)
 
-done_skip : (Member : Branch → Type 0) (q m : Branch → Phase) (x : Branch) (xs : List Branch) → (Member x → m x ≡ q x) → DoneBut Member q m (x ∷ xs) → DoneBut Member q m xs
+done_skip : (Member : Branch → Type 0) (q m : Branch → Phase) (x : Branch) (xs : List Branch) → (Member x → m x ≡ q x)
+    → DoneBut Member q m (x ∷ xs) → DoneBut Member q m xs
 done_skip Member q m x xs f h c k = by_place (h c k)
   where
     by_place : (m c ≡ q c) ⊎ Within (x ∷ xs) c → (m c ≡ q c) ⊎ Within xs c
@@ -118,7 +122,9 @@ still p m e (inl h) = inl (e ∙ h)
 still p m e (inr h) = inr (e ∙ h)
 
 -- the branch x goes next, where it is not yet as in q
-go : (Member : Branch → Type 0) (p q m : Branch → Phase) (x : Branch) (xs : List Branch) → Member x → m x ≡ p x → Change2 Member p q x → Mixed Member p q m → DoneBut Member q m (x ∷ xs) → ((n : Branch → Phase) → Mixed Member p q n → DoneBut Member q n xs → Leads Member q n) → Leads Member q m
+go : (Member : Branch → Type 0) (p q m : Branch → Phase) (x : Branch) (xs : List Branch) → Member x → m x ≡ p x
+    → Change2 Member p q x → Mixed Member p q m → DoneBut Member q m (x ∷ xs)
+    → ((n : Branch → Phase) → Mixed Member p q n → DoneBut Member q n xs → Leads Member q n) → Leads Member q m
 go Member p q m x xs k e (Same s) mx d rec = rec m mx (done_skip Member q m x xs (λ z. e ∙ s) d)
 go Member p q m x xs k e (To_willing a b) mx d rec =
     let s = set_once q m x Willing b in
@@ -134,11 +140,14 @@ go Member p q m x xs k e (To_aborted a b f) mx d rec =
     let s = set_once q m x Aborted b in
     Step m x Aborted k (Aborts (still (p x) (m x) e a) (λ c z. kept_mix (p c) (q c) (m c) (f c z) (mx c z))) (rec _ (mixed_set Member p q m _ x s mx) (done_set Member q m _ x xs s d))
 
-go_or_skip : (Member : Branch → Type 0) (p q m : Branch → Phase) (x : Branch) (xs : List Branch) → Member x → (m x ≡ p x) ⊎ (m x ≡ q x) → Change2 Member p q x → Mixed Member p q m → DoneBut Member q m (x ∷ xs) → ((n : Branch → Phase) → Mixed Member p q n → DoneBut Member q n xs → Leads Member q n) → Leads Member q m
+go_or_skip : (Member : Branch → Type 0) (p q m : Branch → Phase) (x : Branch) (xs : List Branch) → Member x
+    → (m x ≡ p x) ⊎ (m x ≡ q x) → Change2 Member p q x → Mixed Member p q m → DoneBut Member q m (x ∷ xs)
+    → ((n : Branch → Phase) → Mixed Member p q n → DoneBut Member q n xs → Leads Member q n) → Leads Member q m
 go_or_skip Member p q m x xs k (inl e) c mx d rec = go Member p q m x xs k e c mx d rec
 go_or_skip Member p q m x xs k (inr e) c mx d rec = rec m mx (done_skip Member q m x xs (λ z. e) d)
 
-all_go : (Member : Branch → Type 0) (p q : Branch → Phase) → ((x : Branch) → Member x ⊎ (Member x → ⊥)) → ((x : Branch) → Member x → Change2 Member p q x) → (xs : List Branch) (m : Branch → Phase) → Mixed Member p q m → DoneBut Member q m xs → Leads Member q m
+all_go : (Member : Branch → Type 0) (p q : Branch → Phase) → ((x : Branch) → Member x ⊎ (Member x → ⊥))
+    → ((x : Branch) → Member x → Change2 Member p q x) → (xs : List Branch) (m : Branch → Phase) → Mixed Member p q m → DoneBut Member q m xs → Leads Member q m
 all_go Member p q dec f [] m mx d = There m (λ c k. none c (d c k))
   where
     none : (c : Branch) → (m c ≡ q c) ⊎ ⊥ → m c ≡ q c
@@ -182,7 +191,8 @@ member_test tr g b = by_tests (gtrid_eq b.gtrid g) refl (started tr b) refl
     by_tests false s u k = inr (λ h. let z = ap (gtrid_eq b.gtrid) h.0 in let y = gtrid_eq-refl b.gtrid in cc)
 
 -- a transaction that is closed has all its branches
-started_before : (tr : Trace) (es : List Happening) (b : Branch) → AllRight (after tr es) → Closed tr b.gtrid → started (after tr es) b ≡ true → started tr b ≡ true
+started_before : (tr : Trace) (es : List Happening) (b : Branch) → AllRight (after tr es) → Closed tr b.gtrid
+    → started (after tr es) b ≡ true → started tr b ≡ true
 started_before tr [] b r c s = s
 started_before tr (e ∷ es) b r c s =
     let r' = right_before (Then tr e) es r in
@@ -241,10 +251,13 @@ eager_fate ReadOnly h = inl refl
 eager_fate (Forgotten how) h = inl refl
 eager_fate _ h = absurd h
 
-one_change : (tr : Trace) (e : Happening) (es : List Happening) (g : Gtrid) (b : Branch) (x y : Phase) → AllRight (after (Then tr e) es) → IsBranchOf (after (Then tr e) es) g b → PhaseMove tr b x y → phases tr b ≡ x → phases (Then tr e) b ≡ y → Change2 (IsBranchOf (after (Then tr e) es) g) (phases tr) (phases (Then tr e)) b
+one_change : (tr : Trace) (e : Happening) (es : List Happening) (g : Gtrid) (b : Branch) (x y : Phase)
+    → AllRight (after (Then tr e) es) → IsBranchOf (after (Then tr e) es) g b → PhaseMove tr b x y → phases tr b ≡ x
+    → phases (Then tr e) b ≡ y → Change2 (IsBranchOf (after (Then tr e) es) g) (phases tr) (phases (Then tr e)) b
 one_change tr e es g b x y r k (P_same z) p q = Same (p ∙ sym q)
 one_change tr e es g b x y r k P_willing p q = To_willing p q
-one_change tr e es g b x y r k (P_kept h) p q = To_kept p q (λ c m. (eager_fate _ ((inv.rows b.gtrid h).good c (same c m) (before c m)), eager_fate _ ((inv'.rows b.gtrid (rowed_kept tr e b.gtrid h)).good c (same c m) (started_kept tr e c (before c m)))))
+one_change tr e es g b x y r k (P_kept h) p q =
+    To_kept p q (λ c m. (eager_fate _ ((inv.rows b.gtrid h).good c (same c m) (before c m)), eager_fate _ ((inv'.rows b.gtrid (rowed_kept tr e b.gtrid h)).good c (same c m) (started_kept tr e c (before c m)))))
   where
     r' : AllRight (Then tr e)
     r' = right_before (Then tr e) es r
@@ -260,8 +273,10 @@ one_change tr e es g b x y r k (P_kept h) p q = To_kept p q (λ c m. (eager_fate
 
     before : (c : Branch) → IsBranchOf (after (Then tr e) es) g c → started tr c ≡ true
     before c m = started_before tr (e ∷ es) c r (subst (Closed tr) (sym (same c m)) (inv.rows b.gtrid h).closed) m.1
-one_change tr e es g b x y r k (P_one h) p q = In_one p q (λ c m. sym ((always (after (Then tr e) es) r).handed_one b c (handed_later tr (e ∷ es) b.gtrid h) (m.0 ∙ sym k.0) k.1 m.1))
-one_change tr e es g b x y r k (P_aborted z o) p q = To_aborted (still z (phases tr b) p o) q (λ c m. (λ w. none c m (ended_kept tr e c Committed (always tr r'.0) r'.1 tt (kept_fate _ w)), λ w. none c m (kept_fate _ w)))
+one_change tr e es g b x y r k (P_one h) p q =
+    In_one p q (λ c m. sym ((always (after (Then tr e) es) r).handed_one b c (handed_later tr (e ∷ es) b.gtrid h) (m.0 ∙ sym k.0) k.1 m.1))
+one_change tr e es g b x y r k (P_aborted z o) p q =
+    To_aborted (still z (phases tr b) p o) q (λ c m. (λ w. none c m (ended_kept tr e c Committed (always tr r'.0) r'.1 tt (kept_fate _ w)), λ w. none c m (kept_fate _ w)))
   where
     r' : AllRight (Then tr e)
     r' = right_before (Then tr e) es r

@@ -69,12 +69,14 @@ no_vote : (tr : Trace) (b : Branch) → Inv tr → standing tr b ≡ Unstarted �
 no_vote tr b inv u (inl h) = subst HasBegun u (inv.voted_yes b h).has_begun
 no_vote tr b inv u (inr h) = let k = inv.voted_read_only b h in cc
 
-no_start : (tr : Trace) (l : Line) (b : Branch) → Inv tr → WaitingStart tr l b → (decided_so Outcome.Commit tr b.gtrid ≡ true) ⊎ (outlived tr b.gtrid ≡ true) → ⊥
+no_start : (tr : Trace) (l : Line) (b : Branch) → Inv tr → WaitingStart tr l b
+    → (decided_so Outcome.Commit tr b.gtrid ≡ true) ⊎ (outlived tr b.gtrid ≡ true) → ⊥
 no_start tr l b inv f (inl d) = no_vote tr b inv f.unstarted (inv.all_voted b.gtrid d b refl f.is_started)
 no_start tr l b inv f (inr o) = subst IsGood f.unstarted ((inv.rows b.gtrid (inv.row_rowed b.gtrid (and_parts _ _ o).1)).good b refl f.is_started)
 
 not_closed_yet : (tr : Trace) (l : Line) (b : Branch) → Inv tr → WaitingStart tr l b → (counts_as_committed tr b.gtrid ≡ false) × (claimed tr b.gtrid ≡ false)
-not_closed_yet tr l b inv f = (false_unless _ (λ d. no_start tr l b inv f (or_here _ _ d)), false_unless _ (λ c. no_vote tr b inv f.unstarted (inv.claimed_voted b.gtrid c b refl f.is_started)))
+not_closed_yet tr l b inv f =
+    (false_unless _ (λ d. no_start tr l b inv f (or_here _ _ d)), false_unless _ (λ c. no_vote tr b inv f.unstarted (inv.claimed_voted b.gtrid c b refl f.is_started)))
 
 pub no_start_after_commit : (tr : Trace) → Inv tr → NoStartAfterCommit tr
 no_start_after_commit tr inv l Start b s w = not_closed_yet tr l b inv (inv.waiting l Start b (waits_of tr l (Calls.Start b false) w))
@@ -105,7 +107,8 @@ ready tr b inv h l RolledBack e = absurd (subst IsGood e h)
 ready tr b inv h l Lost e = absurd (subst IsGood e h)
 
 pub claimed_is_prepared : (tr : Trace) → Inv tr → ClaimedIsPrepared tr
-claimed_is_prepared tr inv b s c = ready tr b inv (voted_good tr b inv (inv.claimed_live b.gtrid c) (inv.claimed_voted b.gtrid c b refl s)) (inv.claimed_live b.gtrid c) (standing tr b) refl
+claimed_is_prepared tr inv b s c =
+    ready tr b inv (voted_good tr b inv (inv.claimed_live b.gtrid c) (inv.claimed_voted b.gtrid c b refl s)) (inv.claimed_live b.gtrid c) (standing tr b) refl
 
 pub settled_is_over : (tr : Trace) → Inv tr → SettledIsOver tr
 settled_is_over tr inv = record {

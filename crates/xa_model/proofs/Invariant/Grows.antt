@@ -41,7 +41,8 @@ not_next tr g h r (inr o) e = let s = gtrid_eq-true h g e in let i = ap (λ (x :
 pub live_back : (tr : Trace) (e : Happening) (g : Gtrid) → Right tr e → Old tr g → live (Then tr e) g ≡ true → live tr g ≡ true
 live_back tr (Begun h) g r o l = begun_case (gtrid_eq h g) refl l
   where
-    begun_case : (t : Bool) → gtrid_eq h g ≡ t → ((t || begun tr g) && not (decided_so Outcome.Commit tr g || (decided_so Outcome.Rollback tr g || handed_over tr g))) ≡ true → live tr g ≡ true
+    begun_case : (t : Bool) → gtrid_eq h g ≡ t
+        → ((t || begun tr g) && not (decided_so Outcome.Commit tr g || (decided_so Outcome.Rollback tr g || handed_over tr g))) ≡ true → live tr g ≡ true
     begun_case true s l = absurd (not_next tr g h r o s)
     begun_case false s l = l
 live_back tr (Issued m (Calls.Commit b true)) g r o l = grind arith
@@ -54,7 +55,8 @@ live_back tr (Restarted i d n) g r o l = cc
 live_back tr _ g r o l = l
 
 pub closed_kept : (tr : Trace) (e : Happening) (g : Gtrid) → Right tr e → Closed tr g → Closed (Then tr e) g
-closed_kept tr e g r c = record { old = old_kept tr e g r c.old; not_live = false_unless _ (λ l. let m = live_back tr e g r c.old l in let n = c.not_live in cc) }
+closed_kept tr e g r c =
+    record { old = old_kept tr e g r c.old; not_live = false_unless _ (λ l. let m = live_back tr e g r c.old l in let n = c.not_live in cc) }
 
 -- ** facts that stay
 
@@ -84,10 +86,12 @@ pub handed_kept : (tr : Trace) (e : Happening) (g : Gtrid) → handed_over tr g 
 handed_kept tr (Issued l (Calls.Commit c true)) g h = or_right _ _ h
 handed_kept tr _ g h = h
 
-pub handed_new : (tr : Trace) (e : Happening) (g : Gtrid) → handed_over (Then tr e) g ≡ true → (handed_over tr g ≡ true) ⊎ ((l : Line) × (b : Branch) × (e ≡ Issued l (Calls.Commit b true)) × (b.gtrid ≡ g))
+pub handed_new : (tr : Trace) (e : Happening) (g : Gtrid) → handed_over (Then tr e) g ≡ true
+    → (handed_over tr g ≡ true) ⊎ ((l : Line) × (b : Branch) × (e ≡ Issued l (Calls.Commit b true)) × (b.gtrid ≡ g))
 handed_new tr (Issued l (Calls.Commit c true)) g h = new_case (gtrid_eq c.gtrid g) refl h
   where
-    new_case : (t : Bool) → gtrid_eq c.gtrid g ≡ t → (t || handed_over tr g) ≡ true → (handed_over tr g ≡ true) ⊎ ((m : Line) × (b : Branch) × (Issued l (Calls.Commit c true) ≡ Issued m (Calls.Commit b true)) × (b.gtrid ≡ g))
+    new_case : (t : Bool) → gtrid_eq c.gtrid g ≡ t → (t || handed_over tr g) ≡ true
+        → (handed_over tr g ≡ true) ⊎ ((m : Line) × (b : Branch) × (Issued l (Calls.Commit c true) ≡ Issued m (Calls.Commit b true)) × (b.gtrid ≡ g))
     new_case true s h = inr (l, c, refl, gtrid_eq-true _ _ s)
     new_case false s h = inl h
 handed_new tr _ g h = inl h
@@ -106,7 +110,8 @@ decided_new tr (ResolvedOpen r) Outcome.Rollback g k = by_test (decided_so Outco
   where
     by_test : (t : Bool) → decided_so Outcome.Rollback tr g ≡ t → NewDecision tr (ResolvedOpen r) Outcome.Rollback g
     by_test true q = Was_decided q
-    by_test false q = By_recovery r refl refl (given_up _ _ (claimed tr g) (decided_so Outcome.Commit tr g) (handed_over tr g) (decided_so Outcome.Rollback tr g) q k)
+    by_test false q =
+        By_recovery r refl refl (given_up _ _ (claimed tr g) (decided_so Outcome.Commit tr g) (handed_over tr g) (decided_so Outcome.Rollback tr g) q k)
 decided_new tr (Decided h Outcome.Commit) Outcome.Commit g k = new_case (gtrid_eq h g) refl k
   where
     new_case : (t : Bool) → gtrid_eq h g ≡ t → (t || decided_so Outcome.Commit tr g) ≡ true → NewDecision tr (Decided h Outcome.Commit) Outcome.Commit g
@@ -141,24 +146,29 @@ spared : (l b c d e h : Bool) → c ≡ true → (b && not (d || (e || h))) ≡ 
 spared l b c d e h p q = grind arith
 
 -- a claimed transaction stays live while its claim lasts
-pub live_kept : (tr : Trace) (e : Happening) (g : Gtrid) → Right tr e → claimed tr g ≡ true → claimed (Then tr e) g ≡ true → live tr g ≡ true → live (Then tr e) g ≡ true
+pub live_kept : (tr : Trace) (e : Happening) (g : Gtrid) → Right tr e → claimed tr g ≡ true → claimed (Then tr e) g ≡ true
+    → live tr g ≡ true → live (Then tr e) g ≡ true
 live_kept tr (Begun h) g r c k l = grind arith
 live_kept tr (Issued m (Calls.Commit b true)) g r c k l = by_test (gtrid_eq b.gtrid g) refl
   where
-    by_test : (t : Bool) → gtrid_eq b.gtrid g ≡ t → (begun tr g && not (decided_so Outcome.Commit tr g || (decided_so Outcome.Rollback tr g || (t || handed_over tr g)))) ≡ true
+    by_test : (t : Bool) → gtrid_eq b.gtrid g ≡ t
+        → (begun tr g && not (decided_so Outcome.Commit tr g || (decided_so Outcome.Rollback tr g || (t || handed_over tr g)))) ≡ true
     by_test true s = absurd (both (claimed tr b.gtrid) (ap (claimed tr) (gtrid_eq-true b.gtrid g s) ∙ c) r.1.may_be.0.unclaimed)
     by_test false s = l
 live_kept tr (Decided h Outcome.Commit) g r c k l = by_test (gtrid_eq h g) k
   where
-    by_test : (t : Bool) → (not t && claimed tr g) ≡ true → (begun tr g && not ((t || decided_so Outcome.Commit tr g) || (decided_so Outcome.Rollback tr g || handed_over tr g))) ≡ true
+    by_test : (t : Bool) → (not t && claimed tr g) ≡ true
+        → (begun tr g && not ((t || decided_so Outcome.Commit tr g) || (decided_so Outcome.Rollback tr g || handed_over tr g))) ≡ true
     by_test true k = absurd (cc)
     by_test false k = l
 live_kept tr (Decided h Outcome.Rollback) g r c k l = by_test (gtrid_eq h g) k
   where
-    by_test : (t : Bool) → (not t && claimed tr g) ≡ true → (begun tr g && not (decided_so Outcome.Commit tr g || ((t || decided_so Outcome.Rollback tr g) || handed_over tr g))) ≡ true
+    by_test : (t : Bool) → (not t && claimed tr g) ≡ true
+        → (begun tr g && not (decided_so Outcome.Commit tr g || ((t || decided_so Outcome.Rollback tr g) || handed_over tr g))) ≡ true
     by_test true k = absurd (cc)
     by_test false k = l
-live_kept tr (ResolvedOpen n) g r c k l = spared _ (begun tr g) (claimed tr g) (decided_so Outcome.Commit tr g) (decided_so Outcome.Rollback tr g) (handed_over tr g) c l
+live_kept tr (ResolvedOpen n) g r c k l =
+    spared _ (begun tr g) (claimed tr g) (decided_so Outcome.Commit tr g) (decided_so Outcome.Rollback tr g) (handed_over tr g) c l
 live_kept tr (Crashed Part.Manager) g r c k l = absurd (cc)
 live_kept tr (Failed f) g r c k l = absurd (cc)
 live_kept tr (Restarted i d n) g r c k l = absurd (cc)
@@ -168,10 +178,12 @@ pub told_kept : (tr : Trace) (e : Happening) (test : Call → Answer → Bool) �
 told_kept tr (Heard l c a) test h = or_right _ _ h
 told_kept tr _ test h = h
 
-pub told_new : (tr : Trace) (e : Happening) (test : Call → Answer → Bool) → told (Then tr e) test ≡ true → (told tr test ≡ true) ⊎ ((l : Line) × (c : Call) × (a : Answer) × (e ≡ Heard l c a) × (test c a ≡ true))
+pub told_new : (tr : Trace) (e : Happening) (test : Call → Answer → Bool) → told (Then tr e) test ≡ true
+    → (told tr test ≡ true) ⊎ ((l : Line) × (c : Call) × (a : Answer) × (e ≡ Heard l c a) × (test c a ≡ true))
 told_new tr (Heard l c a) test h = new_case (test c a) refl h
   where
-    new_case : (t : Bool) → test c a ≡ t → (t || told tr test) ≡ true → (told tr test ≡ true) ⊎ ((m : Line) × (d : Call) × (b : Answer) × (Heard l c a ≡ Heard m d b) × (test d b ≡ true))
+    new_case : (t : Bool) → test c a ≡ t → (t || told tr test) ≡ true
+        → (told tr test ≡ true) ⊎ ((m : Line) × (d : Call) × (b : Answer) × (Heard l c a ≡ Heard m d b) × (test d b ≡ true))
     new_case true s h = inr (l, c, a, refl, s)
     new_case false s h = inl h
 told_new tr _ test h = inl h

@@ -43,7 +43,8 @@ not_known_kept tr e b inv r f = record {
 pub ended_kept : (tr : Trace) (e : Happening) (b : Branch) (f : Standing) → Inv tr → Right tr e → IsEnded f → standing tr b ≡ f → standing (Then tr e) b ≡ f
 ended_kept tr e b f inv r h q = ended_moves tr b _ _ (step_move tr e b inv r) (subst IsEnded (sym q) h) ∙ q
 
-pub heuristic_kept : (tr : Trace) (e : Happening) (b : Branch) (how : How) → Inv tr → Right tr e → IsHeuristic how (standing tr b) → IsHeuristic how (standing (Then tr e) b)
+pub heuristic_kept : (tr : Trace) (e : Happening) (b : Branch) (how : How) → Inv tr → Right tr e → IsHeuristic how (standing tr b)
+    → IsHeuristic how (standing (Then tr e) b)
 heuristic_kept tr e b how inv r h = heuristic_moves tr b how _ _ (step_move tr e b inv r) h
 
 pub heuristic_fact_kept : (tr : Trace) (e : Happening) (b : Branch) (how : How) → Inv tr → Right tr e → HeuristicFact tr b how → HeuristicFact (Then tr e) b how
@@ -77,9 +78,12 @@ not_handed_kept tr e g r n h = false_unless _ (λ k. by_case (handed_new tr e g 
   where
     by_case : (handed_over tr g ≡ true) ⊎ ((l : Line) × (b : Branch) × (e ≡ Issued l (Calls.Commit b true)) × (b.gtrid ≡ g)) → ⊥
     by_case (inl k) = cc
-    by_case (inr k) = let q : Right tr (Issued k.0 (Calls.Commit k.1 true)) = subst (Right tr) k.2 r in let c = q.1 in let m = c.may_be in let lv = m.0.is_live in let w : live tr g ≡ true = sym (ap (live tr) k.3) ∙ lv in cc
+    by_case (inr k) =
+        let q : Right tr (Issued k.0 (Calls.Commit k.1 true)) = subst (Right tr) k.2 r in let c = q.1 in let m = c.may_be in
+        let lv = m.0.is_live in let w : live tr g ≡ true = sym (ap (live tr) k.3) ∙ lv in cc
 
-pub not_decided_kept : (tr : Trace) (e : Happening) (o : Outcome) (g : Gtrid) → Right tr e → live tr g ≡ false → decided_so o tr g ≡ false → decided_so o (Then tr e) g ≡ false
+pub not_decided_kept : (tr : Trace) (e : Happening) (o : Outcome) (g : Gtrid) → Right tr e → live tr g ≡ false
+    → decided_so o tr g ≡ false → decided_so o (Then tr e) g ≡ false
 not_decided_kept tr e o g r n h = false_unless _ (λ k. by_case (decided_new tr e o g k))
   where
     by_case : NewDecision tr e o g → ⊥
@@ -126,7 +130,8 @@ decided_voted tr g inv d = by_votes (d.votes refl)
     by_votes (inl v) = v
     by_votes (inr c) = inv.claimed_voted g c
 
-pub doubt_kept : (tr : Trace) (e : Happening) → Inv tr → Right tr e → (c : Change) → ((x : Row) → c ≡ AddRow x → ever tr x.gtrid ≡ true) → DoubtFact tr c → DoubtFact (Then tr e) c
+pub doubt_kept : (tr : Trace) (e : Happening) → Inv tr → Right tr e → (c : Change)
+    → ((x : Row) → c ≡ AddRow x → ever tr x.gtrid ≡ true) → DoubtFact tr c → DoubtFact (Then tr e) c
 doubt_kept tr e inv r (AddRow x) v f = (row_fact_kept tr e x.gtrid inv r (v x refl) f.0, covers_kept tr e x.participants x.gtrid r f.0.closed f.1)
 doubt_kept tr e inv r (DropRow g) v f = (closed_kept tr e g r f.0, all_settled_kept tr e g r f.0 f.1)
 doubt_kept tr e inv r (AddRecord x) v f = heuristic_fact_kept tr e x.branch x.how inv r f

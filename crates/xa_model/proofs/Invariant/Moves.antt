@@ -40,12 +40,14 @@ prepare_move tr b Votes.Yes n = Prepares
 prepare_move tr b Votes.ReadOnly n = Only_reads
 prepare_move tr b (Votes.No c) n = Refuses
 
-one_phase_move : (tr : Trace) (b : Branch) (v : Vote) (n : ℕ) → handed_over tr b.gtrid ≡ true → Move tr b Idle (moved Idle OnePhase (answer OnePhase (state_of Idle) v n))
+one_phase_move : (tr : Trace) (b : Branch) (v : Vote) (n : ℕ) → handed_over tr b.gtrid ≡ true
+    → Move tr b Idle (moved Idle OnePhase (answer OnePhase (state_of Idle) v n))
 one_phase_move tr b Votes.Yes n h = In_one_phase h
 one_phase_move tr b Votes.ReadOnly n h = In_one_phase h
 one_phase_move tr b (Votes.No c) n h = Refuses
 
-commit_move : (tr : Trace) (b : Branch) (v : Vote) (n : ℕ) → had_row tr b.gtrid ≡ true → Move tr b Prepared (moved Prepared Commit (answer Commit (state_of Prepared) v n))
+commit_move : (tr : Trace) (b : Branch) (v : Vote) (n : ℕ) → had_row tr b.gtrid ≡ true
+    → Move tr b Prepared (moved Prepared Commit (answer Commit (state_of Prepared) v n))
 commit_move tr b v zero h = Commits h
 commit_move tr b v (suc n) h = Stays Prepared
 
@@ -60,7 +62,8 @@ TakenFact tr Commit b f = had_row tr b.gtrid ≡ true
 TakenFact tr Rollback b f = Closed tr b.gtrid × (started tr b ≡ true → ever tr b.gtrid ≡ true → IsAtRest f)
 TakenFact tr Forget b f = recorded tr b ≡ true
 
-pub taken_move : (tr : Trace) (b : Branch) (f : Standing) (k : Kind) (v : Vote) (n : ℕ) → TakenFact tr k b f → Move tr b f (moved f k (answer k (state_of f) v n))
+pub taken_move : (tr : Trace) (b : Branch) (f : Standing) (k : Kind) (v : Vote) (n : ℕ) → TakenFact tr k b f
+    → Move tr b f (moved f k (answer k (state_of f) v n))
 taken_move tr b Unstarted Start v n h = Starts h.0
 taken_move tr b Active Start v n h = cc (h.1)
 taken_move tr b Idle Start v n h = cc (h.1)
@@ -142,7 +145,8 @@ rest_moves tr b f g Prepares h = absurd h
 rest_moves tr b f g _ h = tt
 
 -- a good branch stays good, unless it is rolled back, which needs a closed transaction that never had a row
-pub good_moves : (tr : Trace) (b : Branch) (f g : Standing) → Move tr b f g → started tr b ≡ true → (Closed tr b.gtrid → ever tr b.gtrid ≡ true) → IsGood f → IsGood g
+pub good_moves : (tr : Trace) (b : Branch) (f g : Standing) → Move tr b f g → started tr b ≡ true
+    → (Closed tr b.gtrid → ever tr b.gtrid ≡ true) → IsGood f → IsGood g
 good_moves tr b f g (Stays x) s e h = h
 good_moves tr b f g (Starts p) s e h = absurd h
 good_moves tr b f g Ends s e h = absurd h
@@ -168,13 +172,15 @@ unstarted_moves tr b f g (Rolls_back RollbackOnly c p q) s e = cc
 unstarted_moves tr b f g (Rolls_back _ c p q) s e = absurd c
 unstarted_moves tr b f g _ s e = cc
 
-pub committed_moves : (tr : Trace) (b : Branch) (f g : Standing) → Move tr b f g → g ≡ Committed → (f ≡ Committed) ⊎ ((had_row tr b.gtrid ≡ true) ⊎ (handed_over tr b.gtrid ≡ true))
+pub committed_moves : (tr : Trace) (b : Branch) (f g : Standing) → Move tr b f g → g ≡ Committed
+    → (f ≡ Committed) ⊎ ((had_row tr b.gtrid ≡ true) ⊎ (handed_over tr b.gtrid ≡ true))
 committed_moves tr b f g (Stays x) e = inl e
 committed_moves tr b f g (In_one_phase p) e = inr (inr p)
 committed_moves tr b f g (Commits p) e = inr (inl p)
 committed_moves tr b f g _ e = cc
 
-pub forgotten_moves : (tr : Trace) (b : Branch) (f g : Standing) (how : How) → Move tr b f g → g ≡ Forgotten how → (f ≡ Forgotten how) ⊎ ((f ≡ Completed how) × (recorded tr b ≡ true))
+pub forgotten_moves : (tr : Trace) (b : Branch) (f g : Standing) (how : How) → Move tr b f g → g ≡ Forgotten how
+    → (f ≡ Forgotten how) ⊎ ((f ≡ Completed how) × (recorded tr b ≡ true))
 forgotten_moves tr b f g how (Stays x) e = inl e
 forgotten_moves tr b f g how (Forgets h p) e = inr (cc, p)
 forgotten_moves tr b f g how _ e = cc

@@ -63,7 +63,8 @@ no_heuristic_end : (t : Bool) (how : How) → Codes.Heuristic how ≡ answer (En
 no_heuristic_end true how e = cc
 no_heuristic_end false how e = cc
 
-heuristic_answer : (f : Standing) (k : Kind) (v : Vote) (n : ℕ) (how : How) → Codes.Heuristic how ≡ answer k (state_of f) v n → IsHeuristic how (moved f k (Codes.Heuristic how))
+heuristic_answer : (f : Standing) (k : Kind) (v : Vote) (n : ℕ) (how : How) → Codes.Heuristic how ≡ answer k (state_of f) v n
+    → IsHeuristic how (moved f k (Codes.Heuristic how))
 heuristic_answer (Completed h) Commit v n how e = cc
 heuristic_answer (Completed h) OnePhase v n how e = cc
 heuristic_answer (Completed h) Rollback v n how e = cc
@@ -123,15 +124,20 @@ quiet_forget : (s : State) (v : Vote) (n : ℕ) (how : How) → Codes.Heuristic 
 quiet_forget (S5 h) v n how e = cc
 quiet_forget _ v n how e = cc
 
-heuristic_new : (tr : Trace) (l : Line) (k : Kind) (b : Branch) (how : How) → Right tr (Took l (on k b) (Ret (Codes.Heuristic how))) → Closed tr b.gtrid → IsHeuristic how (standing (Then tr (Took l (on k b) (Ret (Codes.Heuristic how)))) b) → HeuristicFact (Then tr (Took l (on k b) (Ret (Codes.Heuristic how)))) b how
+heuristic_new : (tr : Trace) (l : Line) (k : Kind) (b : Branch) (how : How)
+    → Right tr (Took l (on k b) (Ret (Codes.Heuristic how))) → Closed tr b.gtrid
+    → IsHeuristic how (standing (Then tr (Took l (on k b) (Ret (Codes.Heuristic how)))) b)
+    → HeuristicFact (Then tr (Took l (on k b) (Ret (Codes.Heuristic how)))) b how
 heuristic_new tr l k b how r c h = record { heuristic = h; closed = closed_kept tr (Took l (on k b) (Ret (Codes.Heuristic how))) b.gtrid r c }
 
 pub answer_new : (tr : Trace) (l : Line) (c : Call) (a : Answer) → Inv tr → Right tr (Took l c a) → AnswerFact (Then tr (Took l c a)) c a
 answer_new tr l (Calls.Prepare b) (Ret Codes.Success) inv r =
     let p = good_begun _ (sym (took_standing tr l Prepare b Codes.Success) ∙ prepare_fine (standing tr b) _ _ (code_of r.1)) in
     record { has_begun = p.0; good = λ v. p.1 }
-answer_new tr l (Calls.Prepare b) (Ret Codes.ReadOnly) inv r = sym (took_standing tr l Prepare b Codes.ReadOnly) ∙ prepare_only (standing tr b) _ _ (code_of r.1)
-answer_new tr l (Calls.Commit b false) (Ret Codes.Success) inv r = sym (took_standing tr l Commit b Codes.Success) ∙ commit_fine (standing tr b) _ _ (code_of r.1)
+answer_new tr l (Calls.Prepare b) (Ret Codes.ReadOnly) inv r =
+    sym (took_standing tr l Prepare b Codes.ReadOnly) ∙ prepare_only (standing tr b) _ _ (code_of r.1)
+answer_new tr l (Calls.Commit b false) (Ret Codes.Success) inv r =
+    sym (took_standing tr l Commit b Codes.Success) ∙ commit_fine (standing tr b) _ _ (code_of r.1)
 answer_new tr l (Calls.Commit b false) (Ret Codes.NotAnXid) inv r =
     let w = inv.waiting l Commit b (front_waits tr l (Calls.Commit b false) r.0) in
     let f = inv.rows b.gtrid w in
@@ -143,9 +149,12 @@ answer_new tr l (Calls.Start b false) (Ret (Codes.Heuristic how)) inv r = absurd
 answer_new tr l (Calls.Start b true) (Ret (Codes.Heuristic how)) inv r = absurd (quiet_join (state_of (standing tr b)) _ _ how (code_of r.1))
 answer_new tr l (Calls.End b t) (Ret (Codes.Heuristic how)) inv r = absurd (quiet_end (state_of (standing tr b)) t _ _ how (code_of r.1))
 answer_new tr l (Calls.Prepare b) (Ret (Codes.Heuristic how)) inv r = absurd (quiet_prepare (state_of (standing tr b)) _ _ how (code_of r.1))
-answer_new tr l (Calls.Commit b false) (Ret (Codes.Heuristic how)) inv r = heuristic_new tr l Commit b how r ((inv.rows b.gtrid (inv.waiting l Commit b (front_waits tr l (Calls.Commit b false) r.0))).closed) (subst (IsHeuristic how) (took_standing tr l Commit b (Codes.Heuristic how)) (heuristic_answer (standing tr b) Commit _ _ how (code_of r.1)))
-answer_new tr l (Calls.Commit b true) (Ret (Codes.Heuristic how)) inv r = heuristic_new tr l OnePhase b how r (closed_handed tr b.gtrid inv (inv.waiting l OnePhase b (front_waits tr l (Calls.Commit b true) r.0))) (subst (IsHeuristic how) (took_standing tr l OnePhase b (Codes.Heuristic how)) (heuristic_answer (standing tr b) OnePhase _ _ how (code_of r.1)))
-answer_new tr l (Calls.Rollback b) (Ret (Codes.Heuristic how)) inv r = heuristic_new tr l Rollback b how r ((inv.waiting l Rollback b (front_waits tr l (Calls.Rollback b) r.0)).closed) (subst (IsHeuristic how) (took_standing tr l Rollback b (Codes.Heuristic how)) (heuristic_answer (standing tr b) Rollback _ _ how (code_of r.1)))
+answer_new tr l (Calls.Commit b false) (Ret (Codes.Heuristic how)) inv r =
+    heuristic_new tr l Commit b how r ((inv.rows b.gtrid (inv.waiting l Commit b (front_waits tr l (Calls.Commit b false) r.0))).closed) (subst (IsHeuristic how) (took_standing tr l Commit b (Codes.Heuristic how)) (heuristic_answer (standing tr b) Commit _ _ how (code_of r.1)))
+answer_new tr l (Calls.Commit b true) (Ret (Codes.Heuristic how)) inv r =
+    heuristic_new tr l OnePhase b how r (closed_handed tr b.gtrid inv (inv.waiting l OnePhase b (front_waits tr l (Calls.Commit b true) r.0))) (subst (IsHeuristic how) (took_standing tr l OnePhase b (Codes.Heuristic how)) (heuristic_answer (standing tr b) OnePhase _ _ how (code_of r.1)))
+answer_new tr l (Calls.Rollback b) (Ret (Codes.Heuristic how)) inv r =
+    heuristic_new tr l Rollback b how r ((inv.waiting l Rollback b (front_waits tr l (Calls.Rollback b) r.0)).closed) (subst (IsHeuristic how) (took_standing tr l Rollback b (Codes.Heuristic how)) (heuristic_answer (standing tr b) Rollback _ _ how (code_of r.1)))
 answer_new tr l (Calls.Forget b) (Ret (Codes.Heuristic how)) inv r = absurd (quiet_forget (state_of (standing tr b)) _ _ how (code_of r.1))
 answer_new tr l (Calls.Recover n s t) (Page names) inv r = page_started tr l.rm n s names inv r.1
 answer_new tr l Calls.OpenRm (Ret (Codes.Heuristic how)) inv r = tt

@@ -33,7 +33,9 @@ pub row_fact_ever : (tr : Trace) (g : Gtrid) → Inv tr → ever tr g ≡ true �
 row_fact_ever tr g inv e = by_case (or_here _ _ e)
   where
     by_case : (adds_row (doubt tr) g ≡ true) ⊎ (had_row tr g ≡ true) → RowFact tr g
-    by_case (inl h) = let a = adds_row-true (doubt tr) g h in let f : DoubtFact tr (AddRow a.added) = subst (λ x. DoubtFact tr x) a.is inv.in_doubt in subst (RowFact tr) a.of f.0
+    by_case (inl h) =
+        let a = adds_row-true (doubt tr) g h in
+        let f : DoubtFact tr (AddRow a.added) = subst (λ x. DoubtFact tr x) a.is inv.in_doubt in subst (RowFact tr) a.of f.0
     by_case (inr h) = inv.rows g h
 
 at_rest_of_heuristic : (how : How) (f : Standing) → IsHeuristic how f → IsAtRest f
@@ -85,7 +87,8 @@ front_waits tr l c h = record { place = length (taken tr l); not_taken = omega a
 pub code_of : {x y : Code} → ◌≡◌ {A = Answer} (Ret x) (Ret y) → x ≡ y
 code_of e = cc
 
-took_move : (tr : Trace) (b c : Branch) (k : Kind) (a : Code) → c ≡ b → TakenFact tr k c (standing tr c) → a ≡ answer k (state_of (standing tr c)) (vote tr c) (retries tr c) → Move tr b (standing tr b) (moved (standing tr b) k a)
+took_move : (tr : Trace) (b c : Branch) (k : Kind) (a : Code) → c ≡ b → TakenFact tr k c (standing tr c)
+    → a ≡ answer k (state_of (standing tr c)) (vote tr c) (retries tr c) → Move tr b (standing tr b) (moved (standing tr b) k a)
 took_move tr b c k a e t r =
     let m = taken_move tr c (standing tr c) k (vote tr c) (retries tr c) t in
     let n : Move tr c (standing tr c) (moved (standing tr c) k a) = subst (λ x. Move tr c (standing tr c) (moved (standing tr c) k x)) (sym r) m in
@@ -94,7 +97,9 @@ took_move tr b c k a e t r =
 scripted_move : (tr : Trace) (b : Branch) (how : How) (f : Standing) → f ≡ Prepared → Move tr b f (completed f how)
 scripted_move tr b how f e = subst (λ x. Move tr b x (completed x how)) (sym e) (Completes how)
 
-took_or_stays : (tr : Trace) (l : Line) (k : Kind) (c : Branch) (a : Code) (b : Branch) → Inv tr → next_call tr l ≡ Some (on k c) → a ≡ answer k (state_of (standing tr c)) (vote tr c) (retries tr c) → (t : Bool) → branch_eq c b ≡ t → Move tr b (standing tr b) (if t then moved (standing tr b) k a else standing tr b)
+took_or_stays : (tr : Trace) (l : Line) (k : Kind) (c : Branch) (a : Code) (b : Branch) → Inv tr → next_call tr l ≡ Some (on k c)
+    → a ≡ answer k (state_of (standing tr c)) (vote tr c) (retries tr c) → (t : Bool) → branch_eq c b ≡ t
+    → Move tr b (standing tr b) (if t then moved (standing tr b) k a else standing tr b)
 took_or_stays tr l k c a b inv h r true s = took_move tr b c k a (branch_eq-true c b s) (taken_fact tr l k c inv (front_waits tr l (on k c) h)) r
 took_or_stays tr l k c a b inv h r false s = Stays (standing tr b)
 
@@ -151,7 +156,8 @@ started_back tr e b r n s = by_case (started_new tr e b s)
   where
     by_case : (started tr b ≡ true) ⊎ NewBranch e b → started tr b ≡ true
     by_case (inl h) = h
-    by_case (inr h) = let q : Right tr (Issued h.0 (on h.1 b)) = subst (Right tr) h.2 r in let lv = starting_live tr h.1 b h.3 (right_on tr h.0 h.1 b q.1).may_be in cc
+    by_case (inr h) =
+        let q : Right tr (Issued h.0 (on h.1 b)) = subst (Right tr) h.2 r in let lv = starting_live tr h.1 b h.3 (right_on tr h.0 h.1 b q.1).may_be in cc
 
 -- nor does a claimed one
 pub started_unclaimed : (tr : Trace) (e : Happening) (b : Branch) → Right tr e → claimed tr b.gtrid ≡ true → started (Then tr e) b ≡ true → started tr b ≡ true
@@ -159,7 +165,9 @@ started_unclaimed tr e b r n s = by_case (started_new tr e b s)
   where
     by_case : (started tr b ≡ true) ⊎ NewBranch e b → started tr b ≡ true
     by_case (inl h) = h
-    by_case (inr h) = let q : Right tr (Issued h.0 (on h.1 b)) = subst (Right tr) h.2 r in let u = starting_unclaimed tr h.1 b h.3 (right_on tr h.0 h.1 b q.1).may_be in absurd (cc)
+    by_case (inr h) =
+        let q : Right tr (Issued h.0 (on h.1 b)) = subst (Right tr) h.2 r in
+        let u = starting_unclaimed tr h.1 b h.3 (right_on tr h.0 h.1 b q.1).may_be in absurd (cc)
 
 pub fixed_back : (tr : Trace) (e : Happening) (b : Branch) → Right tr e → IsFixed tr b → started (Then tr e) b ≡ true → started tr b ≡ true
 fixed_back tr e b r (inl h) s = h

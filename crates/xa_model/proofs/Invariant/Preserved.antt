@@ -26,7 +26,8 @@ use Rattle.xa_model.proofs.Invariant.PreservedRows.{begun_old_after, started_old
 
 -- ** answers
 
-answered_after : (tr : Trace) (e : Happening) (l : Line) (k : ℕ) (c : Call) (a : Answer) → Inv tr → Right tr e → slice_get (taken (Then tr e) l) k ≡ Some (c, a) → AnswerFact (Then tr e) c a
+answered_after : (tr : Trace) (e : Happening) (l : Line) (k : ℕ) (c : Call) (a : Answer) → Inv tr → Right tr e
+    → slice_get (taken (Then tr e) l) k ≡ Some (c, a) → AnswerFact (Then tr e) c a
 answered_after tr e l k c a inv r h = by_case (taken_back tr e l k c a h)
   where
     by_case : NewTaken tr e l k c a → AnswerFact (Then tr e) c a
@@ -35,7 +36,8 @@ answered_after tr e l k c a inv r h = by_case (taken_back tr e l k c a h)
 
 -- what an answer that is heard says
 heard_fact : (tr : Trace) (e : Happening) (l : Line) (c : Call) (a : Answer) → Inv tr → Right tr e → e ≡ Heard l c a → AnswerFact (Then tr e) c a
-heard_fact tr e l c a inv r q = let h : Right tr (Heard l c a) = subst (Right tr) q r in answer_kept tr e c a inv r (inv.answered l (length (heard tr l)) c a h.1)
+heard_fact tr e l c a inv r q =
+    let h : Right tr (Heard l c a) = subst (Right tr) q r in answer_kept tr e c a inv r (inv.answered l (length (heard tr l)) c a h.1)
 
 yes_test : (tr : Trace) (b : Branch) (c : Call) (a : Answer) → says_yes b c a ≡ true → AnswerFact tr c a → YesFact tr b
 yes_test tr b (Calls.Prepare d) (Ret Codes.Success) t h = subst (YesFact tr) (branch_eq-true d b t) h
@@ -59,11 +61,13 @@ committed_ack tr b inv h = record { is_fixed = inl (by_test (started tr b) refl)
 
 ack_now : (tr : Trace) (b : Branch) (c : Call) (a : Answer) → Inv tr → acknowledges b c a ≡ true → AnswerFact tr c a → AckFact tr b
 ack_now tr b (Calls.Commit d false) (Ret Codes.Success) inv t h = committed_ack tr b inv (subst (λ x. standing tr x ≡ Committed) (branch_eq-true d b t) h)
-ack_now tr b (Calls.Commit d false) (Ret Codes.NotAnXid) inv t h = let f = subst (NotKnownFact tr) (branch_eq-true d b t) h in record { is_fixed = inr f.closed; at_rest = f.at_rest }
+ack_now tr b (Calls.Commit d false) (Ret Codes.NotAnXid) inv t h =
+    let f = subst (NotKnownFact tr) (branch_eq-true d b t) h in record { is_fixed = inr f.closed; at_rest = f.at_rest }
 ack_now tr b _ _ inv t h = cc
 
 ack_kept : (tr : Trace) (e : Happening) (b : Branch) → Inv tr → Right tr e → AckFact tr b → AckFact (Then tr e) b
-ack_kept tr e b inv r f = record { is_fixed = fixed_kept tr e b r f.is_fixed; at_rest = λ s. rest_moves tr b _ _ (step_move tr e b inv r) (f.at_rest (fixed_back tr e b r f.is_fixed s)) }
+ack_kept tr e b inv r f =
+    record { is_fixed = fixed_kept tr e b r f.is_fixed; at_rest = λ s. rest_moves tr b _ _ (step_move tr e b inv r) (f.at_rest (fixed_back tr e b r f.is_fixed s)) }
 
 voted_yes_after : (tr : Trace) (e : Happening) (b : Branch) → Inv tr → Right tr e → told (Then tr e) (says_yes b) ≡ true → YesFact (Then tr e) b
 voted_yes_after tr e b inv r h = by_case (told_new tr e (says_yes b) h)
@@ -72,19 +76,24 @@ voted_yes_after tr e b inv r h = by_case (told_new tr e (says_yes b) h)
     by_case (inl k) = yes_kept tr e b inv r (inv.voted_yes b k)
     by_case (inr k) = yes_test (Then tr e) b k.1 k.2 k.4 (heard_fact tr e k.0 k.1 k.2 inv r k.3)
 
-voted_read_only_after : (tr : Trace) (e : Happening) (b : Branch) → Inv tr → Right tr e → told (Then tr e) (says_read_only b) ≡ true → standing (Then tr e) b ≡ ReadOnly
+voted_read_only_after : (tr : Trace) (e : Happening) (b : Branch) → Inv tr → Right tr e
+    → told (Then tr e) (says_read_only b) ≡ true → standing (Then tr e) b ≡ ReadOnly
 voted_read_only_after tr e b inv r h = by_case (told_new tr e (says_read_only b) h)
   where
-    by_case : (told tr (says_read_only b) ≡ true) ⊎ ((l : Line) × (c : Call) × (a : Answer) × (e ≡ Heard l c a) × (says_read_only b c a ≡ true)) → standing (Then tr e) b ≡ ReadOnly
+    by_case : (told tr (says_read_only b) ≡ true) ⊎ ((l : Line) × (c : Call) × (a : Answer) × (e ≡ Heard l c a) × (says_read_only b c a ≡ true))
+        → standing (Then tr e) b ≡ ReadOnly
     by_case (inl k) = ended_kept tr e b ReadOnly inv r tt (inv.voted_read_only b k)
     by_case (inr k) = read_only_test (Then tr e) b k.1 k.2 k.4 (heard_fact tr e k.0 k.1 k.2 inv r k.3)
 
 acknowledged_after : (tr : Trace) (e : Happening) (b : Branch) → Inv tr → Right tr e → told (Then tr e) (acknowledges b) ≡ true → AckFact (Then tr e) b
 acknowledged_after tr e b inv r h = by_case (told_new tr e (acknowledges b) h)
   where
-    by_case : (told tr (acknowledges b) ≡ true) ⊎ ((l : Line) × (c : Call) × (a : Answer) × (e ≡ Heard l c a) × (acknowledges b c a ≡ true)) → AckFact (Then tr e) b
+    by_case : (told tr (acknowledges b) ≡ true) ⊎ ((l : Line) × (c : Call) × (a : Answer) × (e ≡ Heard l c a) × (acknowledges b c a ≡ true))
+        → AckFact (Then tr e) b
     by_case (inl k) = ack_kept tr e b inv r (record { is_fixed = inv.acknowledged_fixed b k; at_rest = inv.acknowledged b k })
-    by_case (inr k) = let h' : Right tr (Heard k.0 k.1 k.2) = subst (Right tr) k.3 r in ack_kept tr e b inv r (ack_now tr b k.1 k.2 inv k.4 (inv.answered k.0 (length (heard tr k.0)) k.1 k.2 h'.1))
+    by_case (inr k) =
+        let h' : Right tr (Heard k.0 k.1 k.2) = subst (Right tr) k.3 r in
+        ack_kept tr e b inv r (ack_now tr b k.1 k.2 inv k.4 (inv.answered k.0 (length (heard tr k.0)) k.1 k.2 h'.1))
 
 -- ** the record
 
@@ -94,27 +103,34 @@ pub record RecordFact (tr : Trace) (b : Branch) (how : How) : Type 0 where
   pub heuristic : started tr b ≡ true → IsHeuristic how (standing tr b)
 
 record_kept : (tr : Trace) (e : Happening) (b : Branch) (how : How) → Inv tr → Right tr e → RecordFact tr b how → RecordFact (Then tr e) b how
-record_kept tr e b how inv r f = record { closed = closed_kept tr e b.gtrid r f.closed; heuristic = λ s. heuristic_kept tr e b how inv r (f.heuristic (started_back tr e b r f.closed.not_live s)) }
+record_kept tr e b how inv r f =
+    record { closed = closed_kept tr e b.gtrid r f.closed; heuristic = λ s. heuristic_kept tr e b how inv r (f.heuristic (started_back tr e b r f.closed.not_live s)) }
 
 heuristic_record_fact : (tr : Trace) (b : Branch) (how : How) → HeuristicFact tr b how → RecordFact tr b how
 heuristic_record_fact tr b how h = record { closed = h.closed; heuristic = λ s. h.heuristic }
 
 -- the parts of a record
-same_record : (tr : Trace) (d b : Branch) (k how : How) → AddRecord (record { branch = d; how = k }) ≡ AddRecord (record { branch = b; how = how }) → HeuristicFact tr d k → HeuristicFact tr b how
-same_record tr d b k how q h = let p : record { branch = d; how = k } ≡ record { branch = b; how = how } = cc in subst (λ (x : Recorded). HeuristicFact tr x.branch x.how) p h
+same_record : (tr : Trace) (d b : Branch) (k how : How)
+    → AddRecord (record { branch = d; how = k }) ≡ AddRecord (record { branch = b; how = how }) → HeuristicFact tr d k → HeuristicFact tr b how
+same_record tr d b k how q h =
+    let p : record { branch = d; how = k } ≡ record { branch = b; how = how } = cc in subst (λ (x : Recorded). HeuristicFact tr x.branch x.how) p h
 
-answer_record : (tr : Trace) (b : Branch) (how : How) (c : Call) (a : Answer) → record_of c a ≡ AddRecord (record { branch = b; how = how }) → AnswerFact tr c a → HeuristicFact tr b how
+answer_record : (tr : Trace) (b : Branch) (how : How) (c : Call) (a : Answer)
+    → record_of c a ≡ AddRecord (record { branch = b; how = how }) → AnswerFact tr c a → HeuristicFact tr b how
 answer_record tr b how (Calls.Commit d false) (Ret (Codes.Heuristic k)) q h = same_record tr d b k how q h
 answer_record tr b how (Calls.Commit d true) (Ret (Codes.Heuristic k)) q h = same_record tr d b k how q h
 answer_record tr b how (Calls.Rollback d) (Ret (Codes.Heuristic k)) q h = same_record tr d b k how q h
 answer_record tr b how _ _ q h = absurd (cc)
 
-recorded_after : (tr : Trace) (e : Happening) (b : Branch) (how : How) → Inv tr → Right tr e → recorded_as (Then tr e) b ≡ Some how → RecordFact (Then tr e) b how
+recorded_after : (tr : Trace) (e : Happening) (b : Branch) (how : How) → Inv tr → Right tr e
+    → recorded_as (Then tr e) b ≡ Some how → RecordFact (Then tr e) b how
 recorded_after tr e b how inv r h = record_kept tr e b how inv r (by_case (recorded_new tr e b how h))
   where
     by_case : NewRecord tr e b how → RecordFact tr b how
     by_case (Had_record k) = record { closed = inv.recorded_closed b (has_of (heuristic_rows tr) b how k); heuristic = inv.heuristic b how k }
-    by_case (By_answer l c a q k) = let h' : Right tr (Heard l c a) = subst (Right tr) q r in heuristic_record_fact tr b how (answer_record tr b how c a k (inv.answered l (length (heard tr l)) c a h'.1))
+    by_case (By_answer l c a q k) =
+        let h' : Right tr (Heard l c a) = subst (Right tr) q r in
+        heuristic_record_fact tr b how (answer_record tr b how c a k (inv.answered l (length (heard tr l)) c a h'.1))
     by_case (By_doubt_too q) = heuristic_record_fact tr b how (subst (DoubtFact tr) q inv.in_doubt)
 
 recorded_closed_after : (tr : Trace) (e : Happening) (b : Branch) → Inv tr → Right tr e → recorded (Then tr e) b ≡ true → Closed (Then tr e) b.gtrid
@@ -131,7 +147,8 @@ forgets_recorded tr b how inv q r = by_test (started tr b) refl
     by_test true s = let p : how ≡ k.0 = subst (IsHeuristic k.0) q (inv.heuristic b k.0 k.1 s) in k.1 ∙ ap (λ x. Some x) (sym p)
     by_test false s = let u = inv.unstarted b s in absurd (cc)
 
-forgotten_after : (tr : Trace) (e : Happening) (b : Branch) (how : How) → Inv tr → Right tr e → standing (Then tr e) b ≡ Forgotten how → recorded_as (Then tr e) b ≡ Some how
+forgotten_after : (tr : Trace) (e : Happening) (b : Branch) (how : How) → Inv tr → Right tr e
+    → standing (Then tr e) b ≡ Forgotten how → recorded_as (Then tr e) b ≡ Some how
 forgotten_after tr e b how inv r f = recorded_as_kept tr e b how (by_case (forgotten_moves tr b _ _ how (step_move tr e b inv r) f))
   where
     by_case : (standing tr b ≡ Forgotten how) ⊎ ((standing tr b ≡ Completed how) × (recorded tr b ≡ true)) → recorded_as tr b ≡ Some how
@@ -140,7 +157,8 @@ forgotten_after tr e b how inv r f = recorded_as_kept tr e b how (by_case (forgo
 
 -- ** pages
 
-page_heard : (tr : Trace) (l : Line) (c : Call) (a : Answer) (r : ℕ) (x : Name) → Inv tr → Right tr (Heard l c a) → Lists (page_after (page tr r) (Heard l c a) r) x → IsStarted tr x
+page_heard : (tr : Trace) (l : Line) (c : Call) (a : Answer) (r : ℕ) (x : Name) → Inv tr → Right tr (Heard l c a)
+    → Lists (page_after (page tr r) (Heard l c a) r) x → IsStarted tr x
 page_heard tr l (Calls.Recover n s t) (Page names) r x inv rt h = by_line (line_eq l (line 0 r)) h
   where
     by_line : (u : Bool) → Lists (if u then names else page tr r) x → IsStarted tr x

@@ -49,7 +49,9 @@ started_old_after tr e b inv r s = by_case (started_new tr e b s)
   where
     by_case : (started tr b ≡ true) ⊎ NewBranch e b → Old (Then tr e) b.gtrid
     by_case (inl h) = old_kept tr e b.gtrid r (inv.started_old b h)
-    by_case (inr h) = let q : Right tr (Issued h.0 (on h.1 b)) = subst (Right tr) h.2 r in old_kept tr e b.gtrid r (inv.begun_old b.gtrid (live_begun tr b.gtrid (starting_live tr h.1 b h.3 (right_on tr h.0 h.1 b q.1).may_be)))
+    by_case (inr h) =
+        let q : Right tr (Issued h.0 (on h.1 b)) = subst (Right tr) h.2 r in
+        old_kept tr e b.gtrid r (inv.begun_old b.gtrid (live_begun tr b.gtrid (starting_live tr h.1 b h.3 (right_on tr h.0 h.1 b q.1).may_be)))
 
 pub decided_old_after : (tr : Trace) (e : Happening) (o : Outcome) (g : Gtrid) → Inv tr → Right tr e → decided_so o (Then tr e) g ≡ true → Old (Then tr e) g
 decided_old_after tr e o g inv r s = by_case (decided_new tr e o g s)
@@ -70,10 +72,12 @@ handed_old_after tr e g inv r s = by_case (handed_new tr e g s)
     by_case (inl h) = old_kept tr e g r (inv.handed_old g h)
     by_case (inr h) = let c = one_phase_call tr e h.0 h.1 r h.2 in old_kept tr e g r (subst (Old tr) h.3 (inv.begun_old _ (live_begun tr _ c.may_be.0.is_live)))
 
-one_phase_started : (tr : Trace) (e : Happening) (l : Line) (d b : Branch) → e ≡ Issued l (Calls.Commit d true) → started (Then tr e) b ≡ true → started tr b ≡ true
+one_phase_started : (tr : Trace) (e : Happening) (l : Line) (d b : Branch) → e ≡ Issued l (Calls.Commit d true)
+    → started (Then tr e) b ≡ true → started tr b ≡ true
 one_phase_started tr e l d b q s = subst (λ x. started (Then tr x) b ≡ true) q s
 
-pub handed_one_after : (tr : Trace) (e : Happening) (b c : Branch) → Inv tr → Right tr e → handed_over (Then tr e) b.gtrid ≡ true → c.gtrid ≡ b.gtrid → started (Then tr e) b ≡ true → started (Then tr e) c ≡ true → b ≡ c
+pub handed_one_after : (tr : Trace) (e : Happening) (b c : Branch) → Inv tr → Right tr e → handed_over (Then tr e) b.gtrid ≡ true
+    → c.gtrid ≡ b.gtrid → started (Then tr e) b ≡ true → started (Then tr e) c ≡ true → b ≡ c
 handed_one_after tr e b c inv r h q s t = by_case (handed_new tr e b.gtrid h)
   where
     by_case : (handed_over tr b.gtrid ≡ true) ⊎ ((l : Line) × (d : Branch) × (e ≡ Issued l (Calls.Commit d true)) × (d.gtrid ≡ b.gtrid)) → b ≡ c
@@ -90,14 +94,16 @@ not_started_before tr e b n = false_unless _ (λ s. let k = started_kept tr e b 
 pub unstarted_after : (tr : Trace) (e : Happening) (b : Branch) → Inv tr → Right tr e → started (Then tr e) b ≡ false → standing (Then tr e) b ≡ Unstarted
 unstarted_after tr e b inv r n = let m = not_started_before tr e b n in unstarted_moves tr b _ _ (step_move tr e b inv r) m (inv.unstarted b m)
 
-pub committed_after : (tr : Trace) (e : Happening) (b : Branch) → Inv tr → Right tr e → standing (Then tr e) b ≡ Committed → (had_row (Then tr e) b.gtrid ≡ true) ⊎ (handed_over (Then tr e) b.gtrid ≡ true)
+pub committed_after : (tr : Trace) (e : Happening) (b : Branch) → Inv tr → Right tr e → standing (Then tr e) b ≡ Committed
+    → (had_row (Then tr e) b.gtrid ≡ true) ⊎ (handed_over (Then tr e) b.gtrid ≡ true)
 committed_after tr e b inv r f = by_case (committed_moves tr b _ _ (step_move tr e b inv r) f)
   where
     kept : (had_row tr b.gtrid ≡ true) ⊎ (handed_over tr b.gtrid ≡ true) → (had_row (Then tr e) b.gtrid ≡ true) ⊎ (handed_over (Then tr e) b.gtrid ≡ true)
     kept (inl h) = inl (rowed_kept tr e b.gtrid h)
     kept (inr h) = inr (handed_kept tr e b.gtrid h)
 
-    by_case : (standing tr b ≡ Committed) ⊎ ((had_row tr b.gtrid ≡ true) ⊎ (handed_over tr b.gtrid ≡ true)) → (had_row (Then tr e) b.gtrid ≡ true) ⊎ (handed_over (Then tr e) b.gtrid ≡ true)
+    by_case : (standing tr b ≡ Committed) ⊎ ((had_row tr b.gtrid ≡ true) ⊎ (handed_over tr b.gtrid ≡ true))
+        → (had_row (Then tr e) b.gtrid ≡ true) ⊎ (handed_over (Then tr e) b.gtrid ≡ true)
     by_case (inl h) = kept (inv.committed b h)
     by_case (inr h) = kept h
 
@@ -119,7 +125,8 @@ no_longer_live b c d h false p q = cc
 
 decided_row_fact : (tr : Trace) (g : Gtrid) → Inv tr → RightDecision tr g Outcome.Commit → RowFact (Then tr (Decided g Outcome.Commit)) g
 decided_row_fact tr g inv d = record {
-  closed = record { old = inv.begun_old g (live_begun tr g d.is_live); not_live = false_unless _ (λ l. no_longer_live (begun tr g) (decided_so Outcome.Commit tr g) (decided_so Outcome.Rollback tr g) (handed_over tr g) _ (gtrid_eq-refl g) l) };
+  closed =
+      record { old = inv.begun_old g (live_begun tr g d.is_live); not_live = false_unless _ (λ l. no_longer_live (begun tr g) (decided_so Outcome.Commit tr g) (decided_so Outcome.Rollback tr g) (handed_over tr g) _ (gtrid_eq-refl g) l) };
   good = λ b q s. voted_good tr b inv (ap (live tr) q ∙ d.is_live) (decided_voted tr g inv d b q s);
   not_handed = not_handed_live tr g d.is_live;
   not_rolled_back = not_rolled_back_live tr g d.is_live;
@@ -157,7 +164,8 @@ row_settled_all tr g inv w (inr h) b q s = by_case (inv.covered g w b q s)
 done_settled : (tr : Trace) (g : Gtrid) → Inv tr → RightDone tr g → AllAreSettled tr g
 done_settled tr g inv d = row_settled_all tr g inv d.has d.is_settled
 
-pub row_left_after : (tr : Trace) (e : Happening) (g : Gtrid) → Inv tr → Right tr e → had_row (Then tr e) g ≡ true → has_row (Then tr e) g ≡ false → AllAreSettled (Then tr e) g
+pub row_left_after : (tr : Trace) (e : Happening) (g : Gtrid) → Inv tr → Right tr e → had_row (Then tr e) g ≡ true
+    → has_row (Then tr e) g ≡ false → AllAreSettled (Then tr e) g
 row_left_after tr e g inv r h n = by_case (rowed_new tr e g h)
   where
     by_loss : LeftRow tr e g → had_row tr g ≡ true → AllAreSettled tr g
@@ -187,7 +195,8 @@ in_filter test (x ∷ bs) b h t = by_place (or_here _ _ h) (in_filter test bs b)
     behind true k = or_right _ _ k
     behind false k = k
 
-    by_place : (branch_eq x b ≡ true) ⊎ (has_branch bs b ≡ true) → (has_branch bs b ≡ true → test b ≡ true → has_branch (filter test bs) b ≡ true) → has_branch (filter test (x ∷ bs)) b ≡ true
+    by_place : (branch_eq x b ≡ true) ⊎ (has_branch bs b ≡ true)
+        → (has_branch bs b ≡ true → test b ≡ true → has_branch (filter test bs) b ≡ true) → has_branch (filter test (x ∷ bs)) b ≡ true
     by_place (inl s) f = here (test x) refl (branch_eq-true x b s)
     by_place (inr s) f = behind (test x) (f s t)
 
@@ -208,7 +217,8 @@ row_for_covers tr g v b q s = by_vote (v b q s)
         and_both p k = (λ i. p i && k i)
     by_vote (inr h) = inr h
 
-pub covered_after : (tr : Trace) (e : Happening) (g : Gtrid) → Inv tr → Right tr e → has_row (Then tr e) g ≡ true → Covers (Then tr e) (participants (Then tr e) g) g
+pub covered_after : (tr : Trace) (e : Happening) (g : Gtrid) → Inv tr → Right tr e → has_row (Then tr e) g ≡ true
+    → Covers (Then tr e) (participants (Then tr e) g) g
 covered_after tr e g inv r h = by_case (row_back tr e g h)
   where
     by_case : RowNow tr e g → Covers (Then tr e) (participants (Then tr e) g) g
@@ -237,14 +247,17 @@ record_fact tr e l (Calls.Commit b true) (Ret (Codes.Heuristic how)) inv r h = h
 record_fact tr e l (Calls.Rollback b) (Ret (Codes.Heuristic how)) inv r h = heuristic_fact_kept tr e b how inv r h
 record_fact tr e l _ _ inv r h = tt
 
-next_fact : (tr : Trace) (e : Happening) (l : Line) → Inv tr → Right tr e → (o : Option (Call × Answer)) → next_answer tr l ≡ o → DoubtFact (Then tr e) (record_of_next o)
+next_fact : (tr : Trace) (e : Happening) (l : Line) → Inv tr → Right tr e → (o : Option (Call × Answer)) → next_answer tr l ≡ o
+    → DoubtFact (Then tr e) (record_of_next o)
 next_fact tr e l inv r (Some p) q = record_fact tr e l p.0 p.1 inv r (inv.answered l (length (heard tr l)) p.0 p.1 q)
 next_fact tr e l inv r None q = tt
 
 failed_decision : (tr : Trace) (g : Gtrid) → Inv tr → Right tr (Failed (InDecide g)) → RowFact (Then tr (Failed (InDecide g))) g
 failed_decision tr g inv r = record {
   closed = record { old = inv.begun_old g (live_begun tr g d.is_live); not_live = refl };
-  good = λ b q s. let l = ap (live tr) q ∙ d.is_live in good_moves tr b _ _ (step_move tr (Failed (InDecide g)) b inv r) s (λ c. absurd (not_both tr b.gtrid c l)) (voted_good tr b inv l (decided_voted tr g inv d b q s));
+  good = λ b q s. let l =
+      ap (live tr) q ∙ d.is_live
+      in good_moves tr b _ _ (step_move tr (Failed (InDecide g)) b inv r) s (λ c. absurd (not_both tr b.gtrid c l)) (voted_good tr b inv l (decided_voted tr g inv d b q s));
   not_handed = not_handed_live tr g d.is_live;
   not_rolled_back = not_rolled_back_live tr g d.is_live;
 }

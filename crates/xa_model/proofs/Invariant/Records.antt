@@ -15,7 +15,8 @@ pub how_of : (xs : List Recorded) (b : Branch) → has_record xs b ≡ true → 
 how_of [] b e = absurd (cc)
 how_of (x ∷ xs) b e = by_test (branch_eq x.branch b) e (how_of xs b)
   where
-    by_test : (t : Bool) → (t || has_record xs b) ≡ true → (has_record xs b ≡ true → (how : How) × (how_in xs b ≡ Some how)) → (how : How) × ((if t then Some x.how else how_in xs b) ≡ Some how)
+    by_test : (t : Bool) → (t || has_record xs b) ≡ true → (has_record xs b ≡ true → (how : How) × (how_in xs b ≡ Some how))
+        → (how : How) × ((if t then Some x.how else how_in xs b) ≡ Some how)
     by_test true e f = (x.how, refl)
     by_test false e f = f e
 
@@ -23,12 +24,14 @@ pub has_of : (xs : List Recorded) (b : Branch) (how : How) → how_in xs b ≡ S
 has_of [] b how e = cc
 has_of (x ∷ xs) b how e = by_test (branch_eq x.branch b) e (has_of xs b how)
   where
-    by_test : (t : Bool) → (if t then Some x.how else how_in xs b) ≡ Some how → (how_in xs b ≡ Some how → has_record xs b ≡ true) → (t || has_record xs b) ≡ true
+    by_test : (t : Bool) → (if t then Some x.how else how_in xs b) ≡ Some how → (how_in xs b ≡ Some how → has_record xs b ≡ true)
+        → (t || has_record xs b) ≡ true
     by_test true e f = refl
     by_test false e f = f e
 
 -- one record more leaves those of before, also of its own branch
-with_keeps : (x : Recorded) (b : Branch) (how : How) (t : Bool) (xs : List Recorded) → has_record xs x.branch ≡ t → how_in xs b ≡ Some how → how_in (if t then xs else x ∷ xs) b ≡ Some how
+with_keeps : (x : Recorded) (b : Branch) (how : How) (t : Bool) (xs : List Recorded) → has_record xs x.branch ≡ t
+    → how_in xs b ≡ Some how → how_in (if t then xs else x ∷ xs) b ≡ Some how
 with_keeps x b how true xs q e = e
 with_keeps x b how false xs q e = by_test (branch_eq x.branch b) refl
   where
@@ -39,11 +42,13 @@ with_keeps x b how false xs q e = by_test (branch_eq x.branch b) refl
 same_record : (x : Recorded) (b : Branch) (how : How) → x.branch ≡ b → x.how ≡ how → x ≡ record { branch = b; how = how }
 same_record x b how p q = λ i. record { branch = p i; how = q i }
 
-with_adds : (x : Recorded) (b : Branch) (how : How) (t : Bool) (xs : List Recorded) → how_in (if t then xs else x ∷ xs) b ≡ Some how → (how_in xs b ≡ Some how) ⊎ (x ≡ record { branch = b; how = how })
+with_adds : (x : Recorded) (b : Branch) (how : How) (t : Bool) (xs : List Recorded)
+    → how_in (if t then xs else x ∷ xs) b ≡ Some how → (how_in xs b ≡ Some how) ⊎ (x ≡ record { branch = b; how = how })
 with_adds x b how true xs e = inl e
 with_adds x b how false xs e = by_test (branch_eq x.branch b) refl e
   where
-    by_test : (t : Bool) → branch_eq x.branch b ≡ t → (if t then Some x.how else how_in xs b) ≡ Some how → (how_in xs b ≡ Some how) ⊎ (x ≡ record { branch = b; how = how })
+    by_test : (t : Bool) → branch_eq x.branch b ≡ t → (if t then Some x.how else how_in xs b) ≡ Some how
+        → (how_in xs b ≡ Some how) ⊎ (x ≡ record { branch = b; how = how })
     by_test true s e = inr (same_record x b how (branch_eq-true x.branch b s) (cc))
     by_test false s e = inl e
 
@@ -55,21 +60,25 @@ changed_keeps (AddRow g) b how xs e = e
 changed_keeps (DropRow g) b how xs e = e
 changed_keeps NoChange b how xs e = e
 
-changed_adds : (c : Change) (b : Branch) (how : How) (xs : List Recorded) → how_in (heuristics_changed c xs) b ≡ Some how → (how_in xs b ≡ Some how) ⊎ (c ≡ AddRecord (record { branch = b; how = how }))
+changed_adds : (c : Change) (b : Branch) (how : How) (xs : List Recorded) → how_in (heuristics_changed c xs) b ≡ Some how
+    → (how_in xs b ≡ Some how) ⊎ (c ≡ AddRecord (record { branch = b; how = how }))
 changed_adds (AddRecord x) b how xs e = by_place (with_adds x b how _ xs e)
   where
-    by_place : (how_in xs b ≡ Some how) ⊎ (x ≡ record { branch = b; how = how }) → (how_in xs b ≡ Some how) ⊎ (AddRecord x ≡ AddRecord (record { branch = b; how = how }))
+    by_place : (how_in xs b ≡ Some how) ⊎ (x ≡ record { branch = b; how = how })
+        → (how_in xs b ≡ Some how) ⊎ (AddRecord x ≡ AddRecord (record { branch = b; how = how }))
     by_place (inl s) = inl s
     by_place (inr s) = inr (ap (λ y. AddRecord y) s)
 changed_adds (AddRow g) b how xs e = inl e
 changed_adds (DropRow g) b how xs e = inl e
 changed_adds NoChange b how xs e = inl e
 
-restarted_keeps : (t : Bool) (c : Change) (b : Branch) (how : How) (xs : List Recorded) → how_in xs b ≡ Some how → how_in (if t then xs else heuristics_changed c xs) b ≡ Some how
+restarted_keeps : (t : Bool) (c : Change) (b : Branch) (how : How) (xs : List Recorded) → how_in xs b ≡ Some how
+    → how_in (if t then xs else heuristics_changed c xs) b ≡ Some how
 restarted_keeps true c b how xs e = e
 restarted_keeps false c b how xs e = changed_keeps c b how xs e
 
-restarted_adds : (t : Bool) (c : Change) (b : Branch) (how : How) (xs : List Recorded) → how_in (if t then xs else heuristics_changed c xs) b ≡ Some how → (how_in xs b ≡ Some how) ⊎ (c ≡ AddRecord (record { branch = b; how = how }))
+restarted_adds : (t : Bool) (c : Change) (b : Branch) (how : How) (xs : List Recorded)
+    → how_in (if t then xs else heuristics_changed c xs) b ≡ Some how → (how_in xs b ≡ Some how) ⊎ (c ≡ AddRecord (record { branch = b; how = how }))
 restarted_adds true c b how xs e = inl e
 restarted_adds false c b how xs e = changed_adds c b how xs e
 

@@ -17,7 +17,8 @@ pub or_map : (s a b : Bool) → (a ≡ true → b ≡ true) → (s || a) ≡ tru
 or_map true a b f e = refl
 or_map false a b f e = f e
 
-keep_step : (t : Bool) (x : Row) (g : Gtrid) (less rows : List Row) → (lists_row less g ≡ true → lists_row rows g ≡ true) → lists_row (if t then less else x ∷ less) g ≡ true → lists_row (x ∷ rows) g ≡ true
+keep_step : (t : Bool) (x : Row) (g : Gtrid) (less rows : List Row) → (lists_row less g ≡ true → lists_row rows g ≡ true)
+    → lists_row (if t then less else x ∷ less) g ≡ true → lists_row (x ∷ rows) g ≡ true
 keep_step true x g less rows f e = or_right _ _ (f e)
 keep_step false x g less rows f e = or_map (gtrid_eq x.gtrid g) _ _ f e
 
@@ -33,7 +34,8 @@ pub or_here : (s a : Bool) → (s || a) ≡ true → (s ≡ true) ⊎ (a ≡ tru
 or_here true a e = inl refl
 or_here false a e = inr e
 
-drop_step : (t : Bool) (h : Gtrid) (x : Row) (g : Gtrid) (less rows : List Row) → gtrid_eq x.gtrid h ≡ t → (lists_row rows g ≡ true → lists_row less g ≡ false → h ≡ g) → lists_row (x ∷ rows) g ≡ true → lists_row (if t then less else x ∷ less) g ≡ false → h ≡ g
+drop_step : (t : Bool) (h : Gtrid) (x : Row) (g : Gtrid) (less rows : List Row) → gtrid_eq x.gtrid h ≡ t
+    → (lists_row rows g ≡ true → lists_row less g ≡ false → h ≡ g) → lists_row (x ∷ rows) g ≡ true → lists_row (if t then less else x ∷ less) g ≡ false → h ≡ g
 drop_step true h x g less rows k f e n = by_place (or_here (gtrid_eq x.gtrid g) _ e)
   where
     by_place : (gtrid_eq x.gtrid g ≡ true) ⊎ (lists_row rows g ≡ true) → h ≡ g
@@ -74,7 +76,8 @@ decided_row : (x : Row) (g : Gtrid) (t : Bool) (rows : List Row) → gtrid_eq x.
 decided_row h g true rows s e = or_left _ _ s
 decided_row h g false rows s e = cc
 
-restarted_row : (g : Gtrid) (t : Bool) (c : Change) (rows : List Row) → not t ≡ true → adds_row c g ≡ true → lists_row (if t then rows else rows_changed c rows) g ≡ true
+restarted_row : (g : Gtrid) (t : Bool) (c : Change) (rows : List Row) → not t ≡ true → adds_row c g ≡ true
+    → lists_row (if t then rows else rows_changed c rows) g ≡ true
 restarted_row g true c rows s e = cc
 restarted_row g false (AddRow x) rows s e = or_left _ _ e
 restarted_row g false (DropRow h) rows s e = absurd (cc)
@@ -85,7 +88,8 @@ pub rowed_new : (tr : Trace) (e : Happening) (g : Gtrid) → had_row (Then tr e)
 rowed_new tr (Decided h Outcome.Commit) g r = by_case (or_here _ _ r)
   where
     by_case : ((gtrid_eq h g && told tr (says_yes_in h)) ≡ true) ⊎ (had_row tr g ≡ true) → NewRow tr (Decided h Outcome.Commit) g
-    by_case (inl k) = let p = and_parts _ _ k in By_decision (ap (λ x. Decided x Outcome.Commit) (gtrid_eq-true h g p.0)) (decided_row (row_for tr h) g _ (log tr) p.0 p.1)
+    by_case (inl k) =
+        let p = and_parts _ _ k in By_decision (ap (λ x. Decided x Outcome.Commit) (gtrid_eq-true h g p.0)) (decided_row (row_for tr h) g _ (log tr) p.0 p.1)
     by_case (inr k) = Had k
 rowed_new tr (Restarted i d n) g r = by_case (or_here _ _ r)
   where
@@ -95,7 +99,8 @@ rowed_new tr (Restarted i d n) g r = by_case (or_here _ _ r)
 rowed_new tr _ g r = Had r
 
 -- a row that is there has been made, before this or by it
-row_rowed_decided : (x : Row) (g : Gtrid) (t : Bool) (rows : List Row) (r : Bool) → (lists_row rows g ≡ true → r ≡ true) → lists_row (if t then x ∷ rows else rows) g ≡ true → ((gtrid_eq x.gtrid g && t) || r) ≡ true
+row_rowed_decided : (x : Row) (g : Gtrid) (t : Bool) (rows : List Row) (r : Bool) → (lists_row rows g ≡ true → r ≡ true)
+    → lists_row (if t then x ∷ rows else rows) g ≡ true → ((gtrid_eq x.gtrid g && t) || r) ≡ true
 row_rowed_decided x g true rows r f e = by_place (or_here _ _ e)
   where
     by_place : (gtrid_eq x.gtrid g ≡ true) ⊎ (lists_row rows g ≡ true) → ((gtrid_eq x.gtrid g && true) || r) ≡ true
@@ -103,17 +108,20 @@ row_rowed_decided x g true rows r f e = by_place (or_here _ _ e)
     by_place (inr s) = or_right _ _ (f s)
 row_rowed_decided x g false rows r f e = or_right _ _ (f e)
 
-row_rowed_changed : (g : Gtrid) (c : Change) (rows : List Row) (r : Bool) → (lists_row rows g ≡ true → r ≡ true) → lists_row (rows_changed c rows) g ≡ true → (adds_row c g || r) ≡ true
+row_rowed_changed : (g : Gtrid) (c : Change) (rows : List Row) (r : Bool) → (lists_row rows g ≡ true → r ≡ true)
+    → lists_row (rows_changed c rows) g ≡ true → (adds_row c g || r) ≡ true
 row_rowed_changed g (AddRow x) rows r f e = or_map (gtrid_eq x.gtrid g) _ _ f e
 row_rowed_changed g (DropRow h) rows r f e = f (without_keeps h g rows e)
 row_rowed_changed g (AddRecord b) rows r f e = f e
 row_rowed_changed g NoChange rows r f e = f e
 
-row_rowed_restarted : (g : Gtrid) (t : Bool) (c : Change) (rows : List Row) (r : Bool) → (lists_row rows g ≡ true → r ≡ true) → lists_row (if t then rows else rows_changed c rows) g ≡ true → ((not t && adds_row c g) || r) ≡ true
+row_rowed_restarted : (g : Gtrid) (t : Bool) (c : Change) (rows : List Row) (r : Bool) → (lists_row rows g ≡ true → r ≡ true)
+    → lists_row (if t then rows else rows_changed c rows) g ≡ true → ((not t && adds_row c g) || r) ≡ true
 row_rowed_restarted g true c rows r f e = f e
 row_rowed_restarted g false c rows r f e = row_rowed_changed g c rows r f e
 
-pub row_rowed_after : (tr : Trace) (e : Happening) (g : Gtrid) → (has_row tr g ≡ true → had_row tr g ≡ true) → has_row (Then tr e) g ≡ true → had_row (Then tr e) g ≡ true
+pub row_rowed_after : (tr : Trace) (e : Happening) (g : Gtrid) → (has_row tr g ≡ true → had_row tr g ≡ true)
+    → has_row (Then tr e) g ≡ true → had_row (Then tr e) g ≡ true
 row_rowed_after tr (Decided h Outcome.Commit) g f r = row_rowed_decided (row_for tr h) g _ (log tr) _ f r
 row_rowed_after tr (Done h) g f r = f (without_keeps h g (log tr) r)
 row_rowed_after tr (Restarted i d n) g f r = row_rowed_restarted g _ (doubt tr) (log tr) _ f r
@@ -134,7 +142,8 @@ row_lost_changed g (DropRow h) rows e f = ap (λ x. DropRow x) (without_drops h 
 row_lost_changed g (AddRecord b) rows e f = cc
 row_lost_changed g NoChange rows e f = cc
 
-row_lost_restarted : (g : Gtrid) (t : Bool) (c : Change) (rows : List Row) → lists_row rows g ≡ true → lists_row (if t then rows else rows_changed c rows) g ≡ false → c ≡ DropRow g
+row_lost_restarted : (g : Gtrid) (t : Bool) (c : Change) (rows : List Row) → lists_row rows g ≡ true
+    → lists_row (if t then rows else rows_changed c rows) g ≡ false → c ≡ DropRow g
 row_lost_restarted g true c rows e f = cc
 row_lost_restarted g false c rows e f = row_lost_changed g c rows e f
 
@@ -162,7 +171,8 @@ without_none : (g : Gtrid) (rows : List Row) → lists_row (without g rows) g �
 without_none g [] e = cc
 without_none g (x ∷ rows) e = by_test (gtrid_eq x.gtrid g) refl (without_none g rows) e
   where
-    by_test : (t : Bool) → gtrid_eq x.gtrid g ≡ t → (lists_row (without g rows) g ≡ true → ⊥) → lists_row (if t then without g rows else x ∷ without g rows) g ≡ true → ⊥
+    by_test : (t : Bool) → gtrid_eq x.gtrid g ≡ t → (lists_row (without g rows) g ≡ true → ⊥)
+        → lists_row (if t then without g rows else x ∷ without g rows) g ≡ true → ⊥
     by_test true s f e = f e
     by_test false s f e = by_place (or_here _ _ e)
       where
@@ -178,11 +188,15 @@ without_same h g (x ∷ rows) e = by_tests (gtrid_eq x.gtrid h) (gtrid_eq x.gtri
     both : gtrid_eq x.gtrid h ≡ true → gtrid_eq x.gtrid g ≡ true → lists_row (without h rows) g ≡ true → ⊥
     both p q e = without_none g rows (subst (λ y. lists_row (without y rows) g ≡ true) (sym (gtrid_eq-true x.gtrid h p) ∙ gtrid_eq-true x.gtrid g q) e)
 
-    by_tests : (t s : Bool) → gtrid_eq x.gtrid h ≡ t → gtrid_eq x.gtrid g ≡ s → (lists_row (without h rows) g ≡ true → participants_in (without h rows) g ≡ participants_in rows g) → lists_row (if t then without h rows else x ∷ without h rows) g ≡ true → participants_in (if t then without h rows else x ∷ without h rows) g ≡ (if s then x.participants else participants_in rows g)
+    by_tests : (t s : Bool) → gtrid_eq x.gtrid h ≡ t → gtrid_eq x.gtrid g ≡ s
+        → (lists_row (without h rows) g ≡ true → participants_in (without h rows) g ≡ participants_in rows g)
+        → lists_row (if t then without h rows else x ∷ without h rows) g ≡ true
+        → participants_in (if t then without h rows else x ∷ without h rows) g ≡ (if s then x.participants else participants_in rows g)
     by_tests true true p q f e = absurd (both p q e)
     by_tests true false p q f e = f e
     by_tests false true p q f e = ap (λ s. if s then x.participants else participants_in (without h rows) g) q
-    by_tests false false p q f e = ap (λ s. if s then x.participants else participants_in (without h rows) g) q ∙ f (subst (λ s. (s || lists_row (without h rows) g) ≡ true) q e)
+    by_tests false false p q f e =
+        ap (λ s. if s then x.participants else participants_in (without h rows) g) q ∙ f (subst (λ s. (s || lists_row (without h rows) g) ≡ true) q e)
 
 -- why a row is there: it was, with the same participants, or it is made now
 pub data RowNow (tr : Trace) (e : Happening) (g : Gtrid) : Type 0 where
@@ -190,7 +204,8 @@ pub data RowNow (tr : Trace) (e : Happening) (g : Gtrid) : Type 0 where
   Decided_now : e ≡ Decided g Outcome.Commit → participants (Then tr e) g ≡ (row_for tr g).participants → RowNow tr e g
   Restarted_now : (i d n : ℕ) → e ≡ Restarted i d n → (a : Adds (doubt tr) g) → participants (Then tr e) g ≡ a.added.participants → RowNow tr e g
 
-row_decided_back : (tr : Trace) (h g : Gtrid) → (t : Bool) → told tr (says_yes_in h) ≡ t → lists_row (if t then row_for tr h ∷ log tr else log tr) g ≡ true → RowNow tr (Decided h Outcome.Commit) g
+row_decided_back : (tr : Trace) (h g : Gtrid) → (t : Bool) → told tr (says_yes_in h) ≡ t
+    → lists_row (if t then row_for tr h ∷ log tr else log tr) g ≡ true → RowNow tr (Decided h Outcome.Commit) g
 row_decided_back tr h g false k r = Before r (ap (λ t. participants_in (if t then row_for tr h ∷ log tr else log tr) g) k)
 row_decided_back tr h g true k r = by_place (front (row_for tr h) (log tr) g r)
   where
@@ -201,7 +216,9 @@ row_decided_back tr h g true k r = by_place (front (row_for tr h) (log tr) g r)
     by_place (In_front s p) = Decided_now (ap (λ x. Decided x Outcome.Commit) s) (now ∙ (p ∙ ap (λ x. (row_for tr x).participants) s))
     by_place (Behind s p) = Before s (now ∙ p)
 
-row_changed_back : (tr : Trace) (i d n : ℕ) (g : Gtrid) (c : Change) → doubt tr ≡ c → participants (Then tr (Restarted i d n)) g ≡ participants_in (rows_changed c (log tr)) g → lists_row (rows_changed c (log tr)) g ≡ true → RowNow tr (Restarted i d n) g
+row_changed_back : (tr : Trace) (i d n : ℕ) (g : Gtrid) (c : Change) → doubt tr ≡ c
+    → participants (Then tr (Restarted i d n)) g ≡ participants_in (rows_changed c (log tr)) g
+    → lists_row (rows_changed c (log tr)) g ≡ true → RowNow tr (Restarted i d n) g
 row_changed_back tr i d n g (AddRow x) k q r = by_place (front x (log tr) g r)
   where
     by_place : Front x (log tr) g → RowNow tr (Restarted i d n) g
@@ -211,9 +228,11 @@ row_changed_back tr i d n g (DropRow h) k q r = Before (without_keeps h g (log t
 row_changed_back tr i d n g (AddRecord b) k q r = Before r q
 row_changed_back tr i d n g NoChange k q r = Before r q
 
-row_restarted_back : (tr : Trace) (i d n : ℕ) (g : Gtrid) (t : Bool) → (d == length (log tr)) ≡ t → lists_row (if t then log tr else rows_changed (doubt tr) (log tr)) g ≡ true → RowNow tr (Restarted i d n) g
+row_restarted_back : (tr : Trace) (i d n : ℕ) (g : Gtrid) (t : Bool) → (d == length (log tr)) ≡ t
+    → lists_row (if t then log tr else rows_changed (doubt tr) (log tr)) g ≡ true → RowNow tr (Restarted i d n) g
 row_restarted_back tr i d n g true k r = Before r (ap (λ t. participants_in (if t then log tr else rows_changed (doubt tr) (log tr)) g) k)
-row_restarted_back tr i d n g false k r = row_changed_back tr i d n g (doubt tr) refl (ap (λ t. participants_in (if t then log tr else rows_changed (doubt tr) (log tr)) g) k) r
+row_restarted_back tr i d n g false k r =
+    row_changed_back tr i d n g (doubt tr) refl (ap (λ t. participants_in (if t then log tr else rows_changed (doubt tr) (log tr)) g) k) r
 
 pub row_back : (tr : Trace) (e : Happening) (g : Gtrid) → has_row (Then tr e) g ≡ true → RowNow tr e g
 row_back tr (Decided h Outcome.Commit) g r = row_decided_back tr h g _ refl r

@@ -35,13 +35,16 @@ moved_unstarted OnePhase a n = refl
 moved_unstarted Rollback a n = refl
 moved_unstarted Forget a n = refl
 
-took_unstarted : (tr : Trace) (k : Kind) (c : Branch) (a : Code) (b : Branch) (t : Bool) → branch_eq c b ≡ t → ((k ≡ Start) × (branch_eq c b ≡ true) → ⊥) → standing tr b ≡ Unstarted → (if t then moved (standing tr b) k a else standing tr b) ≡ Unstarted
+took_unstarted : (tr : Trace) (k : Kind) (c : Branch) (a : Code) (b : Branch) (t : Bool) → branch_eq c b ≡ t
+    → ((k ≡ Start) × (branch_eq c b ≡ true) → ⊥) → standing tr b ≡ Unstarted → (if t then moved (standing tr b) k a else standing tr b) ≡ Unstarted
 took_unstarted tr k c a b true s n u = ap (λ f. moved f k a) u ∙ moved_unstarted k a (λ q. n (q, s))
 took_unstarted tr k c a b false s n u = u
 
 -- a branch whose xa_start still waits stays unstarted
-unstarted_stays : (tr : Trace) (e : Happening) (b : Branch) → ((l : Line) (a : Answer) → e ≡ Took l (Calls.Start b false) a → ⊥) → standing tr b ≡ Unstarted → standing (Then tr e) b ≡ Unstarted
-unstarted_stays tr (Took l (Calls.Start c false) (Ret a)) b n u = took_unstarted tr Start c a b (branch_eq c b) refl (λ q. n l (Ret a) (λ i. Took l (Calls.Start (branch_eq-true c b (q.1) i) false) (Ret a))) u
+unstarted_stays : (tr : Trace) (e : Happening) (b : Branch) → ((l : Line) (a : Answer) → e ≡ Took l (Calls.Start b false) a → ⊥)
+    → standing tr b ≡ Unstarted → standing (Then tr e) b ≡ Unstarted
+unstarted_stays tr (Took l (Calls.Start c false) (Ret a)) b n u =
+    took_unstarted tr Start c a b (branch_eq c b) refl (λ q. n l (Ret a) (λ i. Took l (Calls.Start (branch_eq-true c b (q.1) i) false) (Ret a))) u
 unstarted_stays tr (Took l (Calls.Start c true) (Ret a)) b n u = took_unstarted tr Join c a b (branch_eq c b) refl (λ q. let p : ⊥ = cc in p) u
 unstarted_stays tr (Took l (Calls.End c fail) (Ret a)) b n u = took_unstarted tr (End fail) c a b (branch_eq c b) refl (λ q. let p : ⊥ = cc in p) u
 unstarted_stays tr (Took l (Calls.Prepare c) (Ret a)) b n u = took_unstarted tr Prepare c a b (branch_eq c b) refl (λ q. let p : ⊥ = cc in p) u
@@ -68,20 +71,25 @@ length_took : (l : Line) (c : Call) (a : Answer) → length (new_taken (Took l c
 length_took l c a = ap (λ t. length {A = Call × Answer} (if t then (c, a) ∷ [] else [])) (line_eq-refl l)
 
 -- the xa_start that is taken is not one that waits behind it
-start_not_taken : (tr : Trace) (e : Happening) (l : Line) (x : Kind) (b : Branch) → Starts x → Inv tr → Right tr e → WaitingStart tr l b → (w : Waits tr l (on x b)) → length (taken tr l ++ new_taken e l) ≤ w.place → (m : Line) (a : Answer) → e ≡ Took m (Calls.Start b false) a → ⊥
+start_not_taken : (tr : Trace) (e : Happening) (l : Line) (x : Kind) (b : Branch) → Starts x → Inv tr → Right tr e
+    → WaitingStart tr l b → (w : Waits tr l (on x b)) → length (taken tr l ++ new_taken e l) ≤ w.place → (m : Line) (a : Answer)
+    → e ≡ Took m (Calls.Start b false) a → ⊥
 start_not_taken tr e l x b s inv r f w n m a q =
     let q' : Right tr (Took m (Calls.Start b false) a) = subst (Right tr) q r in
     let y = (inv.waiting m Start b (front_waits tr m (Calls.Start b false) q'.0)).own_line in
     let same : m ≡ l = y ∙ sym f.own_line in
-    let here : slice_get (issued tr l) (length (taken tr l)) ≡ Some (Calls.Start b false) = subst (λ z. slice_get (issued tr z) (length (taken tr z)) ≡ Some (Calls.Start b false)) same q'.0 in
+    let here : slice_get (issued tr l) (length (taken tr l)) ≡ Some (Calls.Start b false) =
+        subst (λ z. slice_get (issued tr z) (length (taken tr z)) ≡ Some (Calls.Start b false)) same q'.0 in
     let p = inv.start_once l b x Start w.place (length (taken tr l)) s tt w.is here in
     let e' : e ≡ Took l (Calls.Start b false) a = q ∙ ap (λ z. Took z (Calls.Start b false) a) same in
     let k : length (new_taken e l) ≡ 1 = ap (λ z. length (new_taken z l)) e' ∙ length_took l (Calls.Start b false) a in
     omega (arith, length-append (taken tr l) (new_taken e l))
 
 -- an xa_start that waits goes on to wait for a branch that stays unstarted
-start_kept : (tr : Trace) (e : Happening) (l : Line) (x : Kind) (b : Branch) → Starts x → Inv tr → Right tr e → WaitingStart tr l b → (w : Waits tr l (on x b)) → length (taken tr l ++ new_taken e l) ≤ w.place → WaitingStart (Then tr e) l b
-start_kept tr e l x b s inv r f w n = record { own_line = f.own_line; is_started = started_kept tr e b f.is_started; unstarted = unstarted_stays tr e b (start_not_taken tr e l x b s inv r f w n) f.unstarted }
+start_kept : (tr : Trace) (e : Happening) (l : Line) (x : Kind) (b : Branch) → Starts x → Inv tr → Right tr e
+    → WaitingStart tr l b → (w : Waits tr l (on x b)) → length (taken tr l ++ new_taken e l) ≤ w.place → WaitingStart (Then tr e) l b
+start_kept tr e l x b s inv r f w n =
+    record { own_line = f.own_line; is_started = started_kept tr e b f.is_started; unstarted = unstarted_stays tr e b (start_not_taken tr e l x b s inv r f w n) f.unstarted }
 
 no_row_kept : (tr : Trace) (e : Happening) (g : Gtrid) → Right tr e → up tr ≡ true → live tr g ≡ false → has_row tr g ≡ false → has_row (Then tr e) g ≡ false
 no_row_kept tr e g r u n h = false_unless _ (λ k. by_case (row_back tr e g k))
@@ -91,7 +99,8 @@ no_row_kept tr e g r u n h = false_unless _ (λ k. by_case (row_back tr e g k))
     by_case (Decided_now q p) = let d : RightDecision tr g Outcome.Commit = subst (Right tr) q r in let lv = d.is_live in cc
     by_case (Restarted_now i d m q a p) = let x : Right tr (Restarted i d m) = subst (Right tr) q r in let dn = x.0 in cc
 
-pub waited_kept : (tr : Trace) (e : Happening) (l : Line) (k : Kind) (b : Branch) → Inv tr → Right tr e → (w : Waits tr l (on k b)) → length (taken tr l ++ new_taken e l) ≤ w.place → CallFact (Then tr e) l k b
+pub waited_kept : (tr : Trace) (e : Happening) (l : Line) (k : Kind) (b : Branch) → Inv tr → Right tr e
+    → (w : Waits tr l (on k b)) → length (taken tr l ++ new_taken e l) ≤ w.place → CallFact (Then tr e) l k b
 waited_kept tr e l Start b inv r w n = start_kept tr e l Start b tt inv r (inv.waiting l Start b w) w n
 waited_kept tr e l Join b inv r w n = start_kept tr e l Join b tt inv r (inv.waiting l Join b w) w n
 waited_kept tr e l (End t) b inv r w n = tt
@@ -174,19 +183,24 @@ call_parts j k b c e = some_parts (sym (asks_on j b) ∙ ap asked e ∙ asks_on 
     some_parts : ◌≡◌ {A = Option (Kind × Branch)} (Some (j, b)) (Some (k, c)) → (k ≡ j) × (b ≡ c)
     some_parts e = (sym (ap kind_in e), ap branch_in e)
 
-resolving_step : (tr : Trace) (c : Branch) (names : List Name) (t : Bool) → live tr c.gtrid ≡ t → (i : ℕ) (k : Kind) (b : Branch) → ((j : ℕ) → slice_get (resolving_calls tr names) j ≡ Some (on k b) → Resolving tr names k b) → slice_get (if t then resolving_calls tr names else on (resolving_kind tr c) c ∷ resolving_calls tr names) i ≡ Some (on k b) → Resolving tr (Ours c ∷ names) k b
+resolving_step : (tr : Trace) (c : Branch) (names : List Name) (t : Bool) → live tr c.gtrid ≡ t → (i : ℕ) (k : Kind) (b : Branch)
+    → ((j : ℕ) → slice_get (resolving_calls tr names) j ≡ Some (on k b) → Resolving tr names k b)
+    → slice_get (if t then resolving_calls tr names else on (resolving_kind tr c) c ∷ resolving_calls tr names) i ≡ Some (on k b)
+    → Resolving tr (Ours c ∷ names) k b
 resolving_step tr c names true n i k b f e = later tr (Ours c) names k b (f i e)
 resolving_step tr c names false n zero k b f e =
     let p = call_parts (resolving_kind tr c) k c b e in
     record { listed = (0, ap (λ x. Some (Ours x)) p.1); not_live = sym (ap (λ x. live tr x.gtrid) p.1) ∙ n; kind = p.0 ∙ ap (resolving_kind tr) p.1 }
 resolving_step tr c names false n (suc i) k b f e = later tr (Ours c) names k b (f i e)
 
-pub resolving_item : (tr : Trace) (names : List Name) (i : ℕ) (k : Kind) (b : Branch) → slice_get (resolving_calls tr names) i ≡ Some (on k b) → Resolving tr names k b
+pub resolving_item : (tr : Trace) (names : List Name) (i : ℕ) (k : Kind) (b : Branch)
+    → slice_get (resolving_calls tr names) i ≡ Some (on k b) → Resolving tr names k b
 resolving_item tr [] i k b e = cc
 resolving_item tr (Ours c ∷ names) i k b e = resolving_step tr c names (live tr c.gtrid) refl i k b (λ j h. resolving_item tr names j k b h) e
 resolving_item tr (Foreign n ∷ names) i k b e = later tr (Foreign n) names k b (resolving_item tr names i k b e)
 
-resolved_fact : (tr : Trace) (r : ℕ) (l : Line) (k : Kind) (b : Branch) → Inv tr → Right tr (Resolved r) → Resolving tr (page tr r) k b → CallFact (Then tr (Resolved r)) l k b
+resolved_fact : (tr : Trace) (r : ℕ) (l : Line) (k : Kind) (b : Branch) → Inv tr → Right tr (Resolved r)
+    → Resolving tr (page tr r) k b → CallFact (Then tr (Resolved r)) l k b
 resolved_fact tr r l k b inv rt h = subst (λ x. CallFact (Then tr (Resolved r)) l x b) (sym h.kind) (by_record (recorded tr b) refl)
   where
     old : Old tr b.gtrid
@@ -201,7 +215,8 @@ resolved_fact tr r l k b inv rt h = subst (λ x. CallFact (Then tr (Resolved r))
     by_record false e = by_row (has_row tr b.gtrid) refl
 
 -- after its decisions a recovery that may decide makes the same calls
-opened_fact : (tr : Trace) (r : ℕ) (l : Line) (k : Kind) (b : Branch) → Inv tr → Right tr (ResolvedOpen r) → Resolving (Then tr (ResolvedOpen r)) (page tr r) k b → CallFact (Then tr (ResolvedOpen r)) l k b
+opened_fact : (tr : Trace) (r : ℕ) (l : Line) (k : Kind) (b : Branch) → Inv tr → Right tr (ResolvedOpen r)
+    → Resolving (Then tr (ResolvedOpen r)) (page tr r) k b → CallFact (Then tr (ResolvedOpen r)) l k b
 opened_fact tr r l k b inv rt h = subst (λ x. CallFact (Then tr (ResolvedOpen r)) l x b) (sym h.kind) (by_record (recorded tr b) refl)
   where
     old : Old (Then tr (ResolvedOpen r)) b.gtrid
@@ -222,16 +237,20 @@ page_if false calls i c e = cc
 on_same : (m l : Line) (d : Call) (k : Kind) (b : Branch) → m ≡ l → d ≡ on k b → Issued m d ≡ Issued l (on k b)
 on_same m l d k b p q = λ i. Issued (p i) (q i)
 
-pub new_call_fact : (tr : Trace) (e : Happening) (l : Line) (i : ℕ) (k : Kind) (b : Branch) → Inv tr → Right tr e → slice_get (new_calls tr e l) i ≡ Some (on k b) → CallFact (Then tr e) l k b
+pub new_call_fact : (tr : Trace) (e : Happening) (l : Line) (i : ℕ) (k : Kind) (b : Branch) → Inv tr → Right tr e
+    → slice_get (new_calls tr e l) i ≡ Some (on k b) → CallFact (Then tr e) l k b
 new_call_fact tr (Issued m d) l i k b inv r h =
     let g = get_if (line_eq m l) d i (on k b) h in
     let q = on_same m l d k b (line_eq-true m l g.0) g.2 in
     subst (λ x. CallFact (Then tr x) l k b) (sym q) (issued_fact tr l k b inv (subst (Right tr) q r))
-new_call_fact tr (Resolved n) l i k b inv r h = resolved_fact tr n l k b inv r (resolving_item tr (page tr n) i k b (page_if (line_eq (line 0 n) l) _ i (on k b) h))
-new_call_fact tr (ResolvedOpen n) l i k b inv r h = opened_fact tr n l k b inv r (resolving_item (Then tr (ResolvedOpen n)) (page tr n) i k b (page_if (line_eq (line 0 n) l) _ i (on k b) h))
+new_call_fact tr (Resolved n) l i k b inv r h =
+    resolved_fact tr n l k b inv r (resolving_item tr (page tr n) i k b (page_if (line_eq (line 0 n) l) _ i (on k b) h))
+new_call_fact tr (ResolvedOpen n) l i k b inv r h =
+    opened_fact tr n l k b inv r (resolving_item (Then tr (ResolvedOpen n)) (page tr n) i k b (page_if (line_eq (line 0 n) l) _ i (on k b) h))
 new_call_fact tr _ l i k b inv r h = cc
 
-pub waiting_after : (tr : Trace) (e : Happening) (l : Line) (k : Kind) (b : Branch) → Inv tr → Right tr e → Waits (Then tr e) l (on k b) → CallFact (Then tr e) l k b
+pub waiting_after : (tr : Trace) (e : Happening) (l : Line) (k : Kind) (b : Branch) → Inv tr → Right tr e
+    → Waits (Then tr e) l (on k b) → CallFact (Then tr e) l k b
 waiting_after tr e l k b inv r w = by_case (waits_back tr e l (on k b) w)
   where
     by_case : NewWait tr e l (on k b) → CallFact (Then tr e) l k b
@@ -275,19 +294,23 @@ pub record NewStart (tr : Trace) (e : Happening) (b : Branch) (i : ℕ) : Type 0
   pub only : i ≡ 0
   pub now : started (Then tr e) b ≡ true
 
-issued_start : (tr : Trace) (l : Line) (x : Kind) (b : Branch) → Starts x → Right tr (Issued l (on x b)) → (started tr b ≡ false) × (started (Then tr (Issued l (on x b))) b ≡ true)
+issued_start : (tr : Trace) (l : Line) (x : Kind) (b : Branch) → Starts x → Right tr (Issued l (on x b))
+    → (started tr b ≡ false) × (started (Then tr (Issued l (on x b))) b ≡ true)
 issued_start tr l Start b s r = let c = r.1 in let p = c.may_be in (p.0, or_left _ _ (branch_eq-refl b))
 issued_start tr l Join b s r = let c = r.1 in let p = c.may_be in (p.0, or_left _ _ (branch_eq-refl b))
 issued_start tr l _ b s r = absurd s
 
-pub new_start : (tr : Trace) (e : Happening) (l : Line) (i : ℕ) (x : Kind) (b : Branch) → Starts x → Right tr e → slice_get (new_calls tr e l) i ≡ Some (on x b) → NewStart tr e b i
+pub new_start : (tr : Trace) (e : Happening) (l : Line) (i : ℕ) (x : Kind) (b : Branch) → Starts x → Right tr e
+    → slice_get (new_calls tr e l) i ≡ Some (on x b) → NewStart tr e b i
 new_start tr (Issued m d) l i x b s r h =
     let g = get_if (line_eq m l) d i (on x b) h in
     let q = on_same m l d x b (line_eq-true m l g.0) g.2 in
     let p = issued_start tr l x b s (subst (Right tr) q r) in
     record { first = p.0; only = g.1; now = subst (λ y. started (Then tr y) b ≡ true) (sym q) p.1 }
-new_start tr (Resolved n) l i x b s r h = absurd (resolving_no_start tr b x s (resolving_item tr (page tr n) i x b (page_if (line_eq (line 0 n) l) _ i (on x b) h)).kind)
-new_start tr (ResolvedOpen n) l i x b s r h = absurd (resolving_no_start (Then tr (ResolvedOpen n)) b x s (resolving_item (Then tr (ResolvedOpen n)) (page tr n) i x b (page_if (line_eq (line 0 n) l) _ i (on x b) h)).kind)
+new_start tr (Resolved n) l i x b s r h =
+    absurd (resolving_no_start tr b x s (resolving_item tr (page tr n) i x b (page_if (line_eq (line 0 n) l) _ i (on x b) h)).kind)
+new_start tr (ResolvedOpen n) l i x b s r h =
+    absurd (resolving_no_start (Then tr (ResolvedOpen n)) b x s (resolving_item (Then tr (ResolvedOpen n)) (page tr n) i x b (page_if (line_eq (line 0 n) l) _ i (on x b) h)).kind)
 new_start tr _ l i x b s r h = cc
 
 -- where an xa_start on the line came from
@@ -295,10 +318,12 @@ data StartPlace (tr : Trace) (e : Happening) (l : Line) (x : Kind) (b : Branch) 
   Earlier : slice_get (issued tr l) j ≡ Some (on x b) → StartPlace tr e l x b j
   Newer : (i : ℕ) → j ≡ length (issued tr l) + i → NewStart tr e b i → StartPlace tr e l x b j
 
-start_place : (tr : Trace) (e : Happening) (l : Line) (x : Kind) (b : Branch) (j : ℕ) → Starts x → Right tr e → slice_get (issued (Then tr e) l) j ≡ Some (on x b) → StartPlace tr e l x b j
+start_place : (tr : Trace) (e : Happening) (l : Line) (x : Kind) (b : Branch) (j : ℕ) → Starts x → Right tr e
+    → slice_get (issued (Then tr e) l) j ≡ Some (on x b) → StartPlace tr e l x b j
 start_place tr e l x b j s r h = by_break (breaks tr e l) h
   where
-    by_place : (slice_get (issued tr l) j ≡ Some (on x b)) ⊎ ((i : ℕ) × (j ≡ length (issued tr l) + i) × (slice_get (new_calls tr e l) i ≡ Some (on x b))) → StartPlace tr e l x b j
+    by_place : (slice_get (issued tr l) j ≡ Some (on x b))
+        ⊎ ((i : ℕ) × (j ≡ length (issued tr l) + i) × (slice_get (new_calls tr e l) i ≡ Some (on x b))) → StartPlace tr e l x b j
     by_place (inl p) = Earlier p
     by_place (inr p) = Newer p.0 p.1 (new_start tr e l p.0 x b s r p.2)
 
@@ -306,14 +331,16 @@ start_place tr e l x b j s r h = by_break (breaks tr e l) h
     by_break true p = absurd (get_none j (on x b) p)
     by_break false p = by_place (get_append (issued tr l) (new_calls tr e l) j (on x b) p)
 
-pub start_issued_after : (tr : Trace) (e : Happening) (l : Line) (b : Branch) (x : Kind) (j : ℕ) → Inv tr → Right tr e → Starts x → slice_get (issued (Then tr e) l) j ≡ Some (on x b) → started (Then tr e) b ≡ true
+pub start_issued_after : (tr : Trace) (e : Happening) (l : Line) (b : Branch) (x : Kind) (j : ℕ) → Inv tr → Right tr e → Starts x
+    → slice_get (issued (Then tr e) l) j ≡ Some (on x b) → started (Then tr e) b ≡ true
 start_issued_after tr e l b x j inv r s h = by_case (start_place tr e l x b j s r h)
   where
     by_case : StartPlace tr e l x b j → started (Then tr e) b ≡ true
     by_case (Earlier p) = started_kept tr e b (inv.start_issued l b x j s p)
     by_case (Newer i q n) = n.now
 
-pub start_once_after : (tr : Trace) (e : Happening) (l : Line) (b : Branch) (x y : Kind) (j k : ℕ) → Inv tr → Right tr e → Starts x → Starts y → slice_get (issued (Then tr e) l) j ≡ Some (on x b) → slice_get (issued (Then tr e) l) k ≡ Some (on y b) → j ≡ k
+pub start_once_after : (tr : Trace) (e : Happening) (l : Line) (b : Branch) (x y : Kind) (j k : ℕ) → Inv tr → Right tr e
+    → Starts x → Starts y → slice_get (issued (Then tr e) l) j ≡ Some (on x b) → slice_get (issued (Then tr e) l) k ≡ Some (on y b) → j ≡ k
 start_once_after tr e l b x y j k inv r s t h g = by_case (start_place tr e l x b j s r h) (start_place tr e l y b k t r g)
   where
     clash : (z : Kind) (m i : ℕ) → Starts z → slice_get (issued tr l) m ≡ Some (on z b) → NewStart tr e b i → ⊥

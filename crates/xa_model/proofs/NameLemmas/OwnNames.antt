@@ -18,8 +18,10 @@ own_name b h =
 own_format_of : (x : Xid) → int_eq x.format own_format ≡ true → x.format ≡ own_format
 own_format_of x e = search rules
 
-back_by : (x : Xid) → IsXid x → (p q : Option (ℕ × ℕ)) → p ≡ u64_pair x.gtrid → q ≡ u32_pair x.bqual → (t : Bool) → int_eq x.format own_format ≡ t → xid_of_name (name_by x (if t then branch_of_pairs p q else None)) ≡ x
-back_by x h (Some (incarnation, sequence)) (Some (thread, rm)) g q true f = sym (own-found x incarnation sequence thread rm h.in_range.gtrid h.in_range.bqual (own_format_of x f) g q)
+back_by : (x : Xid) → IsXid x → (p q : Option (ℕ × ℕ)) → p ≡ u64_pair x.gtrid → q ≡ u32_pair x.bqual → (t : Bool)
+    → int_eq x.format own_format ≡ t → xid_of_name (name_by x (if t then branch_of_pairs p q else None)) ≡ x
+back_by x h (Some (incarnation, sequence)) (Some (thread, rm)) g q true f =
+    sym (own-found x incarnation sequence thread rm h.in_range.gtrid h.in_range.bqual (own_format_of x f) g q)
 back_by x h (Some g) None p q true f = refl
 back_by x h None q p r true f = refl
 back_by x h p q g r false f = refl

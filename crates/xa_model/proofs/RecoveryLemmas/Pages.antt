@@ -65,8 +65,10 @@ pub each_behind : (P : Name → Type 0) (last : Option Name) (xs : List Name) �
 each_behind P None xs h = h
 each_behind P (Some last) xs h = each_filter P (λ x. is_lt (name_cmp last x)) xs h
 
-pub page_each : (P : Name → Type 0) (count : ℤ) (from : Option (Option Name)) (xs names : List Name) → Page names ≡ page_answer (page_of name_cmp count from xs) → Each P xs → Each P names
-page_each P (pos n) (Some last) xs names e h = subst (Each P) (let p : take n (behind name_cmp last xs) ≡ names = cc in p) (each_take P n (behind name_cmp last xs) (each_behind P last xs h))
+pub page_each : (P : Name → Type 0) (count : ℤ) (from : Option (Option Name)) (xs names : List Name)
+    → Page names ≡ page_answer (page_of name_cmp count from xs) → Each P xs → Each P names
+page_each P (pos n) (Some last) xs names e h =
+    subst (Each P) (let p : take n (behind name_cmp last xs) ≡ names = cc in p) (each_take P n (behind name_cmp last xs) (each_behind P last xs h))
 page_each P (pos n) None xs names e h = absurd (cc)
 page_each P (negsuc n) from xs names e h = absurd (cc)
 
@@ -85,11 +87,13 @@ pub own_started : (tr : Trace) (r : ℕ) (bs : List Branch) → Inv tr → Each 
 own_started tr r [] inv = tt
 own_started tr r (b ∷ bs) inv = by_test (is_in_doubt_at tr r b) refl (own_started tr r bs inv)
   where
-    by_test : (t : Bool) → is_in_doubt_at tr r b ≡ t → Each (IsStarted tr) (map (λ b. Ours b) (filter (is_in_doubt_at tr r) bs)) → Each (IsStarted tr) (map (λ b. Ours b) (cond t (b ∷ filter (is_in_doubt_at tr r) bs) (filter (is_in_doubt_at tr r) bs)))
+    by_test : (t : Bool) → is_in_doubt_at tr r b ≡ t → Each (IsStarted tr) (map (λ b. Ours b) (filter (is_in_doubt_at tr r) bs))
+        → Each (IsStarted tr) (map (λ b. Ours b) (cond t (b ∷ filter (is_in_doubt_at tr r) bs) (filter (is_in_doubt_at tr r) bs)))
     by_test true q k = (doubtful_started tr b inv (and_parts _ _ q).1, k)
     by_test false q k = k
 
-pub page_started : (tr : Trace) (r : ℕ) (count : ℤ) (start : Bool) (names : List Name) → Inv tr → Page names ≡ scan_answer tr r count start → (x : Name) → Lists names x → IsStarted tr x
+pub page_started : (tr : Trace) (r : ℕ) (count : ℤ) (start : Bool) (names : List Name) → Inv tr
+    → Page names ≡ scan_answer tr r count start → (x : Name) → Lists names x → IsStarted tr x
 page_started tr r count start names inv e =
     each_listed (IsStarted tr) names
     (page_each (IsStarted tr) count (reads_from (scan tr r) start) (in_doubt tr r) names e

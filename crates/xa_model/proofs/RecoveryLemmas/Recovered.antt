@@ -36,7 +36,9 @@ In (y ∷ ys) x = (y ≡ x) ⊎ In ys x
 pub record Pending (t : Trace) (l : Line) (cs : List Call) : Type 0 where
   pub at : (k : ℕ) (c : Call) → slice_get cs k ≡ Some c → slice_get (issued t l) (length (taken t l) + k) ≡ Some c
 
-pub pending_of : (t u : Trace) (l : Line) (cs ds : List Call) (n : ℕ) → issued u l ≡ issued t l → length (taken u l) ≡ length (taken t l) + n → ((k : ℕ) (c : Call) → slice_get ds k ≡ Some c → slice_get cs (n + k) ≡ Some c) → Pending t l cs → Pending u l ds
+pub pending_of : (t u : Trace) (l : Line) (cs ds : List Call) (n : ℕ) → issued u l ≡ issued t l
+    → length (taken u l) ≡ length (taken t l) + n → ((k : ℕ) (c : Call) → slice_get ds k ≡ Some c → slice_get cs (n + k) ≡ Some c)
+    → Pending t l cs → Pending u l ds
 pending_of t u l cs ds n i m f p = record { at = λ k c e. place k c (p.at (n + k) c (f k c e)) }
   where
     place : (k : ℕ) (c : Call) → slice_get (issued t l) (length (taken t l) + (n + k)) ≡ Some c → slice_get (issued u l) (length (taken u l) + k) ≡ Some c
@@ -50,7 +52,8 @@ taken_one t l c a =
     omega (arith, k, length-append (taken t l) (new_taken (Took l c a) l))
 
 -- the next one was taken and heard
-pub pending_next : (t : Trace) (l : Line) (c d : Call) (a : Answer) (ds : List Call) → Pending t l (d ∷ ds) → Pending (Then (Then t (Took l c a)) (Heard l c a)) l ds
+pub pending_next : (t : Trace) (l : Line) (c d : Call) (a : Answer) (ds : List Call) → Pending t l (d ∷ ds)
+    → Pending (Then (Then t (Took l c a)) (Heard l c a)) l ds
 pending_next t l c d a ds p = pending_of t (Then (Then t (Took l c a)) (Heard l c a)) l (d ∷ ds) ds 1
     (append-nil (issued t l ++ []) ∙ append-nil (issued t l))
     (ap (length {A = Call × Answer}) (append-nil (taken (Then t (Took l c a)) l)) ∙ taken_one t l c a)
@@ -82,11 +85,13 @@ AllEnd (c ∷ cs) = EndsBranch c × AllEnd cs
 abbrev pub IsToEnd : List Call → Branch → Type 0
 IsToEnd cs b = In cs (Calls.Commit b false) ⊎ In cs (Calls.Rollback b)
 
-pub committed_code : (n : ℕ) (code : Code) → code ≡ answer Commit (state_of Prepared) Votes.Yes n → (code ≡ Codes.Retry → ⊥) → moved Prepared Commit code ≡ Prepared → ⊥
+pub committed_code : (n : ℕ) (code : Code) → code ≡ answer Commit (state_of Prepared) Votes.Yes n → (code ≡ Codes.Retry → ⊥)
+    → moved Prepared Commit code ≡ Prepared → ⊥
 committed_code zero code e f q = let p : moved Prepared Commit code ≡ Committed = ap (moved Prepared Commit) e in cc
 committed_code (suc n) code e f q = f e
 
-pub no_commit : (f : Standing) (v : Vote) (n : ℕ) (code : Code) → code ≡ answer Commit (state_of f) v n → (code ≡ Codes.Retry → ⊥) → moved f Commit code ≡ Prepared → ⊥
+pub no_commit : (f : Standing) (v : Vote) (n : ℕ) (code : Code) → code ≡ answer Commit (state_of f) v n → (code ≡ Codes.Retry → ⊥)
+    → moved f Commit code ≡ Prepared → ⊥
 no_commit Prepared v n code e g q = committed_code n code e g q
 no_commit Unstarted v n code e g q = cc
 no_commit Active v n code e g q = cc
@@ -117,7 +122,9 @@ pub not_same : (x b : Branch) → branch_eq x b ≡ false → x ≡ b → ⊥
 not_same x b n e = both (branch_eq b b) (branch_eq-refl b) (sym (ap (λ y. branch_eq y b) e) ∙ n)
 
 -- a branch that is prepared after the call was so before, and the call that ends it still waits
-pub took_left : (t : Trace) (l : Line) (d : Call) (ds : List Call) (a : Code) (b : Branch) → EndsBranch d → RightAnswer t l d (Ret a) → (a ≡ Codes.Retry → ⊥) → (standing t b ≡ Prepared → (live t b.gtrid ≡ true) ⊎ IsToEnd (d ∷ ds) b) → standing (Then t (Took l d (Ret a))) b ≡ Prepared → (live t b.gtrid ≡ true) ⊎ IsToEnd ds b
+pub took_left : (t : Trace) (l : Line) (d : Call) (ds : List Call) (a : Code) (b : Branch) → EndsBranch d
+    → RightAnswer t l d (Ret a) → (a ≡ Codes.Retry → ⊥) → (standing t b ≡ Prepared → (live t b.gtrid ≡ true) ⊎ IsToEnd (d ∷ ds) b)
+    → standing (Then t (Took l d (Ret a))) b ≡ Prepared → (live t b.gtrid ≡ true) ⊎ IsToEnd ds b
 took_left t l (Calls.Commit x false) ds a b k r n f s = by_branch (branch_eq x b) refl s
   where
     waits : branch_eq x b ≡ false → (live t b.gtrid ≡ true) ⊎ IsToEnd (Calls.Commit x false ∷ ds) b → (live t b.gtrid ≡ true) ⊎ IsToEnd ds b
@@ -126,7 +133,8 @@ took_left t l (Calls.Commit x false) ds a b k r n f s = by_branch (branch_eq x b
 
     by_branch : (u : Bool) → branch_eq x b ≡ u → (if u then moved (standing t b) Commit a else standing t b) ≡ Prepared → (live t b.gtrid ≡ true) ⊎ IsToEnd ds b
     by_branch true q s =
-        let e : a ≡ answer Commit (state_of (standing t b)) (vote t b) (retries t b) = subst (λ y. a ≡ answer Commit (state_of (standing t y)) (vote t y) (retries t y)) (branch_eq-true x b q) (code_of r) in
+        let e : a ≡ answer Commit (state_of (standing t b)) (vote t b) (retries t b) =
+            subst (λ y. a ≡ answer Commit (state_of (standing t y)) (vote t y) (retries t y)) (branch_eq-true x b q) (code_of r) in
         absurd (no_commit (standing t b) (vote t b) (retries t b) a e n s)
     by_branch false q s = waits q (f s)
 took_left t l (Calls.Rollback x) ds a b k r n f s = by_branch (branch_eq x b) refl s
@@ -135,7 +143,8 @@ took_left t l (Calls.Rollback x) ds a b k r n f s = by_branch (branch_eq x b) re
     waits q (inl h) = inl h
     waits q (inr h) = inr (to_end_later (Calls.Rollback x) ds b (λ e. cc) (λ e. not_same x b q (cc)) h)
 
-    by_branch : (u : Bool) → branch_eq x b ≡ u → (if u then moved (standing t b) Rollback a else standing t b) ≡ Prepared → (live t b.gtrid ≡ true) ⊎ IsToEnd ds b
+    by_branch : (u : Bool) → branch_eq x b ≡ u → (if u then moved (standing t b) Rollback a else standing t b) ≡ Prepared
+        → (live t b.gtrid ≡ true) ⊎ IsToEnd ds b
     by_branch true q s = absurd (no_rollback (standing t b) a s)
     by_branch false q s = waits q (f s)
 took_left t l (Calls.Forget x) ds a b k r n f s = by_branch (branch_eq x b) s
@@ -157,7 +166,8 @@ pub record Left (t : Trace) (r : ℕ) (cs : List Call) : Type 0 where
   pub end : AllEnd cs
   pub left : (b : Branch) → b.rm ≡ r → standing t b ≡ Prepared → (live t b.gtrid ≡ true) ⊎ IsToEnd cs b
 
-pub left_next : (t : Trace) (r : ℕ) (d : Call) (ds : List Call) (a : Answer) → RightAnswer t (line 0 r) d a → (a ≡ Ret Codes.Retry → ⊥) → Left t r (d ∷ ds) → Left (Then (Then t (Took (line 0 r) d a)) (Heard (line 0 r) d a)) r ds
+pub left_next : (t : Trace) (r : ℕ) (d : Call) (ds : List Call) (a : Answer) → RightAnswer t (line 0 r) d a
+    → (a ≡ Ret Codes.Retry → ⊥) → Left t r (d ∷ ds) → Left (Then (Then t (Took (line 0 r) d a)) (Heard (line 0 r) d a)) r ds
 left_next t r d ds (Ret a) h n p = record {
   pending = pending_next t (line 0 r) d d (Ret a) ds p.pending;
   end = p.end.1;
@@ -171,7 +181,8 @@ left_next t r d ds (Page names) h n p = absurd (no_page d p.end.0 h)
     no_page (Calls.Forget b) k h = cc
     no_page _ k h = absurd k
 
-pub all_taken : (t : Trace) (r : ℕ) (cs : List Call) (answers : List (Call × Answer)) → Left t r cs → length answers ≡ length cs → NonePutOff answers → AllDemanded t (in_turn r answers) → IsRecovered (with_steps t (in_turn r answers)) r
+pub all_taken : (t : Trace) (r : ℕ) (cs : List Call) (answers : List (Call × Answer)) → Left t r cs → length answers ≡ length cs
+    → NonePutOff answers → AllDemanded t (in_turn r answers) → IsRecovered (with_steps t (in_turn r answers)) r
 all_taken t r [] [] p e n a b q s = by_case (p.left b q s)
   where
     by_case : (live t b.gtrid ≡ true) ⊎ IsToEnd [] b → live t b.gtrid ≡ true
@@ -180,7 +191,9 @@ all_taken t r [] [] p e n a b q s = by_case (p.left b q s)
     by_case (inr (inr h)) = absurd h
 all_taken t r [] (x ∷ xs) p e n a b q s = absurd (omega (arith, e))
 all_taken t r (d ∷ ds) [] p e n a b q s = absurd (omega (arith, e))
-all_taken t r (d ∷ ds) (x ∷ xs) p e n a b q s = subst (λ tr. AllDemanded tr (in_turn r xs) → IsRecovered (with_steps tr (in_turn r xs)) r) (sym after) (λ m. all_taken (Then (Then t (Took (line 0 r) x.0 x.1)) (Heard (line 0 r) x.0 x.1)) r ds xs next (omega (arith, e)) n.1 m) a.1.1 b q s
+all_taken t r (d ∷ ds) (x ∷ xs) p e n a b q s =
+    subst (λ tr. AllDemanded tr (in_turn r xs)
+    → IsRecovered (with_steps tr (in_turn r xs)) r) (sym after) (λ m. all_taken (Then (Then t (Took (line 0 r) x.0 x.1)) (Heard (line 0 r) x.0 x.1)) r ds xs next (omega (arith, e)) n.1 m) a.1.1 b q s
   where
     takes : happened (Steps.Take 0 r) (Replies.Took (map_call Ours x.0) x.1) ≡ Took (line 0 r) x.0 x.1
     takes = ap (if_ours (λ c. Took (line 0 r) c x.1)) (accepted_ours x.0)

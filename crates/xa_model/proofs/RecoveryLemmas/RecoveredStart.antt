@@ -51,7 +51,8 @@ pub in_filtered : (test : Branch → Bool) (bs : List Branch) (b : Branch) → I
 in_filtered test [] b i t = absurd i
 in_filtered test (x ∷ bs) b i t = by_test (test x) refl i (in_filtered test bs b)
   where
-    by_test : (u : Bool) → test x ≡ u → (x ≡ b) ⊎ In bs b → (In bs b → test b ≡ true → In (filter test bs) b) → In (cond u (x ∷ filter test bs) (filter test bs)) b
+    by_test : (u : Bool) → test x ≡ u → (x ≡ b) ⊎ In bs b → (In bs b → test b ≡ true → In (filter test bs) b)
+        → In (cond u (x ∷ filter test bs) (filter test bs)) b
     by_test true q (inl e) f = inl e
     by_test true q (inr k) f = inr (f k t)
     by_test false q (inl e) f = absurd (clash (ap test e))
@@ -80,7 +81,8 @@ pub insert_new : (xs : List Name) (y : Name) → HasXid (insert_key name_cmp xs 
 insert_new [] y = (y, inl refl, refl)
 insert_new (x ∷ xs) y = by_order (name_cmp y x) refl (insert_new xs y)
   where
-    by_order : (o : Ordering) → name_cmp y x ≡ o → HasXid (insert_key name_cmp xs y) (xid_of_name y) → HasXid (match_ordering o (y ∷ x ∷ xs) (x ∷ xs) (x ∷ insert_key name_cmp xs y)) (xid_of_name y)
+    by_order : (o : Ordering) → name_cmp y x ≡ o → HasXid (insert_key name_cmp xs y) (xid_of_name y)
+        → HasXid (match_ordering o (y ∷ x ∷ xs) (x ∷ xs) (x ∷ insert_key name_cmp xs y)) (xid_of_name y)
     by_order Less q h = (y, inl refl, refl)
     by_order Equal q h = (x, inl refl, sym (xid_cmp_exact (xid_of_name y) (xid_of_name x) q))
     by_order Greater q h = has_more x (insert_key name_cmp xs y) (xid_of_name y) h
@@ -89,7 +91,8 @@ pub insert_old : (xs : List Name) (y : Name) (v : Xid) → HasXid xs v → HasXi
 insert_old [] y v h = absurd h.1
 insert_old (x ∷ xs) y v h = by_order (name_cmp y x) (λ k. insert_old xs y v k)
   where
-    by_order : (o : Ordering) → (HasXid xs v → HasXid (insert_key name_cmp xs y) v) → HasXid (match_ordering o (y ∷ x ∷ xs) (x ∷ xs) (x ∷ insert_key name_cmp xs y)) v
+    by_order : (o : Ordering) → (HasXid xs v → HasXid (insert_key name_cmp xs y) v)
+        → HasXid (match_ordering o (y ∷ x ∷ xs) (x ∷ xs) (x ∷ insert_key name_cmp xs y)) v
     by_order Less f = has_more y (x ∷ xs) v h
     by_order Equal f = h
     by_order Greater f = by_place h.1
@@ -123,11 +126,13 @@ contains_in [] x i = absurd i
 contains_in (y ∷ xs) x (inl e) = (0, omega arith, e)
 contains_in (y ∷ xs) x (inr i) = let k = contains_in xs x i in (suc k.0, omega (arith, k.1), k.2)
 
-pub own_known : (t : Trace) (r : ℕ) (bs : List Branch) → ((b : Branch) → is_in_doubt (standing t b) ≡ true → started t b ≡ true) → Each (IsKnownName t) (map (λ b. Ours b) (filter (is_in_doubt_at t r) bs))
+pub own_known : (t : Trace) (r : ℕ) (bs : List Branch) → ((b : Branch) → is_in_doubt (standing t b) ≡ true → started t b ≡ true)
+    → Each (IsKnownName t) (map (λ b. Ours b) (filter (is_in_doubt_at t r) bs))
 own_known t r [] f = tt
 own_known t r (b ∷ bs) f = by_test (is_in_doubt_at t r b) refl (own_known t r bs f)
   where
-    by_test : (u : Bool) → is_in_doubt_at t r b ≡ u → Each (IsKnownName t) (map (λ c. Ours c) (filter (is_in_doubt_at t r) bs)) → Each (IsKnownName t) (map (λ c. Ours c) (cond u (b ∷ filter (is_in_doubt_at t r) bs) (filter (is_in_doubt_at t r) bs)))
+    by_test : (u : Bool) → is_in_doubt_at t r b ≡ u → Each (IsKnownName t) (map (λ c. Ours c) (filter (is_in_doubt_at t r) bs))
+        → Each (IsKnownName t) (map (λ c. Ours c) (cond u (b ∷ filter (is_in_doubt_at t r) bs) (filter (is_in_doubt_at t r) bs)))
     by_test true q k = (f b (and_parts _ _ q).1, k)
     by_test false q k = k
 
@@ -139,7 +144,8 @@ in_doubt_started t b inv h = by_test (started t b) refl
     by_test false s = let k = sym (ap is_in_doubt (inv.unstarted b s)) ∙ h in absurd (cc)
 
 pub all_known : (t : Trace) (r : ℕ) → AllRight t → Each (IsKnownName t) (in_doubt t r)
-all_known t r a = each_in_order (IsKnownName t) _ (each_append (IsKnownName t) _ _ (foreign_known t ((origin t).in_doubt r) (λ x i. (origin_right t a).foreign r x (contains_in _ x i))) (own_known t r (branches t) (λ b. in_doubt_started t b (always t a))))
+all_known t r a =
+    each_in_order (IsKnownName t) _ (each_append (IsKnownName t) _ _ (foreign_known t ((origin t).in_doubt r) (λ x i. (origin_right t a).foreign r x (contains_in _ x i))) (own_known t r (branches t) (λ b. in_doubt_started t b (always t a))))
 
 pub each_in : (P : Name → Type 0) (xs : List Name) (n : Name) → Each P xs → In xs n → P n
 each_in P [] n h i = absurd i
@@ -147,7 +153,8 @@ each_in P (x ∷ xs) n h (inl e) = subst P e h.0
 each_in P (x ∷ xs) n h (inr i) = each_in P xs n h.1 i
 
 -- a prepared branch is listed, as itself
-pub listed : (t : Trace) (r : ℕ) (b : Branch) → AllRight t → ((c : Branch) → started t c ≡ true → IsBranch c) → b.rm ≡ r → standing t b ≡ Prepared → In (in_doubt t r) (Ours b)
+pub listed : (t : Trace) (r : ℕ) (b : Branch) → AllRight t → ((c : Branch) → started t c ≡ true → IsBranch c) → b.rm ≡ r
+    → standing t b ≡ Prepared → In (in_doubt t r) (Ours b)
 listed t r b a f q s = as_itself h.0 h.1 h.2 (each_in (IsKnownName t) (in_doubt t r) h.0 (all_known t r a) h.1)
   where
     doubt : is_in_doubt (standing t b) ≡ true
@@ -178,7 +185,8 @@ pub all_end : (t : Trace) (names : List Name) → AllEnd (resolving_calls t name
 all_end t [] = tt
 all_end t (Ours b ∷ names) = by_live (live t b.gtrid) (all_end t names)
   where
-    by_live : (u : Bool) → AllEnd (resolving_calls t names) → AllEnd (if u then resolving_calls t names else on (resolving_kind t b) b ∷ resolving_calls t names)
+    by_live : (u : Bool) → AllEnd (resolving_calls t names)
+        → AllEnd (if u then resolving_calls t names else on (resolving_kind t b) b ∷ resolving_calls t names)
     by_live true h = h
     by_live false h = (by_kind (recorded t b) (has_row t b.gtrid), h)
       where
@@ -188,7 +196,8 @@ all_end t (Ours b ∷ names) = by_live (live t b.gtrid) (all_end t names)
         by_kind false false = tt
 all_end t (Foreign x ∷ names) = all_end t names
 
-pub resolved : (t : Trace) (names : List Name) (b : Branch) → In names (Ours b) → live t b.gtrid ≡ false → In (resolving_calls t names) (on (resolving_kind t b) b)
+pub resolved : (t : Trace) (names : List Name) (b : Branch) → In names (Ours b) → live t b.gtrid ≡ false
+    → In (resolving_calls t names) (on (resolving_kind t b) b)
 resolved t [] b i n = absurd i
 resolved t (Foreign x ∷ names) b (inl e) n = absurd (cc)
 resolved t (Foreign x ∷ names) b (inr i) n = resolved t names b i n
@@ -197,7 +206,9 @@ resolved t (Ours c ∷ names) b i n = by_live (live t c.gtrid) refl i (λ k. res
     same : Ours c ≡ Ours b → c ≡ b
     same e = cc
 
-    by_live : (u : Bool) → live t c.gtrid ≡ u → (Ours c ≡ Ours b) ⊎ In names (Ours b) → (In names (Ours b) → In (resolving_calls t names) (on (resolving_kind t b) b)) → In (if u then resolving_calls t names else on (resolving_kind t c) c ∷ resolving_calls t names) (on (resolving_kind t b) b)
+    by_live : (u : Bool) → live t c.gtrid ≡ u → (Ours c ≡ Ours b) ⊎ In names (Ours b)
+        → (In names (Ours b) → In (resolving_calls t names) (on (resolving_kind t b) b))
+        → In (if u then resolving_calls t names else on (resolving_kind t c) c ∷ resolving_calls t names) (on (resolving_kind t b) b)
     by_live true q (inl e) f = absurd (clash (ap (λ x. live t x.gtrid) (same e)))
       where
         clash : live t c.gtrid ≡ live t b.gtrid → ⊥
@@ -230,31 +241,39 @@ get_behind (x ∷ xs) ys (suc j) k e = get_behind xs ys j k (omega (arith, e))
 
 -- the history up to the resolving of its page
 abbrev pub paged : Trace → (r count : ℕ) → List Name → Trace
-paged t r count names = Then (Then (Then t (Issued (line 0 r) (Calls.Recover (pos count) true true))) (Took (line 0 r) (Calls.Recover (pos count) true true) (Page names))) (Heard (line 0 r) (Calls.Recover (pos count) true true) (Page names))
+paged t r count names =
+    Then (Then (Then t (Issued (line 0 r) (Calls.Recover (pos count) true true))) (Took (line 0 r) (Calls.Recover (pos count) true true) (Page names))) (Heard (line 0 r) (Calls.Recover (pos count) true true) (Page names))
 
 pub page_is : (t : Trace) (r count : ℕ) (names : List Name) → page (paged t r count names) r ≡ names
 page_is t r count names = ap (λ u. if u then names else page t r) (line_eq-refl (line 0 r))
 
-pub issued_is : (t : Trace) (r count : ℕ) (names : List Name) → issued (Then (paged t r count names) (Resolved r)) (line 0 r) ≡ (issued t (line 0 r) ++ (Calls.Recover (pos count) true true ∷ [])) ++ resolving_calls (paged t r count names) names
+pub issued_is : (t : Trace) (r count : ℕ) (names : List Name)
+    → issued (Then (paged t r count names) (Resolved r)) (line 0 r)
+    ≡ (issued t (line 0 r) ++ (Calls.Recover (pos count) true true ∷ [])) ++ resolving_calls (paged t r count names) names
 issued_is t r count names = λ i.
     append-nil (append-nil (issued t (line 0 r) ++ (if line_eq-refl (line 0 r) i then Calls.Recover (pos count) true true ∷ [] else [])) i) i
     ++ (if line_eq-refl (line 0 r) i then resolving_calls (paged t r count names) (page_is t r count names i) else [])
 
-pub taken_is : (t : Trace) (r count : ℕ) (names : List Name) → taken (Then (paged t r count names) (Resolved r)) (line 0 r) ≡ taken t (line 0 r) ++ ((Calls.Recover (pos count) true true, Page names) ∷ [])
+pub taken_is : (t : Trace) (r count : ℕ) (names : List Name)
+    → taken (Then (paged t r count names) (Resolved r)) (line 0 r) ≡ taken t (line 0 r) ++ ((Calls.Recover (pos count) true true, Page names) ∷ [])
 taken_is t r count names = λ i.
     append-nil (append-nil (append-nil (taken t (line 0 r)) i ++ (if line_eq-refl (line 0 r) i then (Calls.Recover (pos count) true true, Page names) ∷ [] else [])) i) i
 
-pub pending_calls : (t : Trace) (r count : ℕ) (names : List Name) → length (taken t (line 0 r)) ≡ length (issued t (line 0 r)) → Pending (Then (paged t r count names) (Resolved r)) (line 0 r) (resolving_calls (paged t r count names) names)
+pub pending_calls : (t : Trace) (r count : ℕ) (names : List Name) → length (taken t (line 0 r)) ≡ length (issued t (line 0 r))
+    → Pending (Then (paged t r count names) (Resolved r)) (line 0 r) (resolving_calls (paged t r count names) names)
 pending_calls t r count names e = record { at = λ k c h. at k c h }
   where
     calls : List Call
     calls = issued t (line 0 r) ++ (Calls.Recover (pos count) true true ∷ [])
 
     many : length (taken (Then (paged t r count names) (Resolved r)) (line 0 r)) ≡ length calls
-    many = ap (length {A = Call × Answer}) (taken_is t r count names) ∙ omega (arith, e, length-append (taken t (line 0 r)) ((Calls.Recover (pos count) true true, Page names) ∷ []), length-append (issued t (line 0 r)) (Calls.Recover (pos count) true true ∷ []))
+    many = ap (length {A = Call × Answer}) (taken_is t r count names)
+        ∙ omega (arith, e, length-append (taken t (line 0 r)) ((Calls.Recover (pos count) true true, Page names) ∷ []), length-append (issued t (line 0 r)) (Calls.Recover (pos count) true true ∷ []))
 
-    at : (k : ℕ) (c : Call) → slice_get (resolving_calls (paged t r count names) names) k ≡ Some c → slice_get (issued (Then (paged t r count names) (Resolved r)) (line 0 r)) (length (taken (Then (paged t r count names) (Resolved r)) (line 0 r)) + k) ≡ Some c
-    at k c h = subst (λ xs. slice_get xs (length (taken (Then (paged t r count names) (Resolved r)) (line 0 r)) + k) ≡ Some c) (sym (issued_is t r count names)) (get_behind calls (resolving_calls (paged t r count names) names) _ k (ap (λ n. n + k) many) ∙ h)
+    at : (k : ℕ) (c : Call) → slice_get (resolving_calls (paged t r count names) names) k ≡ Some c
+        → slice_get (issued (Then (paged t r count names) (Resolved r)) (line 0 r)) (length (taken (Then (paged t r count names) (Resolved r)) (line 0 r)) + k) ≡ Some c
+    at k c h =
+        subst (λ xs. slice_get xs (length (taken (Then (paged t r count names) (Resolved r)) (line 0 r)) + k) ≡ Some c) (sym (issued_is t r count names)) (get_behind calls (resolving_calls (paged t r count names) names) _ k (ap (λ n. n + k) many) ∙ h)
 
 -- ** the whole recovery
 
@@ -264,8 +283,10 @@ number_of t r n (As_value e q) = cc
 number_of t r n (For_memory e m q) = absurd (cc)
 number_of t r n (For_log e m q) = absurd (cc)
 
-pub recovered : (t : Trace) (r count : ℕ) (names : List Name) (answers : List (Call × Answer)) → AllRight t → MayComplete t r count answers → AllDemanded t (recovery r count names answers) → IsRecovered (with_steps t (recovery r count names answers)) r
-recovered t r count names answers a m d = all_taken (Then (paged t r count names) (Resolved r)) r (resolving_calls (paged t r count names) names) answers left number m.none_put_off d.1.1.1.1
+pub recovered : (t : Trace) (r count : ℕ) (names : List Name) (answers : List (Call × Answer)) → AllRight t
+    → MayComplete t r count answers → AllDemanded t (recovery r count names answers) → IsRecovered (with_steps t (recovery r count names answers)) r
+recovered t r count names answers a m d =
+    all_taken (Then (paged t r count names) (Resolved r)) r (resolving_calls (paged t r count names) names) answers left number m.none_put_off d.1.1.1.1
   where
     took : Right (Then t (Issued (line 0 r) (Calls.Recover (pos count) true true))) (Took (line 0 r) (Calls.Recover (pos count) true true) (Page names))
     took = demanded_right (Then t (Issued (line 0 r) (Calls.Recover (pos count) true true))) (Steps.Take 0 r) (Replies.Took (Calls.Recover (pos count) true true) (Page names)) d.1.0
@@ -277,11 +298,15 @@ recovered t r count names answers a m d = all_taken (Then (paged t r count names
     whole = page_taken took.1 ∙ take_all count (in_doubt t r) m.enough
 
     number : length answers ≡ length (resolving_calls (paged t r count names) names)
-    number = number_of (paged t r count names) r (length answers) d.1.1.1.0 ∙ ap (λ ns. length (resolving_calls (paged t r count names) ns)) (page_is t r count names)
+    number =
+        number_of (paged t r count names) r (length answers) d.1.1.1.0
+        ∙ ap (λ ns. length (resolving_calls (paged t r count names) ns)) (page_is t r count names)
 
-    by_live : (b : Branch) → b.rm ≡ r → standing t b ≡ Prepared → (u : Bool) → live t b.gtrid ≡ u → (u ≡ true) ⊎ IsToEnd (resolving_calls (paged t r count names) names) b
+    by_live : (b : Branch) → b.rm ≡ r → standing t b ≡ Prepared → (u : Bool) → live t b.gtrid ≡ u
+        → (u ≡ true) ⊎ IsToEnd (resolving_calls (paged t r count names) names) b
     by_live b q s true l = inl refl
-    by_live b q s false l = inr (to_end (paged t r count names) _ b (not_recorded t b (always t a) (in_doubt_started t b (always t a) (ap is_in_doubt s)) s) (resolved (paged t r count names) names b (subst (λ ns. In ns (Ours b)) (sym whole) (listed t r b a m.numbers q s)) l))
+    by_live b q s false l =
+        inr (to_end (paged t r count names) _ b (not_recorded t b (always t a) (in_doubt_started t b (always t a) (ap is_in_doubt s)) s) (resolved (paged t r count names) names b (subst (λ ns. In ns (Ours b)) (sym whole) (listed t r b a m.numbers q s)) l))
 
     left : Left (Then (paged t r count names) (Resolved r)) r (resolving_calls (paged t r count names) names)
     left = record { pending = pending_calls t r count names m.none_waits; end = all_end (paged t r count names) names; left = λ b q s. by_live b q s (live t b.gtrid) refl }

@@ -131,7 +131,9 @@ may_lack (Steps.Take t r) = true
 may_lack _ = false
 
 abbrev pub finds : Trace → (i d h : ℕ) → Bool
-finds tr i d h = (nat_lt (incarnation tr) i && nat_le i (incarnation tr + 1 + failed_restarts tr)) && ((d == length (log (Then tr (Restarted i d h)))) && (h == length (heuristic_rows (Then tr (Restarted i d h)))))
+finds tr i d h =
+    (nat_lt (incarnation tr) i && nat_le i (incarnation tr + 1 + failed_restarts tr))
+    && ((d == length (log (Then tr (Restarted i d h)))) && (h == length (heuristic_rows (Then tr (Restarted i d h)))))
 
 -- whether the reply is one of those that the history leaves open
 abbrev pub is_open_reply : Trace → Step → Reply → Bool
@@ -144,7 +146,8 @@ not_forced : (o : Option Refusal) → none_forced o ≡ true → o ≡ None
 not_forced None e = refl
 not_forced (Some n) e = absurd (cc)
 
-heuristic_next : (tr : Trace) (l : Line) (o : Option (Call × Answer)) → next_answer tr l ≡ o → is_heuristic o ≡ true → (c : Call) × (how : How) × (next_answer tr l ≡ Some (c, Ret (Codes.Heuristic how)))
+heuristic_next : (tr : Trace) (l : Line) (o : Option (Call × Answer)) → next_answer tr l ≡ o → is_heuristic o ≡ true
+    → (c : Call) × (how : How) × (next_answer tr l ≡ Some (c, Ret (Codes.Heuristic how)))
 heuristic_next tr l (Some (c, Ret (Codes.Heuristic how))) q e = (c, how, q)
 heuristic_next tr l _ q e = absurd (cc)
 

@@ -141,14 +141,17 @@ is_open tr g b n = let p = or_none _ _ n in record { is_live = is_live tr g b p.
 pub voted_of : (tr : Trace) (b : Branch) → has_voted tr b ≡ true → HasVoted tr b
 voted_of tr b h = or_here _ _ h
 
-pub all_of_step : (g : Gtrid) (test : Branch → Bool) (x b : Branch) (rest : Bool) → x ≡ b → b.gtrid ≡ g → ((not (gtrid_eq x.gtrid g) || test x) && rest) ≡ true → test b ≡ true
-all_of_step g test x b rest e q h = by_test (not (gtrid_eq x.gtrid g)) (test x) (and_parts _ _ h).0 (ap (λ y. not (gtrid_eq y.gtrid g)) e ∙ (ap (λ y. not (gtrid_eq y g)) q ∙ ap not (gtrid_eq-refl g))) (ap test e)
+pub all_of_step : (g : Gtrid) (test : Branch → Bool) (x b : Branch) (rest : Bool) → x ≡ b → b.gtrid ≡ g
+    → ((not (gtrid_eq x.gtrid g) || test x) && rest) ≡ true → test b ≡ true
+all_of_step g test x b rest e q h =
+    by_test (not (gtrid_eq x.gtrid g)) (test x) (and_parts _ _ h).0 (ap (λ y. not (gtrid_eq y.gtrid g)) e ∙ (ap (λ y. not (gtrid_eq y g)) q ∙ ap not (gtrid_eq-refl g))) (ap test e)
   where
     by_test : (s t : Bool) → (s || t) ≡ true → s ≡ false → t ≡ test b → test b ≡ true
     by_test true t h n k = cc
     by_test false t h n k = sym k ∙ h
 
-pub all_of-started : (tr : Trace) (g : Gtrid) (test : Branch → Bool) (bs : List Branch) (b : Branch) → all_of g test bs ≡ true → InBranches bs b → b.gtrid ≡ g → test b ≡ true
+pub all_of-started : (tr : Trace) (g : Gtrid) (test : Branch → Bool) (bs : List Branch) (b : Branch) → all_of g test bs ≡ true
+    → InBranches bs b → b.gtrid ≡ g → test b ≡ true
 all_of-started tr g test [] b h i q = absurd i
 all_of-started tr g test (x ∷ bs) b h (inl e) q = all_of_step g test x b _ e q h
 all_of-started tr g test (x ∷ bs) b h (inr i) q = all_of-started tr g test bs b (and_parts _ _ h).1 i q
@@ -167,7 +170,8 @@ started_in (Then tr (Issued l (Calls.Start c true))) b s = by_case (or_here _ _ 
     by_case (inr h) f = inr (f h)
 started_in (Then tr _) b s = started_in tr b s
 
-pub each_started : (tr : Trace) (g : Gtrid) (test : Branch → Bool) → not (all_of g test (branches tr)) ≡ false → (b : Branch) → b.gtrid ≡ g → started tr b ≡ true → test b ≡ true
+pub each_started : (tr : Trace) (g : Gtrid) (test : Branch → Bool) → not (all_of g test (branches tr)) ≡ false → (b : Branch)
+    → b.gtrid ≡ g → started tr b ≡ true → test b ≡ true
 each_started tr g test h b q s = all_of-started tr g test (branches tr) b (not_back _ h) (started_in tr b s) q
 
 pub prepared_of : (f : Standing) → not (is_prepared f) ≡ false → f ≡ Prepared
@@ -186,9 +190,12 @@ is_known tr t n Commit b e = not_back _ (none_applies tr (Steps.Issue t n (Calls
 is_known tr t n Rollback b e = not_back _ (none_applies tr (Steps.Issue t n (Calls.Rollback (Ours b))) Refusal.UnknownTransaction e)
 is_known tr t n Forget b e = not_back _ (none_applies tr (Steps.Issue t n (Calls.Forget (Ours b))) Refusal.UnknownTransaction e)
 
-pub may_be_called : (tr : Trace) (t n : ℕ) (k : Kind) (b : Branch) → must_refuse tr (Steps.Issue t n (on k (Ours b))) ≡ None → IsKnown tr k b.gtrid → MayBeCalled tr k b
-may_be_called tr t n Start b e h = (none_applies tr (Steps.Issue t n (Calls.Start (Ours b) false)) Refusal.AlreadyStarted e, is_open tr b.gtrid h (none_applies tr (Steps.Issue t n (Calls.Start (Ours b) false)) Refusal.Decided e))
-may_be_called tr t n Join b e h = (none_applies tr (Steps.Issue t n (Calls.Start (Ours b) true)) Refusal.AlreadyStarted e, is_open tr b.gtrid h (none_applies tr (Steps.Issue t n (Calls.Start (Ours b) true)) Refusal.Decided e))
+pub may_be_called : (tr : Trace) (t n : ℕ) (k : Kind) (b : Branch) → must_refuse tr (Steps.Issue t n (on k (Ours b))) ≡ None
+    → IsKnown tr k b.gtrid → MayBeCalled tr k b
+may_be_called tr t n Start b e h =
+    (none_applies tr (Steps.Issue t n (Calls.Start (Ours b) false)) Refusal.AlreadyStarted e, is_open tr b.gtrid h (none_applies tr (Steps.Issue t n (Calls.Start (Ours b) false)) Refusal.Decided e))
+may_be_called tr t n Join b e h =
+    (none_applies tr (Steps.Issue t n (Calls.Start (Ours b) true)) Refusal.AlreadyStarted e, is_open tr b.gtrid h (none_applies tr (Steps.Issue t n (Calls.Start (Ours b) true)) Refusal.Decided e))
 may_be_called tr t n (End fail) b e h = tt
 may_be_called tr t n Prepare b e h = is_open tr b.gtrid h (none_applies tr (Steps.Issue t n (Calls.Prepare (Ours b))) Refusal.Decided e)
 may_be_called tr t n OnePhase b e h =
@@ -208,7 +215,8 @@ own_thread t n Commit b e = tt
 own_thread t n Rollback b e = tt
 own_thread t n Forget b e = tt
 
-wrong_thread : (t n : ℕ) (k : Kind) (b : Branch) → forces_wrong_thread (Steps.Issue t n (on k (Ours b))) ≡ (not (nat_eq n b.rm) || (is_own k && not (nat_eq t b.thread)))
+wrong_thread : (t n : ℕ) (k : Kind) (b : Branch)
+    → forces_wrong_thread (Steps.Issue t n (on k (Ours b))) ≡ (not (nat_eq n b.rm) || (is_own k && not (nat_eq t b.thread)))
 wrong_thread t n Start b = refl
 wrong_thread t n Join b = refl
 wrong_thread t n (End fail) b = refl
@@ -227,14 +235,17 @@ right_call tr t n k b e =
 pub right_decision : (tr : Trace) (g : Gtrid) (o : Outcome) → must_refuse tr (Steps.Decide g o) ≡ None → RightDecision tr g o
 right_decision tr g o e = record {
   is_up = is_up tr (Steps.Decide g o) e refl;
-  is_live = is_live tr g (not_back _ (none_applies tr (Steps.Decide g o) Refusal.UnknownTransaction e)) (or_none _ _ (none_applies tr (Steps.Decide g o) Refusal.Decided e)).0;
-  votes = λ q. inl (λ b k s. voted_of tr b (each_started tr g (has_voted tr) (none_applies tr (Steps.Decide g Outcome.Commit) Refusal.Votes (subst (λ x. must_refuse tr (Steps.Decide g x) ≡ None) q e)) b k s));
+  is_live =
+      is_live tr g (not_back _ (none_applies tr (Steps.Decide g o) Refusal.UnknownTransaction e)) (or_none _ _ (none_applies tr (Steps.Decide g o) Refusal.Decided e)).0;
+  votes =
+      λ q. inl (λ b k s. voted_of tr b (each_started tr g (has_voted tr) (none_applies tr (Steps.Decide g Outcome.Commit) Refusal.Votes (subst (λ x. must_refuse tr (Steps.Decide g x) ≡ None) q e)) b k s));
 }
 
 pub right_claim : (tr : Trace) (g : Gtrid) → must_refuse tr (Steps.Claim g) ≡ None → RightClaim tr g
 right_claim tr g e = record {
   is_up = is_up tr (Steps.Claim g) e refl;
-  is_live = is_live tr g (not_back _ (none_applies tr (Steps.Claim g) Refusal.UnknownTransaction e)) (or_none _ _ (none_applies tr (Steps.Claim g) Refusal.Decided e)).0;
+  is_live =
+      is_live tr g (not_back _ (none_applies tr (Steps.Claim g) Refusal.UnknownTransaction e)) (or_none _ _ (none_applies tr (Steps.Claim g) Refusal.Decided e)).0;
   votes = λ b k s. voted_of tr b (each_started tr g (has_voted tr) (none_applies tr (Steps.Claim g) Refusal.Votes e) b k s);
 }
 
@@ -259,7 +270,8 @@ right_done tr g e = record {
   is_settled = by_begun (begun tr g) refl (none_applies tr (Steps.Done g) Refusal.UnknownTransaction e) (none_applies tr (Steps.Done g) Refusal.Busy e);
 }
   where
-    by_begun : (t : Bool) → begun tr g ≡ t → not (t || outlived tr g) ≡ false → not (if t then all_of g (settled tr) (branches tr) else participants_settled tr g) ≡ false → IsRowSettled tr g
+    by_begun : (t : Bool) → begun tr g ≡ t → not (t || outlived tr g) ≡ false
+        → not (if t then all_of g (settled tr) (branches tr) else participants_settled tr g) ≡ false → IsRowSettled tr g
     by_begun true q u h = inl (q, λ b k s. each_started tr g (settled tr) h b k s)
     by_begun false q u h = inr (not_back _ u, not_back _ h)
 
@@ -286,37 +298,51 @@ restarts_right tr r u (Restarts_as i d h a m b c) = (u, a, b, c)
 
 pub value_right : (tr : Trace) (s : Step) (r : Reply) → must_refuse tr s ≡ None → IsValue tr s r → Right tr (happened s r)
 value_right tr (Steps.Begin t) r e v = by tr (Steps.Begin t) r _ v (is_up tr (Steps.Begin t) e refl, refl, refl)
-value_right tr (Steps.Issue t n Calls.OpenRm) r e v = by tr (Steps.Issue t n Calls.OpenRm) r _ v (is_up tr (Steps.Issue t n Calls.OpenRm) e refl, tt, none_applies tr (Steps.Issue t n Calls.OpenRm) Refusal.Closed e)
-value_right tr (Steps.Issue t n Calls.CloseRm) r e v = by tr (Steps.Issue t n Calls.CloseRm) r _ v (is_up tr (Steps.Issue t n Calls.CloseRm) e refl, tt, none_applies tr (Steps.Issue t n Calls.CloseRm) Refusal.Closed e)
-value_right tr (Steps.Issue t n (Calls.Start (Ours b) false)) r e v = by tr (Steps.Issue t n (Calls.Start (Ours b) false)) r _ v (is_up tr (Steps.Issue t n (Calls.Start (Ours b) false)) e refl, right_call tr t n Start b e, none_applies tr (Steps.Issue t n (Calls.Start (Ours b) false)) Refusal.Closed e)
-value_right tr (Steps.Issue t n (Calls.Start (Ours b) true)) r e v = by tr (Steps.Issue t n (Calls.Start (Ours b) true)) r _ v (is_up tr (Steps.Issue t n (Calls.Start (Ours b) true)) e refl, right_call tr t n Join b e, none_applies tr (Steps.Issue t n (Calls.Start (Ours b) true)) Refusal.Closed e)
-value_right tr (Steps.Issue t n (Calls.End (Ours b) fail)) r e v = by tr (Steps.Issue t n (Calls.End (Ours b) fail)) r _ v (is_up tr (Steps.Issue t n (Calls.End (Ours b) fail)) e refl, right_call tr t n (End fail) b e, none_applies tr (Steps.Issue t n (Calls.End (Ours b) fail)) Refusal.Closed e)
-value_right tr (Steps.Issue t n (Calls.Prepare (Ours b))) r e v = by tr (Steps.Issue t n (Calls.Prepare (Ours b))) r _ v (is_up tr (Steps.Issue t n (Calls.Prepare (Ours b))) e refl, right_call tr t n Prepare b e, none_applies tr (Steps.Issue t n (Calls.Prepare (Ours b))) Refusal.Closed e)
-value_right tr (Steps.Issue t n (Calls.Commit (Ours b) false)) r e v = by tr (Steps.Issue t n (Calls.Commit (Ours b) false)) r _ v (is_up tr (Steps.Issue t n (Calls.Commit (Ours b) false)) e refl, right_call tr t n Commit b e, none_applies tr (Steps.Issue t n (Calls.Commit (Ours b) false)) Refusal.Closed e)
-value_right tr (Steps.Issue t n (Calls.Commit (Ours b) true)) r e v = by tr (Steps.Issue t n (Calls.Commit (Ours b) true)) r _ v (is_up tr (Steps.Issue t n (Calls.Commit (Ours b) true)) e refl, right_call tr t n OnePhase b e, none_applies tr (Steps.Issue t n (Calls.Commit (Ours b) true)) Refusal.Closed e)
-value_right tr (Steps.Issue t n (Calls.Rollback (Ours b))) r e v = by tr (Steps.Issue t n (Calls.Rollback (Ours b))) r _ v (is_up tr (Steps.Issue t n (Calls.Rollback (Ours b))) e refl, right_call tr t n Rollback b e, none_applies tr (Steps.Issue t n (Calls.Rollback (Ours b))) Refusal.Closed e)
-value_right tr (Steps.Issue t n (Calls.Forget (Ours b))) r e v = by tr (Steps.Issue t n (Calls.Forget (Ours b))) r _ v (is_up tr (Steps.Issue t n (Calls.Forget (Ours b))) e refl, right_call tr t n Forget b e, none_applies tr (Steps.Issue t n (Calls.Forget (Ours b))) Refusal.Closed e)
+value_right tr (Steps.Issue t n Calls.OpenRm) r e v =
+    by tr (Steps.Issue t n Calls.OpenRm) r _ v (is_up tr (Steps.Issue t n Calls.OpenRm) e refl, tt, none_applies tr (Steps.Issue t n Calls.OpenRm) Refusal.Closed e)
+value_right tr (Steps.Issue t n Calls.CloseRm) r e v =
+    by tr (Steps.Issue t n Calls.CloseRm) r _ v (is_up tr (Steps.Issue t n Calls.CloseRm) e refl, tt, none_applies tr (Steps.Issue t n Calls.CloseRm) Refusal.Closed e)
+value_right tr (Steps.Issue t n (Calls.Start (Ours b) false)) r e v =
+    by tr (Steps.Issue t n (Calls.Start (Ours b) false)) r _ v (is_up tr (Steps.Issue t n (Calls.Start (Ours b) false)) e refl, right_call tr t n Start b e, none_applies tr (Steps.Issue t n (Calls.Start (Ours b) false)) Refusal.Closed e)
+value_right tr (Steps.Issue t n (Calls.Start (Ours b) true)) r e v =
+    by tr (Steps.Issue t n (Calls.Start (Ours b) true)) r _ v (is_up tr (Steps.Issue t n (Calls.Start (Ours b) true)) e refl, right_call tr t n Join b e, none_applies tr (Steps.Issue t n (Calls.Start (Ours b) true)) Refusal.Closed e)
+value_right tr (Steps.Issue t n (Calls.End (Ours b) fail)) r e v =
+    by tr (Steps.Issue t n (Calls.End (Ours b) fail)) r _ v (is_up tr (Steps.Issue t n (Calls.End (Ours b) fail)) e refl, right_call tr t n (End fail) b e, none_applies tr (Steps.Issue t n (Calls.End (Ours b) fail)) Refusal.Closed e)
+value_right tr (Steps.Issue t n (Calls.Prepare (Ours b))) r e v =
+    by tr (Steps.Issue t n (Calls.Prepare (Ours b))) r _ v (is_up tr (Steps.Issue t n (Calls.Prepare (Ours b))) e refl, right_call tr t n Prepare b e, none_applies tr (Steps.Issue t n (Calls.Prepare (Ours b))) Refusal.Closed e)
+value_right tr (Steps.Issue t n (Calls.Commit (Ours b) false)) r e v =
+    by tr (Steps.Issue t n (Calls.Commit (Ours b) false)) r _ v (is_up tr (Steps.Issue t n (Calls.Commit (Ours b) false)) e refl, right_call tr t n Commit b e, none_applies tr (Steps.Issue t n (Calls.Commit (Ours b) false)) Refusal.Closed e)
+value_right tr (Steps.Issue t n (Calls.Commit (Ours b) true)) r e v =
+    by tr (Steps.Issue t n (Calls.Commit (Ours b) true)) r _ v (is_up tr (Steps.Issue t n (Calls.Commit (Ours b) true)) e refl, right_call tr t n OnePhase b e, none_applies tr (Steps.Issue t n (Calls.Commit (Ours b) true)) Refusal.Closed e)
+value_right tr (Steps.Issue t n (Calls.Rollback (Ours b))) r e v =
+    by tr (Steps.Issue t n (Calls.Rollback (Ours b))) r _ v (is_up tr (Steps.Issue t n (Calls.Rollback (Ours b))) e refl, right_call tr t n Rollback b e, none_applies tr (Steps.Issue t n (Calls.Rollback (Ours b))) Refusal.Closed e)
+value_right tr (Steps.Issue t n (Calls.Forget (Ours b))) r e v =
+    by tr (Steps.Issue t n (Calls.Forget (Ours b))) r _ v (is_up tr (Steps.Issue t n (Calls.Forget (Ours b))) e refl, right_call tr t n Forget b e, none_applies tr (Steps.Issue t n (Calls.Forget (Ours b))) Refusal.Closed e)
 value_right tr (Steps.Issue t n (Calls.Start (Foreign x) join)) r e v = by tr (Steps.Issue t n (Calls.Start (Foreign x) join)) r _ v tt
 value_right tr (Steps.Issue t n (Calls.End (Foreign x) fail)) r e v = by tr (Steps.Issue t n (Calls.End (Foreign x) fail)) r _ v tt
 value_right tr (Steps.Issue t n (Calls.Prepare (Foreign x))) r e v = by tr (Steps.Issue t n (Calls.Prepare (Foreign x))) r _ v tt
 value_right tr (Steps.Issue t n (Calls.Commit (Foreign x) one_phase)) r e v = by tr (Steps.Issue t n (Calls.Commit (Foreign x) one_phase)) r _ v tt
 value_right tr (Steps.Issue t n (Calls.Rollback (Foreign x))) r e v = by tr (Steps.Issue t n (Calls.Rollback (Foreign x))) r _ v tt
 value_right tr (Steps.Issue t n (Calls.Forget (Foreign x))) r e v = by tr (Steps.Issue t n (Calls.Forget (Foreign x))) r _ v tt
-value_right tr (Steps.Issue t n (Calls.Recover k x y)) r e v = by tr (Steps.Issue t n (Calls.Recover k x y)) r _ v (is_up tr (Steps.Issue t n (Calls.Recover k x y)) e refl, tt, none_applies tr (Steps.Issue t n (Calls.Recover k x y)) Refusal.Closed e)
+value_right tr (Steps.Issue t n (Calls.Recover k x y)) r e v =
+    by tr (Steps.Issue t n (Calls.Recover k x y)) r _ v (is_up tr (Steps.Issue t n (Calls.Recover k x y)) e refl, tt, none_applies tr (Steps.Issue t n (Calls.Recover k x y)) Refusal.Closed e)
 value_right tr (Steps.Take t n) r e v = takes_right tr t n r v
 value_right tr (Steps.Hear t n) r e v = hears_right tr t n r (is_up tr (Steps.Hear t n) e refl) v
 value_right tr (Steps.Vote n (Ours b) x) r e v = by tr (Steps.Vote n (Ours b) x) r _ v tt
 value_right tr (Steps.Vote n (Foreign y) x) r e v = by tr (Steps.Vote n (Foreign y) x) r _ v tt
 value_right tr (Steps.Busy n (Ours b) x) r e v = by tr (Steps.Busy n (Ours b) x) r _ v tt
 value_right tr (Steps.Busy n (Foreign y) x) r e v = by tr (Steps.Busy n (Foreign y) x) r _ v tt
-value_right tr (Steps.Heuristic n (Ours b) how) r e v = by tr (Steps.Heuristic n (Ours b) how) r _ v (prepared_of _ (or_none _ _ (none_applies tr (Steps.Heuristic n (Ours b) how) Refusal.Script e)).1)
+value_right tr (Steps.Heuristic n (Ours b) how) r e v =
+    by tr (Steps.Heuristic n (Ours b) how) r _ v (prepared_of _ (or_none _ _ (none_applies tr (Steps.Heuristic n (Ours b) how) Refusal.Script e)).1)
 value_right tr (Steps.Heuristic n (Foreign y) how) r e v = by tr (Steps.Heuristic n (Foreign y) how) r _ v tt
 value_right tr (Steps.Decide g o) r e v = by tr (Steps.Decide g o) r _ v (right_decision tr g o e)
 value_right tr (Steps.Claim g) r e v = by tr (Steps.Claim g) r _ v (right_claim tr g e)
 value_right tr (Steps.Settle g) r e v = by tr (Steps.Settle g) r _ v (right_settle tr g e)
 value_right tr (Steps.Abandon g) r e v = by tr (Steps.Abandon g) r _ v (right_abandon tr g e)
-value_right tr (Steps.ResolveOpen n) r e v = by tr (Steps.ResolveOpen n) r _ v (is_up tr (Steps.ResolveOpen n) e refl, none_applies tr (Steps.ResolveOpen n) Refusal.Closed e)
-value_right tr (Steps.Recover n k x y) r e v = by tr (Steps.Recover n k x y) r _ v (is_up tr (Steps.Recover n k x y) e refl, tt, none_applies tr (Steps.Recover n k x y) Refusal.Closed e)
+value_right tr (Steps.ResolveOpen n) r e v =
+    by tr (Steps.ResolveOpen n) r _ v (is_up tr (Steps.ResolveOpen n) e refl, none_applies tr (Steps.ResolveOpen n) Refusal.Closed e)
+value_right tr (Steps.Recover n k x y) r e v =
+    by tr (Steps.Recover n k x y) r _ v (is_up tr (Steps.Recover n k x y) e refl, tt, none_applies tr (Steps.Recover n k x y) Refusal.Closed e)
 value_right tr (Steps.Resolve n) r e v = by tr (Steps.Resolve n) r _ v (is_up tr (Steps.Resolve n) e refl, none_applies tr (Steps.Resolve n) Refusal.Closed e)
 value_right tr (Steps.Done g) r e v = by tr (Steps.Done g) r _ v (right_done tr g e)
 value_right tr (Steps.Crash p) r e v = by tr (Steps.Crash p) r _ v tt

@@ -18,7 +18,9 @@ heuristic = Codes.Heuristic How.Mix
 
 -- each code, one of those that come in kinds
 abbrev codes : List Code
-codes = Codes.Success ∷ Codes.ReadOnly ∷ rolled_back ∷ heuristic ∷ Codes.Retry ∷ Codes.NotAnXid ∷ Codes.Invalid ∷ Codes.Protocol ∷ Codes.DuplicateXid ∷ Codes.RmError ∷ Codes.RmFailed ∷ []
+codes =
+    Codes.Success ∷ Codes.ReadOnly ∷ rolled_back ∷ heuristic ∷ Codes.Retry ∷ Codes.NotAnXid ∷ Codes.Invalid ∷ Codes.Protocol
+    ∷ Codes.DuplicateXid ∷ Codes.RmError ∷ Codes.RmFailed ∷ []
 
 -- the codes that pass a test as the answer to a call on the branch
 abbrev passing : (Call → Answer → Bool) → Kind → Branch → List Code
@@ -29,7 +31,8 @@ finishing = passing (finishes (own 1 0 0))
 
 -- ** the branch itself
 
-start : finishing Start (own 1 0 0) ≡ Codes.ReadOnly ∷ rolled_back ∷ heuristic ∷ Codes.Retry ∷ Codes.NotAnXid ∷ Codes.Invalid ∷ Codes.Protocol ∷ Codes.DuplicateXid ∷ Codes.RmError ∷ Codes.RmFailed ∷ []
+start : finishing Start (own 1 0 0) ≡ Codes.ReadOnly ∷ rolled_back ∷ heuristic ∷ Codes.Retry ∷ Codes.NotAnXid ∷ Codes.Invalid
+    ∷ Codes.Protocol ∷ Codes.DuplicateXid ∷ Codes.RmError ∷ Codes.RmFailed ∷ []
 start = refl
 
 join : finishing Join (own 1 0 0) ≡ finishing Start (own 1 0 0)

@@ -54,7 +54,8 @@ two_phase_commit-demanded : AllDemanded (From (fresh 1 2)) two_phase_commit
 unfolding two_phase_commit
 two_phase_commit-demanded = computed (From (fresh 1 2)) two_phase_commit refl
 
-two_phase_commit-fates : (fate (with_steps (From (fresh 1 2)) two_phase_commit) (own 1 0 0) ≡ Fates.Committed) × (fate (with_steps (From (fresh 1 2)) two_phase_commit) (own 1 0 1) ≡ Fates.Committed)
+two_phase_commit-fates : (fate (with_steps (From (fresh 1 2)) two_phase_commit) (own 1 0 0) ≡ Fates.Committed)
+    × (fate (with_steps (From (fresh 1 2)) two_phase_commit) (own 1 0 1) ≡ Fates.Committed)
 unfolding two_phase_commit
 two_phase_commit-fates = (refl, refl)
 
@@ -80,7 +81,8 @@ one_no-demanded : AllDemanded (From (fresh 1 2)) one_no
 unfolding one_no
 one_no-demanded = computed (From (fresh 1 2)) one_no refl
 
-one_no-fates : (fate (with_steps (From (fresh 1 2)) one_no) (own 1 0 0) ≡ Fates.RolledBack) × (fate (with_steps (From (fresh 1 2)) one_no) (own 1 0 1) ≡ Fates.RolledBack)
+one_no-fates : (fate (with_steps (From (fresh 1 2)) one_no) (own 1 0 0) ≡ Fates.RolledBack)
+    × (fate (with_steps (From (fresh 1 2)) one_no) (own 1 0 1) ≡ Fates.RolledBack)
 unfolding one_no
 one_no-fates = (refl, refl)
 
@@ -105,7 +107,8 @@ all_read_only-demanded : AllDemanded (From (fresh 1 2)) all_read_only
 unfolding all_read_only
 all_read_only-demanded = computed (From (fresh 1 2)) all_read_only refl
 
-all_read_only-fates : (fate (with_steps (From (fresh 1 2)) all_read_only) (own 1 0 0) ≡ Fates.ReadOnly) × (fate (with_steps (From (fresh 1 2)) all_read_only) (own 1 0 1) ≡ Fates.ReadOnly)
+all_read_only-fates : (fate (with_steps (From (fresh 1 2)) all_read_only) (own 1 0 0) ≡ Fates.ReadOnly)
+    × (fate (with_steps (From (fresh 1 2)) all_read_only) (own 1 0 1) ≡ Fates.ReadOnly)
 unfolding all_read_only
 all_read_only-fates = (refl, refl)
 
@@ -160,7 +163,8 @@ heuristic-demanded : AllDemanded (From (fresh 1 2)) heuristic
 unfolding heuristic
 heuristic-demanded = computed (From (fresh 1 2)) heuristic refl
 
-heuristic-fates : (fate (with_steps (From (fresh 1 2)) heuristic) (own 1 0 0) ≡ Fates.Committed) × (fate (with_steps (From (fresh 1 2)) heuristic) (own 1 0 1) ≡ Fates.Heuristic How.Rb)
+heuristic-fates : (fate (with_steps (From (fresh 1 2)) heuristic) (own 1 0 0) ≡ Fates.Committed)
+    × (fate (with_steps (From (fresh 1 2)) heuristic) (own 1 0 1) ≡ Fates.Heuristic How.Rb)
 unfolding heuristic
 heuristic-fates = (refl, refl)
 

@@ -92,7 +92,8 @@ decided_before_crash-demanded : AllDemanded (From (fresh 1 2)) decided_before_cr
 unfolding decided_before_crash
 decided_before_crash-demanded = computed (From (fresh 1 2)) decided_before_crash refl
 
-decided_before_crash-fates : (fate (with_steps (From (fresh 1 2)) decided_before_crash) (own 1 0 0) ≡ Fates.Committed) × (fate (with_steps (From (fresh 1 2)) decided_before_crash) (own 1 0 1) ≡ Fates.Committed)
+decided_before_crash-fates : (fate (with_steps (From (fresh 1 2)) decided_before_crash) (own 1 0 0) ≡ Fates.Committed)
+    × (fate (with_steps (From (fresh 1 2)) decided_before_crash) (own 1 0 1) ≡ Fates.Committed)
 unfolding decided_before_crash
 decided_before_crash-fates = (refl, refl)
 
@@ -121,7 +122,8 @@ acknowledged_later-demanded : AllDemanded (From (fresh 1 2)) acknowledged_later
 unfolding acknowledged_later
 acknowledged_later-demanded = computed (From (fresh 1 2)) acknowledged_later refl
 
-acknowledged_later-fates : (fate (with_steps (From (fresh 1 2)) acknowledged_later) (own 1 0 0) ≡ Fates.Committed) × (fate (with_steps (From (fresh 1 2)) acknowledged_later) (own 1 0 1) ≡ Fates.Prepared)
+acknowledged_later-fates : (fate (with_steps (From (fresh 1 2)) acknowledged_later) (own 1 0 0) ≡ Fates.Committed)
+    × (fate (with_steps (From (fresh 1 2)) acknowledged_later) (own 1 0 1) ≡ Fates.Prepared)
 unfolding acknowledged_later
 acknowledged_later-fates = (refl, refl)
 
@@ -155,7 +157,8 @@ acknowledged_anew-demanded : AllDemanded (From (fresh 1 2)) acknowledged_anew
 unfolding acknowledged_anew
 acknowledged_anew-demanded = computed (From (fresh 1 2)) acknowledged_anew refl
 
-acknowledged_anew-fates : (fate (with_steps (From (fresh 1 2)) acknowledged_anew) (own 1 0 0) ≡ Fates.Committed) × (fate (with_steps (From (fresh 1 2)) acknowledged_anew) (own 1 0 1) ≡ Fates.Committed)
+acknowledged_anew-fates : (fate (with_steps (From (fresh 1 2)) acknowledged_anew) (own 1 0 0) ≡ Fates.Committed)
+    × (fate (with_steps (From (fresh 1 2)) acknowledged_anew) (own 1 0 1) ≡ Fates.Committed)
 unfolding acknowledged_anew
 acknowledged_anew-fates = (refl, refl)
 
@@ -200,7 +203,8 @@ resource_manager_crash-demanded : AllDemanded (From (fresh 1 2)) resource_manage
 unfolding resource_manager_crash
 resource_manager_crash-demanded = computed (From (fresh 1 2)) resource_manager_crash refl
 
-resource_manager_crash-fates : (fate (with_steps (From (fresh 1 2)) resource_manager_crash) (own 1 0 0) ≡ Fates.Committed) × (fate (with_steps (From (fresh 1 2)) resource_manager_crash) (own 1 0 1) ≡ Fates.Committed)
+resource_manager_crash-fates : (fate (with_steps (From (fresh 1 2)) resource_manager_crash) (own 1 0 0) ≡ Fates.Committed)
+    × (fate (with_steps (From (fresh 1 2)) resource_manager_crash) (own 1 0 1) ≡ Fates.Committed)
 unfolding resource_manager_crash
 resource_manager_crash-fates = (refl, refl)
 

@@ -100,7 +100,8 @@ heuristic_fault_not_made-demanded : AllDemanded (From (fresh 1 2)) heuristic_fau
 unfolding heuristic_fault_not_made
 heuristic_fault_not_made-demanded = computed (From (fresh 1 2)) heuristic_fault_not_made refl
 
-heuristic_fault_not_made-fates : (fate (with_steps (From (fresh 1 2)) heuristic_fault_not_made) (own 1 0 0) ≡ Fates.Committed) × (fate (with_steps (From (fresh 1 2)) heuristic_fault_not_made) (own 1 0 1) ≡ Fates.Heuristic How.Rb)
+heuristic_fault_not_made-fates : (fate (with_steps (From (fresh 1 2)) heuristic_fault_not_made) (own 1 0 0) ≡ Fates.Committed)
+    × (fate (with_steps (From (fresh 1 2)) heuristic_fault_not_made) (own 1 0 1) ≡ Fates.Heuristic How.Rb)
 unfolding heuristic_fault_not_made
 heuristic_fault_not_made-fates = (refl, refl)
 
@@ -137,7 +138,8 @@ heuristic_fault_made-demanded : AllDemanded (From (fresh 1 2)) heuristic_fault_m
 unfolding heuristic_fault_made
 heuristic_fault_made-demanded = computed (From (fresh 1 2)) heuristic_fault_made refl
 
-heuristic_fault_made-fates : (fate (with_steps (From (fresh 1 2)) heuristic_fault_made) (own 1 0 0) ≡ Fates.Committed) × (fate (with_steps (From (fresh 1 2)) heuristic_fault_made) (own 1 0 1) ≡ Fates.Heuristic How.Rb)
+heuristic_fault_made-fates : (fate (with_steps (From (fresh 1 2)) heuristic_fault_made) (own 1 0 0) ≡ Fates.Committed)
+    × (fate (with_steps (From (fresh 1 2)) heuristic_fault_made) (own 1 0 1) ≡ Fates.Heuristic How.Rb)
 unfolding heuristic_fault_made
 heuristic_fault_made-fates = (refl, refl)
 

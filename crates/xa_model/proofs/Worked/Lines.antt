@@ -112,7 +112,8 @@ ended_elsewhere-demanded : AllDemanded (From (fresh 2 2)) ended_elsewhere
 unfolding ended_elsewhere
 ended_elsewhere-demanded = computed (From (fresh 2 2)) ended_elsewhere refl
 
-ended_elsewhere-fates : (fate (with_steps (From (fresh 2 2)) ended_elsewhere) (own 1 0 0) ≡ Fates.Committed) × (fate (with_steps (From (fresh 2 2)) ended_elsewhere) (own 1 0 1) ≡ Fates.Heuristic How.Rb)
+ended_elsewhere-fates : (fate (with_steps (From (fresh 2 2)) ended_elsewhere) (own 1 0 0) ≡ Fates.Committed)
+    × (fate (with_steps (From (fresh 2 2)) ended_elsewhere) (own 1 0 1) ≡ Fates.Heuristic How.Rb)
 unfolding ended_elsewhere
 ended_elsewhere-fates = (refl, refl)
 

@@ -311,7 +311,8 @@ refused_scripts-demanded : AllDemanded (From (fresh 1 2)) refused_scripts
 unfolding refused_scripts
 refused_scripts-demanded = computed (From (fresh 1 2)) refused_scripts refl
 
-refused_scripts-fates : (fate (with_steps (From (fresh 1 2)) refused_scripts) (own 1 0 0) ≡ Fates.Heuristic How.Rb) × (fate (with_steps (From (fresh 1 2)) refused_scripts) (own 1 0 1) ≡ Fates.Idle)
+refused_scripts-fates : (fate (with_steps (From (fresh 1 2)) refused_scripts) (own 1 0 0) ≡ Fates.Heuristic How.Rb)
+    × (fate (with_steps (From (fresh 1 2)) refused_scripts) (own 1 0 1) ≡ Fates.Idle)
 unfolding refused_scripts
 refused_scripts-fates = (refl, refl)
 
@@ -381,7 +382,8 @@ two_branches_in_one_phase-demanded : AllDemanded (From (fresh 2 1)) two_branches
 unfolding two_branches_in_one_phase
 two_branches_in_one_phase-demanded = computed (From (fresh 2 1)) two_branches_in_one_phase refl
 
-two_branches_in_one_phase-fates : (fate (with_steps (From (fresh 2 1)) two_branches_in_one_phase) (own 1 0 0) ≡ Fates.Idle) × (fate (with_steps (From (fresh 2 1)) two_branches_in_one_phase) (own 1 1 0) ≡ Fates.Active)
+two_branches_in_one_phase-fates : (fate (with_steps (From (fresh 2 1)) two_branches_in_one_phase) (own 1 0 0) ≡ Fates.Idle)
+    × (fate (with_steps (From (fresh 2 1)) two_branches_in_one_phase) (own 1 1 0) ≡ Fates.Active)
 unfolding two_branches_in_one_phase
 two_branches_in_one_phase-fates = (refl, refl)
 

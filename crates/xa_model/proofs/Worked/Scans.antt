@@ -46,7 +46,11 @@ scan_pages-demanded : AllDemanded (From (fresh 1 1)) scan_pages
 unfolding scan_pages
 scan_pages-demanded = computed (From (fresh 1 1)) scan_pages refl
 
-scan_pages-fates : (fate (with_steps (From (fresh 1 1)) scan_pages) (own 1 0 0) ≡ Fates.Prepared) × (fate (with_steps (From (fresh 1 1)) scan_pages) (own 2 0 0) ≡ Fates.Prepared) × (fate (with_steps (From (fresh 1 1)) scan_pages) (own 3 0 0) ≡ Fates.Prepared) × (fate (with_steps (From (fresh 1 1)) scan_pages) (own 4 0 0) ≡ Fates.Prepared) × (fate (with_steps (From (fresh 1 1)) scan_pages) (own 5 0 0) ≡ Fates.Prepared)
+scan_pages-fates : (fate (with_steps (From (fresh 1 1)) scan_pages) (own 1 0 0) ≡ Fates.Prepared)
+    × (fate (with_steps (From (fresh 1 1)) scan_pages) (own 2 0 0) ≡ Fates.Prepared)
+    × (fate (with_steps (From (fresh 1 1)) scan_pages) (own 3 0 0) ≡ Fates.Prepared)
+    × (fate (with_steps (From (fresh 1 1)) scan_pages) (own 4 0 0) ≡ Fates.Prepared)
+    × (fate (with_steps (From (fresh 1 1)) scan_pages) (own 5 0 0) ≡ Fates.Prepared)
 unfolding scan_pages
 scan_pages-fates = (refl, refl, refl, refl, refl)
 
@@ -80,7 +84,9 @@ index-demanded : AllDemanded (From (fresh 1 1)) index
 unfolding index
 index-demanded = computed (From (fresh 1 1)) index refl
 
-index-fates : (fate (with_steps (From (fresh 1 1)) index) (own 1 0 0) ≡ Fates.Prepared) × (fate (with_steps (From (fresh 1 1)) index) (own 2 0 0) ≡ Fates.Committed) × (fate (with_steps (From (fresh 1 1)) index) (own 3 0 0) ≡ Fates.Prepared) × (fate (with_steps (From (fresh 1 1)) index) (own 4 0 0) ≡ Fates.Prepared)
+index-fates : (fate (with_steps (From (fresh 1 1)) index) (own 1 0 0) ≡ Fates.Prepared)
+    × (fate (with_steps (From (fresh 1 1)) index) (own 2 0 0) ≡ Fates.Committed)
+    × (fate (with_steps (From (fresh 1 1)) index) (own 3 0 0) ≡ Fates.Prepared) × (fate (with_steps (From (fresh 1 1)) index) (own 4 0 0) ≡ Fates.Prepared)
 unfolding index
 index-fates = (refl, refl, refl, refl)
 
