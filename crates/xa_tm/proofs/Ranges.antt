@@ -7,6 +7,7 @@ use Rattle.std.specs.BTreeMap.Range.{range_contains}
 use Rattle.std.specs.declared.ops.Bound.TheVariants.{Included, Excluded}
 use Rattle.xa_base.specs.Branch.{branch_cmp, gtrid_eq}
 use Rattle.xa_base.specs.declared.branch.Branch.{Branch}
+use Rattle.xa_base.proofs.BranchOrder.{gtrid_numbers}
 use Rattle.xa_base.specs.declared.branch.Gtrid.{Gtrid}
 
 -- an order by three keys, of which the last is at its least
@@ -38,6 +39,7 @@ pub within : (g : Gtrid) (q : Branch)
 within g q = in_between (nat_cmp g.incarnation q.gtrid.incarnation) (nat_cmp g.sequence q.gtrid.sequence) (nat_cmp (g.sequence + 1) q.gtrid.sequence)
     (ordering_then (nat_cmp 0 q.thread) (nat_cmp 0 q.rm)) (least q.thread q.rm) (next_is_more g.sequence q.gtrid.sequence)
     ∙ (λ i. same_number q.gtrid.incarnation g.incarnation i && same_number q.gtrid.sequence g.sequence i)
+    ∙ gtrid_numbers q.gtrid g
 
 -- the one runs before the other
 pub forward : (g : Gtrid) → is_gt (branch_cmp (record { gtrid = g; thread = 0; rm = 0 }) (record { gtrid = record g { sequence = g.sequence + 1 }; thread = 0; rm = 0 })) ≡ false
