@@ -1,0 +1,3 @@
+mod Alike
+mod Branches
+mod Decisions

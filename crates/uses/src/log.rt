@@ -1,0 +1,23 @@
+//! `xa_log`: a decision is logged, and found again after a restart.
+
+ghost use Rattle.std.specs.Prelude.{◌≡◌, true, IfOk};
+ghost use Rattle.std.specs.List.{AllByRecursion};
+ghost use Rattle.xa_log.specs.Contract.{FitsRow};
+
+use xa_base::{Branch, Gtrid};
+use xa_log::{DecisionLog, LogFault};
+
+/// Logs that a transaction commits, starts anew in the next incarnation, and looks: the decision is there.
+pub(crate) fn found_again<L: DecisionLog>(
+    log: &mut L,
+    g: Gtrid,
+    participants: &[Branch],
+) -> Result<bool, LogFault>
+    requires fits { FitsRow g }
+    requires own { AllByRecursion (λ b. b.gtrid ≡ g) participants.now }
+    ensures { L.is_in_order log.old → L.is_honest log.new → IfOk result (λ found. found ≡ true) }
+{
+    let _logged = log.commit(g, participants)?;
+    let _incarnation = log.bump()?;
+    log.contains(g)
+}

@@ -1,0 +1,18 @@
+//! `xa_model`: what a list of events means, where each reply is the one that the events before it demand.
+
+ghost use Rattle.std.specs.Prelude.{◌≡◌};
+ghost use Rattle.xa_base.specs.Agreement.{AreAlike};
+ghost use Rattle.xa_base.specs.History.{AreDemanded, history};
+ghost use Rattle.xa_base.specs.Right.{RightOrigin};
+ghost use Rattle.xa_base.specs.Trace.{Origin};
+
+use xa_base::{Event, headline_holds};
+
+/// After these events no branch of a transaction is committed beside one that is rolled back or lost. Nothing is done.
+#[tactic(auto, using(crate::proofs::Alike::at_end))]
+pub(crate) fn end_alike(events: &[Event])
+    ensures { (o : Origin) → RightOrigin o → AreDemanded o events.now → AreAlike (history o events.now) }
+{
+    let _ = events.len();
+    headline_holds();
+}

@@ -1,0 +1,80 @@
+//! `xa_system`: two-phase commit of one transaction.
+
+ghost use Rattle.std.specs.Prelude.{◌≡◌};
+ghost use Rattle.xa_base.specs.Agreement.{AreAlike};
+ghost use Rattle.xa_system.specs.Seen.{trace_in};
+ghost use Rattle.xa_system.specs.Sites.{looks};
+
+use xa_base::{Branch, Call, Gtrid, Outcome, Refusal, Step};
+use xa_log::DecisionLog;
+use xa_rm::ResourceManager;
+use xa_system::System;
+
+/// The first transaction of a system that starts over a new log.
+const FIRST: Gtrid = Gtrid {
+    incarnation: 1,
+    sequence: 1,
+};
+
+/// Runs steps. However they go, no branch of a transaction is committed then beside one that is rolled back or lost.
+#[tactic(auto, using(crate::proofs::Alike::at_end))]
+pub(crate) fn run_alike<R: ResourceManager + Drop, L: DecisionLog + Drop>(
+    system: &mut System<R, L>,
+    steps: &[Step],
+) -> Result<(), Refusal>
+    ensures { AreAlike (trace_in (looks R.held_of R.scan_of R.in_doubt_of) system.new) }
+{
+    system.run(steps)
+}
+
+/// Has a call issued, taken and heard.
+fn call<R: ResourceManager + Drop, L: DecisionLog + Drop>(system: &mut System<R, L>, call: Call) {
+    let steps = [
+        Step::Issue {
+            thread: 0,
+            rm: 0,
+            call,
+        },
+        Step::Take { thread: 0, rm: 0 },
+        Step::Hear { thread: 0, rm: 0 },
+    ];
+    let _run = run_alike(system, &steps);
+}
+
+/// Commits a new system's first transaction in two phases, at one resource manager.
+pub(crate) fn commit<R: ResourceManager + Drop, L: DecisionLog + Drop>(system: &mut System<R, L>) {
+    let branch = Branch {
+        gtrid: FIRST,
+        thread: 0,
+        rm: 0,
+    };
+    call(system, Call::OpenRm);
+    let _begun = system.step(Step::Begin { thread: 0 });
+    call(
+        system,
+        Call::Start {
+            xid: branch.xid(),
+            join: false,
+        },
+    );
+    call(
+        system,
+        Call::End {
+            xid: branch.xid(),
+            fail: false,
+        },
+    );
+    call(system, Call::Prepare { xid: branch.xid() });
+    let _decided = system.step(Step::Decide {
+        gtrid: FIRST,
+        outcome: Outcome::Commit,
+    });
+    call(
+        system,
+        Call::Commit {
+            xid: branch.xid(),
+            one_phase: false,
+        },
+    );
+    let _done = system.step(Step::Done { gtrid: FIRST });
+}

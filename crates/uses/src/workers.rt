@@ -1,0 +1,46 @@
+//! `xa_workers`: jobs on worker threads.
+
+ghost use Rattle.std.specs.Prelude.{◌≡◌, false, IfOk};
+ghost use Rattle.xa_workers.specs.Jobs.{IsRunnable, ends_of};
+
+use std::alloc::{AllocError, Global};
+use std::sync::Wait;
+use std::thread::Threads;
+use xa_base::{Outcome, RbCode, Vote};
+use xa_log::MemLog;
+use xa_workers::{Gate, Jobs, Point, WorkFault, run_jobs};
+
+/// A gate that holds nobody back.
+struct Open;
+
+impl Gate for Open {
+    fn at(&self, _point: Point) -> bool {
+        true
+    }
+}
+
+/// Runs jobs over a new log. Without a recovery that sweeps them each ends as its votes say, whatever the threads do.
+pub(crate) fn ends<R: Threads + Wait + Sync>(
+    rt: &R,
+    alloc: Global,
+    jobs: &Jobs,
+) -> Result<Vec<Outcome>, WorkFault>
+    requires { IsRunnable jobs.now }
+    ensures { jobs.now.sweep ≡ false → IfOk result (λ ends. ends.items ≡ ends_of jobs.now) }
+{
+    Ok(run_jobs(rt, alloc, jobs, MemLog::new(alloc), &Open)?.ends)
+}
+
+/// Two jobs at one resource manager, each on a thread of its own. The first votes yes, and the second no.
+pub(crate) fn two_jobs(alloc: Global) -> Result<Jobs, AllocError> {
+    let mut votes = Vec::new(alloc);
+    for vote in [Vote::Yes, Vote::No(RbCode::Deadlock)] {
+        votes.push([Some(vote)].as_slice().to_vec(alloc)?)?;
+    }
+    Ok(Jobs {
+        threads: 2,
+        rms: 1,
+        sweep: false,
+        votes,
+    })
+}
