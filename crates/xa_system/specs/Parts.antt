@@ -29,6 +29,7 @@ use Rattle.xa_system.specs.Trace.{IsKept}
 use Rattle.xa_rm.specs.declared.fault.RmFault.{RmFault}
 use Rattle.xa_rm.specs.declared.fault.RmFault.TheVariants as Faults
 use Rattle.xa_system.specs.declared.parts.Parts.{Parts}
+use Rattle.xa_system.specs.declared.system.TheConstants.{EVENT_LIMIT}
 use Rattle.xa_system.specs.declared.site.Site.{Site}
 use Rattle.xa_tm.specs.Begins.{records_begun, rows_begun}
 use Rattle.xa_tm.specs.Book.{book_of}
