@@ -37,7 +37,7 @@ three_retries = refl
 -- only XA_RETRY uses up a retry
 retries_stay : told ((0, Start) ∷ (0, End false) ∷ (0, Commit) ∷ (0, Prepare) ∷ (0, Rollback) ∷ []) (held Unstarted 0 2)
     ≡ (Codes.Success, held Active 0 2) ∷ (Codes.Success, held Idle 0 2) ∷ (Codes.Protocol, held Idle 0 2)
-        ∷ (Codes.Success, held Prepared 0 2) ∷ (Codes.Success, held RolledBack 0 2) ∷ []
+    ∷ (Codes.Success, held Prepared 0 2) ∷ (Codes.Success, held RolledBack 0 2) ∷ []
 unfolding told
 retries_stay = refl
 

@@ -29,14 +29,14 @@ three_pages = refl
 -- a negative count is refused in the middle of a scan, whatever its flags, and the scan goes on where it stood
 refused_in_the_middle : listed ((pos 2, true, false) ∷ (negsuc 0, false, false) ∷ (negsuc 4, true, false) ∷ (negsuc 0, false, true) ∷ (pos 2, false, false) ∷ []) NotOpen
     ≡ (Some (1 ∷ 2 ∷ []), Behind (Some 2)) ∷ (None, Behind (Some 2)) ∷ (None, Behind (Some 2)) ∷ (None, Behind (Some 2))
-        ∷ (Some (3 ∷ 4 ∷ []), Behind (Some 4)) ∷ []
+    ∷ (Some (3 ∷ 4 ∷ []), Behind (Some 4)) ∷ []
 unfolding listed page entries
 refused_in_the_middle = refl
 
 -- an empty page leaves the scan where it stood, and a call that starts it begins anew
 started_anew : listed ((pos 0, true, false) ∷ (pos 9, false, false) ∷ (pos 1, false, false) ∷ (pos 1, true, false) ∷ (pos 1, true, true) ∷ []) NotOpen
     ≡ (Some [], Behind None) ∷ (Some (1 ∷ 2 ∷ 3 ∷ 4 ∷ 5 ∷ []), Behind (Some 5)) ∷ (Some [], Behind (Some 5))
-        ∷ (Some (1 ∷ []), Behind (Some 1)) ∷ (Some (1 ∷ []), NotOpen) ∷ []
+    ∷ (Some (1 ∷ []), Behind (Some 1)) ∷ (Some (1 ∷ []), NotOpen) ∷ []
 unfolding listed page entries
 started_anew = refl
 

@@ -23,7 +23,7 @@ cell kind v n f = let code = answer kind (state_of f) v n in (code_number code, 
 row : Kind → Vote → (retries : ℕ) → List Cell
 row kind v n =
     cell kind v n Unstarted ∷ cell kind v n Active ∷ cell kind v n Idle ∷ cell kind v n Prepared ∷ cell kind v n RollbackOnly
-        ∷ cell kind v n (Completed Mix) ∷ []
+    ∷ cell kind v n (Completed Mix) ∷ []
 
 xa_start : row Start Votes.Yes 0 ≡ (pos 0, S1) ∷ (negsuc 7, S1) ∷ (negsuc 7, S2) ∷ (negsuc 7, S3) ∷ (negsuc 7, S4) ∷ (negsuc 7, S5) ∷ []
 unfolding row cell
@@ -86,7 +86,7 @@ committed = refl
 
 rolled_back : ending Rollback Votes.Yes 0 Idle ∷ ending Rollback Votes.Yes 0 Prepared ∷ ending Rollback Votes.Yes 0 RollbackOnly
     ∷ ending Prepare (Votes.No Deadlock) 0 Idle ∷ ending OnePhase (Votes.No Deadlock) 0 Idle ∷ [] ≡ RolledBack ∷ RolledBack
-        ∷ RolledBack ∷ RolledBack ∷ RolledBack ∷ []
+    ∷ RolledBack ∷ RolledBack ∷ RolledBack ∷ []
 unfolding ending
 rolled_back = refl
 

@@ -19,5 +19,6 @@ pub fn branches_in_order()
     ensures same_gtrid { (g h : Gtrid) →
         (nat_eq g.incarnation h.incarnation && nat_eq g.sequence h.sequence) ≡ gtrid_eq g h }
     ensures same_branch { (b c : Branch) →
-        (gtrid_eq b.gtrid c.gtrid && (nat_eq b.thread c.thread && nat_eq b.rm c.rm)) ≡ branch_eq b c }
+        (gtrid_eq b.gtrid c.gtrid && (nat_eq b.thread c.thread && nat_eq b.rm c.rm))
+        ≡ branch_eq b c }
 {}

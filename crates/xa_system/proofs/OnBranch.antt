@@ -2,7 +2,7 @@
 use Rattle.std.proofs.Common.{false, ◌≡◌, ℕ, List, [], ◌∷◌, map, Bool, not, ◌&&◌, ◌||◌, Some, None, refl, sym, ap, ◌∙◌}
 use Rattle.std.specs.Prelude.{if◌then◌else◌}
 use Rattle.xa_base.specs.Branch.{branch_eq}
-use Rattle.xa_model.specs.Facts.Branches.{moved_by}
+use Rattle.xa_model.specs.Facts.Standings.{moved_by}
 use Rattle.xa_base.specs.Call.{map_call}
 use Rattle.xa_model.specs.Facts as facts
 use Rattle.xa_model.specs.Replies.History.{name_of}

@@ -50,9 +50,9 @@ new_prefix tr (Took m c a) l r p = by_line (line_eq m l) refl
     by_line : (t : Bool) → line_eq m l ≡ t → IsPrefixOf (map call_of (taken tr l ++ (if t then (c, a) ∷ [] else []))) (issued tr l)
     by_line true s =
         let h : slice_get (issued tr l) (length (taken tr l)) ≡ Some c =
-            subst (λ z. slice_get (issued tr z) (length (taken tr z)) ≡ Some c) (line_eq-true m l s) r.0 in
+        subst (λ z. slice_get (issued tr z) (length (taken tr z)) ≡ Some c) (line_eq-true m l s) r.0 in
         let k : slice_get (issued tr l) (length (map call_of (taken tr l))) ≡ Some c =
-            subst (λ z. slice_get (issued tr l) z ≡ Some c) (sym (map_length (taken tr l))) h in
+        subst (λ z. slice_get (issued tr l) z ≡ Some c) (sym (map_length (taken tr l))) h in
         subst (λ z. IsPrefixOf z (issued tr l)) (sym (map_append (taken tr l) ((c, a) ∷ []))) (prefix_more (map call_of (taken tr l)) (issued tr l) c p k)
     by_line false s = subst (λ z. IsPrefixOf (map call_of z) (issued tr l)) (sym (append-nil (taken tr l))) p
 new_prefix tr _ l r p = subst (λ z. IsPrefixOf (map call_of z) (issued tr l)) (sym (append-nil (taken tr l))) p

@@ -79,7 +79,7 @@ start_not_taken tr e l x b s inv r f w n m a q =
     let y = (inv.waiting m Start b (front_waits tr m (Calls.Start b false) q'.0)).own_line in
     let same : m ≡ l = y ∙ sym f.own_line in
     let here : slice_get (issued tr l) (length (taken tr l)) ≡ Some (Calls.Start b false) =
-        subst (λ z. slice_get (issued tr z) (length (taken tr z)) ≡ Some (Calls.Start b false)) same q'.0 in
+    subst (λ z. slice_get (issued tr z) (length (taken tr z)) ≡ Some (Calls.Start b false)) same q'.0 in
     let p = inv.start_once l b x Start w.place (length (taken tr l)) s tt w.is here in
     let e' : e ≡ Took l (Calls.Start b false) a = q ∙ ap (λ z. Took z (Calls.Start b false) a) same in
     let k : length (new_taken e l) ≡ 1 = ap (λ z. length (new_taken z l)) e' ∙ length_took l (Calls.Start b false) a in

@@ -134,7 +134,7 @@ took_left t l (Calls.Commit x false) ds a b k r n f s = by_branch (branch_eq x b
     by_branch : (u : Bool) → branch_eq x b ≡ u → (if u then moved (standing t b) Commit a else standing t b) ≡ Prepared → (live t b.gtrid ≡ true) ⊎ IsToEnd ds b
     by_branch true q s =
         let e : a ≡ answer Commit (state_of (standing t b)) (vote t b) (retries t b) =
-            subst (λ y. a ≡ answer Commit (state_of (standing t y)) (vote t y) (retries t y)) (branch_eq-true x b q) (code_of r) in
+        subst (λ y. a ≡ answer Commit (state_of (standing t y)) (vote t y) (retries t y)) (branch_eq-true x b q) (code_of r) in
         absurd (no_commit (standing t b) (vote t b) (retries t b) a e n s)
     by_branch false q s = waits q (f s)
 took_left t l (Calls.Rollback x) ds a b k r n f s = by_branch (branch_eq x b) refl s
