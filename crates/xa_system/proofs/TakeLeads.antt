@@ -41,6 +41,7 @@ use Rattle.xa_line.proofs.TrafficLaws.{as_many_answers, line_goes_on}
 use Rattle.xa_system.proofs.LineLaws.{line_stays, no_waiting_call, waiting_call}
 use Rattle.xa_model.proofs.Replies.Replies.{accepted_ours}
 use Rattle.xa_model.specs.Replies.Steps.{if_ours}
+use Rattle.xa_base.proofs.BranchOrder.{branch_numbers}
 use Rattle.xa_system.proofs.OnBranch.{ours_back, standing_none}
 use Rattle.xa_system.proofs.Quiet.{IsQuiet}
 use Rattle.xa_system.proofs.Standing.{Follows, IsEvent, lines_same, site_same, goes_as, lines_apart_rm, has_line, lines_with, nothing_to, same_rm, site_stays, sites_with, there_is, with_site_and_line}
@@ -51,9 +52,10 @@ use Rattle.xa_system.proofs.Took.{retries_stay}
 
 -- a branch of another resource manager is another branch
 pub elsewhere : (b c : Branch) (r s : ℕ) → s ≢ r → c.rm ≡ r → b.rm ≡ s → branch_eq c b ≡ false
-elsewhere b c r s apart at there = by_rest (gtrid_eq c.gtrid b.gtrid) (nat_eq c.thread b.thread) (ne_eqb c.rm b.rm (λ e. apart (sym there ∙ sym e ∙ at)))
+elsewhere b c r s apart at there =
+    sym (branch_numbers c b) ∙ by_rest (gtrid_eq c.gtrid b.gtrid) (nat_eq c.thread b.thread) (ne_eqb c.rm b.rm (λ e. apart (sym there ∙ sym e ∙ at)))
   where
-    by_rest : (p q : Bool) → nat_eq c.rm b.rm ≡ false → (p && q && nat_eq c.rm b.rm) ≡ false
+    by_rest : (p q : Bool) → nat_eq c.rm b.rm ≡ false → (p && (q && nat_eq c.rm b.rm)) ≡ false
     by_rest true true e = e
     by_rest true false e = refl
     by_rest false q e = refl
