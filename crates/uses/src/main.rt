@@ -2,8 +2,6 @@
 //! library, without the `xa_`.
 #![tactic(auto)]
 
-ghost use Rattle.std.specs.Prelude.{◌≡◌, ◌≤◌};
-
 mod base;
 mod files;
 mod jobs;
@@ -16,7 +14,10 @@ mod system;
 mod tm;
 mod workers;
 
-use xa_base::{Branch, Gtrid};
+use std::alloc::Global;
+use std::sync::Wait;
+use std::thread::Threads;
+use xa_base::{Branch, Fate, Gtrid};
 use xa_log::MemLog;
 use xa_rm::MemRm;
 use xa_system::System;
@@ -43,44 +44,62 @@ step = [
 
 const JOBS: &str = "threads = 1\nrms = 1\njob = [{ votes = ['ok'] }, { votes = ['102'] }]\n";
 
-fn main(rt: HostRuntime) -> anyhow::Result<()> {
+/// What the callers of the libraries below the system come to.
+fn show_parts(rt: &HostRuntime) -> anyhow::Result<()> {
     let alloc = rt.alloc();
     let xid = BRANCH.xid();
-    println!(rt;
-        "xa_base: {:?}",
-        base::read_again(alloc, &xid)? == Ok(xid.copy())
-    )?;
+    let is_same = base::read_again(alloc, &xid)? == Ok(xid.copy());
+    println!(rt; "xa_base: {is_same}")?;
     println!(rt; "xa_rm: {:?}", rm::committed(alloc, &xid)?)?;
     println!(rt; "xa_line: {:?}", line::opened(alloc)?)?;
-    let found = log::found_again(&mut MemLog::new(alloc), BRANCH.gtrid, &[BRANCH])?;
-    println!(rt; "xa_log: {found}")?;
     println!(rt; "xa_tm: {:?}", tm::first(alloc)?)?;
-    let rms = vec![in alloc; MemRm::new(alloc)]?;
+    Ok(())
+}
+
+/// Whether a decision is found again.
+fn show_log(rt: &HostRuntime) -> anyhow::Result<()> {
+    let found = log::found_again(&mut MemLog::new(rt.alloc()), BRANCH.gtrid, &[BRANCH])?;
+    println!(rt; "xa_log: {found}")?;
+    Ok(())
+}
+
+/// How many events a system of one resource manager makes of a commit in two phases, and what becomes of the branch.
+fn events_and_fate(alloc: Global) -> anyhow::Result<(usize, Fate)> {
+    let mut rms = Vec::new(alloc);
+    rms.push(MemRm::new(alloc))?;
     let mut system = System::new(alloc, 1, rms, MemLog::new(alloc))?;
     system::commit(&mut system);
     model::end_alike(system.trace());
-    println!(rt;
-        "xa_system: {} events, {:?}",
-        system.trace().len(),
-        system.fate(&xid)
-    )?;
+    Ok((system.trace().len(), system.fate(&BRANCH.xid())))
+}
+
+/// What jobs come to, by their votes and as a file.
+fn show_jobs<T: Threads + Wait + Sync>(rt: &HostRuntime, threads: &T) -> anyhow::Result<()> {
+    let alloc = rt.alloc();
     let jobs = workers::two_jobs(alloc)?;
     if jobs.is_runnable() {
-        println!(rt; "xa_workers: {:?}", workers::ends(&rt, alloc, &jobs)?)?;
+        println!(rt; "xa_workers: {:?}", workers::ends(threads, alloc, &jobs)?)?;
     }
-    println!(rt;
-        "xa_files: {:?}",
-        files::threads_in(alloc, SCENARIO.as_bytes())?
-    )?;
-    println!(rt; "xa_scenario:")?;
-    println!(rt;
-        "{}",
-        String::from_utf8(scenario::printed(alloc, SCENARIO.as_bytes())?)?
-    )?;
-    println!(rt; "xa_jobs:")?;
-    println!(rt;
-        "{}",
-        String::from_utf8(jobs::printed(&rt, alloc, JOBS.as_bytes())?)?
-    )?;
+    let printed = jobs::printed(threads, alloc, JOBS.as_bytes())?;
+    println!(rt; "xa_jobs:\n{}", String::from_utf8(printed)?)?;
     Ok(())
+}
+
+/// What a scenario file says, and what a run of it prints.
+fn show_scenario(rt: &HostRuntime) -> anyhow::Result<()> {
+    let alloc = rt.alloc();
+    let threads = files::threads_in(alloc, SCENARIO.as_bytes())?;
+    println!(rt; "xa_files: {threads:?}")?;
+    let printed = scenario::printed(alloc, SCENARIO.as_bytes())?;
+    println!(rt; "xa_scenario:\n{}", String::from_utf8(printed)?)?;
+    Ok(())
+}
+
+fn main(rt: HostRuntime) -> anyhow::Result<()> {
+    show_parts(&rt)?;
+    show_log(&rt)?;
+    let (events, fate) = events_and_fate(rt.alloc())?;
+    println!(rt; "xa_system: {events} events, {fate:?}")?;
+    show_jobs(&rt, &rt)?;
+    show_scenario(&rt)
 }
