@@ -1,8 +1,6 @@
 -- Lines, one after the other.
 use Rattle.std.proofs.Common.{◌≡◌, ◌∙◌, ℕ, ◌+◌, ◌<◌, List, [], ◌∷◌, ◌++◌, length, get_or, take, sym, ap, append_assoc, append-nil, arith, add-zero}
 use Rattle.std.proofs.lemmas.List.{take_more, length-take-le}
-use Rattle.std.proofs.lemmas.List.Concat.{flat_map-append}
-use Rattle.std.specs.List.{flat_map}
 use Rattle.xa_base.specs.declared.reply.Event.{Event}
 use Rattle.xa_scenario.specs.Replies.{trace_line, trace_lines}
 
