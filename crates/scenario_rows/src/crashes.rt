@@ -11,11 +11,11 @@ const PAGE: &str = "call xa_recover 1 7:00000000000000010000000000000001:0000000
 /// The same of the branch at resource manager 1.
 const PAGE_TOO: &str = "call xa_recover 1 7:00000000000000010000000000000001:0000000000000001";
 
-const PREPARE: &str = "do = 'call', thread = 0, rm = 0, xa = 'xa_prepare', tx = 'a'";
+pub(crate) const PREPARE: &str = "do = 'call', thread = 0, rm = 0, xa = 'xa_prepare', tx = 'a'";
 
-const PREPARE_TOO: &str = "do = 'call', thread = 0, rm = 1, xa = 'xa_prepare', tx = 'a'";
+pub(crate) const PREPARE_TOO: &str = "do = 'call', thread = 0, rm = 1, xa = 'xa_prepare', tx = 'a'";
 
-const DECIDE: &str = "do = 'decide', tx = 'a', outcome = 'commit'";
+pub(crate) const DECIDE: &str = "do = 'decide', tx = 'a', outcome = 'commit'";
 
 #[test]
 fn lost_answer(rt: HostRuntime) -> Result<(), Fail> {
@@ -84,7 +84,7 @@ fn presumed_rollback(rt: HostRuntime) -> Result<(), Fail> {
 }
 
 /// The calls of a recovery at both resource managers: the lines are opened, scanned and resolved.
-const RECOVERIES: [&str; 8] = [
+pub(crate) const RECOVERIES: [&str; 8] = [
     "do = 'call', thread = 0, rm = 0, xa = 'xa_open'",
     "do = 'recover', rm = 0, count = 8, flags = ['TMSTARTRSCAN', 'TMENDRSCAN']",
     "do = 'drain', thread = 0, rm = 0",

@@ -1,4 +1,4 @@
-//! Tests of whole scenario files, each with all that a run of it prints.
+//! Tests of whole scenario files, each with all that a run of it prints; and of logs, with the lists of them.
 #![tactic(auto)]
 
 #[cfg(test)]
@@ -8,8 +8,12 @@ mod commits;
 #[cfg(test)]
 mod crashes;
 #[cfg(test)]
+mod failing;
+#[cfg(test)]
 mod files;
 #[cfg(test)]
 mod lines;
+#[cfg(test)]
+mod logs;
 #[cfg(test)]
 mod refused;

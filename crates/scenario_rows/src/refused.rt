@@ -1,9 +1,8 @@
 //! Files that are refused, and runs that end early.
 
+use crate::failing::Failing;
 use crate::files::{READY, file, run_of};
 use std::alloc::Global;
-use std::io;
-use std::io::{ErrorKind, Write};
 use std::test::Fail;
 use xa_files::RunFault;
 use xa_log::{FailLog, FailPlan, LogCall, MemLog};
@@ -16,37 +15,6 @@ const EMPTY: &str = "threads = 1\nrms = 1\n";
 const BEGIN: &str = "\"begin\"\nthread = 0\ntx = \"a\"\n";
 
 const START: &str = "\"call\"\nthread = 0\nrm = 0\nxa = \"xa_start\"\ntx = \"a\"\n";
-
-/// A writer in memory that takes at most 8 bytes at a call, and fails at a call.
-#[derive(Drop)]
-struct Failing {
-    held: Vec<u8>,
-    calls_left: usize,
-}
-
-impl Failing {
-    /// Counts a call.
-    fn call(&mut self) -> io::Result<()> {
-        if self.calls_left == 0 {
-            return Err(io::Error::from(ErrorKind::BrokenPipe));
-        }
-        self.calls_left -= 1;
-        Ok(())
-    }
-}
-
-impl Write for Failing {
-    fn write(&mut self, buf: &[u8]) -> io::Result<usize> {
-        self.call()?;
-        let taken = &buf[..buf.len().min(8)];
-        self.held.extend_from_slice(taken)?;
-        Ok(taken.len())
-    }
-
-    fn flush(&mut self) -> io::Result<()> {
-        self.call()
-    }
-}
 
 /// What a check of a text prints, or its fault.
 fn check_of(alloc: Global, text: &str) -> Result<String, RunFault> {

@@ -2,10 +2,10 @@
 use Rattle.std.proofs.Common.{[]}
 use Rattle.std.specs.Prelude.{List}
 use Rattle.std.proofs.lemmas.List.{append-nil}
-use Rattle.xa_base.specs.Agreement.{AreAlike}
-use Rattle.xa_base.specs.Headline.{Headline}
-use Rattle.xa_base.specs.History.{history}
-use Rattle.xa_base.specs.Trace.{Origin}
+use Rattle.xa_model.specs.Promises.Agreement.{AreAlike}
+use Rattle.xa_model.specs.Promises.Headline.{Headline}
+use Rattle.xa_model.specs.Replies.History.{history}
+use Rattle.xa_model.specs.Trace.{Origin}
 use Rattle.xa_base.specs.declared.reply.Event.{Event}
 
 pub at_end : (o : Origin) (events : List Event) → Headline o events → AreAlike (history o events)

@@ -1,12 +1,13 @@
 //! `xa_model`: what a list of events means, where each reply is the one that the events before it demand.
 
 ghost use Rattle.std.specs.Prelude.{◌≡◌};
-ghost use Rattle.xa_base.specs.Agreement.{AreAlike};
-ghost use Rattle.xa_base.specs.History.{AreDemanded, history};
-ghost use Rattle.xa_base.specs.Right.{RightOrigin};
-ghost use Rattle.xa_base.specs.Trace.{Origin};
+ghost use Rattle.xa_model.specs.Promises.Agreement.{AreAlike};
+ghost use Rattle.xa_model.specs.Replies.History.{AreDemanded, history};
+ghost use Rattle.xa_model.specs.Protocol.{RightOrigin};
+ghost use Rattle.xa_model.specs.Trace.{Origin};
 
-use xa_base::{Event, headline_holds};
+use xa_base::Event;
+use xa_model::headline_holds;
 
 /// After these events no branch of a transaction is committed beside one that is rolled back or lost. Nothing is done.
 #[tactic(auto, using(crate::proofs::Alike::at_end))]

@@ -1,7 +1,7 @@
 //! `xa_system`: two-phase commit of one transaction.
 
 ghost use Rattle.std.specs.Prelude.{◌≡◌};
-ghost use Rattle.xa_base.specs.Agreement.{AreAlike};
+ghost use Rattle.xa_model.specs.Promises.Agreement.{AreAlike};
 ghost use Rattle.xa_system.specs.Seen.{trace_in};
 ghost use Rattle.xa_system.specs.Sites.{looks};
 

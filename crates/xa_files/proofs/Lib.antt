@@ -1,3 +1,4 @@
 pub mod DocumentLemmas
 pub mod FieldLemmas
 pub mod OutputLemmas
+pub mod ReadingLemmas

@@ -1,7 +1,7 @@
--- What reading a file gives: a value or the first fault.
-use Rattle.std.specs.Prelude.{◌≡◌, Result, Ok, Err}
+-- What reading a file gives, a value or the first fault; and what the fault of a run tells of it.
+use Rattle.std.specs.Prelude.{◌≡◌, ◌⊎◌, Result, Ok, Err, IsErrAnd, IsOk}
 use Rattle.xa_files.specs.declared.fault.RunFault.{RunFault}
-use Rattle.xa_files.specs.declared.fault.RunFault.TheVariants.{Memory}
+use Rattle.xa_files.specs.declared.fault.RunFault.TheVariants.{Log, Memory, Work, Output}
 
 -- what follows, where there is no fault
 infixl 10 ◌>>=◌
@@ -18,3 +18,16 @@ Fails fault read = read ≡ Err fault
 abbrev pub Gives : {X Y : Type 0} → (X → Y) → Result X RunFault → Result Y RunFault → Type 0
 Gives view (Ok x) read = read ≡ Ok (view x)
 Gives view (Err e) read = Fails e read
+
+-- What a fault tells of the reading of the text: want of memory tells nothing; a fault of the log, of the work or of the
+-- output that it was read; and each other fault is the text's own.
+abbrev pub Explains : {Y : Type 0} → RunFault → Result Y RunFault → Type 0
+Explains Memory read = Unit {0}
+Explains Log read = IsOk read
+Explains Work read = IsOk read
+Explains Output read = IsOk read
+Explains fault read = read ≡ Err fault
+
+-- A run of a text with this fault ends with it, unless memory ran out.
+abbrev pub EndsWith : RunFault → Result (Unit {0}) RunFault → Type 0
+EndsWith fault result = IsErrAnd result (λ e. (e ≡ fault) ⊎ (e ≡ Memory))

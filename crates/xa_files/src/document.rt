@@ -1,12 +1,12 @@
 //! A file as a document of TOML, and what the tops of documents have in common.
 
-ghost use Rattle.std.specs.Prelude.{◌≡◌};
+ghost use Rattle.std.specs.Prelude.{◌≡◌, option_map};
 ghost use Rattle.toml.specs.View.{items_view, table_view};
-ghost use Rattle.xa_files.specs.Documents.{are_tables, document_of, size_at};
+ghost use Rattle.xa_files.specs.Documents.{are_tables, document_of, size_at, tables_at};
 ghost use Rattle.xa_files.specs.Reading.{Gives};
 
 use crate::fault::RunFault;
-use crate::fields::number_at;
+use crate::fields::{number_at, value_at};
 use std::alloc::Global;
 use toml::{Table, Value};
 
@@ -15,6 +15,20 @@ pub fn are_tables(items: &[Value]) -> bool
     ensures { result ≡ are_tables (items_view items.now) }
 {
     items.iter().all(|item| item.is_table())
+}
+
+/// The tables at a key, of which there may be none, as where the key is missing.
+#[tactic(auto, unfolding(crate::specs::Documents::tables_at))]
+pub fn tables_at<'a>(document: &'a Table, key: &str) -> Option<&'a [Value]>
+    ensures { option_map (λ items. items_view items.now) result ≡ tables_at key.now (table_view document.now) }
+{
+    match value_at(document, key) {
+        None => Some(&[]),
+        Some(value) => {
+            let items = value.as_array()?.as_slice();
+            if are_tables(items) { Some(items) } else { None }
+        }
+    }
 }
 
 /// The number at a key, from 1 to the limit.

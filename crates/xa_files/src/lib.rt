@@ -1,18 +1,22 @@
-//! What scenario files and jobs files have in common: the fields and words of their tables, the faults of a run, and its
-//! output.
+//! What scenario files and jobs files have in common: the fields and words of their tables, the faults of a run, and what
+//! it writes. Fates and transactions in words are those of a listed log too.
 #![tactic(auto)]
 
 mod document;
+mod fates;
 mod fault;
 mod fields;
+mod gtrids;
 mod output;
 mod words;
 
-pub use document::{are_tables, document_of, size_at};
+pub use document::{are_tables, document_of, size_at, tables_at};
+pub use fates::{fate_line, fate_text, push_fates};
 pub use fault::RunFault;
 pub use fields::{
     has_only, holds, index_at, index_or, integer_at, is_among, is_name, name_at, number_at,
     text_at, value_at,
 };
+pub use gtrids::gtrid_text;
 pub use output::write_text;
 pub use words::{call_named, flag_named, vote_named};

@@ -1,10 +1,11 @@
 -- Why a run ended.
-use Rattle.std.proofs.Common.{◌≡◌, ◌∙◌, List, ℕ, Option, Result, Ok, Err, IfErr, ◌⊎◌, inl, inr, refl, sym, subst}
-use Rattle.xa_files.specs.Reading.{Fails}
+use Rattle.std.proofs.Common.{◌≡◌, ◌∙◌, List, ℕ, Option, Result, Ok, Err, IfErr, refl, sym, subst}
+use Rattle.xa_files.proofs.ReadingLemmas.{explained as explained_by_text}
+use Rattle.xa_files.specs.Reading.{Explains, Fails}
 use Rattle.xa_files.specs.declared.fault.RunFault.{RunFault}
 use Rattle.xa_files.specs.declared.fault.RunFault.TheVariants.{NotToml, Header, Step, Job, Log, Memory, Work, Output}
 use Rattle.xa_jobs.specs.JobFiles.{Plan, jobs_of}
-use Rattle.xa_jobs.specs.JobRuns.{Begins, BeginsEnds, Explains, IsRunFault, IsWorkFault, Prints, PrintsEnds, fault_of}
+use Rattle.xa_jobs.specs.JobRuns.{Begins, BeginsEnds, IsRunFault, IsWorkFault, Prints, PrintsEnds, fault_of}
 use Rattle.xa_workers.specs.declared.fault.WorkFault.{WorkFault}
 use Rattle.xa_workers.specs.declared.fault.WorkFault.TheVariants as work
 use Rattle.xa_jobs.proofs.TextFaults.{faults_are_of_texts}
@@ -12,29 +13,8 @@ use Rattle.xa_jobs.proofs.TextFaults.{faults_are_of_texts}
 -- ** a fault of the reading
 
 pub explains : (fault : RunFault) (text : List ℕ) → Fails fault (jobs_of text) → Explains fault (jobs_of text)
-explains NotToml text is = is
-explains Header text is = is
-explains (Step n) text is = is
-explains (Job n) text is = is
-explains Log text is = absurd (faults_are_of_texts text Log is)
-explains Memory text is = tt
-explains Work text is = absurd (faults_are_of_texts text Work is)
-explains Output text is = absurd (faults_are_of_texts text Output is)
-
-same_fault : (a b : RunFault) (read : Result Plan RunFault) → read ≡ Err a → read ≡ Err b → a ≡ b
-same_fault a b read first second = let e : ◌≡◌ {A = Result Plan RunFault} (Err a) (Err b) = sym first ∙ second in cc
-
--- a reader's fault is that of the text, or want of memory
-pub ends_with : (found fault : RunFault) (read : Result Plan RunFault) → Fails found read → read ≡ Err fault
-    → (found ≡ fault) ⊎ (found ≡ Memory)
-ends_with NotToml fault read is known = inl (same_fault NotToml fault read is known)
-ends_with Header fault read is known = inl (same_fault Header fault read is known)
-ends_with (Step n) fault read is known = inl (same_fault (Step n) fault read is known)
-ends_with (Job n) fault read is known = inl (same_fault (Job n) fault read is known)
-ends_with Log fault read is known = inl (same_fault Log fault read is known)
-ends_with Memory fault read is known = inr refl
-ends_with Work fault read is known = inl (same_fault Work fault read is known)
-ends_with Output fault read is known = inl (same_fault Output fault read is known)
+explains fault text =
+    explained_by_text fault (jobs_of text) (faults_are_of_texts text Log) (faults_are_of_texts text Work) (faults_are_of_texts text Output)
 
 -- no reading ends with a fault of the output
 pub not_of_output : (fault : RunFault) (text : List ℕ) → Fails fault (jobs_of text) → fault ≡ Output → ⊥

@@ -1,8 +1,8 @@
 -- The top of a jobs file.
 use Rattle.std.specs.Prelude.{ℕ, Bool, false, if◌then◌else◌, List, [], ◌∷◌, codes, Option, Some, None, Result}
 use Rattle.std.specs.Option.{ok_or}
-use Rattle.toml.specs.Data.{Items, no_items, Members, get_member, as_array, as_bool}
-use Rattle.xa_files.specs.Documents.{are_tables, size_at}
+use Rattle.toml.specs.Data.{Items, Members, get_member, as_bool}
+use Rattle.xa_files.specs.Documents.{size_at, tables_at}
 use Rattle.xa_files.specs.Fields.{◌>>=◌, has_only, holds}
 use Rattle.xa_files.specs.declared.fault.RunFault.{RunFault}
 use Rattle.xa_files.specs.declared.fault.RunFault.TheVariants.{Header}
@@ -11,13 +11,6 @@ use Rattle.xa_files.specs.declared.fault.RunFault.TheVariants.{Header}
 unfoldable pub sweep_at : Members → Option Bool
 sweep_at document =
     if holds (codes "sweep") document then get_member (codes "sweep") document >>= as_bool else Some false
-
--- the tables of the jobs, none where the key is missing
-unfoldable pub jobs_at : Members → Option Items
-jobs_at document =
-    if holds (codes "job") document
-    then get_member (codes "job") document >>= as_array >>= (λ items. if are_tables items then Some items else None)
-    else Some no_items
 
 -- the keys that there may be
 abbrev pub header_keys : List (List ℕ)
@@ -29,7 +22,7 @@ header_at document = if has_only header_keys document then (do
   threads ← size_at 8 (codes "threads") document
   rms ← size_at 8 (codes "rms") document
   sweep ← sweep_at document
-  jobs ← jobs_at document
+  jobs ← tables_at (codes "job") document
   Some (threads, rms, sweep, jobs)) else None
 
 -- the same, with its fault

@@ -1,5 +1,5 @@
 -- What a run of a jobs file prints, and why it ends early.
-use Rattle.std.specs.Prelude.{◌≡◌, ◌⊎◌, ℕ, false, List, length, map, Option, Result, Ok, Err, IsOk, IsErrAnd}
+use Rattle.std.specs.Prelude.{◌≡◌, ℕ, false, List, length, map, Option, Ok}
 use Rattle.std.specs.Io.KnownBytes.{Appends}
 use Rattle.xa_base.specs.declared.step.Outcome.{Outcome}
 use Rattle.xa_files.specs.Outputs.{AppendsBeginning}
@@ -67,16 +67,3 @@ IsRunFault Memory = Unit {0}
 IsRunFault Work = Unit {0}
 IsRunFault Output = Unit {0}
 IsRunFault _ = ⊥
-
--- what a fault tells of the reading of the text: want of memory tells nothing; a fault of the log, of the work or of
--- the output that it is a jobs file; and each other fault is the text's own
-abbrev pub Explains : RunFault → Result Plan RunFault → Type 0
-Explains Memory read = Unit {0}
-Explains Log read = IsOk read
-Explains Work read = IsOk read
-Explains Output read = IsOk read
-Explains fault read = read ≡ Err fault
-
--- a run of a text with this fault ends with it, unless memory ran out
-abbrev pub EndsWith : RunFault → Result (Unit {0}) RunFault → Type 0
-EndsWith fault result = IsErrAnd result (λ e. (e ≡ fault) ⊎ (e ≡ Memory))

@@ -3,10 +3,10 @@
 ghost use Rattle.std.specs.Prelude.{◌≡◌, ◌≤◌, ◌<◌, IfOk, IfSome, option_map};
 ghost use Rattle.toml.specs.View.{items_view, table_view};
 ghost use Rattle.xa_files.specs.Reading.{Gives};
-ghost use Rattle.xa_jobs.specs.Headers.{header_at, header_of, jobs_at, sweep_at};
+ghost use Rattle.xa_jobs.specs.Headers.{header_at, header_of, sweep_at};
 
 use toml::{Table, Value};
-use xa_files::{RunFault, are_tables, has_only, size_at, value_at};
+use xa_files::{RunFault, has_only, size_at, tables_at, value_at};
 
 /// The most threads, and the most resource managers.
 const MAX_SIZE: u32 = 8;
@@ -19,20 +19,6 @@ fn sweep_at(document: &Table) -> Option<bool>
     match value_at(document, "sweep") {
         None => Some(false),
         Some(value) => value.as_bool(),
-    }
-}
-
-/// The tables of the jobs, of which there may be none.
-#[tactic(auto, unfolding(crate::specs::Headers::jobs_at))]
-fn jobs_at(document: &Table) -> Option<&[Value]>
-    ensures { option_map (λ items. items_view items.now) result ≡ jobs_at (table_view document.now) }
-{
-    match value_at(document, "job") {
-        None => Some(&[]),
-        Some(value) => {
-            let items = value.as_array()?.as_slice();
-            if are_tables(items) { Some(items) } else { None }
-        }
     }
 }
 
@@ -49,7 +35,7 @@ fn header_at(document: &Table) -> Option<(u32, u32, bool, &[Value])>
     let threads = size_at(document, "threads", MAX_SIZE)?;
     let rms = size_at(document, "rms", MAX_SIZE)?;
     let sweep = sweep_at(document)?;
-    let jobs = jobs_at(document)?;
+    let jobs = tables_at(document, "job")?;
     Some((threads, rms, sweep, jobs))
 }
 

@@ -2,10 +2,11 @@
 
 ghost use Rattle.std.specs.Prelude.{◌≡◌, ◌≢◌, Err, IfErr, IfOk, IsErr, OnOk};
 ghost use Rattle.std.specs.Io.KnownBytes.{Keeps};
+ghost use Rattle.xa_files.specs.Reading.{EndsWith, Explains};
 ghost use Rattle.xa_files.specs.declared.fault.RunFault.{RunFault};
 ghost use Rattle.xa_files.specs.declared.fault.RunFault.TheVariants.{Output};
 ghost use Rattle.xa_jobs.specs.JobFiles.{jobs_of, plan_of};
-ghost use Rattle.xa_jobs.specs.JobRuns.{AreEnds, Begins, BeginsEnds, EndsWith, Explains, Prints, PrintsEnds};
+ghost use Rattle.xa_jobs.specs.JobRuns.{AreEnds, Begins, BeginsEnds, Prints, PrintsEnds};
 ghost use Rattle.xa_jobs.specs.JobRuns.{IsRunFault, IsWorkFault, fault_of};
 ghost use Rattle.xa_workers.specs.Jobs.{IsRunnable};
 

@@ -1,20 +1,8 @@
 -- Lines, one after the other.
 use Rattle.std.proofs.Common.{◌≡◌, ◌∙◌, ℕ, ◌+◌, ◌<◌, List, [], ◌∷◌, ◌++◌, length, get_or, take, sym, ap, append_assoc, append-nil, arith, add-zero}
 use Rattle.std.proofs.lemmas.List.{take_more, length-take-le}
-use Rattle.std.proofs.lemmas.List.Concat.{flat_map-append}
-use Rattle.std.specs.List.{flat_map}
 use Rattle.xa_base.specs.declared.reply.Event.{Event}
 use Rattle.xa_scenario.specs.Replies.{trace_line, trace_lines}
-
--- one text more behind those of a list
-pub text_more : {A : Type 0} (f : A → List ℕ) (start text more : List ℕ) (xs : List A) (i : ℕ) (x : A) → i < length xs → x ≡ get_or xs i x
-    → text ≡ start ++ flat_map f (take i xs) → more ≡ f x → text ++ more ≡ start ++ flat_map f (take (i + 1) xs)
-text_more f start text more xs i x within is so_far same =
-    let before = flat_map f (take i xs) in
-    ap (λ t. t ++ more) so_far ∙ ap (λ m. start ++ before ++ m) same ∙ append_assoc start before (f x)
-    ∙ ap (λ t. start ++ (before ++ t)) (sym (append-nil (f x)))
-    ∙ ap (λ t. start ++ t) (sym (flat_map-append f (take i xs) (x ∷ [])) ∙ ap (λ y. flat_map f (take i xs ++ y ∷ [])) is
-    ∙ ap (flat_map f) (sym (take_more xs i x within)))
 
 lines_push : (number : ℕ) (events : List Event) (event : Event)
     → trace_lines number (events ++ event ∷ []) ≡ trace_lines number events ++ trace_line (number + length events) event

@@ -1,5 +1,5 @@
 -- Why a run ended.
-use Rattle.std.proofs.Common.{◌≡◌, Bool, List, [], ℕ, Option, Result, Ok, Err, IfOk, IfErr, OnErr, String, Global, string_bytes, ap, ◌⊎◌, inl, inr, refl, sym, subst, ◌∙◌}
+use Rattle.std.proofs.Common.{◌≡◌, Bool, List, [], ℕ, Option, Result, Ok, Err, IfOk, IfErr, OnErr, String, Global, string_bytes, ap, sym, subst, ◌∙◌, ◌≢◌}
 use Rattle.xa_model.specs.Promises.Headline.{Headline}
 use Rattle.xa_model.specs.Replies.History.{AreDemanded}
 use Rattle.xa_model.specs.Trace.{Origin}
@@ -7,42 +7,27 @@ use Rattle.xa_base.specs.Xid.{Xid}
 use Rattle.xa_base.specs.declared.reply.Event.{Event}
 use Rattle.xa_base.specs.declared.state.Fate.{Fate}
 use Rattle.xa_files.specs.Outputs.{AppendsBeginning}
-use Rattle.xa_files.specs.Reading.{Fails}
+use Rattle.xa_files.proofs.ReadingLemmas.{explained}
+use Rattle.xa_files.specs.Reading.{Explains, Fails}
 use Rattle.xa_files.specs.declared.fault.RunFault.{RunFault}
-use Rattle.xa_files.specs.declared.fault.RunFault.TheVariants.{NotToml, Header, Step, Job, Log, Memory, Work, Output}
+use Rattle.xa_files.specs.declared.fault.RunFault.TheVariants.{Log, Work, Output}
 use Rattle.xa_scenario.specs.Plays.{IsPlay, Performs}
-use Rattle.xa_scenario.specs.Runs.{Begins, BeginsCheck, BeginsRun, Explains, IsReportOf, IsRunOf, IsStartOf, IsTextOf, Prints, PrintsRun, check_line, run_text}
+use Rattle.xa_scenario.specs.Runs.{Begins, BeginsCheck, BeginsRun, IsReportOf, IsRunOf, IsStartOf, IsTextOf, Prints, PrintsRun, check_line, run_text}
 use Rattle.xa_scenario.specs.Scenarios.{Plan, scenario_of}
 use Rattle.xa_scenario.proofs.TextFaults.{faults_are_of_texts}
 
--- a fault of the reading, which is not that of the output
+-- a fault of the reading
 pub explains : (fault : RunFault) (text : List ℕ) → Fails fault (scenario_of text) → Explains fault (scenario_of text)
-explains NotToml text is = is
-explains Header text is = is
-explains (Step n) text is = is
-explains (Job n) text is = is
-explains Log text is = absurd (faults_are_of_texts text Log is)
-explains Memory text is = tt
-explains Work text is = absurd (faults_are_of_texts text Work is)
-explains Output text is = absurd (faults_are_of_texts text Output is)
-
-same_fault : (a b : RunFault) (read : Result Plan RunFault) → read ≡ Err a → read ≡ Err b → a ≡ b
-same_fault a b read first second = let e : ◌≡◌ {A = Result Plan RunFault} (Err a) (Err b) = sym first ∙ second in cc
-
--- a reader's fault is that of the text, or want of memory
-pub ends_with : (found fault : RunFault) (read : Result Plan RunFault) → Fails found read → read ≡ Err fault → (found ≡ fault) ⊎ (found ≡ Memory)
-ends_with NotToml fault read is known = inl (same_fault NotToml fault read is known)
-ends_with Header fault read is known = inl (same_fault Header fault read is known)
-ends_with (Step n) fault read is known = inl (same_fault (Step n) fault read is known)
-ends_with (Job n) fault read is known = inl (same_fault (Job n) fault read is known)
-ends_with Log fault read is known = inl (same_fault Log fault read is known)
-ends_with Memory fault read is known = inr refl
-ends_with Work fault read is known = inl (same_fault Work fault read is known)
-ends_with Output fault read is known = inl (same_fault Output fault read is known)
+explains fault text =
+    explained fault (scenario_of text) (faults_are_of_texts text Log) (faults_are_of_texts text Work) (faults_are_of_texts text Output)
 
 -- no reading ends with a fault of the output
 pub not_of_output : (fault : RunFault) (text : List ℕ) → Fails fault (scenario_of text) → fault ≡ Output → ⊥
 not_of_output fault text fails e = faults_are_of_texts text Output (subst (λ (f : RunFault). Fails f (scenario_of text)) e fails)
+
+-- nor with one of the work
+pub not_of_work : (fault : RunFault) (text : List ℕ) → Fails fault (scenario_of text) → fault ≢ Work
+not_of_work fault text fails e = faults_are_of_texts text Work (subst (λ (f : RunFault). Fails f (scenario_of text)) e fails)
 
 -- what a fault of the output leaves
 pub on_output : (result : Result (Unit {0}) RunFault) (P Q : Type 0) → (P → Q)

@@ -3,7 +3,6 @@ pub mod Branches
 pub mod Calls
 pub mod Crashes
 pub mod Endings
-pub mod Fates
 pub mod Flags
 pub mod Headers
 pub mod Listed

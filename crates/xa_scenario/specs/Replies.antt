@@ -1,21 +1,19 @@
 -- The lines of a trace: what each event was replied.
 use Rattle.std.specs.Prelude.{ℕ, ◌+◌, List, [], ◌∷◌, ◌++◌, codes}
 use Rattle.std.specs.Fmt.{decimal, signed_decimal}
-use Rattle.std.specs.Int.{to_be_bytes, w64}
 use Rattle.std.specs.List.{flat_map}
-use Rattle.hex.specs.Hex.{encode_lower}
 use Rattle.xa_base.specs.Answer.{answer_number}
 use Rattle.xa_base.specs.Refusal.{refusal_name, refusal_number}
 use Rattle.xa_base.specs.Xid.{Xid, text_of}
 use Rattle.xa_base.specs.declared.answer.Answer.{Answer}
 use Rattle.xa_base.specs.declared.answer.Answer.TheVariants.{Ret, Page}
-use Rattle.xa_base.specs.declared.branch.Gtrid.{Gtrid}
 use Rattle.xa_base.specs.declared.call.Call.{Call}
 use Rattle.xa_base.specs.declared.call.Call.TheVariants.{OpenRm, CloseRm, Start, End, Prepare, Commit, Rollback, Forget, Recover}
 use Rattle.xa_base.specs.declared.refusal.Refusal.{Refusal}
 use Rattle.xa_base.specs.declared.reply.Event.{Event}
 use Rattle.xa_base.specs.declared.reply.Reply.{Reply}
 use Rattle.xa_base.specs.declared.reply.Reply.TheVariants as replies
+use Rattle.xa_files.specs.Gtrids.{gtrid_text}
 
 -- the name of a call
 abbrev pub call_name : Call Xid → List ℕ
@@ -28,10 +26,6 @@ call_name (Commit xid one_phase) = codes "xa_commit"
 call_name (Rollback xid) = codes "xa_rollback"
 call_name (Forget xid) = codes "xa_forget"
 call_name (Recover count start_scan end_scan) = codes "xa_recover"
-
--- a transaction, as its branches' identifiers name it: its two numbers, 16 digits each
-abbrev pub gtrid_text : Gtrid → List ℕ
-gtrid_text g = encode_lower (to_be_bytes w64 g.incarnation ++ to_be_bytes w64 g.sequence)
 
 -- an identifier behind a space
 abbrev pub listed_xid : Xid → List ℕ

@@ -1,5 +1,5 @@
 -- What a run of a scenario file prints, and why it ends early.
-use Rattle.std.specs.Prelude.{◌≡◌, ◌⊎◌, ◌↔◌, ℕ, Bool, if◌then◌else◌, List, [], ◌++◌, length, codes, Contains, Option, Result, Ok, Err, IsOk, IsErrAnd}
+use Rattle.std.specs.Prelude.{◌≡◌, ◌⊎◌, ◌↔◌, ℕ, Bool, if◌then◌else◌, List, [], ◌++◌, length, codes, Contains, Option, Ok}
 use Rattle.std.specs.Fmt.{decimal}
 use Rattle.std.specs.Io.KnownBytes.{Appends}
 use Rattle.std.specs.List.Sorted.{IsStrictlySortedBy}
@@ -11,10 +11,10 @@ use Rattle.xa_model.specs.Trace.{Origin}
 use Rattle.xa_base.specs.Xid.{Xid, xid_cmp}
 use Rattle.xa_base.specs.declared.reply.Event.{Event}
 use Rattle.xa_base.specs.declared.state.Fate.{Fate}
+use Rattle.xa_files.specs.Fates.{fate_lines}
 use Rattle.xa_files.specs.Outputs.{AppendsBeginning}
 use Rattle.xa_files.specs.declared.fault.RunFault.{RunFault}
-use Rattle.xa_files.specs.declared.fault.RunFault.TheVariants.{Log, Memory, Work, Output}
-use Rattle.xa_scenario.specs.Fates.{fate_lines}
+use Rattle.xa_files.specs.declared.fault.RunFault.TheVariants.{Log, Memory}
 use Rattle.xa_scenario.specs.Plays.{IsPlay, Performs}
 use Rattle.xa_scenario.specs.Replies.{trace_lines}
 use Rattle.xa_scenario.specs.Scenarios.{Plan, scenario_of}
@@ -105,19 +105,6 @@ pub record BeginsCheck (text : List ℕ) (old new : Option (List ℕ)) : Type 0 
 
 -- ** faults
 
--- what a fault tells of the reading of the text: want of memory tells nothing, a fault of the log, of the work or of
--- the output that it is a scenario, and each other fault is the text's own
-abbrev pub Explains : RunFault → Result Plan RunFault → Type 0
-Explains Memory read = Unit {0}
-Explains Log read = IsOk read
-Explains Work read = IsOk read
-Explains Output read = IsOk read
-Explains fault read = read ≡ Err fault
-
--- a run of a text with this fault ends with it, unless memory ran out
-abbrev pub EndsWith : RunFault → Result (Unit {0}) RunFault → Type 0
-EndsWith fault result = IsErrAnd result (λ e. (e ≡ fault) ⊎ (e ≡ Memory))
-
 -- a fault of a system that couldn't be started
 abbrev pub IsStartFault : RunFault → Type 0
-IsStartFault fault = (fault ≡ Log) ⊎ ((fault ≡ Memory) ⊎ (fault ≡ Work))
+IsStartFault fault = (fault ≡ Log) ⊎ (fault ≡ Memory)

@@ -1,6 +1,5 @@
 -- Which texts are scenarios, and the fault of each other text.
-use Rattle.xa_system.specs.declared.system.TheConstants.{EVENT_LIMIT}
-use Rattle.std.specs.Prelude.{ℕ, ◌+◌, nat_lt, if◌then◌else◌, List, [], ◌∷◌, ◌++◌, Option, Some, None, Result, Ok, Err}
+use Rattle.std.specs.Prelude.{◌≤◌, ℕ, ◌+◌, nat_lt, if◌then◌else◌, List, [], ◌∷◌, ◌++◌, Option, Some, None, Result, Ok, Err}
 use Rattle.std.specs.Option.{ok_or, option_and_then}
 use Rattle.toml.specs.Data.{Data, Items, no_items, item, Members, as_table}
 use Rattle.xa_files.specs.Documents.{document_of}
@@ -19,6 +18,15 @@ pub record Plan : Type 0 where
   pub threads : ℕ
   pub rms : ℕ
   pub entries : List Entry
+
+-- a number of threads or of resource managers
+abbrev pub IsSize : ℕ → Type 0
+IsSize n = (1 ≤ n) × (n ≤ 8)
+
+-- there are 1 to 8 of either
+pub record IsSized (plan : Plan) : Type 0 where
+  pub threads : IsSize plan.threads
+  pub rms : IsSize plan.rms
 
 -- the plan of a scenario, without where it lies in memory
 abbrev pub plan_of : Scenario → Plan

@@ -1,10 +1,10 @@
 //! A scenario file as a whole.
 
-ghost use Rattle.std.specs.Prelude.{◌≡◌, ℕ, ◌^◌, ◌+◌, List, [], codes, map, option_map, is_some};
+ghost use Rattle.std.specs.Prelude.{◌≡◌, IfOk, IfSome, ℕ, ◌^◌, ◌+◌, List, [], codes, map, option_map, is_some};
 ghost use Rattle.toml.specs.View.{view, table_view, items_view};
-ghost use Rattle.xa_scenario.specs.Headers.{steps_at, header_at};
-ghost use Rattle.xa_files.specs.Documents.{are_tables, size_at};
-ghost use Rattle.xa_scenario.specs.Scenarios.{plan_of, entry_at, name_in, names_after, entries_from, header_of, scenario_of};
+ghost use Rattle.xa_scenario.specs.Headers.{header_at};
+ghost use Rattle.xa_files.specs.Documents.{size_at, tables_at};
+ghost use Rattle.xa_scenario.specs.Scenarios.{IsSize, IsSized, plan_of, entry_at, name_in, names_after, entries_from, header_of, scenario_of};
 ghost use Rattle.xa_files.specs.Reading.{Gives};
 ghost use Rattle.xa_files.specs.Documents.{document_of};
 ghost use Rattle.xa_scenario.specs.Listed.{EachIsRead, FirstIsFaulty, FaultsAreOfTexts};
@@ -14,7 +14,7 @@ use crate::entry::Entry;
 use crate::tables::entry_of;
 use std::alloc::Global;
 use toml::{Table, Value};
-use xa_files::{RunFault, are_tables, document_of, has_only, size_at, value_at};
+use xa_files::{RunFault, document_of, has_only, size_at, tables_at};
 
 /// The most entries of a scenario.
 const MAX_ENTRIES: usize = 10_000;
@@ -36,37 +36,25 @@ pub struct Scenario {
     pub entries: Vec<Entry>,
 }
 
-/// The tables of the steps, of which there may be none.
-#[tactic(auto, unfolding(crate::specs::Headers::steps_at))]
-fn steps_at(document: &Table) -> Option<&[Value]>
-    ensures { option_map (λ items. items_view items.now) result ≡ steps_at (table_view document.now) }
-{
-    match value_at(document, "step") {
-        None => Some(&[]),
-        Some(value) => {
-            let items = value.as_array()?.as_slice();
-            if are_tables(items) { Some(items) } else { None }
-        }
-    }
-}
-
 /// The top of a document: the threads, the resource managers and the tables of the steps.
 #[tactic(auto, unfolding(crate::specs::Headers::header_at))]
 fn header_at(document: &Table) -> Option<(u32, u32, &[Value])>
-    ensures { option_map (λ h. (h.0, h.1, items_view h.2.now)) result ≡ header_at (table_view document.now) }
+    ensures value { option_map (λ h. (h.0, h.1, items_view h.2.now)) result ≡ header_at (table_view document.now) }
+    ensures sized { IfSome result (λ h. IsSize h.0 × IsSize h.1) }
 {
     if !has_only(document, &["threads", "rms", "step"]) {
         return None;
     }
     let threads = size_at(document, "threads", MAX_THREADS)?;
     let rms = size_at(document, "rms", MAX_RMS)?;
-    let steps = steps_at(document)?;
+    let steps = tables_at(document, "step")?;
     Some((threads, rms, steps))
 }
 
 /// The same, with its fault.
 fn header_of(document: &Table) -> Result<(u32, u32, &[Value]), RunFault>
-    ensures { Gives (λ h. (h.0, h.1, items_view h.2.now)) result (header_of (table_view document.now)) }
+    ensures value { Gives (λ h. (h.0, h.1, items_view h.2.now)) result (header_of (table_view document.now)) }
+    ensures sized { IfOk result (λ h. IsSize h.0 × IsSize h.1) }
 {
     match header_at(document) {
         Some(header) => Ok(header),
@@ -115,7 +103,8 @@ fn entries_of(alloc: Global, items: &[Value]) -> Result<Vec<Entry>, RunFault>
 /// The fault is NotToml, Header or Step, whichever is found first in this order, or Memory where a request was refused.
 #[tactic(auto, unfolding(crate::specs::Scenarios::scenario_of))]
 pub fn read_scenario(alloc: Global, text: &[u8]) -> Result<Scenario, RunFault>
-    ensures { Gives plan_of result (scenario_of text.now) }
+    ensures read { Gives plan_of result (scenario_of text.now) }
+    ensures sized { IfOk result (λ scenario. IsSized (plan_of scenario)) }
 {
     let document = document_of(alloc, text)?;
     let (threads, rms, steps) = header_of(&document)?;

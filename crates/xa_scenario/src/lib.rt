@@ -12,7 +12,6 @@ mod crashes;
 mod document;
 mod endings;
 mod entry;
-mod fates;
 mod flags;
 mod moves;
 mod names;

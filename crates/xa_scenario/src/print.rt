@@ -7,11 +7,10 @@ ghost use Rattle.xa_scenario.specs.Runs.{check_line, run_text};
 ghost use Rattle.xa_scenario.specs.Scenarios.{plan_of};
 
 use crate::document::Scenario;
-use crate::fates::push_fates;
 use crate::replies::trace_lines;
 use std::alloc::Global;
 use xa_base::{Event, Fate, Xid};
-use xa_files::RunFault;
+use xa_files::{RunFault, push_fates};
 
 /// The text of a run: its trace, where that is asked for, and then the fates.
 pub fn run_text(

@@ -4,11 +4,11 @@ ghost use Rattle.std.specs.Prelude.{◌≡◌, ◌++◌, IfErr, IfOk, OnOk};
 ghost use Rattle.std.specs.List.{flat_map};
 ghost use Rattle.std.specs.String.{string_bytes};
 ghost use Rattle.xa_files.specs.declared.fault.RunFault.TheVariants.{Memory};
-ghost use Rattle.xa_scenario.specs.Replies.{answer_text, call_name, gtrid_text, listed_xid, refused_text, reply_text, restarted_text, trace_line, trace_lines};
+ghost use Rattle.xa_scenario.specs.Replies.{answer_text, call_name, listed_xid, refused_text, reply_text, restarted_text, trace_line, trace_lines};
 
 use std::alloc::Global;
-use xa_base::{Answer, Branch, Call, Event, Gtrid, Refusal, Reply, Xid};
-use xa_files::RunFault;
+use xa_base::{Answer, Call, Event, Refusal, Reply, Xid};
+use xa_files::{RunFault, gtrid_text};
 
 /// The name of a call (XA, chapter 5).
 fn call_name(call: &Call) -> &'static str
@@ -25,20 +25,6 @@ fn call_name(call: &Call) -> &'static str
         Call::Forget { .. } => "xa_forget",
         Call::Recover { .. } => "xa_recover",
     }
-}
-
-/// A transaction, as its branches' identifiers name it: 32 hexadecimal digits.
-pub fn gtrid_text(alloc: Global, gtrid: Gtrid) -> Result<String, RunFault>
-    ensures text { IfOk result (λ text. string_bytes text ≡ gtrid_text gtrid) }
-    ensures fault { IfErr result (λ e. e ≡ Memory) }
-{
-    let branch = Branch {
-        gtrid,
-        thread: 0,
-        rm: 0,
-    };
-    let xid = branch.xid();
-    Ok(hex::encode(alloc, xid.gtrid())?)
 }
 
 /// Adds each identifier behind a space.

@@ -1,14 +1,15 @@
 //! The work of the program, over any log and any writer.
 
-ghost use Rattle.std.specs.Prelude.{◌≡◌, ◌⊎◌, [], All, Err, IfErr, IfOk, IsErr, OnOk, vec_len};
+ghost use Rattle.std.specs.Prelude.{◌≡◌, ◌≢◌, ◌⊎◌, [], All, Err, IfErr, IfOk, IsErr, OnOk, vec_len};
 ghost use Rattle.std.specs.Io.KnownBytes.{Keeps};
 ghost use Rattle.std.specs.String.{string_bytes};
 ghost use Rattle.xa_base.specs.HeldBranch.{new_branch};
 ghost use Rattle.xa_base.specs.Xid.{Xid};
+ghost use Rattle.xa_files.specs.Reading.{EndsWith, Explains};
 ghost use Rattle.xa_files.specs.declared.fault.RunFault.{RunFault};
-ghost use Rattle.xa_files.specs.declared.fault.RunFault.TheVariants.{Memory, Output};
-ghost use Rattle.xa_scenario.specs.Runs.{Begins, BeginsCheck, BeginsRun, EndsWith, Explains, IsStartFault, IsStartOf, IsTextOf, Prints, PrintsCheck, PrintsRun};
-ghost use Rattle.xa_scenario.specs.Scenarios.{plan_of, scenario_of};
+ghost use Rattle.xa_files.specs.declared.fault.RunFault.TheVariants.{Memory, Output, Work};
+ghost use Rattle.xa_scenario.specs.Runs.{Begins, BeginsCheck, BeginsRun, IsStartFault, IsStartOf, IsTextOf, Prints, PrintsCheck, PrintsRun};
+ghost use Rattle.xa_scenario.specs.Scenarios.{IsSized, plan_of, scenario_of};
 ghost use Rattle.xa_system.specs.Seen.{origin_in};
 ghost use Rattle.xa_system.specs.Sites.{looks};
 
@@ -43,6 +44,7 @@ fn system_of<R: ResourceManager + Drop, L: DecisionLog + Drop>(
     rms: Vec<R>,
     log: L,
 ) -> Result<System<R, L>, RunFault>
+    requires sized { IsSized (plan_of scenario.now) }
     requires count { vec_len rms ≡ scenario.now.rms }
     requires unstarted { All (λ rm. (x : Xid) → R.held_of rm x ≡ new_branch) rms.items }
     ensures empty { IfOk result (λ system. system.events ≡ []) }
@@ -54,7 +56,9 @@ fn system_of<R: ResourceManager + Drop, L: DecisionLog + Drop>(
         Ok(system) => Ok(system),
         Err(NewFault::Log) => Err(RunFault::Log),
         Err(NewFault::Memory) => Err(RunFault::Memory),
-        Err(NewFault::Limit | NewFault::NotClear) => Err(RunFault::Work),
+        // A scenario is as large as a system can be, and no branch ever was at its resource managers.
+        Err(NewFault::Limit) => unreachable!(),
+        Err(NewFault::NotClear) => unreachable!(),
     }
 }
 
@@ -102,7 +106,7 @@ fn run<R: ResourceManager + Drop, L: DecisionLog + Drop, W: Write>(
 /// A file that is no scenario is refused before anything is run, by NotToml, Header or Step. Log comes where the log
 /// can't be started. Memory comes where a request was refused outside of a step; nothing is written then. Output comes
 /// where a write failed: what was written before it is left, and is a beginning of what is printed otherwise. Work
-/// comes where no system can be made that is as large as the file says, which is never so.
+/// never comes.
 pub fn run_scenario<L: DecisionLog + Drop, W: Write>(
     alloc: Global,
     text: &[u8],
@@ -112,6 +116,7 @@ pub fn run_scenario<L: DecisionLog + Drop, W: Write>(
 ) -> Result<(), RunFault>
     ensures ok { OnOk result (Prints text.now with_trace (W.contents out.old) (W.contents out.new)) }
     ensures fault { IfErr result (λ e. Explains e (scenario_of text.now)) }
+    ensures work { IfErr result (λ e. e ≢ Work) }
     ensures refused { (e : RunFault) → scenario_of text.now ≡ Err e → EndsWith e result }
     // A file that is no scenario writes nothing.
     ensures unwritten { IsErr (scenario_of text.now) → Keeps (W.contents out.old) (W.contents out.new) }
@@ -128,7 +133,7 @@ pub fn run_scenario<L: DecisionLog + Drop, W: Write>(
 
 /// Reads a scenario file only, and prints how many threads, resource managers and entries it has, as in `ok 1 1 5`.
 ///
-/// The faults are those of `run_scenario`, but for Log and Work.
+/// The faults are those of `run_scenario`, but for Log.
 pub fn check_scenario<W: Write>(alloc: Global, text: &[u8], out: &mut W) -> Result<(), RunFault>
     ensures ok { OnOk result (PrintsCheck text.now (W.contents out.old) (W.contents out.new)) }
     ensures fault { IfErr result (λ e. Explains e (scenario_of text.now)) }

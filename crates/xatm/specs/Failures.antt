@@ -2,8 +2,6 @@
 use Rattle.std.specs.Prelude.{ℕ}
 use Rattle.xa_files.specs.declared.fault.RunFault.{RunFault}
 use Rattle.xa_files.specs.declared.fault.RunFault.TheVariants.{NotToml, Header, Step, Job, Log, Memory, Work, Output}
-use Rattle.xa_log.specs.declared.log_fault.LogFault.{LogFault}
-use Rattle.xa_log.specs.declared.log_fault.LogFault.TheVariants as logs
 use Rattle.xatm.specs.declared.failure.Failure.{Failure}
 use Rattle.xatm.specs.declared.failure.Failure.TheVariants.{CommandLine, Words, NotReadable, Run}
 
@@ -17,13 +15,6 @@ fault_status Log = 2
 fault_status Memory = 2
 fault_status Work = 2
 fault_status Output = 2
-
--- what it is to the program that the log can't be opened
-abbrev pub fault_of_log : LogFault → RunFault
-fault_of_log logs.Memory = Memory
-fault_of_log logs.Store = Log
-fault_of_log logs.Version = Log
-fault_of_log logs.Spent = Log
 
 -- 3 where the command line is refused, 1 where the file can't be read, else the status of the fault
 abbrev pub failure_status : Failure → ℕ

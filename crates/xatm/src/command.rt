@@ -21,6 +21,10 @@ pub enum Command<'a> {
         file: &'a str,
         log: Option<&'a str>,
     },
+    /// Print what the log at a path holds.
+    Log {
+        path: &'a str,
+    },
 }
 
 const EXAMPLES: &str = "Example: xatm run examples/first-run.toml";
@@ -32,6 +36,8 @@ const CHECK_EXAMPLE: &str = "Example: xatm check examples/first-run.toml";
 
 const THREADS_EXAMPLE: &str = "Example: xatm threads --log decisions.db examples/four-jobs.toml";
 
+const LOG_EXAMPLE: &str = "Example: xatm log decisions.db";
+
 /// The parser of the command line.
 pub fn parser<'a>(alloc: Global) -> Result<Parser<'a>, AllocError> {
     Parser::new(alloc, "xatm")
@@ -41,7 +47,8 @@ pub fn parser<'a>(alloc: Global) -> Result<Parser<'a>, AllocError> {
         .subcommand_required(true)
         .subcommand(run_parser(alloc)?)?
         .subcommand(check_parser(alloc)?)?
-        .subcommand(threads_parser(alloc)?)
+        .subcommand(threads_parser(alloc)?)?
+        .subcommand(log_parser(alloc)?)
 }
 
 /// The parser of `run`.
@@ -75,6 +82,18 @@ fn threads_parser<'a>(alloc: Global) -> Result<Parser<'a>, AllocError> {
         .arg(file_arg(alloc, "The jobs file"))
 }
 
+/// The parser of `log`.
+fn log_parser<'a>(alloc: Global) -> Result<Parser<'a>, AllocError> {
+    let path = Arg::new(alloc, "path")
+        .value_name("PATH")
+        .help("The file of the decision log, which must be there")
+        .required(true);
+    Parser::new(alloc, "log")
+        .about("Print the transactions and the heuristic ends that a decision log holds")
+        .after_help(LOG_EXAMPLE)
+        .arg(path)
+}
+
 /// Where the log of a command lies.
 fn log_arg<'a>(alloc: Global) -> Arg<'a> {
     Arg::new(alloc, "log").long("log").value_name("PATH").help(
@@ -105,6 +124,9 @@ pub fn command_of<'a>(matches: &ArgMatches<'a>) -> Option<Command<'a>> {
         "threads" => Some(Command::Threads {
             file: words.get_str("file")?,
             log: words.get_str("log"),
+        }),
+        "log" => Some(Command::Log {
+            path: words.get_str("path")?,
         }),
         _ => None,
     }

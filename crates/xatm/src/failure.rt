@@ -9,6 +9,7 @@ use std::alloc::AllocError;
 use std::io;
 use std::io::ErrorKind;
 use xa_files::RunFault;
+use xa_listing::run_fault;
 use xa_log::LogFault;
 
 /// Why the program ends early.
@@ -90,15 +91,12 @@ impl From<AllocError> for Failure {
 }
 
 impl From<LogFault> for Failure {
-    ghost use Rattle.xatm.specs.Failures.{fault_of_log};
+    ghost use Rattle.xa_listing.specs.Faults.{fault_of_log};
 
     ghost from_gives = { λ fault failure. failure ≡ Run (fault_of_log fault) };
 
     fn from(fault: LogFault) -> Failure {
-        match fault {
-            LogFault::Memory => Failure::Run(RunFault::Memory),
-            LogFault::Store | LogFault::Version | LogFault::Spent => Failure::Run(RunFault::Log),
-        }
+        Failure::Run(run_fault(fault))
     }
 }
 

@@ -1,5 +1,5 @@
-//! Runs and checks scenario files, the calls of threads to the resource managers of distributed transactions; and runs
-//! jobs files, such transactions on threads.
+//! Runs and checks scenario files, the calls of threads to the resource managers of distributed transactions; runs jobs
+//! files, such transactions on threads; and lists decision logs.
 //!
 //! "XA" in these pages is X/Open CAE Specification C193, "Distributed Transaction Processing: The XA Specification"
 //! (1991).
@@ -17,6 +17,7 @@ use std::thread::Threads;
 use std::{env, fs, io};
 use xa_files::RunFault;
 use xa_jobs::run_job_file;
+use xa_listing::list_log;
 use xa_log::SqlLog;
 use xa_scenario::{check_scenario, run_scenario};
 
@@ -54,21 +55,29 @@ fn perform<T: Threads + Wait + Sync>(
     threads: &T,
     command: Command,
 ) -> Result<(), Failure> {
-    let (Command::Run { file, .. } | Command::Check { file } | Command::Threads { file, .. }) =
-        command;
-    let text = fs::read(rt, file).map_err(|error| Failure::NotReadable.caused_by(&error))?;
     // Nothing is buffered: all that is printed goes out in one text.
     let mut out = io::writer(rt);
     match command {
         Command::Run {
+            file,
             log,
             with_trace,
-            ..
-        } => run(rt, &text, log, with_trace, &mut out)?,
-        Command::Check { .. } => check_scenario(rt.alloc(), &text, &mut out)?,
-        Command::Threads { log, .. } => run_threads(rt, threads, &text, log, &mut out)?,
+        } => run(rt, &text_of(rt, file)?, log, with_trace, &mut out),
+        Command::Check { file } => Ok(check_scenario(rt.alloc(), &text_of(rt, file)?, &mut out)?),
+        Command::Threads { file, log } => run_threads(
+            rt,
+            threads,
+            &text_of(rt, file)?,
+            log,
+            &mut out,
+        ),
+        Command::Log { path } => list(rt, path, &mut out),
     }
-    Ok(())
+}
+
+/// What a file holds.
+fn text_of(rt: &HostRuntime, file: &str) -> Result<Vec<u8>, Failure> {
+    fs::read(rt, file).map_err(|error| Failure::NotReadable.caused_by(&error))
 }
 
 /// Runs a scenario over the log at a path, or over one in memory. The log is opened before the text is read as a
@@ -102,5 +111,17 @@ fn run_threads<T: Threads + Wait + Sync, W: Write>(
         Some(path) => run_job_file(threads, alloc, text, SqlLog::open(rt, path)?, out)?,
         None => run_job_file(threads, alloc, text, SqlLog::open_in_memory(alloc)?, out)?,
     }
+    Ok(())
+}
+
+/// Lists the log at a path. Where there is no file it fails: who looks at a log makes none.
+fn list<W: Write>(rt: &HostRuntime, path: &str, out: &mut W) -> Result<(), Failure> {
+    let is_there = fs::exists(rt, path).map_err(|error| Failure::Run(RunFault::Log).caused_by(
+        &error,
+    ))?;
+    if !is_there {
+        return Err(Failure::Run(RunFault::Log));
+    }
+    list_log(&mut SqlLog::open(rt, path)?, out)?;
     Ok(())
 }

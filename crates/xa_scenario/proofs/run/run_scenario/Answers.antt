@@ -1,19 +1,25 @@
 use Rattle.std.proofs.lemmas.Result.{err_from_is_err_and}
 use Rattle.xa_scenario.specs.Scenarios.{scenario_of}
-use Rattle.xa_scenario.proofs.RunLemmas.{explains, ends_with, not_of_output}
+use Rattle.xa_files.proofs.ReadingLemmas.{ends_with}
+use Rattle.xa_scenario.proofs.RunLemmas.{explains, not_of_output, not_of_work}
 use Rattle.xa_scenario.proofs.run.run_scenario.Goals as goal
 
 pub returns-in_err-scenario-clause-fault : goal.returns-in_err-scenario-clause-fault
 returns-in_err-scenario-clause-fault g c =
     let p = err_from_is_err_and c.from_residual.result c.from_residual.ensures.1 in
-    rw (p.1, p.2) (explains c.in_err-scenario.field-0.0 c.args.text.now c.in_err-scenario.ensures)
+    rw (p.1, p.2) (explains c.in_err-scenario.field-0.0 c.args.text.now c.in_err-scenario.ensures.read)
 
 pub returns-in_err-scenario-clause-refused : goal.returns-in_err-scenario-clause-refused
 returns-in_err-scenario-clause-refused g c =
     let p = err_from_is_err_and c.from_residual.result c.from_residual.ensures.1 in
-    λ e known. rw (p.1, p.2) (ends_with c.in_err-scenario.field-0.0 e (scenario_of c.args.text.now) c.in_err-scenario.ensures known)
+    λ e known. rw (p.1, p.2) (ends_with c.in_err-scenario.field-0.0 e (scenario_of c.args.text.now) c.in_err-scenario.ensures.read known)
 
 pub returns-in_err-scenario-clause-begun : goal.returns-in_err-scenario-clause-begun
 returns-in_err-scenario-clause-begun g c =
     let p = err_from_is_err_and c.from_residual.result c.from_residual.ensures.1 in
-    rw (p.1, p.2) (λ e. absurd (not_of_output c.in_err-scenario.field-0.0 c.args.text.now c.in_err-scenario.ensures e))
+    rw (p.1, p.2) (λ e. absurd (not_of_output c.in_err-scenario.field-0.0 c.args.text.now c.in_err-scenario.ensures.read e))
+
+pub returns-in_err-scenario-clause-work : goal.returns-in_err-scenario-clause-work
+returns-in_err-scenario-clause-work g c =
+    let p = err_from_is_err_and c.from_residual.result c.from_residual.ensures.1 in
+    rw (p.1, p.2) (not_of_work c.in_err-scenario.field-0.0 c.args.text.now c.in_err-scenario.ensures.read)

@@ -3,11 +3,11 @@
 ghost use Rattle.std.specs.Prelude.{◌≡◌, ◌++◌, IfErr, IfOk, OnOk};
 ghost use Rattle.std.specs.String.{string_bytes};
 ghost use Rattle.xa_files.specs.declared.fault.RunFault.TheVariants.{Memory};
-ghost use Rattle.xa_scenario.specs.Fates.{fate_line, fate_lines, fate_text};
+ghost use Rattle.xa_files.specs.Fates.{fate_line, fate_lines, fate_text};
 
+use crate::fault::RunFault;
 use std::alloc::Global;
 use xa_base::{Fate, How, Xid};
-use xa_files::RunFault;
 
 /// A fate in words.
 pub fn fate_text(fate: Fate) -> &'static str
@@ -31,7 +31,7 @@ pub fn fate_text(fate: Fate) -> &'static str
 }
 
 /// The line of a branch: its identifier and its fate.
-fn fate_line(alloc: Global, line: &(Xid, Fate)) -> Result<String, RunFault>
+pub fn fate_line(alloc: Global, line: &(Xid, Fate)) -> Result<String, RunFault>
     ensures text { IfOk result (λ text. string_bytes text ≡ fate_line line.now) }
     ensures fault { IfErr result (λ e. e ≡ Memory) }
 {

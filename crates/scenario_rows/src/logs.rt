@@ -1,0 +1,165 @@
+//! Logs, and the lists of them.
+
+use crate::crashes::{DECIDE, PREPARE, PREPARE_TOO, RECOVERIES};
+use crate::failing::Failing;
+use crate::files::{READY, READY_TOO, file, run_over};
+use std::alloc::Global;
+use std::fs;
+use std::test::Fail;
+use xa_base::{Branch, Gtrid, How};
+use xa_files::RunFault;
+use xa_listing::list_log;
+use xa_log::{DecisionLog, FailLog, FailPlan, LogCall, LogFault, MemLog, SqlLog};
+
+/// What is listed of a log with two decisions and an end of each kind.
+const LISTED: &str = "\
+00000000000000010000000000000002 0
+00000000000000010000000000000010 3
+7:00000000000000010000000000000001:0000000000000000 heuristic-com
+7:00000000000000010000000000000010:0000000000000001 heuristic-rb
+7:00000000000000010000000000000010:0000000100000000 heuristic-mix
+7:00000000000000020000000000000001:0000000000000000 heuristic-haz
+";
+
+/// A transaction of an incarnation.
+fn gtrid(incarnation: u64, sequence: u64) -> Gtrid {
+    Gtrid {
+        incarnation,
+        sequence,
+    }
+}
+
+/// A branch of a transaction.
+fn branch(gtrid: Gtrid, thread: u32, rm: u32) -> Branch {
+    Branch { gtrid, thread, rm }
+}
+
+/// The log that `LISTED` lists, whose rows are written in another order.
+fn full_log(alloc: Global) -> Result<MemLog, LogFault> {
+    let mut log = MemLog::new(alloc);
+    let (first, second, third) = (gtrid(1, 1), gtrid(1, 2), gtrid(1, 16));
+    let waited_for = [
+        branch(third, 1, 0),
+        branch(third, 0, 1),
+        branch(third, 0, 0),
+    ];
+    log.commit(third, &waited_for)?;
+    log.commit(second, &[])?;
+    log.note_heuristic(branch(gtrid(2, 1), 0, 0), How::Haz)?;
+    log.note_heuristic(branch(third, 1, 0), How::Mix)?;
+    log.note_heuristic(branch(third, 0, 1), How::Rb)?;
+    log.note_heuristic(branch(first, 0, 0), How::Com)?;
+    Ok(log)
+}
+
+/// The list of a log, or the fault of it.
+fn list_of<L: DecisionLog>(alloc: Global, log: &mut L) -> Result<String, RunFault> {
+    let mut out = Vec::new(alloc);
+    list_log(log, &mut out)?;
+    String::from_utf8(out).map_err(|_| RunFault::Output)
+}
+
+#[test]
+fn every_row_is_listed(rt: HostRuntime) -> Result<(), Fail> {
+    let alloc = rt.alloc();
+    let mut log = full_log(alloc)?;
+    assert_eq!(rt; list_of(alloc, &mut log)?.as_str(), LISTED);
+    assert_eq!(rt; list_of(alloc, &mut MemLog::new(alloc))?.as_str(), "");
+    Ok(())
+}
+
+/// A log whose rows can't be read is a fault of the log, and nothing is listed of it.
+#[test]
+fn log_fails(rt: HostRuntime) -> Result<(), Fail> {
+    let alloc = rt.alloc();
+    let plan = FailPlan::Once {
+        kind: LogCall::Rows,
+        at: 1,
+        made: false,
+    };
+    let mut log = FailLog::new(full_log(alloc)?, plan);
+    let mut out = Vec::new(alloc);
+    assert_eq!(rt; list_log(&mut log, &mut out), Err(RunFault::Log));
+    assert!(rt; out.is_empty());
+    assert_eq!(rt; list_of(alloc, &mut log)?.as_str(), LISTED);
+    Ok(())
+}
+
+/// What a failing writer holds begins the whole list.
+#[test]
+fn writer_of_a_list_fails(rt: HostRuntime) -> Result<(), Fail> {
+    let alloc = rt.alloc();
+    let mut log = full_log(alloc)?;
+    let whole = LISTED.as_bytes();
+    let calls_needed = whole.len().div_ceil(8) + 1;
+    for calls in 0..calls_needed {
+        let mut out = Failing {
+            held: Vec::new(alloc),
+            calls_left: calls,
+        };
+        assert_eq!(rt; list_log(&mut log, &mut out), Err(RunFault::Output));
+        assert!(rt; whole.starts_with(&out.held), "at call {calls}");
+    }
+    let mut out = Failing {
+        held: Vec::new(alloc),
+        calls_left: calls_needed,
+    };
+    list_log(&mut log, &mut out)?;
+    assert_eq!(rt; out.held.as_slice(), whole);
+    Ok(())
+}
+
+/// A run over a new log in the file at a path leaves one that is listed so.
+fn leaves(rt: &HostRuntime, path: &str, entries: &[&[&str]], listed: &str) -> Result<(), Fail> {
+    let alloc = rt.alloc();
+    let _missing = fs::remove_file(rt, path);
+    let text = file(alloc, 1, 2, entries)?;
+    run_over(alloc, text.as_str(), SqlLog::open(rt, path)?, false)?;
+    let list = list_of(alloc, &mut SqlLog::open(rt, path)?)?;
+    assert_eq!(rt; list.as_str(), listed);
+    Ok(())
+}
+
+/// The row of a decision waits for both branches behind the crash, also when one has answered, and leaves after the other.
+#[test]
+fn decided_before_crash(rt: HostRuntime) -> Result<(), Fail> {
+    let path = "decided_before_crash.db";
+    let waits = "00000000000000010000000000000001 2\n";
+    let crashed = [
+        PREPARE,
+        PREPARE_TOO,
+        DECIDE,
+        "do = 'crash', part = 'manager'",
+    ];
+    let restarted = ["do = 'restart', part = 'manager'"];
+    let one_answered = ["do = 'drain', thread = 0, rm = 0", "do = 'done', tx = 'a'"];
+    let both_answered = ["do = 'drain', thread = 0, rm = 1", "do = 'done', tx = 'a'"];
+    leaves(&rt, path, &[&READY, &READY_TOO, &crashed], waits)?;
+    leaves(
+        &rt,
+        path,
+        &[
+            &READY,
+            &READY_TOO,
+            &crashed,
+            &restarted,
+            &RECOVERIES,
+            &one_answered,
+        ],
+        waits,
+    )?;
+    leaves(
+        &rt,
+        path,
+        &[
+            &READY,
+            &READY_TOO,
+            &crashed,
+            &restarted,
+            &RECOVERIES,
+            &one_answered,
+            &both_answered,
+        ],
+        "",
+    )
+}

@@ -1,0 +1,180 @@
+-- The text of the rows of a log is that of its content.
+use Rattle.std.proofs.Common.{◌≡◌, ◌∙◌, T, ℕ, Bool, true, false, ◌&&◌, ◌||◌, cond, List, [], ◌∷◌, ◌++◌, length, map, drop, Ordering, Less, Equal, Greater, Option, Some, None, Result, Ok, Err, IfOk, IfErr, IsSomeAnd, OnOk, OnErr, refl, sym, ap, subst, inl, inr, arith}
+use Rattle.std.specs.Cmp.{tied_itself}
+use Rattle.std.specs.FinMap.{entries, entries_sorted, find, get-entries, is_sorted, keys}
+use Rattle.std.specs.FinMap.Entries.{below_all}
+use Rattle.std.specs.Io.KnownBytes.{Appends}
+use Rattle.std.specs.List.{AllByRecursion, flat_map, list_any}
+use Rattle.std.specs.Ordering.{eq_by_cmp, is_eq, is_lt}
+use Rattle.std.proofs.lemmas.Bool.{cases_Bool}
+use Rattle.std.proofs.lemmas.Result.{on_ok_weaker}
+use Rattle.xa_base.proofs.BranchOrder.{branches_total, exact_gtrids, gtrids_total}
+use Rattle.xa_base.proofs.BranchKeys.{gtrid_eq-refl, gtrid_eq-true}
+use Rattle.xa_base.specs.Branch.{branch_cmp, gtrid_cmp, gtrid_eq}
+use Rattle.xa_base.specs.declared.branch.Branch.{Branch}
+use Rattle.xa_base.specs.declared.branch.Gtrid.{Gtrid}
+use Rattle.xa_base.specs.declared.code.How.{How}
+use Rattle.xa_files.specs.Outputs.{AppendsBeginning}
+use Rattle.xa_files.specs.declared.fault.RunFault.{RunFault}
+use Rattle.xa_files.specs.declared.fault.RunFault.TheVariants.{Output}
+use Rattle.xa_listing.specs.Lines.{decision_lines, heuristic_lines, is_of, own_count, rows_text}
+use Rattle.xa_listing.specs.Texts.{BeginsLog, PrintsLog, count_line, decision_line, log_text}
+use Rattle.xa_log.specs.Content.{AreOwn, Content, all_listed}
+use Rattle.xa_log.specs.KeySet.{KeySet, contains-items, items}
+use Rattle.xa_log.specs.declared.log_fault.LogFault.{LogFault}
+use Rattle.xa_log.specs.declared.log_rows.LogRows.{LogRows}
+
+abbrev Row : Type 0
+Row = Gtrid × KeySet branch_cmp
+
+-- ** the branches of a transaction stand before those of others
+
+all_append : {A : Type 0} (P : A → Type 0) (xs ys : List A) → AllByRecursion P xs → AllByRecursion P ys → AllByRecursion P (xs ++ ys)
+all_append P [] ys first second = second
+all_append P (x ∷ xs) ys first second = (first.0, all_append P xs ys first.1 second)
+
+all_of : {A : Type 0} (P Q : A → Type 0) → ((x : A) → P x → Q x) → (xs : List A) → AllByRecursion P xs → AllByRecursion Q xs
+all_of P Q f [] all = tt
+all_of P Q f (x ∷ xs) all = (f x all.0, all_of P Q f xs all.1)
+
+first_count : (g : Gtrid) (xs ys : List Branch) → AllByRecursion (λ b. is_of g b ≡ true) xs → AllByRecursion (λ b. is_of g b ≡ false) ys
+    → own_count g (xs ++ ys) ≡ length xs
+first_count g [] [] own others = refl
+first_count g [] (y ∷ ys) own others = rw (others.0) refl
+first_count g (x ∷ xs) ys own others = rw (own.0) (omega (arith, first_count g xs ys own.1 others))
+
+drop_first : {A : Type 0} (xs ys : List A) → drop (length xs) (xs ++ ys) ≡ ys
+drop_first [] ys = refl
+drop_first (x ∷ xs) ys = drop_first xs ys
+
+-- ** the rows of a map of which each has branches of its own
+
+abbrev IsOwn : Row → Type 0
+IsOwn row = AllByRecursion (λ (b : Branch). b.gtrid ≡ row.0) (items row.1)
+
+parts : (a b : Bool) → T (a && b) → T a × T b
+parts true b p = (tt, p)
+parts false b p = absurd p
+
+less : (o : Ordering) → T (is_lt o) → o ≡ Less
+less Less p = refl
+less Equal p = absurd p
+less Greater p = absurd p
+
+-- a greater transaction is another one
+apart : (g k : Gtrid) → gtrid_cmp g k ≡ Less → gtrid_eq k g ≡ false
+apart g k less = elim (cases_Bool (gtrid_eq k g)) [
+  | inl same ↦ (
+      let tied : gtrid_cmp g g ≡ Less = ap (gtrid_cmp g) (sym (gtrid_eq-true k g same)) ∙ less in
+      let no : Less ≡ Equal = sym tied ∙ tied_itself gtrids_total g in absurd (cc))
+  | inr other ↦ other
+]
+
+own_first : (row : Row) → IsOwn row → AllByRecursion (λ b. is_of row.0 b ≡ true) (items row.1)
+own_first row own = all_of _ _ (λ (b : Branch) (is : b.gtrid ≡ row.0). ap (λ g. gtrid_eq g row.0) is ∙ gtrid_eq-refl row.0) (items row.1) own
+
+others_after : (g : Gtrid) (rows : List Row) → T (below_all gtrid_cmp g rows) → AllByRecursion IsOwn rows
+    → AllByRecursion (λ b. is_of g b ≡ false) (all_listed rows)
+others_after g [] below own = tt
+others_after g (row ∷ rows) below own =
+    let p = parts _ _ below in
+    all_append _ (items row.1) (all_listed rows)
+    (all_of _ _ (λ (b : Branch) (is : b.gtrid ≡ row.0). ap (λ k. gtrid_eq k g) is ∙ apart g row.0 (less _ p.0)) (items row.1) own.0)
+    (others_after g rows p.1 own.1)
+
+decisions_text : (rows : List Row) → T (is_sorted gtrid_cmp rows) → AllByRecursion IsOwn rows
+    → decision_lines (map (λ row. row.0) rows) (all_listed rows) ≡ flat_map decision_line rows
+decisions_text [] up own = refl
+decisions_text (row ∷ rows) up own =
+    let p = parts _ _ up in
+    let count : own_count row.0 (items row.1 ++ all_listed rows) ≡ length (items row.1) =
+    first_count row.0 (items row.1) (all_listed rows) (own_first row own.0) (others_after row.0 rows p.0 own.1) in
+    ap (λ n. count_line row.0 n ++ decision_lines (map (λ r. r.0) rows) (drop n (items row.1 ++ all_listed rows))) count
+    ∙ ap (λ bs. decision_line row ++ decision_lines (map (λ r. r.0) rows) bs) (drop_first (items row.1) (all_listed rows))
+    ∙ ap (λ text. decision_line row ++ text) (decisions_text rows p.1 own.1)
+
+-- ** the rows of a log are so
+
+later : (a b : Bool) → b ≡ true → (a || b) ≡ true
+later true b h = refl
+later false b h = h
+
+-- of a set of which each key is so
+all_items : (P : Branch → Type 0) (xs : List Branch) → ((b : Branch) → list_any (eq_by_cmp branch_cmp b) xs ≡ true → P b) → AllByRecursion P xs
+all_items P [] each = tt
+all_items P (x ∷ xs) each = (
+  each x (ap (λ o. is_eq o || list_any (eq_by_cmp branch_cmp x) xs) (tied_itself branches_total x)),
+  all_items P xs (λ b there. each b (later (eq_by_cmp branch_cmp b x) _ there)),
+)
+
+found_below : (g : Gtrid) (rows : List Row) → T (below_all gtrid_cmp g rows) → find gtrid_cmp g rows ≡ None
+found_below g [] below = refl
+found_below g (row ∷ rows) below =
+    let p = parts _ _ below in
+    ap (λ o. cond (is_eq o) (Some row.1) (find gtrid_cmp g rows)) (less _ p.0) ∙ found_below g rows p.1
+
+equal_is : (o : Ordering) → is_eq o ≡ true → o ≡ Equal
+equal_is Less h = absurd (cc)
+equal_is Equal h = refl
+equal_is Greater h = absurd (cc)
+
+-- what is found in later rows isn't the first
+found_later : (first : Row) (rows : List Row) (g : Gtrid) (set : KeySet branch_cmp) → T (below_all gtrid_cmp first.0 rows)
+    → find gtrid_cmp g rows ≡ Some set → find gtrid_cmp g (first ∷ rows) ≡ Some set
+found_later first rows g set below is = elim (cases_Bool (eq_by_cmp gtrid_cmp g first.0)) [
+  | inl same ↦ (
+      let none : None ≡ Some set =
+      sym (found_below first.0 rows below) ∙ ap (λ k. find gtrid_cmp k rows) (sym (exact_gtrids g first.0 (equal_is _ same))) ∙ is in
+      absurd (cc))
+  | inr other ↦ ap (λ b. cond b (Some first.1) (find gtrid_cmp g rows)) other ∙ is
+]
+
+all_found : (P : Row → Type 0) (rows : List Row) → T (is_sorted gtrid_cmp rows)
+    → ((g : Gtrid) (set : KeySet branch_cmp) → find gtrid_cmp g rows ≡ Some set → P (g, set)) → AllByRecursion P rows
+all_found P [] up each = tt
+all_found P (row ∷ rows) up each =
+    let p = parts _ _ up in (
+      each row.0 row.1 (ap (λ o. cond (is_eq o) (Some row.1) (find gtrid_cmp row.0 rows)) (tied_itself gtrids_total row.0)),
+      all_found P rows p.1 (λ g set is. each g set (found_later row rows g set p.0 is)),
+    )
+
+own_rows : (c : Content) → AreOwn c → AllByRecursion IsOwn (entries c.decisions)
+own_rows c own =
+    all_found IsOwn (entries c.decisions) (entries_sorted c.decisions) (λ g set is.
+    all_items _ (items set) (λ b there. own g set b (get-entries c.decisions g ∙ is) (contains-items set b ∙ there)))
+
+-- the text of the rows that a log lists
+pub text_of_rows : (c : Content) (decisions : List Gtrid) (participants : List Branch) (heuristics : List (Branch × How)) → AreOwn c
+    → decisions ≡ keys c.decisions → participants ≡ all_listed (entries c.decisions) → heuristics ≡ entries c.heuristics
+    → rows_text decisions participants heuristics ≡ log_text c
+text_of_rows c decisions participants heuristics own decided waited ended =
+    ap (λ gs. rows_text gs participants heuristics) decided ∙ ap (λ bs. rows_text (keys c.decisions) bs heuristics) waited
+    ∙ ap (λ hs. rows_text (keys c.decisions) (all_listed (entries c.decisions)) hs) ended
+    ∙ ap (λ text. text ++ heuristic_lines (entries c.heuristics)) (decisions_text (entries c.decisions) (entries_sorted c.decisions) (own_rows c own))
+
+-- and so of an answer of the log
+pub told : (content : Option Content) (answer : Result LogRows LogFault) (rows : LogRows) (text : List ℕ) → answer ≡ Ok rows
+    → ((c : Content) → content ≡ Some c → AreOwn c)
+    → IfOk answer (λ (r : LogRows). IsSomeAnd content (λ c. r.decisions.items ≡ keys c.decisions))
+    → IfOk answer (λ (r : LogRows). IsSomeAnd content (λ c. r.participants.items ≡ all_listed (entries c.decisions)))
+    → IfOk answer (λ (r : LogRows). IsSomeAnd content (λ c. r.heuristics.items ≡ entries c.heuristics))
+    → text ≡ rows_text rows.decisions.items rows.participants.items rows.heuristics.items
+    → IsSomeAnd content (λ c. text ≡ log_text c)
+told (Some c) (Ok answer) rows text is own decided waited ended spelled =
+    let same : answer ≡ rows = cc in
+    spelled ∙ ap (λ (r : LogRows). rows_text r.decisions.items r.participants.items r.heuristics.items) (sym same)
+    ∙ text_of_rows c answer.decisions.items answer.participants.items answer.heuristics.items (own c refl) decided waited ended
+told None (Ok answer) rows text is own decided waited ended spelled = absurd decided
+told content (Err fault) rows text is own decided waited ended spelled = absurd (cc)
+
+pub prints : (content : Option Content) (old new : Option (List ℕ)) (text : List ℕ) (written : Result (Unit {0}) RunFault)
+    → IsSomeAnd content (λ c. text ≡ log_text c) → OnOk written (Appends old new text) → OnOk written (PrintsLog content old new)
+prints (Some c) old new text written is whole = on_ok_weaker written (λ appends. subst (Appends old new) is appends) whole
+prints None old new text written is whole = absurd is
+
+pub begins : (content : Option Content) (old new : Option (List ℕ)) (text : List ℕ) (written : Result (Unit {0}) RunFault)
+    → IsSomeAnd content (λ c. text ≡ log_text c) → OnErr written (AppendsBeginning old new text)
+    → IfErr written (λ e. e ≡ Output → BeginsLog content old new)
+begins (Some c) old new text (Ok done) is begun = tt
+begins (Some c) old new text (Err e) is begun = λ _. subst (AppendsBeginning old new) is begun
+begins None old new text written is begun = absurd is

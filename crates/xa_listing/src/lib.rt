@@ -1,0 +1,13 @@
+//! A decision log as text: the transactions that are decided to commit, each with how many branches it waits for, and the
+//! branches whose resource managers ended them by themselves.
+//!
+//! "XA" in these pages is X/Open CAE Specification C193, "Distributed Transaction Processing: The XA Specification"
+//! (1991).
+#![tactic(auto)]
+
+mod faults;
+mod lines;
+mod list;
+
+pub use faults::run_fault;
+pub use list::list_log;
