@@ -21,7 +21,8 @@ IsRowsFault fault = (fault ≡ Log) ⊎ (fault ≡ Memory)
 abbrev pub IsListFault : RunFault → Type 0
 IsListFault fault = IsRowsFault fault ⊎ (fault ≡ Output)
 
--- how often the log failed: once more where that is the fault, perhaps so where memory was refused, else as before
+-- how often the log failed: once more where that is the fault, perhaps so where memory was refused,
+-- else as before
 abbrev pub CountsFault : Result (Unit {0}) RunFault → (old new : ℕ) → Type 0
 CountsFault (Err Log) old new = new ≡ one_more_fault old
 CountsFault (Err Memory) old new = (new ≡ old) ⊎ (new ≡ one_more_fault old)

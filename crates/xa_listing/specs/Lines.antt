@@ -19,10 +19,12 @@ own_count g branches = prefix_len (is_of g) branches
 abbrev pub decision_lines : List Gtrid → List Branch → List ℕ
 decision_lines [] participants = []
 decision_lines (g ∷ gs) participants =
-    count_line g (own_count g participants) ++ decision_lines gs (drop (own_count g participants) participants)
+    count_line g (own_count g participants)
+    ++ decision_lines gs (drop (own_count g participants) participants)
 
 abbrev pub heuristic_lines : List (Branch × How) → List ℕ
 heuristic_lines = flat_map heuristic_line
 
 abbrev pub rows_text : List Gtrid → List Branch → List (Branch × How) → List ℕ
-rows_text decisions participants heuristics = decision_lines decisions participants ++ heuristic_lines heuristics
+rows_text decisions participants heuristics =
+    decision_lines decisions participants ++ heuristic_lines heuristics

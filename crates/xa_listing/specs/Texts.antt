@@ -27,9 +27,12 @@ decision_line row = count_line row.0 (length (items row.1))
 abbrev pub heuristic_line : Branch × How → List ℕ
 heuristic_line row = fate_line (xid_of_branch row.0, Heuristic row.1)
 
--- a line for each decision and then one for each heuristic end, both in the order of the identifiers
+-- a line for each decision, and then one for each heuristic end; both in the order of the
+-- identifiers
 abbrev pub log_text : Content → List ℕ
-log_text c = flat_map decision_line (entries c.decisions) ++ flat_map heuristic_line (entries c.heuristics)
+log_text c =
+    flat_map decision_line (entries c.decisions)
+    ++ flat_map heuristic_line (entries c.heuristics)
 
 -- what was written is the text of the log that was there
 abbrev pub PrintsLog : Option Content → (old new : Option (List ℕ)) → Type 0

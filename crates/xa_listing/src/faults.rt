@@ -6,7 +6,8 @@ ghost use Rattle.xa_listing.specs.Faults.{fault_of_log};
 use xa_files::RunFault;
 use xa_log::LogFault;
 
-/// What a fault of the log is to a run: want of memory is that of the run, and each other fault is Log.
+/// What a fault of the log is to a run: want of memory is that of the run, and each other fault is
+/// Log.
 pub fn run_fault(fault: LogFault) -> RunFault
     ensures { result ≡ fault_of_log fault }
 {

@@ -1,8 +1,8 @@
-//! A decision log as text: the transactions that are decided to commit, each with how many branches it waits for, and the
-//! branches whose resource managers ended them by themselves.
+//! A decision log as text: the transactions that are decided to commit, each with how many branches
+//! it waits for, and the branches whose resource managers ended them by themselves.
 //!
-//! "XA" in these pages is X/Open CAE Specification C193, "Distributed Transaction Processing: The XA Specification"
-//! (1991).
+//! "XA" in these pages is X/Open CAE Specification C193, "Distributed Transaction Processing: The XA
+//! Specification" (1991).
 #![tactic(auto)]
 
 mod faults;

@@ -37,15 +37,16 @@ fn heuristic_line(alloc: Global, row: &(Branch, How)) -> Result<String, RunFault
     fate_line(alloc, &(b.xid(), Fate::Heuristic(*how)))
 }
 
-/// Adds a line for each transaction. The participants are listed transaction by transaction, in the same order.
+/// Adds a line for each transaction. The participants are listed transaction by transaction, in the
+/// same order.
 fn push_decisions(
     text: &mut String,
     alloc: Global,
     decisions: &[Gtrid],
     participants: &[Branch],
 ) -> Result<(), RunFault>
-    ensures text { OnOk result
-        (string_bytes text.new ≡ string_bytes text.old ++ decision_lines decisions.now participants.now) }
+    ensures text { OnOk result (string_bytes text.new ≡
+        string_bytes text.old ++ decision_lines decisions.now participants.now) }
     ensures fault { IfErr result (λ e. e ≡ Memory) }
 {
     let mut rest = participants;
@@ -64,7 +65,8 @@ fn push_heuristics(
     alloc: Global,
     heuristics: &[(Branch, How)],
 ) -> Result<(), RunFault>
-    ensures text { OnOk result (string_bytes text.new ≡ string_bytes text.old ++ heuristic_lines heuristics.now) }
+    ensures text { OnOk result (string_bytes text.new ≡
+        string_bytes text.old ++ heuristic_lines heuristics.now) }
     ensures fault { IfErr result (λ e. e ≡ Memory) }
 {
     for row in heuristics {

@@ -14,20 +14,22 @@ use std::io::Write;
 use xa_files::{RunFault, write_text};
 use xa_log::DecisionLog;
 
-/// Prints a line for each transaction that is decided to commit, with how many branches it waits for, as in
-/// `00000000000000010000000000000001 2`; and then one for each branch that is recorded as heuristic, with how it ended
-/// (XA, section 2.3.3, Heuristic Branch Completion). Both are in the order of the identifiers.
+/// Prints a line for each transaction that is decided to commit, with how many branches it waits for,
+/// as in `00000000000000010000000000000001 2`; and then one for each branch that is recorded as
+/// heuristic, with its fate (XA, section 2.3.3, Heuristic Branch Completion). Both are in the order of
+/// the identifiers.
 ///
-/// What it asks of the log changes nothing. Log comes where the log fails. Memory comes where a request was refused, and
-/// nothing is written in either case. Output comes where a write failed: what was written before it is left, and is a
-/// beginning of what is printed otherwise.
+/// What it asks of the log changes nothing. Log comes where the log fails, and Memory where a request
+/// was refused; nothing is written in either case. Output comes where a write failed: what was written
+/// before it is left, and is a beginning of what is printed otherwise.
 pub fn list_log<L: DecisionLog, W: Write>(log: &mut L, out: &mut W) -> Result<(), RunFault>
     ensures prints { L.is_in_order log.old → L.is_honest log.new →
         OnOk result (PrintsLog (L.content log.old) (W.contents out.old) (W.contents out.new)) }
     ensures begun { L.is_in_order log.old → L.is_honest log.new →
         IfErr result (λ e. e ≡ Output →
         BeginsLog (L.content log.old) (W.contents out.old) (W.contents out.new)) }
-    ensures unwritten { IfErr result (λ e. e ≢ Output → Keeps (W.contents out.old) (W.contents out.new)) }
+    ensures unwritten { IfErr result (λ e. e ≢ Output →
+        Keeps (W.contents out.old) (W.contents out.new)) }
     ensures fault { IfErr result IsListFault }
 
     // The log is as before, or a failure of its own has shut it.
