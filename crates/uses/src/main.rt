@@ -6,6 +6,7 @@ mod base;
 mod files;
 mod jobs;
 mod line;
+mod listing;
 mod log;
 mod model;
 mod rm;
@@ -56,10 +57,14 @@ fn show_parts(rt: &HostRuntime) -> anyhow::Result<()> {
     Ok(())
 }
 
-/// Whether a decision is found again.
+/// Whether a decision is found again, and the list of the log that then has it.
 fn show_log(rt: &HostRuntime) -> anyhow::Result<()> {
-    let found = log::found_again(&mut MemLog::new(rt.alloc()), BRANCH.gtrid, &[BRANCH])?;
+    let alloc = rt.alloc();
+    let mut log = MemLog::new(alloc);
+    let found = log::found_again(&mut log, BRANCH.gtrid, &[BRANCH])?;
     println!(rt; "xa_log: {found}")?;
+    let listed = listing::listed(&mut log, alloc)?;
+    println!(rt; "xa_listing: {}", String::from_utf8(listed)?)?;
     Ok(())
 }
 

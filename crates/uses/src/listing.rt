@@ -1,0 +1,19 @@
+//! `xa_listing`: a log is printed.
+
+ghost use Rattle.std.specs.Prelude.{◌≡◌, Some, [], IfOk};
+ghost use Rattle.xa_listing.specs.Texts.{PrintsLog};
+
+use std::alloc::Global;
+use xa_files::RunFault;
+use xa_listing::list_log;
+use xa_log::DecisionLog;
+
+/// The text of what a log holds.
+pub(crate) fn listed<L: DecisionLog>(log: &mut L, alloc: Global) -> Result<Vec<u8>, RunFault>
+    ensures { L.is_in_order log.old → L.is_honest log.new →
+        IfOk result (λ out. PrintsLog (L.content log.old) (Some []) (Some out.items)) }
+{
+    let mut out = Vec::new(alloc);
+    list_log(log, &mut out)?;
+    Ok(out)
+}
