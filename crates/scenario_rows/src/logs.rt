@@ -1,5 +1,7 @@
 //! Logs, and the lists of them.
 
+ghost use Rattle.std.specs.Prelude.{◌≡◌};
+
 use crate::crashes::{DECIDE, PREPARE, PREPARE_TOO, RECOVERIES};
 use crate::failing::Failing;
 use crate::files::{READY, READY_TOO, file, run_over};
@@ -21,34 +23,47 @@ const LISTED: &str = "\
 7:00000000000000020000000000000001:0000000000000000 heuristic-haz
 ";
 
-/// A transaction of an incarnation.
-fn gtrid(incarnation: u64, sequence: u64) -> Gtrid {
-    Gtrid {
-        incarnation,
-        sequence,
-    }
-}
+const FIRST: Gtrid = Gtrid {
+    incarnation: 1,
+    sequence: 1,
+};
+
+const SECOND: Gtrid = Gtrid {
+    incarnation: 1,
+    sequence: 2,
+};
+
+const LATER: Gtrid = Gtrid {
+    incarnation: 1,
+    sequence: 16,
+};
+
+const OF_LATER_START: Gtrid = Gtrid {
+    incarnation: 2,
+    sequence: 1,
+};
 
 /// A branch of a transaction.
-fn branch(gtrid: Gtrid, thread: u32, rm: u32) -> Branch {
+fn branch(gtrid: Gtrid, thread: u32, rm: u32) -> Branch
+    ensures { result.gtrid ≡ gtrid }
+{
     Branch { gtrid, thread, rm }
 }
 
 /// The log that `LISTED` lists, whose rows are written in another order.
 fn full_log(alloc: Global) -> Result<MemLog, LogFault> {
     let mut log = MemLog::new(alloc);
-    let (first, second, third) = (gtrid(1, 1), gtrid(1, 2), gtrid(1, 16));
     let waited_for = [
-        branch(third, 1, 0),
-        branch(third, 0, 1),
-        branch(third, 0, 0),
+        branch(LATER, 1, 0),
+        branch(LATER, 0, 1),
+        branch(LATER, 0, 0),
     ];
-    log.commit(third, &waited_for)?;
-    log.commit(second, &[])?;
-    log.note_heuristic(branch(gtrid(2, 1), 0, 0), How::Haz)?;
-    log.note_heuristic(branch(third, 1, 0), How::Mix)?;
-    log.note_heuristic(branch(third, 0, 1), How::Rb)?;
-    log.note_heuristic(branch(first, 0, 0), How::Com)?;
+    log.commit(LATER, &waited_for)?;
+    log.commit(SECOND, &[])?;
+    log.note_heuristic(branch(OF_LATER_START, 0, 0), How::Haz)?;
+    log.note_heuristic(branch(LATER, 1, 0), How::Mix)?;
+    log.note_heuristic(branch(LATER, 0, 1), How::Rb)?;
+    log.note_heuristic(branch(FIRST, 0, 0), How::Com)?;
     Ok(log)
 }
 
