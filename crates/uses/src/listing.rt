@@ -10,8 +10,8 @@ use xa_log::DecisionLog;
 
 /// The text of what a log holds.
 pub(crate) fn listed<L: DecisionLog>(log: &mut L, alloc: Global) -> Result<Vec<u8>, RunFault>
-    ensures { L.is_in_order log.old → L.is_honest log.new →
-        IfOk result (λ out. PrintsLog (L.content log.old) (Some []) (Some out.items)) }
+    ensures { (L.moment log.old).is_in_order → (L.moment log.new).is_honest →
+        IfOk result (λ out. PrintsLog (L.moment log.old).content (Some []) (Some out.items)) }
 {
     let mut out = Vec::new(alloc);
     list_log(log, &mut out)?;

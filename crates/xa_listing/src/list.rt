@@ -23,25 +23,25 @@ use xa_log::DecisionLog;
 /// was refused; nothing is written in either case. Output comes where a write failed: what was written
 /// before it is left, and is a beginning of what is printed otherwise.
 pub fn list_log<L: DecisionLog, W: Write>(log: &mut L, out: &mut W) -> Result<(), RunFault>
-    ensures prints { L.is_in_order log.old → L.is_honest log.new →
-        OnOk result (PrintsLog (L.content log.old) (W.contents out.old) (W.contents out.new)) }
-    ensures begun { L.is_in_order log.old → L.is_honest log.new →
+    ensures prints { (L.moment log.old).is_in_order → (L.moment log.new).is_honest →
+        OnOk result (PrintsLog (L.moment log.old).content (W.contents out.old) (W.contents out.new)) }
+    ensures begun { (L.moment log.old).is_in_order → (L.moment log.new).is_honest →
         IfErr result (λ e. e ≡ Output →
-        BeginsLog (L.content log.old) (W.contents out.old) (W.contents out.new)) }
+        BeginsLog (L.moment log.old).content (W.contents out.old) (W.contents out.new)) }
     ensures unwritten { IfErr result (λ e. e ≢ Output →
         Keeps (W.contents out.old) (W.contents out.new)) }
     ensures fault { IfErr result IsListFault }
 
     // The log is as before, or a failure of its own has shut it.
-    ensures log { L.is_in_order log.old → L.is_honest log.new →
-        OnOk result (L.content log.new ≡ L.content log.old) }
-    ensures kept { L.is_in_order log.old → L.is_honest log.new →
-        IsKept (L.content log.old) (L.content log.new) }
-    ensures crash { L.is_in_order log.old → L.is_honest log.new →
-        LeavesNoMore (L.may_leave log.old) (L.may_leave log.new) }
-    ensures order { L.is_in_order log.old → L.is_in_order log.new }
-    ensures honest { L.is_honest log.new → L.is_honest log.old }
-    ensures faults { CountsFault result (L.fault_count log.old) (L.fault_count log.new) }
+    ensures log { (L.moment log.old).is_in_order → (L.moment log.new).is_honest →
+        OnOk result ((L.moment log.new).content ≡ (L.moment log.old).content) }
+    ensures kept { (L.moment log.old).is_in_order → (L.moment log.new).is_honest →
+        IsKept (L.moment log.old).content (L.moment log.new).content }
+    ensures crash { (L.moment log.old).is_in_order → (L.moment log.new).is_honest →
+        LeavesNoMore (L.moment log.old).may_leave (L.moment log.new).may_leave }
+    ensures order { (L.moment log.old).is_in_order → (L.moment log.new).is_in_order }
+    ensures honest { (L.moment log.new).is_honest → (L.moment log.old).is_honest }
+    ensures faults { CountsFault result (L.moment log.old).fault_count (L.moment log.new).fault_count }
 {
     let rows = log.rows().map_err(run_fault)?;
     let text = rows_text(&rows)?;

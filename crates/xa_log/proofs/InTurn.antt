@@ -1,11 +1,12 @@
 -- One call more, after a list of calls.
-use Rattle.std.proofs.Common.{◌≡◌, inl, inr, ℕ, ◌+◌, ◌<◌, ◌≤◌, length, take, get_or, List, [], ◌∷◌, ◌++◌, Option, Some, IsSomeAnd, refl, sym, ap, subst, ◌∙◌}
+use Rattle.std.proofs.Common.{◌≡◌, inl, inr, ℕ, ◌+◌, ◌<◌, ◌≤◌, length, take, get_or, List, [], ◌∷◌, ◌++◌, Option, Some, Ok, Err, IsSomeAnd, refl, sym, ap, subst, ◌∙◌}
 use Rattle.std.proofs.lemmas.List.{take_all, take_more}
 use Rattle.xa_log.specs.Commands.{AreTold, LeavesFirst, Tells, after, after_all}
 use Rattle.xa_log.specs.Content.{Content}
-use Rattle.xa_log.specs.Contract.{MayMake}
+use Rattle.xa_log.specs.Contract.{Changes, Moment}
 use Rattle.xa_log.specs.declared.commands.Command.{Command}
 use Rattle.xa_log.specs.declared.commands.Told.{Told}
+use Rattle.xa_log.specs.declared.log_fault.LogFault.{LogFault}
 
 some_is : {A : Type 0} (o : Option A) (x : A) (P : A → Type 0) → o ≡ Some x → IsSomeAnd o P → P x
 some_is o x P is h = subst (λ it. IsSomeAnd it P) is h
@@ -21,56 +22,55 @@ told_push (x ∷ calls) [] call answer c told one = absurd told
 told_push (x ∷ calls) (a ∷ answers) call answer c told one = (told.0, told_push calls answers call answer (after x c) told.1 one)
 
 -- a log has been given these calls without a failure since it was as at the start
-pub record HasRun {Log : Type 0} (in_order is_honest : Log → Type 0) (content : Log → Option Content) (faults : Log → ℕ) (start now : Log) (calls : List Command) (answers : List Told) : Type 0 where
-  pub order : in_order start → in_order now
-  pub honest : is_honest now → is_honest start
-  pub count : faults now ≡ faults start
-  pub made : (c : Content) → in_order start → is_honest now → content start ≡ Some c → content now ≡ Some (after_all calls c)
-  pub told : (c : Content) → in_order start → is_honest now → content start ≡ Some c → AreTold c calls answers
+pub record HasRun {Log : Type 0} (moment : Log → Moment) (start now : Log) (calls : List Command) (answers : List Told) : Type 0 where
+  pub order : (moment start).is_in_order → (moment now).is_in_order
+  pub honest : (moment now).is_honest → (moment start).is_honest
+  pub count : (moment now).fault_count ≡ (moment start).fault_count
+  pub made : (c : Content) → (moment start).is_in_order → (moment now).is_honest → (moment start).content ≡ Some c → (moment now).content ≡ Some (after_all calls c)
+  pub told : (c : Content) → (moment start).is_in_order → (moment now).is_honest → (moment start).content ≡ Some c → AreTold c calls answers
 
-module _ {Log : Type 0} (in_order is_honest : Log → Type 0) (content : Log → Option Content) (faults : Log → ℕ) (start : Log) where
-  pub not_run : HasRun in_order is_honest content faults start start [] []
+module _ {Log : Type 0} (moment : Log → Moment) (start : Log) where
+  pub not_run : HasRun moment start start [] []
   not_run = record { order = λ h. h; honest = λ h. h; count = refl; made = λ c order honest is. is; told = λ c order honest is. tt }
 
   pub one_more : (old new : Log) (all : List Command) (i : ℕ) (call : Command) (answers more : List Told) (answer : Told) → i < length all → call ≡ get_or all i call → more ≡ answers ++ answer ∷ []
-      → HasRun in_order is_honest content faults start old (take i all) answers
-      → (in_order old → in_order new) → (is_honest new → is_honest old) → faults new ≡ faults old
-      → (in_order old → is_honest new → IsSomeAnd (content old) (λ c. content new ≡ Some (after call c)))
-      → (in_order old → is_honest new → IsSomeAnd (content old) (λ c. Tells c call answer))
-      → HasRun in_order is_honest content faults start new (take (i + 1) all) more
-  one_more old new all i call answers more answer low here listed run order honest count made told =
+      → HasRun moment start old (take i all) answers
+      → Changes {A = Told} (after call) (moment old) (moment new) (Ok answer)
+      → ((moment old).is_in_order → (moment new).is_honest → IsSomeAnd (moment old).content (λ c. Tells c call answer))
+      → HasRun moment start new (take (i + 1) all) more
+  one_more old new all i call answers more answer low here listed run changes told =
       let calls = take i all in
       let next : take (i + 1) all ≡ calls ++ call ∷ [] = take_more all i call low ∙ ap (λ x. calls ++ x ∷ []) (sym here) in
       record {
-        order = λ at_first. order (run.order at_first);
-        honest = λ clean. run.honest (honest clean);
-        count = count ∙ run.count;
+        order = λ at_first. changes.order (run.order at_first);
+        honest = λ clean. run.honest (changes.honest clean);
+        count = changes.faults ∙ run.count;
         made = λ c at_first clean is.
-            some_is (content old) (after_all calls c) _ (run.made c at_first (honest clean) is) (made (run.order at_first) clean) ∙ ap Some (sym (after_push calls call c) ∙ ap (λ all. after_all all c) (sym next));
+            some_is (moment old).content (after_all calls c) _ (run.made c at_first (changes.honest clean) is) (changes.ok (run.order at_first) clean) ∙ ap Some (sym (after_push calls call c) ∙ ap (λ all. after_all all c) (sym next));
         told = λ c at_first clean is.
-            let one = some_is (content old) (after_all calls c) _ (run.made c at_first (honest clean) is) (told (run.order at_first) clean) in
-            subst (λ all. AreTold c all more) (sym next) (subst (AreTold c (calls ++ call ∷ [])) (sym listed) (told_push calls answers call answer c (run.told c at_first (honest clean) is) one));
+            let one = some_is (moment old).content (after_all calls c) _ (run.made c at_first (changes.honest clean) is) (told (run.order at_first) clean) in
+            subst (λ all. AreTold c all more) (sym next) (subst (AreTold c (calls ++ call ∷ [])) (sym listed) (told_push calls answers call answer c (run.told c at_first (changes.honest clean) is) one));
       }
 
-  pub whole : (now : Log) (all : List Command) (i : ℕ) (answers : List Told) → length all ≤ i → HasRun in_order is_honest content faults start now (take i all) answers → HasRun in_order is_honest content faults start now all answers
-  whole now all i answers high run = subst (λ calls. HasRun in_order is_honest content faults start now calls answers) (take_all i all high) run
+  pub whole : (now : Log) (all : List Command) (i : ℕ) (answers : List Told) → length all ≤ i → HasRun moment start now (take i all) answers → HasRun moment start now all answers
+  whole now all i answers high run = subst (λ calls. HasRun moment start now calls answers) (take_all i all high) run
 
   -- the next call failed
   pub stopped : (old new : Log) (all : List Command) (i : ℕ) (call : Command) (answers : List Told) → i < length all → call ≡ get_or all i call
-      → HasRun in_order is_honest content faults start old (take i all) answers
-      → (is_honest new → is_honest old) → (in_order old → MayMake (after call) (content old) (content new))
-      → (c : Content) → in_order start → is_honest new → content start ≡ Some c → LeavesFirst all c (content new)
-  stopped old new all i call answers low here run honest may c at_first clean is =
+      → HasRun moment start old (take i all) answers
+      → (e : LogFault) → Changes {A = Told} (after call) (moment old) (moment new) (Err e)
+      → (c : Content) → (moment start).is_in_order → (moment new).is_honest → (moment start).content ≡ Some c → LeavesFirst all c (moment new).content
+  stopped old new all i call answers low here run e changes c at_first clean is =
       let calls = take i all in
       let next : take (i + 1) all ≡ calls ++ call ∷ [] = take_more all i call low ∙ ap (λ x. calls ++ x ∷ []) (sym here) in
-      let was = run.made c at_first (honest clean) is in
-      elim (may (run.order at_first)) [
+      let was = run.made c at_first (changes.honest clean) is in
+      elim (changes.err (run.order at_first)) [
         | inl shut ↦ inl shut
         | inr (inl same) ↦ inr (i, same ∙ was)
-        | inr (inr made) ↦ inr (i + 1, some_is (content old) (after_all calls c) _ was made ∙ ap Some (sym (after_push calls call c) ∙ ap (λ all. after_all all c) (sym next)))
+        | inr (inr made) ↦ inr (i + 1, some_is (moment old).content (after_all calls c) _ was made ∙ ap Some (sym (after_push calls call c) ∙ ap (λ all. after_all all c) (sym next)))
       ]
 
   -- the last call was made, and then no memory was left
-  pub left : (now : Log) (all : List Command) (i : ℕ) (answers : List Told) → HasRun in_order is_honest content faults start now (take i all) answers
-      → (c : Content) → in_order start → is_honest now → content start ≡ Some c → LeavesFirst all c (content now)
+  pub left : (now : Log) (all : List Command) (i : ℕ) (answers : List Told) → HasRun moment start now (take i all) answers
+      → (c : Content) → (moment start).is_in_order → (moment now).is_honest → (moment start).content ≡ Some c → LeavesFirst all c (moment now).content
   left now all i answers run c at_first clean is = inr (i, run.made c at_first clean is)

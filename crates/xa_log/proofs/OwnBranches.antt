@@ -1,5 +1,5 @@
 -- The participants of a transaction stay branches of it, and the numbers of all rows fit.
-use Rattle.std.proofs.Common.{◌≡◌, inl, inr, List, [], ◌∷◌, true, false, ◌||◌, ◌+◌, cond, Some, None, is_some, unwrap_or, Result, Ok, Err, OnOk, OnErr, sym, ap, subst, ◌∙◌}
+use Rattle.std.proofs.Common.{◌≡◌, inl, inr, List, [], ◌∷◌, true, false, ◌||◌, ◌+◌, cond, Some, None, is_some, unwrap_or, ℕ, Result, Ok, Err, OnOk, OnErr, sym, ap, subst, ◌∙◌}
 use Rattle.std.specs.Ordering.{eq_by_cmp}
 use Rattle.std.specs.List.{AllByRecursion, list_any}
 use Rattle.std.specs.FinMap.{get, contains_key, get-insert, get-remove, get-empty}
@@ -11,9 +11,10 @@ use Rattle.xa_base.specs.declared.branch.Branch.{Branch}
 use Rattle.xa_base.specs.declared.code.How.{How}
 use Rattle.xa_base.specs.Branch.{gtrid_cmp, branch_cmp}
 use Rattle.xa_base.proofs.BranchOrder.{gtrids_total, exact_gtrids, branches_total, exact_branches}
-use Rattle.xa_log.specs.Content.{Content, AreOwn, committed, with_decision, without_decision, with_heuristic, recorded, nothing}
-use Rattle.xa_log.specs.Contract.{AllFit, FitsRow}
-use Rattle.xa_log.specs.Memory.{IsInOrder, held_in}
+use Rattle.xa_log.specs.Content.{Content, AreOwn, bumped, committed, with_decision, without_decision, with_heuristic, recorded, nothing}
+use Rattle.xa_log.specs.Contract.{AllFit, Changes, FitsRow, faults_after}
+use Rattle.xa_log.specs.Memory.{IsInOrder, held_in, memory_moment}
+use Rattle.xa_log.specs.declared.log_fault.LogFault.{LogFault}
 use Rattle.xa_log.specs.declared.mem_log.MemLog.{MemLog}
 use Rattle.xa_log.proofs.Contents.{equal_is}
 
@@ -124,3 +125,32 @@ pub order_after_raise : {A E : Type 0} (result : Result A E) (old new : MemLog)
 order_after_raise (Ok x) old new ok err order =
     subst (λ l. IsInOrder (held_in l)) (sym ok) (record { own = order.own; fits = record { decisions = order.fits.decisions; heuristics = order.fits.heuristics } })
 order_after_raise (Err e) old new ok err order = subst (λ l. IsInOrder (held_in l)) (sym err) order
+
+-- ** a call that made its change, or failed and made none
+
+pub held_changes : {A : Type 0} (change : Content → Content) (old new : Content) (n m : ℕ) (r : Result A LogFault) → OnOk r (new ≡ change old) → OnErr r (new ≡ old)
+    → (IsInOrder old → IsInOrder new) → m ≡ faults_after r n → Changes change (memory_moment old n) (memory_moment new m) r
+held_changes change old new n m (Ok x) ok err order faults = record {
+  ok = λ was clean. ap Some ok;
+  err = λ was. tt;
+  crash = λ was clean c is. inr (is ∙ ok);
+  order = order;
+  honest = λ clean. clean;
+  faults = faults;
+}
+held_changes change old new n m (Err e) ok err order faults = record {
+  ok = λ was clean. tt;
+  err = λ was. inr (inl (ap Some err));
+  crash = λ was clean c is. inl (is ∙ err);
+  order = order;
+  honest = λ clean. clean;
+  faults = faults;
+}
+
+pub bump_held : (old new : MemLog) (n m : ℕ) (answer r : Result ℕ LogFault) → r ≡ answer
+    → OnOk answer (new ≡ record old { incarnation = old.incarnation + 1 }) → OnErr answer (new ≡ old)
+    → m ≡ faults_after r n → Changes bumped (memory_moment (held_in old) n) (memory_moment (held_in new) m) r
+bump_held old new n m (Ok x) r same ok err faults = subst (Changes bumped (memory_moment (held_in old) n) (memory_moment (held_in new) m)) (sym same)
+    (held_changes bumped (held_in old) (held_in new) n m (Ok x) (ap held_in ok) tt (order_after_raise {A = ℕ} {E = LogFault} (Ok x) old new ok tt) (faults ∙ ap (λ a. faults_after a n) same))
+bump_held old new n m (Err e) r same ok err faults = subst (Changes bumped (memory_moment (held_in old) n) (memory_moment (held_in new) m)) (sym same)
+    (held_changes bumped (held_in old) (held_in new) n m (Err e) tt (ap held_in err) (order_after_raise {A = ℕ} {E = LogFault} (Err e) old new tt err) (faults ∙ ap (λ a. faults_after a n) same))

@@ -5,7 +5,7 @@ use Rattle.std.specs.List.{AllByRecursion}
 use Rattle.xa_base.specs.declared.branch.Branch.{Branch}
 use Rattle.xa_log.specs.KeySet.{from_list, items}
 use Rattle.xa_log.specs.Content.{Content, all_listed, bumped, committed, logged_as, participants_of, recorded, without_decision}
-use Rattle.xa_log.specs.Contract.{FitsRow, one_more_fault}
+use Rattle.xa_log.specs.Contract.{FitsRow, Moment, one_more_fault}
 use Rattle.xa_log.specs.declared.fail_plan.LogCall.{LogCall}
 use Rattle.xa_log.specs.declared.fail_plan.LogCall.TheVariants as kind
 use Rattle.xa_log.specs.declared.log_fault.LogFault.{LogFault}
@@ -90,7 +90,7 @@ pub record StopsAt {Log : Type 0} (says : LogCall → (Content → Content) → 
   pub fails : says (kind_of call) (after call) before new (Some e)
 
 -- it was a call that failed, which is counted; or the calls that were made succeeded, and memory for the answers was refused
-abbrev pub EndsBy : {Log : Type 0} → (LogCall → (Content → Content) → Log → Log → Option LogFault → Type 0) → (Log → ℕ) → List Command → Log → Log → LogFault → Type 0
-EndsBy says faults calls old new e =
-    (StopsAt says calls new e × (faults new ≡ one_more_fault (faults old)))
-    ⊎ ((e ≡ Memory) × (faults new ≡ faults old))
+abbrev pub EndsBy : {Log : Type 0} → (LogCall → (Content → Content) → Log → Log → Option LogFault → Type 0) → (Log → Moment) → List Command → Log → Log → LogFault → Type 0
+EndsBy says moment calls old new e =
+    (StopsAt says calls new e × ((moment new).fault_count ≡ one_more_fault (moment old).fault_count))
+    ⊎ ((e ≡ Memory) × ((moment new).fault_count ≡ (moment old).fault_count))

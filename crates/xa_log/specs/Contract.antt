@@ -1,9 +1,9 @@
 -- What a call of a log may do to its content, to the contents that a crash may leave, and to its count of faults.
-use Rattle.std.specs.Prelude.{◌≡◌, ◌≢◌, ◌⊎◌, ◌≤◌, ℕ, ◌+◌, ◌-◌, ◌^◌, min, true, Option, Some, None, IsSomeAnd, Result, Ok, Err}
+use Rattle.std.specs.Prelude.{◌≡◌, ◌≢◌, ◌⊎◌, ◌≤◌, ℕ, ◌+◌, ◌-◌, ◌^◌, min, true, Option, Some, None, IsSomeAnd, OnErr, OnOk, Result, Ok, Err}
 use Rattle.std.specs.FinMap.{contains_key}
 use Rattle.xa_base.specs.declared.branch.Branch.{Branch}
 use Rattle.xa_base.specs.declared.branch.Gtrid.{Gtrid}
-use Rattle.xa_log.specs.Content.{Content, last_number}
+use Rattle.xa_log.specs.Content.{Content, last_number, unchanged}
 use Rattle.xa_log.specs.declared.log_fault.LogFault.{LogFault}
 use Rattle.xa_log.specs.declared.log_fault.LogFault.TheVariants.{Store, Memory, Spent}
 use Rattle.xa_log.specs.declared.fail_plan.LogCall.{LogCall}
@@ -55,6 +55,37 @@ fault_of (Err e) = Some e
 abbrev pub MayEnd : LogCall → Option LogFault → Type 0
 MayEnd Bump fault = Unit {0}
 MayEnd call fault = fault ≢ Some Spent
+
+-- What a log says of one moment: what it holds, whether it is in order and what it rests on has been honest so far, what a
+-- crash may leave of it, and how many of its calls have failed.
+pub record Moment : Type 1 where
+  pub content : Option Content
+  pub is_in_order : Type 0
+  pub is_honest : Type 0
+  pub may_leave : Content → Type 0
+  pub fault_count : ℕ
+
+-- A call that changes something, by the log's moments before and after it.
+pub record Changes {A : Type 0} (change : Content → Content) (old new : Moment) (result : Result A LogFault) : Type 0 where
+  -- one that succeeds has made its one change
+  pub ok : old.is_in_order → new.is_honest → OnOk result (Makes change old.content new.content)
+  -- one that fails has shut the log, or left it as it was, or made the change
+  pub err : old.is_in_order → OnErr result (MayMake change old.content new.content)
+  -- at its end a crash leaves what it might have left before the call, or the content with the change
+  pub crash : old.is_in_order → new.is_honest → LeavesAlso change old.content old.may_leave new.may_leave
+  pub order : old.is_in_order → new.is_in_order
+  pub honest : new.is_honest → old.is_honest
+  -- a failure is counted
+  pub faults : new.fault_count ≡ faults_after result old.fault_count
+
+-- A call that changes nothing.
+pub record Reads {A : Type 0} (old new : Moment) (result : Result A LogFault) : Type 0 where
+  pub ok : old.is_in_order → new.is_honest → OnOk result (Makes unchanged old.content new.content)
+  pub err : old.is_in_order → OnErr result (Keeps old.content new.content)
+  pub crash : old.is_in_order → new.is_honest → LeavesNoMore old.may_leave new.may_leave
+  pub order : old.is_in_order → new.is_in_order
+  pub honest : new.is_honest → old.is_honest
+  pub faults : new.fault_count ≡ faults_after result old.fault_count
 
 -- the store failed, or memory was refused
 abbrev pub IsStoreFault : LogFault → Type 0

@@ -7,6 +7,6 @@ pub mod Memory
 pub mod MemoryLaws
 pub mod Opened
 pub mod Rows
-pub mod Settled
 pub mod Sql
+pub mod SqlLaws
 pub mod Tables

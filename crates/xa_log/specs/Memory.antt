@@ -1,5 +1,5 @@
 -- What a log in memory holds, and what its failures say.
-use Rattle.std.specs.Prelude.{◌≡◌, map, Option, Some, None}
+use Rattle.std.specs.Prelude.{◌≡◌, ℕ, map, Option, Some, None}
 use Rattle.std.specs.BTreeMap.{BTreeMap}
 use Rattle.std.specs.BTreeSet.{BTreeSet}
 use Rattle.std.specs.FinMap.{FinMap, from_entries}
@@ -9,7 +9,7 @@ use Rattle.xa_base.specs.declared.branch.Branch.{Branch}
 use Rattle.xa_base.specs.declared.code.How.{How}
 use Rattle.xa_base.specs.Branch.{gtrid_cmp, branch_cmp}
 use Rattle.xa_log.specs.Content.{AreOwn, Content}
-use Rattle.xa_log.specs.Contract.{AllFit, one_more_fault}
+use Rattle.xa_log.specs.Contract.{AllFit, Moment, one_more_fault}
 use Rattle.xa_log.specs.FailPlan.{calls_after, turn_of}
 use Rattle.xa_log.specs.declared.fail_log.FailLog.{FailLog}
 use Rattle.xa_log.specs.declared.fail_plan.LogCall.{LogCall}
@@ -42,6 +42,15 @@ held_in log = record {
 pub record IsInOrder (c : Content) : Type 0 where
   pub own : AreOwn c
   pub fits : AllFit c
+
+abbrev pub memory_moment : Content → ℕ → Moment
+memory_moment c faults = record {
+  content = Some c;
+  is_in_order = IsInOrder c;
+  is_honest = Unit {0};
+  may_leave = λ d. d ≡ c;
+  fault_count = faults;
+}
 
 -- why a call of a log in memory may fail: a bump for want of incarnations, one that takes memory for want of it, and no other
 abbrev pub MayFailBy : LogCall → LogFault → Type 0

@@ -12,7 +12,7 @@ use Rattle.xa_base.specs.declared.branch.Branch.{Branch}
 use Rattle.xa_base.specs.Branch.{branch_cmp}
 use Rattle.xa_log.specs.Content.{Content, with_decision}
 use Rattle.xa_log.specs.Tables.{log_schema}
-use Rattle.xa_log.specs.Contract.{MayMake, LeavesAlso, LeavesNoMore}
+use Rattle.xa_log.specs.Contract.{MayMake, Moment, LeavesAlso, LeavesNoMore}
 use Rattle.sqlite.specs.Effect.{Database}
 use Rattle.xa_log.specs.Rows.{IsLog, IsOldLog, content_of}
 use Rattle.sqlite_catalog.specs.Listing.{IsSound}
@@ -45,6 +45,16 @@ pub record AreLogTrees (trees : Trees) : Type 0 where
 pub record IsLasting (s : State) : Type 0 where
   pub order : IsOrderly s
   pub leaves : HasCleanDisk s → (db : Trees) → s.may_leave db → AreLogTrees db
+
+-- what a log says of a connection, with its count of faults
+abbrev pub sql_moment : State → ℕ → Moment
+sql_moment s faults = record {
+  content = content_in s;
+  is_in_order = IsLasting s;
+  is_honest = HasCleanDisk s;
+  may_leave = MayLeave s;
+  fault_count = faults;
+}
 
 -- a crash leaves what it might have left before, or a log
 abbrev pub LeavesOrLog : State → State → Type 0

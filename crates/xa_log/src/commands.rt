@@ -3,7 +3,7 @@ ghost use Rattle.std.specs.Prelude.{◌≡◌, IfErr, IfOk, OnOk, OnErr, Some, I
 ghost use Rattle.std.specs.List.{AllByRecursion};
 ghost use Rattle.xa_log.specs.Commands.{AreTold, EndsBy, Fits, LeavesFirst, Tells, after, after_all, kind_of};
 ghost use Rattle.xa_log.specs.Content.{Content};
-ghost use Rattle.xa_log.specs.Contract.{Makes, MayMake, faults_after};
+ghost use Rattle.xa_log.specs.Contract.{Changes};
 
 use crate::{DecisionLog, LogFault, LogRows, Logged};
 use std::alloc::Global;
@@ -44,20 +44,11 @@ pub enum Told {
 /// Makes one call.
 fn run_one<L: DecisionLog>(log: &mut L, command: &Command) -> Result<Told, LogFault>
     requires { Fits command.now }
-    ensures told { L.DecisionLog.is_in_order log.old → L.DecisionLog.is_honest log.new →
-        IfOk result (λ told. IsSomeAnd (L.DecisionLog.content log.old) (λ c.
+    ensures told { (L.moment log.old).is_in_order → (L.moment log.new).is_honest →
+        IfOk result (λ told. IsSomeAnd (L.moment log.old).content (λ c.
         Tells c command.now told)) }
-    ensures ok { L.DecisionLog.is_in_order log.old → L.DecisionLog.is_honest log.new →
-        OnOk result (Makes (after command.now)
-        (L.DecisionLog.content log.old) (L.DecisionLog.content log.new)) }
-    ensures err { L.DecisionLog.is_in_order log.old →
-        OnErr result (MayMake (after command.now)
-        (L.DecisionLog.content log.old) (L.DecisionLog.content log.new)) }
-    ensures order { L.DecisionLog.is_in_order log.old → L.DecisionLog.is_in_order log.new }
-    ensures honest { L.DecisionLog.is_honest log.new → L.DecisionLog.is_honest log.old }
-    ensures faults { L.DecisionLog.fault_count log.new ≡
-        faults_after result (L.DecisionLog.fault_count log.old) }
-    ensures cause { IfErr result (λ e. L.DecisionLog.says (kind_of command.now) (after command.now)
+    ensures changes { Changes (after command.now) (L.moment log.old) (L.moment log.new) result }
+    ensures cause { IfErr result (λ e. L.says (kind_of command.now) (after command.now)
         log.old log.new (Some e)) }
 {
     match command {
@@ -87,20 +78,20 @@ pub fn run_commands<L: DecisionLog>(
     commands: &[Command],
 ) -> Result<Vec<Told>, LogFault>
     requires { AllByRecursion Fits commands.now }
-    ensures told { (c : Content) → L.DecisionLog.is_in_order log.old →
-        L.DecisionLog.is_honest log.new → L.DecisionLog.content log.old ≡ Some c →
+    ensures told { (c : Content) → (L.moment log.old).is_in_order →
+        (L.moment log.new).is_honest → (L.moment log.old).content ≡ Some c →
         IfOk result (λ list. AreTold c commands.now list.items) }
-    ensures ok { (c : Content) → L.DecisionLog.is_in_order log.old →
-        L.DecisionLog.is_honest log.new → L.DecisionLog.content log.old ≡ Some c →
-        OnOk result (L.DecisionLog.content log.new ≡ Some (after_all commands.now c)) }
-    ensures err { (c : Content) → L.DecisionLog.is_in_order log.old →
-        L.DecisionLog.is_honest log.new → L.DecisionLog.content log.old ≡ Some c →
-        OnErr result (LeavesFirst commands.now c (L.DecisionLog.content log.new)) }
-    ensures order { L.DecisionLog.is_in_order log.old → L.DecisionLog.is_in_order log.new }
-    ensures honest { L.DecisionLog.is_honest log.new → L.DecisionLog.is_honest log.old }
+    ensures ok { (c : Content) → (L.moment log.old).is_in_order →
+        (L.moment log.new).is_honest → (L.moment log.old).content ≡ Some c →
+        OnOk result ((L.moment log.new).content ≡ Some (after_all commands.now c)) }
+    ensures err { (c : Content) → (L.moment log.old).is_in_order →
+        (L.moment log.new).is_honest → (L.moment log.old).content ≡ Some c →
+        OnErr result (LeavesFirst commands.now c (L.moment log.new).content) }
+    ensures order { (L.moment log.old).is_in_order → (L.moment log.new).is_in_order }
+    ensures honest { (L.moment log.new).is_honest → (L.moment log.old).is_honest }
     ensures faults { OnOk result
-        (L.DecisionLog.fault_count log.new ≡ L.DecisionLog.fault_count log.old) }
-    ensures cause { IfErr result (EndsBy L.DecisionLog.says L.DecisionLog.fault_count commands.now
+        ((L.moment log.new).fault_count ≡ (L.moment log.old).fault_count) }
+    ensures cause { IfErr result (EndsBy L.says L.moment commands.now
         log.old log.new) }
 {
     let mut told = Vec::new(alloc);

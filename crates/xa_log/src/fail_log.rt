@@ -41,11 +41,11 @@ impl FailLog {
 
     /// A log that begins with what `log` holds, and with no failed call.
     pub fn new(log: MemLog, plan: FailPlan) -> FailLog
-        ensures content { ⟦<FailLog as DecisionLog>⟧.content result ≡
-            ⟦<MemLog as DecisionLog>⟧.content log }
-        ensures order { ⟦<MemLog as DecisionLog>⟧.is_in_order log →
-            ⟦<FailLog as DecisionLog>⟧.is_in_order result }
-        ensures faults { ⟦<FailLog as DecisionLog>⟧.fault_count result ≡ 0 }
+        ensures content { (⟦<FailLog as DecisionLog>⟧.moment result).content ≡
+            (⟦<MemLog as DecisionLog>⟧.moment log).content }
+        ensures order { (⟦<MemLog as DecisionLog>⟧.moment log).is_in_order →
+            (⟦<FailLog as DecisionLog>⟧.moment result).is_in_order }
+        ensures faults { (⟦<FailLog as DecisionLog>⟧.moment result).fault_count ≡ 0 }
         ensures plan { result.plan ≡ plan }
         ensures calls { result.calls ≡ 0 }
     {
@@ -68,22 +68,14 @@ impl FailLog {
 
 impl DecisionLog for FailLog {
     ghost use Rattle.std.specs.Prelude.{◌≡◌, Some};
-    ghost use Rattle.xa_log.specs.Memory.{held_in, FollowsPlan, IsInOrder};
+    ghost use Rattle.xa_log.specs.Memory.{held_in, memory_moment, FollowsPlan};
     ghost use Rattle.xa_log.specs.MemoryLaws.{fits_held, leaves_held, own_held};
 
-    ghost content = { λ it. Some (held_in it.log) };
-
-    ghost is_in_order = { λ it. IsInOrder (held_in it.log) };
-
-    ghost is_honest = { λ _. Unit {0} };
-
-    ghost may_leave = { λ it c. c ≡ held_in it.log };
-
-    ghost fault_count = { λ it. it.faults };
+    ghost moment = { λ it. memory_moment (held_in it.log) it.faults };
 
     ghost says = { λ call change old new fault. FollowsPlan call change old new fault };
 
-    ghost settled = { λ it c d order is left. leaves_held it.log c d is left };
+    ghost durable = { λ it c d order is left. leaves_held it.log c d is left };
 
     ghost own = { λ it c order is. own_held it.log c order is };
 

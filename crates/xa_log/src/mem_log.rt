@@ -41,9 +41,9 @@ impl MemLog {
 
     /// An empty log, of no incarnation yet.
     pub fn new(alloc: Global) -> MemLog
-        ensures empty { ⟦<MemLog as DecisionLog>⟧.content result ≡ Some nothing }
-        ensures order { ⟦<MemLog as DecisionLog>⟧.is_in_order result }
-        ensures faults { ⟦<MemLog as DecisionLog>⟧.fault_count result ≡ 0 }
+        ensures empty { (⟦<MemLog as DecisionLog>⟧.moment result).content ≡ Some nothing }
+        ensures order { (⟦<MemLog as DecisionLog>⟧.moment result).is_in_order }
+        ensures faults { (⟦<MemLog as DecisionLog>⟧.moment result).fault_count ≡ 0 }
     {
         MemLog {
             decisions: BTreeMap::new(alloc),
@@ -177,22 +177,14 @@ impl MemLog {
 
 impl DecisionLog for MemLog {
     ghost use Rattle.std.specs.Prelude.{◌≡◌, Some};
-    ghost use Rattle.xa_log.specs.Memory.{held_in, IsInOrder, RunsInMemory};
+    ghost use Rattle.xa_log.specs.Memory.{held_in, memory_moment, RunsInMemory};
     ghost use Rattle.xa_log.specs.MemoryLaws.{fits_held, leaves_held, own_held};
 
-    ghost content = { λ log. Some (held_in log) };
-
-    ghost is_in_order = { λ log. IsInOrder (held_in log) };
-
-    ghost is_honest = { λ _. Unit {0} };
-
-    ghost may_leave = { λ log c. c ≡ held_in log };
-
-    ghost fault_count = { λ log. log.faults };
+    ghost moment = { λ log. memory_moment (held_in log) log.faults };
 
     ghost says = { λ call change old new fault. RunsInMemory call change old new fault };
 
-    ghost settled = { λ log c d order is left. leaves_held log c d is left };
+    ghost durable = { λ log c d order is left. leaves_held log c d is left };
 
     ghost own = { λ log c order is. own_held log c order is };
 

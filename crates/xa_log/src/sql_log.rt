@@ -216,25 +216,16 @@ impl SqlLog<FileStore<FileFrom<Unknown>>> {
 
 impl<S: Alter> DecisionLog for SqlLog<S> {
     ghost use Rattle.sqlite.specs.Held.{state as shown};
-    ghost use Rattle.sqlite.specs.State.{HasCleanDisk as clean};
     ghost use Rattle.xa_log.specs.Contract.{MayEnd};
-    ghost use Rattle.xa_log.specs.Settled.{fits_content, own_content, settled_content};
-    ghost use Rattle.xa_log.specs.Sql.{IsLasting as lasting, MayLeave as may_be_left, content_in as held_by};
+    ghost use Rattle.xa_log.specs.SqlLaws.{fits_content, own_content, durable_content};
+    ghost use Rattle.xa_log.specs.Sql.{sql_moment};
 
-    ghost content = { λ log. held_by (shown S.Store log.conn) };
-
-    ghost is_in_order = { λ log. lasting (shown S.Store log.conn) };
-
-    ghost is_honest = { λ log. clean (shown S.Store log.conn) };
-
-    ghost may_leave = { λ log. may_be_left (shown S.Store log.conn) };
-
-    ghost fault_count = { λ log. log.faults };
+    ghost moment = { λ log. sql_moment (shown S.Store log.conn) log.faults };
 
     ghost says = { λ call _ _ _ fault. MayEnd call fault };
 
-    ghost settled = { λ log c d order is left.
-        settled_content _ (λ db. S.Store.settled log.conn.store db) c d order.order is left };
+    ghost durable = { λ log c d order is left.
+        durable_content _ (λ db. S.Store.settled log.conn.store db) c d order.order is left };
 
     ghost own = { λ log c order is. own_content _ c order.order is };
 

@@ -160,16 +160,16 @@ module _ {R L : Type 0} (see : Sees R L) (threads : ℕ) (rms : List R) (manager
     });
     demanded = rw none tt;
     log = record {
-      order = λ h. subst (λ m. see.logs.is_in_order (log_in m)) (sym same_manager) (over.order h);
-      honest = λ h. over.honest (subst (λ m. see.logs.is_honest (log_in m)) same_manager h);
+      order = λ h. subst (λ m. (see.logs.moment (log_in m)).is_in_order) (sym same_manager) (over.order h);
+      honest = λ h. over.honest (subst (λ m. (see.logs.moment (log_in m)).is_honest) same_manager h);
       start = λ order honest.
-          let now = subst (λ m. see.logs.is_honest (log_in m)) same_manager honest in
-          subst (λ o. IsSomeAnd (see.logs.content a.handed.value) (StartsOver o)) (sym origin_same)
-          (starts_over (origin_of see threads rms manager) threads (length rms) (see.logs.content a.handed.value) (see.logs.content (log_in manager)) (over.raised order now)
-          (subst (λ k. IsSomeAnd (see.logs.content (log_in manager)) (λ c. k ≡ started threads (length rms) c)) begun (over.book order now)));
+          let now = subst (λ m. (see.logs.moment (log_in m)).is_honest) same_manager honest in
+          subst (λ o. IsSomeAnd (see.logs.moment a.handed.value).content (StartsOver o)) (sym origin_same)
+          (starts_over (origin_of see threads rms manager) threads (length rms) (see.logs.moment a.handed.value).content (see.logs.moment (log_in manager)).content (over.raised order now)
+          (subst (λ k. IsSomeAnd (see.logs.moment (log_in manager)).content (λ c. k ≡ started threads (length rms) c)) begun (over.book order now)));
       tied = λ order honest.
-          subst (λ m. IsTied (book_in m) (see.logs.content (log_in m))) (sym same_manager)
-          (over.tied order (subst (λ m. see.logs.is_honest (log_in m)) same_manager honest));
+          subst (λ m. IsTied (book_in m) (see.logs.moment (log_in m)).content) (sym same_manager)
+          (over.tied order (subst (λ m. (see.logs.moment (log_in m)).is_honest) same_manager honest));
     };
   }
     where

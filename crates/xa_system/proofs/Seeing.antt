@@ -64,8 +64,8 @@ module _ {R L : Type 0} (see : Sees R L) where
     lines = sound.stands.lines;
     log = λ order honest. record {
       start = sound.log.start order honest;
-      stands = tied_stands (history (start_of see a.parts) a.events.items) (see.logs.content (log_in a.parts.manager))
-          (subst (λ k. IsTied k (see.logs.content (log_in a.parts.manager))) sound.stands.book (sound.log.tied order honest));
+      stands = tied_stands (history (start_of see a.parts) a.events.items) (see.logs.moment (log_in a.parts.manager)).content
+          (subst (λ k. IsTied k (see.logs.moment (log_in a.parts.manager)).content) sound.stands.book (sound.log.tied order honest));
     };
   }
 
@@ -118,12 +118,12 @@ module _ {R L : Type 0} (see : Sees R L) where
 
   -- and the log may have made the step's change
   pub failed_so : (old : Inside R L) (new : Parts R L) (step : Step Xid) (reply : Reply Xid) → IsSound see old → GoesOn see step reply old.parts new → vec_len old.events < EVENT_LIMIT
-      → reply ≡ Replies.Refused Refusals.LogFault → see.logs.is_in_order old.handed.value → see.logs.is_honest (log_in new.manager)
-      → MayHaveFailed (history (start_of see old.parts) old.events.items) (log_failed (step_of step)) (see.logs.content (log_in old.parts.manager)) (see.logs.content (log_in new.manager))
+      → reply ≡ Replies.Refused Refusals.LogFault → (see.logs.moment old.handed.value).is_in_order → (see.logs.moment (log_in new.manager)).is_honest
+      → MayHaveFailed (history (start_of see old.parts) old.events.items) (log_failed (step_of step)) (see.logs.moment (log_in old.parts.manager)).content (see.logs.moment (log_in new.manager)).content
   unfolding somewhere
   failed_so old new step reply sound goes few is order honest =
       let here = somewhere old sound few in
-      subst (λ r. MayHaveFailed here.0 (happened (step_of step) (reply_of r)) (see.logs.content (log_in old.parts.manager)) (see.logs.content (log_in new.manager))) is
+      subst (λ r. MayHaveFailed here.0 (happened (step_of step) (reply_of r)) (see.logs.moment (log_in old.parts.manager)).content (see.logs.moment (log_in new.manager)).content) is
       ((goes here.0 here.1 here.2).log.failed (sound.log.order order) honest)
 
   -- the log after one event more
@@ -137,20 +137,20 @@ module _ {R L : Type 0} (see : Sees R L) where
       record {
         order = λ h. log.order (sound.log.order h);
         honest = λ h. sound.log.honest (log.honest h);
-        start = λ order honest. subst (λ o. IsSomeAnd (see.logs.content old.handed.value) (StartsOver o)) (sym start) (sound.log.start order (log.honest honest));
+        start = λ order honest. subst (λ o. IsSomeAnd (see.logs.moment old.handed.value).content (StartsOver o)) (sym start) (sound.log.start order (log.honest honest));
         tied = λ order honest. log.tied (sound.log.order order) honest (sound.log.tied order (log.honest honest));
       }
 
   -- what was honest since
   pub honest_before : (old : Inside R L) (new : Parts R L) (step : Step Xid) (reply : Reply Xid) → IsSound see old → GoesOn see step reply old.parts new → vec_len old.events < EVENT_LIMIT
-      → see.logs.is_honest (log_in new.manager) → see.logs.is_honest (log_in old.parts.manager)
+      → (see.logs.moment (log_in new.manager)).is_honest → (see.logs.moment (log_in old.parts.manager)).is_honest
   unfolding somewhere
   honest_before old new step reply sound goes few h = let here = somewhere old sound few in (goes here.0 here.1 here.2).log.honest h
 
   -- an event that was answered that the log failed has raised its count
   pub fault_has_cause : (old : Inside R L) (new : Parts R L) (events : Vec Event Global) (step : Step Xid) (reply copy : Reply Xid) → IsSound see old → GoesOn see step reply old.parts new → copy ≡ reply
       → vec_len old.events < EVENT_LIMIT → events.items ≡ old.events.items ++ record { step = step; reply = copy } ∷ []
-      → see.logs.is_in_order old.handed.value → see.logs.is_honest (log_in new.manager)
+      → (see.logs.moment old.handed.value).is_in_order → (see.logs.moment (log_in new.manager)).is_honest
       → FaultsHaveCauses see (seen old) (seen (record { handed = old.handed; parts = new; events = events }))
   unfolding somewhere
   fault_has_cause old new events step reply copy sound goes same few items order honest =
@@ -158,8 +158,8 @@ module _ {R L : Type 0} (see : Sees R L) where
       let more = goes here.0 here.1 here.2 in
       let counted = more.log.counted (sound.log.order order) honest (sound.log.tied order (more.log.honest honest)) in
       let all = items ∙ ap (λ (r : Reply Xid). old.events.items ++ record { step = step; reply = r } ∷ []) same in
-      causes_more old.events.items events.items (record { step = step; reply = reply }) (see.logs.fault_count (log_in old.parts.manager)) (see.logs.fault_count (log_in new.manager)) _ all
-      (rises here.0 (step_of step) reply (see.logs.fault_count (log_in old.parts.manager)) more.demanded) counted
+      causes_more old.events.items events.items (record { step = step; reply = reply }) (see.logs.moment (log_in old.parts.manager)).fault_count (see.logs.moment (log_in new.manager)).fault_count _ all
+      (rises here.0 (step_of step) reply (see.logs.moment (log_in old.parts.manager)).fault_count more.demanded) counted
 
   -- one event more
   pub sound_then : (old : Inside R L) (new : Parts R L) (events : Vec Event Global) (step : Step Xid) (reply copy : Reply Xid) → IsSound see old → GoesOn see step reply old.parts new → copy ≡ reply

@@ -104,26 +104,26 @@ log_faults events = length (filter (λ event. says_log_fault event.reply) events
 
 -- over a log that was handed to it
 pub record IsStartedOver {L : Type 0} (logs : DecisionLog.Ghosts L) (threads rms : ℕ) (handed : L) (manager : Manager L) : Type 0 where
-  pub order : logs.is_in_order handed → logs.is_in_order (log_in manager)
-  pub honest : logs.is_honest (log_in manager) → logs.is_honest handed
-  pub tied : logs.is_in_order handed → logs.is_honest (log_in manager)
-      → IsTied (book_in manager) (logs.content (log_in manager))
-  pub book : logs.is_in_order handed → logs.is_honest (log_in manager)
-      → IsSomeAnd (logs.content (log_in manager)) (λ c. book_in manager ≡ started threads rms c)
-  pub raised : logs.is_in_order handed → logs.is_honest (log_in manager)
-      → Makes bumped (logs.content handed) (logs.content (log_in manager))
-  pub faults : logs.fault_count (log_in manager) ≡ logs.fault_count handed
+  pub order : (logs.moment handed).is_in_order → (logs.moment (log_in manager)).is_in_order
+  pub honest : (logs.moment (log_in manager)).is_honest → (logs.moment handed).is_honest
+  pub tied : (logs.moment handed).is_in_order → (logs.moment (log_in manager)).is_honest
+      → IsTied (book_in manager) (logs.moment (log_in manager)).content
+  pub book : (logs.moment handed).is_in_order → (logs.moment (log_in manager)).is_honest
+      → IsSomeAnd (logs.moment (log_in manager)).content (λ c. book_in manager ≡ started threads rms c)
+  pub raised : (logs.moment handed).is_in_order → (logs.moment (log_in manager)).is_honest
+      → Makes bumped (logs.moment handed).content (logs.moment (log_in manager)).content
+  pub faults : (logs.moment (log_in manager)).fault_count ≡ (logs.moment handed).fault_count
 
 -- ** one happening more
 
 -- what it does to the log of a manager. Its rows follow the book where they followed it before
 pub record LogFollows {L : Type 0} (logs : DecisionLog.Ghosts L) (tr : Trace) (e : Happening) (old new : Manager L) : Type 0 where
-  pub order : logs.is_in_order (log_in old) → logs.is_in_order (log_in new)
-  pub honest : logs.is_honest (log_in new) → logs.is_honest (log_in old)
-  pub tied : logs.is_in_order (log_in old) → logs.is_honest (log_in new)
-      → IsTied (book_in old) (logs.content (log_in old)) → IsTied (book_in new) (logs.content (log_in new))
-  pub counted : logs.is_in_order (log_in old) → logs.is_honest (log_in new)
-      → IsTied (book_in old) (logs.content (log_in old))
-      → logs.fault_count (log_in new) ≡ count_after e (logs.fault_count (log_in old))
-  pub failed : logs.is_in_order (log_in old) → logs.is_honest (log_in new)
-      → MayHaveFailed tr e (logs.content (log_in old)) (logs.content (log_in new))
+  pub order : (logs.moment (log_in old)).is_in_order → (logs.moment (log_in new)).is_in_order
+  pub honest : (logs.moment (log_in new)).is_honest → (logs.moment (log_in old)).is_honest
+  pub tied : (logs.moment (log_in old)).is_in_order → (logs.moment (log_in new)).is_honest
+      → IsTied (book_in old) (logs.moment (log_in old)).content → IsTied (book_in new) (logs.moment (log_in new)).content
+  pub counted : (logs.moment (log_in old)).is_in_order → (logs.moment (log_in new)).is_honest
+      → IsTied (book_in old) (logs.moment (log_in old)).content
+      → (logs.moment (log_in new)).fault_count ≡ count_after e (logs.moment (log_in old)).fault_count
+  pub failed : (logs.moment (log_in old)).is_in_order → (logs.moment (log_in new)).is_honest
+      → MayHaveFailed tr e (logs.moment (log_in old)).content (logs.moment (log_in new)).content

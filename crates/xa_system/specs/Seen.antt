@@ -67,8 +67,8 @@ trace_in look s = history (origin_in look s) s.events
 module _ {R L : Type 0} (see : Sees R L) where
   -- the log that was handed in has the rows and the record of the start, and the log is where the history leaves it
   pub record HoldsItsLog (s : Seen R L) : Type 0 where
-    pub start : IsSomeAnd (see.logs.content s.handed) (StartsOver (origin_in see.look s))
-    pub stands : LogStands (trace_in see.look s) (see.logs.content s.log)
+    pub start : IsSomeAnd (see.logs.moment s.handed).content (StartsOver (origin_in see.look s))
+    pub stands : LogStands (trace_in see.look s) (see.logs.moment s.log).content
 
   -- each reply is the one that the history before it demands, and the parts are where the history leaves them: the log,
   -- where the one that was handed in was in order, and what it rests on has been honest
@@ -76,7 +76,7 @@ module _ {R L : Type 0} (see : Sees R L) where
     pub demanded : AreDemanded (origin_in see.look s) s.events
     pub rms : (r : ℕ) (rm : R) → slice_get s.rms r ≡ Some rm → RmStands see.look (trace_in see.look s) r rm
     pub lines : (t r : ℕ) → HasLine s.lines t r → LineStands (trace_in see.look s) (line t r) (line_at s.lines t r)
-    pub log : see.logs.is_in_order s.handed → see.logs.is_honest s.log → HoldsItsLog s
+    pub log : (see.logs.moment s.handed).is_in_order → (see.logs.moment s.log).is_honest → HoldsItsLog s
 
   -- where the parts started
   abbrev pub start_of : Parts R L → Origin
@@ -84,12 +84,12 @@ module _ {R L : Type 0} (see : Sees R L) where
 
   -- what is known of the log that was handed in, and of what became of it
   pub record KeepsLog (a : Inside R L) : Type 0 where
-    pub order : see.logs.is_in_order a.handed.value → see.logs.is_in_order (log_in a.parts.manager)
-    pub honest : see.logs.is_honest (log_in a.parts.manager) → see.logs.is_honest a.handed.value
-    pub start : see.logs.is_in_order a.handed.value → see.logs.is_honest (log_in a.parts.manager)
-        → IsSomeAnd (see.logs.content a.handed.value) (StartsOver (start_of a.parts))
-    pub tied : see.logs.is_in_order a.handed.value → see.logs.is_honest (log_in a.parts.manager)
-        → IsTied (book_in a.parts.manager) (see.logs.content (log_in a.parts.manager))
+    pub order : (see.logs.moment a.handed.value).is_in_order → (see.logs.moment (log_in a.parts.manager)).is_in_order
+    pub honest : (see.logs.moment (log_in a.parts.manager)).is_honest → (see.logs.moment a.handed.value).is_honest
+    pub start : (see.logs.moment a.handed.value).is_in_order → (see.logs.moment (log_in a.parts.manager)).is_honest
+        → IsSomeAnd (see.logs.moment a.handed.value).content (StartsOver (start_of a.parts))
+    pub tied : (see.logs.moment a.handed.value).is_in_order → (see.logs.moment (log_in a.parts.manager)).is_honest
+        → IsTied (book_in a.parts.manager) (see.logs.moment (log_in a.parts.manager)).content
 
   pub record IsSound (a : Inside R L) : Type 0 where
     pub few : vec_len a.events ≤ EVENT_LIMIT
@@ -108,8 +108,8 @@ module _ {R L : Type 0} (see : Sees R L) where
   -- of the events since then, at most as many were answered that the log failed as its count rose by, unless the count
   -- has come to the greatest number
   abbrev pub FaultsHaveCauses : (old new : Seen R L) → Type 0
-  FaultsHaveCauses old new = (greatest_count ≤ see.logs.fault_count new.log)
-      ⊎ (log_faults new.events + see.logs.fault_count old.log ≤ log_faults old.events + see.logs.fault_count new.log)
+  FaultsHaveCauses old new = (greatest_count ≤ (see.logs.moment new.log).fault_count)
+      ⊎ (log_faults new.events + (see.logs.moment old.log).fault_count ≤ log_faults old.events + (see.logs.moment new.log).fault_count)
 
 -- ** steps
 

@@ -8,15 +8,15 @@ use Rattle.xa_tm.specs.Starting.{IsPast}
 module _ {L : Type 0} (logs : DecisionLog.Ghosts L) where
   -- the log that is left has failed once more
   abbrev pub HasFailed : (handed left : L) → Type 0
-  HasFailed handed left = logs.fault_count left ≡ one_more_fault (logs.fault_count handed)
+  HasFailed handed left = (logs.moment left).fault_count ≡ one_more_fault (logs.moment handed).fault_count
 
   -- it has not failed, but has a row or a record of a later incarnation than its own, and that was raised
   pub record IsRaisedInVain (handed left : L) : Type 0 where
-    pub faults : logs.fault_count left ≡ logs.fault_count handed
-    pub not_past : logs.is_in_order handed → logs.is_honest left
-        → IsSomeAnd (logs.content handed) (λ c. ¬ IsPast c)
-    pub raised : logs.is_in_order handed → logs.is_honest left
-        → Makes bumped (logs.content handed) (logs.content left)
+    pub faults : (logs.moment left).fault_count ≡ (logs.moment handed).fault_count
+    pub not_past : (logs.moment handed).is_in_order → (logs.moment left).is_honest
+        → IsSomeAnd (logs.moment handed).content (λ c. ¬ IsPast c)
+    pub raised : (logs.moment handed).is_in_order → (logs.moment left).is_honest
+        → Makes bumped (logs.moment handed).content (logs.moment left).content
 
   -- the log is to blame: no system can be made over it
   abbrev pub IsToBlame : L → Type 0

@@ -108,8 +108,8 @@ fn start_manager<L: DecisionLog + Drop>(
 ) -> Result<Manager<L>, NewFault>
     ensures manager { IfOk result (IsStarted threads rms) }
     ensures log { IfOk result (IsStartedOver L.DecisionLog threads rms log) }
-    ensures past { L.is_in_order log → IfOk result (λ manager. L.is_honest (log_in manager) →
-        IsSomeAnd (L.content log) IsPast) }
+    ensures past { (L.moment log).is_in_order → IfOk result (λ manager. (L.moment (log_in manager)).is_honest →
+        IsSomeAnd (L.moment log).content IsPast) }
     ensures log_fault { result ≡ Err NewFault.Log → IsToBlame L.DecisionLog log }
     ensures fault { IfErr result (λ e. (e ≡ NewFault.Log) ⊎ (e ≡ NewFault.Memory)) }
 {
@@ -166,10 +166,10 @@ impl<R: ResourceManager + Drop, L: DecisionLog + Drop> System<R, L> {
         ensures only_not_clear { result ≡ Err NewFault.NotClear →
             IsUnclear (looks R.held_of R.scan_of R.in_doubt_of) rms.items }
         ensures handed { IfOk result (λ system. system.handed ≡ log) }
-        ensures honest { IfOk result (λ system. L.is_honest system.log → L.is_honest log) }
-        ensures faults { IfOk result (λ system. L.fault_count system.log ≡ L.fault_count log) }
-        ensures past { L.is_in_order log → IfOk result (λ system. L.is_honest system.log →
-            IsSomeAnd (L.content log) IsPast) }
+        ensures honest { IfOk result (λ system. (L.moment system.log).is_honest → (L.moment log).is_honest) }
+        ensures faults { IfOk result (λ system. (L.moment system.log).fault_count ≡ (L.moment log).fault_count) }
+        ensures past { (L.moment log).is_in_order → IfOk result (λ system. (L.moment system.log).is_honest →
+            IsSomeAnd (L.moment log).content IsPast) }
         ensures log_fault { result ≡ Err NewFault.Log → IsToBlame L.DecisionLog log }
         ensures ok { IfOk result (λ system. (system.events ≡ []) × (system.start ≡ rms.items) × (system.rms ≡ rms.items)
             × (system.lines.threads ≡ threads) × HoldsItsTrace
@@ -236,12 +236,12 @@ impl<R: ResourceManager + Drop, L: DecisionLog + Drop> System<R, L> {
         ensures down { result ≡ Replies.Refused Refusals.LogFault →
             up (trace_in (looks R.held_of R.scan_of R.in_doubt_of) self.new) ≡ Bool.false }
         ensures failed { result ≡ Replies.Refused Refusals.LogFault →
-            L.is_in_order self.old.handed → L.is_honest self.new.log →
+            (L.moment self.old.handed).is_in_order → (L.moment self.new.log).is_honest →
             MayHaveFailed (trace_in (looks R.held_of R.scan_of R.in_doubt_of) self.old) (log_failed (step_of step))
-            (L.content self.old.log) (L.content self.new.log) }
+            (L.moment self.old.log).content (L.moment self.new.log).content }
         ensures handed { self.new.handed ≡ self.old.handed }
-        ensures honest { L.is_honest self.new.log → L.is_honest self.old.log }
-        ensures faults { L.is_in_order self.old.handed → L.is_honest self.new.log →
+        ensures honest { (L.moment self.new.log).is_honest → (L.moment self.old.log).is_honest }
+        ensures faults { (L.moment self.old.handed).is_in_order → (L.moment self.new.log).is_honest →
             FaultsHaveCauses (sees R.held_of R.scan_of R.in_doubt_of L.DecisionLog) self.old self.new }
         ensures start { origin_in (looks R.held_of R.scan_of R.in_doubt_of) self.new
             ≡ origin_in (looks R.held_of R.scan_of R.in_doubt_of) self.old }
@@ -311,8 +311,8 @@ impl<R: ResourceManager + Drop, L: DecisionLog + Drop> System<R, L> {
         ensures err { OnErr result (self.new ≡ self.old) }
         ensures adds { OnOk result (AddsSteps steps.now self.old.events self.new.events) }
         ensures handed { self.new.handed ≡ self.old.handed }
-        ensures honest { L.is_honest self.new.log → L.is_honest self.old.log }
-        ensures faults { L.is_in_order self.old.handed → L.is_honest self.new.log →
+        ensures honest { (L.moment self.new.log).is_honest → (L.moment self.old.log).is_honest }
+        ensures faults { (L.moment self.old.handed).is_in_order → (L.moment self.new.log).is_honest →
             FaultsHaveCauses (sees R.held_of R.scan_of R.in_doubt_of L.DecisionLog) self.old self.new }
         ensures start { origin_in (looks R.held_of R.scan_of R.in_doubt_of) self.new
             ≡ origin_in (looks R.held_of R.scan_of R.in_doubt_of) self.old }

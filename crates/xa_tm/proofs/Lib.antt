@@ -1,3 +1,4 @@
+pub mod Asking
 pub mod Counted
 pub mod Counting
 pub mod Deals

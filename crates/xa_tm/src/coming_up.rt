@@ -37,21 +37,21 @@ impl<L: DecisionLog + Drop> Manager<L> {
         ensures most { IfOk result (λ found. found.incarnation ≤ last_number) }
         ensures found { IfOk result (λ found.
             IsFound (book_in self.old) found.incarnation found.decisions found.heuristics) }
-        ensures tied { L.is_in_order (log_in self.old) → L.is_honest (log_in self.new) →
-            IsTied (book_in self.old) (L.content (log_in self.old)) → IsTied (book_in self.new) (L.content (log_in self.new)) }
+        ensures tied { (L.moment (log_in self.old)).is_in_order → (L.moment (log_in self.new)).is_honest →
+            IsTied (book_in self.old) (L.moment (log_in self.old)).content → IsTied (book_in self.new) (L.moment (log_in self.new)).content }
         ensures kept { IfErr result (λ n. n ≢ Refusals.LogFault → log_in self.new ≡ log_in self.old) }
-        ensures fault { L.is_in_order (log_in self.old) → L.is_honest (log_in self.new) → result ≡ Err Refusals.LogFault →
-            MayMake bumped (L.content (log_in self.old)) (L.content (log_in self.new)) }
-        ensures crash { L.is_in_order (log_in self.old) → L.is_honest (log_in self.new) →
-            LeavesAlso bumped (L.content (log_in self.old))
-            (L.may_leave (log_in self.old)) (L.may_leave (log_in self.new)) }
-        ensures order { L.is_in_order (log_in self.old) → L.is_in_order (log_in self.new) }
-        ensures honest { L.is_honest (log_in self.new) → L.is_honest (log_in self.old) }
-        ensures faults { L.is_in_order (log_in self.old) → L.is_honest (log_in self.new) →
-            IsTied (book_in self.old) (L.content (log_in self.old)) →
-            L.fault_count (log_in self.new) ≡ faults_by result (L.fault_count (log_in self.old)) }
-        ensures counted { (L.fault_count (log_in self.new) ≡ faults_by result (L.fault_count (log_in self.old))) ⊎
-            ((result ≡ Err Refusals.LogFault) × (L.fault_count (log_in self.new) ≡ L.fault_count (log_in self.old))) }
+        ensures fault { (L.moment (log_in self.old)).is_in_order → (L.moment (log_in self.new)).is_honest → result ≡ Err Refusals.LogFault →
+            MayMake bumped (L.moment (log_in self.old)).content (L.moment (log_in self.new)).content }
+        ensures crash { (L.moment (log_in self.old)).is_in_order → (L.moment (log_in self.new)).is_honest →
+            LeavesAlso bumped (L.moment (log_in self.old)).content
+            (L.moment (log_in self.old)).may_leave (L.moment (log_in self.new)).may_leave }
+        ensures order { (L.moment (log_in self.old)).is_in_order → (L.moment (log_in self.new)).is_in_order }
+        ensures honest { (L.moment (log_in self.new)).is_honest → (L.moment (log_in self.old)).is_honest }
+        ensures faults { (L.moment (log_in self.old)).is_in_order → (L.moment (log_in self.new)).is_honest →
+            IsTied (book_in self.old) (L.moment (log_in self.old)).content →
+            (L.moment (log_in self.new)).fault_count ≡ faults_by result (L.moment (log_in self.old)).fault_count }
+        ensures counted { ((L.moment (log_in self.new)).fault_count ≡ faults_by result (L.moment (log_in self.old)).fault_count) ⊎
+            ((result ≡ Err Refusals.LogFault) × ((L.moment (log_in self.new)).fault_count ≡ (L.moment (log_in self.old)).fault_count)) }
     {
         if self.ledger.is_up {
             return Err(Refusal::Busy);
@@ -81,17 +81,17 @@ impl<L: DecisionLog + Drop> Manager<L> {
 
 /// Finds the numbers of rows of a log, and raises its incarnation.
 fn find_and_raise<L: DecisionLog>(log: &mut L) -> Result<Found, LogFault>
-    ensures found { L.is_in_order log.old → L.is_honest log.new → IfOk result (λ found.
-        IsSomeAnd (L.content log.old) (FoundIn found.incarnation found.decisions found.heuristics)) }
+    ensures found { (L.moment log.old).is_in_order → (L.moment log.new).is_honest → IfOk result (λ found.
+        IsSomeAnd (L.moment log.old).content (FoundIn found.incarnation found.decisions found.heuristics)) }
     ensures most { IfOk result (λ found. found.incarnation ≤ last_number) }
-    ensures ok { L.is_in_order log.old → L.is_honest log.new →
-        OnOk result (Makes bumped (L.content log.old) (L.content log.new)) }
-    ensures err { L.is_in_order log.old → L.is_honest log.new → OnErr result (MayMake bumped (L.content log.old) (L.content log.new)) }
-    ensures crash { L.is_in_order log.old → L.is_honest log.new →
-        LeavesAlso bumped (L.content log.old) (L.may_leave log.old) (L.may_leave log.new) }
-    ensures order { L.is_in_order log.old → L.is_in_order log.new }
-    ensures honest { L.is_honest log.new → L.is_honest log.old }
-    ensures faults { L.fault_count log.new ≡ faults_after result (L.fault_count log.old) }
+    ensures ok { (L.moment log.old).is_in_order → (L.moment log.new).is_honest →
+        OnOk result (Makes bumped (L.moment log.old).content (L.moment log.new).content) }
+    ensures err { (L.moment log.old).is_in_order → (L.moment log.new).is_honest → OnErr result (MayMake bumped (L.moment log.old).content (L.moment log.new).content) }
+    ensures crash { (L.moment log.old).is_in_order → (L.moment log.new).is_honest →
+        LeavesAlso bumped (L.moment log.old).content (L.moment log.old).may_leave (L.moment log.new).may_leave }
+    ensures order { (L.moment log.old).is_in_order → (L.moment log.new).is_in_order }
+    ensures honest { (L.moment log.new).is_honest → (L.moment log.old).is_honest }
+    ensures faults { (L.moment log.new).fault_count ≡ faults_after result (L.moment log.old).fault_count }
 {
     match log.rows() {
         Err(fault) => Err(fault),

@@ -8,10 +8,9 @@ ghost use Rattle.xa_model.specs.Trace.{Happening.Failed};
 ghost use Rattle.xa_base.specs.declared.refusal.Refusal.TheVariants as Refusals;
 ghost use Rattle.xa_base.specs.declared.step.Outcome.TheVariants as Outcomes;
 ghost use Rattle.xa_tm.specs.Book.{Doubt.Adds, Doubt.Drops, after, book_after, voted_yes};
-ghost use Rattle.xa_log.specs.Contract.{LeavesAlso, MayMake};
 ghost use Rattle.xa_tm.specs.Tied.{made};
 ghost use Rattle.xa_tm.specs.Held.{IsSound};
-ghost use Rattle.xa_tm.specs.Kept.{AddsRow, FailsBy, IsOpenIn, book_in, faults_by, log_in};
+ghost use Rattle.xa_tm.specs.Kept.{AddsRow, AsksFor, FailsBy, IsOpenIn, book_in, log_in};
 ghost use Rattle.xa_tm.specs.Refusing.{refusal_in};
 ghost use Rattle.xa_tm.specs.Tied.{IsTied};
 
@@ -32,17 +31,11 @@ impl<L: DecisionLog + Drop> Manager<L> {
             IfErr result (FailsBy (Adds g (voted_yes (book_in self.old) g)) (InDecide g) (book_in self.old) (book_in self.new)) }
         ensures asked { refusal_in (book_in self.old) (Steps.Decide g outcome) ≡ None → result ≡ Err Refusals.LogFault →
             AddsRow outcome ((book_in self.old).deal g) }
-        ensures tied { L.is_in_order (log_in self.old) → L.is_honest (log_in self.new) →
-            IsTied (book_in self.old) (L.content (log_in self.old)) → IsTied (book_in self.new) (L.content (log_in self.new)) }
+        ensures tied { (L.moment (log_in self.old)).is_in_order → (L.moment (log_in self.new)).is_honest →
+            IsTied (book_in self.old) (L.moment (log_in self.old)).content → IsTied (book_in self.new) (L.moment (log_in self.new)).content }
         ensures kept { IfErr result (λ n. n ≢ Refusals.LogFault → log_in self.new ≡ log_in self.old) }
-        ensures fault { L.is_in_order (log_in self.old) → result ≡ Err Refusals.LogFault →
-            MayMake (made (Adds g (voted_yes (book_in self.old) g))) (L.content (log_in self.old)) (L.content (log_in self.new)) }
-        ensures crash { L.is_in_order (log_in self.old) → L.is_honest (log_in self.new) →
-            LeavesAlso (made (Adds g (voted_yes (book_in self.old) g))) (L.content (log_in self.old))
-            (L.may_leave (log_in self.old)) (L.may_leave (log_in self.new)) }
-        ensures order { L.is_in_order (log_in self.old) → L.is_in_order (log_in self.new) }
-        ensures honest { L.is_honest (log_in self.new) → L.is_honest (log_in self.old) }
-        ensures faults { L.fault_count (log_in self.new) ≡ faults_by result (L.fault_count (log_in self.old)) }
+        ensures asks { AsksFor (made (Adds g (voted_yes (book_in self.old) g)))
+            (L.moment (log_in self.old)) (L.moment (log_in self.new)) result }
     {
         match self.ledger.may_decide(g, outcome) {
             Some(refusal) => Err(refusal),
@@ -61,17 +54,11 @@ impl<L: DecisionLog + Drop> Manager<L> {
             IfErr result (FailsBy (Adds g (voted_yes (book_in self.old) g)) (InDecide g) (book_in self.old) (book_in self.new)) }
         ensures asked { refusal_in (book_in self.old) (Steps.Settle g) ≡ None → result ≡ Err Refusals.LogFault →
             AddsRow Outcomes.Commit ((book_in self.old).deal g) }
-        ensures tied { L.is_in_order (log_in self.old) → L.is_honest (log_in self.new) →
-            IsTied (book_in self.old) (L.content (log_in self.old)) → IsTied (book_in self.new) (L.content (log_in self.new)) }
+        ensures tied { (L.moment (log_in self.old)).is_in_order → (L.moment (log_in self.new)).is_honest →
+            IsTied (book_in self.old) (L.moment (log_in self.old)).content → IsTied (book_in self.new) (L.moment (log_in self.new)).content }
         ensures kept { IfErr result (λ n. n ≢ Refusals.LogFault → log_in self.new ≡ log_in self.old) }
-        ensures fault { L.is_in_order (log_in self.old) → result ≡ Err Refusals.LogFault →
-            MayMake (made (Adds g (voted_yes (book_in self.old) g))) (L.content (log_in self.old)) (L.content (log_in self.new)) }
-        ensures crash { L.is_in_order (log_in self.old) → L.is_honest (log_in self.new) →
-            LeavesAlso (made (Adds g (voted_yes (book_in self.old) g))) (L.content (log_in self.old))
-            (L.may_leave (log_in self.old)) (L.may_leave (log_in self.new)) }
-        ensures order { L.is_in_order (log_in self.old) → L.is_in_order (log_in self.new) }
-        ensures honest { L.is_honest (log_in self.new) → L.is_honest (log_in self.old) }
-        ensures faults { L.fault_count (log_in self.new) ≡ faults_by result (L.fault_count (log_in self.old)) }
+        ensures asks { AsksFor (made (Adds g (voted_yes (book_in self.old) g)))
+            (L.moment (log_in self.old)) (L.moment (log_in self.new)) result }
     {
         match self.ledger.may_settle(g) {
             Some(refusal) => Err(refusal),
@@ -90,17 +77,11 @@ impl<L: DecisionLog + Drop> Manager<L> {
             IfErr result (FailsBy (Adds g (voted_yes (book_in self.old) g)) (InDecide g) (book_in self.old) (book_in self.new)) }
         ensures asked { refusal_in (book_in self.old) (Steps.Abandon g) ≡ None → result ≡ Err Refusals.LogFault →
             AddsRow Outcomes.Rollback ((book_in self.old).deal g) }
-        ensures tied { L.is_in_order (log_in self.old) → L.is_honest (log_in self.new) →
-            IsTied (book_in self.old) (L.content (log_in self.old)) → IsTied (book_in self.new) (L.content (log_in self.new)) }
+        ensures tied { (L.moment (log_in self.old)).is_in_order → (L.moment (log_in self.new)).is_honest →
+            IsTied (book_in self.old) (L.moment (log_in self.old)).content → IsTied (book_in self.new) (L.moment (log_in self.new)).content }
         ensures kept { IfErr result (λ n. n ≢ Refusals.LogFault → log_in self.new ≡ log_in self.old) }
-        ensures fault { L.is_in_order (log_in self.old) → result ≡ Err Refusals.LogFault →
-            MayMake (made (Adds g (voted_yes (book_in self.old) g))) (L.content (log_in self.old)) (L.content (log_in self.new)) }
-        ensures crash { L.is_in_order (log_in self.old) → L.is_honest (log_in self.new) →
-            LeavesAlso (made (Adds g (voted_yes (book_in self.old) g))) (L.content (log_in self.old))
-            (L.may_leave (log_in self.old)) (L.may_leave (log_in self.new)) }
-        ensures order { L.is_in_order (log_in self.old) → L.is_in_order (log_in self.new) }
-        ensures honest { L.is_honest (log_in self.new) → L.is_honest (log_in self.old) }
-        ensures faults { L.fault_count (log_in self.new) ≡ faults_by result (L.fault_count (log_in self.old)) }
+        ensures asks { AsksFor (made (Adds g (voted_yes (book_in self.old) g)))
+            (L.moment (log_in self.old)) (L.moment (log_in self.new)) result }
     {
         match self.ledger.may_settle(g) {
             Some(refusal) => Err(refusal),
@@ -117,17 +98,11 @@ impl<L: DecisionLog + Drop> Manager<L> {
         ensures ok { OnOk result (book_in self.new ≡ after (book_in self.old) (Done g)) }
         ensures err { refusal_in (book_in self.old) (Steps.Done g) ≡ None → IfErr result (λ n. (n ≡ Refusals.LogFault) ×
             (book_in self.new ≡ book_after (book_in self.old) (Drops g) (Failed (InDone g)))) }
-        ensures tied { L.is_in_order (log_in self.old) → L.is_honest (log_in self.new) →
-            IsTied (book_in self.old) (L.content (log_in self.old)) → IsTied (book_in self.new) (L.content (log_in self.new)) }
+        ensures tied { (L.moment (log_in self.old)).is_in_order → (L.moment (log_in self.new)).is_honest →
+            IsTied (book_in self.old) (L.moment (log_in self.old)).content → IsTied (book_in self.new) (L.moment (log_in self.new)).content }
         ensures kept { IfErr result (λ n. n ≢ Refusals.LogFault → log_in self.new ≡ log_in self.old) }
-        ensures fault { L.is_in_order (log_in self.old) → result ≡ Err Refusals.LogFault →
-            MayMake (made (Drops g)) (L.content (log_in self.old)) (L.content (log_in self.new)) }
-        ensures crash { L.is_in_order (log_in self.old) → L.is_honest (log_in self.new) →
-            LeavesAlso (made (Drops g)) (L.content (log_in self.old))
-            (L.may_leave (log_in self.old)) (L.may_leave (log_in self.new)) }
-        ensures order { L.is_in_order (log_in self.old) → L.is_in_order (log_in self.new) }
-        ensures honest { L.is_honest (log_in self.new) → L.is_honest (log_in self.old) }
-        ensures faults { L.fault_count (log_in self.new) ≡ faults_by result (L.fault_count (log_in self.old)) }
+        ensures asks { AsksFor (made (Drops g))
+            (L.moment (log_in self.old)) (L.moment (log_in self.new)) result }
     {
         match self.ledger.may_done(g) {
             Some(refusal) => Err(refusal),
@@ -151,17 +126,11 @@ impl<L: DecisionLog + Drop> Manager<L> {
         ensures ok { OnOk result (book_in self.new ≡ after (book_in self.old) (Decided g outcome)) }
         ensures err { IfErr result (FailsBy (Adds g (voted_yes (book_in self.old) g)) (InDecide g) (book_in self.old) (book_in self.new)) }
         ensures asked { result ≡ Err Refusals.LogFault → AddsRow outcome ((book_in self.old).deal g) }
-        ensures tied { L.is_in_order (log_in self.old) → L.is_honest (log_in self.new) →
-            IsTied (book_in self.old) (L.content (log_in self.old)) → IsTied (book_in self.new) (L.content (log_in self.new)) }
+        ensures tied { (L.moment (log_in self.old)).is_in_order → (L.moment (log_in self.new)).is_honest →
+            IsTied (book_in self.old) (L.moment (log_in self.old)).content → IsTied (book_in self.new) (L.moment (log_in self.new)).content }
         ensures kept { IfErr result (λ n. n ≢ Refusals.LogFault → log_in self.new ≡ log_in self.old) }
-        ensures fault { L.is_in_order (log_in self.old) → result ≡ Err Refusals.LogFault →
-            MayMake (made (Adds g (voted_yes (book_in self.old) g))) (L.content (log_in self.old)) (L.content (log_in self.new)) }
-        ensures crash { L.is_in_order (log_in self.old) → L.is_honest (log_in self.new) →
-            LeavesAlso (made (Adds g (voted_yes (book_in self.old) g))) (L.content (log_in self.old))
-            (L.may_leave (log_in self.old)) (L.may_leave (log_in self.new)) }
-        ensures order { L.is_in_order (log_in self.old) → L.is_in_order (log_in self.new) }
-        ensures honest { L.is_honest (log_in self.new) → L.is_honest (log_in self.old) }
-        ensures faults { L.fault_count (log_in self.new) ≡ faults_by result (L.fault_count (log_in self.old)) }
+        ensures asks { AsksFor (made (Adds g (voted_yes (book_in self.old) g)))
+            (L.moment (log_in self.old)) (L.moment (log_in self.new)) result }
     {
         if self.ledger.transaction(g).adds_row(outcome) {
             self.commit(g)
@@ -182,17 +151,11 @@ impl<L: DecisionLog + Drop> Manager<L> {
         requires yes { ((book_in self.old).deal g).has_yes ≡ Bool.true }
         ensures ok { OnOk result (book_in self.new ≡ after (book_in self.old) (Decided g Outcomes.Commit)) }
         ensures err { IfErr result (FailsBy (Adds g (voted_yes (book_in self.old) g)) (InDecide g) (book_in self.old) (book_in self.new)) }
-        ensures tied { L.is_in_order (log_in self.old) → L.is_honest (log_in self.new) →
-            IsTied (book_in self.old) (L.content (log_in self.old)) → IsTied (book_in self.new) (L.content (log_in self.new)) }
+        ensures tied { (L.moment (log_in self.old)).is_in_order → (L.moment (log_in self.new)).is_honest →
+            IsTied (book_in self.old) (L.moment (log_in self.old)).content → IsTied (book_in self.new) (L.moment (log_in self.new)).content }
         ensures kept { IfErr result (λ n. n ≢ Refusals.LogFault → log_in self.new ≡ log_in self.old) }
-        ensures fault { L.is_in_order (log_in self.old) → result ≡ Err Refusals.LogFault →
-            MayMake (made (Adds g (voted_yes (book_in self.old) g))) (L.content (log_in self.old)) (L.content (log_in self.new)) }
-        ensures crash { L.is_in_order (log_in self.old) → L.is_honest (log_in self.new) →
-            LeavesAlso (made (Adds g (voted_yes (book_in self.old) g))) (L.content (log_in self.old))
-            (L.may_leave (log_in self.old)) (L.may_leave (log_in self.new)) }
-        ensures order { L.is_in_order (log_in self.old) → L.is_in_order (log_in self.new) }
-        ensures honest { L.is_honest (log_in self.new) → L.is_honest (log_in self.old) }
-        ensures faults { L.fault_count (log_in self.new) ≡ faults_by result (L.fault_count (log_in self.old)) }
+        ensures asks { AsksFor (made (Adds g (voted_yes (book_in self.old) g)))
+            (L.moment (log_in self.old)) (L.moment (log_in self.new)) result }
     {
         match self.ledger.prepare_row(g) {
             Err(_) => Err(Refusal::Memory),

@@ -17,7 +17,7 @@ ghost use Rattle.xa_tm.specs.Asked.{FitsRecord, IsAnswerTo, MakesRecord};
 ghost use Rattle.xa_tm.specs.News.{news_by, recording};
 ghost use Rattle.xa_tm.specs.Tied.{MakesOf, made};
 ghost use Rattle.xa_tm.specs.Held.{IsSound, doubt_held};
-ghost use Rattle.xa_tm.specs.Kept.{FailsBy, book_in, faults_by, log_in};
+ghost use Rattle.xa_tm.specs.Kept.{AsksFor, FailsBy, book_in, faults_by, log_in};
 ghost use Rattle.xa_tm.specs.Tied.{IsTied};
 
 use crate::change::Change;
@@ -46,20 +46,15 @@ impl<L: DecisionLog + Drop> Manager<L> {
         ensures err { (book_in self.old).up ≡ Bool.true → IfErr result (λ n. (c : KnownCall) → accepted (map_call name_of call.now) ≡ Some c →
             FailsBy (doubt_of (record_of c (map_answer name_of answer.now))) (InHear (line thread rm)) (book_in self.old) (book_in self.new) n) }
         ensures asked { result ≡ Err Refusals.LogFault → MakesRecord (map_call name_of call.now) (map_answer name_of answer.now) }
-        ensures tied { L.is_in_order (log_in self.old) → L.is_honest (log_in self.new) →
-            IsTied (book_in self.old) (L.content (log_in self.old)) → IsTied (book_in self.new) (L.content (log_in self.new)) }
+        ensures tied { (L.moment (log_in self.old)).is_in_order → (L.moment (log_in self.new)).is_honest →
+            IsTied (book_in self.old) (L.moment (log_in self.old)).content → IsTied (book_in self.new) (L.moment (log_in self.new)).content }
         ensures kept { IfErr result (λ n. n ≢ Refusals.LogFault → log_in self.new ≡ log_in self.old) }
-        ensures fault { L.is_in_order (log_in self.old) → result ≡ Err Refusals.LogFault →
-            (c : KnownCall) → accepted (map_call name_of call.now) ≡ Some c →
-            MayMake (made (doubt_of (record_of c (map_answer name_of answer.now))))
-            (L.content (log_in self.old)) (L.content (log_in self.new)) }
-        ensures crash { L.is_in_order (log_in self.old) → L.is_honest (log_in self.new) →
-            (c : KnownCall) → accepted (map_call name_of call.now) ≡ Some c →
-            LeavesAlso (made (doubt_of (record_of c (map_answer name_of answer.now)))) (L.content (log_in self.old))
-            (L.may_leave (log_in self.old)) (L.may_leave (log_in self.new)) }
-        ensures order { L.is_in_order (log_in self.old) → L.is_in_order (log_in self.new) }
-        ensures honest { L.is_honest (log_in self.new) → L.is_honest (log_in self.old) }
-        ensures faults { L.fault_count (log_in self.new) ≡ faults_by result (L.fault_count (log_in self.old)) }
+        ensures asks { (c : KnownCall) → accepted (map_call name_of call.now) ≡ Some c →
+            AsksFor (made (doubt_of (record_of c (map_answer name_of answer.now))))
+            (L.moment (log_in self.old)) (L.moment (log_in self.new)) result }
+        ensures order { (L.moment (log_in self.old)).is_in_order → (L.moment (log_in self.new)).is_in_order }
+        ensures honest { (L.moment (log_in self.new)).is_honest → (L.moment (log_in self.old)).is_honest }
+        ensures faults { (L.moment (log_in self.new)).fault_count ≡ faults_by result (L.moment (log_in self.old)).fault_count }
     {
         if !self.ledger.is_up {
             return Err(Refusal::ManagerDown);
@@ -86,17 +81,11 @@ impl<L: DecisionLog + Drop> Manager<L> {
         ensures err { IfErr result (λ n. (l : Line) (kind : Kind) (code : Code) → news ≡ news_by kind code →
             FailsBy (doubt_of (record_of (on kind b) (Ret code))) (InHear l) (book_in self.old) (book_in self.new) n) }
         ensures asked { result ≡ Err Refusals.LogFault → IsSome news.how }
-        ensures tied { L.is_in_order (log_in self.old) → L.is_honest (log_in self.new) → (l : Line) (kind : Kind) (code : Code) → news ≡ news_by kind code →
-            IsTied (book_in self.old) (L.content (log_in self.old)) → IsTied (book_in self.new) (L.content (log_in self.new)) }
+        ensures tied { (L.moment (log_in self.old)).is_in_order → (L.moment (log_in self.new)).is_honest → (l : Line) (kind : Kind) (code : Code) → news ≡ news_by kind code →
+            IsTied (book_in self.old) (L.moment (log_in self.old)).content → IsTied (book_in self.new) (L.moment (log_in self.new)).content }
         ensures kept { IfErr result (λ n. n ≢ Refusals.LogFault → log_in self.new ≡ log_in self.old) }
-        ensures fault { L.is_in_order (log_in self.old) → result ≡ Err Refusals.LogFault →
-            MayMake (made (recording b news.how)) (L.content (log_in self.old)) (L.content (log_in self.new)) }
-        ensures crash { L.is_in_order (log_in self.old) → L.is_honest (log_in self.new) →
-            LeavesAlso (made (recording b news.how)) (L.content (log_in self.old))
-            (L.may_leave (log_in self.old)) (L.may_leave (log_in self.new)) }
-        ensures order { L.is_in_order (log_in self.old) → L.is_in_order (log_in self.new) }
-        ensures honest { L.is_honest (log_in self.new) → L.is_honest (log_in self.old) }
-        ensures faults { L.fault_count (log_in self.new) ≡ faults_by result (L.fault_count (log_in self.old)) }
+        ensures asks { AsksFor (made (recording b news.how))
+            (L.moment (log_in self.old)) (L.moment (log_in self.new)) result }
     {
         match self.ledger.reserve(b) {
             Err(_) => Err(Refusal::Memory),
@@ -117,15 +106,15 @@ impl<L: DecisionLog + Drop> Manager<L> {
 /// Records in the log how a branch ended by itself, where it did.
 fn note_end<L: DecisionLog>(log: &mut L, b: Branch, how: Option<How>) -> Result<(), LogFault>
     requires { IsSome how → FitsRow b.gtrid }
-    ensures ok { L.is_in_order log.old → L.is_honest log.new →
-        OnOk result (MakesOf (recording b how) (L.content log.old) (L.content log.new)) }
-    ensures err { L.is_in_order log.old → OnErr result (MayMake (made (recording b how)) (L.content log.old) (L.content log.new)) }
+    ensures ok { (L.moment log.old).is_in_order → (L.moment log.new).is_honest →
+        OnOk result (MakesOf (recording b how) (L.moment log.old).content (L.moment log.new).content) }
+    ensures err { (L.moment log.old).is_in_order → OnErr result (MayMake (made (recording b how)) (L.moment log.old).content (L.moment log.new).content) }
     ensures asked { OnErr result (IsSome how) }
-    ensures crash { L.is_in_order log.old → L.is_honest log.new →
-        LeavesAlso (made (recording b how)) (L.content log.old) (L.may_leave log.old) (L.may_leave log.new) }
-    ensures order { L.is_in_order log.old → L.is_in_order log.new }
-    ensures honest { L.is_honest log.new → L.is_honest log.old }
-    ensures faults { L.fault_count log.new ≡ faults_after result (L.fault_count log.old) }
+    ensures crash { (L.moment log.old).is_in_order → (L.moment log.new).is_honest →
+        LeavesAlso (made (recording b how)) (L.moment log.old).content (L.moment log.old).may_leave (L.moment log.new).may_leave }
+    ensures order { (L.moment log.old).is_in_order → (L.moment log.new).is_in_order }
+    ensures honest { (L.moment log.new).is_honest → (L.moment log.old).is_honest }
+    ensures faults { (L.moment log.new).fault_count ≡ faults_after result (L.moment log.old).fault_count }
 {
     match how {
         Some(how) => log.note_heuristic(b, how),

@@ -38,28 +38,28 @@ impl<L: DecisionLog + Drop> Manager<L> {
     ///
     /// The rows are read, and all room for them is made, before the incarnation is raised.
     pub fn new(alloc: Global, threads: u32, rms: u32, mut log: L) -> Result<Manager<L>, StartFault>
-        ensures book { L.is_in_order log → IfOk result (λ m. L.is_honest (log_in m) →
-            IsSomeAnd (L.content (log_in m)) (λ c. book_in m ≡ started threads rms c)) }
-        ensures raised { L.is_in_order log → IfOk result (λ m. L.is_honest (log_in m) →
-            Makes bumped (L.content log) (L.content (log_in m))) }
-        ensures tied { L.is_in_order log → IfOk result (λ m. L.is_honest (log_in m) → IsTied (book_in m) (L.content (log_in m))) }
+        ensures book { (L.moment log).is_in_order → IfOk result (λ m. (L.moment (log_in m)).is_honest →
+            IsSomeAnd (L.moment (log_in m)).content (λ c. book_in m ≡ started threads rms c)) }
+        ensures raised { (L.moment log).is_in_order → IfOk result (λ m. (L.moment (log_in m)).is_honest →
+            Makes bumped (L.moment log).content (L.moment (log_in m)).content) }
+        ensures tied { (L.moment log).is_in_order → IfOk result (λ m. (L.moment (log_in m)).is_honest → IsTied (book_in m) (L.moment (log_in m)).content) }
         ensures sound { IfOk result (λ m. IsSound (book_in m)) }
         ensures old { IfOk result (λ m. IsOld (book_in m)) }
         ensures start { IfOk result (λ m. (o : Origin) → BeginsWith threads rms m o → book_in m ≡ book_of (From o)) }
         ensures apart { IfOk result (λ m. ApartRows (rows_begun m)) }
         ensures room { IfOk result (λ m. HasRoomForRun (book_in m)) }
-        ensures order { L.is_in_order log → IfOk result (λ m. L.is_in_order (log_in m)) }
-        ensures honest { IfOk result (λ m. L.is_honest (log_in m) → L.is_honest log) }
-        ensures faults { IfOk result (λ m. L.fault_count (log_in m) ≡ L.fault_count log) }
-        ensures past { L.is_in_order log → IfOk result (λ m. L.is_honest (log_in m) →
-            IsSomeAnd (L.content log) IsPast) }
+        ensures order { (L.moment log).is_in_order → IfOk result (λ m. (L.moment (log_in m)).is_in_order) }
+        ensures honest { IfOk result (λ m. (L.moment (log_in m)).is_honest → (L.moment log).is_honest) }
+        ensures faults { IfOk result (λ m. (L.moment (log_in m)).fault_count ≡ (L.moment log).fault_count) }
+        ensures past { (L.moment log).is_in_order → IfOk result (λ m. (L.moment (log_in m)).is_honest →
+            IsSomeAnd (L.moment log).content IsPast) }
         ensures log_fault { result ≡ Err StartFault.Log →
-            ((left : L) × ((L.fault_count left ≡ one_more_fault (L.fault_count log)) ⊎
-            ((L.fault_count left ≡ L.fault_count log) × (L.is_in_order log → L.is_honest left →
-            IsSomeAnd (L.content log) (λ c. ¬ IsPast c) × Makes bumped (L.content log) (L.content left))))) }
+            ((left : L) × (((L.moment left).fault_count ≡ one_more_fault (L.moment log).fault_count) ⊎
+            (((L.moment left).fault_count ≡ (L.moment log).fault_count) × ((L.moment log).is_in_order → (L.moment left).is_honest →
+            IsSomeAnd (L.moment log).content (λ c. ¬ IsPast c) × Makes bumped (L.moment log).content (L.moment left).content)))) }
         ensures memory_fault { result ≡ Err StartFault.Memory →
-            ((left : L) × ((L.fault_count left ≡ L.fault_count log) ×
-            (L.is_in_order log → L.is_honest left → Makes unchanged (L.content log) (L.content left)))) }
+            ((left : L) × (((L.moment left).fault_count ≡ (L.moment log).fault_count) ×
+            ((L.moment log).is_in_order → (L.moment left).is_honest → Makes unchanged (L.moment log).content (L.moment left).content))) }
     {
         match log.rows() {
             Err(_) => Err(StartFault::Log),

@@ -58,11 +58,11 @@ no_rows i = None
 -- with, and these rows of jobs
 pub record Logs {L : Type 0} (g : DecisionLog.Ghosts L) (incarnation : ℕ) (rows : ℕ → Option (KeySet branch_cmp))
     (first log : L) : Type 0 where
-  pub order : g.is_in_order first → g.is_in_order log
-  pub honest : g.is_honest log → g.is_honest first
-  pub rows_are : g.is_in_order first → g.is_honest log
-      → IsSomeAnd (g.content first) (λ before. (incarnation ≡ before.incarnation + 1)
-      × IsSomeAnd (g.content log) (λ after. HasRows incarnation rows (bumped before) after))
+  pub order : (g.moment first).is_in_order → (g.moment log).is_in_order
+  pub honest : (g.moment log).is_honest → (g.moment first).is_honest
+  pub rows_are : (g.moment first).is_in_order → (g.moment log).is_honest
+      → IsSomeAnd (g.moment first).content (λ before. (incarnation ≡ before.incarnation + 1)
+      × IsSomeAnd (g.moment log).content (λ after. HasRows incarnation rows (bumped before) after))
 
 -- the log of a journal has come to have the rows of the jobs that the journal notes as written
 abbrev pub HasWritten : {L : Type 0} → DecisionLog.Ghosts L → Jobs → (incarnation : ℕ) → Journal L → Type 0

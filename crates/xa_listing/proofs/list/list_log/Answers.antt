@@ -4,7 +4,7 @@ use Rattle.xa_listing.proofs.list.list_log.Goals as goal
 
 pub returns-clause-prints : goal.returns-clause-prints
 returns-clause-prints g c = λ order honest.
-    let log = g.L.DecisionLog.content c.args.log.now in
+    let log = (g.L.DecisionLog.moment c.args.log.now).content in
     let was : c.rows.result ≡ Ok c.in_ok-rows.rows = search rules in
     prints log (g.W.Write.contents c.args.out.now) (g.W.Write.contents c.write_text.new.out) c.as_bytes.result.now c.write_text.result
     (told log c.rows.result c.in_ok-rows.rows c.as_bytes.result.now was (λ content is. g.met.L.DecisionLog.own c.args.log.now content order is)
@@ -14,7 +14,7 @@ returns-clause-prints g c = λ order honest.
 
 pub returns-clause-begun : goal.returns-clause-begun
 returns-clause-begun g c = λ order honest.
-    let log = g.L.DecisionLog.content c.args.log.now in
+    let log = (g.L.DecisionLog.moment c.args.log.now).content in
     let was : c.rows.result ≡ Ok c.in_ok-rows.rows = search rules in
     begins log (g.W.Write.contents c.args.out.now) (g.W.Write.contents c.write_text.new.out) c.as_bytes.result.now c.write_text.result
     (told log c.rows.result c.in_ok-rows.rows c.as_bytes.result.now was (λ content is. g.met.L.DecisionLog.own c.args.log.now content order is)

@@ -4,4 +4,4 @@ use Rattle.xa_log.proofs.commands.run_commands.Given as goal
 
 abbrev pub invariant-loop-command : goal.invariant-loop-command
 invariant-loop-command g l =
-    HasRun g.L.DecisionLog.is_in_order g.L.DecisionLog.is_honest g.L.DecisionLog.content g.L.DecisionLog.fault_count l.fn.log l.log (take l.command-index l.fn.commands) l.told.items
+    HasRun g.L.DecisionLog.moment l.fn.log l.log (take l.command-index l.fn.commands) l.told.items

@@ -30,7 +30,7 @@ returns-in_ok-participants-in-Participants-clause-told g c order honest =
 
 pub returns-in_ok-note_heuristic-in-NoteHeuristic-clause-told : goal.returns-in_ok-note_heuristic-in-NoteHeuristic-clause-told
 returns-in_ok-note_heuristic-in-NoteHeuristic-clause-told g c order honest =
-    some_and _ _ _ (λ content is. subst (λ call. Tells content call told.Noted) (sym c.in-NoteHeuristic.is) refl) (c.in_ok-note_heuristic-in-NoteHeuristic.ensures.ok order honest)
+    some_and _ _ _ (λ content is. subst (λ call. Tells content call told.Noted) (sym c.in-NoteHeuristic.is) refl) (c.in_ok-note_heuristic-in-NoteHeuristic.ensures.changes.ok order honest)
 
 pub returns-in_ok-rows-in-Rows-clause-told : goal.returns-in_ok-rows-in-Rows-clause-told
 returns-in_ok-rows-in-Rows-clause-told g c order honest =

@@ -1,7 +1,8 @@
+use Rattle.std.proofs.Common.{rules}
 use Rattle.sqlite.specs.Held.{state}
-use Rattle.xa_log.proofs.Lasting.{lasts_reading}
+use Rattle.xa_log.proofs.Lasting.{log_reads}
 use Rattle.xa_log.proofs.sql_log.SqlLogDecisionLog.contains.Goals as goal
 
-pub returns-clause-order : goal.returns-clause-order
-returns-clause-order g c =
-    lasts_reading (state g.S.Store c.args.self.now.conn) (state g.S.Store c.find_decision-found.new.conn) c.find_decision-found.ensures.reads
+pub returns-clause-reads : goal.returns-clause-reads
+returns-clause-reads g c =
+    log_reads (state g.S.Store c.args.self.now.conn) (state g.S.Store c.find_decision-found.new.conn) _ _ _ c.find_decision-found.ensures.reads (search rules) (search rules)

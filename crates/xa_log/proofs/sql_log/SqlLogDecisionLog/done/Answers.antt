@@ -1,8 +1,9 @@
+use Rattle.std.proofs.Common.{rules}
 use Rattle.sqlite.specs.Held.{state}
 use Rattle.xa_log.specs.Content.{without_decision}
-use Rattle.xa_log.proofs.Lasting.{lasts_changing}
+use Rattle.xa_log.proofs.Lasting.{log_changes}
 use Rattle.xa_log.proofs.sql_log.SqlLogDecisionLog.done.Goals as goal
 
-pub returns-clause-order : goal.returns-clause-order
-returns-clause-order g c =
-    lasts_changing (without_decision c.args.g) (state g.S.Store c.args.self.now.conn) (state g.S.Store c.done-found.new.conn) c.done-found.ensures.changes
+pub returns-clause-changes : goal.returns-clause-changes
+returns-clause-changes g c =
+    log_changes (without_decision c.args.g) (state g.S.Store c.args.self.now.conn) (state g.S.Store c.done-found.new.conn) _ _ _ c.done-found.ensures.changes (search rules) (search rules)

@@ -7,6 +7,7 @@ use Rattle.xa_base.specs.declared.refusal.Refusal.{Refusal}
 use Rattle.xa_base.specs.declared.step.Step.TheVariants as Steps
 use Rattle.xa_system.specs.Parts.{Sees, sees}
 use Rattle.xa_system.proofs.Managing.{only_memory, abandon_did, manager_refused, sound_book}
+use Rattle.xa_system.proofs.Logging.{log_called}
 use Rattle.xa_system.proofs.parts.Parts.abandon.Goals as goal
 
 pub abandon-requires : goal.abandon-requires
@@ -18,7 +19,7 @@ pub returns-in-Ok : goal.returns-in-Ok
 returns-in-Ok g c =
     let see : Sees g.row.R.Denot g.row.L.Denot = sees g.R.ResourceManager.held_of g.R.ResourceManager.scan_of g.R.ResourceManager.in_doubt_of g.L.DecisionLog in
     abandon_did see c.args.self.now c.abandon.new.self c.args.gtrid c.new.result c.new.ensures c.in-Ok.ensures.allowed c.in-Ok.ensures.ok
-    (record { order = c.in-Ok.ensures.order; honest = c.in-Ok.ensures.honest; tied = c.in-Ok.ensures.tied; faults = λ o h t. c.in-Ok.ensures.faults })
+    (log_called see.logs _ _ c.args.self.now.manager c.abandon.new.self c.in-Ok.ensures.asks c.in-Ok.ensures.tied)
 
 pub returns-in-Err : goal.returns-in-Err
 returns-in-Err g c =

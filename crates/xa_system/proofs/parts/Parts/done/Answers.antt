@@ -7,6 +7,7 @@ use Rattle.xa_base.specs.declared.refusal.Refusal.{Refusal}
 use Rattle.xa_system.specs.Parts.{Sees, sees}
 use Rattle.xa_system.proofs.Deciding.{manager_undone, up_where}
 use Rattle.xa_system.proofs.Managing.{done_did, sound_book}
+use Rattle.xa_system.proofs.Logging.{log_called, log_undone}
 use Rattle.xa_tm.specs.Book.{Doubt.Drops}
 use Rattle.xa_system.proofs.parts.Parts.done.Goals as goal
 
@@ -21,7 +22,7 @@ returns-in-Ok g c =
     let see : Sees g.row.R.Denot g.row.L.Denot = sees g.R.ResourceManager.held_of g.R.ResourceManager.scan_of g.R.ResourceManager.in_doubt_of g.L.DecisionLog in
     let p = c.args.self.now in
     done_did see p c.done.new.self c.args.gtrid c.new.result c.new.ensures c.in-Ok.ensures.allowed c.in-Ok.ensures.ok
-    (record { order = c.in-Ok.ensures.order; honest = c.in-Ok.ensures.honest; tied = c.in-Ok.ensures.tied; faults = λ o h t. c.in-Ok.ensures.faults })
+    (log_called see.logs _ _ p.manager c.done.new.self c.in-Ok.ensures.asks c.in-Ok.ensures.tied)
 
 pub returns-in-Err : goal.returns-in-Err
 returns-in-Err g c =
@@ -30,4 +31,4 @@ returns-in-Err g c =
     manager_undone see {A = Unit {0}} (Steps.Done c.args.gtrid) (InDone c.args.gtrid) (Drops c.args.gtrid) (made (Drops c.args.gtrid)) p c.in-Err.refusal c.undone.new.sites c.undone.new.lines c.done.new.self c.undone.result tt tt (λ tr. refl) (λ tr. tt) refl
     (λ tr. up_where tr (Steps.Done c.args.gtrid) refl) (λ tr at. refl) (λ tr at free e. tt) c.undone.ensures.reply c.in-Err.ensures.refused (λ free. inr (c.in-Err.ensures.err free)) c.undone.ensures.failed c.undone.ensures.broken c.undone.ensures.sites_stay c.undone.ensures.lines_stay
     (λ tr d at. refl)
-    (record { called = record { order = c.in-Err.ensures.order; honest = c.in-Err.ensures.honest; tied = c.in-Err.ensures.tied; faults = λ o h t. c.in-Err.ensures.faults }; kept = c.in-Err.ensures.kept; failed = λ is order honest. c.in-Err.ensures.fault order (ap (λ (m : Refusal). let x : Result (Unit {0}) Refusal = Err m in x) is) })
+    (log_undone see.logs c.in-Err.refusal _ p.manager c.done.new.self c.in-Err.ensures.asks c.in-Err.ensures.tied c.in-Err.ensures.kept)

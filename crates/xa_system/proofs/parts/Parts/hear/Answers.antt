@@ -12,6 +12,7 @@ use Rattle.xa_system.specs.Parts.{Sees, sees}
 use Rattle.xa_system.proofs.HearLeads.{book_up, hear_answers, hear_did, hear_fits, hear_found, hear_lacks, hear_limit, hear_nothing, hear_undone, recorded_answer, some_and}
 use Rattle.xa_system.proofs.Managing.{sound_book}
 use Rattle.xa_system.proofs.Standing.{refused_goes, site_read}
+use Rattle.xa_system.proofs.Logging.{log_undone}
 use Rattle.xa_system.proofs.parts.Parts.hear.Goals as goal
 
 pub returns-then-not-has_line : goal.returns-then-not-has_line
@@ -128,4 +129,4 @@ returns-in-Err g c tr stands few =
     let first = sym (ap option_copied c.in-Some.is) ∙ c.front_answer.ensures ∙ ap (λ (l : Traffic). slice_get l.answers.waiting 0) c.line.ensures.value in
     hear_undone see tr p t r stands there none c.in-Some.field-0.now.0 c.in-Some.field-0.now.1 c.in-Err.refusal c.undone.new.sites c.undone.new.lines c.hear.new.self c.undone.result first c.undone.ensures.reply
     (sym (book_up see tr p stands) ∙ up) (c.in-Err.ensures.err up) (λ e. recorded_answer (map_call name_of c.in-Some.field-0.now.0) c.in-Some.field-0.now.1 (c.in-Err.ensures.asked (ap (λ (m : Refusal). let x : Result (Unit {0}) Refusal = Err m in x) e))) c.undone.ensures.failed c.undone.ensures.broken c.undone.ensures.sites_stay c.undone.ensures.lines_stay
-    (λ known is_known. (record { called = record { order = c.in-Err.ensures.order; honest = c.in-Err.ensures.honest; tied = c.in-Err.ensures.tied; faults = λ o h t. c.in-Err.ensures.faults }; kept = c.in-Err.ensures.kept; failed = λ is order honest. c.in-Err.ensures.fault order (ap (λ (m : Refusal). let x : Result (Unit {0}) Refusal = Err m in x) is) known is_known }))
+    (λ known is_known. log_undone see.logs c.in-Err.refusal _ p.manager c.hear.new.self (c.in-Err.ensures.asks known is_known) c.in-Err.ensures.tied c.in-Err.ensures.kept)

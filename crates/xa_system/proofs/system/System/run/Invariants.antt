@@ -13,7 +13,7 @@ invariant-loop-step g l = record {
   start : origin_in (looks g.R.ResourceManager.held_of g.R.ResourceManager.scan_of g.R.ResourceManager.in_doubt_of) l.self
       ≡ origin_in (looks g.R.ResourceManager.held_of g.R.ResourceManager.scan_of g.R.ResourceManager.in_doubt_of) l.fn.self;
   handed : l.self.handed ≡ l.fn.self.handed;
-  honest : g.L.DecisionLog.is_honest l.self.log → g.L.DecisionLog.is_honest l.fn.self.log;
-  faults : g.L.DecisionLog.is_in_order l.fn.self.handed → g.L.DecisionLog.is_honest l.self.log
+  honest : (g.L.DecisionLog.moment l.self.log).is_honest → (g.L.DecisionLog.moment l.fn.self.log).is_honest;
+  faults : (g.L.DecisionLog.moment l.fn.self.handed).is_in_order → (g.L.DecisionLog.moment l.self.log).is_honest
       → FaultsHaveCauses (sees g.R.ResourceManager.held_of g.R.ResourceManager.scan_of g.R.ResourceManager.in_doubt_of g.L.DecisionLog) l.fn.self l.self;
 }

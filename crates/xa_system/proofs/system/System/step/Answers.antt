@@ -47,13 +47,13 @@ returns-clause-start g c =
 pub returns-clause-honest : goal.returns-clause-honest
 returns-clause-honest g c =
     let see : Sees g.row.R.Denot g.row.L.Denot = sees g.R.ResourceManager.held_of g.R.ResourceManager.scan_of g.R.ResourceManager.in_doubt_of g.L.DecisionLog in
-    subst (λ v. see.logs.is_honest (log_in c.step.new.self.manager) → see.logs.is_honest v.log) c.self.view_is
+    subst (λ v. (see.logs.moment (log_in c.step.new.self.manager)).is_honest → (see.logs.moment v.log).is_honest) c.self.view_is
     (honest_before see c.self.inside c.step.new.self c.args.step c.step.result c.self.invariant c.step.ensures (rw c.len.ensures at c.if-len-ge-EVENT_LIMIT.false))
 
 pub returns-clause-faults : goal.returns-clause-faults
 returns-clause-faults g c =
     let see : Sees g.row.R.Denot g.row.L.Denot = sees g.R.ResourceManager.held_of g.R.ResourceManager.scan_of g.R.ResourceManager.in_doubt_of g.L.DecisionLog in
-    subst (λ v. see.logs.is_in_order v.handed → see.logs.is_honest (log_in c.step.new.self.manager) → FaultsHaveCauses see v (seen (record { handed = c.self.inside.handed; parts = c.step.new.self; events = c.push_reserved.new.self }))) c.self.view_is
+    subst (λ v. (see.logs.moment v.handed).is_in_order → (see.logs.moment (log_in c.step.new.self.manager)).is_honest → FaultsHaveCauses see v (seen (record { handed = c.self.inside.handed; parts = c.step.new.self; events = c.push_reserved.new.self }))) c.self.view_is
     (fault_has_cause see c.self.inside c.step.new.self c.push_reserved.new.self c.args.step c.step.result c.split-reply.result.1 c.self.invariant c.step.ensures (ap (λ p. p.1) c.split-reply.ensures) (rw c.len.ensures at c.if-len-ge-EVENT_LIMIT.false) c.push_reserved.ensures.items)
 
 pub returns-clause-handed : goal.returns-clause-handed
@@ -91,5 +91,5 @@ returns-clause-down g c is =
 pub returns-clause-failed : goal.returns-clause-failed
 returns-clause-failed g c is =
     let see : Sees g.row.R.Denot g.row.L.Denot = sees g.R.ResourceManager.held_of g.R.ResourceManager.scan_of g.R.ResourceManager.in_doubt_of g.L.DecisionLog in
-    subst (λ v. see.logs.is_in_order v.handed → see.logs.is_honest (log_in c.step.new.self.manager) → MayHaveFailed (trace_in see.look v) (log_failed (step_of c.args.step)) (see.logs.content v.log) (see.logs.content (log_in c.step.new.self.manager))) c.self.view_is
+    subst (λ v. (see.logs.moment v.handed).is_in_order → (see.logs.moment (log_in c.step.new.self.manager)).is_honest → MayHaveFailed (trace_in see.look v) (log_failed (step_of c.args.step)) (see.logs.moment v.log).content (see.logs.moment (log_in c.step.new.self.manager)).content) c.self.view_is
     (failed_so see c.self.inside c.step.new.self c.args.step c.step.result c.self.invariant c.step.ensures (rw c.len.ensures at c.if-len-ge-EVENT_LIMIT.false) (sym (ap (λ p. p.0) c.split-reply.ensures) ∙ is))

@@ -2,11 +2,12 @@ use Rattle.std.proofs.Common.{inl, inr, refl, sym, ap, ◌∙◌, subst}
 use Rattle.xa_base.specs.declared.step.Outcome.TheVariants as Outcomes
 use Rattle.xa_model.specs.Trace.{Fault.InDecide, Happening.Decided, Happening.Failed}
 use Rattle.xa_log.specs.Content.{committed}
-use Rattle.xa_log.specs.Contract.{LeavesAlso, MayMake}
+use Rattle.xa_log.specs.Contract.{MayMake}
 use Rattle.xa_log.specs.KeySet.{from_list}
 use Rattle.xa_tm.specs.Book.{Book, Doubt.Adds, after, book_after, voted_yes}
 use Rattle.xa_tm.specs.Held.{held, waiting_of}
 use Rattle.xa_tm.specs.Tied.{IsTied}
+use Rattle.xa_tm.proofs.Asking.{adds_no_row, adds_row}
 use Rattle.xa_tm.proofs.Decides.{undecided}
 use Rattle.xa_tm.proofs.Ties.{tied_commit, tied_fault}
 use Rattle.xa_tm.proofs.manager.Manager.commit.Goals as goal
@@ -32,10 +33,10 @@ pub returns-in-Ok-commit-clause-tied : goal.returns-in-Ok-commit-clause-tied
 returns-in-Ok-commit-clause-tied g c = λ order honest tied.
     let k = held c.args.self.now.ledger in
     let none = c.requires.sound.no_row c.args.g c.requires.open.begun c.requires.open.uncommitted in
-    let new = g.L.DecisionLog.content c.commit.new.self in
+    let new = (g.L.DecisionLog.moment c.commit.new.self).content in
     subst (λ b. IsTied b new) (sym (c.commit-in-Ok-commit.ensures ∙ ap (λ b. after b (Decided c.args.g Outcomes.Commit)) c.prepare_row.ensures.book))
-    (tied_commit k c.args.g (from_list c.as_slice.result.now) (g.L.DecisionLog.content c.args.self.now.log) new c.requires.open.up none c.requires.yes
-    (ap from_list c.as_slice.ensures.value ∙ c.in-Ok.ensures.all) (c.in-Ok-commit.ensures.ok order honest) tied)
+    (tied_commit k c.args.g (from_list c.as_slice.result.now) (g.L.DecisionLog.moment c.args.self.now.log).content new c.requires.open.up none c.requires.yes
+    (ap from_list c.as_slice.ensures.value ∙ c.in-Ok.ensures.all) (c.in-Ok-commit.ensures.changes.ok order honest) tied)
 
 pub returns-in-Err-commit-clause-err : goal.returns-in-Err-commit-clause-err
 returns-in-Err-commit-clause-err g c =
@@ -52,23 +53,16 @@ returns-in-Err-commit-clause-tied g c = λ order honest tied.
     let made = c.fail.ensures (InDecide c.args.g) refl
     ∙ ap (λ b. book_after b (Adds c.args.g (waiting_of c.in-Ok.participants)) (Failed (InDecide c.args.g))) c.prepare_row.ensures.book
     ∙ ap (λ w. book_after k (Adds c.args.g w) (Failed (InDecide c.args.g))) c.in-Ok.ensures.all in
-    let old = g.L.DecisionLog.content c.args.self.now.log in
-    let new = g.L.DecisionLog.content c.commit.new.self in
+    let old = (g.L.DecisionLog.moment c.args.self.now.log).content in
+    let new = (g.L.DecisionLog.moment c.commit.new.self).content in
     subst (λ b. IsTied b new) (sym made)
     (tied_fault k (Adds c.args.g (voted_yes k c.args.g)) (InDecide c.args.g) old new c.requires.open.up refl
-    (subst (λ s. MayMake (committed c.args.g s) old new) (ap from_list c.as_slice.ensures.value ∙ c.in-Ok.ensures.all) (c.in-Err-commit.ensures.err order)) tied)
+    (subst (λ s. MayMake (committed c.args.g s) old new) (ap from_list c.as_slice.ensures.value ∙ c.in-Ok.ensures.all) (c.in-Err-commit.ensures.changes.err order)) tied)
 
-pub returns-in-Ok-commit-clause-crash : goal.returns-in-Ok-commit-clause-crash
-returns-in-Ok-commit-clause-crash g c = λ order honest.
-    subst (λ s. LeavesAlso (committed c.args.g s) (g.L.DecisionLog.content c.args.self.now.log) (g.L.DecisionLog.may_leave c.args.self.now.log) (g.L.DecisionLog.may_leave c.commit.new.self))
-    (ap from_list c.as_slice.ensures.value ∙ c.in-Ok.ensures.all) (c.in-Ok-commit.ensures.crash order honest)
+pub returns-in-Ok-commit-clause-asks : goal.returns-in-Ok-commit-clause-asks
+returns-in-Ok-commit-clause-asks g c =
+    adds_row (g.L.DecisionLog.moment c.args.self.now.log) (g.L.DecisionLog.moment c.commit.new.self) c.args.g _ _ _ tt (ap from_list c.as_slice.ensures.value ∙ c.in-Ok.ensures.all) c.in-Ok-commit.ensures.changes
 
-pub returns-in-Err-commit-clause-crash : goal.returns-in-Err-commit-clause-crash
-returns-in-Err-commit-clause-crash g c = λ order honest.
-    subst (λ s. LeavesAlso (committed c.args.g s) (g.L.DecisionLog.content c.args.self.now.log) (g.L.DecisionLog.may_leave c.args.self.now.log) (g.L.DecisionLog.may_leave c.commit.new.self))
-    (ap from_list c.as_slice.ensures.value ∙ c.in-Ok.ensures.all) (c.in-Err-commit.ensures.crash order honest)
-
-pub returns-in-Err-commit-clause-fault : goal.returns-in-Err-commit-clause-fault
-returns-in-Err-commit-clause-fault g c = λ order failed.
-    subst (λ s. MayMake (committed c.args.g s) (g.L.DecisionLog.content c.args.self.now.log) (g.L.DecisionLog.content c.commit.new.self))
-    (ap from_list c.as_slice.ensures.value ∙ c.in-Ok.ensures.all) (c.in-Err-commit.ensures.err order)
+pub returns-in-Err-commit-clause-asks : goal.returns-in-Err-commit-clause-asks
+returns-in-Err-commit-clause-asks g c =
+    adds_no_row {B = Unit {0}} (g.L.DecisionLog.moment c.args.self.now.log) (g.L.DecisionLog.moment c.commit.new.self) c.args.g _ _ _ (ap from_list c.as_slice.ensures.value ∙ c.in-Ok.ensures.all) c.in-Err-commit.ensures.changes

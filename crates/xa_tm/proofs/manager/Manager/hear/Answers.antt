@@ -7,8 +7,7 @@ use Rattle.xa_model.specs.Replies.History.{name_of}
 use Rattle.xa_model.specs.Trace.{Call, Answer, Fault.InHear, Happening.Heard, line}
 use Rattle.xa_tm.specs.Book.{after, doubt_of}
 use Rattle.xa_tm.specs.Held.{held}
-use Rattle.xa_log.specs.Contract.{LeavesAlso, MayMake}
-use Rattle.xa_tm.specs.Kept.{FailsBy}
+use Rattle.xa_tm.specs.Kept.{AsksFor, FailsBy}
 use Rattle.xa_tm.specs.News.{recording}
 use Rattle.xa_tm.specs.Tied.{made}
 use Rattle.xa_tm.specs.declared.news.News.{News}
@@ -50,26 +49,14 @@ returns-in-None-clause-ok g c = λ call is.
     let given : map_answer name_of c.args.answer.now ≡ Ret c.in-Ret.code = ap (map_answer name_of) c.in-Ret.is in
     quiet_code (map_call name_of c.args.call.now) call k l c.in-Ret.code (sym c.in-None.ensures) is ∙ ap (λ a. after k (Heard l call a)) (sym given)
 
-pub returns-in-Some-clause-crash : goal.returns-in-Some-clause-crash
-returns-in-Some-clause-crash g c = λ order honest call is.
+pub returns-in-Some-clause-asks : goal.returns-in-Some-clause-asks
+returns-in-Some-clause-asks g c = λ call is.
     let asked = map_call name_of c.args.call.now in
     let b = c.in-Some.b in
     let code = c.in-Ret.code in
     let given : map_answer name_of c.args.answer.now ≡ Ret code = ap (map_answer name_of) c.in-Ret.is in
     let on = call_on asked b call (sym c.in-Some.ensures) is in
-    subst (λ d. LeavesAlso (made d) (g.L.DecisionLog.content c.args.self.now.log) (g.L.DecisionLog.may_leave c.args.self.now.log) (g.L.DecisionLog.may_leave c.hear_news.new.self.log))
+    subst (λ d. AsksFor (made d) (g.L.DecisionLog.moment c.args.self.now.log) (g.L.DecisionLog.moment c.hear_news.new.self.log) c.hear_news.result)
     (ap (λ (w : News). recording b w.how) (c.of.ensures ∙ on.news code) ∙ sym (recorded_by_news b on.kind code)
     ∙ ap (λ x. doubt_of (record_of x (Ret code))) on.call ∙ ap (λ a. doubt_of (record_of call a)) (sym given))
-    (c.hear_news.ensures.crash order honest)
-
-pub returns-in-Some-clause-fault : goal.returns-in-Some-clause-fault
-returns-in-Some-clause-fault g c = λ order failed call is.
-    let asked = map_call name_of c.args.call.now in
-    let b = c.in-Some.b in
-    let code = c.in-Ret.code in
-    let given : map_answer name_of c.args.answer.now ≡ Ret code = ap (map_answer name_of) c.in-Ret.is in
-    let on = call_on asked b call (sym c.in-Some.ensures) is in
-    subst (λ d. MayMake (made d) (g.L.DecisionLog.content c.args.self.now.log) (g.L.DecisionLog.content c.hear_news.new.self.log))
-    (ap (λ (w : News). recording b w.how) (c.of.ensures ∙ on.news code) ∙ sym (recorded_by_news b on.kind code)
-    ∙ ap (λ x. doubt_of (record_of x (Ret code))) on.call ∙ ap (λ a. doubt_of (record_of call a)) (sym given))
-    (c.hear_news.ensures.fault order failed)
+    c.hear_news.ensures.asks

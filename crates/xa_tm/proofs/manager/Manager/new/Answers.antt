@@ -21,18 +21,18 @@ pub returns-then-can_start-clause-book : goal.returns-then-can_start-clause-book
 returns-then-can_start-clause-book g c = λ order honest.
     let rows = c.in-Ok.rows in
     let i = c.in-Ok-bump.incarnation in
-    let still = c.in-Ok-bump.ensures.honest honest in
+    let still = c.in-Ok-bump.ensures.changes.honest honest in
     let is = in_incarnation c.in-Ok-load.ledger i c.args.threads c.args.rms (loaded rows.decisions.items rows.participants.items) (length rows.decisions.items) (ended_among rows.heuristics.items) (length rows.heuristics.items) c.in-Ok-load.ensures in
-    let new = g.L.DecisionLog.content c.bump.new.self in
+    let new = (g.L.DecisionLog.moment c.bump.new.self).content in
     subst (λ k. IsSomeAnd new (λ c'. k ≡ started c.args.threads c.args.rms c')) (sym is)
-    (started_over c.args.threads c.args.rms i rows.decisions.items rows.participants.items rows.heuristics.items (g.L.DecisionLog.content c.args.log) (g.L.DecisionLog.content c.rows.new.self) new
-    (c.in-Ok.ensures.decisions order still) (c.in-Ok.ensures.participants order still) (c.in-Ok.ensures.heuristics order still) (c.in-Ok.ensures.ok order still)
-    (c.in-Ok-bump.ensures.ok (c.in-Ok.ensures.order order) honest) (c.in-Ok-bump.ensures.answer (c.in-Ok.ensures.order order) honest)
+    (started_over c.args.threads c.args.rms i rows.decisions.items rows.participants.items rows.heuristics.items (g.L.DecisionLog.moment c.args.log).content (g.L.DecisionLog.moment c.rows.new.self).content new
+    (c.in-Ok.ensures.decisions order still) (c.in-Ok.ensures.participants order still) (c.in-Ok.ensures.heuristics order still) (c.in-Ok.ensures.reads.ok order still)
+    (c.in-Ok-bump.ensures.changes.ok (c.in-Ok.ensures.reads.order order) honest) (c.in-Ok-bump.ensures.answer (c.in-Ok.ensures.reads.order order) honest)
     (λ content is. g.met.L.DecisionLog.own c.args.log content order is))
 
 pub returns-then-can_start-clause-tied : goal.returns-then-can_start-clause-tied
 returns-then-can_start-clause-tied g c = λ order honest.
-    start_tied c.args.threads c.args.rms _ (g.L.DecisionLog.content c.bump.new.self) (returns-then-can_start-clause-book g c order honest)
+    start_tied c.args.threads c.args.rms _ (g.L.DecisionLog.moment c.bump.new.self).content (returns-then-can_start-clause-book g c order honest)
 
 pub returns-then-can_start-clause-sound : goal.returns-then-can_start-clause-sound
 returns-then-can_start-clause-sound g c =
@@ -76,32 +76,32 @@ returns-then-can_start-clause-room g c =
 -- ** the faults
 
 pub returns-in-Err-clause-log_fault : goal.returns-in-Err-clause-log_fault
-returns-in-Err-clause-log_fault g c = λ is. (c.rows.new.self, inl c.in-Err.ensures.faults)
+returns-in-Err-clause-log_fault g c = λ is. (c.rows.new.self, inl c.in-Err.ensures.reads.faults)
 
 pub returns-in-Err-load-clause-memory_fault : goal.returns-in-Err-load-clause-memory_fault
-returns-in-Err-load-clause-memory_fault g c = λ is. (c.rows.new.self, (c.in-Ok.ensures.faults, λ order honest. c.in-Ok.ensures.ok order honest))
+returns-in-Err-load-clause-memory_fault g c = λ is. (c.rows.new.self, (c.in-Ok.ensures.reads.faults, λ order honest. c.in-Ok.ensures.reads.ok order honest))
 
 pub returns-in-Err-bump-clause-log_fault : goal.returns-in-Err-bump-clause-log_fault
-returns-in-Err-bump-clause-log_fault g c = λ is. (c.bump.new.self, inl (c.in-Err-bump.ensures.faults ∙ ap one_more_fault c.in-Ok.ensures.faults))
+returns-in-Err-bump-clause-log_fault g c = λ is. (c.bump.new.self, inl (c.in-Err-bump.ensures.changes.faults ∙ ap one_more_fault c.in-Ok.ensures.reads.faults))
 
 pub returns-else-can_start-clause-log_fault : goal.returns-else-can_start-clause-log_fault
 returns-else-can_start-clause-log_fault g c = λ is. (
   c.bump.new.self,
   inr (
-    c.in-Ok-bump.ensures.faults ∙ c.in-Ok.ensures.faults,
+    c.in-Ok-bump.ensures.changes.faults ∙ c.in-Ok.ensures.reads.faults,
     λ order honest.
         let rows = c.in-Ok.rows in
         let i = c.in-Ok-bump.incarnation in
-        let still = c.in-Ok-bump.ensures.honest honest in
-        let mid = g.L.DecisionLog.content c.rows.new.self in
-        let kept = c.in-Ok.ensures.ok order still in (
-          not_past i rows.decisions.items rows.heuristics.items (g.L.DecisionLog.content c.args.log) mid
+        let still = c.in-Ok-bump.ensures.changes.honest honest in
+        let mid = (g.L.DecisionLog.moment c.rows.new.self).content in
+        let kept = c.in-Ok.ensures.reads.ok order still in (
+          not_past i rows.decisions.items rows.heuristics.items (g.L.DecisionLog.moment c.args.log).content mid
               (c.in-Ok.ensures.decisions order still) (c.in-Ok.ensures.heuristics order still) kept
-              (c.in-Ok-bump.ensures.answer (c.in-Ok.ensures.order order) honest)
+              (c.in-Ok-bump.ensures.answer (c.in-Ok.ensures.reads.order order) honest)
               (λ content is. g.met.L.DecisionLog.fits c.args.log content order is)
               (sym c.can_start.ensures ∙ c.if-can_start.false),
-          raised_over c.args.threads c.args.rms i rows.decisions.items rows.participants.items rows.heuristics.items (g.L.DecisionLog.content c.args.log) mid (g.L.DecisionLog.content c.bump.new.self)
-              kept (c.in-Ok-bump.ensures.ok (c.in-Ok.ensures.order order) honest),
+          raised_over c.args.threads c.args.rms i rows.decisions.items rows.participants.items rows.heuristics.items (g.L.DecisionLog.moment c.args.log).content mid (g.L.DecisionLog.moment c.bump.new.self).content
+              kept (c.in-Ok-bump.ensures.changes.ok (c.in-Ok.ensures.reads.order order) honest),
         ),
   ),
 )
@@ -110,8 +110,8 @@ pub returns-then-can_start-clause-past : goal.returns-then-can_start-clause-past
 returns-then-can_start-clause-past g c = λ order honest.
     let rows = c.in-Ok.rows in
     let i = c.in-Ok-bump.incarnation in
-    let still = c.in-Ok-bump.ensures.honest honest in
-    past_of c.args.threads c.args.rms _ (g.L.DecisionLog.content c.args.log) (g.L.DecisionLog.content c.bump.new.self)
-    (raised_over c.args.threads c.args.rms i rows.decisions.items rows.participants.items rows.heuristics.items (g.L.DecisionLog.content c.args.log) (g.L.DecisionLog.content c.rows.new.self) (g.L.DecisionLog.content c.bump.new.self)
-    (c.in-Ok.ensures.ok order still) (c.in-Ok-bump.ensures.ok (c.in-Ok.ensures.order order) honest))
+    let still = c.in-Ok-bump.ensures.changes.honest honest in
+    past_of c.args.threads c.args.rms _ (g.L.DecisionLog.moment c.args.log).content (g.L.DecisionLog.moment c.bump.new.self).content
+    (raised_over c.args.threads c.args.rms i rows.decisions.items rows.participants.items rows.heuristics.items (g.L.DecisionLog.moment c.args.log).content (g.L.DecisionLog.moment c.rows.new.self).content (g.L.DecisionLog.moment c.bump.new.self).content
+    (c.in-Ok.ensures.reads.ok order still) (c.in-Ok-bump.ensures.changes.ok (c.in-Ok.ensures.reads.order order) honest))
     (returns-then-can_start-clause-book g c order honest) (returns-then-can_start-clause-old g c)

@@ -19,8 +19,8 @@ use Rattle.xa_log.specs.Contract.{AllFit, FitsRow}
 use Rattle.xa_log.specs.Rows.{IsDecisionRow, IsHeuristicRow, IsLog, branch_in, content_of, gtrid_in, how_in, is_branch, is_of, participants_in}
 use Rattle.xa_log.specs.Sql.{IsOrderly, MayLeave, content_in}
 
-pub settled_content : (s : State) → ((db : Trees) → IsTrue s.is_open → s.may_leave db → db ≡ s.committed.trees) → (c d : Content) → IsOrderly s → content_in s ≡ Some c → MayLeave s d → d ≡ c
-settled_content s settled c d order is left = elim (cases_Bool s.is_open) [
+pub durable_content : (s : State) → ((db : Trees) → IsTrue s.is_open → s.may_leave db → db ≡ s.committed.trees) → (c d : Content) → IsOrderly s → content_in s ≡ Some c → MayLeave s d → d ≡ c
+durable_content s settled c d order is left = elim (cases_Bool s.is_open) [
   | inl is_open ↦ (
       let same : Some (content_of s.now.trees) ≡ Some c = sym (rw is_open refl) ∙ is in
       let one : content_of s.now.trees ≡ c = cc in
