@@ -1,5 +1,5 @@
 -- What the queries of whole tables answer, as lists of the content.
-use Rattle.std.proofs.Common.{◌≡◌, inl, inr, ℕ, List, [], ◌∷◌, ◌++◌, map, reverse, filter, Bool, true, false, ◌&&◌, cond, Option, Some, None, is_some, IsSomeAnd, refl, sym, ap, subst, ◌∙◌, is_eq, Ordering, Less}
+use Rattle.std.proofs.Common.{◌≡◌, inl, inr, List, [], ◌∷◌, ◌++◌, map, reverse, true, ◌&&◌, cond, Some, None, is_some, IsSomeAnd, refl, sym, ap, subst, ◌∙◌, is_eq, Less}
 use Rattle.std.specs.Ordering.{eq_by_cmp, ordering_then}
 use Rattle.std.specs.Cmp.{tied_itself}
 use Rattle.std.specs.List.{AllByRecursion}

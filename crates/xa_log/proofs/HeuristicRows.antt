@@ -1,5 +1,5 @@
 -- The statements on the rows of heuristic ends, from their texts to the content of the log.
-use Rattle.std.proofs.Common.{◌≡◌, inl, inr, ℕ, ℤ, pos, List, [], ◌∷◌, map, filter, Bool, true, false, ◌&&◌, Option, Some, None, Ok, IsTrue, IsSomeAnd, is_some, slice_get, unwrap_or, refl, sym, ap, subst, ◌∙◌, is_eq, Ordering, Less, Equal, Greater, nat_cmp, ◌≤◌, w32, w64, to_z, of_z}
+use Rattle.std.proofs.Common.{◌≡◌, inl, inr, ℕ, ℤ, pos, List, [], ◌∷◌, map, filter, true, false, ◌&&◌, Some, None, Ok, IsTrue, IsSomeAnd, is_some, slice_get, unwrap_or, refl, sym, ap, subst, ◌∙◌, is_eq, Ordering, Less, Equal, Greater, nat_cmp, ◌≤◌, w32, w64, to_z, of_z}
 use Rattle.std.specs.Ordering.{ordering_then, match_ordering}
 use Rattle.std.specs.Cmp.{tied_itself}
 use Rattle.std.specs.List.{AllByRecursion, list_all}

@@ -144,7 +144,8 @@ pub trait DecisionLog {
 
     /// While the log holds something, a crash leaves just that.
     ghost durable: { (log : Self) (c d : Content) →
-        (moment log).is_in_order → (moment log).content ≡ Some c → (moment log).may_leave d → d ≡ c };
+        (moment log).is_in_order → (moment log).content ≡ Some c → (moment log).may_leave d →
+        d ≡ c };
 
     /// The participants of a transaction are branches of it.
     ghost own: { (log : Self) (c : Content) →

@@ -1,19 +1,15 @@
 //! The rows of decisions and of their participants.
-ghost use Rattle.std.specs.Prelude.{map, ◌≡◌, ◌≤◌, ℕ, pos, true, false, if◌then◌else◌, None, Some, IsSomeAnd, IsTrue, IfOk, OnOk, OnErr, is_some, IfErr, ◌≢◌};
+ghost use Rattle.std.specs.Prelude.{map, ◌≡◌, ◌≤◌, true, false, if◌then◌else◌, Some, IsSomeAnd, IsTrue, IfOk, OnOk, IfErr, ◌≢◌};
 ghost use Rattle.std.specs.List.{AllByRecursion};
-ghost use Rattle.std.specs.FinMap.{contains_key, get};
+ghost use Rattle.std.specs.FinMap.{contains_key};
 ghost use Rattle.xa_log.specs.KeySet.{empty, insert, from_list, items, KeySet};
 ghost use Rattle.sqlite.specs.State.{HasCleanDisk, KeepsCommit, Survives};
 ghost use Rattle.sqlite.specs.Held.{state};
-ghost use Rattle.sqlite.specs.Given.{IsPlain};
-ghost use Rattle.sqlite.specs.Listing.{understood};
-ghost use Rattle.sqlite.specs.Values.{bound};
 ghost use Rattle.xa_base.specs.Branch.{branch_cmp};
-ghost use Rattle.xa_log.specs.Tables.{log_schema};
 ghost use Rattle.xa_log.specs.Contract.{Makes, FitsRow};
-ghost use Rattle.xa_log.specs.Content.{Content, last_number, committed, participants_of, without_decision};
-ghost use Rattle.xa_log.specs.Rows.{content_of, old_content_of, participant_from, IsOldLog};
-ghost use Rattle.xa_log.specs.Sql.{IsOrderly, content_in, OnlyReads, MayChange, Rests, Answers, RunsFrom, LeavesBy, HasWritten, MayBegin, Lacks, IsUndone, IsNewLog, AreNewTrees, IsOldReady, IsReadyWith};
+ghost use Rattle.xa_log.specs.Content.{Content, committed, participants_of, without_decision};
+ghost use Rattle.xa_log.specs.Rows.{content_of, participant_from};
+ghost use Rattle.xa_log.specs.Sql.{IsOrderly, content_in, OnlyReads, MayChange, HasWritten, MayBegin, Lacks};
 ghost use Rattle.xa_log.specs.declared.log_fault.LogFault.{LogFault};
 
 use crate::statements::{ask, run, stored};
@@ -22,6 +18,7 @@ use sqlite::{Alter, Connection, Row, Transaction, params};
 use std::collections::BTreeSet;
 use xa_base::{Branch, Gtrid};
 
+/// Whether a transaction has a decision's row.
 pub(crate) fn find_decision<S: Alter>(conn: &mut Connection<S>, g: Gtrid) -> Result<bool, LogFault>
     requires { FitsRow g }
     ensures reads { OnlyReads (state S.Store conn.old) (state S.Store conn.new) }
@@ -37,7 +34,7 @@ pub(crate) fn find_decision<S: Alter>(conn: &mut Connection<S>, g: Gtrid) -> Res
     Ok(!rows.is_empty())
 }
 
-/// Its participants go with it.
+/// Takes the row of a transaction away. Its participants go with it.
 fn delete_decision<S: Alter>(conn: &mut Connection<S>, g: Gtrid) -> Result<(), LogFault>
     requires { FitsRow g }
     ensures changes { MayChange (without_decision g) (state S.Store conn.old) (state S.Store conn.new) }
@@ -51,7 +48,7 @@ fn delete_decision<S: Alter>(conn: &mut Connection<S>, g: Gtrid) -> Result<(), L
     )
 }
 
-/// The first row of a transaction.
+/// Writes the first row of a transaction, its decision.
 fn insert_decision<S: Alter>(tx: &mut Transaction<'_, S>, g: Gtrid) -> Result<(), LogFault>
     requires { FitsRow g }
     ensures same_reference { tx.new.conn.ghost_name ≡ tx.old.conn.ghost_name }
@@ -69,7 +66,7 @@ fn insert_decision<S: Alter>(tx: &mut Transaction<'_, S>, g: Gtrid) -> Result<()
     Ok(())
 }
 
-/// One more row of a transaction.
+/// Writes one more row of a transaction, a participant.
 fn insert_participant<S: Alter>(tx: &mut Transaction<'_, S>, branch: Branch) -> Result<(), LogFault>
     requires { FitsRow branch.gtrid }
     ensures same_reference { tx.new.conn.ghost_name ≡ tx.old.conn.ghost_name }
@@ -91,7 +88,7 @@ fn insert_participant<S: Alter>(tx: &mut Transaction<'_, S>, branch: Branch) -> 
     Ok(())
 }
 
-/// The rows of all participants.
+/// Writes the rows of all participants.
 fn insert_participants<S: Alter>(
     tx: &mut Transaction<'_, S>,
     g: Gtrid,
@@ -112,7 +109,7 @@ fn insert_participants<S: Alter>(
     Ok(())
 }
 
-/// All rows of a transaction that has none, or none of them.
+/// Writes all rows of a transaction that has none, or none of them.
 fn insert_all<S: Alter>(
     conn: &mut Connection<S>,
     g: Gtrid,

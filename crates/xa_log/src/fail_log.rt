@@ -67,7 +67,7 @@ impl FailLog {
 }
 
 impl DecisionLog for FailLog {
-    ghost use Rattle.std.specs.Prelude.{◌≡◌, Some};
+    ghost use Rattle.std.specs.Prelude.{◌≡◌};
     ghost use Rattle.xa_log.specs.Memory.{held_in, memory_moment, FollowsPlan};
     ghost use Rattle.xa_log.specs.MemoryLaws.{fits_held, leaves_held, own_held};
 

@@ -3,7 +3,7 @@ ghost use Rattle.std.specs.Prelude.{◌≡◌, ◌≢◌, ◌≤◌, ◌+◌, Er
 ghost use Rattle.sqlite.specs.Held.{state};
 ghost use Rattle.sqlite.specs.State.{HasCleanDisk};
 ghost use Rattle.xa_log.specs.Content.{bumped, last_number, with_incarnation};
-ghost use Rattle.xa_log.specs.Contract.{IsStoreFault, Makes};
+ghost use Rattle.xa_log.specs.Contract.{Makes};
 ghost use Rattle.xa_log.specs.Sql.{IsOrderly, MayChange, OnlyReads, content_in};
 ghost use Rattle.xa_log.specs.declared.log_fault.LogFault.{LogFault};
 

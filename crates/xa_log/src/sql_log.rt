@@ -116,7 +116,7 @@ impl<S: Alter + Drop> SqlLog<S> {
 }
 
 impl<S: Alter + Drop> SqlLog<S> {
-    // Does what `adopt` does, and closes the connection where that fails.
+    /// Does what `adopt` does, and closes the connection where that fails.
     fn adopt_or_close(conn: Connection<S>) -> Result<SqlLog<S>, LogFault>
         ensures faults { IfOk result (λ log. log.faults ≡ 0) }
         ensures honest { IfOk result (λ log.
@@ -144,7 +144,7 @@ impl SqlLog<MemStore> {
 }
 
 impl<D: Disk + Drop> SqlLog<FileStore<D>> {
-    // The same over files. A proof that goes from any store to the host's files by way of this one is far smaller.
+    /// The same over files. A proof that goes from any store to the host's files by way of this one is far smaller.
     fn adopt_files(conn: Connection<FileStore<D>>) -> Result<SqlLog<FileStore<D>>, LogFault>
         ensures faults { IfOk result (λ log. log.faults ≡ 0) }
         ensures honest { IfOk result (λ log.
@@ -156,7 +156,7 @@ impl<D: Disk + Drop> SqlLog<FileStore<D>> {
     }
 }
 
-// Opens the file at a path with a journal beside it.
+/// Opens the file at a path with a journal beside it.
 fn connection_to<S: Start>(
     rt: &HostRuntime,
     path: &str,

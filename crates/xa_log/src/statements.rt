@@ -1,19 +1,14 @@
 //! Statements over the tables of a log.
-ghost use Rattle.std.specs.Prelude.{◌≡◌, ◌≤◌, ℕ, pos, true, false, if◌then◌else◌, None, Some, IsSomeAnd, IsTrue, IfOk, IfErr, OnOk, OnErr, is_some};
-ghost use Rattle.std.specs.List.{AllByRecursion};
-ghost use Rattle.std.specs.FinMap.{contains_key, get};
-ghost use Rattle.xa_log.specs.KeySet.{empty, insert, from_list, KeySet};
-ghost use Rattle.sqlite.specs.State.{HasCleanDisk, KeepsCommit, Survives};
+ghost use Rattle.std.specs.Prelude.{◌≡◌, ◌≤◌, pos, if◌then◌else◌, IfOk, IfErr, OnOk, OnErr};
+ghost use Rattle.sqlite.specs.State.{HasCleanDisk};
 ghost use Rattle.sqlite.specs.Held.{state};
 ghost use Rattle.sqlite.specs.Given.{IsPlain};
 ghost use Rattle.sqlite.specs.Listing.{understood};
 ghost use Rattle.sqlite.specs.Values.{bound};
-ghost use Rattle.xa_base.specs.Branch.{branch_cmp};
 ghost use Rattle.xa_log.specs.Tables.{log_schema};
-ghost use Rattle.xa_log.specs.Contract.{FitsRow, IsStoreFault, Makes};
-ghost use Rattle.xa_log.specs.Content.{Content, last_number, committed, without_decision};
-ghost use Rattle.xa_log.specs.Rows.{content_of, old_content_of, IsOldLog};
-ghost use Rattle.xa_log.specs.Sql.{IsOrderly, content_in, OnlyReads, MayChange, Rests, Answers, RunsFrom, LeavesBy, HasWritten, MayBegin, Lacks, IsUndone, IsNewLog, AreNewTrees, IsOldReady, IsReadyWith};
+ghost use Rattle.xa_log.specs.Contract.{IsStoreFault};
+ghost use Rattle.xa_log.specs.Content.{last_number};
+ghost use Rattle.xa_log.specs.Sql.{IsOrderly, OnlyReads, Rests, Answers, RunsFrom, LeavesBy};
 
 use crate::LogFault;
 use sqlite::{Alter, Connection, Error, ErrorCode, Row};

@@ -1,5 +1,5 @@
 //! The tables of a log: made where there is none, and migrated from version 1.
-ghost use Rattle.std.specs.Prelude.{◌≡◌, ◌⊎◌, ℕ, List, pos, true, false, IsTrue, [], ◌∷◌, Err, IfOk, IfErr, OnOk, OnErr};
+ghost use Rattle.std.specs.Prelude.{◌≡◌, ◌⊎◌, ℕ, List, pos, false, IsTrue, [], ◌∷◌, Err, IfOk, IfErr, OnOk, OnErr};
 ghost use Rattle.std.specs.List.{Contains};
 ghost use Rattle.sqlite.specs.declared.types.Value.{Value};
 ghost use Rattle.sqlite.specs.declared.types.Value.TheVariants.{Int};
@@ -9,7 +9,7 @@ ghost use Rattle.sqlite.specs.Held.{state};
 ghost use Rattle.xa_log.specs.Content.{nothing};
 ghost use Rattle.xa_log.specs.Contract.{IsStoreFault};
 ghost use Rattle.xa_log.specs.Rows.{content_of, old_content_of, IsOldLog};
-ghost use Rattle.xa_log.specs.Tables.{no_tables, old_schema, log_schema};
+ghost use Rattle.xa_log.specs.Tables.{old_schema, log_schema};
 ghost use Rattle.xa_log.specs.Sql.{IsOrderly, IsReadyWith, IsUndone, IsNewLog, AreNewTrees, IsOldReady, Rests};
 ghost use Rattle.xa_log.specs.Opened.{IsBlank, HasTables, IsTakeable, IsKnown, HasRow, IsNatural, Names, NamesKnown, RunsInside, LeavesOr, LeavesTables, LeavesSame, IsUntouched};
 
@@ -206,6 +206,7 @@ fn upgrade<S: Alter>(conn: &mut Connection<S>) -> Result<(), LogFault>
     migrate(conn)
 }
 
+/// Which tables the database has.
 fn layout_of<S: Alter>(conn: &Connection<S>) -> Layout
     ensures missing { IsBlank (state S.Store conn.now) → result ≡ Layout.Missing }
     ensures version_1 { (state S.Store conn.now).now.schema ≡ old_schema →

@@ -108,7 +108,8 @@ fn start_manager<L: DecisionLog + Drop>(
 ) -> Result<Manager<L>, NewFault>
     ensures manager { IfOk result (IsStarted threads rms) }
     ensures log { IfOk result (IsStartedOver L.DecisionLog threads rms log) }
-    ensures past { (L.moment log).is_in_order → IfOk result (λ manager. (L.moment (log_in manager)).is_honest →
+    ensures past { (L.moment log).is_in_order →
+        IfOk result (λ manager. (L.moment (log_in manager)).is_honest →
         IsSomeAnd (L.moment log).content IsPast) }
     ensures log_fault { result ≡ Err NewFault.Log → IsToBlame L.DecisionLog log }
     ensures fault { IfErr result (λ e. (e ≡ NewFault.Log) ⊎ (e ≡ NewFault.Memory)) }
@@ -166,9 +167,12 @@ impl<R: ResourceManager + Drop, L: DecisionLog + Drop> System<R, L> {
         ensures only_not_clear { result ≡ Err NewFault.NotClear →
             IsUnclear (looks R.held_of R.scan_of R.in_doubt_of) rms.items }
         ensures handed { IfOk result (λ system. system.handed ≡ log) }
-        ensures honest { IfOk result (λ system. (L.moment system.log).is_honest → (L.moment log).is_honest) }
-        ensures faults { IfOk result (λ system. (L.moment system.log).fault_count ≡ (L.moment log).fault_count) }
-        ensures past { (L.moment log).is_in_order → IfOk result (λ system. (L.moment system.log).is_honest →
+        ensures honest { IfOk result (λ system. (L.moment system.log).is_honest →
+            (L.moment log).is_honest) }
+        ensures faults { IfOk result (λ system. (L.moment system.log).fault_count ≡
+            (L.moment log).fault_count) }
+        ensures past { (L.moment log).is_in_order →
+            IfOk result (λ system. (L.moment system.log).is_honest →
             IsSomeAnd (L.moment log).content IsPast) }
         ensures log_fault { result ≡ Err NewFault.Log → IsToBlame L.DecisionLog log }
         ensures ok { IfOk result (λ system. (system.events ≡ []) × (system.start ≡ rms.items) × (system.rms ≡ rms.items)
@@ -241,7 +245,8 @@ impl<R: ResourceManager + Drop, L: DecisionLog + Drop> System<R, L> {
             (L.moment self.old.log).content (L.moment self.new.log).content }
         ensures handed { self.new.handed ≡ self.old.handed }
         ensures honest { (L.moment self.new.log).is_honest → (L.moment self.old.log).is_honest }
-        ensures faults { (L.moment self.old.handed).is_in_order → (L.moment self.new.log).is_honest →
+        ensures faults { (L.moment self.old.handed).is_in_order →
+            (L.moment self.new.log).is_honest →
             FaultsHaveCauses (sees R.held_of R.scan_of R.in_doubt_of L.DecisionLog) self.old self.new }
         ensures start { origin_in (looks R.held_of R.scan_of R.in_doubt_of) self.new
             ≡ origin_in (looks R.held_of R.scan_of R.in_doubt_of) self.old }
@@ -312,7 +317,8 @@ impl<R: ResourceManager + Drop, L: DecisionLog + Drop> System<R, L> {
         ensures adds { OnOk result (AddsSteps steps.now self.old.events self.new.events) }
         ensures handed { self.new.handed ≡ self.old.handed }
         ensures honest { (L.moment self.new.log).is_honest → (L.moment self.old.log).is_honest }
-        ensures faults { (L.moment self.old.handed).is_in_order → (L.moment self.new.log).is_honest →
+        ensures faults { (L.moment self.old.handed).is_in_order →
+            (L.moment self.new.log).is_honest →
             FaultsHaveCauses (sees R.held_of R.scan_of R.in_doubt_of L.DecisionLog) self.old self.new }
         ensures start { origin_in (looks R.held_of R.scan_of R.in_doubt_of) self.new
             ≡ origin_in (looks R.held_of R.scan_of R.in_doubt_of) self.old }

@@ -37,21 +37,32 @@ impl<L: DecisionLog + Drop> Manager<L> {
         ensures most { IfOk result (λ found. found.incarnation ≤ last_number) }
         ensures found { IfOk result (λ found.
             IsFound (book_in self.old) found.incarnation found.decisions found.heuristics) }
-        ensures tied { (L.moment (log_in self.old)).is_in_order → (L.moment (log_in self.new)).is_honest →
-            IsTied (book_in self.old) (L.moment (log_in self.old)).content → IsTied (book_in self.new) (L.moment (log_in self.new)).content }
+        ensures tied { (L.moment (log_in self.old)).is_in_order →
+            (L.moment (log_in self.new)).is_honest →
+            IsTied (book_in self.old) (L.moment (log_in self.old)).content →
+            IsTied (book_in self.new) (L.moment (log_in self.new)).content }
         ensures kept { IfErr result (λ n. n ≢ Refusals.LogFault → log_in self.new ≡ log_in self.old) }
-        ensures fault { (L.moment (log_in self.old)).is_in_order → (L.moment (log_in self.new)).is_honest → result ≡ Err Refusals.LogFault →
-            MayMake bumped (L.moment (log_in self.old)).content (L.moment (log_in self.new)).content }
-        ensures crash { (L.moment (log_in self.old)).is_in_order → (L.moment (log_in self.new)).is_honest →
+        ensures fault { (L.moment (log_in self.old)).is_in_order →
+            (L.moment (log_in self.new)).is_honest → result ≡ Err Refusals.LogFault →
+            MayMake bumped (L.moment (log_in self.old)).content
+            (L.moment (log_in self.new)).content }
+        ensures crash { (L.moment (log_in self.old)).is_in_order →
+            (L.moment (log_in self.new)).is_honest →
             LeavesAlso bumped (L.moment (log_in self.old)).content
             (L.moment (log_in self.old)).may_leave (L.moment (log_in self.new)).may_leave }
-        ensures order { (L.moment (log_in self.old)).is_in_order → (L.moment (log_in self.new)).is_in_order }
-        ensures honest { (L.moment (log_in self.new)).is_honest → (L.moment (log_in self.old)).is_honest }
-        ensures faults { (L.moment (log_in self.old)).is_in_order → (L.moment (log_in self.new)).is_honest →
+        ensures order { (L.moment (log_in self.old)).is_in_order →
+            (L.moment (log_in self.new)).is_in_order }
+        ensures honest { (L.moment (log_in self.new)).is_honest →
+            (L.moment (log_in self.old)).is_honest }
+        ensures faults { (L.moment (log_in self.old)).is_in_order →
+            (L.moment (log_in self.new)).is_honest →
             IsTied (book_in self.old) (L.moment (log_in self.old)).content →
-            (L.moment (log_in self.new)).fault_count ≡ faults_by result (L.moment (log_in self.old)).fault_count }
-        ensures counted { ((L.moment (log_in self.new)).fault_count ≡ faults_by result (L.moment (log_in self.old)).fault_count) ⊎
-            ((result ≡ Err Refusals.LogFault) × ((L.moment (log_in self.new)).fault_count ≡ (L.moment (log_in self.old)).fault_count)) }
+            (L.moment (log_in self.new)).fault_count ≡
+            faults_by result (L.moment (log_in self.old)).fault_count }
+        ensures counted { ((L.moment (log_in self.new)).fault_count ≡
+            faults_by result (L.moment (log_in self.old)).fault_count) ⊎
+            ((result ≡ Err Refusals.LogFault) × ((L.moment (log_in self.new)).fault_count ≡
+            (L.moment (log_in self.old)).fault_count)) }
     {
         if self.ledger.is_up {
             return Err(Refusal::Busy);
@@ -81,17 +92,21 @@ impl<L: DecisionLog + Drop> Manager<L> {
 
 /// Finds the numbers of rows of a log, and raises its incarnation.
 fn find_and_raise<L: DecisionLog>(log: &mut L) -> Result<Found, LogFault>
-    ensures found { (L.moment log.old).is_in_order → (L.moment log.new).is_honest → IfOk result (λ found.
+    ensures found { (L.moment log.old).is_in_order → (L.moment log.new).is_honest →
+        IfOk result (λ found.
         IsSomeAnd (L.moment log.old).content (FoundIn found.incarnation found.decisions found.heuristics)) }
     ensures most { IfOk result (λ found. found.incarnation ≤ last_number) }
     ensures ok { (L.moment log.old).is_in_order → (L.moment log.new).is_honest →
         OnOk result (Makes bumped (L.moment log.old).content (L.moment log.new).content) }
-    ensures err { (L.moment log.old).is_in_order → (L.moment log.new).is_honest → OnErr result (MayMake bumped (L.moment log.old).content (L.moment log.new).content) }
+    ensures err { (L.moment log.old).is_in_order → (L.moment log.new).is_honest →
+        OnErr result (MayMake bumped (L.moment log.old).content (L.moment log.new).content) }
     ensures crash { (L.moment log.old).is_in_order → (L.moment log.new).is_honest →
-        LeavesAlso bumped (L.moment log.old).content (L.moment log.old).may_leave (L.moment log.new).may_leave }
+        LeavesAlso bumped (L.moment log.old).content (L.moment log.old).may_leave
+        (L.moment log.new).may_leave }
     ensures order { (L.moment log.old).is_in_order → (L.moment log.new).is_in_order }
     ensures honest { (L.moment log.new).is_honest → (L.moment log.old).is_honest }
-    ensures faults { (L.moment log.new).fault_count ≡ faults_after result (L.moment log.old).fault_count }
+    ensures faults { (L.moment log.new).fault_count ≡
+        faults_after result (L.moment log.old).fault_count }
 {
     match log.rows() {
         Err(fault) => Err(fault),

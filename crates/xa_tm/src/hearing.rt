@@ -46,15 +46,20 @@ impl<L: DecisionLog + Drop> Manager<L> {
         ensures err { (book_in self.old).up ≡ Bool.true → IfErr result (λ n. (c : KnownCall) → accepted (map_call name_of call.now) ≡ Some c →
             FailsBy (doubt_of (record_of c (map_answer name_of answer.now))) (InHear (line thread rm)) (book_in self.old) (book_in self.new) n) }
         ensures asked { result ≡ Err Refusals.LogFault → MakesRecord (map_call name_of call.now) (map_answer name_of answer.now) }
-        ensures tied { (L.moment (log_in self.old)).is_in_order → (L.moment (log_in self.new)).is_honest →
-            IsTied (book_in self.old) (L.moment (log_in self.old)).content → IsTied (book_in self.new) (L.moment (log_in self.new)).content }
+        ensures tied { (L.moment (log_in self.old)).is_in_order →
+            (L.moment (log_in self.new)).is_honest →
+            IsTied (book_in self.old) (L.moment (log_in self.old)).content →
+            IsTied (book_in self.new) (L.moment (log_in self.new)).content }
         ensures kept { IfErr result (λ n. n ≢ Refusals.LogFault → log_in self.new ≡ log_in self.old) }
         ensures asks { (c : KnownCall) → accepted (map_call name_of call.now) ≡ Some c →
             AsksFor (made (doubt_of (record_of c (map_answer name_of answer.now))))
             (L.moment (log_in self.old)) (L.moment (log_in self.new)) result }
-        ensures order { (L.moment (log_in self.old)).is_in_order → (L.moment (log_in self.new)).is_in_order }
-        ensures honest { (L.moment (log_in self.new)).is_honest → (L.moment (log_in self.old)).is_honest }
-        ensures faults { (L.moment (log_in self.new)).fault_count ≡ faults_by result (L.moment (log_in self.old)).fault_count }
+        ensures order { (L.moment (log_in self.old)).is_in_order →
+            (L.moment (log_in self.new)).is_in_order }
+        ensures honest { (L.moment (log_in self.new)).is_honest →
+            (L.moment (log_in self.old)).is_honest }
+        ensures faults { (L.moment (log_in self.new)).fault_count ≡
+            faults_by result (L.moment (log_in self.old)).fault_count }
     {
         if !self.ledger.is_up {
             return Err(Refusal::ManagerDown);
@@ -81,8 +86,11 @@ impl<L: DecisionLog + Drop> Manager<L> {
         ensures err { IfErr result (λ n. (l : Line) (kind : Kind) (code : Code) → news ≡ news_by kind code →
             FailsBy (doubt_of (record_of (on kind b) (Ret code))) (InHear l) (book_in self.old) (book_in self.new) n) }
         ensures asked { result ≡ Err Refusals.LogFault → IsSome news.how }
-        ensures tied { (L.moment (log_in self.old)).is_in_order → (L.moment (log_in self.new)).is_honest → (l : Line) (kind : Kind) (code : Code) → news ≡ news_by kind code →
-            IsTied (book_in self.old) (L.moment (log_in self.old)).content → IsTied (book_in self.new) (L.moment (log_in self.new)).content }
+        ensures tied { (L.moment (log_in self.old)).is_in_order →
+            (L.moment (log_in self.new)).is_honest → (l : Line) (kind : Kind) (code : Code) →
+            news ≡ news_by kind code →
+            IsTied (book_in self.old) (L.moment (log_in self.old)).content →
+            IsTied (book_in self.new) (L.moment (log_in self.new)).content }
         ensures kept { IfErr result (λ n. n ≢ Refusals.LogFault → log_in self.new ≡ log_in self.old) }
         ensures asks { AsksFor (made (recording b news.how))
             (L.moment (log_in self.old)) (L.moment (log_in self.new)) result }
@@ -107,14 +115,19 @@ impl<L: DecisionLog + Drop> Manager<L> {
 fn note_end<L: DecisionLog>(log: &mut L, b: Branch, how: Option<How>) -> Result<(), LogFault>
     requires { IsSome how → FitsRow b.gtrid }
     ensures ok { (L.moment log.old).is_in_order → (L.moment log.new).is_honest →
-        OnOk result (MakesOf (recording b how) (L.moment log.old).content (L.moment log.new).content) }
-    ensures err { (L.moment log.old).is_in_order → OnErr result (MayMake (made (recording b how)) (L.moment log.old).content (L.moment log.new).content) }
+        OnOk result (MakesOf (recording b how) (L.moment log.old).content
+        (L.moment log.new).content) }
+    ensures err { (L.moment log.old).is_in_order →
+        OnErr result (MayMake (made (recording b how)) (L.moment log.old).content
+        (L.moment log.new).content) }
     ensures asked { OnErr result (IsSome how) }
     ensures crash { (L.moment log.old).is_in_order → (L.moment log.new).is_honest →
-        LeavesAlso (made (recording b how)) (L.moment log.old).content (L.moment log.old).may_leave (L.moment log.new).may_leave }
+        LeavesAlso (made (recording b how)) (L.moment log.old).content (L.moment log.old).may_leave
+        (L.moment log.new).may_leave }
     ensures order { (L.moment log.old).is_in_order → (L.moment log.new).is_in_order }
     ensures honest { (L.moment log.new).is_honest → (L.moment log.old).is_honest }
-    ensures faults { (L.moment log.new).fault_count ≡ faults_after result (L.moment log.old).fault_count }
+    ensures faults { (L.moment log.new).fault_count ≡
+        faults_after result (L.moment log.old).fault_count }
 {
     match how {
         Some(how) => log.note_heuristic(b, how),

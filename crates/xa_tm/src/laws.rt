@@ -125,14 +125,17 @@ pub fn starts_are_histories()
 /// - `restart`: after a failed restart, if it was so before;
 /// - `crash`: after the crash of a part, if it was so before.
 pub fn crashes_leave_the_book<L: DecisionLog>()
-    ensures up { (k : Book) (log : L) → k.up ≡ true → (L.moment log).is_in_order → IsTied k (L.moment log).content →
+    ensures up { (k : Book) (log : L) → k.up ≡ true → (L.moment log).is_in_order →
+        IsTied k (L.moment log).content →
         IsLeft k (L.moment log).may_leave }
     ensures fault { (k : Book) (asked : Doubt) (f : Fault) (old new : L) → k.up ≡ true →
         failed_restarts_after (Failed f) k.failed_restarts ≡ k.failed_restarts →
         (L.moment old).is_in_order → IsTied k (L.moment old).content →
-        LeavesAlso (made asked) (L.moment old).content (L.moment old).may_leave (L.moment new).may_leave →
+        LeavesAlso (made asked) (L.moment old).content (L.moment old).may_leave
+        (L.moment new).may_leave →
         IsLeft (book_after k asked (Failed f)) (L.moment new).may_leave }
-    ensures restart { (k : Book) (old new : L) → k.up ≡ false → IsTied k (L.moment old).content → IsLeft k (L.moment old).may_leave →
+    ensures restart { (k : Book) (old new : L) → k.up ≡ false → IsTied k (L.moment old).content →
+        IsLeft k (L.moment old).may_leave →
         LeavesAlso bumped (L.moment old).content (L.moment old).may_leave (L.moment new).may_leave →
         IsLeft (book_after k Settled (Failed InRestart)) (L.moment new).may_leave }
     ensures crash { (k : Book) (part : Crashing) (log : L) → IsLeft k (L.moment log).may_leave →

@@ -38,28 +38,40 @@ impl<L: DecisionLog + Drop> Manager<L> {
     ///
     /// The rows are read, and all room for them is made, before the incarnation is raised.
     pub fn new(alloc: Global, threads: u32, rms: u32, mut log: L) -> Result<Manager<L>, StartFault>
-        ensures book { (L.moment log).is_in_order → IfOk result (λ m. (L.moment (log_in m)).is_honest →
+        ensures book { (L.moment log).is_in_order →
+            IfOk result (λ m. (L.moment (log_in m)).is_honest →
             IsSomeAnd (L.moment (log_in m)).content (λ c. book_in m ≡ started threads rms c)) }
-        ensures raised { (L.moment log).is_in_order → IfOk result (λ m. (L.moment (log_in m)).is_honest →
+        ensures raised { (L.moment log).is_in_order →
+            IfOk result (λ m. (L.moment (log_in m)).is_honest →
             Makes bumped (L.moment log).content (L.moment (log_in m)).content) }
-        ensures tied { (L.moment log).is_in_order → IfOk result (λ m. (L.moment (log_in m)).is_honest → IsTied (book_in m) (L.moment (log_in m)).content) }
+        ensures tied { (L.moment log).is_in_order →
+            IfOk result (λ m. (L.moment (log_in m)).is_honest →
+            IsTied (book_in m) (L.moment (log_in m)).content) }
         ensures sound { IfOk result (λ m. IsSound (book_in m)) }
         ensures old { IfOk result (λ m. IsOld (book_in m)) }
         ensures start { IfOk result (λ m. (o : Origin) → BeginsWith threads rms m o → book_in m ≡ book_of (From o)) }
         ensures apart { IfOk result (λ m. ApartRows (rows_begun m)) }
         ensures room { IfOk result (λ m. HasRoomForRun (book_in m)) }
-        ensures order { (L.moment log).is_in_order → IfOk result (λ m. (L.moment (log_in m)).is_in_order) }
-        ensures honest { IfOk result (λ m. (L.moment (log_in m)).is_honest → (L.moment log).is_honest) }
-        ensures faults { IfOk result (λ m. (L.moment (log_in m)).fault_count ≡ (L.moment log).fault_count) }
-        ensures past { (L.moment log).is_in_order → IfOk result (λ m. (L.moment (log_in m)).is_honest →
+        ensures order { (L.moment log).is_in_order →
+            IfOk result (λ m. (L.moment (log_in m)).is_in_order) }
+        ensures honest { IfOk result (λ m. (L.moment (log_in m)).is_honest →
+            (L.moment log).is_honest) }
+        ensures faults { IfOk result (λ m. (L.moment (log_in m)).fault_count ≡
+            (L.moment log).fault_count) }
+        ensures past { (L.moment log).is_in_order →
+            IfOk result (λ m. (L.moment (log_in m)).is_honest →
             IsSomeAnd (L.moment log).content IsPast) }
         ensures log_fault { result ≡ Err StartFault.Log →
-            ((left : L) × (((L.moment left).fault_count ≡ one_more_fault (L.moment log).fault_count) ⊎
-            (((L.moment left).fault_count ≡ (L.moment log).fault_count) × ((L.moment log).is_in_order → (L.moment left).is_honest →
-            IsSomeAnd (L.moment log).content (λ c. ¬ IsPast c) × Makes bumped (L.moment log).content (L.moment left).content)))) }
+            ((left : L) × (((L.moment left).fault_count ≡ one_more_fault
+            (L.moment log).fault_count) ⊎
+            (((L.moment left).fault_count ≡
+            (L.moment log).fault_count) × ((L.moment log).is_in_order → (L.moment left).is_honest →
+            IsSomeAnd (L.moment log).content (λ c. ¬ IsPast c) × Makes bumped (L.moment log).content
+            (L.moment left).content)))) }
         ensures memory_fault { result ≡ Err StartFault.Memory →
             ((left : L) × (((L.moment left).fault_count ≡ (L.moment log).fault_count) ×
-            ((L.moment log).is_in_order → (L.moment left).is_honest → Makes unchanged (L.moment log).content (L.moment left).content))) }
+            ((L.moment log).is_in_order → (L.moment left).is_honest →
+            Makes unchanged (L.moment log).content (L.moment left).content))) }
     {
         match log.rows() {
             Err(_) => Err(StartFault::Log),
