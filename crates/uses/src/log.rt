@@ -15,7 +15,8 @@ pub(crate) fn found_again<L: DecisionLog>(
 ) -> Result<bool, LogFault>
     requires fits { FitsRow g }
     requires own { AllByRecursion (λ b. b.gtrid ≡ g) participants.now }
-    ensures { (L.moment log.old).is_in_order → (L.moment log.new).is_honest → IfOk result (λ found. found ≡ true) }
+    ensures { (L.moment log.old).is_in_order → (L.moment log.new).is_honest →
+        IfOk result (λ found. found ≡ true) }
 {
     let _logged = log.commit(g, participants)?;
     let _incarnation = log.bump()?;
