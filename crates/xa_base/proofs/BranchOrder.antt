@@ -14,7 +14,8 @@ gtrids_total = then_total (on_total (λ g. g.incarnation) nat_cmp_total) (on_tot
 
 pub exact_gtrids : CmpEqualImpliesEq gtrid_cmp
 exact_gtrids a b h =
-    ap (λ (p : ℕ × ℕ). record { incarnation = p.0; sequence = p.1 }) (exact_pairs nat_cmp nat_cmp exact_unsigned exact_unsigned (a.incarnation, a.sequence) (b.incarnation, b.sequence) h)
+    ap (λ (p : ℕ × ℕ). record { incarnation = p.0; sequence = p.1 })
+    (exact_pairs nat_cmp nat_cmp exact_unsigned exact_unsigned (a.incarnation, a.sequence) (b.incarnation, b.sequence) h)
 
 pub branches_total : IsTotalOrder branch_cmp
 branches_total = then_total (on_total (λ b. b.gtrid) gtrids_total) (then_total (on_total (λ b. b.thread) nat_cmp_total) (on_total (λ b. b.rm) nat_cmp_total))
@@ -24,7 +25,8 @@ pair_cmp a b = ordering_then (nat_cmp a.0 b.0) (nat_cmp a.1 b.1)
 
 pub exact_branches : CmpEqualImpliesEq branch_cmp
 exact_branches a b h = ap (λ (p : Gtrid × (ℕ × ℕ)). record { gtrid = p.0; thread = p.1.0; rm = p.1.1 })
-    (exact_pairs gtrid_cmp pair_cmp exact_gtrids (exact_pairs nat_cmp nat_cmp exact_unsigned exact_unsigned) (a.gtrid, (a.thread, a.rm)) (b.gtrid, (b.thread, b.rm)) h)
+    (exact_pairs gtrid_cmp pair_cmp exact_gtrids (exact_pairs nat_cmp nat_cmp exact_unsigned exact_unsigned) (a.gtrid, (a.thread, a.rm))
+    (b.gtrid, (b.thread, b.rm)) h)
 
 -- ** the numbers of what is the same
 

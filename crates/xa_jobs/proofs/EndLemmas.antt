@@ -5,12 +5,12 @@ use Rattle.xa_base.specs.declared.step.Outcome.{Outcome}
 use Rattle.xa_base.specs.declared.vote.Vote.{Vote}
 use Rattle.xa_jobs.specs.JobFiles.{plan_of, rows_in}
 use Rattle.xa_jobs.specs.JobRuns.{AreEnds, planned_ends}
-use Rattle.xa_workers.specs.Jobs.{AreEndsOf, MayAllEnd, end_of, ends_of}
+use Rattle.xa_workers.specs.Jobs.{AreEndsOf, MayAllEnd, planned_end, ends_of}
 use Rattle.xa_workers.specs.declared.jobs.Jobs.{Jobs}
 
-rows_end : (rows : List (Vec (Option Vote) Global)) → map (λ row. end_of row.items) rows ≡ map end_of (rows_in rows)
+rows_end : (rows : List (Vec (Option Vote) Global)) → map (λ row. planned_end row.items) rows ≡ map planned_end (rows_in rows)
 rows_end [] = refl
-rows_end (row ∷ rows) = ap (λ ends. end_of row.items ∷ ends) (rows_end rows)
+rows_end (row ∷ rows) = ap (λ ends. planned_end row.items ∷ ends) (rows_end rows)
 
 planned : (jobs : Jobs) → ends_of jobs ≡ planned_ends (plan_of jobs)
 planned jobs = rows_end jobs.votes.items

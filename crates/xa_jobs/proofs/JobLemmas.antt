@@ -11,7 +11,7 @@ use Rattle.xa_base.specs.declared.vote.Vote.{Vote}
 use Rattle.xa_files.specs.Reading.{◌>>=◌, Fails}
 use Rattle.xa_files.specs.declared.fault.RunFault.{RunFault}
 use Rattle.xa_files.specs.declared.fault.RunFault.TheVariants.{NotToml, Header, Step, Job, Log, Memory, Work, Output}
-use Rattle.xa_jobs.specs.JobFiles.{Votes, branch_in, votes_of, job_at, jobs_from}
+use Rattle.xa_jobs.specs.JobFiles.{Votes, vote_in, votes_in, job_at, jobs_from}
 
 -- ** the votes of one job
 
@@ -25,41 +25,41 @@ votes_joined front vote (Some others) = ap Some (sym (append_assoc front (vote �
 
 -- an item in the list, and those after it
 at_vote : (front : Votes) (vs : List Value) (i : ℕ) (v : Value) → i < length vs → v ≡ get_or vs i v
-    → with_votes front (votes_of (items_view (drop i vs)))
-    ≡ with_votes front (votes_of (item (view v) (items_view (drop (i + 1) vs))))
+    → with_votes front (votes_in (items_view (drop i vs)))
+    ≡ with_votes front (votes_in (item (view v) (items_view (drop (i + 1) vs))))
 at_vote front vs i v within is =
-    ap (λ ds. with_votes front (votes_of ds)) (items_view-drop vs i v within
+    ap (λ ds. with_votes front (votes_in ds)) (items_view-drop vs i v within
     ∙ ap (λ w. item (view w) (items_view (drop (i + 1) vs))) (sym is))
 
 pub vote_goes_on : (front : Votes) (vote : Option Vote) (vs : List Value) (i : ℕ) (v : Value) (all : Option Votes)
-    → i < length vs → v ≡ get_or vs i v → branch_in (view v) ≡ Some vote
-    → with_votes front (votes_of (items_view (drop i vs))) ≡ all
-    → with_votes (front ++ vote ∷ []) (votes_of (items_view (drop (i + 1) vs))) ≡ all
-unfolding votes_of
+    → i < length vs → v ≡ get_or vs i v → vote_in (view v) ≡ Some vote
+    → with_votes front (votes_in (items_view (drop i vs))) ≡ all
+    → with_votes (front ++ vote ∷ []) (votes_in (items_view (drop (i + 1) vs))) ≡ all
+unfolding votes_in
 vote_goes_on front vote vs i v all within is named so_far =
-    let others = votes_of (items_view (drop (i + 1) vs)) in
-    let step : votes_of (item (view v) (items_view (drop (i + 1) vs)))
+    let others = votes_in (items_view (drop (i + 1) vs)) in
+    let step : votes_in (item (view v) (items_view (drop (i + 1) vs)))
     ≡ option_and_then (λ votes. Some (vote ∷ votes)) others =
     ap (option_and_then (λ vote. option_and_then (λ votes. Some (vote ∷ votes)) others)) named in
     sym (votes_joined front vote others) ∙ ap (with_votes front) (sym step) ∙ sym (at_vote front vs i v within is)
     ∙ so_far
 
 pub vote_stops : (front : Votes) (vs : List Value) (i : ℕ) (v : Value) (all : Option Votes)
-    → i < length vs → v ≡ get_or vs i v → branch_in (view v) ≡ None
-    → with_votes front (votes_of (items_view (drop i vs))) ≡ all → None ≡ all
-unfolding votes_of
+    → i < length vs → v ≡ get_or vs i v → vote_in (view v) ≡ None
+    → with_votes front (votes_in (items_view (drop i vs))) ≡ all → None ≡ all
+unfolding votes_in
 vote_stops front vs i v all within is named so_far =
-    let others = votes_of (items_view (drop (i + 1) vs)) in
-    let step : votes_of (item (view v) (items_view (drop (i + 1) vs))) ≡ None =
+    let others = votes_in (items_view (drop (i + 1) vs)) in
+    let step : votes_in (item (view v) (items_view (drop (i + 1) vs))) ≡ None =
     ap (option_and_then (λ vote. option_and_then (λ votes. Some (vote ∷ votes)) others)) named in
     ap (with_votes front) (sym step) ∙ sym (at_vote front vs i v within is) ∙ so_far
 
 pub votes_end : (front : Votes) (vs : List Value) (i : ℕ) (all : Option Votes)
-    → length vs ≤ i → with_votes front (votes_of (items_view (drop i vs))) ≡ all → Some front ≡ all
-unfolding votes_of
+    → length vs ≤ i → with_votes front (votes_in (items_view (drop i vs))) ≡ all → Some front ≡ all
+unfolding votes_in
 votes_end front vs i all past so_far =
     ap Some (sym (append-nil front)) ∙ sym
-    (ap (λ ds. with_votes front (votes_of (items_view ds))) (drop_of_length-le vs past)) ∙ so_far
+    (ap (λ ds. with_votes front (votes_in (items_view ds))) (drop_of_length-le vs past)) ∙ so_far
 
 -- ** all jobs
 

@@ -38,31 +38,31 @@ unfoldable pub branch_named : List ℕ → Option (Option Vote)
 branch_named word = if bytes_eq word (codes "none") then Some None else option_map Some (vote_named word)
 
 -- the same of an item
-unfoldable pub branch_in : Data → Option (Option Vote)
-branch_in value = option_and_then branch_named (as_str value)
+unfoldable pub vote_in : Data → Option (Option Vote)
+vote_in value = option_and_then branch_named (as_str value)
 
 -- the votes that the items name, if each names one
-unfoldable pub votes_of : Items → Option Votes
-votes_of no_items = Some []
-votes_of (item value items) = option_and_then
-    (λ vote. option_and_then (λ votes. Some (vote ∷ votes)) (votes_of items)) (branch_in value)
+unfoldable pub votes_in : Items → Option Votes
+votes_in no_items = Some []
+votes_in (item value items) = option_and_then
+    (λ vote. option_and_then (λ votes. Some (vote ∷ votes)) (votes_in items)) (vote_in value)
 
 -- the votes if they are of this number
 abbrev pub if_number : ℕ → Votes → Option Votes
 if_number rms votes = if length votes == rms then Some votes else None
 
 -- the votes of a job's table, which has no other key; there is one or none for each resource manager
-unfoldable pub row_of : (rms : ℕ) → Members → Option Votes
-row_of rms table =
+unfoldable pub votes_in_table : (rms : ℕ) → Members → Option Votes
+votes_in_table rms table =
     if has_only (codes "votes" ∷ []) table
-    then option_and_then (if_number rms) (option_and_then votes_of
+    then option_and_then (if_number rms) (option_and_then votes_in
     (option_and_then as_array (get_member (codes "votes") table)))
     else None
 
 -- the votes of the job of a number: there are at most 1,000
 abbrev pub job_at : (rms number : ℕ) → Data → Result Votes RunFault
 job_at rms number value =
-    if nat_lt 1000 number then Err (Job number) else ok_or (option_and_then (row_of rms) (as_table value)) (Job number)
+    if nat_lt 1000 number then Err (Job number) else ok_or (option_and_then (votes_in_table rms) (as_table value)) (Job number)
 
 -- the votes of the jobs in turn, or the first faulty one; the first has this number
 unfoldable pub jobs_from : (rms number : ℕ) → Items → Result (List Votes) RunFault

@@ -7,13 +7,13 @@ use Rattle.xa_files.specs.declared.fault.RunFault.{RunFault}
 use Rattle.xa_files.specs.declared.fault.RunFault.TheVariants.{Log, Memory, Work, Output}
 use Rattle.xa_jobs.specs.JobFiles.{Plan, jobs_of}
 use Rattle.xa_jobs.specs.Lines.{end_lines}
-use Rattle.xa_workers.specs.Jobs.{MayAllEnd, end_of}
+use Rattle.xa_workers.specs.Jobs.{MayAllEnd, planned_end}
 use Rattle.xa_workers.specs.declared.fault.WorkFault.{WorkFault}
 use Rattle.xa_workers.specs.declared.fault.WorkFault.TheVariants as work
 
 -- how the jobs end by their votes alone
 abbrev pub planned_ends : Plan → List Outcome
-planned_ends plan = map end_of plan.votes
+planned_ends plan = map planned_end plan.votes
 
 -- Each job ended as its votes say. Only where a recovery sweeps the jobs may one that would have committed be rolled
 -- back.

@@ -3,8 +3,8 @@
 ghost use Rattle.std.specs.Prelude.{◌≡◌, ◌≤◌, All, IfOk, IfSome, map, option_map, vec_len};
 ghost use Rattle.toml.specs.View.{items_view, table_view, view};
 ghost use Rattle.xa_files.specs.Reading.{Gives};
-ghost use Rattle.xa_jobs.specs.JobFiles.{branch_in, branch_named, job_at, jobs_from, jobs_of};
-ghost use Rattle.xa_jobs.specs.JobFiles.{plan_of, row_of, rows_in, votes_of};
+ghost use Rattle.xa_jobs.specs.JobFiles.{vote_in, branch_named, job_at, jobs_from, jobs_of};
+ghost use Rattle.xa_jobs.specs.JobFiles.{plan_of, votes_in_table, rows_in, votes_in};
 ghost use Rattle.xa_jobs.specs.Listed.{EachIsRead, FaultsAreOfTexts, FirstIsFaulty};
 ghost use Rattle.xa_workers.specs.Jobs.{IsRunnable};
 
@@ -35,14 +35,14 @@ fn branch_named(word: &str) -> Option<Option<Vote>>
 /// The same of an item.
 #[tactic(auto, unfolding(crate::specs::JobFiles::branch_in))]
 fn branch_in(value: &Value) -> Option<Option<Vote>>
-    ensures { result ≡ branch_in (view value.now) }
+    ensures { result ≡ vote_in (view value.now) }
 {
     branch_named(value.as_str()?)
 }
 
 /// The votes that the items name, if each names one.
 fn votes_of(alloc: Global, items: &[Value]) -> Result<Option<Row>, AllocError>
-    ensures { IfOk result (λ row. option_map (λ votes. votes.items) row ≡ votes_of (items_view items.now)) }
+    ensures { IfOk result (λ row. option_map (λ votes. votes.items) row ≡ votes_in (items_view items.now)) }
 {
     let mut votes = Vec::new(alloc);
     for value in items {
@@ -57,7 +57,7 @@ fn votes_of(alloc: Global, items: &[Value]) -> Result<Option<Row>, AllocError>
 /// The votes that a table has, if it is that of a job with a vote or none for each resource manager.
 #[tactic(auto, unfolding(crate::specs::JobFiles::row_of))]
 fn row_of(alloc: Global, rms: u32, table: &Table) -> Result<Option<Row>, AllocError>
-    ensures row { IfOk result (λ row. option_map (λ votes. votes.items) row ≡ row_of rms (table_view table.now)) }
+    ensures row { IfOk result (λ row. option_map (λ votes. votes.items) row ≡ votes_in_table rms (table_view table.now)) }
     ensures number { IfOk result (λ row. IfSome row (λ votes. vec_len votes ≡ rms)) }
 {
     if !has_only(table, &["votes"]) {

@@ -83,7 +83,8 @@ pub line_goes_on : (tr : Trace) (e : Happening) (l : Line) (old new : Traffic) (
     → taken new ≡ map (λ p. p.0) (answered new) → LineStands (Then tr e) l new
 line_goes_on tr e l old new calls answers hearings stands b i ik a ak h hk each = record {
   all_issued = rw b (ap (map known) i ∙ seen_more known (issued old) calls (facts.issued tr l) (facts.new_calls tr e l) stands.all_issued ik);
-  all_answered = rw b (ap (map known_answered) a ∙ seen_more known_answered (answered old) answers (facts.taken tr l) (facts.new_taken e l) stands.all_answered ak);
+  all_answered =
+      rw b (ap (map known_answered) a ∙ seen_more known_answered (answered old) answers (facts.taken tr l) (facts.new_taken e l) stands.all_answered ak);
   all_heard = rw b (ap (map known_answered) h ∙ seen_more known_answered (heard old) hearings (facts.heard tr l) (facts.new_heard e l) stands.all_heard hk);
   each_answered = each;
 }

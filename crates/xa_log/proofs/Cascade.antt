@@ -18,14 +18,16 @@ use Rattle.xa_log.specs.Tables.{log_schema, decision, participant, of_decision}
 
 -- the one action that a DELETE of these decisions sets off
 abbrev pub cascade : List Row → Work
-cascade olds = record { depth = 0; child = participant; ref = of_decision; places = 1 ∷ 2 ∷ []; order = record { digits = 0 }; deed = Delete; moves = pairs olds [] }
+cascade olds =
+    record { depth = 0; child = participant; ref = of_decision; places = 1 ∷ 2 ∷ []; order = record { digits = 0 }; deed = Delete; moves = pairs olds [] }
 
 abbrev acts_on : List Row → Bool
 acts_on olds = list_any (loses (record { digits = 0 }) (1 ∷ 2 ∷ [])) (pairs olds [])
 
 one_work : (olds : List Row) → works log_schema Enforced 0 1 olds [] ≡ cond (acts_on olds) (cascade olds ∷ []) []
 unfolding everything
-one_work olds = elim (acts_on olds) as (λ b. filter_map (λ (ref : Reference). cond b (Some (cascade olds)) None) (of_decision ∷ []) ++ [] ≡ cond b (cascade olds ∷ []) []) [ true ↦ refl | false ↦ refl ]
+one_work olds =
+    elim (acts_on olds) as (λ b. filter_map (λ (ref : Reference). cond b (Some (cascade olds)) None) (of_decision ∷ []) ++ [] ≡ cond b (cascade olds ∷ []) []) [ true ↦ refl | false ↦ refl ]
 
 no_work : (depth : ℕ) (olds : List Row) → works log_schema Enforced depth 5 olds [] ≡ []
 unfolding everything
@@ -88,7 +90,8 @@ led (suc n) olds db after h =
 
 -- the decisions go, and then their participants
 pub cascaded : (db after : Trees) (gone : List ℤ) → Writes log_schema Enforced db (edit_of db decision gone Given 0 []) (Ok after)
-    → (next : Trees) × Applies log_schema Enforced db (edit_of db decision gone Given 0 []) next × Follows (taken_by db (edit_of db decision gone Given 0 [])) next after
+    → (next : Trees) × Applies log_schema Enforced db (edit_of db decision gone Given 0 []) next
+    × Follows (taken_by db (edit_of db decision gone Given 0 [])) next after
 cascaded db after gone (inl refused) = absurd (let e = refused.2 in cc)
 cascaded db after gone (inr (inl big)) = absurd (let e = big.3 in cc)
 cascaded db after gone (inr (inr went)) =

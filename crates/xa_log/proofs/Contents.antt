@@ -25,7 +25,7 @@ use Rattle.xa_base.proofs.BranchOrder.{gtrids_total, exact_gtrids}
 use Rattle.xa_log.specs.Content.{last_number}
 use Rattle.std.proofs.lemmas.Int.{to_z_pos}
 use Rattle.xa_log.specs.Contract.{FitsRow}
-use Rattle.xa_log.specs.Rows.{decision_row, IsDecisionRow, gtrid_in}
+use Rattle.xa_log.specs.Rows.{decision_row, IsDecisionRow, gtrid_of_row}
 use Rattle.xa_log.proofs.Texts.{is}
 use Rattle.xa_log.proofs.Plain.{chosen, shown}
 use Rattle.xa_log.proofs.Values.{equal_to, equal_numbers, same_id}
@@ -60,7 +60,8 @@ put_keeps new (r ∷ rows) x free h =
     let parts = no_part _ _ free in
     go (value_cmp (rowid r) (rowid new)) parts.0 h (put_keeps new rows x parts.1)
   where
-    go : (o : Ordering) → is_eq o ≡ false → Has (r ∷ rows) x → (Has rows x → Has (put_row new rows) x) → Has (match_ordering o (r ∷ put_row new rows) (new ∷ rows) (new ∷ r ∷ rows)) x
+    go : (o : Ordering) → is_eq o ≡ false → Has (r ∷ rows) x → (Has rows x → Has (put_row new rows) x)
+        → Has (match_ordering o (r ∷ put_row new rows) (new ∷ rows) (new ∷ r ∷ rows)) x
     go Less apart (inl same) later = inl same
     go Less apart (inr there) later = inr (later there)
     go Equal apart here later = absurd (true≢false apart)
@@ -102,18 +103,21 @@ both_parts Greater p = refl
 
 pub same_number : (a b : ℕ) → equal_to (Int (pos a)) (Int (pos b)) ≡ is_eq (nat_cmp b a)
 same_number a b = equal_numbers (pos a) (pos b) ∙ both_ways _ _
-    (λ h. let same : pos a ≡ pos b = int_cmp-IsAntisymmetric (pos a) (pos b) (equal_is _ h) in let n : a ≡ b = cc in subst (λ x. is_eq (nat_cmp x a) ≡ true) n (ap is_eq (tied_itself nat_cmp_total a)))
-    (λ h. let n : b ≡ a = nat_cmp-IsAntisymmetric b a (equal_is _ h) in subst (λ x. is_eq (int_cmp (pos x) (pos b)) ≡ true) n (ap is_eq (tied_itself int_cmp_total (pos b))))
+    (λ h. let same : pos a ≡ pos b = int_cmp-IsAntisymmetric (pos a) (pos b) (equal_is _ h) in let n : a ≡ b = cc in subst
+    (λ x. is_eq (nat_cmp x a) ≡ true) n (ap is_eq (tied_itself nat_cmp_total a)))
+    (λ h. let n : b ≡ a = nat_cmp-IsAntisymmetric b a (equal_is _ h) in subst (λ x. is_eq (int_cmp (pos x) (pos b)) ≡ true) n
+    (ap is_eq (tied_itself int_cmp_total (pos b))))
 
 pub names_gtrid : (id : ℤ) (x g : Gtrid) → list_all (holds (gtrid_params g ∷ decision_row id x ∷ [])) gtrid_tests ≡ eq_by_cmp gtrid_cmp g x
 names_gtrid id x g = ap (λ b. b && (equal_to (Int (pos x.sequence)) (Int (pos g.sequence)) && true)) (same_number x.incarnation g.incarnation)
     ∙ ap (λ b. is_eq (nat_cmp g.incarnation x.incarnation) && (b && true)) (same_number x.sequence g.sequence) ∙ both_parts _ _
 
-pub names_gtrid_in : (g : Gtrid) (r : Row) → IsDecisionRow r → list_all (holds (gtrid_params g ∷ r ∷ [])) gtrid_tests ≡ eq_by_cmp gtrid_cmp g (gtrid_in r)
+pub names_gtrid_in : (g : Gtrid) (r : Row) → IsDecisionRow r → list_all (holds (gtrid_params g ∷ r ∷ [])) gtrid_tests ≡ eq_by_cmp gtrid_cmp g (gtrid_of_row r)
 names_gtrid_in g r is = rw is.2 (names_gtrid is.0 is.1 g)
 
 -- the rows that pass WHERE are those of the gtrid
-pub chosen_gtrid : (g : Gtrid) (rows : List Row) → AllByRecursion IsDecisionRow rows → chosen gtrid_tests (gtrid_params g) rows ≡ filter (λ r. eq_by_cmp gtrid_cmp g (gtrid_in r)) rows
+pub chosen_gtrid : (g : Gtrid) (rows : List Row) → AllByRecursion IsDecisionRow rows
+    → chosen gtrid_tests (gtrid_params g) rows ≡ filter (λ r. eq_by_cmp gtrid_cmp g (gtrid_of_row r)) rows
 chosen_gtrid g rows all = filter_same _ _ rows (all_weaker _ _ (names_gtrid_in g) rows all)
 
 -- ---- the rows that are left where some rowids are taken out
@@ -128,7 +132,8 @@ table_left (id ∷ ids) rows up = table_left ids (without_rowid id rows) (ascend
 
 pub left_has : (ids : List ℤ) (rows : List Row) (r : Row) → Has rows r → ((id : ℤ) → Has ids id → has_rowid id r ≡ false) → Has (without_all rows ids) r
 left_has [] rows r h lacks = h
-left_has (id ∷ ids) rows r h lacks = left_has ids (without_rowid id rows) r (has_kept (λ y. not (has_rowid id y)) rows r h (ap not (lacks id (inl refl)))) (λ other k. lacks other (inr k))
+left_has (id ∷ ids) rows r h lacks =
+    left_has ids (without_rowid id rows) r (has_kept (λ y. not (has_rowid id y)) rows r h (ap not (lacks id (inl refl)))) (λ other k. lacks other (inr k))
 
 pub not_true : (b : Bool) → not b ≡ true → b ≡ false
 not_true true h = absurd (cc)
@@ -153,17 +158,18 @@ permuted_has xs ys x same h = has_contained ys x (Contains-permutation xs ys x s
 module _ (g : Gtrid) (rows found : List Row) (up : IsTable rows) (all : AllByRecursion IsDecisionRow rows)
     (answer : IsPermutation (map (shown (col 1 0 ∷ []) (gtrid_params g)) (chosen gtrid_tests (gtrid_params g) rows)) found) where
   picked : List Row
-  picked = filter (λ r. eq_by_cmp gtrid_cmp g (gtrid_in r)) rows
+  picked = filter (λ r. eq_by_cmp gtrid_cmp g (gtrid_of_row r)) rows
 
   ids : IsPermutation (map (λ r. id_in (rowid r)) picked) (ids_of found)
   unfolding picked
-  ids = subst (λ xs. IsPermutation xs (ids_of found)) (shown_ids _ (gtrid_params g) ∙ ap (map (λ r. id_in (rowid r))) (chosen_gtrid g rows all)) (IsPermutation-map (λ r. id_in (rowid r)) _ _ answer)
+  ids = subst (λ xs. IsPermutation xs (ids_of found))
+      (shown_ids _ (gtrid_params g) ∙ ap (map (λ r. id_in (rowid r))) (chosen_gtrid g rows all)) (IsPermutation-map (λ r. id_in (rowid r)) _ _ answer)
 
-  pub gone_has : (r : Row) → Has rows r → eq_by_cmp gtrid_cmp g (gtrid_in r) ≡ true → Has (ids_of found) (id_in (rowid r))
+  pub gone_has : (r : Row) → Has rows r → eq_by_cmp gtrid_cmp g (gtrid_of_row r) ≡ true → Has (ids_of found) (id_in (rowid r))
   unfolding picked
   gone_has r h is = permuted_has _ _ _ ids (mapped_has (λ r. id_in (rowid r)) picked r (has_kept _ rows r h is))
 
-  pub has_gone : (id : ℤ) → Has (ids_of found) id → (r : Row) × Has rows r × (eq_by_cmp gtrid_cmp g (gtrid_in r) ≡ true) × (id ≡ id_in (rowid r))
+  pub has_gone : (id : ℤ) → Has (ids_of found) id → (r : Row) × Has rows r × (eq_by_cmp gtrid_cmp g (gtrid_of_row r) ≡ true) × (id ≡ id_in (rowid r))
   unfolding picked
   has_gone id h =
       let was = has_mapped (λ r. id_in (rowid r)) picked id (permuted_has _ _ id (IsPermutation-sym _ _ ids) h) in
@@ -188,19 +194,19 @@ module _ (g : Gtrid) (rows found : List Row) (up : IsTable rows) (all : AllByRec
   left = without_all rows (ids_of found)
 
   -- what is left is of another gtrid
-  other_left : (q : Gtrid) (r : Row) → Has left r → eq_by_cmp gtrid_cmp q (gtrid_in r) ≡ true → eq_by_cmp gtrid_cmp q g ≡ false
+  other_left : (q : Gtrid) (r : Row) → Has left r → eq_by_cmp gtrid_cmp q (gtrid_of_row r) ≡ true → eq_by_cmp gtrid_cmp q g ≡ false
   unfolding left
   other_left q r h is = elim (cases_Bool (eq_by_cmp gtrid_cmp q g)) [
     | inl same ↦ absurd (
         let was = has_left (ids_of found) rows r h in
         let e : g ≡ q = sym (exact_gtrids q g (equal_is _ same)) in
-        let in_g : eq_by_cmp gtrid_cmp g (gtrid_in r) ≡ true = subst (λ x. eq_by_cmp gtrid_cmp x (gtrid_in r) ≡ true) (sym e) is in
+        let in_g : eq_by_cmp gtrid_cmp g (gtrid_of_row r) ≡ true = subst (λ x. eq_by_cmp gtrid_cmp x (gtrid_of_row r) ≡ true) (sym e) is in
         true≢false (sym (has_own r (all_has _ rows r all was.0)) ∙ was.1 (id_in (rowid r)) (gone_has g rows found up all answer r was.0 in_g)))
     | inr apart ↦ apart
   ]
 
   -- a row of another gtrid is left
-  left_other : (q : Gtrid) (r : Row) → Has rows r → eq_by_cmp gtrid_cmp q (gtrid_in r) ≡ true → eq_by_cmp gtrid_cmp q g ≡ false → Has left r
+  left_other : (q : Gtrid) (r : Row) → Has rows r → eq_by_cmp gtrid_cmp q (gtrid_of_row r) ≡ true → eq_by_cmp gtrid_cmp q g ≡ false → Has left r
   unfolding left
   left_other q r h is apart = left_has (ids_of found) rows r h (λ id k. elim (cases_Bool (has_rowid id r)) [
     | inl tied ↦ absurd (
@@ -208,12 +214,13 @@ module _ (g : Gtrid) (rows found : List Row) (up : IsTable rows) (all : AllByRec
         let there = all_has _ rows was.0 all was.1 in
         let tie : value_cmp (rowid r) (rowid was.0) ≡ Equal = ap (value_cmp (rowid r)) (int_rowid was.0 there ∙ ap Int (sym was.3)) ∙ equal_is _ tied in
         let one : r ≡ was.0 = tied_same rows r was.0 up h was.1 tie in
-        let e : q ≡ g = same_as q g (gtrid_in r) is (subst (λ x. eq_by_cmp gtrid_cmp g (gtrid_in x) ≡ true) (sym one) was.2) in
+        let e : q ≡ g = same_as q g (gtrid_of_row r) is (subst (λ x. eq_by_cmp gtrid_cmp g (gtrid_of_row x) ≡ true) (sym one) was.2) in
         true≢false (sym (is_itself g) ∙ subst (λ x. eq_by_cmp gtrid_cmp x g ≡ false) e apart))
     | inr other ↦ other
   ])
 
-  any_left : (q : Gtrid) → list_any (λ r. eq_by_cmp gtrid_cmp q (gtrid_in r)) left ≡ (not (eq_by_cmp gtrid_cmp q g) && list_any (λ r. eq_by_cmp gtrid_cmp q (gtrid_in r)) rows)
+  any_left : (q : Gtrid) → list_any (λ r. eq_by_cmp gtrid_cmp q (gtrid_of_row r)) left
+      ≡ (not (eq_by_cmp gtrid_cmp q g) && list_any (λ r. eq_by_cmp gtrid_cmp q (gtrid_of_row r)) rows)
   unfolding left
   any_left q = both_ways _ _
       (λ h. let some = some_has _ left h in
@@ -223,6 +230,8 @@ module _ (g : Gtrid) (rows found : List Row) (up : IsTable rows) (all : AllByRec
       let some = some_has _ rows parts.1 in
       some_from _ left some.0 (left_other q some.0 some.1 some.2 (not_true _ parts.0)) some.2)
 
-  pub any_gone : (q : Gtrid) → list_any (λ r. eq_by_cmp gtrid_cmp q (gtrid_in r)) (without_all rows (ids_of found)) ≡ (not (eq_by_cmp gtrid_cmp q g) && list_any (λ r. eq_by_cmp gtrid_cmp q (gtrid_in r)) rows)
+  pub any_gone : (q : Gtrid)
+      → list_any (λ r. eq_by_cmp gtrid_cmp q (gtrid_of_row r)) (without_all rows (ids_of found))
+      ≡ (not (eq_by_cmp gtrid_cmp q g) && list_any (λ r. eq_by_cmp gtrid_cmp q (gtrid_of_row r)) rows)
   unfolding left
   any_gone q = any_left q

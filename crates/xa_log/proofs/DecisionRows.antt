@@ -40,14 +40,14 @@ use Rattle.sqlite.specs.Edit.{without_all}
 use Rattle.sqlite.specs.Tree.{rowid}
 use Rattle.sqlite.specs.State.{ExecutesInside}
 use Rattle.std.proofs.lemmas.Bool.{and_parts}
-use Rattle.xa_log.specs.Sql.{AreLogTrees, HasWritten, MayBegin}
+use Rattle.xa_log.specs.Sql.{AreLogTrees, HasWritten, MayInsert}
 use Rattle.xa_log.proofs.Lasting.{as_log}
 use Rattle.xa_log.proofs.Cascade.{cascade}
 use Rattle.xa_log.proofs.Inserts.{at_once, puts_participant}
 use Rattle.xa_log.proofs.Deletes.{taken_rows}
 use Rattle.xa_log.proofs.Texts.{insert_participant, insert_participant_is, insert_participant_plain}
-use Rattle.xa_log.specs.Rows.{IsLog, IsDecisionRow, AreHeuristicRows, IsParticipantRow, gtrid_in, branch_in, is_of, participants_in, content_of, meta_row}
-use Rattle.xa_log.specs.Sql.{IsReady, IsOrderly, content_in}
+use Rattle.xa_log.specs.Rows.{IsLog, IsDecisionRow, AreHeuristicRows, IsParticipantRow, gtrid_of_row, branch_of_row, is_of, participants_of_rows, content_of, meta_row}
+use Rattle.xa_log.specs.Sql.{HasLogTables, IsOrderly, content_in}
 use Rattle.xa_log.proofs.Texts.{over, insert_decision, insert_decision_is, insert_decision_plain, find_decision, find_decision_is, find_decision_plain, find_decision_unlisted, delete_decision, delete_decision_is, delete_decision_plain}
 use Rattle.xa_log.proofs.Plain.{shown, plain_rows}
 use Rattle.sqlite_rules.specs.Calls.{ids_of}
@@ -60,11 +60,15 @@ use Rattle.xa_log.proofs.States.{Did, answered, wrote, commits_as}
 
 none_kept : {X : Type 0} (p : X → Bool) (xs : List X) → length (filter p xs) ≡ 0 → list_any p xs ≡ false
 none_kept p [] none = refl
-none_kept p (x ∷ xs) none = elim (p x) as (λ b. length (cond b (x ∷ filter p xs) (filter p xs)) ≡ 0 → (b || list_any p xs) ≡ false) [ true ↦ λ e. absurd (omega (arith, e)) | false ↦ none_kept p xs ] none
+none_kept p (x ∷ xs) none =
+    elim (p x) as (λ b. length (cond b (x ∷ filter p xs) (filter p xs)) ≡ 0
+    → (b || list_any p xs) ≡ false) [ true ↦ λ e. absurd (omega (arith, e)) | false ↦ none_kept p xs ] none
 
 kept_none : {X : Type 0} (p : X → Bool) (xs : List X) → list_any p xs ≡ false → length (filter p xs) ≡ 0
 kept_none p [] none = refl
-kept_none p (x ∷ xs) none = elim (p x) as (λ b. (b || list_any p xs) ≡ false → length (cond b (x ∷ filter p xs) (filter p xs)) ≡ 0) [ true ↦ λ e. absurd (true≢false e) | false ↦ kept_none p xs ] none
+kept_none p (x ∷ xs) none =
+    elim (p x) as (λ b. (b || list_any p xs) ≡ false
+    → length (cond b (x ∷ filter p xs) (filter p xs)) ≡ 0) [ true ↦ λ e. absurd (true≢false e) | false ↦ kept_none p xs ] none
 
 not_empty : (empty found : Bool) → (IsTrue empty → found ≡ false) → (found ≡ false → IsTrue empty) → not empty ≡ found
 not_empty true found p q = sym (p refl)
@@ -80,13 +84,16 @@ pub finds : (old new : State) (g : Gtrid) (rows : List Row) → IsLog old.now �
 finds old new g rows is h =
     let read = reads_as find_decision (gtrid_params g) old new log_schema is.schema _ find_decision_is find_decision_plain find_decision_unlisted rows h in
     let moved = plain_rows 1 gtrid_tests (lit (Int (pos 1)) ∷ []) old.now.trees (gtrid_params g) rows read.answer in
-    let p : Row → Bool = λ r. eq_by_cmp gtrid_cmp g (gtrid_in r) in
-    let same : length rows ≡ length (filter p (old.now.trees 1)) = length_permutation _ _ moved ∙ length-map _ _ ∙ ap length (chosen_gtrid g (old.now.trees 1) is.decisions) in
-    not_empty (length rows == 0) (list_any p (old.now.trees 1)) (λ h. none_kept p (old.now.trees 1) (sym same ∙ eqb-true (length rows) 0 h)) (λ none. ap (λ n. n == 0) (same ∙ kept_none p (old.now.trees 1) none))
-    ∙ sym (ap Rattle.std.proofs.Common.is_some (get_booked (participants_in (old.now.trees 5)) (old.now.trees 1) g) ∙ some_of (list_any p (old.now.trees 1)) (participants_in (old.now.trees 5) g))
+    let p : Row → Bool = λ r. eq_by_cmp gtrid_cmp g (gtrid_of_row r) in
+    let same : length rows ≡ length (filter p (old.now.trees 1)) =
+    length_permutation _ _ moved ∙ length-map _ _ ∙ ap length (chosen_gtrid g (old.now.trees 1) is.decisions) in
+    not_empty (length rows == 0) (list_any p (old.now.trees 1)) (λ h. none_kept p (old.now.trees 1) (sym same ∙ eqb-true (length rows) 0 h))
+    (λ none. ap (λ n. n == 0) (same ∙ kept_none p (old.now.trees 1) none))
+    ∙ sym (ap Rattle.std.proofs.Common.is_some (get_booked (participants_of_rows (old.now.trees 5)) (old.now.trees 1) g) ∙ some_of (list_any p (old.now.trees 1)) (participants_of_rows (old.now.trees 5) g))
 
 -- the call that asks, from the log before it to the log after it
-pub found : (g : Gtrid) (params : Row) → params ≡ gtrid_params g → (old mid new : State) (rows : List Row) (empty : Bool) → empty ≡ (length rows == 0) → IsOrderly old → IsUnchanged old mid → IsUnchanged mid new → Shown find_decision params mid new rows
+pub found : (g : Gtrid) (params : Row) → params ≡ gtrid_params g → (old mid new : State) (rows : List Row) (empty : Bool)
+    → empty ≡ (length rows == 0) → IsOrderly old → IsUnchanged old mid → IsUnchanged mid new → Shown find_decision params mid new rows
     → IsSomeAnd (content_in old) (λ c. (content_in new ≡ Some c) × (not empty ≡ contains_key c.decisions g))
 found g params given old mid new rows empty is order first second shown =
     answered old mid new order first second (λ c. not empty ≡ contains_key c.decisions g)
@@ -97,17 +104,21 @@ found g params given old mid new rows empty is order first second shown =
 pub same_content : (a b : Content) → a.decisions ≡ b.decisions → a.heuristics ≡ b.heuristics → a.incarnation ≡ b.incarnation → a ≡ b
 same_content a b p q r i = record { decisions = p i; heuristics = q i; incarnation = r i }
 
-pub meta_stays : (rows other : List Row) → other ≡ rows → rows ≡ meta_row (content_of (λ _. rows)).incarnation ∷ [] → other ≡ meta_row (content_of (λ _. other)).incarnation ∷ []
+pub meta_stays : (rows other : List Row) → other ≡ rows → rows ≡ meta_row (content_of (λ _. rows)).incarnation ∷ []
+    → other ≡ meta_row (content_of (λ _. other)).incarnation ∷ []
 meta_stays rows other same is = subst (λ t. t ≡ meta_row (content_of (λ _. t)).incarnation ∷ []) (sym same) is
 
-pub booked_as : (rows rows′ decisions decisions′ : List Row) → rows ≡ rows′ → decisions ≡ decisions′ → booked (participants_in rows) decisions ≡ booked (participants_in rows′) decisions′
-booked_as rows rows′ decisions decisions′ p q = ap (λ t. booked (participants_in t) decisions) p ∙ ap (booked (participants_in rows′)) q
+pub booked_as : (rows rows′ decisions decisions′ : List Row) → rows ≡ rows′ → decisions ≡ decisions′
+    → booked (participants_of_rows rows) decisions ≡ booked (participants_of_rows rows′) decisions′
+booked_as rows rows′ decisions decisions′ p q = ap (λ t. booked (participants_of_rows t) decisions) p ∙ ap (booked (participants_of_rows rows′)) q
 
-pub put_content : (db after : Database) (g : Gtrid) (row : Row) → IsLog db → get (content_of db.trees).decisions g ≡ None → IsDecisionRow row → gtrid_in row ≡ g
+pub put_content : (db after : Database) (g : Gtrid) (row : Row) → IsLog db → get (content_of db.trees).decisions g ≡ None
+    → IsDecisionRow row → gtrid_of_row row ≡ g
     → Puts 1 row db after × (after.trees 0 ≡ db.trees 0) × (after.trees 3 ≡ db.trees 3) × (after.trees 5 ≡ db.trees 5)
     → IsLog after × (content_of after.trees ≡ with_decision g empty (content_of db.trees))
 put_content db after g row is none row_is named puts =
-    let decisions : AllByRecursion IsDecisionRow (after.trees 1) = subst (AllByRecursion IsDecisionRow) (sym puts.0.rows) (all-put_row IsDecisionRow row (db.trees 1) row_is is.decisions) in
+    let decisions : AllByRecursion IsDecisionRow (after.trees 1) =
+    subst (AllByRecursion IsDecisionRow) (sym puts.0.rows) (all-put_row IsDecisionRow row (db.trees 1) row_is is.decisions) in
     let participants : AllByRecursion IsParticipantRow (after.trees 5) = subst (AllByRecursion IsParticipantRow) (sym puts.3) is.participants in (
       record {
         schema = puts.0.schema;
@@ -125,12 +136,14 @@ put_content db after g row is none row_is named puts =
           (ap (λ t. (content_of (λ _. t)).incarnation) puts.1),
     )
 
-pub join_content : (db after : Database) (g : Gtrid) (set : KeySet branch_cmp) (before : Content) (row : Row) → IsLog db → content_of db.trees ≡ with_decision g set before → IsParticipantRow row → gtrid_in row ≡ g
+pub join_content : (db after : Database) (g : Gtrid) (set : KeySet branch_cmp) (before : Content) (row : Row) → IsLog db
+    → content_of db.trees ≡ with_decision g set before → IsParticipantRow row → gtrid_of_row row ≡ g
     → Puts 5 row db after × (after.trees 0 ≡ db.trees 0) × (after.trees 1 ≡ db.trees 1) × (after.trees 3 ≡ db.trees 3)
-    → IsLog after × (content_of after.trees ≡ with_decision g (insert set (branch_in row)) before)
+    → IsLog after × (content_of after.trees ≡ with_decision g (insert set (branch_of_row row)) before)
 join_content db after g set before row is was row_is named puts =
     let decisions : AllByRecursion IsDecisionRow (after.trees 1) = subst (AllByRecursion IsDecisionRow) (sym puts.2) is.decisions in
-    let participants : AllByRecursion IsParticipantRow (after.trees 5) = subst (AllByRecursion IsParticipantRow) (sym puts.0.rows) (all-put_row IsParticipantRow row (db.trees 5) row_is is.participants) in (
+    let participants : AllByRecursion IsParticipantRow (after.trees 5) =
+    subst (AllByRecursion IsParticipantRow) (sym puts.0.rows) (all-put_row IsParticipantRow row (db.trees 5) row_is is.participants) in (
       record {
         schema = puts.0.schema;
         meta = meta_stays (db.trees 0) (after.trees 0) puts.1 is.meta;
@@ -142,7 +155,8 @@ join_content db after g set before row is was row_is named puts =
         parents = parents_held after.trees decisions participants puts.0.refers;
       },
       same_content _ _
-          (booked_as _ _ _ _ puts.0.rows puts.2 ∙ booked_participant g set before.decisions row (db.trees 1) (db.trees 5) puts.0.fresh named (ap (λ (c : Content). c.decisions) was))
+          (booked_as _ _ _ _ puts.0.rows puts.2 ∙ booked_participant g set before.decisions row (db.trees 1) (db.trees 5) puts.0.fresh named
+          (ap (λ (c : Content). c.decisions) was))
           (ap (λ t. (content_of (λ _. t)).heuristics) puts.3 ∙ ap (λ (c : Content). c.heuristics) was)
           (ap (λ t. (content_of (λ _. t)).incarnation) puts.1 ∙ ap (λ (c : Content). c.incarnation) was),
     )
@@ -161,17 +175,17 @@ has_pairs (old ∷ olds) move h = elim h [ inl same ↦ inl (ap (λ (m : Row × 
 
 module _ (g : Gtrid) (db after : Database) (is : IsLog db) (takes : Takes gtrid_tests (col 1 0 ∷ []) (gtrid_params g) db after) where
   -- a decision that is taken is one of the transaction
-  taken_is : (old : Row) → Has (taken_rows db.trees takes.found) old → IsDecisionRow old × (is_of g (gtrid_in old) ≡ true)
+  taken_is : (old : Row) → Has (taken_rows db.trees takes.found) old → IsDecisionRow old × (is_of g (gtrid_of_row old) ≡ true)
   taken_is old h =
       let at = has_mapped (row_at (db.trees 1)) (ids_of takes.found) old h in
       let was = has_gone g (db.trees 1) takes.found is.decisions_apart is.decisions takes.answer at.0 at.1 in
       let row = all_has _ (db.trees 1) was.0 is.decisions was.1 in
       let own = subst (λ id. Rattle.sqlite.specs.Tree.has_rowid id was.0 ≡ true) (sym was.3) (has_own was.0 row) in
       let one : old ≡ was.0 = at.2 ∙ row_at_is (db.trees 1) at.0 was.0 is.decisions_apart was.1 own in
-      subst (λ r. IsDecisionRow r × (is_of g (gtrid_in r) ≡ true)) (sym one) (row, was.2)
+      subst (λ r. IsDecisionRow r × (is_of g (gtrid_of_row r) ≡ true)) (sym one) (row, was.2)
 
   -- and so is a participant that goes with it
-  gone_is : (id : Rattle.std.proofs.Common.ℤ) → Has takes.ids id → (r : Row) × Has (db.trees 5) r × (is_of g (gtrid_in r) ≡ true) × (rowid r ≡ Int id)
+  gone_is : (id : Rattle.std.proofs.Common.ℤ) → Has takes.ids id → (r : Row) × Has (db.trees 5) r × (is_of g (gtrid_of_row r) ≡ true) × (rowid r ≡ Int id)
   gone_is id k =
       let it = takes.sound id k in
       let olds = taken_rows db.trees takes.found in
@@ -180,14 +194,17 @@ module _ (g : Gtrid) (db after : Database) (is : IsLog db) (takes : Takes gtrid_
       let taken = taken_is old (has_pairs olds some.0 some.1) in
       let agrees = (and_parts _ _ some.2).1 in
       let row = all_has _ (db.trees 5) it.0 is.participants it.1 in
-      let same : is_of (gtrid_in it.0) (gtrid_in old) ≡ true = sym (agree_is it.0 old (gtrid_in it.0) (gtrid_in old) (participant_carries it.0 row) (decision_carries old taken.0)) ∙ agrees in
-      let one : gtrid_in it.0 ≡ gtrid_in old = exact_gtrids (gtrid_in it.0) (gtrid_in old) (equal_is _ same) in
+      let same : is_of (gtrid_of_row it.0) (gtrid_of_row old) ≡ true =
+      sym (agree_is it.0 old (gtrid_of_row it.0) (gtrid_of_row old) (participant_carries it.0 row) (decision_carries old taken.0)) ∙ agrees in
+      let one : gtrid_of_row it.0 ≡ gtrid_of_row old = exact_gtrids (gtrid_of_row it.0) (gtrid_of_row old) (equal_is _ same) in
       (it.0, it.1, subst (λ q. is_of g q ≡ true) (sym one) taken.1, it.3)
 
   pub taken_content : IsLog after × (content_of after.trees ≡ without_decision g (content_of db.trees))
   taken_content =
-      let decisions : AllByRecursion IsDecisionRow (after.trees 1) = subst (AllByRecursion IsDecisionRow) (sym takes.rows) (all_left IsDecisionRow (ids_of takes.found) (db.trees 1) is.decisions) in
-      let participants : AllByRecursion IsParticipantRow (after.trees 5) = subst (AllByRecursion IsParticipantRow) (sym takes.participants) (all_left IsParticipantRow takes.ids (db.trees 5) is.participants) in (
+      let decisions : AllByRecursion IsDecisionRow (after.trees 1) =
+      subst (AllByRecursion IsDecisionRow) (sym takes.rows) (all_left IsDecisionRow (ids_of takes.found) (db.trees 1) is.decisions) in
+      let participants : AllByRecursion IsParticipantRow (after.trees 5) =
+      subst (AllByRecursion IsParticipantRow) (sym takes.participants) (all_left IsParticipantRow takes.ids (db.trees 5) is.participants) in (
         record {
           schema = takes.schema;
           meta = meta_stays (db.trees 0) (after.trees 0) takes.meta is.meta;
@@ -199,30 +216,38 @@ module _ (g : Gtrid) (db after : Database) (is : IsLog db) (takes : Takes gtrid_
           parents = parents_held after.trees decisions participants takes.refers;
         },
         same_content _ _
-            (booked_as _ _ _ _ takes.participants takes.rows ∙ booked_without g (db.trees 1) (without_all (db.trees 1) (ids_of takes.found)) (db.trees 5) (without_all (db.trees 5) takes.ids)
-            (any_gone g (db.trees 1) takes.found is.decisions_apart is.decisions takes.answer) (parts_left g (db.trees 5) takes.ids is.participants_apart gone_is))
+            (booked_as _ _ _ _ takes.participants takes.rows ∙ booked_without g (db.trees 1) (without_all (db.trees 1) (ids_of takes.found))
+            (db.trees 5) (without_all (db.trees 5) takes.ids)
+            (any_gone g (db.trees 1) takes.found is.decisions_apart is.decisions takes.answer)
+            (parts_left g (db.trees 5) takes.ids is.participants_apart gone_is))
             (ap (λ t. (content_of (λ _. t)).heuristics) takes.heuristics)
             (ap (λ t. (content_of (λ _. t)).incarnation) takes.meta),
       )
 
-module _ (g : Gtrid) (params : Row) (given : params ≡ gtrid_params g) (old : State) (ready : IsReady old) where
-  delete_makes : (text : List ℕ) (tally : Tally) (after : Database) → Does old.step_limit at_once (gtrid_params g) old.now text None delete_command (Ok (tally, after))
+module _ (g : Gtrid) (params : Row) (given : params ≡ gtrid_params g) (old : State) (ready : HasLogTables old) where
+  delete_makes : (text : List ℕ) (tally : Tally) (after : Database)
+      → Does old.step_limit at_once (gtrid_params g) old.now text None delete_command (Ok (tally, after))
       → IsLog after × (content_of after.trees ≡ without_decision g (content_of old.now.trees))
   delete_makes text tally after h =
-      taken_content g old.now after ready.now (takes_decision old.step_limit (gtrid_params g) gtrid_tests (col 1 0 ∷ []) old.now after text tally ready.now.schema h)
+      taken_content g old.now after ready.now
+      (takes_decision old.step_limit (gtrid_params g) gtrid_tests (col 1 0 ∷ []) old.now after text tally ready.now.schema h)
 
   pub deletes : (new : State) (count : ℕ) → Executes delete_decision params old new (Ok count) → Did (without_decision g) old new
   deletes new count h =
-      let w = runs_as delete_decision (gtrid_params g) old new log_schema ready.now.schema delete_command delete_decision_is delete_decision_plain count (subst (λ p. Executes delete_decision p old new (Ok count)) given h) in
+      let w =
+      runs_as delete_decision (gtrid_params g) old new log_schema ready.now.schema delete_command delete_decision_is delete_decision_plain count
+      (subst (λ p. Executes delete_decision p old new (Ok count)) given h) in
       let made = delete_makes delete_text w.tally new.now w.changed in
       wrote (without_decision g) old new ready w.shown made.0 made.1
 
-  pub delete_commits : IsTrue old.is_open → (db : Trees) → CommitsBy delete_decision params old db → (content_of db ≡ without_decision g (content_of old.now.trees)) × AreLogTrees db
-  delete_commits is_open db h = elim (commits_as delete_decision delete_decision_plain old (λ _. ready) is_open delete_command delete_decision_is (gtrid_params g) db (subst (λ p. CommitsBy delete_decision p old db) given h)) [
-    | inl (inl is, same) ↦ absurd (let e = is in cc)
-    | inl (inr release, same) ↦ absurd (let e = release.2 in cc)
-    | inr writes ↦ (let made = delete_makes delete_text writes.1 writes.2 writes.3 in (ap content_of writes.5 ∙ made.1, subst AreLogTrees (sym writes.5) (as_log writes.2 made.0 writes.4)))
-  ]
+  pub delete_commits : IsTrue old.is_open → (db : Trees) → CommitsBy delete_decision params old db
+      → (content_of db ≡ without_decision g (content_of old.now.trees)) × AreLogTrees db
+  delete_commits is_open db h =
+      elim (commits_as delete_decision delete_decision_plain old (λ _. ready) is_open delete_command delete_decision_is (gtrid_params g) db (subst (λ p. CommitsBy delete_decision p old db) given h)) [
+        | inl (inl is, same) ↦ absurd (let e = is in cc)
+        | inl (inr release, same) ↦ absurd (let e = release.2 in cc)
+        | inr writes ↦ (let made = delete_makes delete_text writes.1 writes.2 writes.3 in (ap content_of writes.5 ∙ made.1, subst AreLogTrees (sym writes.5) (as_log writes.2 made.0 writes.4)))
+      ]
 
 -- ---- in a transaction
 
@@ -235,21 +260,33 @@ insert_command = Insert 1 (Values (lit Null ∷ col 0 0 ∷ col 0 1 ∷ []) 3)
 abbrev pub join_command : Command
 join_command = Insert 3 (Values (lit Null ∷ col 0 0 ∷ col 0 1 ∷ col 0 2 ∷ col 0 3 ∷ []) 5)
 
-pub writes_decision : (g : Gtrid) → FitsRow g → (params : Row) → params ≡ gtrid_params g → (old new : State) (count : ℕ) → MayBegin g old → ExecutesInside 0 insert_decision params old new (Ok count)
+pub writes_decision : (g : Gtrid) → FitsRow g → (params : Row) → params ≡ gtrid_params g → (old new : State) (count : ℕ)
+    → MayInsert g old → ExecutesInside 0 insert_decision params old new (Ok count)
     → HasWritten g empty (content_of old.now.trees) new
 writes_decision g fits params given old new count begins h =
-    let w = runs_as insert_decision (gtrid_params g) old new log_schema begins.now.schema insert_command insert_decision_is insert_decision_plain count (subst (λ p. Executes insert_decision p old new (Ok count)) given h.0) in
-    let made = put_content old.now new.now g _ begins.now begins.none (_, g, refl, fits) refl (puts_decision old.step_limit (pos g.incarnation) (pos g.sequence) old.now new.now (statement_of insert_decision (understood log_schema insert_decision)) w.tally begins.now.schema w.changed) in
+    let w =
+    runs_as insert_decision (gtrid_params g) old new log_schema begins.now.schema insert_command insert_decision_is insert_decision_plain count
+    (subst (λ p. Executes insert_decision p old new (Ok count)) given h.0) in
+    let made =
+    put_content old.now new.now g _ begins.now begins.none (_, g, refl, fits) refl
+    (puts_decision old.step_limit (pos g.incarnation) (pos g.sequence) old.now new.now
+    (statement_of insert_decision (understood log_schema insert_decision)) w.tally begins.now.schema w.changed) in
     record { is_open = h.1.is_open; inside = h.1.mode; now = made.0; sound = w.sound; content = made.1 }
 
-pub writes_participant : (b : Branch) (params : Row) → params ≡ branch_params b → (old new : State) (count : ℕ) (set : KeySet branch_cmp) (before : Content) → HasWritten b.gtrid set before old
+pub writes_participant : (b : Branch) (params : Row) → params ≡ branch_params b
+    → (old new : State) (count : ℕ) (set : KeySet branch_cmp) (before : Content) → HasWritten b.gtrid set before old
     → ExecutesInside 0 insert_participant params old new (Ok count) → HasWritten b.gtrid (insert set b) before new
 writes_participant b params given old new count set before has h =
-    let w = runs_as insert_participant (branch_params b) old new log_schema has.now.schema join_command insert_participant_is insert_participant_plain count (subst (λ p. Executes insert_participant p old new (Ok count)) given h.0) in
+    let w =
+    runs_as insert_participant (branch_params b) old new log_schema has.now.schema join_command insert_participant_is insert_participant_plain count
+    (subst (λ p. Executes insert_participant p old new (Ok count)) given h.0) in
     let made = join_content old.now new.now b.gtrid set before _ has.now has.content (_, b, refl) refl
-    (puts_participant old.step_limit (pos b.gtrid.incarnation) (pos b.gtrid.sequence) (pos b.thread) (pos b.rm) old.now new.now (statement_of insert_participant (understood log_schema insert_participant)) w.tally has.now.schema w.changed) in
+    (puts_participant old.step_limit (pos b.gtrid.incarnation) (pos b.gtrid.sequence) (pos b.thread) (pos b.rm) old.now new.now
+    (statement_of insert_participant (understood log_schema insert_participant)) w.tally has.now.schema w.changed) in
     record { is_open = h.1.is_open; inside = h.1.mode; now = made.0; sound = w.sound; content = made.1 }
 
 pub four_params : (b : Branch) → FitsRow b.gtrid → b.thread ≤ last_number → b.rm ≤ last_number
-    → Int (to_z w64 (of_z w64 (pos b.gtrid.incarnation))) ∷ Int (to_z w64 (of_z w64 (pos b.gtrid.sequence))) ∷ Int (to_z w64 (of_z w64 (pos b.thread))) ∷ Int (to_z w64 (of_z w64 (pos b.rm))) ∷ [] ≡ branch_params b
-four_params b fits thread rm = rw (bound_number b.gtrid.incarnation fits.0, bound_number b.gtrid.sequence fits.1, bound_number b.thread thread, bound_number b.rm rm) refl
+    → Int (to_z w64 (of_z w64 (pos b.gtrid.incarnation))) ∷ Int (to_z w64 (of_z w64 (pos b.gtrid.sequence)))
+    ∷ Int (to_z w64 (of_z w64 (pos b.thread))) ∷ Int (to_z w64 (of_z w64 (pos b.rm))) ∷ [] ≡ branch_params b
+four_params b fits thread rm =
+    rw (bound_number b.gtrid.incarnation fits.0, bound_number b.gtrid.sequence fits.1, bound_number b.thread thread, bound_number b.rm rm) refl

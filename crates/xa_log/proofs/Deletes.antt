@@ -35,13 +35,16 @@ pub record Takes (tests project : List Term) (params : Row) (db after : Database
   pub answer : IsPermutation (map (shown project params) (chosen tests params (db.trees 1))) found
   pub rows : after.trees 1 ≡ without_all (db.trees 1) (ids_of found)
   pub ids : List ℤ
-  pub sound : (id : ℤ) → Has ids id → (r : Row) × Has (db.trees 5) r × (list_any (is_child_of (cascade (taken_rows db.trees found)) r) (pairs (taken_rows db.trees found) []) ≡ true) × (rowid r ≡ Int id)
+  pub sound : (id : ℤ) → Has ids id
+      → (r : Row) × Has (db.trees 5) r
+      × (list_any (is_child_of (cascade (taken_rows db.trees found)) r) (pairs (taken_rows db.trees found) []) ≡ true) × (rowid r ≡ Int id)
   pub participants : after.trees 5 ≡ without_all (db.trees 5) ids
   pub meta : after.trees 0 ≡ db.trees 0
   pub heuristics : after.trees 3 ≡ db.trees 3
   pub refers : Refers All log_schema after.trees
 
-pub takes_decision : (limit : Option ℕ) (params : Row) (tests project : List Term) (db after : Database) (text : List ℕ) (tally : Tally) → db.schema ≡ log_schema
+pub takes_decision : (limit : Option ℕ) (params : Row) (tests project : List Term) (db after : Database) (text : List ℕ) (tally : Tally)
+    → db.schema ≡ log_schema
     → Does limit at_once params db text None (Delete 1 (record { lets = []; body = over 1 tests project })) (Ok (tally, after))
     → Takes tests project params db after
 takes_decision limit params tests project db after text tally has h =

@@ -17,7 +17,7 @@ use Rattle.xa_base.specs.declared.branch.Branch.{Branch}
 use Rattle.xa_base.specs.declared.code.How.{How}
 use Rattle.xa_base.specs.Branch.{gtrid_cmp, branch_cmp}
 use Rattle.xa_base.proofs.BranchOrder.{gtrids_total, exact_gtrids, branches_total, exact_branches}
-use Rattle.xa_log.specs.Memory.{row_of, decisions_in, heuristics_in}
+use Rattle.xa_log.specs.Memory.{row_held, decisions_in, heuristics_in}
 
 abbrev pub Rows : Type 0
 Rows = BTreeMap Gtrid (BTreeSet Branch)
@@ -27,17 +27,17 @@ set_of set = from_list set.keys
 
 -- ** the two maps, as look-ups
 
-find_rows : (es : List (Gtrid × BTreeSet Branch)) (q : Gtrid) → find gtrid_cmp q (map row_of es) ≡ option_map set_of (lookup (is_at (gtrid_cmp q)) es)
+find_rows : (es : List (Gtrid × BTreeSet Branch)) (q : Gtrid) → find gtrid_cmp q (map row_held es) ≡ option_map set_of (lookup (is_at (gtrid_cmp q)) es)
 find_rows [] q = refl
 find_rows (e ∷ es) q = by (is_at (gtrid_cmp q) e.0) (find_rows es q)
   where
-    by : (b : Bool) → find gtrid_cmp q (map row_of es) ≡ option_map set_of (lookup (is_at (gtrid_cmp q)) es)
-        → cond b (Some (set_of e.1)) (find gtrid_cmp q (map row_of es)) ≡ option_map set_of (cond b (Some e.1) (lookup (is_at (gtrid_cmp q)) es))
+    by : (b : Bool) → find gtrid_cmp q (map row_held es) ≡ option_map set_of (lookup (is_at (gtrid_cmp q)) es)
+        → cond b (Some (set_of e.1)) (find gtrid_cmp q (map row_held es)) ≡ option_map set_of (cond b (Some e.1) (lookup (is_at (gtrid_cmp q)) es))
     by true rest = refl
     by false rest = rest
 
 pub get_decisions : (rows : Rows) (q : Gtrid) → get (decisions_in rows) q ≡ option_map set_of (tree.get gtrid_cmp rows q)
-get_decisions rows q = get-from_entries gtrids_total (map row_of rows.entries) q ∙ find_rows rows.entries q
+get_decisions rows q = get-from_entries gtrids_total (map row_held rows.entries) q ∙ find_rows rows.entries q
 
 find_records : (es : List (Branch × How)) (q : Branch) → find branch_cmp q es ≡ lookup (is_at (branch_cmp q)) es
 find_records [] q = refl
@@ -63,16 +63,19 @@ mapped_if f true x y = refl
 mapped_if f false x y = refl
 
 -- one entry of the map has become w
-changed : (old new : Rows) (g : Gtrid) (w : Option (BTreeSet Branch)) → ((q : Gtrid) → tree.get gtrid_cmp new q ≡ cond (is_at (gtrid_cmp g) q) w (tree.get gtrid_cmp old q))
+changed : (old new : Rows) (g : Gtrid) (w : Option (BTreeSet Branch))
+    → ((q : Gtrid) → tree.get gtrid_cmp new q ≡ cond (is_at (gtrid_cmp g) q) w (tree.get gtrid_cmp old q))
     → (q : Gtrid) → get (decisions_in new) q ≡ cond (eq_by_cmp gtrid_cmp q g) (option_map set_of w) (get (decisions_in old) q)
 changed old new g w h q =
     get_decisions new q ∙ ap (option_map set_of) (h q) ∙ mapped_if set_of (is_at (gtrid_cmp g) q) w (tree.get gtrid_cmp old q)
     ∙ ap (λ b. cond b (option_map set_of w) (option_map set_of (tree.get gtrid_cmp old q))) ((eq_by_cmp_equiv gtrids_total).symm g q)
     ∙ ap (cond (eq_by_cmp gtrid_cmp q g) (option_map set_of w)) (sym (get_decisions old q))
 
-pub put_row : (old new : Rows) (g : Gtrid) (set : BTreeSet Branch) → ((q : Gtrid) → tree.get gtrid_cmp new q ≡ cond (is_at (gtrid_cmp g) q) (Some set) (tree.get gtrid_cmp old q))
+pub put_row : (old new : Rows) (g : Gtrid) (set : BTreeSet Branch)
+    → ((q : Gtrid) → tree.get gtrid_cmp new q ≡ cond (is_at (gtrid_cmp g) q) (Some set) (tree.get gtrid_cmp old q))
     → decisions_in new ≡ insert (decisions_in old) g (set_of set)
-put_row old new g set h = same_map gtrids_total exact_gtrids _ _ (λ q. changed old new g (Some set) h q ∙ sym (get-insert gtrids_total (decisions_in old) g (set_of set) q))
+put_row old new g set h =
+    same_map gtrids_total exact_gtrids _ _ (λ q. changed old new g (Some set) h q ∙ sym (get-insert gtrids_total (decisions_in old) g (set_of set) q))
 
 pub removed_row : (old new : Rows) (g : Gtrid) → ((q : Gtrid) → tree.get gtrid_cmp new q ≡ cond (is_at (gtrid_cmp g) q) None (tree.get gtrid_cmp old q))
     → decisions_in new ≡ remove (decisions_in old) g

@@ -17,17 +17,17 @@ use Rattle.xa_base.specs.declared.code.How.{How}
 use Rattle.xa_base.specs.Branch.{gtrid_cmp, branch_cmp}
 use Rattle.xa_base.proofs.BranchOrder.{gtrids_total, branches_total}
 use Rattle.xa_log.specs.Content.{all_listed}
-use Rattle.xa_log.specs.Memory.{row_of, decisions_in, heuristics_in}
+use Rattle.xa_log.specs.Memory.{row_held, decisions_in, heuristics_in}
 use Rattle.xa_log.proofs.KeySets.{entries-from_entries, items-from_list}
 use Rattle.xa_log.proofs.HeldRows.{Rows, set_of, get_decisions}
 
 -- ** what a log in memory holds
 
-sorted_rows : (rows : Rows) → tree.IsOrdered gtrid_cmp rows → IsStrictlySortedBy gtrid_cmp (keys_of (map row_of rows.entries))
+sorted_rows : (rows : Rows) → tree.IsOrdered gtrid_cmp rows → IsStrictlySortedBy gtrid_cmp (keys_of (map row_held rows.entries))
 sorted_rows rows up = subst (IsStrictlySortedBy gtrid_cmp) (sym (keys_of-map_values set_of rows.entries)) up
 
-pub decisions_listed : (rows : Rows) → tree.IsOrdered gtrid_cmp rows → entries (decisions_in rows) ≡ map row_of rows.entries
-decisions_listed rows up = entries-from_entries gtrids_total (map row_of rows.entries) (sorted_rows rows up)
+pub decisions_listed : (rows : Rows) → tree.IsOrdered gtrid_cmp rows → entries (decisions_in rows) ≡ map row_held rows.entries
+decisions_listed rows up = entries-from_entries gtrids_total (map row_held rows.entries) (sorted_rows rows up)
 
 pub decision_keys : (rows : Rows) → tree.IsOrdered gtrid_cmp rows → keys (decisions_in rows) ≡ keys_of rows.entries
 decision_keys rows up = ap keys_of (decisions_listed rows up) ∙ keys_of-map_values set_of rows.entries
@@ -54,7 +54,7 @@ row_missing rows g none =
 abbrev pub listed_in : List (BTreeSet Branch) → List Branch
 listed_in sets = flat_map (λ set. items (set_of set)) sets
 
-rows_listed : (es : List (Gtrid × BTreeSet Branch)) → all_listed (map row_of es) ≡ listed_in (values_of es)
+rows_listed : (es : List (Gtrid × BTreeSet Branch)) → all_listed (map row_held es) ≡ listed_in (values_of es)
 rows_listed [] = refl
 rows_listed (e ∷ es) = ap (λ l. items (set_of e.1) ++ l) (rows_listed es)
 

@@ -39,7 +39,8 @@ not_any false h = refl
 
 pub puts_decision : (limit : Option ℕ) (a b : ℤ) (db after : Database) (text : List ℕ) (tally : Tally) → db.schema ≡ log_schema
     → Does limit at_once (Int a ∷ Int b ∷ []) db text None (Insert 1 (Values (lit Null ∷ col 0 0 ∷ col 0 1 ∷ []) 3)) (Ok (tally, after))
-    → Puts 1 (Int (next_rowid (db.trees 1)) ∷ Int a ∷ Int b ∷ []) db after × (after.trees 0 ≡ db.trees 0) × (after.trees 3 ≡ db.trees 3) × (after.trees 5 ≡ db.trees 5)
+    → Puts 1 (Int (next_rowid (db.trees 1)) ∷ Int a ∷ Int b ∷ []) db after × (after.trees 0 ≡ db.trees 0)
+    × (after.trees 3 ≡ db.trees 3) × (after.trees 5 ≡ db.trees 5)
 puts_decision limit a b db after text tally has h =
     let params : Row = Int a ∷ Int b ∷ [] in
     let command = Insert 1 (Values (lit Null ∷ col 0 0 ∷ col 0 1 ∷ []) 3) in
@@ -70,8 +71,10 @@ puts_decision limit a b db after text tally has h =
     )
 
 pub puts_participant : (limit : Option ℕ) (a b c d : ℤ) (db after : Database) (text : List ℕ) (tally : Tally) → db.schema ≡ log_schema
-    → Does limit at_once (Int a ∷ Int b ∷ Int c ∷ Int d ∷ []) db text None (Insert 3 (Values (lit Null ∷ col 0 0 ∷ col 0 1 ∷ col 0 2 ∷ col 0 3 ∷ []) 5)) (Ok (tally, after))
-    → Puts 5 (Int (next_rowid (db.trees 5)) ∷ Int a ∷ Int b ∷ Int c ∷ Int d ∷ []) db after × (after.trees 0 ≡ db.trees 0) × (after.trees 1 ≡ db.trees 1) × (after.trees 3 ≡ db.trees 3)
+    → Does limit at_once (Int a ∷ Int b ∷ Int c ∷ Int d ∷ []) db text None
+    (Insert 3 (Values (lit Null ∷ col 0 0 ∷ col 0 1 ∷ col 0 2 ∷ col 0 3 ∷ []) 5)) (Ok (tally, after))
+    → Puts 5 (Int (next_rowid (db.trees 5)) ∷ Int a ∷ Int b ∷ Int c ∷ Int d ∷ []) db after × (after.trees 0 ≡ db.trees 0)
+    × (after.trees 1 ≡ db.trees 1) × (after.trees 3 ≡ db.trees 3)
 puts_participant limit a b c d db after text tally has h =
     let params : Row = Int a ∷ Int b ∷ Int c ∷ Int d ∷ [] in
     let command = Insert 3 (Values (lit Null ∷ col 0 0 ∷ col 0 1 ∷ col 0 2 ∷ col 0 3 ∷ []) 5) in
@@ -84,7 +87,8 @@ puts_participant limit a b c d db after text tally has h =
     let trees : done.0.trees ≡ written.0 = ap (λ (it : Written). it.trees) (same_value counted.2) ∙ same_value counted.1 in
     let edit = edit_of db.trees participant [] Chosen 0 given.0 in
     let row : Row = Int (next_rowid (db.trees 5)) ∷ Int a ∷ Int b ∷ Int c ∷ Int d ∷ [] in
-    let news : edit.news ≡ row ∷ [] = ap (λ all. (edit_of db.trees participant [] Chosen 0 all).news) given.1.1 ∙ rw (cast_null, cast_int a, cast_int b, cast_int c, cast_int d) refl in
+    let news : edit.news ≡ row ∷ [] =
+    ap (λ all. (edit_of db.trees participant [] Chosen 0 all).news) given.1.1 ∙ rw (cast_null, cast_int a, cast_int b, cast_int c, cast_int d) refl in
     let none : works log_schema Enforced 0 5 [] edit.news ≡ [] = ap (works log_schema Enforced 0 5 []) news in
     let applied = one_step log_schema Enforced db.trees written.0 edit none written.1 in
     let fresh = subst (λ all. are_fresh (db.trees 5) all ≡ true) news applied.fresh in
@@ -102,8 +106,10 @@ puts_participant limit a b c d db after text tally has h =
     )
 
 pub puts_heuristic : (limit : Option ℕ) (a b c d e : ℤ) (db after : Database) (text : List ℕ) (tally : Tally) → db.schema ≡ log_schema
-    → Does limit at_once (Int a ∷ Int b ∷ Int c ∷ Int d ∷ Int e ∷ []) db text None (Insert 2 (Values (lit Null ∷ col 0 0 ∷ col 0 1 ∷ col 0 2 ∷ col 0 3 ∷ col 0 4 ∷ []) 6)) (Ok (tally, after))
-    → Puts 3 (Int (next_rowid (db.trees 3)) ∷ Int a ∷ Int b ∷ Int c ∷ Int d ∷ Int e ∷ []) db after × (after.trees 0 ≡ db.trees 0) × (after.trees 1 ≡ db.trees 1) × (after.trees 5 ≡ db.trees 5)
+    → Does limit at_once (Int a ∷ Int b ∷ Int c ∷ Int d ∷ Int e ∷ []) db text None
+    (Insert 2 (Values (lit Null ∷ col 0 0 ∷ col 0 1 ∷ col 0 2 ∷ col 0 3 ∷ col 0 4 ∷ []) 6)) (Ok (tally, after))
+    → Puts 3 (Int (next_rowid (db.trees 3)) ∷ Int a ∷ Int b ∷ Int c ∷ Int d ∷ Int e ∷ []) db after × (after.trees 0 ≡ db.trees 0)
+    × (after.trees 1 ≡ db.trees 1) × (after.trees 5 ≡ db.trees 5)
 puts_heuristic limit a b c d e db after text tally has h =
     let params : Row = Int a ∷ Int b ∷ Int c ∷ Int d ∷ Int e ∷ [] in
     let command = Insert 2 (Values (lit Null ∷ col 0 0 ∷ col 0 1 ∷ col 0 2 ∷ col 0 3 ∷ col 0 4 ∷ []) 6) in
@@ -116,7 +122,9 @@ puts_heuristic limit a b c d e db after text tally has h =
     let trees : done.0.trees ≡ written.0 = ap (λ (it : Written). it.trees) (same_value counted.2) ∙ same_value counted.1 in
     let edit = edit_of db.trees heuristic [] Chosen 0 given.0 in
     let row : Row = Int (next_rowid (db.trees 3)) ∷ Int a ∷ Int b ∷ Int c ∷ Int d ∷ Int e ∷ [] in
-    let news : edit.news ≡ row ∷ [] = ap (λ all. (edit_of db.trees heuristic [] Chosen 0 all).news) given.1.1 ∙ rw (cast_null, cast_int a, cast_int b, cast_int c, cast_int d, cast_int e) refl in
+    let news : edit.news ≡ row ∷ [] =
+    ap (λ all. (edit_of db.trees heuristic [] Chosen 0 all).news) given.1.1
+    ∙ rw (cast_null, cast_int a, cast_int b, cast_int c, cast_int d, cast_int e) refl in
     let none : works log_schema Enforced 0 3 [] edit.news ≡ [] = ap (works log_schema Enforced 0 3 []) news in
     let applied = one_step log_schema Enforced db.trees written.0 edit none written.1 in
     let fresh = subst (λ all. are_fresh (db.trees 3) all ≡ true) news applied.fresh in

@@ -20,7 +20,7 @@ use Rattle.xa_base.proofs.BranchOrder.{gtrids_total, exact_gtrids, branches_tota
 use Rattle.xa_log.specs.Content.{Content, with_decision, without_decision, committed}
 use Rattle.xa_log.specs.Contract.{Makes}
 use Rattle.xa_log.specs.Rows.{IsLog, content_of}
-use Rattle.xa_log.specs.Sql.{AreLogTrees, IsReady, IsOrderly, content_in, OnlyReads, MayChange, HasWritten, MayBegin, Lacks, IsUndone}
+use Rattle.xa_log.specs.Sql.{AreLogTrees, HasLogTables, IsOrderly, content_in, OnlyReads, MayChange, HasWritten, MayInsert, Lacks, IsShutOrAsBefore}
 use Rattle.xa_log.proofs.States.{Did, did_makes, changes_then}
 use Rattle.xa_log.proofs.DecisionRows.{same_content}
 use Rattle.xa_log.proofs.Lasting.{as_log}
@@ -31,12 +31,15 @@ use Rattle.xa_log.proofs.Contents.{equal_is}
 pub survives_none : (a b c : State) → Survives a b (λ _. ⊥) → Survives b c (λ _. ⊥) → Survives a c (λ _. ⊥)
 survives_none a b c p q = survives_then a b c _ _ (λ _. ⊥) (λ _ db none. none) (λ _ db none. none) p q
 
-pub written_more : (g : Gtrid) (xs : List Branch) (i : ℕ) (d : Branch) → i < length xs → AllByRecursion (λ (b : Branch). b.gtrid ≡ g) xs → (before : Content) (old new : State) → HasWritten g (from_list (take i xs)) before old
-    → ((set : KeySet branch_cmp) (before : Content) → HasWritten (get_or xs i d).gtrid set before old → HasWritten (get_or xs i d).gtrid (insert set (get_or xs i d)) before new)
+pub written_more : (g : Gtrid) (xs : List Branch) (i : ℕ) (d : Branch) → i < length xs
+    → AllByRecursion (λ (b : Branch). b.gtrid ≡ g) xs → (before : Content) (old new : State) → HasWritten g (from_list (take i xs)) before old
+    → ((set : KeySet branch_cmp) (before : Content) → HasWritten (get_or xs i d).gtrid set before old
+    → HasWritten (get_or xs i d).gtrid (insert set (get_or xs i d)) before new)
     → HasWritten g (from_list (take (i + 1) xs)) before new
 written_more g xs i d low own before old new has step =
     let mine : (get_or xs i d).gtrid ≡ g = all-get_or (λ (b : Branch). b.gtrid ≡ g) xs i d own low in
-    let set : insert (from_list (take i xs)) (get_or xs i d) ≡ from_list (take (i + 1) xs) = sym (ap from_list (take_more xs i d low) ∙ from_list_push branches_total exact_branches (take i xs) (get_or xs i d)) in
+    let set : insert (from_list (take i xs)) (get_or xs i d) ≡ from_list (take (i + 1) xs) =
+    sym (ap from_list (take_more xs i d low) ∙ from_list_push branches_total exact_branches (take i xs) (get_or xs i d)) in
     subst (λ s. HasWritten g s before new) set (subst (λ q. HasWritten q (insert (from_list (take i xs)) (get_or xs i d)) before new) mine
     (step (from_list (take i xs)) before (subst (λ q. HasWritten q (from_list (take i xs)) before old) (sym mine) has)))
 
@@ -45,7 +48,7 @@ written_more g xs i d low own before old new has step =
 abbrev pub begun : State → State
 begun s = record s { in_transaction = true }
 
-pub undone_after : (a m e : State) → KeepsCommit (begun a) m → IsRolledBack m e → IsUndone a e
+pub undone_after : (a m e : State) → KeepsCommit (begun a) m → IsRolledBack m e → IsShutOrAsBefore a e
 undone_after a m e keeps back = record {
   was_open = λ h. keeps.was_open (back.was_open h);
   undone = λ h. let kept = keeps.committed (back.was_open h) in ((back.undone h).0 ∙ kept, (back.undone h).1 ∙ kept);
@@ -53,7 +56,7 @@ undone_after a m e keeps back = record {
 }
 
 module _ (a e : State) (opened : IsTrue e.is_open → HasCleanDisk e) where
-  undone_ready : IsUndone a e → IsOrderly a → IsTrue e.is_open → IsReady e
+  undone_ready : IsShutOrAsBefore a e → IsOrderly a → IsTrue e.is_open → HasLogTables e
   undone_ready u order h =
       let ready = order (u.was_open h) in
       record {
@@ -62,15 +65,16 @@ module _ (a e : State) (opened : IsTrue e.is_open → HasCleanDisk e) where
         committed = (u.undone h).1 ∙ sym (u.undone h).0;
       }
 
-  undone_same : IsUndone a e → IsOrderly a → IsTrue e.is_open → content_in e ≡ content_in a
+  undone_same : IsShutOrAsBefore a e → IsOrderly a → IsTrue e.is_open → content_in e ≡ content_in a
   undone_same u order h =
       let is : e.is_open ≡ true = h in
       let was : a.is_open ≡ true = u.was_open h in
       let now = (u.undone h).0 ∙ (order (u.was_open h)).committed in
       rw (is, was) (ap (λ (d : Database). Some (content_of d.trees)) now)
 
-  pub tried : (P : Trees → Type 0) → Survives a e P → (change : Content → Content) → (IsOrderly a → HasCleanDisk e → IsUndone a e ⊎ Did change a e)
-      → (IsOrderly a → HasCleanDisk e → (db : Trees) → P db → IsTrue a.is_open × (content_of db ≡ change (content_of a.now.trees)) × AreLogTrees db) → MayChange change a e
+  pub tried : (P : Trees → Type 0) → Survives a e P → (change : Content → Content) → (IsOrderly a → HasCleanDisk e → IsShutOrAsBefore a e ⊎ Did change a e)
+      → (IsOrderly a → HasCleanDisk e → (db : Trees) → P db → IsTrue a.is_open × (content_of db ≡ change (content_of a.now.trees)) × AreLogTrees db)
+      → MayChange change a e
   tried P survives change did commits = record {
     honest = λ clean. omega (arith, survives.clean);
     order = λ order h. elim (did order (opened h)) [ inl undone ↦ undone_ready undone order h | inr made ↦ made.ready ];
@@ -101,14 +105,14 @@ pub record IsWritten (x : Gtrid) (set : KeySet branch_cmp) (a m : State) : Type 
 
 module _ (x : Gtrid) (set : KeySet branch_cmp) (a m e : State) where
   pub written_all : (first : State) → (HasCleanDisk m → HasCleanDisk first) → (HasCleanDisk first → IsTrue a.is_open)
-      → (MayBegin x (begun a) → HasCleanDisk first → HasWritten x empty (content_of a.now.trees) first)
+      → (MayInsert x (begun a) → HasCleanDisk first → HasWritten x empty (content_of a.now.trees) first)
       → (HasCleanDisk m → (before : Content) → HasWritten x empty before first → HasWritten x set before m)
       → Lacks x a → IsOrderly a → HasCleanDisk m → IsWritten x set a m
   written_all first early live one rest lacks order clean =
       let is_open = live (early clean) in
       let was : a.is_open ≡ true = is_open in
       let none = lacks (content_of a.now.trees) (rw was refl) in
-      let begins : MayBegin x (begun a) = record { inside = refl; now = (order is_open).now; none = none } in
+      let begins : MayInsert x (begun a) = record { inside = refl; now = (order is_open).now; none = none } in
       record { was_open = is_open; none = none; has = rest clean (content_of a.now.trees) (one begins (early clean)) }
 
   pub committed_all : IsWritten x set a m → Shows m e m.now m.now false → Did (committed x set) a e
@@ -119,16 +123,23 @@ module _ (x : Gtrid) (set : KeySet branch_cmp) (a m e : State) where
     content = ap (λ (d : Database). content_of d.trees) shown.now_is ∙ it.has.content ∙ fresh x set (content_of a.now.trees) it.none;
   }
 
-  pub failed_all : (error : Error) → KeepsCommit (begun a) m → IsWritten x set a m → FailsToCommit m e error → IsUndone a e
+  pub failed_all : (error : Error) → KeepsCommit (begun a) m → IsWritten x set a m → FailsToCommit m e error → IsShutOrAsBefore a e
   failed_all error keeps it (inl fails) = undone_after a m e keeps fails.3
   failed_all error keeps it (inr ended) = absurd (true≢false (sym it.has.inside ∙ ended.1))
 
-  pub commits_all : IsWritten x set a m → (db : Trees) → db ≡ m.now.trees → IsTrue a.is_open × (content_of db ≡ committed x set (content_of a.now.trees)) × AreLogTrees db
-  commits_all it db same = (it.was_open, ap content_of same ∙ it.has.content ∙ fresh x set (content_of a.now.trees) it.none, subst AreLogTrees (sym same) (as_log m.now it.has.now it.has.sound))
+  pub commits_all : IsWritten x set a m → (db : Trees) → db ≡ m.now.trees
+      → IsTrue a.is_open × (content_of db ≡ committed x set (content_of a.now.trees)) × AreLogTrees db
+  commits_all it db same = (
+    it.was_open,
+    ap content_of same ∙ it.has.content ∙ fresh x set (content_of a.now.trees) it.none,
+    subst AreLogTrees (sym same)
+        (as_log m.now it.has.now it.has.sound),
+  )
 
 -- ---- a look, and then the change
 
-pub once : (P : Type 0) (change : Content → Content) (a b c : State) → OnlyReads a b → (HasCleanDisk c → HasCleanDisk b) → (IsOrderly a → P) → (P → MayChange change b c) → MayChange change a c
+pub once : (P : Type 0) (change : Content → Content) (a b c : State) → OnlyReads a b → (HasCleanDisk c → HasCleanDisk b)
+    → (IsOrderly a → P) → (P → MayChange change b c) → MayChange change a c
 once P change a b c reads honest holds changes = record {
   honest = λ clean. reads.honest (honest clean);
   order = λ order. (changes_then a b c change reads (changes (holds order))).order order;
@@ -142,7 +153,8 @@ no_some None h = refl
 no_some (Some x) h = absurd (true≢false (sym h))
 
 -- what a look told of the log before it, of the log after it
-pub told : (Q : Content → Type 0) (a b : State) → (IsTrue b.is_open → HasCleanDisk b) → (IsOrderly a → HasCleanDisk b → IsSomeAnd (content_in a) (λ c. (content_in b ≡ Some c) × Q c)) → IsOrderly a
+pub told : (Q : Content → Type 0) (a b : State) → (IsTrue b.is_open → HasCleanDisk b)
+    → (IsOrderly a → HasCleanDisk b → IsSomeAnd (content_in a) (λ c. (content_in b ≡ Some c) × Q c)) → IsOrderly a
     → (c : Content) → content_in b ≡ Some c → Q c
 told Q a b opened found order c is = go (content_in a) (found order (opened (is_there (cases_Bool b.is_open))))
   where
@@ -155,27 +167,32 @@ told Q a b opened found order c is = go (content_in a) (found order (opened (is_
     go (Some d) h = let same : Some d ≡ Some c = sym h.0 ∙ is in let one : d ≡ c = cc in subst Q one h.1
 
 -- the look found none
-pub looked : (x : Gtrid) (a b : State) → (IsTrue b.is_open → HasCleanDisk b) → (IsOrderly a → HasCleanDisk b → IsSomeAnd (content_in a) (λ c. (content_in b ≡ Some c) × (false ≡ contains_key c.decisions x))) → IsOrderly a → Lacks x b
+pub looked : (x : Gtrid) (a b : State) → (IsTrue b.is_open → HasCleanDisk b)
+    → (IsOrderly a → HasCleanDisk b → IsSomeAnd (content_in a) (λ c. (content_in b ≡ Some c) × (false ≡ contains_key c.decisions x))) → IsOrderly a → Lacks x b
 looked x a b opened found order c is = no_some _ (told (λ c. false ≡ contains_key c.decisions x) a b opened found order c is)
 
 -- and what follows from it
-pub found_none : (x : Gtrid) (set : KeySet branch_cmp) (a b c : Option Content) → IsSomeAnd a (λ y. (b ≡ Some y) × (false ≡ contains_key y.decisions x)) → Makes (committed x set) b c → Makes (committed x set) a c
+pub found_none : (x : Gtrid) (set : KeySet branch_cmp) (a b c : Option Content)
+    → IsSomeAnd a (λ y. (b ≡ Some y) × (false ≡ contains_key y.decisions x)) → Makes (committed x set) b c → Makes (committed x set) a c
 found_none x set None b c h made = h
 found_none x set (Some y) b c h made = subst (λ o. Makes (committed x set) o c) h.0 made
 
-pub found_one : (x : Gtrid) (set : KeySet branch_cmp) (a b : Option Content) → IsSomeAnd a (λ y. (b ≡ Some y) × (true ≡ contains_key y.decisions x)) → Makes (committed x set) a b
+pub found_one : (x : Gtrid) (set : KeySet branch_cmp) (a b : Option Content)
+    → IsSomeAnd a (λ y. (b ≡ Some y) × (true ≡ contains_key y.decisions x)) → Makes (committed x set) a b
 found_one x set None b h = h
 found_one x set (Some y) b h = h.0 ∙ ap Some (ap (λ t. cond t y (with_decision x set y)) h.1)
 
 -- ---- one fewer
 
 pub without_itself : (g : Gtrid) (c : Content) → contains_key c.decisions g ≡ false → without_decision g c ≡ c
-without_itself g c none = same_content _ _ (same_map gtrids_total exact_gtrids _ _ (λ q. get-remove gtrids_total c.decisions g q ∙ absent q (eq_by_cmp gtrid_cmp q g) refl)) refl refl
+without_itself g c none =
+    same_content _ _ (same_map gtrids_total exact_gtrids _ _ (λ q. get-remove gtrids_total c.decisions g q ∙ absent q (eq_by_cmp gtrid_cmp q g) refl)) refl refl
   where
     absent : (q : Gtrid) (b : Bool) → eq_by_cmp gtrid_cmp q g ≡ b → cond b None (get c.decisions q) ≡ get c.decisions q
     absent q true same = sym (subst (λ x. get c.decisions x ≡ None) (sym (exact_gtrids q g (equal_is _ same))) (no_some _ (sym none)))
     absent q false apart = refl
 
-pub found_gone : (g : Gtrid) (old new : Option Content) → IsSomeAnd old (λ c. (new ≡ Some c) × (false ≡ contains_key c.decisions g)) → Makes (without_decision g) old new
+pub found_gone : (g : Gtrid) (old new : Option Content)
+    → IsSomeAnd old (λ c. (new ≡ Some c) × (false ≡ contains_key c.decisions g)) → Makes (without_decision g) old new
 found_gone g None new h = h
 found_gone g (Some c) new h = h.0 ∙ ap Some (sym (without_itself g c (sym h.1)))

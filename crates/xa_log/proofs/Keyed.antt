@@ -59,7 +59,8 @@ module _ {K X : Type 0} {R : K → K → Ordering} (o : IsTotalOrder R) (exact :
   pub has_find : (q : K) (v : X) (es : List (K × X)) → IsOnce es → Has es (q, v) → find R q es ≡ Some v
   has_find q v [] once h = absurd h
   has_find q v (e ∷ es) once h = elim (cases_Bool (eq_by_cmp R q e.0)) [
-    | inl same ↦ ap (λ b. cond b (Some e.1) (find R q es)) same ∙ ap (λ (x : K × X). Some x.1) (once e (q, v) (inl refl) h (sym (exact q e.0 (equal_is _ same))))
+    | inl same ↦ ap (λ b. cond b (Some e.1) (find R q es)) same
+        ∙ ap (λ (x : K × X). Some x.1) (once e (q, v) (inl refl) h (sym (exact q e.0 (equal_is _ same))))
     | inr apart ↦ ap (λ b. cond b (Some e.1) (find R q es)) apart ∙ elim h [
       | inl one ↦ absurd (true≢false (sym (ap is_eq (tied_itself o q)) ∙ subst (λ k. eq_by_cmp R q k ≡ false) (sym (ap (λ (x : K × X). x.0) one)) apart))
       | inr later ↦ has_find q v es (λ a b p s. once a b (inr p) (inr s)) later
@@ -67,7 +68,8 @@ module _ {K X : Type 0} {R : K → K → Ordering} (o : IsTotalOrder R) (exact :
   ]
 
   -- two lists with the same entries are one map
-  pub same_entries_in : (es fs : List (K × X)) → ((e : K × X) → Has es e → Has fs e) → ((e : K × X) → Has fs e → Has es e) → IsOnce fs → from_entries {R = R} es ≡ from_entries fs
+  pub same_entries_in : (es fs : List (K × X)) → ((e : K × X) → Has es e → Has fs e) → ((e : K × X) → Has fs e → Has es e)
+      → IsOnce fs → from_entries {R = R} es ≡ from_entries fs
   same_entries_in es fs into back once = same_map o exact _ _ (λ q. get-from_entries o es q ∙ both q ∙ sym (get-from_entries o fs q))
     where
       both : (q : K) → find R q es ≡ find R q fs
@@ -82,7 +84,8 @@ module _ {K X : Type 0} {R : K → K → Ordering} (o : IsTotalOrder R) (exact :
   -- ---- lists in the order of their keys
 
   -- an entry comes before those that rise, and below them
-  goes_first : (x : K) (v : X) (es : List (K × X)) → AllByRecursion (λ y. R x y ≡ Less) (map (λ (e : K × X). e.0) es) → T (is_sorted R es) → T (is_sorted R ((x, v) ∷ es))
+  goes_first : (x : K) (v : X) (es : List (K × X)) → AllByRecursion (λ y. R x y ≡ Less) (map (λ (e : K × X). e.0) es)
+      → T (is_sorted R es) → T (is_sorted R ((x, v) ∷ es))
   goes_first x v [] all up = tt
   goes_first x v (e ∷ es) all up = joined (is_lt (R x e.0)) _ _ _ (subst (λ r. T (is_lt r)) (sym all.0) tt) (goes_first x v es all.1 (later _ _ up)) up
 
@@ -123,18 +126,24 @@ swapped_tie {R = R} o k q b = ap (λ t. cond t true b) ((eq_by_cmp_equiv o).symm
     either true b = refl
     either false b = refl
 
-module _ {K X : Type 0} {R : K → K → Ordering} (o : IsTotalOrder R) (exact : IsAntisymmetric R) (f : X → K) (xs ys : List X) (i : ℕ) (x : X) (seen : ys ≡ xs) (here : x ≡ get_or ys i x) (low : i < length xs) where
+module _ {K X : Type 0} {R : K → K → Ordering} (o : IsTotalOrder R) (exact : IsAntisymmetric R) (f : X
+    → K) (xs ys : List X) (i : ℕ) (x : X) (seen : ys ≡ xs) (here : x ≡ get_or ys i x) (low : i < length xs) where
   more : map f (take (i + 1) xs) ≡ map f (take i xs) ++ f x ∷ []
-  more = ap (map f) (take_more xs i x low) ∙ map-append f (take i xs) (get_or xs i x ∷ []) ∙ ap (λ y. map f (take i xs) ++ f y ∷ []) (sym (here ∙ ap (λ all. get_or all i x) seen))
+  more = ap (map f) (take_more xs i x low) ∙ map-append f (take i xs) (get_or xs i x ∷ [])
+      ∙ ap (λ y. map f (take i xs) ++ f y ∷ []) (sym (here ∙ ap (λ all. get_or all i x) seen))
 
-  pub set_more : (old new : BTreeSet K) (k : K) → k ≡ f x → from_list {R = R} old.keys ≡ from_list (map f (take i xs)) → Updates R old new k true → from_list {R = R} new.keys ≡ from_list (map f (take (i + 1) xs))
+  pub set_more : (old new : BTreeSet K) (k : K) → k ≡ f x → from_list {R = R} old.keys ≡ from_list (map f (take i xs))
+      → Updates R old new k true → from_list {R = R} new.keys ≡ from_list (map f (take (i + 1) xs))
   set_more old new k is was put =
-      let one : from_list {R = R} new.keys ≡ insert (from_list old.keys) k = same_set o exact _ _ (λ q. contains-from_list o new.keys q ∙ put.0 q ∙ swapped_tie o k q (list_any (eq_by_cmp R q) old.keys)
+      let one : from_list {R = R} new.keys ≡ insert (from_list old.keys) k =
+      same_set o exact _ _ (λ q. contains-from_list o new.keys q ∙ put.0 q ∙ swapped_tie o k q (list_any (eq_by_cmp R q) old.keys)
       ∙ sym (contains-insert o (from_list old.keys) k q ∙ ap (λ b. eq_by_cmp R q k || b) (contains-from_list o old.keys q))) in
-      one ∙ ap (λ y. insert (from_list {R = R} old.keys) y) is ∙ ap (λ s. insert s (f x)) was ∙ sym (ap from_list more ∙ from_list_push o exact (map f (take i xs)) (f x))
+      one ∙ ap (λ y. insert (from_list {R = R} old.keys) y) is ∙ ap (λ s. insert s (f x)) was
+      ∙ sym (ap from_list more ∙ from_list_push o exact (map f (take i xs)) (f x))
 
 -- the keys in order of a set that was made so
-pub set_listed : {K : Type 0} {R : K → K → Ordering} → IsTotalOrder R → IsAntisymmetric R → (set : BTreeSet K) (ks : List K) → IsStrictlySortedBy R set.keys → from_list {R = R} set.keys ≡ from_list ks → set.keys ≡ items (from_list {R = R} ks)
+pub set_listed : {K : Type 0} {R : K → K → Ordering} → IsTotalOrder R → IsAntisymmetric R → (set : BTreeSet K) (ks : List K)
+    → IsStrictlySortedBy R set.keys → from_list {R = R} set.keys ≡ from_list ks → set.keys ≡ items (from_list {R = R} ks)
 set_listed o exact set ks up same = sym (items-from_list o set.keys up) ∙ ap items same
 
 -- ---- the same of a map, where the last entry of a key counts
@@ -143,21 +152,28 @@ looked_up : {K X : Type 0} (R : K → K → Ordering) (q : K) (es : List (K × X
 looked_up R q [] = refl
 looked_up R q (e ∷ es) = ap (cond (eq_by_cmp R q e.0) (Some e.1)) (looked_up R q es)
 
-module _ {K X A : Type 0} {R : K → K → Ordering} (o : IsTotalOrder R) (exact : IsAntisymmetric R) (f : A → K × X) (xs ys : List A) (i : ℕ) (x : A) (seen : ys ≡ xs) (here : x ≡ get_or ys i x) (low : i < length xs) where
+module _ {K X A : Type 0} {R : K → K → Ordering} (o : IsTotalOrder R) (exact : IsAntisymmetric R) (f : A
+    → K × X) (xs ys : List A) (i : ℕ) (x : A) (seen : ys ≡ xs) (here : x ≡ get_or ys i x) (low : i < length xs) where
   turned : reverse (map f (take (i + 1) xs)) ≡ f x ∷ reverse (map f (take i xs))
   turned =
       ap reverse (ap (map f) (take_more xs i x low) ∙ map-append f (take i xs) (get_or xs i x ∷ []) ∙ ap (λ y. map f (take i xs) ++ f y ∷ []) (sym (here ∙ ap (λ all. get_or all i x) seen)))
       ∙ reverse-append (map f (take i xs)) (f x ∷ [])
 
-  pub map_more : (old new : BTreeMap K X) (k : K) (v : X) → (k, v) ≡ f x → from_entries {R = R} old.entries ≡ from_entries (reverse (map f (take i xs))) → ((q : K) → get_tree R new q ≡ cond (eq_by_cmp R k q) (Some v) (get_tree R old q))
+  pub map_more : (old new : BTreeMap K X) (k : K) (v : X) → (k, v) ≡ f x
+      → from_entries {R = R} old.entries ≡ from_entries (reverse (map f (take i xs)))
+      → ((q : K) → get_tree R new q ≡ cond (eq_by_cmp R k q) (Some v) (get_tree R old q))
       → from_entries {R = R} new.entries ≡ from_entries (reverse (map f (take (i + 1) xs)))
   map_more old new k v is was put =
-      let one : from_entries {R = R} new.entries ≡ put_in (from_entries old.entries) k v = same_map o exact _ _ (λ q. get-from_entries o new.entries q ∙ looked_up R q new.entries ∙ put q
-      ∙ ap (λ t. cond t (Some v) (get_tree R old q)) ((eq_by_cmp_equiv o).symm k q) ∙ ap (λ g. cond (eq_by_cmp R q k) (Some v) g) (sym (get-from_entries o old.entries q ∙ looked_up R q old.entries))
+      let one : from_entries {R = R} new.entries ≡ put_in (from_entries old.entries) k v =
+      same_map o exact _ _ (λ q. get-from_entries o new.entries q ∙ looked_up R q new.entries ∙ put q
+      ∙ ap (λ t. cond t (Some v) (get_tree R old q)) ((eq_by_cmp_equiv o).symm k q)
+      ∙ ap (λ g. cond (eq_by_cmp R q k) (Some v) g) (sym (get-from_entries o old.entries q ∙ looked_up R q old.entries))
       ∙ sym (get-insert o (from_entries old.entries) k v q)) in
-      one ∙ ap (λ m. put_in m k v) was ∙ ap (λ (e : K × X). put_in (from_entries {R = R} (reverse (map f (take i xs)))) e.0 e.1) is ∙ sym (ap from_entries turned)
+      one ∙ ap (λ m. put_in m k v) was
+      ∙ ap (λ (e : K × X). put_in (from_entries {R = R} (reverse (map f (take i xs)))) e.0 e.1) is ∙ sym (ap from_entries turned)
 
-pub map_listed : {K X : Type 0} {R : K → K → Ordering} → IsTotalOrder R → IsAntisymmetric R → (m : BTreeMap K X) (es : List (K × X)) → IsStrictlySortedBy R (map (λ (e : K × X). e.0) m.entries) → from_entries {R = R} m.entries ≡ from_entries es
+pub map_listed : {K X : Type 0} {R : K → K → Ordering} → IsTotalOrder R → IsAntisymmetric R
+    → (m : BTreeMap K X) (es : List (K × X)) → IsStrictlySortedBy R (map (λ (e : K × X). e.0) m.entries) → from_entries {R = R} m.entries ≡ from_entries es
     → m.entries ≡ entries (from_entries {R = R} es)
 map_listed o exact m es up same = sym (entries-from_entries o m.entries up) ∙ ap entries same
 
@@ -194,7 +210,8 @@ module _ {K : Type 0} (R : K → K → Ordering) where
   from_ascending [] up = tt
   from_ascending (k ∷ ks) up = (up.0, from_ascending ks up.1)
 
-  pub append_rises : (xs ys : List K) → IsStrictlySortedBy R xs → IsStrictlySortedBy R ys → ((x y : K) → Has xs x → Has ys y → R x y ≡ Less) → IsStrictlySortedBy R (xs ++ ys)
+  pub append_rises : (xs ys : List K) → IsStrictlySortedBy R xs → IsStrictlySortedBy R ys
+      → ((x y : K) → Has xs x → Has ys y → R x y ≡ Less) → IsStrictlySortedBy R (xs ++ ys)
   append_rises xs ys p q below =
       let first : IsAscending (λ a b. R a b ≡ Less) xs = as_ascending xs p in
       let second : IsAscending (λ a b. R a b ≡ Less) ys = as_ascending ys q in

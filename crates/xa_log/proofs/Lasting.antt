@@ -10,7 +10,7 @@ use Rattle.xa_log.specs.Contract.{Changes, Makes, Reads, faults_after}
 use Rattle.xa_log.specs.declared.log_fault.LogFault.{LogFault}
 use Rattle.xa_log.specs.Opened.{IsFoundLog}
 use Rattle.xa_log.specs.Rows.{IsLog}
-use Rattle.xa_log.specs.Sql.{AreLogTrees, IsLasting, IsOrderly, IsReady, MayChange, OnlyReads, content_in, sql_moment}
+use Rattle.xa_log.specs.Sql.{AreLogTrees, IsLasting, IsOrderly, HasLogTables, MayChange, OnlyReads, content_in, sql_moment}
 use Rattle.xa_log.specs.Tables.{log_schema}
 use Rattle.xa_log.proofs.Parts.{on_err}
 
@@ -59,7 +59,7 @@ log_changes change old new n m r may ok faults = record {
 }
 
 -- the trees tell their tables, so an open finds those of the log
-pub found_ready : (s : State) → IsFoundLog s → IsReady s
+pub found_ready : (s : State) → IsFoundLog s → HasLogTables s
 found_ready s is =
     let tables = lists_once (s.now.trees catalog_tree) s.now.schema log_schema (is.live is.opens.is_open).0.lists is.log.sound.lists in
     let same : record { schema = log_schema; trees = s.now.trees } ≡ s.now = λ i. record { schema = sym tables i; trees = s.now.trees } in

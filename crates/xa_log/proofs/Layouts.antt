@@ -6,7 +6,7 @@ use Rattle.sqlite.specs.State.{State, IsUnchanged}
 use Rattle.xa_log.specs.Tables.{old_schema, log_schema}
 use Rattle.xa_log.specs.Rows.{IsOldLog, content_of, old_content_of}
 use Rattle.xa_log.specs.Opened.{HasRow}
-use Rattle.xa_log.specs.Sql.{IsOldReady, IsReady, IsUndone, Rests}
+use Rattle.xa_log.specs.Sql.{IsOldReady, HasLogTables, IsShutOrAsBefore, Rests}
 
 pub meta_in_old : is_some (table_named old_schema (codes "tm_meta")) ≡ true
 unfolding everything
@@ -28,7 +28,7 @@ old_ready_after a b same is = record {
 }
 
 -- outside a transaction nothing waits for a commit
-pub rests_undone : (a b : State) → (IsTrue a.is_open → a.now ≡ a.committed) → a.in_transaction ≡ false → Rests a b → IsUndone a b
+pub rests_undone : (a b : State) → (IsTrue a.is_open → a.now ≡ a.committed) → a.in_transaction ≡ false → Rests a b → IsShutOrAsBefore a b
 rests_undone a b settled mode (inl same) = record {
   was_open = λ _. same.0.was_open;
   undone = λ _. (same.0.now_is ∙ settled same.0.was_open, same.0.committed_is);
@@ -40,5 +40,5 @@ rests_undone a b settled mode (inr undone) = record { was_open = undone.was_open
 pub named_first : (s : State) → IsOldReady s → HasRow 1 (old_content_of s.now.trees).incarnation s
 named_first s is = (inl is.now.schema, is.now.meta)
 
-pub named_second : (s : State) → IsReady s → HasRow 2 (content_of s.now.trees).incarnation s
+pub named_second : (s : State) → HasLogTables s → HasRow 2 (content_of s.now.trees).incarnation s
 named_second s is = (inr is.now.schema, is.now.meta)

@@ -24,7 +24,7 @@ use Rattle.xa_base.specs.declared.branch.Branch.{Branch}
 use Rattle.xa_base.specs.Branch.{branch_cmp}
 use Rattle.xa_base.proofs.BranchOrder.{exact_gtrids, branches_total, exact_branches}
 use Rattle.xa_log.specs.Tables.{log_schema}
-use Rattle.xa_log.specs.Rows.{IsLog, IsParticipantRow, participant_row, gtrid_in, branch_in, is_of, participant_from, participants_in, content_of}
+use Rattle.xa_log.specs.Rows.{IsLog, IsParticipantRow, participant_row, gtrid_of_row, branch_of_row, is_of, participant_from, participants_of_rows, content_of}
 use Rattle.xa_log.proofs.Texts.{find_participants, find_participants_is, find_participants_plain, find_participants_unlisted}
 use Rattle.xa_log.proofs.Plain.{chosen, shown, plain_rows}
 use Rattle.xa_log.proofs.Values.{equal_to}
@@ -35,10 +35,11 @@ names_branch : (id : ℤ) (b : Branch) (g : Gtrid) → list_all (holds (gtrid_pa
 names_branch id b g = ap (λ t. t && (equal_to (Int (pos b.gtrid.sequence)) (Int (pos g.sequence)) && true)) (same_number b.gtrid.incarnation g.incarnation)
     ∙ ap (λ t. is_eq (nat_cmp g.incarnation b.gtrid.incarnation) && (t && true)) (same_number b.gtrid.sequence g.sequence) ∙ both_parts _ _
 
-names_branch_in : (g : Gtrid) (r : Row) → IsParticipantRow r → list_all (holds (gtrid_params g ∷ r ∷ [])) gtrid_tests ≡ is_of g (gtrid_in r)
+names_branch_in : (g : Gtrid) (r : Row) → IsParticipantRow r → list_all (holds (gtrid_params g ∷ r ∷ [])) gtrid_tests ≡ is_of g (gtrid_of_row r)
 names_branch_in g r is = rw is.2 (names_branch is.0 is.1 g)
 
-chosen_branch : (g : Gtrid) (rows : List Row) → AllByRecursion IsParticipantRow rows → chosen gtrid_tests (gtrid_params g) rows ≡ filter (λ r. is_of g (gtrid_in r)) rows
+chosen_branch : (g : Gtrid) (rows : List Row) → AllByRecursion IsParticipantRow rows
+    → chosen gtrid_tests (gtrid_params g) rows ≡ filter (λ r. is_of g (gtrid_of_row r)) rows
 chosen_branch g rows all = filter_same _ _ rows (all_weaker _ _ (names_branch_in g) rows all)
 
 any_same : {X : Type 0} (p q : X → Bool) → ((x : X) → p x ≡ q x) → (xs : List X) → list_any p xs ≡ list_any q xs
@@ -53,18 +54,21 @@ any_permuted p xs ys same = both_ways _ _
 abbrev parts_shown : List Term
 parts_shown = col 1 3 ∷ col 1 4 ∷ []
 
-same_branch : (g : Gtrid) (x : Branch) (r : Row) → (is_of g (gtrid_in r) && eq_by_cmp branch_cmp x (participant_from g (shown parts_shown (gtrid_params g) r))) ≡ names g x r
-same_branch g x r = elim (cases_Bool (is_of g (gtrid_in r))) [
+same_branch : (g : Gtrid) (x : Branch) (r : Row)
+    → (is_of g (gtrid_of_row r) && eq_by_cmp branch_cmp x (participant_from g (shown parts_shown (gtrid_params g) r))) ≡ names g x r
+same_branch g x r = elim (cases_Bool (is_of g (gtrid_of_row r))) [
   | inl same ↦ (
-      let one : g ≡ gtrid_in r = exact_gtrids g (gtrid_in r) (equal_is _ same) in
-      ap (λ q. is_of g (gtrid_in r) && eq_by_cmp branch_cmp x (record { gtrid = q; thread = number_in (column r 3); rm = number_in (column r 4) })) one)
-  | inr apart ↦ ap (λ b. b && eq_by_cmp branch_cmp x (participant_from g (shown parts_shown (gtrid_params g) r))) apart ∙ sym (ap (λ b. b && eq_by_cmp branch_cmp x (branch_in r)) apart)
+      let one : g ≡ gtrid_of_row r = exact_gtrids g (gtrid_of_row r) (equal_is _ same) in
+      ap (λ q. is_of g (gtrid_of_row r) && eq_by_cmp branch_cmp x (record { gtrid = q; thread = number_in (column r 3); rm = number_in (column r 4) })) one)
+  | inr apart ↦ ap (λ b. b && eq_by_cmp branch_cmp x (participant_from g (shown parts_shown (gtrid_params g) r))) apart
+      ∙ sym (ap (λ b. b && eq_by_cmp branch_cmp x (branch_of_row r)) apart)
 ]
 
 pub lists : (old new : State) (g : Gtrid) (rows : List Row) → IsLog old.now → Shown find_participants (gtrid_params g) old new rows
-    → from_list {R = branch_cmp} (map (participant_from g) rows) ≡ participants_in (old.now.trees 5) g
+    → from_list {R = branch_cmp} (map (participant_from g) rows) ≡ participants_of_rows (old.now.trees 5) g
 lists old new g rows is h =
-    let read = reads_as find_participants (gtrid_params g) old new log_schema is.schema _ find_participants_is find_participants_plain find_participants_unlisted rows h in
+    let read =
+    reads_as find_participants (gtrid_params g) old new log_schema is.schema _ find_participants_is find_participants_plain find_participants_unlisted rows h in
     let moved = plain_rows 5 gtrid_tests parts_shown old.now.trees (gtrid_params g) rows read.answer in
     let mine = chosen gtrid_tests (gtrid_params g) (old.now.trees 5) in
     let branches = IsPermutation-map (participant_from g) (map (shown parts_shown (gtrid_params g)) mine) rows moved in
@@ -75,7 +79,7 @@ lists old new g rows is h =
     ∙ any_mapped (eq_by_cmp branch_cmp x) (participant_from g) (map (shown parts_shown (gtrid_params g)) mine)
     ∙ any_mapped (λ row. eq_by_cmp branch_cmp x (participant_from g row)) (shown parts_shown (gtrid_params g)) mine
     ∙ ap (list_any p) (chosen_branch g (old.now.trees 5) is.participants)
-    ∙ any_filtered p (λ r. is_of g (gtrid_in r)) (old.now.trees 5)
+    ∙ any_filtered p (λ r. is_of g (gtrid_of_row r)) (old.now.trees 5)
     ∙ any_same _ (names g x) (same_branch g x) (old.now.trees 5)
     ∙ sym (contains_part (old.now.trees 5) g x))
 
@@ -85,8 +89,10 @@ pub lists_entry : (old new : State) (g : Gtrid) (rows : List Row) → IsLog old.
 lists_entry old new g rows is h = lists old new g rows is h ∙ sym (parts_of (old.now.trees 1) (old.now.trees 5) g is.parents)
 
 -- the call that asks, from the log before it to the log after it
-pub told_participants : (g : Gtrid) (params : Row) → params ≡ gtrid_params g → (old mid new : State) (rows : List Row) → IsOrderly old → IsUnchanged old mid → IsUnchanged mid new → Shown find_participants params mid new rows
-    → (list : List Branch) → list ≡ items (from_list {R = branch_cmp} (map (participant_from g) rows)) → IsSomeAnd (content_in old) (λ c. (content_in new ≡ Some c) × (list ≡ items (participants_of c g)))
+pub told_participants : (g : Gtrid) (params : Row) → params ≡ gtrid_params g → (old mid new : State) (rows : List Row)
+    → IsOrderly old → IsUnchanged old mid → IsUnchanged mid new → Shown find_participants params mid new rows
+    → (list : List Branch) → list ≡ items (from_list {R = branch_cmp} (map (participant_from g) rows))
+    → IsSomeAnd (content_in old) (λ c. (content_in new ≡ Some c) × (list ≡ items (participants_of c g)))
 told_participants g params given old mid new rows order first second shown list is =
     answered old mid new order first second (λ c. list ≡ items (participants_of c g))
     (λ log. is ∙ ap items (lists_entry mid new g rows log (subst (λ p. Shown find_participants p mid new rows) given shown)))

@@ -24,7 +24,7 @@ use Rattle.sqlite.proofs.Callers.{IsPlain, command_of, statement_of, runs_as, on
 use Rattle.sqlite_tied.specs.Compute.{everything}
 use Rattle.xa_log.specs.Tables.{meta_text, decision_text, heuristic_text, participant_text, meta, decision, heuristic, no_tables, old_schema, log_schema}
 use Rattle.xa_log.specs.Content.{nothing}
-use Rattle.xa_log.specs.Rows.{IsDecisionRow, AreHeuristicRows, IsParticipantRow, HasDecision, participants_in, meta_row, content_of}
+use Rattle.xa_log.specs.Rows.{IsDecisionRow, AreHeuristicRows, IsParticipantRow, HasDecision, participants_of_rows, meta_row, content_of}
 use Rattle.xa_log.specs.Sql.{IsNewLog}
 use Rattle.xa_log.proofs.DecisionRows.{same_content}
 use Rattle.xa_log.proofs.Inserts.{at_once}
@@ -48,9 +48,11 @@ record Means (schema : Schema) (text : List ℕ) (table : Table) : Type 0 where
   defined : table_defined_by text ≡ Ok table
   uncounted : lacks_sequence (created schema table) ≡ false
 
-creates : (schema : Schema) (text : List ℕ) (table : Table) → Means schema text table → (old new : State) (count : ℕ) → old.now.schema ≡ schema → Executes text [] old new (Ok count) → Creates schema table old.now new.now
+creates : (schema : Schema) (text : List ℕ) (table : Table) → Means schema text table → (old new : State) (count : ℕ)
+    → old.now.schema ≡ schema → Executes text [] old new (Ok count) → Creates schema table old.now new.now
 creates schema text table means old new count has ran =
-    let w : Writes old new None CreateTable text [] count = subst (λ t. Writes old new None CreateTable t [] count) means.whole (runs_as text [] old new schema has CreateTable means.is means.plain count ran) in
+    let w : Writes old new None CreateTable text [] count =
+    subst (λ t. Writes old new None CreateTable t [] count) means.whole (runs_as text [] old new schema has CreateTable means.is means.plain count ran) in
     let all = went w.changed in
     let first = went all.1 in
     let made = first.1 in
@@ -120,7 +122,8 @@ puts_meta limit db after text tally has h =
     let counted = went written.2 in
     let trees : done.0.trees ≡ written.0 = ap (λ (it : Written). it.trees) (same_value counted.2) ∙ same_value counted.1 in
     let edit = edit_of db.trees meta [] Chosen 0 given.0 in
-    let news : edit.news ≡ meta_row 0 ∷ [] = ap (λ all. (edit_of db.trees meta [] Chosen 0 all).news) given.1.1 ∙ rw (cast_int (pos 1), cast_null, cast_int (pos 2), cast_int (pos 0)) refl in
+    let news : edit.news ≡ meta_row 0 ∷ [] =
+    ap (λ all. (edit_of db.trees meta [] Chosen 0 all).news) given.1.1 ∙ rw (cast_int (pos 1), cast_null, cast_int (pos 2), cast_int (pos 0)) refl in
     let none : works log_schema Enforced 0 0 [] edit.news ≡ [] = ap (works log_schema Enforced 0 0 []) news in
     let applied = one_step log_schema Enforced db.trees written.0 edit none written.1 in
     let as_after = λ (at : ℕ). ap (λ (t : Trees). t at) (ap (λ (d : Database). d.trees) now ∙ trees) in
@@ -147,22 +150,25 @@ empty_log db schema meta decisions heuristics participants = (
     parents = subst (AllByRecursion (HasDecision (db.trees 1))) (sym participants) tt;
   },
   same_content _ _
-      (ap (booked (participants_in (db.trees 5))) decisions)
+      (ap (booked (participants_of_rows (db.trees 5))) decisions)
       (ap (λ t. (content_of (λ _. t)).heuristics) heuristics)
       (ap (λ t. (content_of (λ _. t)).incarnation) meta),
 )
 
-pub made : (a b c d e f : State) (k l m n o : ℕ) → a.now.schema ≡ no_tables → Executes meta_text [] a b (Ok k) → Executes decision_text [] b c (Ok l) → Executes heuristic_text [] c d (Ok m)
+pub made : (a b c d e f : State) (k l m n o : ℕ) → a.now.schema ≡ no_tables → Executes meta_text [] a b (Ok k)
+    → Executes decision_text [] b c (Ok l) → Executes heuristic_text [] c d (Ok m)
     → Executes participant_text [] d e (Ok n) → Executes first_meta [] e f (Ok o) → IsNewLog nothing f.now
 made a b c d e f k l m n o has one two three four five =
     let made_1 = creates no_tables meta_text meta makes_meta a b k has one in
     let made_2 = creates schema_1 decision_text (record decision { tree = 0 }) makes_decision b c l made_1.schema_is two in
     let made_3 = creates schema_2 heuristic_text (record heuristic { tree = 0 }) makes_heuristic c d m made_2.schema_is three in
     let old = made_3.schema_is ∙ first_three in
-    let made_4 = adds d e n old (subst (λ t. Writes d e None CreateTable t [] n) makes_participant.1 (runs_as participant_text [] d e old_schema old CreateTable makes_participant.0 makes_plain n four)) in
+    let made_4 =
+    adds d e n old (subst (λ t. Writes d e None CreateTable t [] n) makes_participant.1 (runs_as participant_text [] d e old_schema old CreateTable makes_participant.0 makes_plain n four)) in
     let w = runs_as first_meta [] e f log_schema made_4.schema (Insert 0 (Values first_terms 4)) first_meta_is first_meta_plain o five in
     let put = puts_meta e.step_limit e.now f.now (statement_of first_meta (understood log_schema first_meta)) w.tally made_4.schema w.changed in
     let none_0 : e.now.trees 0 ≡ [] = made_4.meta ∙ made_3.others.0 ∙ made_2.others.0 ∙ made_1.empty in
     let none_1 : e.now.trees 1 ≡ [] = made_4.decisions ∙ made_3.others.1.0 ∙ made_2.empty in
     let none_3 : e.now.trees 3 ≡ [] = made_4.heuristics ∙ made_3.empty in
-    empty_log f.now put.schema (put.meta ∙ ap (put_row (meta_row 0)) none_0) (put.decisions ∙ none_1) (put.heuristics ∙ none_3) (put.participants ∙ made_4.participants)
+    empty_log f.now put.schema (put.meta ∙ ap (put_row (meta_row 0)) none_0) (put.decisions ∙ none_1) (put.heuristics ∙ none_3)
+    (put.participants ∙ made_4.participants)

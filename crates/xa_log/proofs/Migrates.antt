@@ -32,11 +32,13 @@ use Rattle.xa_log.proofs.Maps.{booked}
 use Rattle.xa_log.proofs.DecisionRows.{same_content}
 use Rattle.sqlite_schema.specs.Rules.{is_key_of}
 use Rattle.xa_log.specs.Tables.{old_schema, log_schema, participant_text, participant, meta, of_decision}
-use Rattle.xa_log.specs.Rows.{IsOldLog, IsDecisionRow, AreHeuristicRows, IsParticipantRow, HasDecision, participants_in, meta_row, old_meta_row, content_of, old_content_of}
+use Rattle.xa_log.specs.Rows.{IsOldLog, IsDecisionRow, AreHeuristicRows, IsParticipantRow, HasDecision, participants_of_rows, meta_row, old_meta_row, content_of, old_content_of}
 use Rattle.xa_log.specs.Sql.{IsNewLog}
 
-pub makes_participant : (command_of (understood old_schema participant_text) ≡ CreateTable) × (statement_of participant_text (understood old_schema participant_text) ≡ participant_text)
-    × (table_defined_by participant_text ≡ Ok (record participant { tree = 0 })) × (lacks_sequence (created old_schema (record participant { tree = 0 })) ≡ false)
+pub makes_participant : (command_of (understood old_schema participant_text) ≡ CreateTable)
+    × (statement_of participant_text (understood old_schema participant_text) ≡ participant_text)
+    × (table_defined_by participant_text ≡ Ok (record participant { tree = 0 }))
+    × (lacks_sequence (created old_schema (record participant { tree = 0 })) ≡ false)
 unfolding understood everything
 makes_participant = (refl, refl, refl, refl)
 
@@ -47,7 +49,8 @@ migrated_schema = refl
 abbrev pub set_version : List ℕ
 set_version = codes "UPDATE tm_meta SET version = 2"
 
-pub set_version_is : command_of (understood log_schema set_version) ≡ Update 0 (record { lets = []; body = over 0 [] (col 1 0 ∷ col 1 0 ∷ lit Null ∷ lit (Int (pos 2)) ∷ col 1 3 ∷ []) })
+pub set_version_is : command_of (understood log_schema set_version)
+    ≡ Update 0 (record { lets = []; body = over 0 [] (col 1 0 ∷ col 1 0 ∷ lit Null ∷ lit (Int (pos 2)) ∷ col 1 3 ∷ []) })
 unfolding understood everything
 set_version_is = refl
 
@@ -82,7 +85,8 @@ adds old new count has w =
     let both : Ok made.table ≡ Ok table = sym made.defined ∙ makes_participant.2 in
     let same : made.table ≡ table = cc in
     let is : first.0.schema ≡ created old_schema table = made.is ∙ ap (λ s. created s made.table) has ∙ ap (created old_schema) same in
-    let now : new.now ≡ first.0 = ap (λ (p : Tally × Database). p.1) (same_value all.2) ∙ same_value (rw (ap lacks_sequence is ∙ makes_participant.3) at first.2) in
+    let now : new.now ≡ first.0 =
+    ap (λ (p : Tally × Database). p.1) (same_value all.2) ∙ same_value (rw (ap lacks_sequence is ∙ makes_participant.3) at first.2) in
     let others = subst (λ (s : Schema). KeepsRows s.tables old.now.trees first.0.trees) has made.others in
     let as_now = λ (at : ℕ). ap (λ (d : Database). d.trees at) now in
     record {
@@ -112,7 +116,8 @@ record Sets (incarnation : ℕ) (db after : Database) : Type 0 where
   heuristics : after.trees 3 ≡ db.trees 3
   participants : after.trees 5 ≡ db.trees 5
 
-sets : (limit : Option ℕ) (incarnation : ℕ) (db after : Database) (text : List ℕ) (tally : Tally) → db.schema ≡ log_schema → db.trees 0 ≡ old_meta_row incarnation ∷ []
+sets : (limit : Option ℕ) (incarnation : ℕ) (db after : Database) (text : List ℕ) (tally : Tally) → db.schema ≡ log_schema
+    → db.trees 0 ≡ old_meta_row incarnation ∷ []
     → Does limit at_once [] db text None (Update 0 (record { lets = []; body = over 0 [] project })) (Ok (tally, after)) → Sets incarnation db after
 sets limit incarnation db after text tally has one h =
     let command = Update 0 (record { lets = []; body = over 0 [] project }) in
@@ -122,13 +127,16 @@ sets limit incarnation db after text tally has one h =
     let written = went found.2 in
     let trees : done.0.trees ≡ written.0 = ap (λ (it : Written). it.trees) (same_value written.2) in
     let row : Row = Int (pos 1) ∷ Int (pos 1) ∷ Null ∷ Int (pos 2) ∷ Int (pos incarnation) ∷ [] in
-    let rows : found.0 ≡ row ∷ [] = one_permutation row found.0 (subst (λ all. IsPermutation (map (shown project []) (chosen [] [] all)) found.0) one (plain_rows 0 [] project db.trees [] found.0 found.1.answer)) in
-    let none : works log_schema Enforced 0 0 (taken_by db.trees (edit_of db.trees meta (ids_of found.0) Given 1 found.0)) (edit_of db.trees meta (ids_of found.0) Given 1 found.0).news ≡ [] =
+    let rows : found.0 ≡ row ∷ [] =
+    one_permutation row found.0 (subst (λ all. IsPermutation (map (shown project []) (chosen [] [] all)) found.0) one (plain_rows 0 [] project db.trees [] found.0 found.1.answer)) in
+    let none : works log_schema Enforced 0 0 (taken_by db.trees (edit_of db.trees meta (ids_of found.0) Given 1 found.0))
+    (edit_of db.trees meta (ids_of found.0) Given 1 found.0).news ≡ [] =
     no_work _ _ (ap (λ all. length (edit_of db.trees meta (ids_of all) Given 1 all).news) rows) in
     let applied = one_step log_schema Enforced db.trees written.0 (edit_of db.trees meta (ids_of found.0) Given 1 found.0) none written.1 in
     let as_after = λ (at : ℕ). ap (λ (t : Trees). t at) (ap (λ (d : Database). d.trees) now ∙ trees) in
     let edit : edited db.trees (edit_of db.trees meta (ids_of found.0) Given 1 found.0) ≡ meta_row incarnation ∷ [] =
-    ap (λ all. edited db.trees (edit_of db.trees meta (ids_of all) Given 1 all)) rows ∙ rw (one, same_id (pos 1), cast_int (pos 1), cast_null, cast_int (pos 2), cast_int (pos incarnation)) refl in
+    ap (λ all. edited db.trees (edit_of db.trees meta (ids_of all) Given 1 all)) rows
+    ∙ rw (one, same_id (pos 1), cast_int (pos 1), cast_null, cast_int (pos 2), cast_int (pos incarnation)) refl in
     record {
       schema = ap (λ (d : Database). d.schema) now;
       meta = as_after 0 ∙ applied.rows ∙ edit;
@@ -139,7 +147,8 @@ sets limit incarnation db after text tally has one h =
 
 -- ---- both
 
-new_log : (db mid after : Database) → IsOldLog db → Adds db mid → Sets (old_content_of db.trees).incarnation mid after → IsNewLog (old_content_of db.trees) after
+new_log : (db mid after : Database) → IsOldLog db → Adds db mid → Sets (old_content_of db.trees).incarnation mid after
+    → IsNewLog (old_content_of db.trees) after
 new_log db mid after is added set =
     let none : after.trees 5 ≡ [] = set.participants ∙ added.participants in
     let decisions = set.decisions ∙ added.decisions in
@@ -155,18 +164,22 @@ new_log db mid after is added set =
         parents = subst (AllByRecursion (HasDecision (after.trees 1))) (sym none) tt;
       },
       same_content _ _
-          (ap (λ t. booked (participants_in t) (after.trees 1)) none ∙ ap (booked (participants_in [])) decisions)
+          (ap (λ t. booked (participants_of_rows t) (after.trees 1)) none ∙ ap (booked (participants_of_rows [])) decisions)
           (ap (λ t. (content_of (λ _. t)).heuristics) heuristics)
           (ap (λ t. (content_of (λ _. t)).incarnation) set.meta),
     )
 
-pub migrates : (old mid new : State) (a b : ℕ) → IsOldLog old.now → Executes participant_text [] old mid (Ok a) → Executes set_version [] mid new (Ok b) → IsNewLog (old_content_of old.now.trees) new.now
+pub migrates : (old mid new : State) (a b : ℕ) → IsOldLog old.now → Executes participant_text [] old mid (Ok a)
+    → Executes set_version [] mid new (Ok b) → IsNewLog (old_content_of old.now.trees) new.now
 migrates old mid new a b is first second =
     let made = runs_as participant_text [] old mid old_schema is.schema CreateTable makes_participant.0 makes_plain a first in
     let added = adds old mid a is.schema (subst (λ t. Writes old mid None CreateTable t [] a) makes_participant.1 made) in
-    let w = runs_as set_version [] mid new log_schema added.schema (Update 0 (record { lets = []; body = over 0 [] project })) set_version_is set_version_plain b second in
+    let w =
+    runs_as set_version [] mid new log_schema added.schema
+    (Update 0 (record { lets = []; body = over 0 [] project })) set_version_is set_version_plain b second in
     new_log old.now mid.now new.now is added
-    (sets mid.step_limit (old_content_of old.now.trees).incarnation mid.now new.now (statement_of set_version (understood log_schema set_version)) w.tally added.schema (added.meta ∙ is.meta) w.changed)
+    (sets mid.step_limit (old_content_of old.now.trees).incarnation mid.now new.now
+    (statement_of set_version (understood log_schema set_version)) w.tally added.schema (added.meta ∙ is.meta) w.changed)
 
 -- ---- in a transaction that is committed
 

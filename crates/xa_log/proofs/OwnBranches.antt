@@ -13,7 +13,7 @@ use Rattle.xa_base.specs.Branch.{gtrid_cmp, branch_cmp}
 use Rattle.xa_base.proofs.BranchOrder.{gtrids_total, exact_gtrids, branches_total, exact_branches}
 use Rattle.xa_log.specs.Content.{Content, AreOwn, bumped, committed, with_decision, without_decision, with_heuristic, recorded, nothing}
 use Rattle.xa_log.specs.Contract.{AllFit, Changes, FitsRow, faults_after}
-use Rattle.xa_log.specs.Memory.{IsInOrder, held_in, memory_moment}
+use Rattle.xa_log.specs.Memory.{IsInOrder, content_held, memory_moment}
 use Rattle.xa_log.specs.declared.log_fault.LogFault.{LogFault}
 use Rattle.xa_log.specs.declared.mem_log.MemLog.{MemLog}
 use Rattle.xa_log.proofs.Contents.{equal_is}
@@ -21,23 +21,28 @@ use Rattle.xa_log.proofs.Contents.{equal_is}
 own_nothing : AreOwn nothing
 own_nothing g set b is has = let no : None ≡ Some set = sym (get-empty gtrid_cmp g) ∙ is in absurd (cc)
 
-one_of : (list : List Branch) (g : Gtrid) (b : Branch) → AllByRecursion (λ (x : Branch). x.gtrid ≡ g) list → list_any (eq_by_cmp branch_cmp b) list ≡ true → b.gtrid ≡ g
+one_of : (list : List Branch) (g : Gtrid) (b : Branch) → AllByRecursion (λ (x : Branch). x.gtrid ≡ g) list
+    → list_any (eq_by_cmp branch_cmp b) list ≡ true → b.gtrid ≡ g
 one_of [] g b all has = absurd (cc)
 one_of (x ∷ xs) g b all has = elim (cases_Bool (eq_by_cmp branch_cmp b x)) [
   | inl same ↦ ap (λ (y : Branch). y.gtrid) (exact_branches b x (equal_is _ same)) ∙ all.0
   | inr other ↦ one_of xs g b all.1 (sym (ap (λ t. t || list_any (eq_by_cmp branch_cmp b) xs) other) ∙ has)
 ]
 
-own_with : (c : Content) (g : Gtrid) (list : List Branch) → AllByRecursion (λ (b : Branch). b.gtrid ≡ g) list → AreOwn c → AreOwn (with_decision g (from_list list) c)
+own_with : (c : Content) (g : Gtrid) (list : List Branch) → AllByRecursion (λ (b : Branch). b.gtrid ≡ g) list → AreOwn c
+    → AreOwn (with_decision g (from_list list) c)
 own_with c g list all own q set b is has = elim (cases_Bool (eq_by_cmp gtrid_cmp q g)) [
   | inl same ↦ (
-      let set_is : Some (from_list list) ≡ Some set = sym (ap (λ t. cond t (Some (from_list list)) (get c.decisions q)) same) ∙ sym (get-insert gtrids_total c.decisions g (from_list list) q) ∙ is in
-      let inside : list_any (eq_by_cmp branch_cmp b) list ≡ true = sym (contains-from_list branches_total list b) ∙ ap (λ o. contains (unwrap_or o set) b) set_is ∙ has in
+      let set_is : Some (from_list list) ≡ Some set =
+      sym (ap (λ t. cond t (Some (from_list list)) (get c.decisions q)) same) ∙ sym (get-insert gtrids_total c.decisions g (from_list list) q) ∙ is in
+      let inside : list_any (eq_by_cmp branch_cmp b) list ≡ true =
+      sym (contains-from_list branches_total list b) ∙ ap (λ o. contains (unwrap_or o set) b) set_is ∙ has in
       one_of list g b all inside ∙ sym (exact_gtrids q g (equal_is _ same)))
   | inr other ↦ own q set b (sym (ap (λ t. cond t (Some (from_list list)) (get c.decisions q)) other) ∙ sym (get-insert gtrids_total c.decisions g (from_list list) q) ∙ is) has
 ]
 
-own_committed : (c : Content) (g : Gtrid) (list : List Branch) → AllByRecursion (λ (b : Branch). b.gtrid ≡ g) list → AreOwn c → AreOwn (committed g (from_list list) c)
+own_committed : (c : Content) (g : Gtrid) (list : List Branch) → AllByRecursion (λ (b : Branch). b.gtrid ≡ g) list → AreOwn c
+    → AreOwn (committed g (from_list list) c)
 own_committed c g list all own = elim (contains_key c.decisions g) as (λ t. AreOwn (cond t c (with_decision g (from_list list) c))) [
   | true ↦ own
   | false ↦ own_with c g list all own
@@ -104,7 +109,8 @@ order_nothing = record { own = own_nothing; fits = fits_nothing }
 pub order_without : (c : Content) (g : Gtrid) → IsInOrder c → IsInOrder (without_decision g c)
 order_without c g order = record { own = own_without c g order.own; fits = fits_without c g order.fits }
 
-pub order_after_commit : {A E : Type 0} (result : Result A E) (old new : Content) (g : Gtrid) (list : List Branch) → FitsRow g → AllByRecursion (λ (b : Branch). b.gtrid ≡ g) list
+pub order_after_commit : {A E : Type 0} (result : Result A E) (old new : Content) (g : Gtrid) (list : List Branch) → FitsRow g
+    → AllByRecursion (λ (b : Branch). b.gtrid ≡ g) list
     → OnOk result (new ≡ committed g (from_list list) old) → OnErr result (new ≡ old) → IsInOrder old → IsInOrder new
 order_after_commit (Ok x) old new g list fits all ok err order =
     subst IsInOrder (sym ok) (record { own = own_committed old g list all order.own; fits = fits_committed old g (from_list list) fits order.fits })
@@ -121,14 +127,17 @@ order_after_note (Ok x) old new b how fits ok err order =
 order_after_note (Err e) old new b how fits ok err order = subst IsInOrder (sym err) order
 
 pub order_after_raise : {A E : Type 0} (result : Result A E) (old new : MemLog)
-    → OnOk result (new ≡ record old { incarnation = old.incarnation + 1 }) → OnErr result (new ≡ old) → IsInOrder (held_in old) → IsInOrder (held_in new)
+    → OnOk result (new ≡ record old { incarnation = old.incarnation + 1 }) → OnErr result (new ≡ old)
+    → IsInOrder (content_held old) → IsInOrder (content_held new)
 order_after_raise (Ok x) old new ok err order =
-    subst (λ l. IsInOrder (held_in l)) (sym ok) (record { own = order.own; fits = record { decisions = order.fits.decisions; heuristics = order.fits.heuristics } })
-order_after_raise (Err e) old new ok err order = subst (λ l. IsInOrder (held_in l)) (sym err) order
+    subst (λ l. IsInOrder (content_held l)) (sym ok)
+    (record { own = order.own; fits = record { decisions = order.fits.decisions; heuristics = order.fits.heuristics } })
+order_after_raise (Err e) old new ok err order = subst (λ l. IsInOrder (content_held l)) (sym err) order
 
 -- ** a call that made its change, or failed and made none
 
-pub held_changes : {A : Type 0} (change : Content → Content) (old new : Content) (n m : ℕ) (r : Result A LogFault) → OnOk r (new ≡ change old) → OnErr r (new ≡ old)
+pub held_changes : {A : Type 0} (change : Content → Content) (old new : Content) (n m : ℕ) (r : Result A LogFault)
+    → OnOk r (new ≡ change old) → OnErr r (new ≡ old)
     → (IsInOrder old → IsInOrder new) → m ≡ faults_after r n → Changes change (memory_moment old n) (memory_moment new m) r
 held_changes change old new n m (Ok x) ok err order faults = record {
   ok = λ was clean. ap Some ok;
@@ -149,8 +158,10 @@ held_changes change old new n m (Err e) ok err order faults = record {
 
 pub bump_held : (old new : MemLog) (n m : ℕ) (answer r : Result ℕ LogFault) → r ≡ answer
     → OnOk answer (new ≡ record old { incarnation = old.incarnation + 1 }) → OnErr answer (new ≡ old)
-    → m ≡ faults_after r n → Changes bumped (memory_moment (held_in old) n) (memory_moment (held_in new) m) r
-bump_held old new n m (Ok x) r same ok err faults = subst (Changes bumped (memory_moment (held_in old) n) (memory_moment (held_in new) m)) (sym same)
-    (held_changes bumped (held_in old) (held_in new) n m (Ok x) (ap held_in ok) tt (order_after_raise {A = ℕ} {E = LogFault} (Ok x) old new ok tt) (faults ∙ ap (λ a. faults_after a n) same))
-bump_held old new n m (Err e) r same ok err faults = subst (Changes bumped (memory_moment (held_in old) n) (memory_moment (held_in new) m)) (sym same)
-    (held_changes bumped (held_in old) (held_in new) n m (Err e) tt (ap held_in err) (order_after_raise {A = ℕ} {E = LogFault} (Err e) old new tt err) (faults ∙ ap (λ a. faults_after a n) same))
+    → m ≡ faults_after r n → Changes bumped (memory_moment (content_held old) n) (memory_moment (content_held new) m) r
+bump_held old new n m (Ok x) r same ok err faults = subst (Changes bumped (memory_moment (content_held old) n) (memory_moment (content_held new) m)) (sym same)
+    (held_changes bumped (content_held old) (content_held new) n m (Ok x) (ap content_held ok) tt
+    (order_after_raise {A = ℕ} {E = LogFault} (Ok x) old new ok tt) (faults ∙ ap (λ a. faults_after a n) same))
+bump_held old new n m (Err e) r same ok err faults = subst (Changes bumped (memory_moment (content_held old) n) (memory_moment (content_held new) m)) (sym same)
+    (held_changes bumped (content_held old) (content_held new) n m (Err e) tt (ap content_held err)
+    (order_after_raise {A = ℕ} {E = LogFault} (Err e) old new tt err) (faults ∙ ap (λ a. faults_after a n) same))

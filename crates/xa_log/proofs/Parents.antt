@@ -18,7 +18,7 @@ use Rattle.xa_base.specs.declared.branch.Gtrid.{Gtrid}
 use Rattle.xa_base.proofs.BranchOrder.{exact_gtrids}
 use Rattle.sqlite_sql.specs.Ops.{is_null}
 use Rattle.xa_log.specs.Tables.{log_schema}
-use Rattle.xa_log.specs.Rows.{gtrid_in, is_of, IsDecisionRow, IsParticipantRow, HasDecision}
+use Rattle.xa_log.specs.Rows.{gtrid_of_row, is_of, IsDecisionRow, IsParticipantRow, HasDecision}
 use Rattle.xa_log.proofs.Contents.{both_parts, equal_is, is_itself}
 use Rattle.xa_log.proofs.Values.{alike_numbers}
 
@@ -32,16 +32,18 @@ key_places = 1 ∷ 2 ∷ []
 abbrev pub Carries : Row → Gtrid → Type 0
 Carries r g = (column r 1 ≡ Int (pos g.incarnation)) × (column r 2 ≡ Int (pos g.sequence))
 
-pub decision_carries : (r : Row) → IsDecisionRow r → Carries r (gtrid_in r)
-decision_carries r is = subst (λ x. Carries x (gtrid_in x)) (sym is.2) (refl, refl)
+pub decision_carries : (r : Row) → IsDecisionRow r → Carries r (gtrid_of_row r)
+decision_carries r is = subst (λ x. Carries x (gtrid_of_row x)) (sym is.2) (refl, refl)
 
-pub participant_carries : (r : Row) → IsParticipantRow r → Carries r (gtrid_in r)
-participant_carries r is = subst (λ x. Carries x (gtrid_in x)) (sym is.2) (refl, refl)
+pub participant_carries : (r : Row) → IsParticipantRow r → Carries r (gtrid_of_row r)
+participant_carries r is = subst (λ x. Carries x (gtrid_of_row x)) (sym is.2) (refl, refl)
 
 alike : (a b : ℕ) → equal Binary (Int (pos a)) (Int (pos b)) ≡ is_eq (nat_cmp a b)
 alike a b = alike_numbers (pos a) (pos b) ∙ both_ways _ _
-    (λ h. let same : pos a ≡ pos b = int_cmp-IsAntisymmetric (pos a) (pos b) (equal_is _ h) in let n : a ≡ b = cc in subst (λ x. is_eq (nat_cmp a x) ≡ true) n (ap is_eq (tied_itself nat_cmp_total a)))
-    (λ h. let n : a ≡ b = nat_cmp-IsAntisymmetric a b (equal_is _ h) in subst (λ x. is_eq (int_cmp (pos a) (pos x)) ≡ true) n (ap is_eq (tied_itself int_cmp_total (pos a))))
+    (λ h. let same : pos a ≡ pos b = int_cmp-IsAntisymmetric (pos a) (pos b) (equal_is _ h) in let n : a ≡ b = cc in subst
+    (λ x. is_eq (nat_cmp a x) ≡ true) n (ap is_eq (tied_itself nat_cmp_total a)))
+    (λ h. let n : a ≡ b = nat_cmp-IsAntisymmetric a b (equal_is _ h) in subst (λ x. is_eq (int_cmp (pos a) (pos x)) ≡ true) n
+    (ap is_eq (tied_itself int_cmp_total (pos a))))
 
 alike_in : (v w : Value) (a b : ℕ) → v ≡ Int (pos a) → w ≡ Int (pos b) → equal Binary v w ≡ is_eq (nat_cmp a b)
 alike_in v w a b p q = subst₂ (λ x y. equal Binary x y ≡ is_eq (nat_cmp a b)) (sym p) (sym q) (alike a b)
@@ -54,17 +56,19 @@ agree_is r s g h p q =
     ∙ ap (λ b. is_eq (nat_cmp g.incarnation h.incarnation) && (b && true)) (alike_in (column r 2) (column s 2) g.sequence h.sequence p.1 q.1)
     ∙ both_parts _ _
 
-own_parent : (db : Trees) → AllByRecursion IsDecisionRow (db 1) → (r : Row) → Carries r (gtrid_in r)
+own_parent : (db : Trees) → AllByRecursion IsDecisionRow (db 1) → (r : Row) → Carries r (gtrid_of_row r)
     → (has_null key_places r || list_any (λ p. agree plain_order key_places p key_places r) (db 1)) ≡ true → HasDecision (db 1) r
 own_parent db decisions r carries h =
     let present : has_null key_places r ≡ false = subst₂ (λ v w. (is_null v || (is_null w || false)) ≡ false) (sym carries.0) (sym carries.1) refl in
     let some = some_has _ (db 1) (rw present at h) in
-    let same = sym (agree_is some.0 r (gtrid_in some.0) (gtrid_in r) (decision_carries some.0 (all_has _ (db 1) some.0 decisions some.1)) carries) ∙ some.2 in
-    let one : gtrid_in some.0 ≡ gtrid_in r = exact_gtrids (gtrid_in some.0) (gtrid_in r) (equal_is _ same) in
-    some_from _ (db 1) some.0 some.1 (subst (λ g. is_of g (gtrid_in some.0) ≡ true) one (is_itself (gtrid_in some.0)))
+    let same =
+    sym (agree_is some.0 r (gtrid_of_row some.0) (gtrid_of_row r) (decision_carries some.0 (all_has _ (db 1) some.0 decisions some.1)) carries) ∙ some.2 in
+    let one : gtrid_of_row some.0 ≡ gtrid_of_row r = exact_gtrids (gtrid_of_row some.0) (gtrid_of_row r) (equal_is _ same) in
+    some_from _ (db 1) some.0 some.1 (subst (λ g. is_of g (gtrid_of_row some.0) ≡ true) one (is_itself (gtrid_of_row some.0)))
 
 -- Where each foreign key holds, each participant has its decision.
-pub parents_held : (db : Trees) → AllByRecursion IsDecisionRow (db 1) → AllByRecursion IsParticipantRow (db 5) → Refers All log_schema db → AllByRecursion (HasDecision (db 1)) (db 5)
+pub parents_held : (db : Trees) → AllByRecursion IsDecisionRow (db 1) → AllByRecursion IsParticipantRow (db 5)
+    → Refers All log_schema db → AllByRecursion (HasDecision (db 1)) (db 5)
 unfolding everything
 parents_held db decisions participants refers = all_from _ (db 5) (λ r h.
     own_parent db decisions r (participant_carries r (all_has _ (db 5) r participants h)) (and_parts _ _ (all_has _ (db 5) r refers.1.1.1.0 h)).0)

@@ -18,10 +18,11 @@ no_table false o none = refl
 
 matched : {X : Type 0} (p : Row → Bool) (f : Row → X) (rows : List Row) → flat_map (λ r. cond (p r) (f r ∷ []) []) rows ≡ map f (filter p rows)
 matched p f [] = refl
-matched p f (r ∷ rows) = elim (p r) as (λ b. cond b (f r ∷ []) [] ++ flat_map (λ r. cond (p r) (f r ∷ []) []) rows ≡ map f (cond b (r ∷ filter p rows) (filter p rows))) [
-  | true ↦ ap (λ xs. f r ∷ xs) (matched p f rows)
-  | false ↦ matched p f rows
-]
+matched p f (r ∷ rows) =
+    elim (p r) as (λ b. cond b (f r ∷ []) [] ++ flat_map (λ r. cond (p r) (f r ∷ []) []) rows ≡ map f (cond b (r ∷ filter p rows) (filter p rows))) [
+      | true ↦ ap (λ xs. f r ∷ xs) (matched p f rows)
+      | false ↦ matched p f rows
+    ]
 
 -- the rows of the table that pass WHERE
 abbrev pub chosen : List Term → Row → List Row → List Row
@@ -30,15 +31,20 @@ chosen tests params = filter (λ r. list_all (holds (params ∷ r ∷ [])) tests
 abbrev pub shown : List Term → Row → Row → Row
 shown project params r = eval_all project (params ∷ r ∷ [])
 
-pub plain_rows : (tree : ℕ) (tests project : List Term) (db : Trees) (params : Row) (rows : List Row) → IsProgramAnswer [] (over tree tests project) db params rows
+pub plain_rows : (tree : ℕ) (tests project : List Term) (db : Trees) (params : Row) (rows : List Row)
+    → IsProgramAnswer [] (over tree tests project) db params rows
     → IsPermutation (map (shown project params) (chosen tests params (db tree))) rows
 plain_rows tree tests project db params rows h =
     let a : IsAnswerAs Null (over tree tests project) (overlay db []) params rows = h Null in
-    let table : overlay db [] tree ≡ db tree = ap (λ o. Rattle.std.proofs.Common.unwrap_or o (db tree)) (no_table (nat_le (2 ^ 31) tree) (slice_get [] (tree - 2 ^ 31)) refl) in
+    let table : overlay db [] tree ≡ db tree =
+    ap (λ o. Rattle.std.proofs.Common.unwrap_or o (db tree)) (no_table (nat_le (2 ^ 31) tree) (slice_get [] (tree - 2 ^ 31)) refl) in
     let staged : a.staged ≡ map (λ r. params ∷ r ∷ []) (chosen tests params (db tree)) =
-    a.grouped ∙ matched (λ r. list_all (holds (params ∷ r ∷ [])) tests) (λ r. params ∷ r ∷ []) (overlay db [] tree) ∙ ap (λ t. map (λ r. params ∷ r ∷ []) (chosen tests params t)) table in
+    a.grouped ∙ matched (λ r. list_all (holds (params ∷ r ∷ [])) tests) (λ r. params ∷ r ∷ []) (overlay db [] tree)
+    ∙ ap (λ t. map (λ r. params ∷ r ∷ []) (chosen tests params t)) table in
     let kept : a.kept ≡ map (λ r. output (over tree tests project) (params ∷ r ∷ [])) (chosen tests params (db tree)) =
     a.distinct ∙ ap (map (output (over tree tests project))) staged ∙ map-map _ _ _ in
     let moved = IsPermutation-map (λ (o : Output). o.1) _ _ a.same in
-    let from : map (λ (o : Output). o.1) a.kept ≡ map (shown project params) (chosen tests params (db tree)) = ap (map (λ (o : Output). o.1)) kept ∙ map-map _ _ _ in
-    subst (λ xs. IsPermutation (map (shown project params) (chosen tests params (db tree))) xs) (sym a.shown) (subst (λ xs. IsPermutation xs (map (λ (o : Output). o.1) a.ordered)) from moved)
+    let from : map (λ (o : Output). o.1) a.kept ≡ map (shown project params) (chosen tests params (db tree)) =
+    ap (map (λ (o : Output). o.1)) kept ∙ map-map _ _ _ in
+    subst (λ xs. IsPermutation (map (shown project params) (chosen tests params (db tree))) xs) (sym a.shown)
+    (subst (λ xs. IsPermutation xs (map (λ (o : Output). o.1) a.ordered)) from moved)

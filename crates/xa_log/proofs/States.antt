@@ -20,7 +20,7 @@ use Rattle.xa_log.specs.Content.{Content}
 use Rattle.xa_log.specs.Contract.{Makes, MayMake}
 use Rattle.xa_log.specs.Tables.{log_schema}
 use Rattle.xa_log.specs.Rows.{IsLog, content_of}
-use Rattle.xa_log.specs.Sql.{AreLogTrees, IsReady, IsOrderly, content_in, OnlyReads, MayChange, Rests, RunsFrom, LeavesBy}
+use Rattle.xa_log.specs.Sql.{AreLogTrees, HasLogTables, IsOrderly, content_in, OnlyReads, MayChange, Rests, RunsFrom, LeavesBy}
 
 pub rests_not_run : (old new : State) (sql : List ℕ) (params : Row) (e : Error) → IsNotRun old new sql params e → Rests old new
 unfolding IsNotRun
@@ -31,7 +31,8 @@ rests_command : (old new : State) (sql : List ℕ) (c : Compiled) (params : Row)
 rests_command old new sql c params e (inl h) = inl h.1
 rests_command old new sql c params e (inr h) = inr h.3
 
-rests_show : (old new : State) (sql : List ℕ) (c : Compiled) (params : Row) (e : Error) (r : Option Returning) → FailsToShow old new sql c params e r → Rests old new
+rests_show : (old new : State) (sql : List ℕ) (c : Compiled) (params : Row) (e : Error) (r : Option Returning)
+    → FailsToShow old new sql c params e r → Rests old new
 rests_show old new sql c params e None h = inl h.3
 rests_show old new sql c params e (Some what) h = rests_command old new sql c params e h
 
@@ -55,11 +56,11 @@ module _ (old new : State) where
   was_open (inl same) h = same.0.was_open
   was_open (inr undone) h = undone.was_open h
 
-  rests_now : Rests old new → IsReady old → IsTrue new.is_open → (new.now ≡ old.now) × (new.committed ≡ old.now) × (new.in_transaction ≡ false)
+  rests_now : Rests old new → HasLogTables old → IsTrue new.is_open → (new.now ≡ old.now) × (new.committed ≡ old.now) × (new.in_transaction ≡ false)
   rests_now (inl same) ready h = (same.0.now_is, same.0.committed_is ∙ ready.committed, same.0.mode ∙ ready.autocommit)
   rests_now (inr undone) ready h = ((undone.undone h).0 ∙ ready.committed, (undone.undone h).1 ∙ ready.committed, undone.autocommit)
 
-  ready_as : (db : Database) → IsLog db → (new.now ≡ db) × (new.committed ≡ db) × (new.in_transaction ≡ false) → IsReady new
+  ready_as : (db : Database) → IsLog db → (new.now ≡ db) × (new.committed ≡ db) × (new.in_transaction ≡ false) → HasLogTables new
   ready_as db is h = record { autocommit = h.2; now = subst IsLog (sym h.0) is; committed = h.1 ∙ sym h.0 }
 
   pub rests_order : (IsTrue new.is_open → Rests old new) → IsOrderly old → IsOrderly new
@@ -80,16 +81,18 @@ module _ (old new : State) where
 pub record Did (change : Content → Content) (old new : State) : Type 0 where
   pub was_open : IsTrue old.is_open
   pub is_open : IsTrue new.is_open
-  pub ready : IsReady new
+  pub ready : HasLogTables new
   pub content : content_of new.now.trees ≡ change (content_of old.now.trees)
 
 -- a write outside a transaction, by what the connection shows
-pub wrote : (change : Content → Content) (old new : State) → IsReady old → Shows old new new.now (cond old.in_transaction old.committed new.now) old.in_transaction → IsLog new.now
+pub wrote : (change : Content → Content) (old new : State) → HasLogTables old
+    → Shows old new new.now (cond old.in_transaction old.committed new.now) old.in_transaction → IsLog new.now
     → content_of new.now.trees ≡ change (content_of old.now.trees) → Did change old new
 wrote change old new ready shown is content = record {
   was_open = shown.was_open;
   is_open = shown.is_open;
-  ready = record { autocommit = shown.mode ∙ ready.autocommit; now = is; committed = shown.committed_is ∙ ap (λ b. cond b old.committed new.now) ready.autocommit };
+  ready =
+      record { autocommit = shown.mode ∙ ready.autocommit; now = is; committed = shown.committed_is ∙ ap (λ b. cond b old.committed new.now) ready.autocommit };
   content = content;
 }
 
@@ -191,9 +194,11 @@ module _ (sql text : List ℕ) (plain : IsPlain (understood log_schema sql)) (pa
   was_clean clean = omega (arith, survives.clean)
 
   nothing_new : IsOrderly old → HasCleanDisk new → (db : Trees) → CommitsShowing text params old db → ⊥
-  nothing_new order clean db h = let l = live (was_clean clean) in commits_nothing sql plain old order l.1 params db (subst (λ t. CommitsShowing t params old db) l.0 h)
+  nothing_new order clean db h =
+      let l = live (was_clean clean) in commits_nothing sql plain old order l.1 params db (subst (λ t. CommitsShowing t params old db) l.0 h)
 
-  pub asked : (rows : List Row) → (HasCleanDisk new → Shown text params old new rows) → IsOrderly old → HasCleanDisk new → Shown sql params old new rows × IsUnchanged old new
+  pub asked : (rows : List Row) → (HasCleanDisk new → Shown text params old new rows) → IsOrderly old → HasCleanDisk new
+      → Shown sql params old new rows × IsUnchanged old new
   asked rows shown order clean =
       let l = live (was_clean clean) in
       let here = subst (λ t. Shown t params old new rows) l.0 (shown clean) in
@@ -227,21 +232,26 @@ did_after change a b c same made = record {
   content = made.content ∙ ap (λ (d : Database). change (content_of d.trees)) same.0.now_is;
 }
 
-ready_after : (a b : State) → IsUnchanged a b → IsOrderly a → IsReady b
+ready_after : (a b : State) → IsUnchanged a b → IsOrderly a → HasLogTables b
 ready_after a b same order = rests_order a b (λ _. inl same) order same.0.is_open
 
 -- a statement that ran, by what it makes of the log's tables
-module _ {S : Type 0} (g : Ghosts S) (sql : List ℕ) (params : Row) (change : Content → Content) (old new : Held S) (opened : IsTrue (state g new).is_open → HasCleanDisk (state g new))
-    (makes : (mid : State) → IsUnchanged (state g old) mid → IsReady mid → (count : ℕ) → Executes sql params mid (state g new) (Ok count) → Did change mid (state g new))
-    (commits : (mid : State) → IsUnchanged (state g old) mid → IsReady mid → IsTrue mid.is_open → (db : Trees) → CommitsBy sql params mid db → (content_of db ≡ change (content_of mid.now.trees)) × AreLogTrees db) where
+module _ {S : Type 0} (g : Ghosts S) (sql : List ℕ) (params : Row) (change : Content
+    → Content) (old new : Held S) (opened : IsTrue (state g new).is_open → HasCleanDisk (state g new))
+    (makes : (mid : State) → IsUnchanged (state g old) mid → HasLogTables mid → (count : ℕ)
+    → Executes sql params mid (state g new) (Ok count) → Did change mid (state g new))
+    (commits : (mid : State) → IsUnchanged (state g old) mid → HasLogTables mid → IsTrue mid.is_open → (db : Trees)
+    → CommitsBy sql params mid db → (content_of db ≡ change (content_of mid.now.trees)) × AreLogTrees db) where
   pub run_makes : IsOrderly (state g old) → RunsFrom g sql params old new → Did change (state g old) (state g new)
   run_makes order ran = did_after change _ (state g ran.0) _ ran.1 (makes (state g ran.0) ran.1 (ready_after _ (state g ran.0) ran.1 order) ran.2.0 ran.2.1)
 
-  pub run_ok : {A E : Type 0} (r : Result A E) → IsOrderly (state g old) → OnOk r (RunsFrom g sql params old new) → OnOk r (Makes change (content_in (state g old)) (content_in (state g new)))
+  pub run_ok : {A E : Type 0} (r : Result A E) → IsOrderly (state g old) → OnOk r (RunsFrom g sql params old new)
+      → OnOk r (Makes change (content_in (state g old)) (content_in (state g new)))
   run_ok (Err e) order ran = tt
   run_ok (Ok x) order ran = did_makes change _ _ (run_makes order ran)
 
-  did_or_rests : {A E : Type 0} (r : Result A E) → IsOrderly (state g old) → OnOk r (RunsFrom g sql params old new) → OnErr r (Rests (state g old) (state g new))
+  did_or_rests : {A E : Type 0} (r : Result A E) → IsOrderly (state g old) → OnOk r (RunsFrom g sql params old new)
+      → OnErr r (Rests (state g old) (state g new))
       → Rests (state g old) (state g new) ⊎ Did change (state g old) (state g new)
   did_or_rests (Ok x) order ran rests = inr (run_makes order ran)
   did_or_rests (Err e) order ran rests = inl rests
@@ -279,7 +289,8 @@ module _ {S : Type 0} (g : Ghosts S) (sql : List ℕ) (params : Row) (change : C
 
 -- ---- what a query told of the log
 
-pub answered : (old mid new : State) → IsOrderly old → IsUnchanged old mid → IsUnchanged mid new → (Q : Content → Type 0) → (IsLog mid.now → Q (content_of mid.now.trees))
+pub answered : (old mid new : State) → IsOrderly old → IsUnchanged old mid → IsUnchanged mid new → (Q : Content → Type 0)
+    → (IsLog mid.now → Q (content_of mid.now.trees))
     → IsSomeAnd (content_in old) (λ c. (content_in new ≡ Some c) × Q c)
 answered old mid new order first second Q says =
     let was : old.is_open ≡ true = first.0.was_open in

@@ -49,7 +49,8 @@ pub insert_decision_plain : IsPlain (understood log_schema insert_decision)
 unfolding understood everything
 insert_decision_plain = (refl, refl)
 
-pub find_decision_is : command_of (understood log_schema find_decision) ≡ Select (record { lets = []; body = over 1 (is 1 0 ∷ is 2 1 ∷ []) (lit (Int (pos 1)) ∷ []) }) (codes "1" ∷ [])
+pub find_decision_is : command_of (understood log_schema find_decision)
+    ≡ Select (record { lets = []; body = over 1 (is 1 0 ∷ is 2 1 ∷ []) (lit (Int (pos 1)) ∷ []) }) (codes "1" ∷ [])
 unfolding understood everything
 find_decision_is = refl
 
@@ -61,7 +62,8 @@ pub find_decision_unlisted : reads_listing log_schema find_decision ≡ false
 unfolding understood everything
 find_decision_unlisted = refl
 
-pub delete_decision_is : command_of (understood log_schema delete_decision) ≡ Delete 1 (record { lets = []; body = over 1 (is 1 0 ∷ is 2 1 ∷ []) (col 1 0 ∷ []) })
+pub delete_decision_is : command_of (understood log_schema delete_decision)
+    ≡ Delete 1 (record { lets = []; body = over 1 (is 1 0 ∷ is 2 1 ∷ []) (col 1 0 ∷ []) })
 unfolding understood everything
 delete_decision_is = refl
 
@@ -85,7 +87,8 @@ pub insert_participant_plain : IsPlain (understood log_schema insert_participant
 unfolding understood everything
 insert_participant_plain = (refl, refl)
 
-pub find_participants_is : command_of (understood log_schema find_participants) ≡ Select (record { lets = []; body = over 5 (is 1 0 ∷ is 2 1 ∷ []) (col 1 3 ∷ col 1 4 ∷ []) }) (codes "thread" ∷ codes "rm" ∷ [])
+pub find_participants_is : command_of (understood log_schema find_participants)
+    ≡ Select (record { lets = []; body = over 5 (is 1 0 ∷ is 2 1 ∷ []) (col 1 3 ∷ col 1 4 ∷ []) }) (codes "thread" ∷ codes "rm" ∷ [])
 unfolding understood everything
 find_participants_is = refl
 
@@ -105,7 +108,8 @@ find_incarnation = codes "SELECT incarnation FROM tm_meta"
 abbrev pub set_incarnation : List ℕ
 set_incarnation = codes "UPDATE tm_meta SET incarnation = ?1"
 
-pub find_incarnation_is : command_of (understood log_schema find_incarnation) ≡ Select (record { lets = []; body = over 0 [] (col 1 3 ∷ []) }) (codes "incarnation" ∷ [])
+pub find_incarnation_is : command_of (understood log_schema find_incarnation)
+    ≡ Select (record { lets = []; body = over 0 [] (col 1 3 ∷ []) }) (codes "incarnation" ∷ [])
 unfolding understood everything
 find_incarnation_is = refl
 
@@ -117,7 +121,8 @@ pub find_incarnation_unlisted : reads_listing log_schema find_incarnation ≡ fa
 unfolding understood everything
 find_incarnation_unlisted = refl
 
-pub set_incarnation_is : command_of (understood log_schema set_incarnation) ≡ Update 0 (record { lets = []; body = over 0 [] (col 1 0 ∷ col 1 0 ∷ lit Null ∷ col 1 2 ∷ col 0 0 ∷ []) })
+pub set_incarnation_is : command_of (understood log_schema set_incarnation)
+    ≡ Update 0 (record { lets = []; body = over 0 [] (col 1 0 ∷ col 1 0 ∷ lit Null ∷ col 1 2 ∷ col 0 0 ∷ []) })
 unfolding understood everything
 set_incarnation_is = refl
 
@@ -133,7 +138,8 @@ insert_heuristic = codes "INSERT INTO heuristic (inc, seq, thread, rm, how) VALU
 abbrev pub find_heuristic : List ℕ
 find_heuristic = codes "SELECT how FROM heuristic WHERE inc = ?1 AND seq = ?2 AND thread = ?3 AND rm = ?4"
 
-pub insert_heuristic_is : command_of (understood log_schema insert_heuristic) ≡ Insert 2 (Values (lit Null ∷ col 0 0 ∷ col 0 1 ∷ col 0 2 ∷ col 0 3 ∷ col 0 4 ∷ []) 6)
+pub insert_heuristic_is : command_of (understood log_schema insert_heuristic)
+    ≡ Insert 2 (Values (lit Null ∷ col 0 0 ∷ col 0 1 ∷ col 0 2 ∷ col 0 3 ∷ col 0 4 ∷ []) 6)
 unfolding understood everything
 insert_heuristic_is = refl
 
@@ -141,7 +147,8 @@ pub insert_heuristic_plain : IsPlain (understood log_schema insert_heuristic)
 unfolding understood everything
 insert_heuristic_plain = (refl, refl)
 
-pub find_heuristic_is : command_of (understood log_schema find_heuristic) ≡ Select (record { lets = []; body = over 3 (is 1 0 ∷ is 2 1 ∷ is 3 2 ∷ is 4 3 ∷ []) (col 1 5 ∷ []) }) (codes "how" ∷ [])
+pub find_heuristic_is : command_of (understood log_schema find_heuristic)
+    ≡ Select (record { lets = []; body = over 3 (is 1 0 ∷ is 2 1 ∷ is 3 2 ∷ is 4 3 ∷ []) (col 1 5 ∷ []) }) (codes "how" ∷ [])
 unfolding understood everything
 find_heuristic_is = refl
 
@@ -164,7 +171,8 @@ all_participants = codes "SELECT inc, seq, thread, rm FROM participant"
 abbrev pub all_heuristics : List ℕ
 all_heuristics = codes "SELECT inc, seq, thread, rm, how FROM heuristic"
 
-pub all_decisions_is : command_of (understood log_schema all_decisions) ≡ Select (record { lets = []; body = over 1 [] (col 1 1 ∷ col 1 2 ∷ []) }) (codes "inc" ∷ codes "seq" ∷ [])
+pub all_decisions_is : command_of (understood log_schema all_decisions)
+    ≡ Select (record { lets = []; body = over 1 [] (col 1 1 ∷ col 1 2 ∷ []) }) (codes "inc" ∷ codes "seq" ∷ [])
 unfolding understood everything
 all_decisions_is = refl
 
@@ -176,7 +184,9 @@ pub all_decisions_unlisted : reads_listing log_schema all_decisions ≡ false
 unfolding understood everything
 all_decisions_unlisted = refl
 
-pub all_participants_is : command_of (understood log_schema all_participants) ≡ Select (record { lets = []; body = over 5 [] (col 1 1 ∷ col 1 2 ∷ col 1 3 ∷ col 1 4 ∷ []) }) (codes "inc" ∷ codes "seq" ∷ codes "thread" ∷ codes "rm" ∷ [])
+pub all_participants_is : command_of (understood log_schema all_participants)
+    ≡ Select (record { lets = []; body = over 5 [] (col 1 1 ∷ col 1 2 ∷ col 1 3 ∷ col 1 4 ∷ []) })
+    (codes "inc" ∷ codes "seq" ∷ codes "thread" ∷ codes "rm" ∷ [])
 unfolding understood everything
 all_participants_is = refl
 
@@ -188,7 +198,9 @@ pub all_participants_unlisted : reads_listing log_schema all_participants ≡ fa
 unfolding understood everything
 all_participants_unlisted = refl
 
-pub all_heuristics_is : command_of (understood log_schema all_heuristics) ≡ Select (record { lets = []; body = over 3 [] (col 1 1 ∷ col 1 2 ∷ col 1 3 ∷ col 1 4 ∷ col 1 5 ∷ []) }) (codes "inc" ∷ codes "seq" ∷ codes "thread" ∷ codes "rm" ∷ codes "how" ∷ [])
+pub all_heuristics_is : command_of (understood log_schema all_heuristics)
+    ≡ Select (record { lets = []; body = over 3 [] (col 1 1 ∷ col 1 2 ∷ col 1 3 ∷ col 1 4 ∷ col 1 5 ∷ []) })
+    (codes "inc" ∷ codes "seq" ∷ codes "thread" ∷ codes "rm" ∷ codes "how" ∷ [])
 unfolding understood everything
 all_heuristics_is = refl
 

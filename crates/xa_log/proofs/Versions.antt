@@ -16,7 +16,7 @@ use Rattle.sqlite.specs.State.{State, IsUnchanged, Survives, CommitsShowing, Sho
 use Rattle.sqlite.proofs.Callers.{IsPlain, command_of, never_commits, reads_as, one_permutation}
 use Rattle.sqlite_tied.specs.Compute.{everything}
 use Rattle.xa_log.specs.Tables.{old_schema, log_schema}
-use Rattle.xa_log.specs.Opened.{HasTables, HasRow, IsNatural, Names}
+use Rattle.xa_log.specs.Opened.{HasTables, HasRow, IsNatural, NamesVersion}
 use Rattle.xa_log.proofs.Texts.{over}
 use Rattle.xa_log.proofs.Plain.{chosen, shown, plain_rows}
 
@@ -59,7 +59,8 @@ answers old new rows has h =
     let it = reads old has in
     plain_rows 0 [] project old.now.trees [] rows (reads_as read_meta [] old new old.now.schema refl _ it.is it.plain it.unlisted rows h).answer
 
-pub looks_at : (version incarnation : ℕ) (old new : State) (rows : List Row) → HasRow version incarnation old → Shown read_meta [] old new rows → rows ≡ (Int (pos version) ∷ Int (pos incarnation) ∷ []) ∷ []
+pub looks_at : (version incarnation : ℕ) (old new : State) (rows : List Row) → HasRow version incarnation old
+    → Shown read_meta [] old new rows → rows ≡ (Int (pos version) ∷ Int (pos incarnation) ∷ []) ∷ []
 looks_at version incarnation old new rows is h =
     one_permutation (Int (pos version) ∷ Int (pos incarnation) ∷ []) rows
     (subst (λ all. IsPermutation (map (shown project []) (chosen [] [] all)) rows) is.1 (answers old new rows is.0 h))
@@ -80,15 +81,17 @@ one_number v i n zero row within is number =
 one_number v i n (suc k) row within is number = absurd (omega (arith, within))
 
 -- a number at the head of an answer of one row is that row's
-pub number_of_one : (v i n : ℕ) (rows : List Row) (row : Row) → rows ≡ (Int (pos v) ∷ Int (pos i) ∷ []) ∷ [] → Contains rows row → column row 0 ≡ Int (pos n) → n ≡ v
+pub number_of_one : (v i n : ℕ) (rows : List Row) (row : Row) → rows ≡ (Int (pos v) ∷ Int (pos i) ∷ []) ∷ [] → Contains rows row
+    → column row 0 ≡ Int (pos n) → n ≡ v
 number_of_one v i n rows row is has number =
     let at = subst (λ all. Contains all row) is has in
     one_number v i n at.0 row at.1 at.2 number
 
 pub names : (version : ℕ) (old new : State) (rows : List Row) (row : Row) → HasTables old → Shown read_meta [] old new rows
-    → Contains rows row → column row 0 ≡ Int (pos version) → IsNatural (column row 1) → Names version old
+    → Contains rows row → column row 0 ≡ Int (pos version) → IsNatural (column row 1) → NamesVersion version old
 names version old new rows row has h in_rows first second =
-    let moved = Contains-permutation rows (map (shown project []) (chosen [] [] (old.now.trees 0))) row (IsPermutation-sym _ _ (answers old new rows has h)) in_rows in
+    let moved =
+    Contains-permutation rows (map (shown project []) (chosen [] [] (old.now.trees 0))) row (IsPermutation-sym _ _ (answers old new rows has h)) in_rows in
     let from = shown_of (old.now.trees 0) row moved.0 moved.1 moved.2 in
     (from.0, from.1, ap (λ r. column r 0) from.2 ∙ first, (second.0, ap (λ r. column r 1) from.2 ∙ second.1))
 

@@ -29,15 +29,15 @@ Fits Rows = Unit {0}
 -- ** one call
 
 -- what it leaves
-abbrev pub after : Command → Content → Content
-after (Commit g participants) c = committed g (from_list participants.items) c
-after (Done g) c = without_decision g c
-after (NoteHeuristic b how) c = recorded b how c
-after Bump c = bumped c
-after (Contains g) c = c
-after (Participants g) c = c
-after (HeuristicOf b) c = c
-after Rows c = c
+abbrev pub content_after : Command → Content → Content
+content_after (Commit g participants) c = committed g (from_list participants.items) c
+content_after (Done g) c = without_decision g c
+content_after (NoteHeuristic b how) c = recorded b how c
+content_after Bump c = bumped c
+content_after (Contains g) c = c
+content_after (Participants g) c = c
+content_after (HeuristicOf b) c = c
+content_after Rows c = c
 
 abbrev pub kind_of : Command → LogCall
 kind_of (Commit g participants) = kind.Commit
@@ -69,7 +69,7 @@ Tells c Rows _ = ⊥
 
 abbrev pub after_all : List Command → Content → Content
 after_all [] c = c
-after_all (call ∷ calls) c = after_all calls (after call c)
+after_all (call ∷ calls) c = after_all calls (content_after call c)
 
 -- the log is shut, or holds what some first calls leave
 abbrev pub LeavesFirst : List Command → Content → Option Content → Type 0
@@ -77,20 +77,22 @@ LeavesFirst calls c new = (new ≡ None) ⊎ ((n : ℕ) × (new ≡ Some (after_
 
 abbrev pub AreTold : Content → List Command → List Told → Type 0
 AreTold c [] [] = Unit {0}
-AreTold c (call ∷ calls) (answer ∷ answers) = Tells c call answer × AreTold (after call c) calls answers
+AreTold c (call ∷ calls) (answer ∷ answers) = Tells c call answer × AreTold (content_after call c) calls answers
 AreTold c _ _ = ⊥
 
--- one of the calls failed, and this is its fault; none was made after it
-pub record StopsAt {Log : Type 0} (says : LogCall → (Content → Content) → Log → Log → Option LogFault → Type 0) (calls : List Command) (new : Log) (e : LogFault) : Type 0 where
+-- one of the calls failed, and this is its fault; none was made content_after it
+pub record StopsAt {Log : Type 0} (says : LogCall → (Content → Content) → Log → Log → Option LogFault
+    → Type 0) (calls : List Command) (new : Log) (e : LogFault) : Type 0 where
   pub place : ℕ
   pub within : place < length calls
   pub call : Command
   pub is : call ≡ get_or calls place call
   pub before : Log
-  pub fails : says (kind_of call) (after call) before new (Some e)
+  pub fails : says (kind_of call) (content_after call) before new (Some e)
 
 -- it was a call that failed, which is counted; or the calls that were made succeeded, and memory for the answers was refused
-abbrev pub EndsBy : {Log : Type 0} → (LogCall → (Content → Content) → Log → Log → Option LogFault → Type 0) → (Log → Moment) → List Command → Log → Log → LogFault → Type 0
+abbrev pub EndsBy : {Log : Type 0} → (LogCall → (Content → Content) → Log → Log → Option LogFault → Type 0) → (Log → Moment)
+    → List Command → Log → Log → LogFault → Type 0
 EndsBy says moment calls old new e =
     (StopsAt says calls new e × ((moment new).fault_count ≡ one_more_fault (moment old).fault_count))
     ⊎ ((e ≡ Memory) × ((moment new).fault_count ≡ (moment old).fault_count))

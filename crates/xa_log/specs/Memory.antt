@@ -21,18 +21,18 @@ use Rattle.xa_log.specs.declared.log_fault.LogFault.TheVariants.{Memory as Refus
 use Rattle.xa_log.specs.declared.mem_log.MemLog.{MemLog}
 
 -- a decision's row, as the log's content has it
-abbrev pub row_of : Gtrid × BTreeSet Branch → Gtrid × KeySet branch_cmp
-row_of row = (row.0, from_list row.1.keys)
+abbrev pub row_held : Gtrid × BTreeSet Branch → Gtrid × KeySet branch_cmp
+row_held row = (row.0, from_list row.1.keys)
 
 abbrev pub decisions_in : BTreeMap Gtrid (BTreeSet Branch) → FinMap gtrid_cmp (KeySet branch_cmp)
-decisions_in rows = from_entries (map row_of rows.entries)
+decisions_in rows = from_entries (map row_held rows.entries)
 
 abbrev pub heuristics_in : BTreeMap Branch How → FinMap branch_cmp How
 heuristics_in rows = from_entries rows.entries
 
 -- what a log in memory holds
-abbrev pub held_in : MemLog → Content
-held_in log = record {
+abbrev pub content_held : MemLog → Content
+content_held log = record {
   decisions = decisions_in log.decisions;
   heuristics = heuristics_in log.heuristics;
   incarnation = log.incarnation;
@@ -65,8 +65,8 @@ MayFailBy Rows e = e ≡ Refused
 
 -- a call of a log in memory makes its change, or fails, counts that, and the log holds what it held
 abbrev pub RunsInMemory : LogCall → (Content → Content) → MemLog → MemLog → Option LogFault → Type 0
-RunsInMemory call change old new None = (held_in new ≡ change (held_in old)) × (new.faults ≡ old.faults)
-RunsInMemory call change old new (Some e) = MayFailBy call e × (held_in new ≡ held_in old) × (new.faults ≡ one_more_fault old.faults)
+RunsInMemory call change old new None = (content_held new ≡ change (content_held old)) × (new.faults ≡ old.faults)
+RunsInMemory call change old new (Some e) = MayFailBy call e × (content_held new ≡ content_held old) × (new.faults ≡ one_more_fault old.faults)
 
 -- ** a log that fails by a plan
 

@@ -15,7 +15,7 @@ use Rattle.sqlite_disk.specs.declared.Disk.{Ghosts}
 use Rattle.xa_log.specs.Content.{nothing}
 use Rattle.xa_log.specs.Tables.{no_tables, old_schema, log_schema}
 use Rattle.xa_log.specs.Rows.{content_of, old_content_of}
-use Rattle.xa_log.specs.Sql.{AreLogTrees, IsOrderly, IsOldReady, IsReady, IsReadyWith, IsUndone, AreNewTrees}
+use Rattle.xa_log.specs.Sql.{AreLogTrees, IsOrderly, IsOldReady, HasLogTables, IsReadyWith, IsShutOrAsBefore, AreNewTrees}
 
 -- the statement ran in the transaction, which goes on
 abbrev pub RunsInside : List ℕ → State → State → Type 0
@@ -46,19 +46,19 @@ abbrev pub IsNatural : Value → Type 0
 IsNatural value = (n : ℕ) × (value ≡ Int (pos n))
 
 -- a row of tm_meta has this version, and an incarnation that is a natural number
-abbrev pub Names : ℕ → State → Type 0
-Names version s =
+abbrev pub NamesVersion : ℕ → State → Type 0
+NamesVersion version s =
     (row : Row)
     × Contains (s.now.trees 0) row
     × (column row 2 ≡ Int (pos version))
     × IsNatural (column row 3)
 
 abbrev pub NamesKnown : State → Type 0
-NamesKnown s = Names 1 s ⊎ Names 2 s
+NamesKnown s = NamesVersion 1 s ⊎ NamesVersion 2 s
 
 -- a blank database, or a log of version 1 or 2
-abbrev pub IsKnown : State → Type 0
-IsKnown s = IsBlank s ⊎ (IsOldReady s ⊎ IsReady s)
+abbrev pub IsKnownDatabase : State → Type 0
+IsKnownDatabase s = IsBlank s ⊎ (IsOldReady s ⊎ HasLogTables s)
 
 -- it was just opened, and holds what a crash may have left of a log
 pub record IsFoundLog (s : State) : Type 0 where
@@ -85,7 +85,7 @@ LeavesSame old new = (db : Trees) → new.may_leave db → old.may_leave db
 
 -- nothing has changed, but that a fault may have shut the database
 pub record IsUntouched (old new : State) : Type 0 where
-  pub undone : IsUndone old new
+  pub undone : IsShutOrAsBefore old new
   pub crash : LeavesSame old new
 
 -- What a log makes of a database that it takes: an empty log where that was blank, and else one with its rows.

@@ -44,19 +44,19 @@ abbrev pub IsHeuristicRow : Row → Type 0
 IsHeuristicRow row = (id : ℤ) × (b : Branch) × (how : How) × (row ≡ heuristic_row id b how) × FitsRow b.gtrid
 
 -- what a row says
-abbrev pub gtrid_in : Row → Gtrid
-gtrid_in row = record { incarnation = number_in (column row 1); sequence = number_in (column row 2) }
+abbrev pub gtrid_of_row : Row → Gtrid
+gtrid_of_row row = record { incarnation = number_in (column row 1); sequence = number_in (column row 2) }
 
-abbrev pub branch_in : Row → Branch
-branch_in row = record { gtrid = gtrid_in row; thread = number_in (column row 3); rm = number_in (column row 4) }
+abbrev pub branch_of_row : Row → Branch
+branch_of_row row = record { gtrid = gtrid_of_row row; thread = number_in (column row 3); rm = number_in (column row 4) }
 
 -- the number that a value is
 abbrev pub integer_in : Value → ℤ
 integer_in (Int n) = n
 integer_in _ = pos 0
 
-abbrev pub how_in : Row → How
-how_in row = unwrap_or (how_of_number (integer_in (column row 5))) Com
+abbrev pub how_of_row : Row → How
+how_of_row row = unwrap_or (how_of_number (integer_in (column row 5))) Com
 
 abbrev pub is_branch : Branch → Branch → Bool
 is_branch b c = eq_by_cmp branch_cmp b c
@@ -65,13 +65,13 @@ abbrev pub is_of : Gtrid → Gtrid → Bool
 is_of g h = eq_by_cmp gtrid_cmp g h
 
 -- the participants that the rows have for a transaction
-abbrev pub participants_in : List Row → Gtrid → KeySet branch_cmp
-participants_in rows g = from_list (filter (λ (b : Branch). is_of g b.gtrid) (map branch_in rows))
+abbrev pub participants_of_rows : List Row → Gtrid → KeySet branch_cmp
+participants_of_rows rows g = from_list (filter (λ (b : Branch). is_of g b.gtrid) (map branch_of_row rows))
 
 abbrev pub content_of : Trees → Content
 content_of trees = record {
-  decisions = from_entries (map (λ row. (gtrid_in row, participants_in (trees 5) (gtrid_in row))) (trees 1));
-  heuristics = from_entries (map (λ row. (branch_in row, how_in row)) (trees 3));
+  decisions = from_entries (map (λ row. (gtrid_of_row row, participants_of_rows (trees 5) (gtrid_of_row row))) (trees 1));
+  heuristics = from_entries (map (λ row. (branch_of_row row, how_of_row row)) (trees 3));
   incarnation = number_in (column (slice_index_or (trees 0) 0 []) 3);
 }
 
@@ -97,11 +97,11 @@ heuristic_from row = (branch_from row, unwrap_or (how_of_number (integer_in (col
 pub record AreHeuristicRows (rows : List Row) : Type 0 where
   pub all : AllByRecursion IsHeuristicRow rows
   pub apart : IsTable rows
-  pub once : IsAscending (λ a b. is_branch (branch_in a) (branch_in b) ≡ false) rows
+  pub once : IsAscending (λ a b. is_branch (branch_of_row a) (branch_of_row b) ≡ false) rows
 
 -- the transaction of a participant has a row
 abbrev pub HasDecision : List Row → Row → Type 0
-HasDecision decisions row = list_any (λ r. is_of (gtrid_in row) (gtrid_in r)) decisions ≡ true
+HasDecision decisions row = list_any (λ r. is_of (gtrid_of_row row) (gtrid_of_row r)) decisions ≡ true
 
 -- the tables are those of version 2, and each row is one of the log's
 pub record IsLog (db : Database) : Type 0 where
@@ -123,8 +123,8 @@ old_meta_row incarnation = Int (pos 1) ∷ Null ∷ Int (pos 1) ∷ Int (pos inc
 -- its decisions have no participants
 abbrev pub old_content_of : Trees → Content
 old_content_of trees = record {
-  decisions = from_entries (map (λ row. (gtrid_in row, empty)) (trees 1));
-  heuristics = from_entries (map (λ row. (branch_in row, how_in row)) (trees 3));
+  decisions = from_entries (map (λ row. (gtrid_of_row row, empty)) (trees 1));
+  heuristics = from_entries (map (λ row. (branch_of_row row, how_of_row row)) (trees 3));
   incarnation = number_in (column (slice_index_or (trees 0) 0 []) 3);
 }
 

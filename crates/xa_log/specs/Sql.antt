@@ -19,14 +19,14 @@ use Rattle.sqlite_catalog.specs.Listing.{IsSound}
 use Rattle.sqlite.specs.Effect.{IsDatabase}
 
 -- it has the tables of the log, and no transaction is open
-pub record IsReady (s : State) : Type 0 where
+pub record HasLogTables (s : State) : Type 0 where
   pub autocommit : s.in_transaction ≡ false
   pub now : IsLog s.now
   pub committed : s.committed ≡ s.now
 
 -- unless a fault has shut it, it is ready
 abbrev pub IsOrderly : State → Type 0
-IsOrderly s = IsTrue s.is_open → IsReady s
+IsOrderly s = IsTrue s.is_open → HasLogTables s
 
 -- nothing, once a fault has shut it
 abbrev pub content_in : State → Option Content
@@ -82,16 +82,19 @@ Rests old new = IsUnchanged old new ⊎ IsRolledBack old new
 
 -- the log is open, and the rows answer the query
 abbrev pub Answers : {S : Type 0} → Ghosts S → List ℕ → Row → Held S → Held S → List Row → Type 0
-Answers {S} g sql params old new rows = (mid : Held S) × IsUnchanged (state g old) (state g mid) × IsUnchanged (state g mid) (state g new) × Shown sql params (state g mid) (state g new) rows
+Answers {S} g sql params old new rows =
+    (mid : Held S) × IsUnchanged (state g old) (state g mid) × IsUnchanged (state g mid) (state g new) × Shown sql params (state g mid) (state g new) rows
 
 -- the log is open, and the statement ran on it
 abbrev pub RunsFrom : {S : Type 0} → Ghosts S → List ℕ → Row → Held S → Held S → Type 0
-RunsFrom {S} g sql params old new = (mid : Held S) × IsUnchanged (state g old) (state g mid) × ((count : ℕ) × Executes sql params (state g mid) (state g new) (Ok count))
+RunsFrom {S} g sql params old new =
+    (mid : Held S) × IsUnchanged (state g old) (state g mid) × ((count : ℕ) × Executes sql params (state g mid) (state g new) (Ok count))
 
 -- a crash leaves what it might have left before, or what the statement commits
 abbrev pub LeavesBy : {S : Type 0} → Ghosts S → List ℕ → Row → Held S → Held S → Type 0
 LeavesBy {S} g sql params old new =
-    (db : Trees) → (state g new).may_leave db → (state g old).may_leave db ⊎ ((mid : Held S) × IsUnchanged (state g old) (state g mid) × CommitsBy sql params (state g mid) db)
+    (db : Trees) → (state g new).may_leave db
+    → (state g old).may_leave db ⊎ ((mid : Held S) × IsUnchanged (state g old) (state g mid) × CommitsBy sql params (state g mid) db)
 
 -- In a transaction that began over a log with this content, the decision has been written with these participants.
 pub record HasWritten (g : Gtrid) (participants : KeySet branch_cmp) (before : Content) (s : State) : Type 0 where
@@ -102,7 +105,7 @@ pub record HasWritten (g : Gtrid) (participants : KeySet branch_cmp) (before : C
   pub content : content_of s.now.trees ≡ with_decision g participants before
 
 -- a transaction over a log that has no such decision
-pub record MayBegin (g : Gtrid) (s : State) : Type 0 where
+pub record MayInsert (g : Gtrid) (s : State) : Type 0 where
   pub inside : IsTrue s.in_transaction
   pub now : IsLog s.now
   pub none : get (content_of s.now.trees).decisions g ≡ None
@@ -131,11 +134,11 @@ AreNewTrees c trees = IsNewLog c (record { schema = log_schema; trees = trees })
 -- the log is open and ready, and has this content
 pub record IsReadyWith (c : Content) (s : State) : Type 0 where
   pub is_open : IsTrue s.is_open
-  pub ready : IsReady s
+  pub ready : HasLogTables s
   pub content : content_of s.now.trees ≡ c
 
 -- the log is shut, or is as it was
-pub record IsUndone (old new : State) : Type 0 where
+pub record IsShutOrAsBefore (old new : State) : Type 0 where
   pub was_open : IsTrue new.is_open → IsTrue old.is_open
   pub undone : IsTrue new.is_open → (new.now ≡ old.committed) × (new.committed ≡ old.committed)
   pub autocommit : new.in_transaction ≡ false

@@ -16,10 +16,11 @@ use Rattle.xa_base.specs.declared.branch.Branch.{Branch}
 use Rattle.xa_base.specs.declared.branch.Gtrid.{Gtrid}
 use Rattle.xa_log.specs.Content.{AreOwn, Content}
 use Rattle.xa_log.specs.Contract.{AllFit, FitsRow}
-use Rattle.xa_log.specs.Rows.{IsDecisionRow, IsHeuristicRow, IsLog, branch_in, content_of, gtrid_in, how_in, is_branch, is_of, participants_in}
+use Rattle.xa_log.specs.Rows.{IsDecisionRow, IsHeuristicRow, IsLog, branch_of_row, content_of, gtrid_of_row, how_of_row, is_branch, is_of, participants_of_rows}
 use Rattle.xa_log.specs.Sql.{IsOrderly, MayLeave, content_in}
 
-pub durable_content : (s : State) → ((db : Trees) → IsTrue s.is_open → s.may_leave db → db ≡ s.committed.trees) → (c d : Content) → IsOrderly s → content_in s ≡ Some c → MayLeave s d → d ≡ c
+pub durable_content : (s : State) → ((db : Trees) → IsTrue s.is_open → s.may_leave db → db ≡ s.committed.trees) → (c d : Content)
+    → IsOrderly s → content_in s ≡ Some c → MayLeave s d → d ≡ c
 durable_content s settled c d order is left = elim (cases_Bool s.is_open) [
   | inl is_open ↦ (
       let same : Some (content_of s.now.trees) ≡ Some c = sym (rw is_open refl) ∙ is in
@@ -39,10 +40,11 @@ told : {A : Type 0} (x y : A) → Some x ≡ Some y → x ≡ y
 told x y e = cc
 
 -- what the rows of decisions are told to have of a transaction is what it has
-found_as : (parts : Gtrid → KeySet branch_cmp) (rows : List Row) (g : Gtrid) (set : KeySet branch_cmp) → find gtrid_cmp g (map (λ row. (gtrid_in row, parts (gtrid_in row))) rows) ≡ Some set → parts g ≡ set
+found_as : (parts : Gtrid → KeySet branch_cmp) (rows : List Row) (g : Gtrid) (set : KeySet branch_cmp)
+    → find gtrid_cmp g (map (λ row. (gtrid_of_row row, parts (gtrid_of_row row))) rows) ≡ Some set → parts g ≡ set
 found_as parts [] g set e = absurd (let none : None ≡ Some set = e in cc)
-found_as parts (r ∷ rows) g set e = elim (cases_Bool (is_of g (gtrid_in r))) [
-  | inl same ↦ ap parts (exact_gtrids g (gtrid_in r) (equal_is _ same)) ∙ told _ set (rw same at e)
+found_as parts (r ∷ rows) g set e = elim (cases_Bool (is_of g (gtrid_of_row r))) [
+  | inl same ↦ ap parts (exact_gtrids g (gtrid_of_row r) (equal_is _ same)) ∙ told _ set (rw same at e)
   | inr apart ↦ found_as parts rows g set (rw apart at e)
 ]
 
@@ -57,11 +59,14 @@ passes t p (x ∷ xs) e = elim (cases_Bool (t x)) [
   | inr gone ↦ passes t p xs (rw gone at e)
 ]
 
-part_is_own : (trees : Trees) (g : Gtrid) (set : KeySet branch_cmp) (b : Branch) → get (content_of trees).decisions g ≡ Some set → contains set b ≡ true → b.gtrid ≡ g
+part_is_own : (trees : Trees) (g : Gtrid) (set : KeySet branch_cmp) (b : Branch) → get (content_of trees).decisions g ≡ Some set
+    → contains set b ≡ true → b.gtrid ≡ g
 part_is_own trees g set b has inside =
-    let parts = participants_in (trees 5) in
+    let parts = participants_of_rows (trees 5) in
     let same : parts g ≡ set = found_as parts (trees 1) g set (sym (get-from_entries gtrids_total _ g) ∙ has) in
-    let one = passes (λ c. is_of g c.gtrid) (eq_by_cmp branch_cmp b) (map branch_in (trees 5)) (sym (contains-from_list branches_total _ b) ∙ ap (λ s. contains s b) same ∙ inside) in
+    let one =
+    passes (λ c. is_of g c.gtrid) (eq_by_cmp branch_cmp b) (map branch_of_row (trees 5))
+    (sym (contains-from_list branches_total _ b) ∙ ap (λ s. contains s b) same ∙ inside) in
     ap (λ (c : Branch). c.gtrid) (exact_branches b one.0 (equal_is _ one.2)) ∙ sym (exact_gtrids g one.0.gtrid (equal_is _ one.1))
 
 pub own_content : (s : State) (c : Content) → IsOrderly s → content_in s ≡ Some c → AreOwn c
@@ -76,23 +81,25 @@ own_content s c order is g set b has inside = elim (cases_Bool s.is_open) [
 -- ** the numbers of the rows
 
 -- a transaction that has a row has one whose numbers are its own
-decision_fits : (parts : Gtrid → KeySet branch_cmp) (rows : List Row) (g : Gtrid) → AllByRecursion IsDecisionRow rows → is_some (find gtrid_cmp g (map (λ row. (gtrid_in row, parts (gtrid_in row))) rows)) ≡ true → FitsRow g
+decision_fits : (parts : Gtrid → KeySet branch_cmp) (rows : List Row) (g : Gtrid) → AllByRecursion IsDecisionRow rows
+    → is_some (find gtrid_cmp g (map (λ row. (gtrid_of_row row, parts (gtrid_of_row row))) rows)) ≡ true → FitsRow g
 decision_fits parts [] g all e = absurd (true≢false (sym e))
-decision_fits parts (r ∷ rows) g all e = elim (cases_Bool (is_of g (gtrid_in r))) [
-  | inl same ↦ subst FitsRow (sym (exact_gtrids g (gtrid_in r) (equal_is _ same) ∙ ap gtrid_in all.0.2)) all.0.3
+decision_fits parts (r ∷ rows) g all e = elim (cases_Bool (is_of g (gtrid_of_row r))) [
+  | inl same ↦ subst FitsRow (sym (exact_gtrids g (gtrid_of_row r) (equal_is _ same) ∙ ap gtrid_of_row all.0.2)) all.0.3
   | inr apart ↦ decision_fits parts rows g all.1 (rw apart at e)
 ]
 
-heuristic_fits : (rows : List Row) (b : Branch) → AllByRecursion IsHeuristicRow rows → is_some (find branch_cmp b (map (λ row. (branch_in row, how_in row)) rows)) ≡ true → FitsRow b.gtrid
+heuristic_fits : (rows : List Row) (b : Branch) → AllByRecursion IsHeuristicRow rows
+    → is_some (find branch_cmp b (map (λ row. (branch_of_row row, how_of_row row)) rows)) ≡ true → FitsRow b.gtrid
 heuristic_fits [] b all e = absurd (true≢false (sym e))
-heuristic_fits (r ∷ rows) b all e = elim (cases_Bool (is_branch b (branch_in r))) [
-  | inl same ↦ subst (λ (x : Branch). FitsRow x.gtrid) (sym (exact_branches b (branch_in r) (equal_is _ same) ∙ ap branch_in all.0.3)) all.0.4
+heuristic_fits (r ∷ rows) b all e = elim (cases_Bool (is_branch b (branch_of_row r))) [
+  | inl same ↦ subst (λ (x : Branch). FitsRow x.gtrid) (sym (exact_branches b (branch_of_row r) (equal_is _ same) ∙ ap branch_of_row all.0.3)) all.0.4
   | inr apart ↦ heuristic_fits rows b all.1 (rw apart at e)
 ]
 
 rows_fit : (db : Database) → IsLog db → AllFit (content_of db.trees)
 rows_fit db is = record {
-  decisions = λ g h. decision_fits (participants_in (db.trees 5)) (db.trees 1) g is.decisions (sym (ap is_some (get-from_entries gtrids_total _ g)) ∙ h);
+  decisions = λ g h. decision_fits (participants_of_rows (db.trees 5)) (db.trees 1) g is.decisions (sym (ap is_some (get-from_entries gtrids_total _ g)) ∙ h);
   heuristics = λ b h. heuristic_fits (db.trees 3) b is.heuristics.all (sym (ap is_some (get-from_entries branches_total _ b)) ∙ h);
 }
 

@@ -20,7 +20,8 @@ abbrev pub decision_text : List ℕ
 decision_text = codes "CREATE TABLE decision (inc INTEGER NOT NULL, seq INTEGER NOT NULL, PRIMARY KEY (inc, seq))"
 
 abbrev pub heuristic_text : List ℕ
-heuristic_text = codes "CREATE TABLE heuristic (inc INTEGER NOT NULL, seq INTEGER NOT NULL, thread INTEGER NOT NULL, rm INTEGER NOT NULL, how INTEGER NOT NULL, PRIMARY KEY (inc, seq, thread, rm), CHECK (how >= 5 AND how <= 8))"
+heuristic_text =
+    codes "CREATE TABLE heuristic (inc INTEGER NOT NULL, seq INTEGER NOT NULL, thread INTEGER NOT NULL, rm INTEGER NOT NULL, how INTEGER NOT NULL, PRIMARY KEY (inc, seq, thread, rm), CHECK (how >= 5 AND how <= 8))"
 
 abbrev pub number : List ℕ → Column
 number name = record { name = name; kind = Integer; is_strict = false; not_null = true; default = Null; collation = Binary }
@@ -29,7 +30,9 @@ abbrev pub meta : Table
 meta = record {
   name = codes "tm_meta";
   tree = 0;
-  columns = (record { name = codes "k"; kind = Integer; is_strict = false; not_null = false; default = Null; collation = Binary }) ∷ number (codes "version") ∷ number (codes "incarnation") ∷ [];
+  columns =
+      (record { name = codes "k"; kind = Integer; is_strict = false; not_null = false; default = Null; collation = Binary })
+      ∷ number (codes "version") ∷ number (codes "incarnation") ∷ [];
   key = Some 0;
   primary = 0 ∷ [];
   uniques = [];
@@ -77,7 +80,8 @@ abbrev pub decision_key : Index
 decision_key = record { name = codes "sqlite_autoindex_decision_1"; tree = 2; table = 1; columns = 1 ∷ 2 ∷ []; order = record { digits = 0 }; is_unique = true }
 
 abbrev pub heuristic_key : Index
-heuristic_key = record { name = codes "sqlite_autoindex_heuristic_1"; tree = 4; table = 3; columns = 1 ∷ 2 ∷ 3 ∷ 4 ∷ []; order = record { digits = 0 }; is_unique = true }
+heuristic_key =
+    record { name = codes "sqlite_autoindex_heuristic_1"; tree = 4; table = 3; columns = 1 ∷ 2 ∷ 3 ∷ 4 ∷ []; order = record { digits = 0 }; is_unique = true }
 
 abbrev pub no_tables : Schema
 no_tables = record { tables = []; indexes = []; views = [] }
@@ -86,11 +90,13 @@ abbrev pub old_schema : Schema
 old_schema = record { tables = meta ∷ decision ∷ heuristic ∷ []; indexes = decision_key ∷ heuristic_key ∷ []; views = [] }
 
 abbrev pub participant_text : List ℕ
-participant_text = codes "CREATE TABLE participant (inc INTEGER NOT NULL, seq INTEGER NOT NULL, thread INTEGER NOT NULL, rm INTEGER NOT NULL, PRIMARY KEY (inc, seq, thread, rm), FOREIGN KEY (inc, seq) REFERENCES decision (inc, seq) ON DELETE CASCADE)"
+participant_text =
+    codes "CREATE TABLE participant (inc INTEGER NOT NULL, seq INTEGER NOT NULL, thread INTEGER NOT NULL, rm INTEGER NOT NULL, PRIMARY KEY (inc, seq, thread, rm), FOREIGN KEY (inc, seq) REFERENCES decision (inc, seq) ON DELETE CASCADE)"
 
 -- a participant has a decision, and goes with it
 abbrev pub of_decision : Reference
-of_decision = record { columns = 1 ∷ 2 ∷ []; parent = codes "decision"; parent_columns = codes "inc" ∷ codes "seq" ∷ []; on_delete = Cascade; on_update = NoAction; is_deferred = false }
+of_decision =
+    record { columns = 1 ∷ 2 ∷ []; parent = codes "decision"; parent_columns = codes "inc" ∷ codes "seq" ∷ []; on_delete = Cascade; on_update = NoAction; is_deferred = false }
 
 abbrev pub participant : Table
 participant = record {
@@ -109,7 +115,8 @@ participant = record {
 }
 
 abbrev pub participant_key : Index
-participant_key = record { name = codes "sqlite_autoindex_participant_1"; tree = 6; table = 5; columns = 1 ∷ 2 ∷ 3 ∷ 4 ∷ []; order = record { digits = 0 }; is_unique = true }
+participant_key =
+    record { name = codes "sqlite_autoindex_participant_1"; tree = 6; table = 5; columns = 1 ∷ 2 ∷ 3 ∷ 4 ∷ []; order = record { digits = 0 }; is_unique = true }
 
 abbrev pub log_schema : Schema
 log_schema = record { tables = meta ∷ decision ∷ heuristic ∷ participant ∷ []; indexes = decision_key ∷ heuristic_key ∷ participant_key ∷ []; views = [] }

@@ -1,7 +1,7 @@
 //! Calls of a log, made in turn: what any list of them leaves, and what they are told.
 ghost use Rattle.std.specs.Prelude.{◌≡◌, IfErr, IfOk, OnOk, OnErr, Some, IsSomeAnd};
 ghost use Rattle.std.specs.List.{AllByRecursion};
-ghost use Rattle.xa_log.specs.Commands.{AreTold, EndsBy, Fits, LeavesFirst, Tells, after, after_all, kind_of};
+ghost use Rattle.xa_log.specs.Commands.{AreTold, EndsBy, Fits, LeavesFirst, Tells, content_after, after_all, kind_of};
 ghost use Rattle.xa_log.specs.Content.{Content};
 ghost use Rattle.xa_log.specs.Contract.{Changes};
 
@@ -47,8 +47,8 @@ fn run_one<L: DecisionLog>(log: &mut L, command: &Command) -> Result<Told, LogFa
     ensures told { (L.moment log.old).is_in_order → (L.moment log.new).is_honest →
         IfOk result (λ told. IsSomeAnd (L.moment log.old).content (λ c.
         Tells c command.now told)) }
-    ensures changes { Changes (after command.now) (L.moment log.old) (L.moment log.new) result }
-    ensures cause { IfErr result (λ e. L.says (kind_of command.now) (after command.now)
+    ensures changes { Changes (content_after command.now) (L.moment log.old) (L.moment log.new) result }
+    ensures cause { IfErr result (λ e. L.says (kind_of command.now) (content_after command.now)
         log.old log.new (Some e)) }
 {
     match command {

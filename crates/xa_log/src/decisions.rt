@@ -9,7 +9,7 @@ ghost use Rattle.xa_base.specs.Branch.{branch_cmp};
 ghost use Rattle.xa_log.specs.Contract.{Makes, FitsRow};
 ghost use Rattle.xa_log.specs.Content.{Content, committed, participants_of, without_decision};
 ghost use Rattle.xa_log.specs.Rows.{content_of, participant_from};
-ghost use Rattle.xa_log.specs.Sql.{IsOrderly, content_in, OnlyReads, MayChange, HasWritten, MayBegin, Lacks};
+ghost use Rattle.xa_log.specs.Sql.{IsOrderly, content_in, OnlyReads, MayChange, HasWritten, MayInsert, Lacks};
 ghost use Rattle.xa_log.specs.declared.log_fault.LogFault.{LogFault};
 
 use crate::statements::{ask, run, stored};
@@ -52,7 +52,7 @@ fn delete_decision<S: Alter>(conn: &mut Connection<S>, g: Gtrid) -> Result<(), L
 fn insert_decision<S: Alter>(tx: &mut Transaction<'_, S>, g: Gtrid) -> Result<(), LogFault>
     requires { FitsRow g }
     ensures same_reference { tx.new.conn.ghost_name ≡ tx.old.conn.ghost_name }
-    ensures written { MayBegin g (state S.Store tx.old.conn.now) → HasCleanDisk (state S.Store tx.new.conn.now)
+    ensures written { MayInsert g (state S.Store tx.old.conn.now) → HasCleanDisk (state S.Store tx.new.conn.now)
         → OnOk result (HasWritten g empty (content_of (state S.Store tx.old.conn.now).now.trees) (state S.Store tx.new.conn.now)) }
     ensures live { HasCleanDisk (state S.Store tx.new.conn.now) → OnOk result (IsTrue (state S.Store tx.old.conn.now).is_open) }
     ensures kept { HasCleanDisk (state S.Store tx.new.conn.now) → KeepsCommit (state S.Store tx.old.conn.now) (state S.Store tx.new.conn.now) }

@@ -68,10 +68,10 @@ impl FailLog {
 
 impl DecisionLog for FailLog {
     ghost use Rattle.std.specs.Prelude.{◌≡◌};
-    ghost use Rattle.xa_log.specs.Memory.{held_in, memory_moment, FollowsPlan};
+    ghost use Rattle.xa_log.specs.Memory.{content_held, memory_moment, FollowsPlan};
     ghost use Rattle.xa_log.specs.MemoryLaws.{fits_held, leaves_held, own_held};
 
-    ghost moment = { λ it. memory_moment (held_in it.log) it.faults };
+    ghost moment = { λ it. memory_moment (content_held it.log) it.faults };
 
     ghost says = { λ call change old new fault. FollowsPlan call change old new fault };
 

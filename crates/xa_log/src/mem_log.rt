@@ -36,7 +36,7 @@ impl MemLog {
     ghost use Rattle.std.specs.FinMap.{contains_key, entries, get, keys};
     ghost use Rattle.xa_log.specs.KeySet.{from_list, items};
     ghost use Rattle.xa_log.specs.Content.{all_listed, committed, last_number, logged_as, nothing, participants_of, recorded, without_decision};
-    ghost use Rattle.xa_log.specs.Memory.{held_in};
+    ghost use Rattle.xa_log.specs.Memory.{content_held};
     ghost use Rattle.xa_log.specs.declared.log_fault.LogFault.TheVariants.{Memory, Spent};
 
     /// An empty log, of no incarnation yet.
@@ -60,10 +60,10 @@ impl MemLog {
         g: Gtrid,
         participants: &[Branch],
     ) -> Result<Logged, LogFault>
-        ensures answer { IfOk result (λ logged. logged ≡ logged_as (held_in self.old) g) }
+        ensures answer { IfOk result (λ logged. logged ≡ logged_as (content_held self.old) g) }
         ensures ok { OnOk result
-            (held_in self.new ≡ committed g (from_list participants.now) (held_in self.old)) }
-        ensures err { OnErr result (held_in self.new ≡ held_in self.old) }
+            (content_held self.new ≡ committed g (from_list participants.now) (content_held self.old)) }
+        ensures err { OnErr result (content_held self.new ≡ content_held self.old) }
         ensures memory { IfErr result (λ e. e ≡ Memory) }
         ensures faults { self.new.faults ≡ self.old.faults }
     {
@@ -77,8 +77,8 @@ impl MemLog {
 
     /// Puts how a branch was ended, where it has no record.
     pub(crate) fn put_heuristic(&mut self, b: Branch, how: How) -> Result<(), LogFault>
-        ensures ok { OnOk result (held_in self.new ≡ recorded b how (held_in self.old)) }
-        ensures err { OnErr result (held_in self.new ≡ held_in self.old) }
+        ensures ok { OnOk result (content_held self.new ≡ recorded b how (content_held self.old)) }
+        ensures err { OnErr result (content_held self.new ≡ content_held self.old) }
         ensures memory { IfErr result (λ e. e ≡ Memory) }
         ensures faults { self.new.faults ≡ self.old.faults }
     {
@@ -90,8 +90,8 @@ impl MemLog {
 
     /// Takes a decision's row away, and answers whether it was there.
     fn remove_decision(&mut self, g: Gtrid) -> bool
-        ensures answer { result ≡ contains_key (held_in self.old).decisions g }
-        ensures removed { held_in self.new ≡ without_decision g (held_in self.old) }
+        ensures answer { result ≡ contains_key (content_held self.old).decisions g }
+        ensures removed { content_held self.new ≡ without_decision g (content_held self.old) }
         ensures faults { self.new.faults ≡ self.old.faults }
     {
         self.decisions.remove(&g).is_some()
@@ -99,14 +99,14 @@ impl MemLog {
 
     /// Whether a transaction has a decision's row.
     fn has_decision(&self, g: Gtrid) -> bool
-        ensures { result ≡ contains_key (held_in self.now).decisions g }
+        ensures { result ≡ contains_key (content_held self.now).decisions g }
     {
         self.decisions.contains_key(&g)
     }
 
     /// How a branch is recorded as heuristic.
     fn record_of(&self, b: Branch) -> Option<How>
-        ensures { result ≡ get (held_in self.now).heuristics b }
+        ensures { result ≡ get (content_held self.now).heuristics b }
     {
         self.heuristics.get(&b).copied()
     }
@@ -114,7 +114,7 @@ impl MemLog {
     /// The participants of a transaction.
     fn waited_for(&self, g: Gtrid) -> Result<Vec<Branch>, LogFault>
         ensures ok { IfOk result (λ list.
-            list.items ≡ items (participants_of (held_in self.now) g)) }
+            list.items ≡ items (participants_of (content_held self.now) g)) }
         ensures memory { IfErr result (λ e. e ≡ Memory) }
     {
         let Some(waited_for) = self.decisions.get(&g) else {
@@ -127,7 +127,7 @@ impl MemLog {
     /// The participants of all transactions.
     fn all_participants(&self) -> Result<Vec<Branch>, LogFault>
         ensures ok { IfOk result (λ list.
-            list.items ≡ all_listed (entries (held_in self.now).decisions)) }
+            list.items ≡ all_listed (entries (content_held self.now).decisions)) }
         ensures memory { IfErr result (λ e. e ≡ Memory) }
     {
         let mut list = Vec::new(self.alloc);
@@ -140,11 +140,11 @@ impl MemLog {
     /// All rows.
     fn all_rows(&self) -> Result<LogRows, LogFault>
         ensures decisions { IfOk result (λ rows.
-            rows.decisions.items ≡ keys (held_in self.now).decisions) }
+            rows.decisions.items ≡ keys (content_held self.now).decisions) }
         ensures participants { IfOk result (λ rows.
-            rows.participants.items ≡ all_listed (entries (held_in self.now).decisions)) }
+            rows.participants.items ≡ all_listed (entries (content_held self.now).decisions)) }
         ensures heuristics { IfOk result (λ rows.
-            rows.heuristics.items ≡ entries (held_in self.now).heuristics) }
+            rows.heuristics.items ≡ entries (content_held self.now).heuristics) }
         ensures memory { IfErr result (λ e. e ≡ Memory) }
     {
         Ok(LogRows {
@@ -177,10 +177,10 @@ impl MemLog {
 
 impl DecisionLog for MemLog {
     ghost use Rattle.std.specs.Prelude.{◌≡◌, Some};
-    ghost use Rattle.xa_log.specs.Memory.{held_in, memory_moment, RunsInMemory};
+    ghost use Rattle.xa_log.specs.Memory.{content_held, memory_moment, RunsInMemory};
     ghost use Rattle.xa_log.specs.MemoryLaws.{fits_held, leaves_held, own_held};
 
-    ghost moment = { λ log. memory_moment (held_in log) log.faults };
+    ghost moment = { λ log. memory_moment (content_held log) log.faults };
 
     ghost says = { λ call change old new fault. RunsInMemory call change old new fault };
 

@@ -10,8 +10,8 @@ ghost use Rattle.xa_log.specs.Content.{nothing};
 ghost use Rattle.xa_log.specs.Contract.{IsStoreFault};
 ghost use Rattle.xa_log.specs.Rows.{content_of, old_content_of};
 ghost use Rattle.xa_log.specs.Tables.{log_schema};
-ghost use Rattle.xa_log.specs.Sql.{IsOrderly, IsReadyWith, IsUndone, IsOldReady};
-ghost use Rattle.xa_log.specs.Opened.{IsBlank, IsFoundLog, IsTakeable, IsKnown, HasTables, NamesKnown, LeavesTables, LeavesSame, IsUntouched, IsTaken, IsOver};
+ghost use Rattle.xa_log.specs.Sql.{IsOrderly, IsReadyWith, IsShutOrAsBefore, IsOldReady};
+ghost use Rattle.xa_log.specs.Opened.{IsBlank, IsFoundLog, IsTakeable, IsKnownDatabase, HasTables, NamesKnown, LeavesTables, LeavesSame, IsUntouched, IsTaken, IsOver};
 
 use crate::decision_log::{DecisionLog, Logged};
 use crate::log_fault::{LogFault, counted};
@@ -70,7 +70,7 @@ impl<S: Alter + Drop> SqlLog<S> {
             IsReadyWith (content_of (state S.Store conn).now.trees) (state S.Store log.conn)) }
         ensures undone { IfErr result (λ e. conn.in_transaction ≡ false →
             IsTakeable (state S.Store conn) → HasCleanDisk (state S.Store e.1) →
-            IsUndone (state S.Store conn) (state S.Store e.1)) }
+            IsShutOrAsBefore (state S.Store conn) (state S.Store e.1)) }
         ensures found { IfOk result (λ log. IsFoundLog (state S.Store conn) →
             HasCleanDisk (state S.Store log.conn) →
             IsReadyWith (content_of (state S.Store conn).now.trees) (state S.Store log.conn)) }
@@ -78,7 +78,7 @@ impl<S: Alter + Drop> SqlLog<S> {
             HasCleanDisk (state S.Store e.1) → IsStoreFault e.0) }
         ensures version { IfOk result (λ log. HasTables (state S.Store conn) →
             HasCleanDisk (state S.Store log.conn) → NamesKnown (state S.Store conn)) }
-        ensures known { IfErr result (λ e. IsKnown (state S.Store conn) →
+        ensures known { IfErr result (λ e. IsKnownDatabase (state S.Store conn) →
             HasCleanDisk (state S.Store e.1) → IsStoreFault e.0) }
         ensures unknown { IfErr result (λ e. conn.in_transaction ≡ false →
             HasTables (state S.Store conn) → ¬ NamesKnown (state S.Store conn) →

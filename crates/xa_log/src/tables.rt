@@ -10,8 +10,8 @@ ghost use Rattle.xa_log.specs.Content.{nothing};
 ghost use Rattle.xa_log.specs.Contract.{IsStoreFault};
 ghost use Rattle.xa_log.specs.Rows.{content_of, old_content_of, IsOldLog};
 ghost use Rattle.xa_log.specs.Tables.{old_schema, log_schema};
-ghost use Rattle.xa_log.specs.Sql.{IsOrderly, IsReadyWith, IsUndone, IsNewLog, AreNewTrees, IsOldReady, Rests};
-ghost use Rattle.xa_log.specs.Opened.{IsBlank, HasTables, IsTakeable, IsKnown, HasRow, IsNatural, Names, NamesKnown, RunsInside, LeavesOr, LeavesTables, LeavesSame, IsUntouched};
+ghost use Rattle.xa_log.specs.Sql.{IsOrderly, IsReadyWith, IsShutOrAsBefore, IsNewLog, AreNewTrees, IsOldReady, Rests};
+ghost use Rattle.xa_log.specs.Opened.{IsBlank, HasTables, IsTakeable, IsKnownDatabase, HasRow, IsNatural, NamesVersion, NamesKnown, RunsInside, LeavesOr, LeavesTables, LeavesSame, IsUntouched};
 
 use crate::LogFault;
 use crate::fields::number;
@@ -91,7 +91,7 @@ fn make_tables<S: Alter>(conn: &mut Connection<S>) -> Result<(), LogFault>
     ensures ok { HasCleanDisk (state S.Store conn.new) → IsBlank (state S.Store conn.old) →
         OnOk result (IsReadyWith nothing (state S.Store conn.new)) }
     ensures err { HasCleanDisk (state S.Store conn.new) → IsBlank (state S.Store conn.old) →
-        OnErr result (IsUndone (state S.Store conn.old) (state S.Store conn.new)) }
+        OnErr result (IsShutOrAsBefore (state S.Store conn.old) (state S.Store conn.new)) }
     ensures crash { IsBlank (state S.Store conn.old) →
         Survives (state S.Store conn.old) (state S.Store conn.new) (AreNewTrees nothing) }
     ensures cause { IfErr result IsStoreFault }
@@ -129,7 +129,7 @@ fn migrate<S: Alter>(conn: &mut Connection<S>) -> Result<(), LogFault>
         OnOk result (IsReadyWith (old_content_of (state S.Store conn.old).now.trees)
         (state S.Store conn.new)) }
     ensures err { HasCleanDisk (state S.Store conn.new) → IsOldReady (state S.Store conn.old) →
-        OnErr result (IsUndone (state S.Store conn.old) (state S.Store conn.new)) }
+        OnErr result (IsShutOrAsBefore (state S.Store conn.old) (state S.Store conn.new)) }
     ensures crash { IsOldReady (state S.Store conn.old) →
         Survives (state S.Store conn.old) (state S.Store conn.new)
         (AreNewTrees (old_content_of (state S.Store conn.old).now.trees)) }
@@ -165,7 +165,7 @@ fn check_version<S: Alter>(conn: &mut Connection<S>, version: u64) -> Result<(),
     ensures survives { HasTables (state S.Store conn.old) →
         Survives (state S.Store conn.old) (state S.Store conn.new) (λ _. ⊥) }
     ensures version { HasTables (state S.Store conn.old) → HasCleanDisk (state S.Store conn.new) →
-        OnOk result (Names version (state S.Store conn.old)) }
+        OnOk result (NamesVersion version (state S.Store conn.old)) }
     ensures known { (i : ℕ) → HasRow version i (state S.Store conn.old) →
         HasCleanDisk (state S.Store conn.new) → IfErr result IsStoreFault }
 {
@@ -185,12 +185,12 @@ fn upgrade<S: Alter>(conn: &mut Connection<S>) -> Result<(), LogFault>
         OnOk result (IsReadyWith (old_content_of (state S.Store conn.old).now.trees)
         (state S.Store conn.new)) }
     ensures err { HasCleanDisk (state S.Store conn.new) → IsOldReady (state S.Store conn.old) →
-        OnErr result (IsUndone (state S.Store conn.old) (state S.Store conn.new)) }
+        OnErr result (IsShutOrAsBefore (state S.Store conn.old) (state S.Store conn.new)) }
     ensures crash { IsOldReady (state S.Store conn.old) → HasCleanDisk (state S.Store conn.new) →
         LeavesOr (AreNewTrees (old_content_of (state S.Store conn.old).now.trees))
         (state S.Store conn.old) (state S.Store conn.new) }
     ensures version { HasTables (state S.Store conn.old) → HasCleanDisk (state S.Store conn.new) →
-        OnOk result (Names 1 (state S.Store conn.old)) }
+        OnOk result (NamesVersion 1 (state S.Store conn.old)) }
     ensures known { IsOldReady (state S.Store conn.old) →
         HasCleanDisk (state S.Store conn.new) → IfErr result IsStoreFault }
     ensures unknown { HasTables (state S.Store conn.old) → ¬ NamesKnown (state S.Store conn.old) →
@@ -240,14 +240,14 @@ pub(crate) fn prepare<S: Alter>(conn: &mut Connection<S>) -> Result<(), LogFault
         (state S.Store conn.new)) }
     ensures undone { conn.old.in_transaction ≡ false → IsTakeable (state S.Store conn.old) →
         HasCleanDisk (state S.Store conn.new) →
-        OnErr result (IsUndone (state S.Store conn.old) (state S.Store conn.new)) }
+        OnErr result (IsShutOrAsBefore (state S.Store conn.old) (state S.Store conn.new)) }
     ensures crash { IsTakeable (state S.Store conn.old) → HasCleanDisk (state S.Store conn.new) →
         LeavesTables (state S.Store conn.old) (state S.Store conn.new) }
     ensures crash_kept { (state S.Store conn.old).now.schema ≡ log_schema →
         HasCleanDisk (state S.Store conn.new) → LeavesSame (state S.Store conn.old) (state S.Store conn.new) }
     ensures version { HasTables (state S.Store conn.old) → HasCleanDisk (state S.Store conn.new) →
         OnOk result (NamesKnown (state S.Store conn.old)) }
-    ensures known { IsKnown (state S.Store conn.old) → HasCleanDisk (state S.Store conn.new) →
+    ensures known { IsKnownDatabase (state S.Store conn.old) → HasCleanDisk (state S.Store conn.new) →
         IfErr result IsStoreFault }
     ensures unknown { conn.old.in_transaction ≡ false →
         HasTables (state S.Store conn.old) → ¬ NamesKnown (state S.Store conn.old) →

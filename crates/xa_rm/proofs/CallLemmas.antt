@@ -32,7 +32,8 @@ called_as asked k y is thread b after held kind x e =
     subst (λ (i : Kind). after ≡ called thread i b) kinds (held thread)
 
 -- what xa_commit asks, by its flag
-pub commit_asks : (call : Call Xid) (xid : Xid) (one_phase : Bool) → call ≡ Calls.Commit xid one_phase → (b : Bool) → one_phase ≡ b → asks_of call ≡ Some (commit_kind b, xid)
+pub commit_asks : (call : Call Xid) (xid : Xid) (one_phase : Bool) → call ≡ Calls.Commit xid one_phase → (b : Bool)
+    → one_phase ≡ b → asks_of call ≡ Some (commit_kind b, xid)
 commit_asks call xid one_phase is b e = ap asks_of (is ∙ ap (Calls.Commit xid) e)
 
 asking : Kind → Xid → Option (Kind × Xid)

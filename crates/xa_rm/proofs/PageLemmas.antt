@@ -78,7 +78,9 @@ module _ {X : Type 0} {cmp : X → X → Ordering} (o : IsTotalOrder cmp) where
   above_both p l below [] = refl
   above_both p l below (x ∷ xs) =
       elim (is_lt (cmp p x)) as
-      (λ t. is_lt (cmp p x) ≡ t → filter (λ y. is_lt (cmp l y)) (cond t (x ∷ filter (λ y. is_lt (cmp p y)) xs) (filter (λ y. is_lt (cmp p y)) xs)) ≡ filter (λ y. is_lt (cmp l y)) (x ∷ xs)) [
+      (λ t. is_lt (cmp p x) ≡ t
+      → filter (λ y. is_lt (cmp l y)) (cond t (x ∷ filter (λ y. is_lt (cmp p y)) xs) (filter (λ y. is_lt (cmp p y)) xs))
+      ≡ filter (λ y. is_lt (cmp l y)) (x ∷ xs)) [
         | true ↦ λ e. ap (λ ys. cond (is_lt (cmp l x)) (x ∷ ys) ys) (above_both p l below xs)
         | false ↦ λ e. above_both p l below xs ∙ sym (dropped_head l x xs (not_above p l x below e))
       ] refl

@@ -37,13 +37,15 @@ scripted : called 1 Prepare (voting (Votes.No Deadlock) (held Idle Votes.Yes 0))
 scripted = refl
 
 -- only the named branch
-one_named : map (λ x. changed_at (xid 2) (retrying 3) x (held Idle Votes.Yes 0)) (xid 1 ∷ xid 2 ∷ xid 3 ∷ []) ≡ held Idle Votes.Yes 0 ∷ held Idle Votes.Yes 3 ∷ held Idle Votes.Yes 0 ∷ []
+one_named : map (λ x. changed_at (xid 2) (retrying 3) x (held Idle Votes.Yes 0)) (xid 1 ∷ xid 2 ∷ xid 3 ∷ [])
+    ≡ held Idle Votes.Yes 0 ∷ held Idle Votes.Yes 3 ∷ held Idle Votes.Yes 0 ∷ []
 one_named = refl
 
 -- ** answers
 
 -- xa_open and xa_close are answered XA_OK, whatever is held, in doubt or listed
-opened : (held : Xid → HeldBranch) (scan : Scan Xid) (in_doubt : List Xid) → answer_to held scan in_doubt Calls.OpenRm ∷ answer_to held scan in_doubt Calls.CloseRm ∷ [] ≡ Ret Codes.Success ∷ Ret Codes.Success ∷ []
+opened : (held : Xid → HeldBranch) (scan : Scan Xid) (in_doubt : List Xid)
+    → answer_to held scan in_doubt Calls.OpenRm ∷ answer_to held scan in_doubt Calls.CloseRm ∷ [] ≡ Ret Codes.Success ∷ Ret Codes.Success ∷ []
 opened held scan in_doubt = refl
 
 -- the branches in doubt
@@ -51,17 +53,20 @@ doubted : List Xid
 doubted = xid 1 ∷ xid 2 ∷ xid 3 ∷ []
 
 -- a page from where the scan stands, and XAER_INVAL for a negative count
-pages : map (answer_to (λ x. held Prepared Votes.Yes 0) (Behind (Some (xid 1))) doubted) (Calls.Recover (pos 1) false false ∷ Calls.Recover (negsuc 0) false false ∷ Calls.Recover (pos 1) true false ∷ [])
+pages : map (answer_to (λ x. held Prepared Votes.Yes 0) (Behind (Some (xid 1))) doubted)
+    (Calls.Recover (pos 1) false false ∷ Calls.Recover (negsuc 0) false false ∷ Calls.Recover (pos 1) true false ∷ [])
     ≡ Page (xid 2 ∷ []) ∷ Ret Codes.Invalid ∷ Page (xid 1 ∷ []) ∷ []
 unfolding doubted
 pages = refl
 
 -- the refused call leaves the caller's scan where it stood, and no call moves another thread's scan
-scans : map (λ call. scan_after_call 1 call doubted 1 (Behind (Some (xid 1)))) (Calls.Recover (pos 1) false false ∷ Calls.Recover (negsuc 0) false true ∷ Calls.Recover (pos 1) false true ∷ Calls.OpenRm ∷ [])
+scans : map (λ call. scan_after_call 1 call doubted 1 (Behind (Some (xid 1))))
+    (Calls.Recover (pos 1) false false ∷ Calls.Recover (negsuc 0) false true ∷ Calls.Recover (pos 1) false true ∷ Calls.OpenRm ∷ [])
     ≡ Behind (Some (xid 2)) ∷ Behind (Some (xid 1)) ∷ NotOpen ∷ Behind (Some (xid 1)) ∷ []
 unfolding doubted
 scans = refl
 
-others_scan : map (λ thread. scan_after_call 1 (Calls.Recover (pos 2) true false) doubted thread NotOpen) (0 ∷ 1 ∷ 2 ∷ []) ≡ NotOpen ∷ Behind (Some (xid 2)) ∷ NotOpen ∷ []
+others_scan : map (λ thread. scan_after_call 1 (Calls.Recover (pos 2) true false) doubted thread NotOpen) (0 ∷ 1 ∷ 2 ∷ [])
+    ≡ NotOpen ∷ Behind (Some (xid 2)) ∷ NotOpen ∷ []
 unfolding doubted
 others_scan = refl

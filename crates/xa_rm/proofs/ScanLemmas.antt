@@ -19,7 +19,8 @@ and-true true = refl
 and-true false = refl
 
 -- the range from a cursor on is what stands behind it
-pub keys_behind : (cursor : Cursor) (index : BTreeSet Xid) → keys_between xid_cmp (bound_of cursor) Unbounded index ≡ behind xid_cmp (place_of cursor) index.keys
+pub keys_behind : (cursor : Cursor) (index : BTreeSet Xid)
+    → keys_between xid_cmp (bound_of cursor) Unbounded index ≡ behind xid_cmp (place_of cursor) index.keys
 keys_behind Cursors.Start index = kept_whole index.keys
 keys_behind (Cursors.Behind last) index =
     filter_agree (λ (x : Xid). is_lt (xid_cmp last x) && true) (λ (x : Xid). is_lt (xid_cmp last x)) (λ x. and-true (is_lt (xid_cmp last x))) index.keys

@@ -165,11 +165,14 @@ or-neither true b e = let no : ⊥ = cc in absurd no
 or-neither false b e = (refl, e)
 
 -- an entry of the format that was started is of a branch that was
-pub format_held : (table : BTreeMap Xid Held) → tree.IsOrdered xid_cmp table → (z : ℤ) → list_any (is_of_format z) table.entries ≡ true → HoldsFormat (held_at table) z
+pub format_held : (table : BTreeMap Xid Held) → tree.IsOrdered xid_cmp table → (z : ℤ)
+    → list_any (is_of_format z) table.entries ≡ true → HoldsFormat (held_at table) z
 format_held table ordered z e =
     let some = Any-from_list_any (is_of_format z) table.entries e in
     let entry = some.1 in
-    let found_there = All-contains (λ (p : Xid × Held). tree.get xid_cmp table p.0 ≡ Some p.1) table.entries entry (All-found xid_cmp_total table ordered) (some.0, some.2, some.3) in
+    let found_there =
+    All-contains (λ (p : Xid × Held). tree.get xid_cmp table p.0 ≡ Some p.1) table.entries entry (All-found xid_cmp_total table ordered)
+    (some.0, some.2, some.3) in
     let both = and-both (int_eq entry.0.format z) (was_started entry.1.standing) some.4 in
     record {
       xid = entry.0;

@@ -20,7 +20,8 @@ joined front entry (Err e) = refl
 
 -- an item in the list, and those after it
 at_item : (front : List Entry) (number : ℕ) (begun : Names) (vs : List Value) (i : ℕ) (v : Value) → i < length vs → v ≡ get_or vs i v
-    → with_front front (entries_from number begun (items_view (drop i vs))) ≡ with_front front (entries_from number begun (item (view v) (items_view (drop (i + 1) vs))))
+    → with_front front (entries_from number begun (items_view (drop i vs)))
+    ≡ with_front front (entries_from number begun (item (view v) (items_view (drop (i + 1) vs))))
 at_item front number begun vs i v within is =
     ap (λ ds. with_front front (entries_from number begun ds)) (items_view-drop vs i v within ∙ ap (λ w. item (view w) (items_view (drop (i + 1) vs))) (sym is))
 

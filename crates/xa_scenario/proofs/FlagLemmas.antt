@@ -21,7 +21,8 @@ with_flags flags more = option_map (bit_or flags) more
 or_assoc : (a b c : ℕ) → bit_or a (bit_or b c) ≡ bit_or (bit_or a b) c
 or_assoc a b c = same_from_bits _ _ (λ i. rw (bit_at_or a (bit_or b c) i, bit_at_or b c i, bit_at_or (bit_or a b) c i, bit_at_or a b i) (omega arith))
 
-joined : (flags flag : ℕ) (more : Option ℕ) → with_flags flags (option_and_then (λ others. Some (bit_or flag others)) more) ≡ with_flags (bit_or flags flag) more
+joined : (flags flag : ℕ) (more : Option ℕ)
+    → with_flags flags (option_and_then (λ others. Some (bit_or flag others)) more) ≡ with_flags (bit_or flags flag) more
 joined flags flag None = refl
 joined flags flag (Some n) = ap Some (or_assoc flags flag n)
 

@@ -21,7 +21,8 @@ by_name : (begun : Names) (name : Option (List ℕ)) (rest : Names)
 by_name begun None rest = refl
 by_name begun (Some n) rest = append_assoc begun (n ∷ []) rest
 
-here : (number : ℕ) (begun : Names) (value : Data) (items : Items) (answer : Result Entry RunFault) → entry_at number begun value ≡ answer → AsksFrom number begun (item value items) 0 answer
+here : (number : ℕ) (begun : Names) (value : Data) (items : Items) (answer : Result Entry RunFault)
+    → entry_at number begun value ≡ answer → AsksFrom number begun (item value items) 0 answer
 here number begun value items answer is = record {
   value = value;
   there = refl;
@@ -58,7 +59,8 @@ before_later number begun value items entry k is before zero within = (entry, he
 before_later number begun value items entry k is before (suc j) within =
     let b = before j (omega arith) in (b.0, later number begun value items j (Ok b.0) b.1)
 
-faulty_item : (number : ℕ) (begun : Names) (value : Data) (items : Items) (fault : RunFault) (first : Result Entry RunFault) (others : Result (List Entry) RunFault)
+faulty_item : (number : ℕ) (begun : Names) (value : Data) (items : Items) (fault : RunFault) (first : Result Entry RunFault)
+    (others : Result (List Entry) RunFault)
     → entry_at number begun value ≡ first → (others ≡ Err fault → Faulty (number + 1) (names_after begun value) items fault)
     → (first >>= λ e. others >>= λ es. Ok (e ∷ es)) ≡ Err fault → Faulty number begun (item value items) fault
 faulty_item number begun value items fault (Err e) others is more h =
@@ -89,7 +91,8 @@ read_pair : (number : ℕ) (begun : Names) (value : Data) (items : Items) (first
 read_pair number begun value items first others is more zero entry at = here number begun value items (Ok entry) (is ∙ ap Ok (same_Some first entry at))
 read_pair number begun value items first others is more (suc k) entry at = later number begun value items k (Ok entry) (more k entry at)
 
-read_item : (number : ℕ) (begun : Names) (value : Data) (items : Items) (entries : List Entry) (first : Result Entry RunFault) (others : Result (List Entry) RunFault)
+read_item : (number : ℕ) (begun : Names) (value : Data) (items : Items) (entries : List Entry) (first : Result Entry RunFault)
+    (others : Result (List Entry) RunFault)
     → entry_at number begun value ≡ first → ((es : List Entry) → others ≡ Ok es → Read (number + 1) (names_after begun value) items es)
     → (first >>= λ e. others >>= λ es. Ok (e ∷ es)) ≡ Ok entries → Read number begun (item value items) entries
 read_item number begun value items entries (Err e) others is more h = absurd (err_not_ok entries e h)

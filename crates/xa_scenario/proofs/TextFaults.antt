@@ -56,7 +56,8 @@ entries_turn threads rms items fault is =
     (entries_fault items) (λ es no. absurd (ok_not_err _ fault no)) is
 
 header_turn : (document : Members) (fault : RunFault)
-    → (header_of document >>= λ h. entries_from 1 [] h.2 >>= λ es. Ok (let p : Plan = record { threads = h.0; rms = h.1; entries = es } in p)) ≡ Err fault → IsTextFault fault
+    → (header_of document >>= λ h. entries_from 1 [] h.2 >>= λ es. Ok (let p : Plan = record { threads = h.0; rms = h.1; entries = es } in p))
+    ≡ Err fault → IsTextFault fault
 header_turn document fault is =
     in_turn (header_of document) (λ h. entries_from 1 [] h.2 >>= λ es. Ok (let p : Plan = record { threads = h.0; rms = h.1; entries = es } in p)) fault
     (λ e no. missing (header_at document) Header e tt no) (λ h rest. entries_turn h.0 h.1 h.2 fault rest) is

@@ -5,7 +5,7 @@ use Rattle.xa_base.specs.declared.step.Part.TheVariants as parts
 use Rattle.xa_base.specs.declared.step.Side.TheVariants as sides
 use Rattle.xa_files.specs.Fields.{◌>>=◌, index_at, text_at}
 use Rattle.xa_scenario.specs.Branches.{only}
-use Rattle.xa_scenario.specs.Moves.{line_at}
+use Rattle.xa_scenario.specs.Moves.{line_in_table}
 use Rattle.xa_scenario.specs.Words.{part_named}
 use Rattle.xa_scenario.specs.declared.entry.Entry.{Entry}
 use Rattle.xa_scenario.specs.declared.entry.Entry.TheVariants as entries
@@ -19,7 +19,7 @@ part_kind_at table = text_at (codes "part") table >>= part_named
 -- what a `crash` of a part asks for, each with keys of its own
 abbrev pub crash_of : PartKind → Members → Option Entry
 crash_of kinds.Line table = only (codes "part" ∷ codes "thread" ∷ codes "rm" ∷ []) table
-    (line_at table >>= λ line. Some (entries.Crash (parts.Line line.0 line.1)))
+    (line_in_table table >>= λ line. Some (entries.Crash (parts.Line line.0 line.1)))
 crash_of kinds.Rm table = only (codes "part" ∷ codes "rm" ∷ []) table
     (index_at (codes "rm") table >>= λ rm. Some (entries.Crash (parts.Rm rm)))
 crash_of kinds.Manager table = only (codes "part" ∷ []) table (Some (entries.Crash parts.Manager))

@@ -7,15 +7,15 @@ use Rattle.xa_scenario.specs.declared.entry.Entry.{Entry}
 use Rattle.xa_scenario.specs.declared.entry.Entry.TheVariants as entries
 
 -- the thread and the resource manager of a line
-unfoldable pub line_at : Members → Option (ℕ × ℕ)
-line_at table = do
+unfoldable pub line_in_table : Members → Option (ℕ × ℕ)
+line_in_table table = do
   thread ← index_at (codes "thread") table
   rm ← index_at (codes "rm") table
   Some (thread, rm)
 
 -- the same, where the table has no other keys
 unfoldable pub only_line : Members → Option (ℕ × ℕ)
-only_line table = only (codes "thread" ∷ codes "rm" ∷ []) table (line_at table)
+only_line table = only (codes "thread" ∷ codes "rm" ∷ []) table (line_in_table table)
 
 abbrev pub take_row : Members → Option Entry
 take_row table = only_line table >>= λ line. Some (entries.Take line.0 line.1)

@@ -28,18 +28,18 @@ abbrev pub IsAnswered : List Event → Reply Xid → Type 0
 IsAnswered trace reply =
     MatchBool (nat_lt (length trace) EVENT_LIMIT) (Unit {0}) (reply ≡ replies.Refused refusals.Limit)
 
--- the trace after a step: it holds no more events, once it is full
-abbrev pub after : List Event → Event → List Event
-after trace event = if nat_lt (length trace) EVENT_LIMIT then trace ++ event ∷ [] else trace
+-- the trace trace_after a step: it holds no more events, once it is full
+abbrev pub trace_after : List Event → Event → List Event
+trace_after trace event = if nat_lt (length trace) EVENT_LIMIT then trace ++ event ∷ [] else trace
 
 abbrev pub AreAnswered : List Event → List Event → Type 0
 AreAnswered trace [] = Unit {0}
-AreAnswered trace (event ∷ events) = IsAnswered trace event.reply × AreAnswered (after trace event) events
+AreAnswered trace (event ∷ events) = IsAnswered trace event.reply × AreAnswered (trace_after trace event) events
 
--- the trace after steps in turn
+-- the trace trace_after steps in turn
 abbrev pub trace_after : List Event → List Event → List Event
 trace_after trace [] = trace
-trace_after trace (event ∷ events) = trace_after (after trace event) events
+trace_after trace (event ∷ events) = trace_after (trace_after trace event) events
 
 -- some steps and their replies, with P, lead from one trace to another
 pub record Performs (P : List Event → Type 0) (old new : List Event) : Type 0 where
@@ -55,20 +55,20 @@ abbrev pub no_gtrid : Gtrid
 no_gtrid = record { incarnation = 0; sequence = 0 }
 
 -- the transaction that a begin is answered with; none, where it is refused
-abbrev pub gtrid_in : Reply Xid → Gtrid
-gtrid_in (replies.Begun gtrid) = gtrid
-gtrid_in _ = no_gtrid
+abbrev pub gtrid_begun : Reply Xid → Gtrid
+gtrid_begun (replies.Begun gtrid) = gtrid
+gtrid_begun _ = no_gtrid
 
--- whether the step begins a transaction
-abbrev pub begins : Step Xid → Bool
-begins (steps.Begin thread) = true
-begins _ = false
+-- whether the step is_begin a transaction
+abbrev pub is_begin : Step Xid → Bool
+is_begin (steps.Begin thread) = true
+is_begin _ = false
 
 -- what a name stands for whose begin is this event, if it is one
 abbrev pub gtrid_begun : Event → Option Gtrid
-gtrid_begun event = if begins event.step then Some (gtrid_in event.reply) else None
+gtrid_begun event = if is_begin event.step then Some (gtrid_begun event.reply) else None
 
--- what the names of the begins among these events stand for
+-- what the names of the is_begin among these events stand for
 abbrev pub gtrids_of : List Event → List Gtrid
 gtrids_of = filter_map gtrid_begun
 
@@ -102,20 +102,20 @@ ending_step gtrid endings.Settle = steps.Settle gtrid
 ending_step gtrid endings.Abandon = steps.Abandon gtrid
 
 -- the one step of an entry; none of a `call` and of a `drain`, which make several
-abbrev pub step_of : List Gtrid → Entry → Option (Step Xid)
-step_of gtrids (entries.Begin thread) = Some (steps.Begin thread)
-step_of gtrids (entries.Issue thread rm call) = Some (issue_of gtrids thread rm call)
-step_of gtrids (entries.Call thread rm call) = None
-step_of gtrids (entries.Take thread rm) = Some (steps.Take thread rm)
-step_of gtrids (entries.Hear thread rm) = Some (steps.Hear thread rm)
-step_of gtrids (entries.Drain thread rm) = None
-step_of gtrids (entries.Script rm branch script) = Some (script_step rm (xid_at gtrids rm branch) script)
-step_of gtrids (entries.End begin ending) = Some (ending_step (gtrid_at gtrids begin) ending)
-step_of gtrids (entries.Recover rm count start_scan end_scan) = Some (steps.Recover rm count start_scan end_scan)
-step_of gtrids (entries.Resolve rm) = Some (steps.Resolve rm)
-step_of gtrids (entries.Crash part) = Some (steps.Crash part)
-step_of gtrids (entries.Restart side) = Some (steps.Restart side)
-step_of gtrids (entries.ResolveOpen rm) = Some (steps.ResolveOpen rm)
+abbrev pub step_of_entry : List Gtrid → Entry → Option (Step Xid)
+step_of_entry gtrids (entries.Begin thread) = Some (steps.Begin thread)
+step_of_entry gtrids (entries.Issue thread rm call) = Some (issue_of gtrids thread rm call)
+step_of_entry gtrids (entries.Call thread rm call) = None
+step_of_entry gtrids (entries.Take thread rm) = Some (steps.Take thread rm)
+step_of_entry gtrids (entries.Hear thread rm) = Some (steps.Hear thread rm)
+step_of_entry gtrids (entries.Drain thread rm) = None
+step_of_entry gtrids (entries.Script rm branch script) = Some (script_step rm (xid_at gtrids rm branch) script)
+step_of_entry gtrids (entries.End begin ending) = Some (ending_step (gtrid_at gtrids begin) ending)
+step_of_entry gtrids (entries.Recover rm count start_scan end_scan) = Some (steps.Recover rm count start_scan end_scan)
+step_of_entry gtrids (entries.Resolve rm) = Some (steps.Resolve rm)
+step_of_entry gtrids (entries.Crash part) = Some (steps.Crash part)
+step_of_entry gtrids (entries.Restart side) = Some (steps.Restart side)
+step_of_entry gtrids (entries.ResolveOpen rm) = Some (steps.ResolveOpen rm)
 
 -- the reply took or heard something
 abbrev pub moves : Reply Xid → Bool
@@ -136,15 +136,15 @@ IsDrain thread rm (take ∷ hear ∷ others) =
     × MatchBool (moves take.reply || moves hear.reply) (IsDrain thread rm others) (others ≡ [])
 
 -- the events are those of the entry. A `call` is issued, taken and heard, whatever each is answered
-abbrev pub Makes : List Gtrid → Entry → List Event → Type 0
-Makes gtrids (entries.Call thread rm call) events =
+abbrev pub MakesEvents : List Gtrid → Entry → List Event → Type 0
+MakesEvents gtrids (entries.Call thread rm call) events =
     HaveSteps (issue_of gtrids thread rm call ∷ steps.Take thread rm ∷ steps.Hear thread rm ∷ []) events
-Makes gtrids (entries.Drain thread rm) events = IsDrain thread rm events
-Makes gtrids entry events = HaveSteps (option_to_list (step_of gtrids entry)) events
+MakesEvents gtrids (entries.Drain thread rm) events = IsDrain thread rm events
+MakesEvents gtrids entry events = HaveSteps (option_to_list (step_of_entry gtrids entry)) events
 
 -- the events are those of the entries in turn, each name standing for what its begin was answered
 abbrev pub IsPlay : List Gtrid → List Entry → List Event → Type 0
 IsPlay gtrids [] events = events ≡ []
 IsPlay gtrids (entry ∷ entries) events =
     (here : List Event) × ((others : List Event) × (events ≡ here ++ others)
-    × Makes gtrids entry here × IsPlay (gtrids ++ gtrids_of here) entries others)
+    × MakesEvents gtrids entry here × IsPlay (gtrids ++ gtrids_of here) entries others)

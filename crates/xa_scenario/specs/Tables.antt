@@ -15,27 +15,27 @@ use Rattle.xa_scenario.specs.declared.entry.Entry.{Entry}
 use Rattle.xa_scenario.specs.declared.words.EntryKind.{EntryKind}
 use Rattle.xa_scenario.specs.declared.words.EntryKind.TheVariants as kinds
 
-abbrev pub row_of : EntryKind → Names → Members → Option Entry
-row_of kinds.Begin begun table = begin_row begun table
-row_of kinds.Issue begun table = issue_row begun table
-row_of kinds.Call begun table = call_row begun table
-row_of kinds.Take begun table = take_row table
-row_of kinds.Hear begun table = hear_row table
-row_of kinds.Drain begun table = drain_row table
-row_of kinds.Vote begun table = vote_row begun table
-row_of kinds.Busy begun table = busy_row begun table
-row_of kinds.Heuristic begun table = heuristic_row begun table
-row_of kinds.Decide begun table = decide_row begun table
-row_of kinds.Recover begun table = recover_row table
-row_of kinds.Resolve begun table = resolve_row table
-row_of kinds.Done begun table = done_row begun table
-row_of kinds.Crash begun table = crash_row table
-row_of kinds.Restart begun table = restart_row table
-row_of kinds.Claim begun table = claim_row begun table
-row_of kinds.Settle begun table = settle_row begun table
-row_of kinds.Abandon begun table = abandon_row begun table
-row_of kinds.ResolveOpen begun table = resolve_open_row table
+abbrev pub entry_in_table : EntryKind → Names → Members → Option Entry
+entry_in_table kinds.Begin begun table = begin_row begun table
+entry_in_table kinds.Issue begun table = issue_row begun table
+entry_in_table kinds.Call begun table = call_row begun table
+entry_in_table kinds.Take begun table = take_row table
+entry_in_table kinds.Hear begun table = hear_row table
+entry_in_table kinds.Drain begun table = drain_row table
+entry_in_table kinds.Vote begun table = vote_row begun table
+entry_in_table kinds.Busy begun table = busy_row begun table
+entry_in_table kinds.Heuristic begun table = heuristic_row begun table
+entry_in_table kinds.Decide begun table = decide_row begun table
+entry_in_table kinds.Recover begun table = recover_row table
+entry_in_table kinds.Resolve begun table = resolve_row table
+entry_in_table kinds.Done begun table = done_row begun table
+entry_in_table kinds.Crash begun table = crash_row table
+entry_in_table kinds.Restart begun table = restart_row table
+entry_in_table kinds.Claim begun table = claim_row begun table
+entry_in_table kinds.Settle begun table = settle_row begun table
+entry_in_table kinds.Abandon begun table = abandon_row begun table
+entry_in_table kinds.ResolveOpen begun table = resolve_open_row table
 
 -- what a table asks for
 unfoldable pub entry_of : Names → Members → Option Entry
-entry_of begun table = text_at (codes "do") table >>= entry_named >>= λ kind. row_of kind begun table
+entry_of begun table = text_at (codes "do") table >>= entry_named >>= λ kind. entry_in_table kind begun table

@@ -2,7 +2,7 @@
 
 ghost use Rattle.std.specs.Prelude.{◌≡◌};
 ghost use Rattle.toml.specs.View.{table_view};
-ghost use Rattle.xa_scenario.specs.Moves.{drain_row, hear_row, line_at, only_line, take_row};
+ghost use Rattle.xa_scenario.specs.Moves.{drain_row, hear_row, line_in_table, only_line, take_row};
 
 use crate::entry::Entry;
 use toml::Table;
@@ -11,7 +11,7 @@ use xa_files::{has_only, index_at};
 /// The line that a table names, by its thread and its resource manager.
 #[tactic(auto, unfolding(crate::specs::Moves::line_at))]
 pub fn line_at(table: &Table) -> Option<(u32, u32)>
-    ensures { result ≡ line_at (table_view table.now) }
+    ensures { result ≡ line_in_table (table_view table.now) }
 {
     let thread = index_at(table, "thread")?;
     let rm = index_at(table, "rm")?;

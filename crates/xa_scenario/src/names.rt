@@ -2,7 +2,7 @@
 
 ghost use Rattle.std.specs.Prelude.{◌≡◌};
 ghost use Rattle.xa_base.specs.Call.{map_call};
-ghost use Rattle.xa_scenario.specs.Plays.{begins, ending_step, gtrid_at, gtrid_in, issue_of, script_step, step_of, xid_at};
+ghost use Rattle.xa_scenario.specs.Plays.{is_begin, ending_step, gtrid_at, gtrid_begun, issue_of, script_step, step_of_entry, xid_at};
 
 use crate::entry::{BranchEntry, Ending, Entry, Script};
 use xa_base::{Branch, Call, Gtrid, Reply, Step, Xid};
@@ -15,7 +15,7 @@ const NO_GTRID: Gtrid = Gtrid {
 
 /// The transaction that a begin is answered with; none, where it is refused.
 pub fn gtrid_in(reply: Reply) -> Gtrid
-    ensures { result ≡ gtrid_in reply }
+    ensures { result ≡ gtrid_begun reply }
 {
     match reply {
         Reply::Begun(gtrid) => gtrid,
@@ -25,7 +25,7 @@ pub fn gtrid_in(reply: Reply) -> Gtrid
 
 /// Whether the step begins a transaction.
 pub fn begins(step: &Step) -> bool
-    ensures { result ≡ begins step.now }
+    ensures { result ≡ is_begin step.now }
 {
     matches!(step, Step::Begin { .. })
 }
@@ -126,7 +126,7 @@ fn ending_step(gtrid: Gtrid, ending: Ending) -> Step
 
 /// The one step of an entry; none of a `call` and of a `drain`, which make several.
 pub fn step_of(gtrids: &[Gtrid], entry: &Entry) -> Option<Step>
-    ensures { result ≡ step_of gtrids.now entry.now }
+    ensures { result ≡ step_of_entry gtrids.now entry.now }
 {
     Some(match *entry {
         Entry::Begin { thread } => Step::Begin { thread },

@@ -2,7 +2,7 @@
 
 ghost use Rattle.std.specs.Prelude.{◌≡◌, ◌||◌, ◌∷◌, [], map, OnOk};
 ghost use Rattle.std.specs.Option.{option_to_list};
-ghost use Rattle.xa_scenario.specs.Plays.{HaveSteps, IsAnswered, IsDrain, IsPlay, Makes, Performs, after, gtrids_of, moves};
+ghost use Rattle.xa_scenario.specs.Plays.{HaveSteps, IsAnswered, IsDrain, IsPlay, MakesEvents, Performs, trace_after, gtrids_of, moves};
 ghost use Rattle.xa_system.specs.Seen.{origin_in};
 ghost use Rattle.xa_system.specs.Sites.{looks};
 
@@ -20,7 +20,7 @@ fn act<R: ResourceManager + Drop, L: DecisionLog + Drop>(
     step: Step,
 ) -> Reply
     ensures answered { IsAnswered system.old.events result }
-    ensures added { system.new.events ≡ after system.old.events (record { step = step; reply = result }) }
+    ensures added { system.new.events ≡ trace_after system.old.events (record { step = step; reply = result }) }
     ensures start { origin_in (looks R.held_of R.scan_of R.in_doubt_of) system.new
         ≡ origin_in (looks R.held_of R.scan_of R.in_doubt_of) system.old }
 {
@@ -82,7 +82,7 @@ fn play_entry<R: ResourceManager + Drop, L: DecisionLog + Drop>(
     gtrids: &[Gtrid],
     entry: &Entry,
 ) -> Option<Gtrid>
-    ensures performs { Performs (λ here. Makes gtrids.now entry.now here × (gtrids_of here ≡ option_to_list result))
+    ensures performs { Performs (λ here. MakesEvents gtrids.now entry.now here × (gtrids_of here ≡ option_to_list result))
         system.old.events system.new.events }
     ensures start { origin_in (looks R.held_of R.scan_of R.in_doubt_of) system.new
         ≡ origin_in (looks R.held_of R.scan_of R.in_doubt_of) system.old }

@@ -2,7 +2,7 @@
 
 ghost use Rattle.std.specs.Prelude.{◌≡◌, map};
 ghost use Rattle.toml.specs.View.{table_view};
-ghost use Rattle.xa_scenario.specs.Tables.{entry_of, row_of};
+ghost use Rattle.xa_scenario.specs.Tables.{entry_of, entry_in_table};
 
 use crate::begins::begin_row;
 use crate::calls::{call_row, issue_row};
@@ -18,7 +18,7 @@ use xa_files::text_at;
 
 /// What a table of a kind asks for.
 fn row_of(kind: EntryKind, table: &Table, begun: &[&str]) -> Option<Entry>
-    ensures { result ≡ row_of kind (map (λ name. name.now) begun.now) (table_view table.now) }
+    ensures { result ≡ entry_in_table kind (map (λ name. name.now) begun.now) (table_view table.now) }
 {
     match kind {
         EntryKind::Begin => begin_row(table, begun),

@@ -9,4 +9,5 @@ use Rattle.xa_system.specs.declared.system.System.TheInside.{Inside}
 use Rattle.xa_system.proofs.Seeing.{origin_is}
 
 pub start_right : {R L : Type 0} (see : Sees R L) (a : Inside R L) → IsSound see a → RightOrigin (start_of see a.parts)
-start_right see a sound = subst RightOrigin (origin_is (start_of see a.parts) a.events.items) (origin_right (history (start_of see a.parts) a.events.items) sound.stands.kept.right)
+start_right see a sound =
+    subst RightOrigin (origin_is (start_of see a.parts) a.events.items) (origin_right (history (start_of see a.parts) a.events.items) sound.stands.kept.right)

@@ -44,7 +44,8 @@ use Rattle.xa_tm.specs.Book.{Book, after}
 -- ** refusals
 
 abbrev pub line_why : (there up rm_up : Bool) → Option Refusal
-line_why there up rm_up = if there then (if not up then Some Refusals.ManagerDown else (if not rm_up then Some Refusals.RmDown else None)) else Some Refusals.Limit
+line_why there up rm_up =
+    if there then (if not up then Some Refusals.ManagerDown else (if not rm_up then Some Refusals.RmDown else None)) else Some Refusals.Limit
 
 abbrev pub rm_why : (there up : Bool) → Option Refusal
 rm_why there up = if there then (if not up then Some Refusals.RmDown else None) else Some Refusals.Limit
@@ -55,7 +56,8 @@ restart_why there up = if there then (if up then Some Refusals.Busy else None) e
 -- ** what breaks
 
 crashed_rm : (tr : Trace) (r : ℕ) → BreaksAll tr (Crashed (KnownParts.Rm r)) r
-crashed_rm tr r = record { standing = λ b at. rw (eq-eqb r b.rm (sym at)) refl; vote = λ b at. refl; retries = λ b at. refl; closed = rw (eq-eqb r r refl) refl }
+crashed_rm tr r =
+    record { standing = λ b at. rw (eq-eqb r b.rm (sym at)) refl; vote = λ b at. refl; retries = λ b at. refl; closed = rw (eq-eqb r r refl) refl }
 
 crashed_manager : (tr : Trace) (r : ℕ) → BreaksAll tr (Crashed KnownParts.Manager) r
 crashed_manager tr r = record { standing = λ b at. refl; vote = λ b at. refl; retries = λ b at. refl; closed = refl }
@@ -68,12 +70,14 @@ line_elsewhere t r b s apart at = by_thread (nat_eq t b.thread)
     by_thread false = refl
 
 -- a site that was read twice
-pub same_up : {R : Type 0} (xs : List (Site R)) (r : ℕ) {x y : Site R} {t : Bool} → slice_get xs r ≡ Some x → slice_get xs r ≡ Some y → y.is_up ≡ t → x.is_up ≡ t
+pub same_up : {R : Type 0} (xs : List (Site R)) (r : ℕ) {x y : Site R} {t : Bool} → slice_get xs r ≡ Some x
+    → slice_get xs r ≡ Some y → y.is_up ≡ t → x.is_up ≡ t
 same_up xs r {x = x} {y = y} e d u = let one : Some x ≡ Some y = sym e ∙ d in let same : x ≡ y = cc in ap (λ s. s.is_up) same ∙ u
 
 module _ {R L : Type 0} (see : Sees R L) where
   -- the site of a resource manager that is there
-  pub rm_read : (tr : Trace) (parts : Parts R L) (r : ℕ) (site : Site R) → Stands see tr parts → r < parts.lines.rms → site ≡ get_or parts.sites.items r site → slice_get parts.sites.items r ≡ Some site
+  pub rm_read : (tr : Trace) (parts : Parts R L) (r : ℕ) (site : Site R) → Stands see tr parts → r < parts.lines.rms
+      → site ≡ get_or parts.sites.items r site → slice_get parts.sites.items r ≡ Some site
   rm_read tr parts r site stands within is =
       let count : vec_len parts.sites ≡ parts.lines.rms = stands.count ∙ sym stands.rms in
       slice_get_read parts.sites.items (vec_len parts.sites) r site parts.sites.ok.0 (omega (arith, within, count)) is
@@ -98,17 +102,21 @@ module _ {R L : Type 0} (see : Sees R L) where
     is_up = refl;
   }
 
-  pub crash_line_leads : (parts : Parts R L) (t r : ℕ) (site : Site R) (rm : R) (x : Traffic) (manager : Manager L) (reply : Reply Xid) → reply ≡ Replies.Crashed → (nat_lt t parts.lines.threads && nat_lt r parts.lines.rms) ≡ true
-      → (book_in parts.manager).up ≡ true → site.is_up ≡ true → x ≡ no_traffic → Breaks see.look t site.rm rm → book_in manager ≡ after (book_in parts.manager) (Crashed (KnownParts.Line t r))
+  pub crash_line_leads : (parts : Parts R L) (t r : ℕ) (site : Site R) (rm : R) (x : Traffic) (manager : Manager L) (reply : Reply Xid)
+      → reply ≡ Replies.Crashed → (nat_lt t parts.lines.threads && nat_lt r parts.lines.rms) ≡ true
+      → (book_in parts.manager).up ≡ true → site.is_up ≡ true → x ≡ no_traffic → Breaks see.look t site.rm rm
+      → book_in manager ≡ after (book_in parts.manager) (Crashed (KnownParts.Line t r))
       → ((tr : Trace) → LogFollows see.logs tr (Crashed (KnownParts.Line t r)) parts.manager manager)
       → (tr : Trace) → Stands see tr parts → slice_get parts.sites.items r ≡ Some site
-      → OneMore see (Steps.Crash (KnownParts.Line t r)) reply tr parts (record { alloc = parts.alloc; start = parts.start; began = parts.began; sites = with_item parts.sites r (record { rm = rm; is_up = site.is_up }); lines = with_line parts.lines t r x; manager = manager })
+      → OneMore see (Steps.Crash (KnownParts.Line t r)) reply tr parts
+      (record { alloc = parts.alloc; start = parts.start; began = parts.began; sites = with_item parts.sites r (record { rm = rm; is_up = site.is_up }); lines = with_line parts.lines t r x; manager = manager })
   crash_line_leads parts t r site rm x manager reply is there up site_up renewed broke book log tr stands at =
       let has_tr = sym (there_is see tr parts t r stands) ∙ there in
       let has = has_line see tr parts t r stands has_tr in
       let e = Crashed (KnownParts.Line t r) in
       let here = stands.sites r site at in
-      let why : must_refuse tr (Steps.Crash (KnownParts.Line t r)) ≡ None = λ i. line_why (has_tr i) ((sym (manager_up tr parts stands) ∙ up) i) ((sym here.is_up ∙ site_up) i) in
+      let why : must_refuse tr (Steps.Crash (KnownParts.Line t r)) ≡ None =
+      λ i. line_why (has_tr i) ((sym (manager_up tr parts stands) ∙ up) i) ((sym here.is_up ∙ site_up) i) in
       goes_as see tr (Steps.Crash (KnownParts.Line t r)) reply Replies.Crashed parts _ stands tt (ap reply_of is) (As_value why refl)
       (record {
         start = refl;
@@ -118,7 +126,9 @@ module _ {R L : Type 0} (see : Sees R L) where
         fits = stands.fits;
         whole = whole-with_line parts.lines t r x stands.whole;
         count = refl;
-        sites = sites_with see tr e parts.sites r site (record { rm = rm; is_up = site.is_up }) at (record { is_up = here.is_up; rm = break_stands see.look tr t r site.rm rm broke here.rm }) (nothing_else tr t r) stands.sites;
+        sites =
+            sites_with see tr e parts.sites r site (record { rm = rm; is_up = site.is_up }) at
+            (record { is_up = here.is_up; rm = break_stands see.look tr t r site.rm rm broke here.rm }) (nothing_else tr t r) stands.sites;
         lines = lines_with (Then tr e) parts.lines t r x stands.whole has
             (subst (LineStands (Then tr e) (line t r)) (sym renewed) (line_renewed tr e (line t r) (line_eq-refl (line t r))))
             (λ u s has_u apart. line_stays tr e (line u s) (line_at parts.lines u s) apart refl refl refl (stands.lines u s has_u));
@@ -127,14 +137,23 @@ module _ {R L : Type 0} (see : Sees R L) where
         unchanged = λ q. absurd (subst IsEvent q tt);
       })
 
-  pub crash_line_limit : (tr : Trace) (parts : Parts R L) (t r : ℕ) → (nat_lt t parts.lines.threads && nat_lt r parts.lines.rms) ≡ false → Stands see tr parts → must_refuse tr (Steps.Crash (KnownParts.Line t r)) ≡ Some Refusals.Limit
+  pub crash_line_limit : (tr : Trace) (parts : Parts R L) (t r : ℕ)
+      → (nat_lt t parts.lines.threads && nat_lt r parts.lines.rms) ≡ false → Stands see tr parts
+      → must_refuse tr (Steps.Crash (KnownParts.Line t r)) ≡ Some Refusals.Limit
   crash_line_limit tr parts t r e stands = λ i. line_why ((sym (there_is see tr parts t r stands) ∙ e) i) (facts.up tr) (rm_up tr r)
 
-  pub crash_line_down : (tr : Trace) (parts : Parts R L) (t r : ℕ) → (nat_lt t parts.lines.threads && nat_lt r parts.lines.rms) ≡ true → (book_in parts.manager).up ≡ false → Stands see tr parts → must_refuse tr (Steps.Crash (KnownParts.Line t r)) ≡ Some Refusals.ManagerDown
-  crash_line_down tr parts t r e down stands = λ i. line_why ((sym (there_is see tr parts t r stands) ∙ e) i) ((sym (manager_up tr parts stands) ∙ down) i) (rm_up tr r)
+  pub crash_line_down : (tr : Trace) (parts : Parts R L) (t r : ℕ)
+      → (nat_lt t parts.lines.threads && nat_lt r parts.lines.rms) ≡ true → (book_in parts.manager).up ≡ false
+      → Stands see tr parts → must_refuse tr (Steps.Crash (KnownParts.Line t r)) ≡ Some Refusals.ManagerDown
+  crash_line_down tr parts t r e down stands =
+      λ i. line_why ((sym (there_is see tr parts t r stands) ∙ e) i) ((sym (manager_up tr parts stands) ∙ down) i) (rm_up tr r)
 
-  pub crash_line_rm_down : (tr : Trace) (parts : Parts R L) (t r : ℕ) (site : Site R) → (nat_lt t parts.lines.threads && nat_lt r parts.lines.rms) ≡ true → (book_in parts.manager).up ≡ true → slice_get parts.sites.items r ≡ Some site → site.is_up ≡ false → Stands see tr parts → must_refuse tr (Steps.Crash (KnownParts.Line t r)) ≡ Some Refusals.RmDown
-  crash_line_rm_down tr parts t r site e up at down stands = λ i. line_why ((sym (there_is see tr parts t r stands) ∙ e) i) ((sym (manager_up tr parts stands) ∙ up) i) ((sym (stands.sites r site at).is_up ∙ down) i)
+  pub crash_line_rm_down : (tr : Trace) (parts : Parts R L) (t r : ℕ) (site : Site R)
+      → (nat_lt t parts.lines.threads && nat_lt r parts.lines.rms) ≡ true → (book_in parts.manager).up ≡ true
+      → slice_get parts.sites.items r ≡ Some site → site.is_up ≡ false → Stands see tr parts
+      → must_refuse tr (Steps.Crash (KnownParts.Line t r)) ≡ Some Refusals.RmDown
+  crash_line_rm_down tr parts t r site e up at down stands =
+      λ i. line_why ((sym (there_is see tr parts t r stands) ∙ e) i) ((sym (manager_up tr parts stands) ∙ up) i) ((sym (stands.sites r site at).is_up ∙ down) i)
 
   -- ** a resource manager
 
@@ -147,7 +166,8 @@ module _ {R L : Type 0} (see : Sees R L) where
     is_up = rw (ne_eqb r s (λ e. apart (sym e))) refl;
   }
 
-  renewed_lines : (tr : Trace) (parts : Parts R L) (r : ℕ) (lines : Grid) → Stands see tr parts → RenewsRm parts.lines lines r → (t s : ℕ) → HasLine lines t s → LineStands (Then tr (Crashed (KnownParts.Rm r))) (line t s) (line_at lines t s)
+  renewed_lines : (tr : Trace) (parts : Parts R L) (r : ℕ) (lines : Grid) → Stands see tr parts → RenewsRm parts.lines lines r
+      → (t s : ℕ) → HasLine lines t s → LineStands (Then tr (Crashed (KnownParts.Rm r))) (line t s) (line_at lines t s)
   renewed_lines tr parts r lines stands renews t s has = by_rm (eqb_tells s r)
     where
       e : Happening
@@ -159,13 +179,19 @@ module _ {R L : Type 0} (see : Sees R L) where
       by_rm : ((nat_eq s r ≡ true) × (s ≡ r)) ⊎ ((nat_eq s r ≡ false) × (s ≢ r)) → LineStands (Then tr e) (line t s) (line_at lines t s)
       by_rm (inl w) =
           let has_r : HasLine parts.lines t r = (has_old.0, subst (λ n. n < parts.lines.rms) w.1 has_old.1) in
-          subst (LineStands (Then tr e) (line t s)) (sym (ap (line_at lines t) w.1 ∙ renews.renewed t has_r)) (line_renewed tr e (line t s) (eq-eqb r s (sym w.1)))
-      by_rm (inr w) = subst (LineStands (Then tr e) (line t s)) (sym (renews.others t s has_old w.1)) (line_stays tr e (line t s) (line_at parts.lines t s) (ne_eqb r s (λ q. w.1 (sym q))) refl refl refl (stands.lines t s has_old))
+          subst (LineStands (Then tr e) (line t s)) (sym (ap (line_at lines t) w.1 ∙ renews.renewed t has_r))
+          (line_renewed tr e (line t s) (eq-eqb r s (sym w.1)))
+      by_rm (inr w) =
+          subst (LineStands (Then tr e) (line t s)) (sym (renews.others t s has_old w.1))
+          (line_stays tr e (line t s) (line_at parts.lines t s) (ne_eqb r s (λ q. w.1 (sym q))) refl refl refl (stands.lines t s has_old))
 
-  pub crash_rm_leads : (parts : Parts R L) (r : ℕ) (site : Site R) (rm : R) (lines : Grid) (manager : Manager L) (reply : Reply Xid) → reply ≡ Replies.Crashed → r < parts.lines.rms → site.is_up ≡ true → Crashes see.look site.rm rm → RenewsRm parts.lines lines r
+  pub crash_rm_leads : (parts : Parts R L) (r : ℕ) (site : Site R) (rm : R) (lines : Grid) (manager : Manager L) (reply : Reply Xid)
+      → reply ≡ Replies.Crashed → r < parts.lines.rms → site.is_up ≡ true → Crashes see.look site.rm rm → RenewsRm parts.lines lines r
       → book_in manager ≡ after (book_in parts.manager) (Crashed (KnownParts.Rm r))
-      → ((tr : Trace) → LogFollows see.logs tr (Crashed (KnownParts.Rm r)) parts.manager manager) → (tr : Trace) → Stands see tr parts → slice_get parts.sites.items r ≡ Some site
-      → OneMore see (Steps.Crash (KnownParts.Rm r)) reply tr parts (record { alloc = parts.alloc; start = parts.start; began = parts.began; sites = with_item parts.sites r (record { rm = rm; is_up = false }); lines = lines; manager = manager })
+      → ((tr : Trace) → LogFollows see.logs tr (Crashed (KnownParts.Rm r)) parts.manager manager) → (tr : Trace)
+      → Stands see tr parts → slice_get parts.sites.items r ≡ Some site
+      → OneMore see (Steps.Crash (KnownParts.Rm r)) reply tr parts
+      (record { alloc = parts.alloc; start = parts.start; began = parts.began; sites = with_item parts.sites r (record { rm = rm; is_up = false }); lines = lines; manager = manager })
   crash_rm_leads parts r site rm lines manager reply is within site_up did renews book log tr stands at =
       let e = Crashed (KnownParts.Rm r) in
       let here = stands.sites r site at in
@@ -179,29 +205,39 @@ module _ {R L : Type 0} (see : Sees R L) where
         fits = stands.fits;
         whole = renews.whole;
         count = refl;
-        sites = sites_with see tr e parts.sites r site (record { rm = rm; is_up = false }) at (record { is_up = rw (eq-eqb r r refl) refl; rm = crash_stands see.look tr e r site.rm rm (crashed_rm tr r) did here.rm }) (rm_crash_elsewhere tr r) stands.sites;
+        sites =
+            sites_with see tr e parts.sites r site (record { rm = rm; is_up = false }) at
+            (record { is_up = rw (eq-eqb r r refl) refl; rm = crash_stands see.look tr e r site.rm rm (crashed_rm tr r) did here.rm })
+            (rm_crash_elsewhere tr r) stands.sites;
         lines = renewed_lines tr parts r lines stands renews;
         book = book_then see tr e parts manager stands tt book;
         log = log tr;
         unchanged = λ q. absurd (subst IsEvent q tt);
       })
 
-  pub crash_rm_limit : (tr : Trace) (parts : Parts R L) (r : ℕ) → parts.lines.rms ≤ r → Stands see tr parts → must_refuse tr (Steps.Crash (KnownParts.Rm r)) ≡ Some Refusals.Limit
+  pub crash_rm_limit : (tr : Trace) (parts : Parts R L) (r : ℕ) → parts.lines.rms ≤ r → Stands see tr parts
+      → must_refuse tr (Steps.Crash (KnownParts.Rm r)) ≡ Some Refusals.Limit
   crash_rm_limit tr parts r past stands = λ i. rm_why (rm_missing tr parts r stands past i) (rm_up tr r)
 
-  pub crash_rm_down : (tr : Trace) (parts : Parts R L) (r : ℕ) (site : Site R) → r < parts.lines.rms → slice_get parts.sites.items r ≡ Some site → site.is_up ≡ false → Stands see tr parts → must_refuse tr (Steps.Crash (KnownParts.Rm r)) ≡ Some Refusals.RmDown
+  pub crash_rm_down : (tr : Trace) (parts : Parts R L) (r : ℕ) (site : Site R) → r < parts.lines.rms
+      → slice_get parts.sites.items r ≡ Some site → site.is_up ≡ false → Stands see tr parts
+      → must_refuse tr (Steps.Crash (KnownParts.Rm r)) ≡ Some Refusals.RmDown
   crash_rm_down tr parts r site within at down stands = λ i. rm_why (rm_there tr parts r stands within i) ((sym (stands.sites r site at).is_up ∙ down) i)
 
   -- ** its restart
 
-  pub restart_limit : (tr : Trace) (parts : Parts R L) (r : ℕ) → parts.lines.rms ≤ r → Stands see tr parts → must_refuse tr (Steps.Restart (Sides.Rm r)) ≡ Some Refusals.Limit
+  pub restart_limit : (tr : Trace) (parts : Parts R L) (r : ℕ) → parts.lines.rms ≤ r → Stands see tr parts
+      → must_refuse tr (Steps.Restart (Sides.Rm r)) ≡ Some Refusals.Limit
   restart_limit tr parts r past stands = λ i. restart_why (rm_missing tr parts r stands past i) (rm_up tr r)
 
-  pub restart_busy : (tr : Trace) (parts : Parts R L) (r : ℕ) (site : Site R) → r < parts.lines.rms → slice_get parts.sites.items r ≡ Some site → site.is_up ≡ true → Stands see tr parts → must_refuse tr (Steps.Restart (Sides.Rm r)) ≡ Some Refusals.Busy
+  pub restart_busy : (tr : Trace) (parts : Parts R L) (r : ℕ) (site : Site R) → r < parts.lines.rms
+      → slice_get parts.sites.items r ≡ Some site → site.is_up ≡ true → Stands see tr parts → must_refuse tr (Steps.Restart (Sides.Rm r)) ≡ Some Refusals.Busy
   restart_busy tr parts r site within at up stands = λ i. restart_why (rm_there tr parts r stands within i) ((sym (stands.sites r site at).is_up ∙ up) i)
 
-  pub restart_leads : (parts : Parts R L) (r : ℕ) (site : Site R) (reply : Reply Xid) → reply ≡ Replies.RmRestarted → r < parts.lines.rms → site.is_up ≡ false → (tr : Trace) → Stands see tr parts → slice_get parts.sites.items r ≡ Some site
-      → OneMore see (Steps.Restart (Sides.Rm r)) reply tr parts (record { alloc = parts.alloc; start = parts.start; began = parts.began; sites = with_item parts.sites r (record { rm = site.rm; is_up = true }); lines = parts.lines; manager = parts.manager })
+  pub restart_leads : (parts : Parts R L) (r : ℕ) (site : Site R) (reply : Reply Xid) → reply ≡ Replies.RmRestarted
+      → r < parts.lines.rms → site.is_up ≡ false → (tr : Trace) → Stands see tr parts → slice_get parts.sites.items r ≡ Some site
+      → OneMore see (Steps.Restart (Sides.Rm r)) reply tr parts
+      (record { alloc = parts.alloc; start = parts.start; began = parts.began; sites = with_item parts.sites r (record { rm = site.rm; is_up = true }); lines = parts.lines; manager = parts.manager })
   restart_leads parts r site reply is within down tr stands at =
       let e = RmRestarted r in
       let here = stands.sites r site at in
@@ -228,8 +264,10 @@ module _ {R L : Type 0} (see : Sees R L) where
   -- ** the manager
 
   -- the sites after all lines of all of them broke
-  pub all_stand : (tr : Trace) (e : Happening) (sites now : Vec (Site R) Global) → ((r : ℕ) → BreaksAll tr e r) → ((r : ℕ) → rm_up (Then tr e) r ≡ rm_up tr r) → AllCrash see.look sites.items now.items
-      → ((r : ℕ) (site : Site R) → slice_get sites.items r ≡ Some site → SiteStands see tr r site) → (r : ℕ) (site : Site R) → slice_get now.items r ≡ Some site → SiteStands see (Then tr e) r site
+  pub all_stand : (tr : Trace) (e : Happening) (sites now : Vec (Site R) Global) → ((r : ℕ) → BreaksAll tr e r)
+      → ((r : ℕ) → rm_up (Then tr e) r ≡ rm_up tr r) → AllCrash see.look sites.items now.items
+      → ((r : ℕ) (site : Site R) → slice_get sites.items r ≡ Some site → SiteStands see tr r site) → (r : ℕ) (site : Site R)
+      → slice_get now.items r ≡ Some site → SiteStands see (Then tr e) r site
   all_stand tr e sites now breaks ups did stand r site at =
       let within = slice_get_within now.items r site at in
       let before = was_there sites.items r (subst (λ n. r < n) did.count within) in
@@ -244,13 +282,16 @@ module _ {R L : Type 0} (see : Sees R L) where
       was_there : (xs : List (Site R)) (k : ℕ) → k < length xs → (x : Site R) × (slice_get xs k ≡ Some x)
       was_there xs k lt = elim ((slice_get_cases xs k).1) [ inl w ↦ (w.0, w.2) | inr w ↦ absurd (omega (arith, w.0, lt)) ]
 
-  pub crash_manager_down : (tr : Trace) (parts : Parts R L) → (book_in parts.manager).up ≡ false → Stands see tr parts → must_refuse tr (Steps.Crash KnownParts.Manager) ≡ Some Refusals.ManagerDown
+  pub crash_manager_down : (tr : Trace) (parts : Parts R L) → (book_in parts.manager).up ≡ false → Stands see tr parts
+      → must_refuse tr (Steps.Crash KnownParts.Manager) ≡ Some Refusals.ManagerDown
   crash_manager_down tr parts down stands = λ i. line_why true ((sym (manager_up tr parts stands) ∙ down) i) true
 
-  pub crash_manager_leads : (parts : Parts R L) (sites : Vec (Site R) Global) (lines : Grid) (manager : Manager L) (reply : Reply Xid) → reply ≡ Replies.Crashed → (book_in parts.manager).up ≡ true → AllCrash see.look parts.sites.items sites.items
+  pub crash_manager_leads : (parts : Parts R L) (sites : Vec (Site R) Global) (lines : Grid) (manager : Manager L) (reply : Reply Xid)
+      → reply ≡ Replies.Crashed → (book_in parts.manager).up ≡ true → AllCrash see.look parts.sites.items sites.items
       → lines ≡ new_grid parts.lines.threads parts.lines.rms → book_in manager ≡ after (book_in parts.manager) (Crashed KnownParts.Manager)
       → ((tr : Trace) → LogFollows see.logs tr (Crashed KnownParts.Manager) parts.manager manager) → (tr : Trace) → Stands see tr parts
-      → OneMore see (Steps.Crash KnownParts.Manager) reply tr parts (record { alloc = parts.alloc; start = parts.start; began = parts.began; sites = sites; lines = lines; manager = manager })
+      → OneMore see (Steps.Crash KnownParts.Manager) reply tr parts
+      (record { alloc = parts.alloc; start = parts.start; began = parts.began; sites = sites; lines = lines; manager = manager })
   crash_manager_leads parts sites lines manager reply is up did renewed book log tr stands =
       let e = Crashed KnownParts.Manager in
       let why : must_refuse tr (Steps.Crash KnownParts.Manager) ≡ None = λ i. line_why true ((sym (manager_up tr parts stands) ∙ up) i) true in
@@ -264,7 +305,9 @@ module _ {R L : Type 0} (see : Sees R L) where
         whole = rw renewed (whole-new_grid parts.lines.threads parts.lines.rms);
         count = sites.ok.0 ∙ did.count ∙ sym parts.sites.ok.0;
         sites = all_stand tr e parts.sites sites (crashed_manager tr) (λ r. refl) did stands.sites;
-        lines = λ t r has. subst (LineStands (Then tr e) (line t r)) (sym (ap (λ g. line_at g t r) renewed ∙ line_at-new_grid parts.lines.threads parts.lines.rms t r)) (line_renewed tr e (line t r) refl);
+        lines =
+            λ t r has. subst (LineStands (Then tr e) (line t r))
+            (sym (ap (λ g. line_at g t r) renewed ∙ line_at-new_grid parts.lines.threads parts.lines.rms t r)) (line_renewed tr e (line t r) refl);
         book = book_then see tr e parts manager stands tt book;
         log = log tr;
         unchanged = λ q. absurd (subst IsEvent q tt);

@@ -96,11 +96,13 @@ never_falls : (e : Happening) (n : ℕ) → Rises false n (count_after e n)
 never_falls (Failed f) n = grind arith
 never_falls e n = inr (omega arith)
 
-pub rises : (tr : Trace) (s : known.Step) (reply : Reply Xid) (n : ℕ) → Demanded tr s (reply_of reply) → Rises (says_log_fault reply) n (count_after (happened s (reply_of reply)) n)
+pub rises : (tr : Trace) (s : known.Step) (reply : Reply Xid) (n : ℕ) → Demanded tr s (reply_of reply)
+    → Rises (says_log_fault reply) n (count_after (happened s (reply_of reply)) n)
 rises tr s (Replies.Refused Refusals.LogFault) n demanded = subst (Rises true n) (sym (failing tr s (fails_so tr s demanded) n)) (one_more_rises n)
 rises tr s reply n demanded = never_falls (happened s (reply_of reply)) n
 
-faults_push : (events : List Event) (event : Event) → log_faults (events ++ event ∷ []) ≡ (if says_log_fault event.reply then log_faults events + 1 else log_faults events)
+faults_push : (events : List Event) (event : Event)
+    → log_faults (events ++ event ∷ []) ≡ (if says_log_fault event.reply then log_faults events + 1 else log_faults events)
 faults_push events event =
     ap length (filter-append (λ (x : Event). says_log_fault x.reply) events (event ∷ []))
     ∙ length-append (filter (λ (x : Event). says_log_fault x.reply) events) (filter (λ (x : Event). says_log_fault x.reply) (event ∷ []))
@@ -114,7 +116,8 @@ pub causes_more : (old new : List Event) (event : Event) (n m k : ℕ) → new �
     → (greatest_count ≤ m) ⊎ (log_faults new + n ≤ log_faults old + m)
 causes_more old new event n m k all rises same = by (says_log_fault event.reply) rises (ap log_faults all ∙ faults_push old event)
   where
-    by : (t : Bool) → Rises t n k → log_faults new ≡ (if t then log_faults old + 1 else log_faults old) → (greatest_count ≤ m) ⊎ (log_faults new + n ≤ log_faults old + m)
+    by : (t : Bool) → Rises t n k → log_faults new ≡ (if t then log_faults old + 1 else log_faults old)
+        → (greatest_count ≤ m) ⊎ (log_faults new + n ≤ log_faults old + m)
     by t (inl most) e = inl (subst (λ c. greatest_count ≤ c) (sym same) most)
     by true (inr more) e = inr (omega (arith, more, e, same))
     by false (inr more) e = inr (omega (arith, more, e, same))

@@ -8,7 +8,7 @@ use Rattle.std.proofs.lemmas.Bool.{cases_Bool, cases_lt, true≢false}
 use Rattle.std.proofs.lemmas.List.{length-map}
 use Rattle.std.proofs.lemmas.Option.{slice_get-map, slice_get_cases, slice_get_within}
 use Rattle.xa_tm.proofs.Limits.{old_start_is_right}
-use Rattle.xa_tm.specs.Starting.{IsOld, started}
+use Rattle.xa_tm.specs.Starting.{IsOld, book_at_start}
 use Rattle.xa_tm.specs.Limits.{HasRoomForRun}
 use Rattle.xa_tm.specs.Book.{book_of}
 use Rattle.xa_tm.specs.Held as books
@@ -65,7 +65,8 @@ scan_back (Behind (Some x)) = refl
 
 -- ** the start
 
-mapped_site : {R : Type 0} (rms : List R) (r : ℕ) (site : Site R) → slice_get (map new_site rms) r ≡ Some site → (rm : R) × (slice_get rms r ≡ Some rm) × (new_site rm ≡ site)
+mapped_site : {R : Type 0} (rms : List R) (r : ℕ) (site : Site R) → slice_get (map new_site rms) r ≡ Some site
+    → (rm : R) × (slice_get rms r ≡ Some rm) × (new_site rm ≡ site)
 mapped_site rms r site e = from_option (slice_get rms r) refl (sym (slice_get-map new_site rms r) ∙ e)
   where
     from_option : (o : Option _) → slice_get rms r ≡ o → option_map new_site o ≡ Some site → (rm : _) × (slice_get rms r ≡ Some rm) × (new_site rm ≡ site)
@@ -76,7 +77,8 @@ pub back_again : {R : Type 0} (rms : List R) → map (λ (s : Site R). s.rm) (ma
 back_again [] = refl
 back_again (x ∷ xs) = ap (λ ys. x ∷ ys) (back_again xs)
 
-module _ {R L : Type 0} (see : Sees R L) (threads : ℕ) (rms : List R) (manager : Manager L) (clear : AreClear see.look rms) (new : IsStarted threads (length rms) manager) where
+module _ {R L : Type 0} (see : Sees R L) (threads : ℕ) (rms : List R) (manager : Manager L) (clear : AreClear see.look rms)
+    (new : IsStarted threads (length rms) manager) where
   -- the manager's book is that of the start
   begun : book_in manager ≡ book_of (From (origin_of see threads rms manager))
   begun = new.book (origin_of see threads rms manager) (record { threads_are = refl; rms_are = refl; incarnation = refl; rows = refl; records = refl })
@@ -98,7 +100,8 @@ module _ {R L : Type 0} (see : Sees R L) (threads : ℕ) (rms : List R) (manager
         elim ((slice_get_cases rms r).1) [
           | inl w ↦ (
               let at = w.2 in
-              subst (λ o. IsInDoubtList (option_map_or see.look.held_of o (λ x. new_branch)) (option_map_or see.look.in_doubt_of o [])) (sym at) (clear r w.0 at).listed)
+              subst (λ o. IsInDoubtList (option_map_or see.look.held_of o (λ x. new_branch)) (option_map_or see.look.in_doubt_of o []))
+              (sym at) (clear r w.0 at).listed)
           | inr w ↦ absurd (omega (arith, w.0, lt))
         ];
   }
@@ -131,12 +134,15 @@ module _ {R L : Type 0} (see : Sees R L) (threads : ℕ) (rms : List R) (manager
       };
       others = λ x other. ap (λ (f : Xid → HeldBranch). is_in_doubt (f x).standing) (sym (held_there r rm at));
     };
-    scan = scan_back (see.look.scan_of rm 0) ∙ ap (λ o. scan_by xid_of_name (option_map_or (λ q. scan_by (λ x. Foreign x) (see.look.scan_of q 0)) o NotOpen)) (sym at);
+    scan = scan_back (see.look.scan_of rm 0)
+        ∙ ap (λ o. scan_by xid_of_name (option_map_or (λ q. scan_by (λ x. Foreign x) (see.look.scan_of q 0)) o NotOpen)) (sym at);
   }
 
   -- a system of new parts with no events is sound
-  pub new_sound : (a : Inside R L) → 0 < threads → a.parts.start.value.items ≡ rms → a.parts.began.value ≡ manager → a.parts.manager ≡ manager → a.parts.sites.items ≡ map new_site rms
-      → a.parts.lines ≡ new_grid threads (length rms) → a.events.items ≡ [] → vec_len a.events ≡ 0 → vec_capacity a.events ≡ EVENT_LIMIT → IsStartedOver see.logs threads (length rms) a.handed.value manager → IsSound see a
+  pub new_sound : (a : Inside R L) → 0 < threads → a.parts.start.value.items ≡ rms → a.parts.began.value ≡ manager
+      → a.parts.manager ≡ manager → a.parts.sites.items ≡ map new_site rms
+      → a.parts.lines ≡ new_grid threads (length rms) → a.events.items ≡ [] → vec_len a.events ≡ 0
+      → vec_capacity a.events ≡ EVENT_LIMIT → IsStartedOver see.logs threads (length rms) a.handed.value manager → IsSound see a
   new_sound a some same_start same_began same_manager sites lines none len room over = record {
     few = omega (arith, len);
     room = omega (arith, room);
@@ -155,7 +161,10 @@ module _ {R L : Type 0} (see : Sees R L) (threads : ℕ) (rms : List R) (manager
           subst (SiteStands see (From (origin_of see threads rms manager)) r) from.2 (record { is_up = refl; rm = rm_starts r from.0 from.1 });
       rms = ap (λ (g : Grid). g.rms) lines;
       whole = rw lines (whole-new_grid threads (length rms));
-      lines = λ t r has. subst (LineStands (From (origin_of see threads rms manager)) (line t r)) (sym (ap (λ g. line_at g t r) lines ∙ line_at-new_grid threads (length rms) t r)) (record { all_issued = refl; all_answered = refl; all_heard = refl; each_answered = refl });
+      lines =
+          λ t r has. subst (LineStands (From (origin_of see threads rms manager)) (line t r))
+          (sym (ap (λ g. line_at g t r) lines ∙ line_at-new_grid threads (length rms) t r))
+          (record { all_issued = refl; all_answered = refl; all_heard = refl; each_answered = refl });
       book = ap book_in same_manager ∙ begun;
     });
     demanded = rw none tt;
@@ -165,8 +174,9 @@ module _ {R L : Type 0} (see : Sees R L) (threads : ℕ) (rms : List R) (manager
       start = λ order honest.
           let now = subst (λ m. (see.logs.moment (log_in m)).is_honest) same_manager honest in
           subst (λ o. IsSomeAnd (see.logs.moment a.handed.value).content (StartsOver o)) (sym origin_same)
-          (starts_over (origin_of see threads rms manager) threads (length rms) (see.logs.moment a.handed.value).content (see.logs.moment (log_in manager)).content (over.raised order now)
-          (subst (λ k. IsSomeAnd (see.logs.moment (log_in manager)).content (λ c. k ≡ started threads (length rms) c)) begun (over.book order now)));
+          (starts_over (origin_of see threads rms manager) threads (length rms) (see.logs.moment a.handed.value).content
+          (see.logs.moment (log_in manager)).content (over.raised order now)
+          (subst (λ k. IsSomeAnd (see.logs.moment (log_in manager)).content (λ c. k ≡ book_at_start threads (length rms) c)) begun (over.book order now)));
       tied = λ order honest.
           subst (λ m. IsTied (book_in m) (see.logs.moment (log_in m)).content) (sym same_manager)
           (over.tied order (subst (λ m. (see.logs.moment (log_in m)).is_honest) same_manager honest));
@@ -179,7 +189,8 @@ module _ {R L : Type 0} (see : Sees R L) (threads : ℕ) (rms : List R) (manager
 -- ** the look at the resource managers
 
 module _ {R : Type 0} (look : Looks R) where
-  pub clear_more : (rms : List R) (n : ℕ) (rm : R) → ((r : ℕ) (x : R) → slice_get rms r ≡ Some x → r < n → IsClear look x) → slice_get rms n ≡ Some rm → IsClear look rm → (r : ℕ) (x : R) → slice_get rms r ≡ Some x → r < n + 1 → IsClear look x
+  pub clear_more : (rms : List R) (n : ℕ) (rm : R) → ((r : ℕ) (x : R) → slice_get rms r ≡ Some x → r < n → IsClear look x)
+      → slice_get rms n ≡ Some rm → IsClear look rm → (r : ℕ) (x : R) → slice_get rms r ≡ Some x → r < n + 1 → IsClear look x
   clear_more rms n rm below at is r x there lt = elim (cases_lt r n) [
     | inl less ↦ below r x there less
     | inr more ↦ (

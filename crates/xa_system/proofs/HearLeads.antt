@@ -84,14 +84,16 @@ pub some_and : {A : Type 0} (P : A → Type 0) (o : Option A) (x : A) → Some x
 some_and P (Some y) x e h = subst P (some_is y x (sym e)) h
 some_and P None x e h = absurd (cc)
 
-heard_line : (tr : Trace) (l : Line) (p : Asking.Call Xid × Given.Answer Xid) (c : Call) (a : Answer) (before after : Traffic) → LineStands tr l before → known_answered p ≡ Some (c, a)
+heard_line : (tr : Trace) (l : Line) (p : Asking.Call Xid × Given.Answer Xid) (c : Call) (a : Answer) (before after : Traffic)
+    → LineStands tr l before → known_answered p ≡ Some (c, a)
     → PassesOn before.answers p after.answers → after.calls ≡ before.calls → LineStands (Then tr (Heard l c a)) l after
 heard_line tr l p c a before after stands is passes same =
     line_goes_on tr (Heard l c a) l before after [] [] (p ∷ []) stands refl
     (ap all_of same ∙ sym (append-nil (issued before))) refl
     (all_of-PassesOn before.answers p after.answers passes ∙ sym (append-nil (answered before))) refl
     passes.through (rw (is, line_eq-refl l) refl)
-    (ap (λ (f : Flow (Asking.Call Xid)). f.gone) same ∙ stands.each_answered ∙ ap (map (λ q. q.0)) (sym (all_of-PassesOn before.answers p after.answers passes)))
+    (ap (λ (f : Flow (Asking.Call Xid)). f.gone) same ∙ stands.each_answered ∙ ap (map (λ q. q.0))
+    (sym (all_of-PassesOn before.answers p after.answers passes)))
 
 -- an answer that makes a record is a heuristic code
 ended_alone : (code : Code) → IsSome (heuristic_end code) → (how : How) × (code ≡ Codes.Heuristic how)
@@ -127,9 +129,11 @@ recorded_answer asked (Answers.Page xids) m = absurd m
 
 module _ {R L : Type 0} (see : Sees R L) where
   -- a step in which the log failed: all lines break
-  pub fail_goes : (tr : Trace) (step : Step Xid) (f : Fault) (reply : Reply Xid) (parts : Parts R L) (sites : Vec (Site R) Global) (lines : Grid) (manager : Manager L) → Stands see tr parts → StepHasXids step → reply ≡ Replies.Refused Refusals.LogFault
+  pub fail_goes : (tr : Trace) (step : Step Xid) (f : Fault) (reply : Reply Xid) (parts : Parts R L) (sites : Vec (Site R) Global)
+      (lines : Grid) (manager : Manager L) → Stands see tr parts → StepHasXids step → reply ≡ Replies.Refused Refusals.LogFault
       → must_refuse tr (step_of step) ≡ None → UsesLog tr (step_of step) → log_failed (step_of step) ≡ Failed f → facts.up tr ≡ true
-      → AllCrash see.look parts.sites.items sites.items → lines ≡ new_grid parts.lines.threads parts.lines.rms → book_in manager ≡ book_after (book_in parts.manager) (asked_in tr (Failed f)) (Failed f)
+      → AllCrash see.look parts.sites.items sites.items → lines ≡ new_grid parts.lines.threads parts.lines.rms
+      → book_in manager ≡ book_after (book_in parts.manager) (asked_in tr (Failed f)) (Failed f)
       → LogFollows see.logs tr (Failed f) parts.manager manager
       → OneMore see step reply tr parts (record { alloc = parts.alloc; start = parts.start; began = parts.began; sites = sites; lines = lines; manager = manager })
   fail_goes tr step f reply parts sites lines manager stands has is none uses fault up did renewed book log =
@@ -145,8 +149,11 @@ module _ {R L : Type 0} (see : Sees R L) where
         whole = rw renewed (whole-new_grid parts.lines.threads parts.lines.rms);
         count = sites.ok.0 ∙ did.count ∙ sym parts.sites.ok.0;
         sites = all_stand see tr e parts.sites sites (failed_breaks tr f up) (λ r. refl) did stands.sites;
-        lines = λ t r has. subst (LineStands (Then tr e) (line t r)) (sym (ap (λ g. line_at g t r) renewed ∙ line_at-new_grid parts.lines.threads parts.lines.rms t r)) (line_renewed tr e (line t r) up);
-        book = book_then see tr e parts manager stands (subst (Right tr) fault (demanded_right tr (step_of step) (Replies.Refused Refusals.LogFault) demanded)) book;
+        lines =
+            λ t r has. subst (LineStands (Then tr e) (line t r))
+            (sym (ap (λ g. line_at g t r) renewed ∙ line_at-new_grid parts.lines.threads parts.lines.rms t r)) (line_renewed tr e (line t r) up);
+        book = book_then see tr e parts manager stands
+            (subst (Right tr) fault (demanded_right tr (step_of step) (Replies.Refused Refusals.LogFault) demanded)) book;
         log = log;
         unchanged = λ q. absurd (subst IsEvent q tt);
       }))
@@ -156,21 +163,27 @@ module _ {R L : Type 0} (see : Sees R L) where
   pub book_up : (tr : Trace) (parts : Parts R L) → Stands see tr parts → (book_in parts.manager).up ≡ facts.up tr
   book_up tr parts stands = ap (λ (k : Book). k.up) stands.book
 
-  pub hear_limit : (tr : Trace) (parts : Parts R L) (t r : ℕ) → (nat_lt t parts.lines.threads && nat_lt r parts.lines.rms) ≡ false → Stands see tr parts → must_refuse tr (Steps.Hear t r) ≡ Some Refusals.Limit
+  pub hear_limit : (tr : Trace) (parts : Parts R L) (t r : ℕ) → (nat_lt t parts.lines.threads && nat_lt r parts.lines.rms) ≡ false
+      → Stands see tr parts → must_refuse tr (Steps.Hear t r) ≡ Some Refusals.Limit
   hear_limit tr parts t r e stands = λ i. line_why ((sym (there_is see tr parts t r stands) ∙ e) i) (facts.up tr) (rm_up tr r)
 
-  pub hear_found : (tr : Trace) (parts : Parts R L) (t r : ℕ) (up rm_is_up : Bool) → (nat_lt t parts.lines.threads && nat_lt r parts.lines.rms) ≡ true → (book_in parts.manager).up ≡ up → rm_up tr r ≡ rm_is_up → Stands see tr parts
+  pub hear_found : (tr : Trace) (parts : Parts R L) (t r : ℕ) (up rm_is_up : Bool)
+      → (nat_lt t parts.lines.threads && nat_lt r parts.lines.rms) ≡ true → (book_in parts.manager).up ≡ up → rm_up tr r ≡ rm_is_up → Stands see tr parts
       → must_refuse tr (Steps.Hear t r) ≡ line_why true up rm_is_up
-  hear_found tr parts t r up rm_is_up e is_up is_rm stands = λ i. line_why ((sym (there_is see tr parts t r stands) ∙ e) i) ((sym (book_up tr parts stands) ∙ is_up) i) (is_rm i)
+  hear_found tr parts t r up rm_is_up e is_up is_rm stands =
+      λ i. line_why ((sym (there_is see tr parts t r stands) ∙ e) i) ((sym (book_up tr parts stands) ∙ is_up) i) (is_rm i)
 
   -- ** a Hear that isn't refused
 
-  module _ (tr : Trace) (parts : Parts R L) (t r : ℕ) (stands : Stands see tr parts) (there : (nat_lt t parts.lines.threads && nat_lt r parts.lines.rms) ≡ true) (none : must_refuse tr (Steps.Hear t r) ≡ None) where
+  module _ (tr : Trace) (parts : Parts R L) (t r : ℕ) (stands : Stands see tr parts)
+      (there : (nat_lt t parts.lines.threads && nat_lt r parts.lines.rms) ≡ true) (none : must_refuse tr (Steps.Hear t r) ≡ None) where
     has : HasLine parts.lines t r
     has = has_line see tr parts t r stands (sym (there_is see tr parts t r stands) ∙ there)
 
     -- the answer that waits first is the history's
-    pub heard_known : (call : Asking.Call Xid) (a : Given.Answer Xid) → Some (call, a) ≡ slice_get (line_at parts.lines t r).answers.waiting 0 → (c : Call) × (known_call call ≡ Some c) × (facts.next_answer tr (line t r) ≡ Some (c, map_answer name_of a))
+    pub heard_known : (call : Asking.Call Xid) (a : Given.Answer Xid)
+        → Some (call, a) ≡ slice_get (line_at parts.lines t r).answers.waiting 0
+        → (c : Call) × (known_call call ≡ Some c) × (facts.next_answer tr (line t r) ≡ Some (c, map_answer name_of a))
     heard_known call a first =
         let list = first_is (line_at parts.lines t r).answers.waiting (call, a) first in
         let waits = waiting_answer tr (line t r) (line_at parts.lines t r) (call, a) list.0 (stands.lines t r has) list.1 in
@@ -178,35 +191,51 @@ module _ {R L : Type 0} (see : Sees R L) where
         (waits.0.0, pair.0, waits.2 ∙ ap Some pair.1)
 
     -- and the manager can hear it
-    pub hear_answers : (call : Asking.Call Xid) (a : Given.Answer Xid) → Some (call, a) ≡ slice_get (line_at parts.lines t r).answers.waiting 0 → IsAnswerTo (map_call name_of call) (map_answer name_of a)
-    hear_answers call a first = let k = heard_known call a first in answer_is_code tr (line t r) k.0 (map_answer name_of a) (map_call name_of call) stands.kept.right k.2 k.1
+    pub hear_answers : (call : Asking.Call Xid) (a : Given.Answer Xid)
+        → Some (call, a) ≡ slice_get (line_at parts.lines t r).answers.waiting 0 → IsAnswerTo (map_call name_of call) (map_answer name_of a)
+    hear_answers call a first =
+        let k = heard_known call a first in answer_is_code tr (line t r) k.0 (map_answer name_of a) (map_call name_of call) stands.kept.right k.2 k.1
 
-    pub hear_fits : (call : Asking.Call Xid) (a : Given.Answer Xid) → Some (call, a) ≡ slice_get (line_at parts.lines t r).answers.waiting 0 → happenings tr < EVENT_LIMIT → FitsRecord (map_call name_of call) (map_answer name_of a)
-    hear_fits call a first few = let k = heard_known call a first in record_fits tr (within see tr parts stands few) (line t r) k.0 (map_answer name_of a) (map_call name_of call) k.2 k.1
+    pub hear_fits : (call : Asking.Call Xid) (a : Given.Answer Xid)
+        → Some (call, a) ≡ slice_get (line_at parts.lines t r).answers.waiting 0 → happenings tr < EVENT_LIMIT
+        → FitsRecord (map_call name_of call) (map_answer name_of a)
+    hear_fits call a first few =
+        let k = heard_known call a first in
+        record_fits tr (within see tr parts stands few) (line t r) k.0 (map_answer name_of a) (map_call name_of call) k.2 k.1
 
-    pub hear_nothing : (reply : Reply Xid) → reply ≡ Replies.Nothing → None ≡ slice_get (line_at parts.lines t r).answers.waiting 0 → OneMore see (Steps.Hear t r) reply tr parts parts
+    pub hear_nothing : (reply : Reply Xid) → reply ≡ Replies.Nothing
+        → None ≡ slice_get (line_at parts.lines t r).answers.waiting 0 → OneMore see (Steps.Hear t r) reply tr parts parts
     hear_nothing reply is first =
         goes_as see tr (Steps.Hear t r) reply Replies.Nothing parts parts stands tt (ap reply_of is)
         (As_value none (Hears_none (no_waiting_answer tr (line t r) (line_at parts.lines t r) (stands.lines t r has) (none_first (line_at parts.lines t r).answers.waiting first))))
         (nothing_follows see tr parts parts.manager stands refl refl)
 
-    pub hear_lacks : (call : Asking.Call Xid) (a : Given.Answer Xid) (manager : Manager L) (reply : Reply Xid) → Some (call, a) ≡ slice_get (line_at parts.lines t r).answers.waiting 0 → reply ≡ Replies.Refused Refusals.Memory → book_in manager ≡ book_in parts.manager → log_in manager ≡ log_in parts.manager
-        → OneMore see (Steps.Hear t r) reply tr parts (record { alloc = parts.alloc; start = parts.start; began = parts.began; sites = parts.sites; lines = parts.lines; manager = manager })
+    pub hear_lacks : (call : Asking.Call Xid) (a : Given.Answer Xid) (manager : Manager L) (reply : Reply Xid)
+        → Some (call, a) ≡ slice_get (line_at parts.lines t r).answers.waiting 0 → reply ≡ Replies.Refused Refusals.Memory
+        → book_in manager ≡ book_in parts.manager → log_in manager ≡ log_in parts.manager
+        → OneMore see (Steps.Hear t r) reply tr parts
+        (record { alloc = parts.alloc; start = parts.start; began = parts.began; sites = parts.sites; lines = parts.lines; manager = manager })
     hear_lacks call a manager reply first is same log =
         let k = heard_known call a first in
-        lacking_goes see tr (Steps.Hear t r) parts manager reply stands tt is none (λ e. absurd (let two : Some (k.0, map_answer name_of a) ≡ None = sym k.2 ∙ e in cc)) same log
+        lacking_goes see tr (Steps.Hear t r) parts manager reply stands tt is none
+        (λ e. absurd (let two : Some (k.0, map_answer name_of a) ≡ None = sym k.2 ∙ e in cc)) same log
 
-    pub hear_did : (call : Asking.Call Xid) (a : Given.Answer Xid) (x : Traffic) (manager : Manager L) (reply : Reply Xid) → Some (call, a) ≡ slice_get (line_at parts.lines t r).answers.waiting 0 → reply ≡ Replies.Heard call a
+    pub hear_did : (call : Asking.Call Xid) (a : Given.Answer Xid) (x : Traffic) (manager : Manager L) (reply : Reply Xid)
+        → Some (call, a) ≡ slice_get (line_at parts.lines t r).answers.waiting 0 → reply ≡ Replies.Heard call a
         → ((c : Call) → accepted (map_call name_of call) ≡ Some c → book_in manager ≡ after (book_in parts.manager) (Heard (line t r) c (map_answer name_of a)))
         → PassesOn (line_at parts.lines t r).answers (call, a) x.answers → x.calls ≡ (line_at parts.lines t r).calls
         → LogCalled see.logs (let y : Result (Unit {0}) Refusal = Ok tt in y) parts.manager manager
-        → OneMore see (Steps.Hear t r) reply tr parts (record { alloc = parts.alloc; start = parts.start; began = parts.began; sites = parts.sites; lines = with_line parts.lines t r x; manager = manager })
+        → OneMore see (Steps.Hear t r) reply tr parts
+        (record { alloc = parts.alloc; start = parts.start; began = parts.began; sites = parts.sites; lines = with_line parts.lines t r x; manager = manager })
     hear_did call a x manager reply first is book passes same called =
         let k = heard_known call a first in
         let e = Heard (line t r) k.0 (map_answer name_of a) in
-        let happens : happened (Steps.Hear t r) (Replies.Heard (map_call Ours k.0) (map_answer name_of a)) ≡ e = ap (if_ours (λ d. Heard (line t r) d (map_answer name_of a))) (accepted_ours k.0) in
-        let demanded : Demanded tr (Steps.Hear t r) (Replies.Heard (map_call Ours k.0) (map_answer name_of a)) = As_value none (Hears_one k.0 (map_answer name_of a) k.2) in
-        goes_as see tr (Steps.Hear t r) reply (Replies.Heard (map_call Ours k.0) (map_answer name_of a)) parts _ stands tt (ap reply_of is ∙ ap (λ c. Replies.Heard c (map_answer name_of a)) (ours_back (map_call name_of call) k.0 k.1)) demanded
+        let happens : happened (Steps.Hear t r) (Replies.Heard (map_call Ours k.0) (map_answer name_of a)) ≡ e =
+        ap (if_ours (λ d. Heard (line t r) d (map_answer name_of a))) (accepted_ours k.0) in
+        let demanded : Demanded tr (Steps.Hear t r) (Replies.Heard (map_call Ours k.0) (map_answer name_of a)) =
+        As_value none (Hears_one k.0 (map_answer name_of a) k.2) in
+        goes_as see tr (Steps.Hear t r) reply (Replies.Heard (map_call Ours k.0) (map_answer name_of a)) parts _ stands tt
+        (ap reply_of is ∙ ap (λ c. Replies.Heard c (map_answer name_of a)) (ours_back (map_call name_of call) k.0 k.1)) demanded
         (subst (λ h. Follows see tr h parts (record { alloc = parts.alloc; start = parts.start; began = parts.began; sites = parts.sites; lines = with_line parts.lines t r x; manager = manager })) (sym happens) (record {
           start = refl;
           began = refl;
@@ -215,44 +244,64 @@ module _ {R L : Type 0} (see : Sees R L) where
           fits = stands.fits;
           whole = whole-with_line parts.lines t r x stands.whole;
           count = refl;
-          sites = λ q at_q there_q. site_stays see tr e q at_q (record { quiet = record { branches = record { standing = λ b at. refl; vote = λ b at. refl; retries = λ b at. refl }; scan_stays = refl }; is_up = refl }) (stands.sites q at_q there_q);
+          sites =
+              λ q at_q there_q. site_stays see tr e q at_q
+              (record { quiet = record { branches = record { standing = λ b at. refl; vote = λ b at. refl; retries = λ b at. refl }; scan_stays = refl }; is_up = refl }) (stands.sites q at_q there_q);
           lines = lines_with (Then tr e) parts.lines t r x stands.whole has
-              (heard_line tr (line t r) (call, a) k.0 (map_answer name_of a) (line_at parts.lines t r) x (stands.lines t r has) (ap (option_map (λ c. (c, map_answer name_of a))) k.1) passes same)
+              (heard_line tr (line t r) (call, a) k.0 (map_answer name_of a) (line_at parts.lines t r) x (stands.lines t r has)
+              (ap (option_map (λ c. (c, map_answer name_of a))) k.1) passes same)
               (λ u q has_u apart. line_stays tr e (line u q) (line_at parts.lines u q) refl refl refl (rw apart refl) (stands.lines u q has_u));
-          book = book_then see tr e parts manager stands (subst (Right tr) happens (demanded_right tr (Steps.Hear t r) (Replies.Heard (map_call Ours k.0) (map_answer name_of a)) demanded)) (book k.0 k.1);
+          book = book_then see tr e parts manager stands
+              (subst (Right tr) happens (demanded_right tr (Steps.Hear t r) (Replies.Heard (map_call Ours k.0) (map_answer name_of a)) demanded))
+              (book k.0 k.1);
           log = log_done see.logs e tt parts.manager manager (λ n. refl) called;
           unchanged = λ q. absurd (subst IsEvent q tt);
         }))
 
-    pub hear_failed : (call : Asking.Call Xid) (a : Given.Answer Xid) (how : How) (sites : Vec (Site R) Global) (lines : Grid) (manager : Manager L) (reply : Reply Xid) → Some (call, a) ≡ slice_get (line_at parts.lines t r).answers.waiting 0 → reply ≡ Replies.Refused Refusals.LogFault
-        → a ≡ Answers.Ret (Codes.Heuristic how) → facts.up tr ≡ true → AllCrash see.look parts.sites.items sites.items → lines ≡ new_grid parts.lines.threads parts.lines.rms
-        → ((c : Call) → accepted (map_call name_of call) ≡ Some c → book_in manager ≡ book_after (book_in parts.manager) (doubt_of (facts.record_of c (map_answer name_of a))) (Failed (InHear (line t r))))
+    pub hear_failed : (call : Asking.Call Xid) (a : Given.Answer Xid) (how : How) (sites : Vec (Site R) Global) (lines : Grid)
+        (manager : Manager L) (reply : Reply Xid) → Some (call, a) ≡ slice_get (line_at parts.lines t r).answers.waiting 0
+        → reply ≡ Replies.Refused Refusals.LogFault
+        → a ≡ Answers.Ret (Codes.Heuristic how) → facts.up tr ≡ true → AllCrash see.look parts.sites.items sites.items
+        → lines ≡ new_grid parts.lines.threads parts.lines.rms
+        → ((c : Call) → accepted (map_call name_of call) ≡ Some c
+        → book_in manager ≡ book_after (book_in parts.manager) (doubt_of (facts.record_of c (map_answer name_of a))) (Failed (InHear (line t r))))
         → LogFollows see.logs tr (Failed (InHear (line t r))) parts.manager manager
-        → OneMore see (Steps.Hear t r) reply tr parts (record { alloc = parts.alloc; start = parts.start; began = parts.began; sites = sites; lines = lines; manager = manager })
+        → OneMore see (Steps.Hear t r) reply tr parts
+        (record { alloc = parts.alloc; start = parts.start; began = parts.began; sites = sites; lines = lines; manager = manager })
     hear_failed call a how sites lines manager reply first is code up did renewed book log =
         let k = heard_known call a first in
-        fail_goes tr (Steps.Hear t r) (InHear (line t r)) reply parts sites lines manager stands tt is none (k.0, how, k.2 ∙ ap (λ b. Some (k.0, map_answer name_of b)) code) refl up did renewed
+        fail_goes tr (Steps.Hear t r) (InHear (line t r)) reply parts sites lines manager stands tt is none
+        (k.0, how, k.2 ∙ ap (λ b. Some (k.0, map_answer name_of b)) code) refl up did renewed
         (book k.0 k.1 ∙ ap (λ d. book_after (book_in parts.manager) (doubt_of d) (Failed (InHear (line t r)))) (sym (ap facts.record_of_next k.2))) log
 
     -- what waits is lost or stays, as the manager tells
-    pub hear_undone : (call : Asking.Call Xid) (a : Given.Answer Xid) (n : Refusal) (sites : Vec (Site R) Global) (lines : Grid) (manager : Manager L) (reply : Reply Xid) → Some (call, a) ≡ slice_get (line_at parts.lines t r).answers.waiting 0 → reply ≡ Replies.Refused n
-        → facts.up tr ≡ true → ((c : Call) → accepted (map_call name_of call) ≡ Some c → FailsBy (doubt_of (facts.record_of c (map_answer name_of a))) (InHear (line t r)) (book_in parts.manager) (book_in manager) n)
+    pub hear_undone : (call : Asking.Call Xid) (a : Given.Answer Xid) (n : Refusal) (sites : Vec (Site R) Global) (lines : Grid)
+        (manager : Manager L) (reply : Reply Xid) → Some (call, a) ≡ slice_get (line_at parts.lines t r).answers.waiting 0 → reply ≡ Replies.Refused n
+        → facts.up tr ≡ true → ((c : Call) → accepted (map_call name_of call) ≡ Some c
+        → FailsBy (doubt_of (facts.record_of c (map_answer name_of a))) (InHear (line t r)) (book_in parts.manager) (book_in manager) n)
         → (n ≡ Refusals.LogFault → (how : How) × (a ≡ Answers.Ret (Codes.Heuristic how)))
-        → (n ≡ Refusals.LogFault → AllCrash see.look parts.sites.items sites.items) → (n ≡ Refusals.LogFault → lines ≡ new_grid parts.lines.threads parts.lines.rms)
+        → (n ≡ Refusals.LogFault → AllCrash see.look parts.sites.items sites.items)
+        → (n ≡ Refusals.LogFault → lines ≡ new_grid parts.lines.threads parts.lines.rms)
         → (n ≢ Refusals.LogFault → sites ≡ parts.sites) → (n ≢ Refusals.LogFault → lines ≡ parts.lines)
-        → ((c : Call) → accepted (map_call name_of call) ≡ Some c → LogUndone see.logs (Unit {0}) n (made (doubt_of (facts.record_of c (map_answer name_of a)))) parts.manager manager)
-        → OneMore see (Steps.Hear t r) reply tr parts (record { alloc = parts.alloc; start = parts.start; began = parts.began; sites = sites; lines = lines; manager = manager })
+        → ((c : Call) → accepted (map_call name_of call) ≡ Some c
+        → LogUndone see.logs (Unit {0}) n (made (doubt_of (facts.record_of c (map_answer name_of a)))) parts.manager manager)
+        → OneMore see (Steps.Hear t r) reply tr parts
+        (record { alloc = parts.alloc; start = parts.start; began = parts.began; sites = sites; lines = lines; manager = manager })
     hear_undone call a n sites lines manager reply first is up fails uses crash broken sites_stay lines_stay called =
         let k = heard_known call a first in
         by_cause (fails k.0 k.1)
       where
-        by_cause : ((n ≡ Refusals.Memory) × (book_in manager ≡ book_in parts.manager)) ⊎ ((n ≡ Refusals.LogFault) × (book_in manager ≡ book_after (book_in parts.manager) (doubt_of (facts.record_of (heard_known call a first).0 (map_answer name_of a))) (Failed (InHear (line t r)))))
-            → OneMore see (Steps.Hear t r) reply tr parts (record { alloc = parts.alloc; start = parts.start; began = parts.began; sites = sites; lines = lines; manager = manager })
+        by_cause : ((n ≡ Refusals.Memory) × (book_in manager ≡ book_in parts.manager))
+            ⊎ ((n ≡ Refusals.LogFault)
+            × (book_in manager ≡ book_after (book_in parts.manager) (doubt_of (facts.record_of (heard_known call a first).0 (map_answer name_of a))) (Failed (InHear (line t r)))))
+            → OneMore see (Steps.Hear t r) reply tr parts
+            (record { alloc = parts.alloc; start = parts.start; began = parts.began; sites = sites; lines = lines; manager = manager })
         by_cause (inl w) =
             let no_fault : n ≢ Refusals.LogFault = λ e. absurd (let two : Refusals.Memory ≡ Refusals.LogFault = sym w.0 ∙ e in cc) in
             subst (λ q. OneMore see (Steps.Hear t r) reply tr parts (record { alloc = parts.alloc; start = parts.start; began = parts.began; sites = q; lines = lines; manager = manager })) (sym (sites_stay no_fault))
             (subst (λ q. OneMore see (Steps.Hear t r) reply tr parts (record { alloc = parts.alloc; start = parts.start; began = parts.began; sites = parts.sites; lines = q; manager = manager })) (sym (lines_stay no_fault))
-            (hear_lacks call a manager reply first (is ∙ ap (λ m. Replies.Refused m) w.0) w.1 ((called (heard_known call a first).0 (heard_known call a first).1).kept no_fault)))
+            (hear_lacks call a manager reply first (is ∙ ap (λ m. Replies.Refused m) w.0) w.1
+            ((called (heard_known call a first).0 (heard_known call a first).1).kept no_fault)))
         by_cause (inr w) =
             hear_failed call a (uses w.0).0 sites lines manager reply first (is ∙ ap (λ m. Replies.Refused m) w.0) (uses w.0).1 up (crash w.0) (broken w.0)
             (λ c e. subst (λ d. book_in manager ≡ book_after (book_in parts.manager) (doubt_of (facts.record_of d (map_answer name_of a))) (Failed (InHear (line t r)))) (let two : Some (heard_known call a first).0 ≡ Some c = sym (heard_known call a first).1 ∙ e in some_is _ _ two) w.1)

@@ -52,7 +52,8 @@ first_append : (test : Refusal → Bool) (xs ys : List Refusal) → first_of tes
 first_append test [] ys = refl
 first_append test (x ∷ xs) ys = by_test (test x) (first_append test xs ys)
   where
-    by_test : (t : Bool) → first_of test (xs ++ ys) ≡ option_or (first_of test xs) (first_of test ys) → (if t then Some x else first_of test (xs ++ ys)) ≡ option_or (if t then Some x else first_of test xs) (first_of test ys)
+    by_test : (t : Bool) → first_of test (xs ++ ys) ≡ option_or (first_of test xs) (first_of test ys)
+        → (if t then Some x else first_of test (xs ++ ys)) ≡ option_or (if t then Some x else first_of test xs) (first_of test ys)
     by_test true e = refl
     by_test false e = e
 
@@ -80,13 +81,18 @@ module _ (tr : Trace) (t r : ℕ) (a : Asked) where
   book_of_it = first_of (applies tr (Steps.Issue t r a)) by_book
 
   abbrev tail : Option Refusal
-  tail = first_of (applies tr (Steps.Issue t r a)) (Refusals.UnknownTransaction ∷ Refusals.WrongThread ∷ Refusals.AlreadyStarted ∷ Refusals.Decided ∷ Refusals.NotDecided ∷ Refusals.Votes ∷ Refusals.Busy ∷ Refusals.Full ∷ Refusals.Script ∷ Refusals.Limit ∷ [])
+  tail = first_of (applies tr (Steps.Issue t r a))
+      (Refusals.UnknownTransaction ∷ Refusals.WrongThread ∷ Refusals.AlreadyStarted ∷ Refusals.Decided ∷ Refusals.NotDecided ∷ Refusals.Votes ∷ Refusals.Busy ∷ Refusals.Full ∷ Refusals.Script ∷ Refusals.Limit ∷ [])
 
   tail_is : tail ≡ option_or book_of_it (if nat_le 64 (waiting tr (line t r)) then Some Refusals.Full else None)
   unfolding book_of_it by_book
-  tail_is = first_append (applies tr (Steps.Issue t r a)) (Refusals.UnknownTransaction ∷ Refusals.WrongThread ∷ Refusals.AlreadyStarted ∷ Refusals.Decided ∷ Refusals.NotDecided ∷ Refusals.Votes ∷ Refusals.Busy ∷ []) (Refusals.Full ∷ Refusals.Script ∷ Refusals.Limit ∷ [])
+  tail_is =
+      first_append (applies tr (Steps.Issue t r a))
+      (Refusals.UnknownTransaction ∷ Refusals.WrongThread ∷ Refusals.AlreadyStarted ∷ Refusals.Decided ∷ Refusals.NotDecided ∷ Refusals.Votes ∷ Refusals.Busy ∷ []) (Refusals.Full ∷ Refusals.Script ∷ Refusals.Limit ∷ [])
 
-  pub issue_rule : must_refuse tr (Steps.Issue t r a) ≡ issue_why (has_thread tr t && has_rm tr r) (facts.up tr) (rm_up tr r) (bar_of (forces_not_open tr (Steps.Issue t r a)) (facts.is_closed tr (line t r))) book_of_it (nat_le 64 (waiting tr (line t r)))
+  pub issue_rule : must_refuse tr (Steps.Issue t r a)
+      ≡ issue_why (has_thread tr t && has_rm tr r) (facts.up tr) (rm_up tr r)
+      (bar_of (forces_not_open tr (Steps.Issue t r a)) (facts.is_closed tr (line t r))) book_of_it (nat_le 64 (waiting tr (line t r)))
   unfolding book_of_it by_book
   issue_rule = by_tests (has_thread tr t && has_rm tr r) (facts.up tr) (rm_up tr r) (forces_not_open tr (Steps.Issue t r a)) (facts.is_closed tr (line t r))
     where
@@ -152,7 +158,8 @@ pub issued_so : {P : Type 0} (result : Result (Unit {0}) Refusal) → result_err
 issued_so (Ok u) e p = p
 issued_so (Err n) e p = absurd (cc)
 
-issued_line : (tr : Trace) (t r : ℕ) (c : Call) (call : Asking.Call Xid) (old new : Traffic) → known_call call ≡ Some c → LineStands tr (line t r) old → new ≡ record old { calls = with_one_more old.calls call } → LineStands (Then tr (Issued (line t r) c)) (line t r) new
+issued_line : (tr : Trace) (t r : ℕ) (c : Call) (call : Asking.Call Xid) (old new : Traffic) → known_call call ≡ Some c
+    → LineStands tr (line t r) old → new ≡ record old { calls = with_one_more old.calls call } → LineStands (Then tr (Issued (line t r) c)) (line t r) new
 issued_line tr t r c call old new is stands put =
     subst (LineStands (Then tr (Issued (line t r) c)) (line t r)) (sym put)
     (line_goes_on tr (Issued (line t r) c) (line t r) old (record old { calls = with_one_more old.calls call }) (call ∷ []) [] [] stands refl
@@ -165,43 +172,68 @@ module _ {R L : Type 0} (see : Sees R L) where
       → bar_of (forces_not_open tr (Steps.Issue t r (map_call name_of call))) (facts.is_closed tr (line t r)) ≡ barred (issued (line_at parts.lines t r)) call
   same_bar tr parts t r call stands has =
       let alike = (stands.lines t r has).all_issued in
-      λ i. bar_of (sym (unopened_alike (issued (line_at parts.lines t r)) (facts.issued tr (line t r)) call alike) i) (sym (closed_alike (issued (line_at parts.lines t r)) (facts.issued tr (line t r)) alike) i)
+      λ i. bar_of (sym (unopened_alike (issued (line_at parts.lines t r)) (facts.issued tr (line t r)) call alike) i)
+      (sym (closed_alike (issued (line_at parts.lines t r)) (facts.issued tr (line t r)) alike) i)
 
-  same_book : (tr : Trace) (parts : Parts R L) (t r : ℕ) (call : Asking.Call Xid) → Stands see tr parts → (has_thread tr t && has_rm tr r) ≡ true → facts.up tr ≡ true
+  same_book : (tr : Trace) (parts : Parts R L) (t r : ℕ) (call : Asking.Call Xid) → Stands see tr parts
+      → (has_thread tr t && has_rm tr r) ≡ true → facts.up tr ≡ true
       → book_of_it tr t r (map_call name_of call) ≡ refusal_in (book_in parts.manager) (Steps.Issue t r (map_call name_of call))
-  same_book tr parts t r call stands there up = sym (book_rule tr t r (map_call name_of call) there up) ∙ sym (judged see tr parts (Steps.Issue t r (map_call name_of call)) tt stands)
+  same_book tr parts t r call stands there up =
+      sym (book_rule tr t r (map_call name_of call) there up) ∙ sym (judged see tr parts (Steps.Issue t r (map_call name_of call)) tt stands)
 
   up_is : (tr : Trace) (parts : Parts R L) → Stands see tr parts → (book_in parts.manager).up ≡ facts.up tr
   up_is tr parts stands = ap (λ (k : Book). k.up) stands.book
 
   -- the refusal, as it is found
-  pub issue_found : (tr : Trace) (parts : Parts R L) (t r : ℕ) (site : Site R) (call : Asking.Call Xid) → Stands see tr parts → (nat_lt t parts.lines.threads && nat_lt r parts.lines.rms) ≡ true → (book_in parts.manager).up ≡ true
+  pub issue_found : (tr : Trace) (parts : Parts R L) (t r : ℕ) (site : Site R) (call : Asking.Call Xid) → Stands see tr parts
+      → (nat_lt t parts.lines.threads && nat_lt r parts.lines.rms) ≡ true → (book_in parts.manager).up ≡ true
       → slice_get parts.sites.items r ≡ Some site
-      → must_refuse tr (Steps.Issue t r (map_call name_of call)) ≡ issue_why true true site.is_up (barred (issued (line_at parts.lines t r)) call) (refusal_in (book_in parts.manager) (Steps.Issue t r (map_call name_of call))) (nat_le 64 (length (line_at parts.lines t r).calls.waiting))
+      → must_refuse tr (Steps.Issue t r (map_call name_of call))
+      ≡ issue_why true true site.is_up (barred (issued (line_at parts.lines t r)) call)
+      (refusal_in (book_in parts.manager) (Steps.Issue t r (map_call name_of call))) (nat_le 64 (length (line_at parts.lines t r).calls.waiting))
   issue_found tr parts t r site call stands there up at =
       let has_tr = sym (there_is see tr parts t r stands) ∙ there in
       let has = has_line see tr parts t r stands has_tr in
       let up_tr = sym (up_is tr parts stands) ∙ up in
       let many = as_many_calls tr (line t r) (line_at parts.lines t r) (stands.lines t r has) in
-      issue_rule tr t r (map_call name_of call) ∙ λ i. issue_why (has_tr i) (up_tr i) (sym (stands.sites r site at).is_up i) (same_bar tr parts t r call stands has i) (same_book tr parts t r call stands has_tr up_tr i) (nat_le 64 (sym many i))
+      issue_rule tr t r (map_call name_of call)
+      ∙ λ i. issue_why (has_tr i) (up_tr i) (sym (stands.sites r site at).is_up i) (same_bar tr parts t r call stands has i)
+      (same_book tr parts t r call stands has_tr up_tr i) (nat_le 64 (sym many i))
 
-  pub issue_limit : (tr : Trace) (parts : Parts R L) (t r : ℕ) (call : Asking.Call Xid) → (nat_lt t parts.lines.threads && nat_lt r parts.lines.rms) ≡ false → Stands see tr parts → must_refuse tr (Steps.Issue t r (map_call name_of call)) ≡ Some Refusals.Limit
-  issue_limit tr parts t r call e stands = issue_rule tr t r (map_call name_of call) ∙ λ i. issue_why ((sym (there_is see tr parts t r stands) ∙ e) i) (facts.up tr) (rm_up tr r) (bar_of (forces_not_open tr (Steps.Issue t r (map_call name_of call))) (facts.is_closed tr (line t r))) (book_of_it tr t r (map_call name_of call)) (nat_le 64 (waiting tr (line t r)))
+  pub issue_limit : (tr : Trace) (parts : Parts R L) (t r : ℕ) (call : Asking.Call Xid)
+      → (nat_lt t parts.lines.threads && nat_lt r parts.lines.rms) ≡ false → Stands see tr parts
+      → must_refuse tr (Steps.Issue t r (map_call name_of call)) ≡ Some Refusals.Limit
+  issue_limit tr parts t r call e stands =
+      issue_rule tr t r (map_call name_of call)
+      ∙ λ i. issue_why ((sym (there_is see tr parts t r stands) ∙ e) i) (facts.up tr) (rm_up tr r)
+      (bar_of (forces_not_open tr (Steps.Issue t r (map_call name_of call))) (facts.is_closed tr (line t r)))
+      (book_of_it tr t r (map_call name_of call)) (nat_le 64 (waiting tr (line t r)))
 
-  pub issue_manager_down : (tr : Trace) (parts : Parts R L) (t r : ℕ) (call : Asking.Call Xid) → (nat_lt t parts.lines.threads && nat_lt r parts.lines.rms) ≡ true → (book_in parts.manager).up ≡ false → Stands see tr parts → must_refuse tr (Steps.Issue t r (map_call name_of call)) ≡ Some Refusals.ManagerDown
-  issue_manager_down tr parts t r call e down stands = issue_rule tr t r (map_call name_of call) ∙ λ i. issue_why ((sym (there_is see tr parts t r stands) ∙ e) i) ((sym (up_is tr parts stands) ∙ down) i) (rm_up tr r) (bar_of (forces_not_open tr (Steps.Issue t r (map_call name_of call))) (facts.is_closed tr (line t r))) (book_of_it tr t r (map_call name_of call)) (nat_le 64 (waiting tr (line t r)))
+  pub issue_manager_down : (tr : Trace) (parts : Parts R L) (t r : ℕ) (call : Asking.Call Xid)
+      → (nat_lt t parts.lines.threads && nat_lt r parts.lines.rms) ≡ true → (book_in parts.manager).up ≡ false
+      → Stands see tr parts → must_refuse tr (Steps.Issue t r (map_call name_of call)) ≡ Some Refusals.ManagerDown
+  issue_manager_down tr parts t r call e down stands =
+      issue_rule tr t r (map_call name_of call)
+      ∙ λ i. issue_why ((sym (there_is see tr parts t r stands) ∙ e) i) ((sym (up_is tr parts stands) ∙ down) i) (rm_up tr r)
+      (bar_of (forces_not_open tr (Steps.Issue t r (map_call name_of call))) (facts.is_closed tr (line t r)))
+      (book_of_it tr t r (map_call name_of call)) (nat_le 64 (waiting tr (line t r)))
 
   -- the call waits
-  pub issue_did : (parts : Parts R L) (t r : ℕ) (call : Asking.Call Xid) (site : Site R) (x : Traffic) (manager : Manager L) (reply : Reply Xid) → CallHasXid call → reply ≡ Replies.Issued → (nat_lt t parts.lines.threads && nat_lt r parts.lines.rms) ≡ true
+  pub issue_did : (parts : Parts R L) (t r : ℕ) (call : Asking.Call Xid) (site : Site R) (x : Traffic) (manager : Manager L) (reply : Reply Xid)
+      → CallHasXid call → reply ≡ Replies.Issued → (nat_lt t parts.lines.threads && nat_lt r parts.lines.rms) ≡ true
       → (book_in parts.manager).up ≡ true → refusal_in (book_in parts.manager) (Steps.Issue t r (map_call name_of call)) ≡ None
-      → ((c : Call) → accepted (map_call name_of call) ≡ Some c → book_in manager ≡ after (book_in parts.manager) (Issued (line t r) c)) → log_in manager ≡ log_in parts.manager
+      → ((c : Call) → accepted (map_call name_of call) ≡ Some c → book_in manager ≡ after (book_in parts.manager) (Issued (line t r) c))
+      → log_in manager ≡ log_in parts.manager
       → x ≡ record (line_at parts.lines t r) { calls = with_one_more (line_at parts.lines t r).calls call }
       → (tr : Trace) → Stands see tr parts → must_refuse tr (Steps.Issue t r (map_call name_of call)) ≡ None
-      → OneMore see (Steps.Issue t r call) reply tr parts (record { alloc = parts.alloc; start = parts.start; began = parts.began; sites = parts.sites; lines = with_line parts.lines t r x; manager = manager })
+      → OneMore see (Steps.Issue t r call) reply tr parts
+      (record { alloc = parts.alloc; start = parts.start; began = parts.began; sites = parts.sites; lines = with_line parts.lines t r x; manager = manager })
   issue_did parts t r call site x manager reply has_xid is there up free book same put tr stands why =
       let has_tr = sym (there_is see tr parts t r stands) ∙ there in
       let has = has_line see tr parts t r stands has_tr in
-      let known_so = known_asked tr t r (map_call name_of call) (not_unknown tr t r (map_call name_of call) (same_book tr parts t r call stands has_tr (sym (up_is tr parts stands) ∙ up) ∙ free)) in
+      let known_so =
+      known_asked tr t r (map_call name_of call)
+      (not_unknown tr t r (map_call name_of call) (same_book tr parts t r call stands has_tr (sym (up_is tr parts stands) ∙ up) ∙ free)) in
       let c = known_so.0 in
       let e = Issued (line t r) c in
       let demanded : Demanded tr (Steps.Issue t r (map_call name_of call)) Replies.Issued = As_value why refl in
@@ -215,12 +247,16 @@ module _ {R L : Type 0} (see : Sees R L) where
         fits = stands.fits;
         whole = whole-with_line parts.lines t r x stands.whole;
         count = refl;
-        sites = λ q at_q there_q. site_stays see tr e q at_q (record { quiet = record { branches = record { standing = λ b at. refl; vote = λ b at. refl; retries = λ b at. refl }; scan_stays = refl }; is_up = refl }) (stands.sites q at_q there_q);
+        sites =
+            λ q at_q there_q. site_stays see tr e q at_q
+            (record { quiet = record { branches = record { standing = λ b at. refl; vote = λ b at. refl; retries = λ b at. refl }; scan_stays = refl }; is_up = refl }) (stands.sites q at_q there_q);
         lines = lines_with (Then tr e) parts.lines t r x stands.whole has
             (issued_line tr t r c call (line_at parts.lines t r) x known_so.1 (stands.lines t r has) put)
             (λ u q has_u apart. line_stays tr e (line u q) (line_at parts.lines u q) refl (rw apart refl) refl refl (stands.lines u q has_u));
-        book = book_then see tr e parts manager stands (subst (Right tr) happens (demanded_right tr (Steps.Issue t r (map_call name_of call)) Replies.Issued demanded)) (book c known_so.1);
-        log = log_kept see.logs e parts.manager manager (λ n. refl) same (λ held h. subst (λ k. IsTied k held) (sym (book c known_so.1)) (tied_issued (book_in parts.manager) (line t r) c held h));
+        book = book_then see tr e parts manager stands
+            (subst (Right tr) happens (demanded_right tr (Steps.Issue t r (map_call name_of call)) Replies.Issued demanded)) (book c known_so.1);
+        log = log_kept see.logs e parts.manager manager (λ n. refl) same
+            (λ held h. subst (λ k. IsTied k held) (sym (book c known_so.1)) (tied_issued (book_in parts.manager) (line t r) c held h));
         unchanged = λ q. absurd (subst IsEvent q tt);
       }))
 
@@ -232,7 +268,8 @@ pub has_room_at : (free n : ℕ) → free ≡ 64 - n → free ≢ 0 → nat_le 6
 has_room_at free n is some_free = grind (arith, nat_tests)
 
 -- what a line that didn't refuse the call has
-pub line_took : (at read : Traffic) (call copied : Asking.Call Xid) (result : Result (Unit {0}) Refusal) (new : Traffic) → read ≡ at → copied ≡ call → result_err result ≡ refusal read copied
+pub line_took : (at read : Traffic) (call copied : Asking.Call Xid) (result : Result (Unit {0}) Refusal) (new : Traffic)
+    → read ≡ at → copied ≡ call → result_err result ≡ refusal read copied
     → OnOk result (new ≡ record read { calls = with_one_more read.calls copied }) → barred (issued at) call ≡ None → nat_le 64 (length at.calls.waiting) ≡ false
     → new ≡ record at { calls = with_one_more at.calls call }
 line_took at read call copied result new same copy reason accepted_so bar room =

@@ -10,8 +10,8 @@ use Rattle.xa_log.specs.Content.{Content, bumped}
 use Rattle.xa_log.specs.Contract.{Makes}
 use Rattle.xa_log.specs.KeySet.{from_list}
 use Rattle.xa_tm.specs.Book.{Book, book_of, doubt_of, row_in}
-use Rattle.xa_tm.specs.Starting.{started}
-use Rattle.xa_tm.specs.Tied.{Holds, IsTied, MayHold, SameRows, TiedBy, made}
+use Rattle.xa_tm.specs.Starting.{book_at_start}
+use Rattle.xa_tm.specs.Tied.{HoldsBook, IsTied, MayHold, SameRows, TiedBy, made}
 use Rattle.xa_system.specs.Logged.{HoldsRows, LogStands, LogStandsBy, MayHoldRows, StartsOver, changed}
 
 -- ** rows
@@ -21,7 +21,8 @@ row_in_is [] g = refl
 row_in_is (x ∷ xs) g = by (gtrid_eq x.gtrid g) (row_in_is xs g)
   where
     by : (t : Bool) → row_in xs g ≡ (if lists_row xs g then Some (from_list (participants_in xs g)) else None)
-        → (if t then Some (from_list x.participants) else row_in xs g) ≡ (if (t || lists_row xs g) then Some (from_list (if t then x.participants else participants_in xs g)) else None)
+        → (if t then Some (from_list x.participants) else row_in xs g)
+        ≡ (if (t || lists_row xs g) then Some (from_list (if t then x.participants else participants_in xs g)) else None)
     by true e = refl
     by false e = e
 
@@ -31,7 +32,7 @@ made_is (DropRow g) c = refl
 made_is (AddRecord x) c = refl
 made_is NoChange c = refl
 
-holds_rows : (tr : Trace) (c : Content) → Holds (book_of tr) c → HoldsRows tr c
+holds_rows : (tr : Trace) (c : Content) → HoldsBook (book_of tr) c → HoldsRows tr c
 holds_rows tr c holds = record {
   rows = λ g. holds.rows g ∙ row_in_is (facts.log tr) g;
   row_number = holds.row_number;
@@ -62,10 +63,12 @@ tied_stands tr held tied = by (facts.up tr) held tied
 -- ** the start
 
 -- a history whose book is that of a start over a log starts over that log
-pub starts_over : (o : Origin) (threads rms : ℕ) (handed now : Option Content) → Makes bumped handed now → IsSomeAnd now (λ c. book_of (From o) ≡ started threads rms c) → IsSomeAnd handed (StartsOver o)
+pub starts_over : (o : Origin) (threads rms : ℕ) (handed now : Option Content) → Makes bumped handed now
+    → IsSomeAnd now (λ c. book_of (From o) ≡ book_at_start threads rms c) → IsSomeAnd handed (StartsOver o)
 starts_over o threads rms None now raised book = absurd raised
 starts_over o threads rms (Some c) now raised book =
-    let is : book_of (From o) ≡ started threads rms (bumped c) = subst (λ held. IsSomeAnd held (λ d. book_of (From o) ≡ started threads rms d)) raised book in
+    let is : book_of (From o) ≡ book_at_start threads rms (bumped c) =
+    subst (λ held. IsSomeAnd held (λ d. book_of (From o) ≡ book_at_start threads rms d)) raised book in
     record {
       rows = record {
         rows = λ g. sym (ap (λ (k : Book). k.row g) is) ∙ row_in_is o.rows g;

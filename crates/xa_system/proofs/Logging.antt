@@ -22,13 +22,19 @@ IsUncounted e = (n : ℕ) → count_after e n ≡ n
 -- ** what leaves the rows alone
 
 pub tied_begun : (k : Book) (g : Gtrid) (held : Option Content) → IsTied k held → IsTied (after k (Begun g)) held
-tied_begun k g held = tied_same k (after k (Begun g)) held (record { up = refl; incarnation = refl; failed_restarts = refl; row = λ q. refl; rows = refl; recorded = λ b. refl; records = refl; doubt = refl })
+tied_begun k g held =
+    tied_same k (after k (Begun g)) held
+    (record { up = refl; incarnation = refl; failed_restarts = refl; row = λ q. refl; rows = refl; recorded = λ b. refl; records = refl; doubt = refl })
 
 pub tied_claimed : (k : Book) (g : Gtrid) (held : Option Content) → IsTied k held → IsTied (after k (Claimed g)) held
-tied_claimed k g held = tied_same k (after k (Claimed g)) held (record { up = refl; incarnation = refl; failed_restarts = refl; row = λ q. refl; rows = refl; recorded = λ b. refl; records = refl; doubt = refl })
+tied_claimed k g held =
+    tied_same k (after k (Claimed g)) held
+    (record { up = refl; incarnation = refl; failed_restarts = refl; row = λ q. refl; rows = refl; recorded = λ b. refl; records = refl; doubt = refl })
 
 pub tied_issued : (k : Book) (l : Line) (c : Call) (held : Option Content) → IsTied k held → IsTied (after k (Issued l c)) held
-tied_issued k l c held = tied_same k (after k (Issued l c)) held (record { up = refl; incarnation = refl; failed_restarts = refl; row = λ q. refl; rows = refl; recorded = λ b. refl; records = refl; doubt = refl })
+tied_issued k l c held =
+    tied_same k (after k (Issued l c)) held
+    (record { up = refl; incarnation = refl; failed_restarts = refl; row = λ q. refl; rows = refl; recorded = λ b. refl; records = refl; doubt = refl })
 
 -- no failure, nothing that may have changed
 none_failed : (tr : Trace) (e : Happening) (old new : Option Content) → IsUncounted e → MayHaveFailed tr e old new
@@ -52,7 +58,8 @@ module _ {L : Type 0} (logs : DecisionLog.Ghosts L) where
     failed = λ order honest. none_failed tr e (logs.moment (log_in old)).content (logs.moment (log_in new)).content uncounted;
   }
 
-  pub log_same_book : {tr : Trace} (e : Happening) (old new : Manager L) → IsUncounted e → log_in new ≡ log_in old → book_in new ≡ book_in old → LogFollows logs tr e old new
+  pub log_same_book : {tr : Trace} (e : Happening) (old new : Manager L) → IsUncounted e → log_in new ≡ log_in old
+      → book_in new ≡ book_in old → LogFollows logs tr e old new
   log_same_book e old new uncounted same book = log_kept e old new uncounted same (λ held h. subst (λ k. IsTied k held) (sym book) h)
 
   pub log_stays : {tr : Trace} (e : Happening) (manager : Manager L) → IsUncounted e → LogFollows logs tr e manager manager
@@ -68,13 +75,16 @@ module _ {L : Type 0} (logs : DecisionLog.Ghosts L) where
         → IsTied (book_in old) (logs.moment (log_in old)).content
         → (logs.moment (log_in new)).fault_count ≡ faults_by result (logs.moment (log_in old)).fault_count
 
-  pub log_called : {A : Type 0} (change : Content → Content) (result : Result A Refusal) (old new : Manager L) → AsksFor change (logs.moment (log_in old)) (logs.moment (log_in new)) result
-      → ((logs.moment (log_in old)).is_in_order → (logs.moment (log_in new)).is_honest → IsTied (book_in old) (logs.moment (log_in old)).content → IsTied (book_in new) (logs.moment (log_in new)).content)
+  pub log_called : {A : Type 0} (change : Content → Content) (result : Result A Refusal) (old new : Manager L)
+      → AsksFor change (logs.moment (log_in old)) (logs.moment (log_in new)) result
+      → ((logs.moment (log_in old)).is_in_order → (logs.moment (log_in new)).is_honest
+      → IsTied (book_in old) (logs.moment (log_in old)).content → IsTied (book_in new) (logs.moment (log_in new)).content)
       → LogCalled result old new
   log_called change result old new asks tied = record { order = asks.order; honest = asks.honest; tied = tied; faults = λ order honest h. asks.faults }
 
   -- it did what it was to do
-  pub log_done : {A : Type 0} {tr : Trace} (e : Happening) (x : A) (old new : Manager L) → IsUncounted e → LogCalled (let y : Result A Refusal = Ok x in y) old new → LogFollows logs tr e old new
+  pub log_done : {A : Type 0} {tr : Trace} (e : Happening) (x : A) (old new : Manager L) → IsUncounted e
+      → LogCalled (let y : Result A Refusal = Ok x in y) old new → LogFollows logs tr e old new
   log_done {tr = tr} e x old new uncounted did = record {
     order = did.order;
     honest = did.honest;
@@ -90,8 +100,10 @@ module _ {L : Type 0} (logs : DecisionLog.Ghosts L) where
     pub failed : n ≡ Refusals.LogFault → (logs.moment (log_in old)).is_in_order → (logs.moment (log_in new)).is_honest
         → MayMake change (logs.moment (log_in old)).content (logs.moment (log_in new)).content
 
-  pub log_undone : {A : Type 0} (n : Refusal) (change : Content → Content) (old new : Manager L) → AsksFor change (logs.moment (log_in old)) (logs.moment (log_in new)) (let y : Result A Refusal = Err n in y)
-      → ((logs.moment (log_in old)).is_in_order → (logs.moment (log_in new)).is_honest → IsTied (book_in old) (logs.moment (log_in old)).content → IsTied (book_in new) (logs.moment (log_in new)).content)
+  pub log_undone : {A : Type 0} (n : Refusal) (change : Content → Content) (old new : Manager L)
+      → AsksFor change (logs.moment (log_in old)) (logs.moment (log_in new)) (let y : Result A Refusal = Err n in y)
+      → ((logs.moment (log_in old)).is_in_order → (logs.moment (log_in new)).is_honest
+      → IsTied (book_in old) (logs.moment (log_in old)).content → IsTied (book_in new) (logs.moment (log_in new)).content)
       → (n ≢ Refusals.LogFault → log_in new ≡ log_in old) → LogUndone A n change old new
   log_undone {A = A} n change old new asks tied kept = record {
     called = log_called change _ old new asks tied;
@@ -99,11 +111,14 @@ module _ {L : Type 0} (logs : DecisionLog.Ghosts L) where
     failed = λ is order honest. asks.fault order (ap (λ (m : Refusal). let y : Result A Refusal = Err m in y) is);
   }
 
-  pub log_failing : {A : Type 0} {tr : Trace} (f : Fault) (n : Refusal) (old new : Manager L) → n ≡ Refusals.LogFault → LogUndone A n (change_in tr f) old new → LogFollows logs tr (Failed f) old new
+  pub log_failing : {A : Type 0} {tr : Trace} (f : Fault) (n : Refusal) (old new : Manager L) → n ≡ Refusals.LogFault
+      → LogUndone A n (change_in tr f) old new → LogFollows logs tr (Failed f) old new
   log_failing {A = A} f n old new is did = record {
     order = did.called.order;
     honest = did.called.honest;
     tied = did.called.tied;
-    counted = λ order honest h. did.called.faults order honest h ∙ ap (λ m. faults_by (let x : Result A Refusal = Err m in x) (logs.moment (log_in old)).fault_count) is;
+    counted =
+        λ order honest h. did.called.faults order honest h
+        ∙ ap (λ m. faults_by (let x : Result A Refusal = Err m in x) (logs.moment (log_in old)).fault_count) is;
     failed = did.failed is;
   }

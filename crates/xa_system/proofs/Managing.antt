@@ -50,7 +50,8 @@ pub not_fault : (n : Refusal) → IsForced n → n ≢ Refusals.LogFault
 not_fault n f e = subst IsForced e f
 
 -- a call in which the log wasn't asked fails for want of memory
-pub only_memory : (asked : Doubt) (f : Fault) {old new : Book} {n : Refusal} → FailsBy asked f old new n → (n ≡ Refusals.LogFault → ⊥) → (n ≡ Refusals.Memory) × (new ≡ old)
+pub only_memory : (asked : Doubt) (f : Fault) {old new : Book} {n : Refusal} → FailsBy asked f old new n
+    → (n ≡ Refusals.LogFault → ⊥) → (n ≡ Refusals.Memory) × (new ≡ old)
 only_memory asked f (inl w) never = w
 only_memory asked f (inr w) never = absurd (never w.0)
 
@@ -64,11 +65,13 @@ module _ {R L : Type 0} (see : Sees R L) where
   sound_book parts at = subst IsSound (sym at.1.book) (book_is_sound at.0 (within at.0 parts at.1 at.2) at.1.began at.1.room)
 
   -- what the manager would refuse, the history does
-  pub judged : (tr : Trace) (parts : Parts R L) (s : known.Step) → IsLookedAt s → Stands see tr parts → refusal_in (book_in parts.manager) s ≡ managers_refusal tr s
+  pub judged : (tr : Trace) (parts : Parts R L) (s : known.Step) → IsLookedAt s → Stands see tr parts
+      → refusal_in (book_in parts.manager) s ≡ managers_refusal tr s
   judged tr parts s looked stands = ap (λ k. refusal_in k s) stands.book ∙ refusal_is tr s stands.kept.right looked
 
   -- the book of one happening more
-  pub book_then : (tr : Trace) (e : Happening) (parts : Parts R L) (manager : Manager L) → Stands see tr parts → Right tr e → book_in manager ≡ book_after (book_in parts.manager) (asked_in tr e) e → book_in manager ≡ book_of (Then tr e)
+  pub book_then : (tr : Trace) (e : Happening) (parts : Parts R L) (manager : Manager L) → Stands see tr parts → Right tr e
+      → book_in manager ≡ book_after (book_in parts.manager) (asked_in tr e) e → book_in manager ≡ book_of (Then tr e)
   book_then tr e parts manager stands right is =
       is ∙ ap (λ k. book_after k (asked_in tr e) e) stands.book ∙ sym (right_book tr e stands.kept.right right stands.apart)
 
@@ -84,9 +87,11 @@ module _ {R L : Type 0} (see : Sees R L) where
 
   -- the parts with another manager
   abbrev pub with_manager : Parts R L → Manager L → Parts R L
-  with_manager parts manager = record { alloc = parts.alloc; start = parts.start; began = parts.began; sites = parts.sites; lines = parts.lines; manager = manager }
+  with_manager parts manager =
+      record { alloc = parts.alloc; start = parts.start; began = parts.began; sites = parts.sites; lines = parts.lines; manager = manager }
 
-  pub own_follows : (tr : Trace) (e : Happening) (parts : Parts R L) (manager : Manager L) → IsOwn tr e → Stands see tr parts → book_in manager ≡ book_of (Then tr e)
+  pub own_follows : (tr : Trace) (e : Happening) (parts : Parts R L) (manager : Manager L) → IsOwn tr e → Stands see tr parts
+      → book_in manager ≡ book_of (Then tr e)
       → LogFollows see.logs tr e parts.manager manager → Follows see tr e parts (with_manager parts manager)
   own_follows tr e parts manager own stands book log = record {
     start = refl;
@@ -97,7 +102,9 @@ module _ {R L : Type 0} (see : Sees R L) where
     count = refl;
     fits = own.fits stands.fits;
     sites = λ r site at. site_stays see tr e r site (own.sites r) (stands.sites r site at);
-    lines = λ t r has. line_stays tr e (line t r) (line_at parts.lines t r) (own.unbroken t r) (own.calls t r) (own.taken t r) (own.heard t r) (stands.lines t r has);
+    lines =
+        λ t r has. line_stays tr e (line t r) (line_at parts.lines t r) (own.unbroken t r) (own.calls t r) (own.taken t r) (own.heard t r)
+        (stands.lines t r has);
     book = book;
     log = log;
     unchanged = λ q. absurd (subst IsEvent q own.event);
@@ -106,31 +113,39 @@ module _ {R L : Type 0} (see : Sees R L) where
   -- ** steps of the manager alone
 
   -- it did the step
-  pub did_goes : (tr : Trace) (step : Step Xid) (reply : Reply Xid) (seen : known.Reply) (parts : Parts R L) (manager : Manager L) → Stands see tr parts → StepHasXids step → IsLookedAt (step_of step) → reply_of reply ≡ seen
-      → managers_refusal tr (step_of step) ≡ must_refuse tr (step_of step) → refusal_in (book_in parts.manager) (step_of step) ≡ None → IsValue tr (step_of step) seen
-      → IsOwn tr (happened (step_of step) seen) → asked_in tr (happened (step_of step) seen) ≡ Doubt.Settled → book_in manager ≡ after (book_in parts.manager) (happened (step_of step) seen)
+  pub did_goes : (tr : Trace) (step : Step Xid) (reply : Reply Xid) (seen : known.Reply) (parts : Parts R L) (manager : Manager L)
+      → Stands see tr parts → StepHasXids step → IsLookedAt (step_of step) → reply_of reply ≡ seen
+      → managers_refusal tr (step_of step) ≡ must_refuse tr (step_of step)
+      → refusal_in (book_in parts.manager) (step_of step) ≡ None → IsValue tr (step_of step) seen
+      → IsOwn tr (happened (step_of step) seen) → asked_in tr (happened (step_of step) seen) ≡ Doubt.Settled
+      → book_in manager ≡ after (book_in parts.manager) (happened (step_of step) seen)
       → LogFollows see.logs tr (happened (step_of step) seen) parts.manager manager
       → OneMore see step reply tr parts (with_manager parts manager)
   did_goes tr step reply seen parts manager stands has looked is same none value own asked book log =
       let demanded = As_value (sym same ∙ sym (judged tr parts (step_of step) looked stands) ∙ none) value in
       let e = happened (step_of step) seen in
       goes_as see tr step reply seen parts (with_manager parts manager) stands has is demanded
-      (own_follows tr e parts manager own stands (book_then tr e parts manager stands (demanded_right tr (step_of step) seen demanded) (book ∙ ap (λ d. book_after (book_in parts.manager) d e) (sym asked))) log)
+      (own_follows tr e parts manager own stands
+      (book_then tr e parts manager stands (demanded_right tr (step_of step) seen demanded)
+      (book ∙ ap (λ d. book_after (book_in parts.manager) d e) (sym asked))) log)
 
   -- it refused the step by a rule, or memory was refused to it
-  pub refused_or_lacking : (tr : Trace) (step : Step Xid) (reply : Reply Xid) (parts : Parts R L) (manager : Manager L) (n : Refusal) → Stands see tr parts → StepHasXids step → IsLookedAt (step_of step) → reply ≡ Replies.Refused n
+  pub refused_or_lacking : (tr : Trace) (step : Step Xid) (reply : Reply Xid) (parts : Parts R L) (manager : Manager L) (n : Refusal)
+      → Stands see tr parts → StepHasXids step → IsLookedAt (step_of step) → reply ≡ Replies.Refused n
       → managers_refusal tr (step_of step) ≡ must_refuse tr (step_of step) → MayLackMemory tr (step_of step)
       → ((m : Refusal) → refusal_in (book_in parts.manager) (step_of step) ≡ Some m → (m ≡ n) × (book_in manager ≡ book_in parts.manager))
       → (refusal_in (book_in parts.manager) (step_of step) ≡ None → (n ≡ Refusals.Memory) × (book_in manager ≡ book_in parts.manager))
       → (n ≢ Refusals.LogFault → log_in manager ≡ log_in parts.manager)
       → OneMore see step reply tr parts (with_manager parts manager)
-  refused_or_lacking tr step reply parts manager n stands has looked is same may refused lacking log = by_rule (refusal_in (book_in parts.manager) (step_of step)) refl
+  refused_or_lacking tr step reply parts manager n stands has looked is same may refused lacking log =
+      by_rule (refusal_in (book_in parts.manager) (step_of step)) refl
     where
       why : (o : Option Refusal) → refusal_in (book_in parts.manager) (step_of step) ≡ o → must_refuse tr (step_of step) ≡ o
       why o e = sym same ∙ sym (judged tr parts (step_of step) looked stands) ∙ e
 
       by_rule : (o : Option Refusal) → refusal_in (book_in parts.manager) (step_of step) ≡ o → OneMore see step reply tr parts (with_manager parts manager)
-      by_rule (Some m) e = rule_goes see tr step reply parts manager m stands has (is ∙ ap (λ k. Replies.Refused k) (sym (refused m e).0)) (why (Some m) e) (refused m e).1
+      by_rule (Some m) e =
+          rule_goes see tr step reply parts manager m stands has (is ∙ ap (λ k. Replies.Refused k) (sym (refused m e).0)) (why (Some m) e) (refused m e).1
           (log (not_fault n (subst IsForced (refused m e).0 (forced tr (step_of step) m (why (Some m) e)))))
       by_rule None e = lacking_goes see tr step parts manager reply stands has (is ∙ ap (λ k. Replies.Refused k) (lacking e).0) (why None e) may (lacking e).1
           (log (λ q. absurd (let two : Refusals.Memory ≡ Refusals.LogFault = sym (lacking e).0 ∙ q in cc)))
@@ -138,65 +153,87 @@ module _ {R L : Type 0} (see : Sees R L) where
   -- ** its happenings
 
   pub own_begun : (tr : Trace) (g : Gtrid) → IsOwn tr (Begun g)
-  own_begun tr g = record { sites = λ r. record { quiet = record { branches = record { standing = λ b at. refl; vote = λ b at. refl; retries = λ b at. refl }; scan_stays = refl }; is_up = refl }; unbroken = λ t r. refl; calls = λ t r. refl; taken = λ t r. refl; heard = λ t r. refl; fits = λ h. h; event = tt }
+  own_begun tr g =
+      record { sites = λ r. record { quiet = record { branches = record { standing = λ b at. refl; vote = λ b at. refl; retries = λ b at. refl }; scan_stays = refl }; is_up = refl }; unbroken = λ t r. refl; calls = λ t r. refl; taken = λ t r. refl; heard = λ t r. refl; fits = λ h. h; event = tt }
 
   pub own_claimed : (tr : Trace) (g : Gtrid) → IsOwn tr (Claimed g)
-  own_claimed tr g = record { sites = λ r. record { quiet = record { branches = record { standing = λ b at. refl; vote = λ b at. refl; retries = λ b at. refl }; scan_stays = refl }; is_up = refl }; unbroken = λ t r. refl; calls = λ t r. refl; taken = λ t r. refl; heard = λ t r. refl; fits = λ h. h; event = tt }
+  own_claimed tr g =
+      record { sites = λ r. record { quiet = record { branches = record { standing = λ b at. refl; vote = λ b at. refl; retries = λ b at. refl }; scan_stays = refl }; is_up = refl }; unbroken = λ t r. refl; calls = λ t r. refl; taken = λ t r. refl; heard = λ t r. refl; fits = λ h. h; event = tt }
 
   pub own_decided : (tr : Trace) (g : Gtrid) (o : Outcome) → IsOwn tr (Decided g o)
-  own_decided tr g o = record { sites = λ r. record { quiet = record { branches = record { standing = λ b at. refl; vote = λ b at. refl; retries = λ b at. refl }; scan_stays = refl }; is_up = refl }; unbroken = λ t r. refl; calls = λ t r. refl; taken = λ t r. refl; heard = λ t r. refl; fits = λ h. h; event = tt }
+  own_decided tr g o =
+      record { sites = λ r. record { quiet = record { branches = record { standing = λ b at. refl; vote = λ b at. refl; retries = λ b at. refl }; scan_stays = refl }; is_up = refl }; unbroken = λ t r. refl; calls = λ t r. refl; taken = λ t r. refl; heard = λ t r. refl; fits = λ h. h; event = tt }
 
   pub own_done : (tr : Trace) (g : Gtrid) → IsOwn tr (Done g)
-  own_done tr g = record { sites = λ r. record { quiet = record { branches = record { standing = λ b at. refl; vote = λ b at. refl; retries = λ b at. refl }; scan_stays = refl }; is_up = refl }; unbroken = λ t r. refl; calls = λ t r. refl; taken = λ t r. refl; heard = λ t r. refl; fits = λ h. h; event = tt }
+  own_done tr g =
+      record { sites = λ r. record { quiet = record { branches = record { standing = λ b at. refl; vote = λ b at. refl; retries = λ b at. refl }; scan_stays = refl }; is_up = refl }; unbroken = λ t r. refl; calls = λ t r. refl; taken = λ t r. refl; heard = λ t r. refl; fits = λ h. h; event = tt }
 
   -- a Begin
-  pub begin_did : (parts : Parts R L) (manager : Manager L) (t : ℕ) (g : Gtrid) (reply : Reply Xid) → reply ≡ Replies.Begun g → refusal_in (book_in parts.manager) (Steps.Begin t) ≡ None
-      → g ≡ record { incarnation = (book_in parts.manager).incarnation; sequence = (book_in parts.manager).sequence + 1 } → book_in manager ≡ after (book_in parts.manager) (Begun g)
+  pub begin_did : (parts : Parts R L) (manager : Manager L) (t : ℕ) (g : Gtrid) (reply : Reply Xid) → reply ≡ Replies.Begun g
+      → refusal_in (book_in parts.manager) (Steps.Begin t) ≡ None
+      → g ≡ record { incarnation = (book_in parts.manager).incarnation; sequence = (book_in parts.manager).sequence + 1 }
+      → book_in manager ≡ after (book_in parts.manager) (Begun g)
       → log_in manager ≡ log_in parts.manager → GoesOn see (Steps.Begin t) reply parts (with_manager parts manager)
   begin_did parts manager t g reply is none next book log tr stands few =
       did_goes tr (Steps.Begin t) reply (Replies.Begun g) parts manager stands tt tt (ap reply_of is) refl none
-      (ap (λ h. Replies.Begun h) (next ∙ ap (λ (k : Book). record { incarnation = k.incarnation; sequence = k.sequence + 1 }) stands.book)) (own_begun tr g) refl book
-      (log_kept see.logs (Begun g) parts.manager manager (λ k. refl) log (λ held h. subst (λ k. IsTied k held) (sym book) (tied_begun (book_in parts.manager) g held h)))
+      (ap (λ h. Replies.Begun h) (next ∙ ap (λ (k : Book). record { incarnation = k.incarnation; sequence = k.sequence + 1 }) stands.book))
+      (own_begun tr g) refl book
+      (log_kept see.logs (Begun g) parts.manager manager (λ k. refl) log
+      (λ held h. subst (λ k. IsTied k held) (sym book) (tied_begun (book_in parts.manager) g held h)))
 
   -- a refusal of the manager, or want of memory
-  pub manager_refused : {A : Type 0} (step : Step Xid) (parts : Parts R L) (manager : Manager L) (n : Refusal) (reply : Reply Xid) → StepHasXids step → IsLookedAt (step_of step) → ((tr : Trace) → managers_refusal tr (step_of step) ≡ must_refuse tr (step_of step))
+  pub manager_refused : {A : Type 0} (step : Step Xid) (parts : Parts R L) (manager : Manager L) (n : Refusal) (reply : Reply Xid)
+      → StepHasXids step → IsLookedAt (step_of step) → ((tr : Trace) → managers_refusal tr (step_of step) ≡ must_refuse tr (step_of step))
       → ((tr : Trace) → MayLackMemory tr (step_of step)) → reply ≡ Replies.Refused n
-      → ((m : Refusal) → refusal_in (book_in parts.manager) (step_of step) ≡ Some m → ((let x : Result A Refusal = Err n in x) ≡ Err m) × (manager ≡ parts.manager))
+      → ((m : Refusal) → refusal_in (book_in parts.manager) (step_of step) ≡ Some m
+      → ((let x : Result A Refusal = Err n in x) ≡ Err m) × (manager ≡ parts.manager))
       → (refusal_in (book_in parts.manager) (step_of step) ≡ None → (n ≡ Refusals.Memory) × (book_in manager ≡ book_in parts.manager))
       → (n ≢ Refusals.LogFault → log_in manager ≡ log_in parts.manager)
       → GoesOn see step reply parts (with_manager parts manager)
   manager_refused step parts manager n reply has looked same may is refused lacking log tr stands few =
-      refused_or_lacking tr step reply parts manager n stands has looked is (same tr) (may tr) (λ m e. (sym (err_is n m (refused m e).0), ap book_in (refused m e).1)) lacking log
+      refused_or_lacking tr step reply parts manager n stands has looked is (same tr) (may tr)
+      (λ m e. (sym (err_is n m (refused m e).0), ap book_in (refused m e).1)) lacking log
 
   -- a Claim and an Abandon
-  pub claim_did : (parts : Parts R L) (manager : Manager L) (g : Gtrid) (reply : Reply Xid) → reply ≡ Replies.Claimed → refusal_in (book_in parts.manager) (Steps.Claim g) ≡ None
-      → book_in manager ≡ after (book_in parts.manager) (Claimed g) → log_in manager ≡ log_in parts.manager → GoesOn see (Steps.Claim g) reply parts (with_manager parts manager)
+  pub claim_did : (parts : Parts R L) (manager : Manager L) (g : Gtrid) (reply : Reply Xid) → reply ≡ Replies.Claimed
+      → refusal_in (book_in parts.manager) (Steps.Claim g) ≡ None
+      → book_in manager ≡ after (book_in parts.manager) (Claimed g) → log_in manager ≡ log_in parts.manager
+      → GoesOn see (Steps.Claim g) reply parts (with_manager parts manager)
   claim_did parts manager g reply is none book log tr stands few =
       did_goes tr (Steps.Claim g) reply Replies.Claimed parts manager stands tt tt (ap reply_of is) refl none refl (own_claimed tr g) refl book
-      (log_kept see.logs (Claimed g) parts.manager manager (λ k. refl) log (λ held h. subst (λ k. IsTied k held) (sym book) (tied_claimed (book_in parts.manager) g held h)))
+      (log_kept see.logs (Claimed g) parts.manager manager (λ k. refl) log
+      (λ held h. subst (λ k. IsTied k held) (sym book) (tied_claimed (book_in parts.manager) g held h)))
 
-  pub abandon_did : (parts : Parts R L) (manager : Manager L) (g : Gtrid) (reply : Reply Xid) → reply ≡ Replies.Decided → refusal_in (book_in parts.manager) (Steps.Abandon g) ≡ None
-      → book_in manager ≡ after (book_in parts.manager) (Decided g Outcomes.Rollback) → LogCalled see.logs (let x : Result (Unit {0}) Refusal = Ok tt in x) parts.manager manager
+  pub abandon_did : (parts : Parts R L) (manager : Manager L) (g : Gtrid) (reply : Reply Xid) → reply ≡ Replies.Decided
+      → refusal_in (book_in parts.manager) (Steps.Abandon g) ≡ None
+      → book_in manager ≡ after (book_in parts.manager) (Decided g Outcomes.Rollback)
+      → LogCalled see.logs (let x : Result (Unit {0}) Refusal = Ok tt in x) parts.manager manager
       → GoesOn see (Steps.Abandon g) reply parts (with_manager parts manager)
   abandon_did parts manager g reply is none book did tr stands few =
-      did_goes tr (Steps.Abandon g) reply Replies.Decided parts manager stands tt tt (ap reply_of is) refl none refl (own_decided tr g Outcomes.Rollback) refl book
+      did_goes tr (Steps.Abandon g) reply Replies.Decided parts manager stands tt tt (ap reply_of is) refl none refl
+      (own_decided tr g Outcomes.Rollback) refl book
       (log_done see.logs (Decided g Outcomes.Rollback) tt parts.manager manager (λ k. refl) did)
 
-  pub decide_did : (parts : Parts R L) (manager : Manager L) (g : Gtrid) (o : Outcome) (reply : Reply Xid) → reply ≡ Replies.Decided → refusal_in (book_in parts.manager) (Steps.Decide g o) ≡ None
-      → book_in manager ≡ after (book_in parts.manager) (Decided g o) → LogCalled see.logs (let x : Result (Unit {0}) Refusal = Ok tt in x) parts.manager manager
+  pub decide_did : (parts : Parts R L) (manager : Manager L) (g : Gtrid) (o : Outcome) (reply : Reply Xid)
+      → reply ≡ Replies.Decided → refusal_in (book_in parts.manager) (Steps.Decide g o) ≡ None
+      → book_in manager ≡ after (book_in parts.manager) (Decided g o)
+      → LogCalled see.logs (let x : Result (Unit {0}) Refusal = Ok tt in x) parts.manager manager
       → GoesOn see (Steps.Decide g o) reply parts (with_manager parts manager)
   decide_did parts manager g o reply is none book did tr stands few =
       did_goes tr (Steps.Decide g o) reply Replies.Decided parts manager stands tt tt (ap reply_of is) refl none refl (own_decided tr g o) refl book
       (log_done see.logs (Decided g o) tt parts.manager manager (λ k. refl) did)
 
-  pub settle_did : (parts : Parts R L) (manager : Manager L) (g : Gtrid) (reply : Reply Xid) → reply ≡ Replies.Decided → refusal_in (book_in parts.manager) (Steps.Settle g) ≡ None
-      → book_in manager ≡ after (book_in parts.manager) (Decided g Outcomes.Commit) → LogCalled see.logs (let x : Result (Unit {0}) Refusal = Ok tt in x) parts.manager manager
+  pub settle_did : (parts : Parts R L) (manager : Manager L) (g : Gtrid) (reply : Reply Xid) → reply ≡ Replies.Decided
+      → refusal_in (book_in parts.manager) (Steps.Settle g) ≡ None
+      → book_in manager ≡ after (book_in parts.manager) (Decided g Outcomes.Commit)
+      → LogCalled see.logs (let x : Result (Unit {0}) Refusal = Ok tt in x) parts.manager manager
       → GoesOn see (Steps.Settle g) reply parts (with_manager parts manager)
   settle_did parts manager g reply is none book did tr stands few =
       did_goes tr (Steps.Settle g) reply Replies.Decided parts manager stands tt tt (ap reply_of is) refl none refl (own_decided tr g Outcomes.Commit) refl book
       (log_done see.logs (Decided g Outcomes.Commit) tt parts.manager manager (λ k. refl) did)
 
-  pub done_did : (parts : Parts R L) (manager : Manager L) (g : Gtrid) (reply : Reply Xid) → reply ≡ Replies.Noted → refusal_in (book_in parts.manager) (Steps.Done g) ≡ None
+  pub done_did : (parts : Parts R L) (manager : Manager L) (g : Gtrid) (reply : Reply Xid) → reply ≡ Replies.Noted
+      → refusal_in (book_in parts.manager) (Steps.Done g) ≡ None
       → book_in manager ≡ after (book_in parts.manager) (Done g) → LogCalled see.logs (let x : Result (Unit {0}) Refusal = Ok tt in x) parts.manager manager
       → GoesOn see (Steps.Done g) reply parts (with_manager parts manager)
   done_did parts manager g reply is none book did tr stands few =

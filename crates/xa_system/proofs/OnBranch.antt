@@ -54,7 +54,8 @@ on_home l OnePhase b h = h
 on_home l Rollback b h = h
 on_home l Forget b h = h
 
-pub answers_on : (tr : Trace) (l : Line) (k : Kind) (b : Branch) (a : Answer) → a ≡ Ret (answer k (state_of (facts.standing tr b)) (facts.vote tr b) (facts.retries tr b)) → RightAnswer tr l (on k b) a
+pub answers_on : (tr : Trace) (l : Line) (k : Kind) (b : Branch) (a : Answer)
+    → a ≡ Ret (answer k (state_of (facts.standing tr b)) (facts.vote tr b) (facts.retries tr b)) → RightAnswer tr l (on k b) a
 answers_on tr l Start b a e = e
 answers_on tr l Join b a e = e
 answers_on tr l (End f) b a e = e
@@ -81,7 +82,8 @@ standing_on tr l k c b code t e =
     ap (λ o. moved_by o code b (facts.standing tr b)) (asks_on k c) ∙ ap (λ u. if u then moved (facts.standing tr b) k code else facts.standing tr b) e
 
 -- a call on no branch moves none
-pub standing_none : (tr : Trace) (l : Line) (c : Call) (a : Answer) (b : Branch) → asks_of c ≡ None → facts.standing (Then tr (Took l c a)) b ≡ facts.standing tr b
+pub standing_none : (tr : Trace) (l : Line) (c : Call) (a : Answer) (b : Branch) → asks_of c ≡ None
+    → facts.standing (Then tr (Took l c a)) b ≡ facts.standing tr b
 standing_none tr l c (Ret code) b e = ap (λ o. moved_by o code b (facts.standing tr b)) e
 standing_none tr l c (Page names) b e = refl
 
@@ -175,5 +177,6 @@ closed_alike (c ∷ cs) (k ∷ ks) e =
     let rest : map known cs ≡ map Some ks = cc in
     λ i. (sym (closes_named c) ∙ closes_known (map_call name_of c) k first) i || closed_alike cs ks rest i
 
-pub unopened_alike : (calls : List (Asking.Call Xid)) (ks : List Call) (c : Asking.Call Xid) → map known calls ≡ map Some ks → comes_unopened calls c ≡ comes_unopened ks (map_call name_of c)
+pub unopened_alike : (calls : List (Asking.Call Xid)) (ks : List Call) (c : Asking.Call Xid) → map known calls ≡ map Some ks
+    → comes_unopened calls c ≡ comes_unopened ks (map_call name_of c)
 unopened_alike calls ks c e = λ i. not (sym (opens_named c) i) && not (opened_alike calls ks e i)

@@ -25,19 +25,25 @@ module _ (tr : Trace) (r : ℕ) (count : ℤ) (start end : Bool) where
   same_refused Refusals.LogFault = refl
   same_refused n = refl
 
-  same_demanded : (reply : known.Reply) → has_thread tr 0 ≡ true → Demanded tr (Steps.Issue 0 r (Calls.Recover count start end)) reply → Demanded tr (Steps.Recover r count start end) reply
+  same_demanded : (reply : known.Reply) → has_thread tr 0 ≡ true
+      → Demanded tr (Steps.Issue 0 r (Calls.Recover count start end)) reply → Demanded tr (Steps.Recover r count start end) reply
   same_demanded reply there (By_rule n e q) = By_rule n (sym (same_rule there) ∙ e) q
   same_demanded reply there (As_value e v) = As_value (sym (same_rule there) ∙ e) v
   same_demanded reply there (For_memory e m q) = For_memory (sym (same_rule there) ∙ e) tt q
   same_demanded reply there (For_log e u q) = absurd u
 
-  same_happening : (reply : known.Reply) → Demanded tr (Steps.Issue 0 r (Calls.Recover count start end)) reply → happened (Steps.Issue 0 r (Calls.Recover count start end)) reply ≡ happened (Steps.Recover r count start end) reply
-  same_happening reply (By_rule n e q) = ap (happened (Steps.Issue 0 r (Calls.Recover count start end))) q ∙ same_refused n ∙ sym (ap (happened (Steps.Recover r count start end)) q)
-  same_happening reply (As_value e v) = ap (happened (Steps.Issue 0 r (Calls.Recover count start end))) v ∙ sym (ap (happened (Steps.Recover r count start end)) v)
-  same_happening reply (For_memory e m q) = ap (happened (Steps.Issue 0 r (Calls.Recover count start end))) q ∙ sym (ap (happened (Steps.Recover r count start end)) q)
+  same_happening : (reply : known.Reply) → Demanded tr (Steps.Issue 0 r (Calls.Recover count start end)) reply
+      → happened (Steps.Issue 0 r (Calls.Recover count start end)) reply ≡ happened (Steps.Recover r count start end) reply
+  same_happening reply (By_rule n e q) =
+      ap (happened (Steps.Issue 0 r (Calls.Recover count start end))) q ∙ same_refused n ∙ sym (ap (happened (Steps.Recover r count start end)) q)
+  same_happening reply (As_value e v) =
+      ap (happened (Steps.Issue 0 r (Calls.Recover count start end))) v ∙ sym (ap (happened (Steps.Recover r count start end)) v)
+  same_happening reply (For_memory e m q) =
+      ap (happened (Steps.Issue 0 r (Calls.Recover count start end))) q ∙ sym (ap (happened (Steps.Recover r count start end)) q)
   same_happening reply (For_log e u q) = absurd u
 
-pub recover_goes : {R L : Type 0} (see : Sees R L) (r : ℕ) (count : ℤ) (start end : Bool) (reply : Reply Xid) (old new : Parts R L) → GoesOn see (Steps.Issue 0 r (Calls.Recover count start end)) reply old new → GoesOn see (Steps.Recover r count start end) reply old new
+pub recover_goes : {R L : Type 0} (see : Sees R L) (r : ℕ) (count : ℤ) (start end : Bool) (reply : Reply Xid) (old new : Parts R L)
+    → GoesOn see (Steps.Issue 0 r (Calls.Recover count start end)) reply old new → GoesOn see (Steps.Recover r count start end) reply old new
 recover_goes see r count start end reply old new goes tr stands few =
     let one = goes tr stands few in
     let there = lt-ltb 0 _ stands.some_thread in

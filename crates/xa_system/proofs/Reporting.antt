@@ -72,7 +72,8 @@ goes : (g : Branch → Xid × Fate) (bs : List Branch) (b : Branch) → is_among
 goes g [] b is = absurd (cc)
 goes g (c ∷ cs) b is = by (eq_by_cmp branch_cmp b c) refl is (goes g cs b)
   where
-    by : (t : Bool) → eq_by_cmp branch_cmp b c ≡ t → (t || is_among b cs) ≡ true → (is_among b cs ≡ true → Contains (map g cs) (g b)) → Contains (map g (c ∷ cs)) (g b)
+    by : (t : Bool) → eq_by_cmp branch_cmp b c ≡ t → (t || is_among b cs) ≡ true
+        → (is_among b cs ≡ true → Contains (map g cs) (g b)) → Contains (map g (c ∷ cs)) (g b)
     by true same s rest = (0, omega arith, ap g (sym (same_branch b c same)))
     by false apart s rest = let at = rest s in (suc at.0, omega (arith, at.1), at.2)
 
@@ -115,7 +116,8 @@ still_below : (tr : Trace) (b : Branch) (bs : List Branch) → IsBranch b → Al
 still_below tr b [] fits all below = tt
 still_below tr b (c ∷ cs) fits all below = (branch_order b c fits all.0 ∙ below.0, still_below tr b cs fits all.1 below.1)
 
-pub in_order : (tr : Trace) (bs : List Branch) → AllByRecursion IsBranch bs → IsStrictlySortedBy branch_cmp bs → IsStrictlySortedBy xid_cmp (keys_of (map (reported tr) bs))
+pub in_order : (tr : Trace) (bs : List Branch) → AllByRecursion IsBranch bs → IsStrictlySortedBy branch_cmp bs
+    → IsStrictlySortedBy xid_cmp (keys_of (map (reported tr) bs))
 unfolding IsStrictlySortedBy
 in_order tr [] all up = tt
 in_order tr (b ∷ bs) all up = (still_below tr b bs all.0 all.1 up.0, in_order tr bs all.1 up.1)
@@ -144,7 +146,8 @@ module _ {R L : Type 0} (see : Sees R L) where
   trace_of a = history (start_of see a.parts) a.events.items
 
   -- the branches that the manager lists are those that were started
-  pub is_listed : (a : Inside R L) → IsSound see a → (bs : List Branch) → bs ≡ items (book_in a.parts.manager).known → (q : Branch) → is_among q bs ≡ started (trace_of a) q
+  pub is_listed : (a : Inside R L) → IsSound see a → (bs : List Branch) → bs ≡ items (book_in a.parts.manager).known
+      → (q : Branch) → is_among q bs ≡ started (trace_of a) q
   is_listed a sound bs is q =
       ap (is_among q) (is ∙ ap (λ (k : Book). items k.known) sound.stands.book)
       ∙ sym (contains-items (from_list (branches (trace_of a))) q) ∙ contains-from_list branches_total (branches (trace_of a)) q ∙ among_branches (trace_of a) q

@@ -79,10 +79,16 @@ unclosed true b e d = absurd cc
 
 -- ** the rules
 
-resolve_rule : (tr : Trace) (r : ℕ) → must_refuse tr (Steps.Resolve r) ≡ recovery_why (has_rm tr r) (facts.up tr) (rm_up tr r) (not (facts.is_open tr (line 0 r))) (facts.is_closed tr (line 0 r)) (nat_lt 64 (waiting tr (line 0 r) + length (facts.resolving_calls tr (facts.page tr r))))
+resolve_rule : (tr : Trace) (r : ℕ)
+    → must_refuse tr (Steps.Resolve r)
+    ≡ recovery_why (has_rm tr r) (facts.up tr) (rm_up tr r) (not (facts.is_open tr (line 0 r))) (facts.is_closed tr (line 0 r))
+    (nat_lt 64 (waiting tr (line 0 r) + length (facts.resolving_calls tr (facts.page tr r))))
 resolve_rule tr r = refl
 
-open_rule : (tr : Trace) (r : ℕ) → must_refuse tr (Steps.ResolveOpen r) ≡ recovery_why (has_rm tr r) (facts.up tr) (rm_up tr r) (not (facts.is_open tr (line 0 r))) (facts.is_closed tr (line 0 r)) (nat_lt 64 (waiting tr (line 0 r) + length (facts.resolving_calls (Then tr (ResolvedOpen r)) (facts.page tr r))))
+open_rule : (tr : Trace) (r : ℕ)
+    → must_refuse tr (Steps.ResolveOpen r)
+    ≡ recovery_why (has_rm tr r) (facts.up tr) (rm_up tr r) (not (facts.is_open tr (line 0 r))) (facts.is_closed tr (line 0 r))
+    (nat_lt 64 (waiting tr (line 0 r) + length (facts.resolving_calls (Then tr (ResolvedOpen r)) (facts.page tr r))))
 open_rule tr r = refl
 
 -- nothing hinders a recovery
@@ -114,22 +120,29 @@ not_first false b e = refl
 not_first true b e = absurd (cc)
 
 -- one call more of several that a line takes
-pub took_more : (old now : Traffic) (all yielded rest left : List (Asking.Call Xid)) (call : Asking.Call Xid) (count : ℕ) (result : Result (Unit {0}) Refusal) (new : Traffic) → now ≡ record old { calls = with_more old.calls yielded } → all ≡ yielded ++ rest → rest ≡ call ∷ left
-    → length old.calls.waiting + count ≤ 64 → count ≡ length all → has_opened (issued old) ≡ true → has_closed (issued old ++ all) ≡ false → result_err result ≡ refusal now call
+pub took_more : (old now : Traffic) (all yielded rest left : List (Asking.Call Xid)) (call : Asking.Call Xid) (count : ℕ)
+    (result : Result (Unit {0}) Refusal) (new : Traffic) → now ≡ record old { calls = with_more old.calls yielded } → all ≡ yielded ++ rest → rest ≡ call ∷ left
+    → length old.calls.waiting + count ≤ 64 → count ≡ length all → has_opened (issued old) ≡ true
+    → has_closed (issued old ++ all) ≡ false → result_err result ≡ refusal now call
     → OnOk result (new ≡ record now { calls = with_one_more now.calls call })
     → (new ≡ record old { calls = with_more old.calls (yielded ++ call ∷ []) }) × (all ≡ (yielded ++ call ∷ []) ++ left)
 took_more old now all yielded rest left call count result new here split first room many opened unclosed_all reason accepted =
     let at = record old { calls = with_more old.calls yielded } in
     let parted : all ≡ yielded ++ (call ∷ left) = split ∙ ap (λ xs. yielded ++ xs) first in
-    let open_now : has_opened (issued at) ≡ true = ap has_opened (sym (append_assoc old.calls.gone old.calls.waiting yielded)) ∙ list_any-append opens (issued old) yielded ∙ ap (λ b. b || list_any opens yielded) opened in
+    let open_now : has_opened (issued at) ≡ true =
+    ap has_opened (sym (append_assoc old.calls.gone old.calls.waiting yielded)) ∙ list_any-append opens (issued old) yielded
+    ∙ ap (λ b. b || list_any opens yielded) opened in
     let so_far : has_closed (issued old ++ yielded) ≡ false =
-    not_first _ (list_any closes (call ∷ left)) (sym (list_any-append closes (issued old ++ yielded) (call ∷ left)) ∙ ap has_closed (append_assoc (issued old) yielded (call ∷ left) ∙ ap (λ xs. issued old ++ xs) (sym parted)) ∙ unclosed_all) in
+    not_first _ (list_any closes (call ∷ left))
+    (sym (list_any-append closes (issued old ++ yielded) (call ∷ left)) ∙ ap has_closed
+    (append_assoc (issued old) yielded (call ∷ left) ∙ ap (λ xs. issued old ++ xs) (sym parted)) ∙ unclosed_all) in
     let closed_now : has_closed (issued at) ≡ false = ap has_closed (sym (append_assoc old.calls.gone old.calls.waiting yielded)) ∙ so_far in
     let shut : (not (opens call) && not (has_opened (issued at))) ≡ false = ap (λ b. not (opens call) && not b) open_now ∙ shut_not (not (opens call)) in
     let bar : barred (issued at) call ≡ None = λ i. if shut i then Some Refusals.NotOpen else (if closed_now i then Some Refusals.Closed else None) in
     let number : length all ≡ length yielded + suc (length left) = ap length parted ∙ length-append yielded (call ∷ left) in
     let waits : length (old.calls.waiting ++ yielded) ≡ length old.calls.waiting + length yielded = length-append old.calls.waiting yielded in
-    let free : nat_le 64 (length (old.calls.waiting ++ yielded)) ≡ false = le_not (length (old.calls.waiting ++ yielded)) (omega (arith, room, many, number, waits)) in
+    let free : nat_le 64 (length (old.calls.waiting ++ yielded)) ≡ false =
+    le_not (length (old.calls.waiting ++ yielded)) (omega (arith, room, many, number, waits)) in
     let done = line_took at now call call result new here refl reason accepted bar free in (
       done ∙ ap (λ ws. record old { calls = record { gone = old.calls.gone; waiting = ws } }) (append_assoc old.calls.waiting yielded (call ∷ [])),
       parted ∙ sym (append_assoc yielded (call ∷ []) left),
@@ -139,7 +152,8 @@ took_more old now all yielded rest left call count result new here split first r
     le_not n lt = grind (arith, nat_tests, lt)
 
 -- several calls wait
-more_issued : (tr : Trace) (e : Happening) (l : Line) (old new : Traffic) (calls : List (Asking.Call Xid)) → LineStands tr l old → facts.breaks tr e l ≡ false → facts.new_taken e l ≡ [] → facts.new_heard e l ≡ []
+more_issued : (tr : Trace) (e : Happening) (l : Line) (old new : Traffic) (calls : List (Asking.Call Xid)) → LineStands tr l old
+    → facts.breaks tr e l ≡ false → facts.new_taken e l ≡ [] → facts.new_heard e l ≡ []
     → map known_call calls ≡ map Some (facts.new_calls tr e l) → new ≡ record old { calls = with_more old.calls calls } → LineStands (Then tr e) l new
 more_issued tr e l old new calls stands unbroken no_taken no_heard are put =
     subst (LineStands (Then tr e) l) (sym put)
@@ -163,7 +177,8 @@ module _ {R L : Type 0} (see : Sees R L) where
 
   pub resolved_so : (tr : Trace) (r : ℕ) → IsRecovery tr (Resolved r) r (facts.resolving_calls tr (facts.page tr r))
   resolved_so tr r = record {
-    sites = λ q. record { quiet = record { branches = record { standing = λ b at. refl; vote = λ b at. refl; retries = λ b at. refl }; scan_stays = refl }; is_up = refl };
+    sites =
+        λ q. record { quiet = record { branches = record { standing = λ b at. refl; vote = λ b at. refl; retries = λ b at. refl }; scan_stays = refl }; is_up = refl };
     unbroken = λ l. refl;
     here = rw (line_eq-refl (line 0 r)) refl;
     elsewhere = λ l apart. rw apart refl;
@@ -175,7 +190,8 @@ module _ {R L : Type 0} (see : Sees R L) where
 
   pub open_so : (tr : Trace) (r : ℕ) → IsRecovery tr (ResolvedOpen r) r (facts.resolving_calls (Then tr (ResolvedOpen r)) (facts.page tr r))
   open_so tr r = record {
-    sites = λ q. record { quiet = record { branches = record { standing = λ b at. refl; vote = λ b at. refl; retries = λ b at. refl }; scan_stays = refl }; is_up = refl };
+    sites =
+        λ q. record { quiet = record { branches = record { standing = λ b at. refl; vote = λ b at. refl; retries = λ b at. refl }; scan_stays = refl }; is_up = refl };
     unbroken = λ l. refl;
     here = rw (line_eq-refl (line 0 r)) refl;
     elsewhere = λ l apart. rw apart refl;
@@ -191,9 +207,12 @@ module _ {R L : Type 0} (see : Sees R L) where
       both : {a b : Bool} → a ≡ true → b ≡ true → (a && b) ≡ true
       both e d = rw (e, d) refl
 
-  pub recovery_goes : (tr : Trace) (step : Step Xid) (e : Happening) (r n : ℕ) (ks : List Call) (calls : List (Asking.Call Xid)) (parts : Parts R L) (x : Traffic) (manager : Manager L) (reply : Reply Xid) → Stands see tr parts → StepHasXids step
-      → reply ≡ Replies.Resolved n → Demanded tr (step_of step) (Replies.Resolved n) → happened (step_of step) (Replies.Resolved n) ≡ e → IsRecovery tr e r ks → has_rm tr r ≡ true
-      → map known_call calls ≡ map Some ks → x ≡ record (line_at parts.lines 0 r) { calls = with_more (line_at parts.lines 0 r).calls calls } → book_in manager ≡ book_of (Then tr e)
+  pub recovery_goes : (tr : Trace) (step : Step Xid) (e : Happening) (r n : ℕ) (ks : List Call) (calls : List (Asking.Call Xid))
+      (parts : Parts R L) (x : Traffic) (manager : Manager L) (reply : Reply Xid) → Stands see tr parts → StepHasXids step
+      → reply ≡ Replies.Resolved n → Demanded tr (step_of step) (Replies.Resolved n)
+      → happened (step_of step) (Replies.Resolved n) ≡ e → IsRecovery tr e r ks → has_rm tr r ≡ true
+      → map known_call calls ≡ map Some ks
+      → x ≡ record (line_at parts.lines 0 r) { calls = with_more (line_at parts.lines 0 r).calls calls } → book_in manager ≡ book_of (Then tr e)
       → LogFollows see.logs tr e parts.manager manager
       → OneMore see step reply tr parts (record { alloc = parts.alloc; start = parts.start; began = parts.began; sites = parts.sites; lines = with_line parts.lines 0 r x; manager = manager })
   recovery_goes tr step e r n ks calls parts x manager reply stands has_xids is demanded happens recovery there are put book log =
@@ -209,29 +228,35 @@ module _ {R L : Type 0} (see : Sees R L) where
         count = refl;
         sites = λ q at_q there_q. site_stays see tr e q at_q (recovery.sites q) (stands.sites q at_q there_q);
         lines = lines_with (Then tr e) parts.lines 0 r x stands.whole has
-            (more_issued tr e (line 0 r) (line_at parts.lines 0 r) x calls (stands.lines 0 r has) (recovery.unbroken (line 0 r)) (recovery.taken (line 0 r)) (recovery.heard (line 0 r)) (are ∙ ap (map Some) (sym recovery.here)) put)
-            (λ u q has_u apart. line_stays tr e (line u q) (line_at parts.lines u q) (recovery.unbroken (line u q)) (recovery.elsewhere (line u q) apart) (recovery.taken (line u q)) (recovery.heard (line u q)) (stands.lines u q has_u));
+            (more_issued tr e (line 0 r) (line_at parts.lines 0 r) x calls (stands.lines 0 r has) (recovery.unbroken (line 0 r))
+            (recovery.taken (line 0 r)) (recovery.heard (line 0 r)) (are ∙ ap (map Some) (sym recovery.here)) put)
+            (λ u q has_u apart. line_stays tr e (line u q) (line_at parts.lines u q) (recovery.unbroken (line u q))
+            (recovery.elsewhere (line u q) apart) (recovery.taken (line u q)) (recovery.heard (line u q)) (stands.lines u q has_u));
         book = book;
         log = log;
         unchanged = λ q. absurd (subst IsEvent q recovery.event);
       }))
 
   -- the calls that the manager finds are those of the history
-  calls_found : (tr : Trace) (parts : Parts R L) (r : ℕ) → Stands see tr parts → resolved_in (book_in parts.manager) r ≡ facts.resolving_calls tr (facts.page tr r)
+  calls_found : (tr : Trace) (parts : Parts R L) (r : ℕ) → Stands see tr parts
+      → resolved_in (book_in parts.manager) r ≡ facts.resolving_calls tr (facts.page tr r)
   calls_found tr parts r stands = ap (λ k. resolved_in k r) stands.book ∙ resolved_is tr r
 
   -- so are those of a recovery that decides
-  open_calls_found : (tr : Trace) (parts : Parts R L) (r : ℕ) → Stands see tr parts → resolved_open_in (book_in parts.manager) r ≡ facts.resolving_calls (Then tr (ResolvedOpen r)) (facts.page tr r)
+  open_calls_found : (tr : Trace) (parts : Parts R L) (r : ℕ) → Stands see tr parts
+      → resolved_open_in (book_in parts.manager) r ≡ facts.resolving_calls (Then tr (ResolvedOpen r)) (facts.page tr r)
   open_calls_found tr parts r stands = ap (λ k. resolved_open_in k r) stands.book ∙ resolved_open_is tr r
 
   -- ** the restart
 
   own_restarted : (tr : Trace) (i d h : ℕ) → i ≤ last_number → IsOwn see tr (Restarted i d h)
-  own_restarted tr i d h most = record { sites = λ r. record { quiet = record { branches = record { standing = λ b at. refl; vote = λ b at. refl; retries = λ b at. refl }; scan_stays = refl }; is_up = refl }; unbroken = λ t r. refl; calls = λ t r. refl; taken = λ t r. refl; heard = λ t r. refl; fits = λ fits. most; event = tt }
+  own_restarted tr i d h most =
+      record { sites = λ r. record { quiet = record { branches = record { standing = λ b at. refl; vote = λ b at. refl; retries = λ b at. refl }; scan_stays = refl }; is_up = refl }; unbroken = λ t r. refl; calls = λ t r. refl; taken = λ t r. refl; heard = λ t r. refl; fits = λ fits. most; event = tt }
 
   -- a failed restart breaks nothing
   own_failed : (tr : Trace) → facts.up tr ≡ false → IsOwn see tr (Failed InRestart)
-  own_failed tr down = record { sites = λ r. record { quiet = record { branches = record { standing = λ b at. rw down refl; vote = λ b at. refl; retries = λ b at. refl }; scan_stays = rw down refl }; is_up = refl }; unbroken = λ t r. down; calls = λ t r. refl; taken = λ t r. refl; heard = λ t r. refl; fits = λ h. h; event = tt }
+  own_failed tr down =
+      record { sites = λ r. record { quiet = record { branches = record { standing = λ b at. rw down refl; vote = λ b at. refl; retries = λ b at. refl }; scan_stays = rw down refl }; is_up = refl }; unbroken = λ t r. down; calls = λ t r. refl; taken = λ t r. refl; heard = λ t r. refl; fits = λ h. h; event = tt }
 
   up_is : (tr : Trace) (parts : Parts R L) → Stands see tr parts → (book_in parts.manager).up ≡ facts.up tr
   up_is tr parts stands = ap (λ (k : Book). k.up) stands.book
@@ -242,7 +267,8 @@ module _ {R L : Type 0} (see : Sees R L) where
   restart_free : (tr : Trace) → facts.up tr ≡ false → must_refuse tr (Steps.Restart Sides.Manager) ≡ None
   restart_free tr down = λ i. restart_why (down i)
 
-  pub restart_did : (parts : Parts R L) (manager : Manager L) (i d h : ℕ) (reply : Reply Xid) → reply ≡ Replies.Restarted i d h → (book_in parts.manager).up ≡ false
+  pub restart_did : (parts : Parts R L) (manager : Manager L) (i d h : ℕ) (reply : Reply Xid) → reply ≡ Replies.Restarted i d h
+      → (book_in parts.manager).up ≡ false
       → book_in manager ≡ after (book_in parts.manager) (Restarted i d h) → IsFound (book_in parts.manager) i d h → i ≤ last_number
       → ((tr : Trace) → LogFollows see.logs tr (Restarted i d h) parts.manager manager)
       → (tr : Trace) → Stands see tr parts → OneMore see (Steps.Restart Sides.Manager) reply tr parts (with_manager see parts manager)
@@ -262,47 +288,60 @@ module _ {R L : Type 0} (see : Sees R L) where
       → (tr : Trace) → Stands see tr parts → OneMore see (Steps.Restart Sides.Manager) reply tr parts (with_manager see parts manager)
   restart_undone parts manager n reply is busy fails undone tr stands = by_up (book_in parts.manager).up refl
     where
-      by_cause : facts.up tr ≡ false → FailsBy Settled InRestart (book_in parts.manager) (book_in manager) n → OneMore see (Steps.Restart Sides.Manager) reply tr parts (with_manager see parts manager)
-      by_cause down (inl w) = lacking_goes see tr (Steps.Restart Sides.Manager) parts manager reply stands tt (is ∙ ap (λ m. Replies.Refused m) w.0) (restart_free tr down) tt w.1
+      by_cause : facts.up tr ≡ false → FailsBy Settled InRestart (book_in parts.manager) (book_in manager) n
+          → OneMore see (Steps.Restart Sides.Manager) reply tr parts (with_manager see parts manager)
+      by_cause down (inl w) =
+          lacking_goes see tr (Steps.Restart Sides.Manager) parts manager reply stands tt (is ∙ ap (λ m. Replies.Refused m) w.0) (restart_free tr down) tt w.1
           (undone.kept (λ q. absurd (let two : Refusals.Memory ≡ Refusals.LogFault = sym w.0 ∙ q in cc)))
       by_cause down (inr w) =
           let demanded : Demanded tr (Steps.Restart Sides.Manager) (Replies.Refused Refusals.LogFault) = For_log (restart_free tr down) tt refl in
-          goes_as see tr (Steps.Restart Sides.Manager) reply (Replies.Refused Refusals.LogFault) parts (with_manager see parts manager) stands tt (ap reply_of (is ∙ ap (λ m. Replies.Refused m) w.0)) demanded
+          goes_as see tr (Steps.Restart Sides.Manager) reply (Replies.Refused Refusals.LogFault) parts
+          (with_manager see parts manager) stands tt (ap reply_of (is ∙ ap (λ m. Replies.Refused m) w.0)) demanded
           (own_follows see tr (Failed InRestart) parts manager (own_failed tr down) stands
-          (book_then see tr (Failed InRestart) parts manager stands (demanded_right tr (Steps.Restart Sides.Manager) (Replies.Refused Refusals.LogFault) demanded) w.1)
+          (book_then see tr (Failed InRestart) parts manager stands
+          (demanded_right tr (Steps.Restart Sides.Manager) (Replies.Refused Refusals.LogFault) demanded) w.1)
           (log_failing see.logs InRestart n parts.manager manager w.0 undone))
 
       by_up : (u : Bool) → (book_in parts.manager).up ≡ u → OneMore see (Steps.Restart Sides.Manager) reply tr parts (with_manager see parts manager)
       by_up true e =
           let w = busy e in
           let up : facts.up tr ≡ true = sym (up_is tr parts stands) ∙ e in
-          rule_goes see tr (Steps.Restart Sides.Manager) reply parts manager Refusals.Busy stands tt (is ∙ ap (λ m. Replies.Refused m) w.0) (λ i. restart_why (up i)) w.1
+          rule_goes see tr (Steps.Restart Sides.Manager) reply parts manager Refusals.Busy stands tt (is ∙ ap (λ m. Replies.Refused m) w.0)
+          (λ i. restart_why (up i)) w.1
           (undone.kept (λ q. absurd (let two : Refusals.Busy ≡ Refusals.LogFault = sym w.0 ∙ q in cc)))
       by_up false e = by_cause (sym (up_is tr parts stands) ∙ e) (fails e)
 
   -- ** what hinders a recovery
 
-  same_open : (tr : Trace) (parts : Parts R L) (r : ℕ) → Stands see tr parts → HasLine parts.lines 0 r → has_opened (issued (line_at parts.lines 0 r)) ≡ facts.is_open tr (line 0 r)
+  same_open : (tr : Trace) (parts : Parts R L) (r : ℕ) → Stands see tr parts → HasLine parts.lines 0 r
+      → has_opened (issued (line_at parts.lines 0 r)) ≡ facts.is_open tr (line 0 r)
   same_open tr parts r stands has = opened_alike (issued (line_at parts.lines 0 r)) (facts.issued tr (line 0 r)) (stands.lines 0 r has).all_issued
 
-  same_closed : (tr : Trace) (parts : Parts R L) (r : ℕ) → Stands see tr parts → HasLine parts.lines 0 r → has_closed (issued (line_at parts.lines 0 r)) ≡ facts.is_closed tr (line 0 r)
+  same_closed : (tr : Trace) (parts : Parts R L) (r : ℕ) → Stands see tr parts → HasLine parts.lines 0 r
+      → has_closed (issued (line_at parts.lines 0 r)) ≡ facts.is_closed tr (line 0 r)
   same_closed tr parts r stands has = closed_alike (issued (line_at parts.lines 0 r)) (facts.issued tr (line 0 r)) (stands.lines 0 r has).all_issued
 
   -- as it is found
-  pub recovery_found : (tr : Trace) (parts : Parts R L) (r n : ℕ) (site : Site R) → Stands see tr parts → r < parts.lines.rms → slice_get parts.sites.items r ≡ Some site
-      → recovery_why (has_rm tr r) (facts.up tr) (rm_up tr r) (not (facts.is_open tr (line 0 r))) (facts.is_closed tr (line 0 r)) (nat_lt 64 (waiting tr (line 0 r) + n))
-      ≡ recovery_why true (book_in parts.manager).up site.is_up (not (has_opened (issued (line_at parts.lines 0 r)))) (has_closed (issued (line_at parts.lines 0 r))) (nat_lt 64 (length (line_at parts.lines 0 r).calls.waiting + n))
+  pub recovery_found : (tr : Trace) (parts : Parts R L) (r n : ℕ) (site : Site R) → Stands see tr parts → r < parts.lines.rms
+      → slice_get parts.sites.items r ≡ Some site
+      → recovery_why (has_rm tr r) (facts.up tr) (rm_up tr r) (not (facts.is_open tr (line 0 r))) (facts.is_closed tr (line 0 r))
+      (nat_lt 64 (waiting tr (line 0 r) + n))
+      ≡ recovery_why true (book_in parts.manager).up site.is_up (not (has_opened (issued (line_at parts.lines 0 r))))
+      (has_closed (issued (line_at parts.lines 0 r))) (nat_lt 64 (length (line_at parts.lines 0 r).calls.waiting + n))
   recovery_found tr parts r n site stands within at =
       let there = rm_there see tr parts r stands within in
       let has = has_first tr parts r stands there in
       let many = as_many_calls tr (line 0 r) (line_at parts.lines 0 r) (stands.lines 0 r has) in
-      λ i. recovery_why (there i) (sym (up_is tr parts stands) i) (sym (stands.sites r site at).is_up i) (not (sym (same_open tr parts r stands has) i)) (sym (same_closed tr parts r stands has) i) (nat_lt 64 (sym many i + n))
+      λ i. recovery_why (there i) (sym (up_is tr parts stands) i) (sym (stands.sites r site at).is_up i)
+      (not (sym (same_open tr parts r stands has) i)) (sym (same_closed tr parts r stands has) i) (nat_lt 64 (sym many i + n))
 
   -- ** a recovery that nothing hinders
 
-  module _ (parts : Parts R L) (r n : ℕ) (ks : List Call) (calls : List (Asking.Call Xid)) (hinders : HindersRecovery see r n parts None) (are : map known_call calls ≡ map Some ks) where
+  module _ (parts : Parts R L) (r n : ℕ) (ks : List Call) (calls : List (Asking.Call Xid)) (hinders : HindersRecovery see r n parts None)
+      (are : map known_call calls ≡ map Some ks) where
     -- the line has room for all calls
-    pub recovery_room : (x : Traffic) (count : ℕ) → count ≡ length calls → n ≡ length ks → x ≡ line_at parts.lines 0 r → StandsSomewhere see parts → length x.calls.waiting + count ≤ 64
+    pub recovery_room : (x : Traffic) (count : ℕ) → count ≡ length calls → n ≡ length ks → x ≡ line_at parts.lines 0 r
+        → StandsSomewhere see parts → length x.calls.waiting + count ≤ 64
     recovery_room x count len many is at =
         let tr = at.0 in
         let free = recovery_free _ _ _ _ _ _ (sym (hinders tr at.1)) in
@@ -319,67 +358,92 @@ module _ {R L : Type 0} (see : Sees R L) where
         let free = recovery_free _ _ _ _ _ _ (sym (hinders tr at.1)) in
         ap (λ t. has_opened (issued t)) is ∙ same_open tr parts r at.1 (has_first tr parts r at.1 free.0) ∙ not_shut _ free.2
 
-    pub recovery_unclosed : (x : Traffic) → x ≡ line_at parts.lines 0 r → has_closed ks ≡ false → StandsSomewhere see parts → has_closed (issued x ++ calls) ≡ false
+    pub recovery_unclosed : (x : Traffic) → x ≡ line_at parts.lines 0 r → has_closed ks ≡ false → StandsSomewhere see parts
+        → has_closed (issued x ++ calls) ≡ false
     recovery_unclosed x is plain at =
         let tr = at.0 in
         let free = recovery_free _ _ _ _ _ _ (sym (hinders tr at.1)) in
         list_any-append closes (issued x) calls
-        ∙ unclosed _ _ (ap (λ t. has_closed (issued t)) is ∙ same_closed tr parts r at.1 (has_first tr parts r at.1 free.0) ∙ free.3) (closed_alike calls ks are ∙ plain)
+        ∙ unclosed _ _ (ap (λ t. has_closed (issued t)) is ∙ same_closed tr parts r at.1 (has_first tr parts r at.1 free.0) ∙ free.3)
+        (closed_alike calls ks are ∙ plain)
 
   -- ** Resolve
 
-  resolve_why : (tr : Trace) (parts : Parts R L) (r n : ℕ) (o : Option Refusal) → n ≡ length (resolved_in (book_in parts.manager) r) → HindersRecovery see r n parts o → Stands see tr parts → must_refuse tr (Steps.Resolve r) ≡ o
+  resolve_why : (tr : Trace) (parts : Parts R L) (r n : ℕ) (o : Option Refusal)
+      → n ≡ length (resolved_in (book_in parts.manager) r) → HindersRecovery see r n parts o → Stands see tr parts → must_refuse tr (Steps.Resolve r) ≡ o
   resolve_why tr parts r n o many hinders stands =
       let count = many ∙ ap length (calls_found tr parts r stands) in
       resolve_rule tr r
       ∙ ap (λ m. recovery_why (has_rm tr r) (facts.up tr) (rm_up tr r) (not (facts.is_open tr (line 0 r))) (facts.is_closed tr (line 0 r)) (nat_lt 64 (waiting tr (line 0 r) + m))) (sym count)
       ∙ sym (hinders tr stands)
 
-  pub resolve_hindered : (parts : Parts R L) (r n : ℕ) (o : Refusal) (reply : Reply Xid) → reply ≡ Replies.Refused o → n ≡ length (resolved_in (book_in parts.manager) r) → HindersRecovery see r n parts (Some o) → GoesOn see (Steps.Resolve r) reply parts parts
-  resolve_hindered parts r n o reply is many hinders = refused_goes see (Steps.Resolve r) parts reply o tt is (λ tr stands. resolve_why tr parts r n (Some o) many hinders stands)
+  pub resolve_hindered : (parts : Parts R L) (r n : ℕ) (o : Refusal) (reply : Reply Xid) → reply ≡ Replies.Refused o
+      → n ≡ length (resolved_in (book_in parts.manager) r) → HindersRecovery see r n parts (Some o) → GoesOn see (Steps.Resolve r) reply parts parts
+  resolve_hindered parts r n o reply is many hinders =
+      refused_goes see (Steps.Resolve r) parts reply o tt is (λ tr stands. resolve_why tr parts r n (Some o) many hinders stands)
 
-  pub resolve_lacks : (parts : Parts R L) (r n : ℕ) (o : Refusal) (reply : Reply Xid) → reply ≡ Replies.Refused o → o ≡ Refusals.Memory → n ≡ length (resolved_in (book_in parts.manager) r) → HindersRecovery see r n parts None → GoesOn see (Steps.Resolve r) reply parts parts
+  pub resolve_lacks : (parts : Parts R L) (r n : ℕ) (o : Refusal) (reply : Reply Xid) → reply ≡ Replies.Refused o
+      → o ≡ Refusals.Memory → n ≡ length (resolved_in (book_in parts.manager) r) → HindersRecovery see r n parts None
+      → GoesOn see (Steps.Resolve r) reply parts parts
   resolve_lacks parts r n o reply is lack many hinders tr stands few =
-      lacking_goes see tr (Steps.Resolve r) parts parts.manager reply stands tt (is ∙ ap (λ m. Replies.Refused m) lack) (resolve_why tr parts r n None many hinders stands) tt refl refl
+      lacking_goes see tr (Steps.Resolve r) parts parts.manager reply stands tt (is ∙ ap (λ m. Replies.Refused m) lack)
+      (resolve_why tr parts r n None many hinders stands) tt refl refl
 
-  pub resolve_did : (parts : Parts R L) (r n : ℕ) (calls : List (Asking.Call Xid)) (x : Traffic) (reply : Reply Xid) → reply ≡ Replies.Resolved n → n ≡ length (resolved_in (book_in parts.manager) r) → HindersRecovery see r n parts None
-      → map known_call calls ≡ map Some (resolved_in (book_in parts.manager) r) → x ≡ record (line_at parts.lines 0 r) { calls = with_more (line_at parts.lines 0 r).calls calls }
-      → GoesOn see (Steps.Resolve r) reply parts (record { alloc = parts.alloc; start = parts.start; began = parts.began; sites = parts.sites; lines = with_line parts.lines 0 r x; manager = parts.manager })
+  pub resolve_did : (parts : Parts R L) (r n : ℕ) (calls : List (Asking.Call Xid)) (x : Traffic) (reply : Reply Xid)
+      → reply ≡ Replies.Resolved n → n ≡ length (resolved_in (book_in parts.manager) r) → HindersRecovery see r n parts None
+      → map known_call calls ≡ map Some (resolved_in (book_in parts.manager) r)
+      → x ≡ record (line_at parts.lines 0 r) { calls = with_more (line_at parts.lines 0 r).calls calls }
+      → GoesOn see (Steps.Resolve r) reply parts
+      (record { alloc = parts.alloc; start = parts.start; began = parts.began; sites = parts.sites; lines = with_line parts.lines 0 r x; manager = parts.manager })
   resolve_did parts r n calls x reply is many hinders are put tr stands few =
       let e = Resolved r in
       let same = calls_found tr parts r stands in
       let free = recovery_free _ _ _ _ _ _ (sym (hinders tr stands)) in
-      let demanded : Demanded tr (Steps.Resolve r) (Replies.Resolved n) = As_value (resolve_why tr parts r n None many hinders stands) (ap (λ m. Replies.Resolved m) (many ∙ ap length same)) in
-      recovery_goes tr (Steps.Resolve r) e r n (facts.resolving_calls tr (facts.page tr r)) calls parts x parts.manager reply stands tt is demanded refl (resolved_so tr r) free.0
+      let demanded : Demanded tr (Steps.Resolve r) (Replies.Resolved n) =
+      As_value (resolve_why tr parts r n None many hinders stands) (ap (λ m. Replies.Resolved m) (many ∙ ap length same)) in
+      recovery_goes tr (Steps.Resolve r) e r n
+      (facts.resolving_calls tr (facts.page tr r)) calls parts x parts.manager reply stands tt is demanded refl (resolved_so tr r) free.0
       (are ∙ ap (map Some) same) put (book_then see tr e parts parts.manager stands (demanded_right tr (Steps.Resolve r) (Replies.Resolved n) demanded) refl)
       (log_stays see.logs e parts.manager (λ k. refl))
 
   -- ** ResolveOpen
 
-  open_why : (tr : Trace) (parts : Parts R L) (r n : ℕ) (o : Option Refusal) → n ≡ length (resolved_open_in (book_in parts.manager) r) → HindersRecovery see r n parts o → Stands see tr parts → must_refuse tr (Steps.ResolveOpen r) ≡ o
+  open_why : (tr : Trace) (parts : Parts R L) (r n : ℕ) (o : Option Refusal)
+      → n ≡ length (resolved_open_in (book_in parts.manager) r) → HindersRecovery see r n parts o → Stands see tr parts
+      → must_refuse tr (Steps.ResolveOpen r) ≡ o
   open_why tr parts r n o many hinders stands =
       let count = many ∙ ap length (open_calls_found tr parts r stands) in
       open_rule tr r
       ∙ ap (λ m. recovery_why (has_rm tr r) (facts.up tr) (rm_up tr r) (not (facts.is_open tr (line 0 r))) (facts.is_closed tr (line 0 r)) (nat_lt 64 (waiting tr (line 0 r) + m))) (sym count)
       ∙ sym (hinders tr stands)
 
-  pub open_hindered : (parts : Parts R L) (r n : ℕ) (o : Refusal) (reply : Reply Xid) → reply ≡ Replies.Refused o → n ≡ length (resolved_open_in (book_in parts.manager) r) → HindersRecovery see r n parts (Some o) → GoesOn see (Steps.ResolveOpen r) reply parts parts
-  open_hindered parts r n o reply is many hinders = refused_goes see (Steps.ResolveOpen r) parts reply o tt is (λ tr stands. open_why tr parts r n (Some o) many hinders stands)
+  pub open_hindered : (parts : Parts R L) (r n : ℕ) (o : Refusal) (reply : Reply Xid) → reply ≡ Replies.Refused o
+      → n ≡ length (resolved_open_in (book_in parts.manager) r) → HindersRecovery see r n parts (Some o) → GoesOn see (Steps.ResolveOpen r) reply parts parts
+  open_hindered parts r n o reply is many hinders =
+      refused_goes see (Steps.ResolveOpen r) parts reply o tt is (λ tr stands. open_why tr parts r n (Some o) many hinders stands)
 
-  pub open_lacks : (parts : Parts R L) (manager : Manager L) (r n : ℕ) (o : Refusal) (reply : Reply Xid) → reply ≡ Replies.Refused o → (o ≡ Refusals.Memory) × (book_in manager ≡ book_in parts.manager) → n ≡ length (resolved_open_in (book_in parts.manager) r) → HindersRecovery see r n parts None
+  pub open_lacks : (parts : Parts R L) (manager : Manager L) (r n : ℕ) (o : Refusal) (reply : Reply Xid)
+      → reply ≡ Replies.Refused o → (o ≡ Refusals.Memory) × (book_in manager ≡ book_in parts.manager)
+      → n ≡ length (resolved_open_in (book_in parts.manager) r) → HindersRecovery see r n parts None
       → log_in manager ≡ log_in parts.manager → GoesOn see (Steps.ResolveOpen r) reply parts (with_manager see parts manager)
   open_lacks parts manager r n o reply is lack many hinders same tr stands few =
-      lacking_goes see tr (Steps.ResolveOpen r) parts manager reply stands tt (is ∙ ap (λ m. Replies.Refused m) lack.0) (open_why tr parts r n None many hinders stands) tt lack.1 same
+      lacking_goes see tr (Steps.ResolveOpen r) parts manager reply stands tt (is ∙ ap (λ m. Replies.Refused m) lack.0)
+      (open_why tr parts r n None many hinders stands) tt lack.1 same
 
-  pub open_did : (parts : Parts R L) (r n : ℕ) (calls : List (Asking.Call Xid)) (x : Traffic) (manager : Manager L) (reply : Reply Xid) → reply ≡ Replies.Resolved n → n ≡ length (resolved_open_in (book_in parts.manager) r) → HindersRecovery see r n parts None
-      → map known_call calls ≡ map Some (resolved_open_in (book_in parts.manager) r) → x ≡ record (line_at parts.lines 0 r) { calls = with_more (line_at parts.lines 0 r).calls calls }
+  pub open_did : (parts : Parts R L) (r n : ℕ) (calls : List (Asking.Call Xid)) (x : Traffic) (manager : Manager L) (reply : Reply Xid)
+      → reply ≡ Replies.Resolved n → n ≡ length (resolved_open_in (book_in parts.manager) r) → HindersRecovery see r n parts None
+      → map known_call calls ≡ map Some (resolved_open_in (book_in parts.manager) r)
+      → x ≡ record (line_at parts.lines 0 r) { calls = with_more (line_at parts.lines 0 r).calls calls }
       → book_in manager ≡ after (book_in parts.manager) (ResolvedOpen r)
       → ((tr : Trace) → LogFollows see.logs tr (ResolvedOpen r) parts.manager manager)
-      → GoesOn see (Steps.ResolveOpen r) reply parts (record { alloc = parts.alloc; start = parts.start; began = parts.began; sites = parts.sites; lines = with_line parts.lines 0 r x; manager = manager })
+      → GoesOn see (Steps.ResolveOpen r) reply parts
+      (record { alloc = parts.alloc; start = parts.start; began = parts.began; sites = parts.sites; lines = with_line parts.lines 0 r x; manager = manager })
   open_did parts r n calls x manager reply is many hinders are put book log tr stands few =
       let e = ResolvedOpen r in
       let free = recovery_free _ _ _ _ _ _ (sym (hinders tr stands)) in
       let same = open_calls_found tr parts r stands in
-      let demanded : Demanded tr (Steps.ResolveOpen r) (Replies.Resolved n) = As_value (open_why tr parts r n None many hinders stands) (ap (λ m. Replies.Resolved m) (many ∙ ap length same)) in
-      recovery_goes tr (Steps.ResolveOpen r) e r n (facts.resolving_calls (Then tr e) (facts.page tr r)) calls parts x manager reply stands tt is demanded refl (open_so tr r) free.0
+      let demanded : Demanded tr (Steps.ResolveOpen r) (Replies.Resolved n) =
+      As_value (open_why tr parts r n None many hinders stands) (ap (λ m. Replies.Resolved m) (many ∙ ap length same)) in
+      recovery_goes tr (Steps.ResolveOpen r) e r n
+      (facts.resolving_calls (Then tr e) (facts.page tr r)) calls parts x manager reply stands tt is demanded refl (open_so tr r) free.0
       (are ∙ ap (map Some) same) put (book_then see tr e parts manager stands (free.1, free.3) book) (log tr)

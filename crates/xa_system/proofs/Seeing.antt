@@ -71,14 +71,21 @@ module _ {R L : Type 0} (see : Sees R L) where
 
   -- the parts stand, and there is room
   pub somewhere : (a : Inside R L) → IsSound see a → vec_len a.events < EVENT_LIMIT → StandsSomewhere see a.parts
-  somewhere a sound few = (history (start_of see a.parts) a.events.items, sound.stands, subst (λ n. n < EVENT_LIMIT) (a.events.ok.0 ∙ sym (events_happen (start_of see a.parts) a.events.items)) few)
+  somewhere a sound few = (
+    history (start_of see a.parts) a.events.items,
+    sound.stands,
+    subst (λ n. n < EVENT_LIMIT)
+        (a.events.ok.0 ∙ sym (events_happen (start_of see a.parts) a.events.items)) few,
+  )
 
   -- a system began where it began
-  pub start_stays : (old new : Parts R L) (tr : Trace) (step : Step Xid) (reply : Reply Xid) → Stands see tr old → happenings tr < EVENT_LIMIT → GoesOn see step reply old new → start_of see new ≡ start_of see old
+  pub start_stays : (old new : Parts R L) (tr : Trace) (step : Step Xid) (reply : Reply Xid) → Stands see tr old
+      → happenings tr < EVENT_LIMIT → GoesOn see step reply old new → start_of see new ≡ start_of see old
   start_stays old new tr step reply stands few goes = sym (goes tr stands few).stands.origin ∙ stands.origin
 
   -- the history after one event more
-  trace_then : (old : Inside R L) (new : Parts R L) (events : Vec Event Global) (step : Step Xid) (reply copy : Reply Xid) → IsSound see old → GoesOn see step reply old.parts new → copy ≡ reply
+  trace_then : (old : Inside R L) (new : Parts R L) (events : Vec Event Global) (step : Step Xid) (reply copy : Reply Xid)
+      → IsSound see old → GoesOn see step reply old.parts new → copy ≡ reply
       → vec_len old.events < EVENT_LIMIT → events.items ≡ old.events.items ++ record { step = step; reply = copy } ∷ []
       → history (start_of see new) events.items ≡ Then (history (start_of see old.parts) old.events.items) (happened (step_of step) (reply_of reply))
   unfolding somewhere
@@ -90,8 +97,10 @@ module _ {R L : Type 0} (see : Sees R L) where
       ∙ ap (history (start_of see old.parts)) all ∙ history_push (start_of see old.parts) old.events.items event
 
   -- a refused step leaves all as it is
-  pub as_before : (old : Inside R L) (new : Parts R L) (events : Vec Event Global) (step : Step Xid) (reply : Reply Xid) → IsSound see old → GoesOn see step reply old.parts new → vec_len old.events < EVENT_LIMIT
-      → (n : Refusal) → reply ≡ Replies.Refused n → n ≢ Refusals.LogFault → IsAsBefore see (seen old) (seen (record { handed = old.handed; parts = new; events = events }))
+  pub as_before : (old : Inside R L) (new : Parts R L) (events : Vec Event Global) (step : Step Xid) (reply : Reply Xid)
+      → IsSound see old → GoesOn see step reply old.parts new → vec_len old.events < EVENT_LIMIT
+      → (n : Refusal) → reply ≡ Replies.Refused n → n ≢ Refusals.LogFault
+      → IsAsBefore see (seen old) (seen (record { handed = old.handed; parts = new; events = events }))
   unfolding somewhere
   as_before old new events step reply sound goes few n is other =
       let here = somewhere old sound few in
@@ -99,14 +108,19 @@ module _ {R L : Type 0} (see : Sees R L) where
       record {
         rms = λ r rm at.
             let from = mapped_at (λ (site : Site R). site.rm) old.parts.sites.items r rm at in
-            let to = same.sites r from.0 from.1 in
-            (to.0.rm, slice_get-map (λ (site : Site R). site.rm) new.sites.items r ∙ ap (option_map (λ (site : Site R). site.rm)) to.1, subst (λ m. IsSame see.look m to.0.rm) from.2 to.3);
+            let to = same.sites r from.0 from.1 in (
+              to.0.rm,
+              slice_get-map (λ (site : Site R). site.rm) new.sites.items r ∙ ap
+                  (option_map (λ (site : Site R). site.rm)) to.1,
+              subst (λ m. IsSame see.look m to.0.rm) from.2 to.3,
+            );
         lines = same.lines;
         log = same.log;
       }
 
   -- after a failure of the log the manager is down
-  pub down_after : (old : Inside R L) (new : Parts R L) (events : Vec Event Global) (step : Step Xid) (reply copy : Reply Xid) → IsSound see old → GoesOn see step reply old.parts new → copy ≡ reply
+  pub down_after : (old : Inside R L) (new : Parts R L) (events : Vec Event Global) (step : Step Xid) (reply copy : Reply Xid)
+      → IsSound see old → GoesOn see step reply old.parts new → copy ≡ reply
       → vec_len old.events < EVENT_LIMIT → events.items ≡ old.events.items ++ record { step = step; reply = copy } ∷ []
       → reply ≡ Replies.Refused Refusals.LogFault → up (history (start_of see new) events.items) ≡ false
   unfolding somewhere
@@ -117,9 +131,11 @@ module _ {R L : Type 0} (see : Sees R L) where
       ∙ falls here.0 (step_of step) demanded
 
   -- and the log may have made the step's change
-  pub failed_so : (old : Inside R L) (new : Parts R L) (step : Step Xid) (reply : Reply Xid) → IsSound see old → GoesOn see step reply old.parts new → vec_len old.events < EVENT_LIMIT
+  pub failed_so : (old : Inside R L) (new : Parts R L) (step : Step Xid) (reply : Reply Xid) → IsSound see old
+      → GoesOn see step reply old.parts new → vec_len old.events < EVENT_LIMIT
       → reply ≡ Replies.Refused Refusals.LogFault → (see.logs.moment old.handed.value).is_in_order → (see.logs.moment (log_in new.manager)).is_honest
-      → MayHaveFailed (history (start_of see old.parts) old.events.items) (log_failed (step_of step)) (see.logs.moment (log_in old.parts.manager)).content (see.logs.moment (log_in new.manager)).content
+      → MayHaveFailed (history (start_of see old.parts) old.events.items) (log_failed (step_of step))
+      (see.logs.moment (log_in old.parts.manager)).content (see.logs.moment (log_in new.manager)).content
   unfolding somewhere
   failed_so old new step reply sound goes few is order honest =
       let here = somewhere old sound few in
@@ -127,7 +143,8 @@ module _ {R L : Type 0} (see : Sees R L) where
       ((goes here.0 here.1 here.2).log.failed (sound.log.order order) honest)
 
   -- the log after one event more
-  log_then : (old : Inside R L) (new : Parts R L) (events : Vec Event Global) (step : Step Xid) (reply : Reply Xid) → IsSound see old → GoesOn see step reply old.parts new → vec_len old.events < EVENT_LIMIT
+  log_then : (old : Inside R L) (new : Parts R L) (events : Vec Event Global) (step : Step Xid) (reply : Reply Xid)
+      → IsSound see old → GoesOn see step reply old.parts new → vec_len old.events < EVENT_LIMIT
       → KeepsLog see (record { handed = old.handed; parts = new; events = events })
   unfolding somewhere
   log_then old new events step reply sound goes few =
@@ -137,18 +154,22 @@ module _ {R L : Type 0} (see : Sees R L) where
       record {
         order = λ h. log.order (sound.log.order h);
         honest = λ h. sound.log.honest (log.honest h);
-        start = λ order honest. subst (λ o. IsSomeAnd (see.logs.moment old.handed.value).content (StartsOver o)) (sym start) (sound.log.start order (log.honest honest));
+        start =
+            λ order honest. subst (λ o. IsSomeAnd (see.logs.moment old.handed.value).content (StartsOver o)) (sym start)
+            (sound.log.start order (log.honest honest));
         tied = λ order honest. log.tied (sound.log.order order) honest (sound.log.tied order (log.honest honest));
       }
 
   -- what was honest since
-  pub honest_before : (old : Inside R L) (new : Parts R L) (step : Step Xid) (reply : Reply Xid) → IsSound see old → GoesOn see step reply old.parts new → vec_len old.events < EVENT_LIMIT
+  pub honest_before : (old : Inside R L) (new : Parts R L) (step : Step Xid) (reply : Reply Xid) → IsSound see old
+      → GoesOn see step reply old.parts new → vec_len old.events < EVENT_LIMIT
       → (see.logs.moment (log_in new.manager)).is_honest → (see.logs.moment (log_in old.parts.manager)).is_honest
   unfolding somewhere
   honest_before old new step reply sound goes few h = let here = somewhere old sound few in (goes here.0 here.1 here.2).log.honest h
 
   -- an event that was answered that the log failed has raised its count
-  pub fault_has_cause : (old : Inside R L) (new : Parts R L) (events : Vec Event Global) (step : Step Xid) (reply copy : Reply Xid) → IsSound see old → GoesOn see step reply old.parts new → copy ≡ reply
+  pub fault_has_cause : (old : Inside R L) (new : Parts R L) (events : Vec Event Global) (step : Step Xid) (reply copy : Reply Xid)
+      → IsSound see old → GoesOn see step reply old.parts new → copy ≡ reply
       → vec_len old.events < EVENT_LIMIT → events.items ≡ old.events.items ++ record { step = step; reply = copy } ∷ []
       → (see.logs.moment old.handed.value).is_in_order → (see.logs.moment (log_in new.manager)).is_honest
       → FaultsHaveCauses see (seen old) (seen (record { handed = old.handed; parts = new; events = events }))
@@ -158,12 +179,15 @@ module _ {R L : Type 0} (see : Sees R L) where
       let more = goes here.0 here.1 here.2 in
       let counted = more.log.counted (sound.log.order order) honest (sound.log.tied order (more.log.honest honest)) in
       let all = items ∙ ap (λ (r : Reply Xid). old.events.items ++ record { step = step; reply = r } ∷ []) same in
-      causes_more old.events.items events.items (record { step = step; reply = reply }) (see.logs.moment (log_in old.parts.manager)).fault_count (see.logs.moment (log_in new.manager)).fault_count _ all
+      causes_more old.events.items events.items (record { step = step; reply = reply })
+      (see.logs.moment (log_in old.parts.manager)).fault_count (see.logs.moment (log_in new.manager)).fault_count _ all
       (rises here.0 (step_of step) reply (see.logs.moment (log_in old.parts.manager)).fault_count more.demanded) counted
 
   -- one event more
-  pub sound_then : (old : Inside R L) (new : Parts R L) (events : Vec Event Global) (step : Step Xid) (reply copy : Reply Xid) → IsSound see old → GoesOn see step reply old.parts new → copy ≡ reply
-      → vec_len old.events < EVENT_LIMIT → vec_len events ≡ vec_len old.events + 1 → events.items ≡ old.events.items ++ record { step = step; reply = copy } ∷ [] → vec_capacity events ≡ vec_capacity old.events
+  pub sound_then : (old : Inside R L) (new : Parts R L) (events : Vec Event Global) (step : Step Xid) (reply copy : Reply Xid)
+      → IsSound see old → GoesOn see step reply old.parts new → copy ≡ reply
+      → vec_len old.events < EVENT_LIMIT → vec_len events ≡ vec_len old.events + 1
+      → events.items ≡ old.events.items ++ record { step = step; reply = copy } ∷ [] → vec_capacity events ≡ vec_capacity old.events
       → IsSound see (record { handed = old.handed; parts = new; events = events })
   unfolding somewhere
   sound_then old new events step reply copy sound goes same few len items room =
@@ -176,22 +200,28 @@ module _ {R L : Type 0} (see : Sees R L) where
       record {
         few = omega (arith, few, len);
         room = omega (arith, sound.room, room);
-        stands = subst (λ p. Stands see p new) (sym (ap (λ s. history s events.items) start ∙ ap (history o) all ∙ history_push o old.events.items event)) after.stands;
-        demanded = subst (λ s. AreDemanded s events.items) (sym start) (subst (AreDemanded o) (sym all) (demanded_push o old.events.items event sound.demanded after.demanded));
+        stands =
+            subst (λ p. Stands see p new) (sym (ap (λ s. history s events.items) start ∙ ap (history o) all ∙ history_push o old.events.items event)) after.stands;
+        demanded =
+            subst (λ s. AreDemanded s events.items) (sym start)
+            (subst (AreDemanded o) (sym all) (demanded_push o old.events.items event sound.demanded after.demanded));
         log = log_then old new events step reply sound goes few;
       }
 
   -- what the step was answered
-  pub was_demanded : (old : Inside R L) (new : Parts R L) (step : Step Xid) (reply : Reply Xid) → IsSound see old → GoesOn see step reply old.parts new → vec_len old.events < EVENT_LIMIT
+  pub was_demanded : (old : Inside R L) (new : Parts R L) (step : Step Xid) (reply : Reply Xid) → IsSound see old
+      → GoesOn see step reply old.parts new → vec_len old.events < EVENT_LIMIT
       → Demanded (history (start_of see old.parts) old.events.items) (step_of step) (reply_of reply)
   unfolding somewhere
   was_demanded old new step reply sound goes few = let here = somewhere old sound few in (goes here.0 here.1 here.2).demanded
 
-  pub start_kept : (old : Inside R L) (new : Parts R L) (step : Step Xid) (reply : Reply Xid) → IsSound see old → GoesOn see step reply old.parts new → vec_len old.events < EVENT_LIMIT → start_of see new ≡ start_of see old.parts
+  pub start_kept : (old : Inside R L) (new : Parts R L) (step : Step Xid) (reply : Reply Xid) → IsSound see old
+      → GoesOn see step reply old.parts new → vec_len old.events < EVENT_LIMIT → start_of see new ≡ start_of see old.parts
   start_kept old new step reply sound goes few = let here = somewhere old sound few in start_stays old.parts new here.0 step reply here.1 here.2 goes
 
   -- what became of a branch, as its resource manager says
-  pub fate_is : (a : Inside R L) → IsSound see a → (x : Xid) (found b : Branch) (site : Site R) → Some found ≡ Some b → IsBranch b → x ≡ xid_of_branch b → slice_get a.parts.sites.items found.rm ≡ Some site
+  pub fate_is : (a : Inside R L) → IsSound see a → (x : Xid) (found b : Branch) (site : Site R) → Some found ≡ Some b → IsBranch b
+      → x ≡ xid_of_branch b → slice_get a.parts.sites.items found.rm ≡ Some site
       → fate_of (see.look.held_of site.rm x).standing ≡ fate (history (start_of see a.parts) a.events.items) b
   fate_is a sound x found b site same fits e at =
       let is : found ≡ b = cc in

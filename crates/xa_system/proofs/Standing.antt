@@ -71,9 +71,11 @@ pub lines_with : (tr : Trace) (g : Grid) (t r : ℕ) (x : Traffic) → IsWhole g
     → (u s : ℕ) → HasLine g u s → LineStands tr (line u s) (line_at (with_line g t r x) u s)
 lines_with tr g t r x whole has here others u s has_u =
     elim (eqb_tells s r) [
-      | inr apart ↦ subst (LineStands tr (line u s)) (sym (line_at-with_line_other_rm g t r u s x has.1 has_u.1 apart.1)) (others u s has_u (lines_apart_rm t r u s apart.1))
+      | inr apart ↦ subst (LineStands tr (line u s)) (sym (line_at-with_line_other_rm g t r u s x has.1 has_u.1 apart.1))
+          (others u s has_u (lines_apart_rm t r u s apart.1))
       | inl same_rm ↦ (elim (eqb_tells u t) [
-        | inr apart ↦ subst (LineStands tr (line u s)) (sym (line_at-with_line_other_thread g t r u s x has.1 has_u.1 apart.1)) (others u s has_u (lines_apart_thread t r u s apart.1))
+        | inr apart ↦ subst (LineStands tr (line u s)) (sym (line_at-with_line_other_thread g t r u s x has.1 has_u.1 apart.1))
+            (others u s has_u (lines_apart_thread t r u s apart.1))
         | inl same_thread ↦ subst (λ n. LineStands tr (line n s) (line_at (with_line g t r x) n s)) (sym same_thread.1)
             (subst (λ n. LineStands tr (line t n) (line_at (with_line g t r x) t n)) (sym same_rm.1)
             (subst (LineStands tr (line t r)) (sym (line_at-with_line_same g t r x whole has)) here))
@@ -81,7 +83,8 @@ lines_with tr g t r x whole has here others u s has_u =
     ]
 
 -- one line changed into what it was
-pub lines_same : (g : Grid) (t r : ℕ) (x : Traffic) → IsWhole g → HasLine g t r → x ≡ line_at g t r → (u s : ℕ) → HasLine g u s → line_at (with_line g t r x) u s ≡ line_at g u s
+pub lines_same : (g : Grid) (t r : ℕ) (x : Traffic) → IsWhole g → HasLine g t r → x ≡ line_at g t r → (u s : ℕ) → HasLine g u s
+    → line_at (with_line g t r x) u s ≡ line_at g u s
 lines_same g t r x whole has same u s has_u =
     elim (eqb_tells s r) [
       | inr apart ↦ line_at-with_line_other_rm g t r u s x has.1 has_u.1 apart.1
@@ -120,7 +123,8 @@ module _ {R L : Type 0} (see : Sees R L) where
   }
 
   -- one site changed, and the others stay
-  pub sites_with : (tr : Trace) (e : Happening) (sites : Vec (Site R) Global) (r : ℕ) (before after : Site R) → slice_get sites.items r ≡ Some before → SiteStands see (Then tr e) r after
+  pub sites_with : (tr : Trace) (e : Happening) (sites : Vec (Site R) Global) (r : ℕ) (before after : Site R)
+      → slice_get sites.items r ≡ Some before → SiteStands see (Then tr e) r after
       → ((s : ℕ) → s ≢ r → IsNothingTo tr e s) → ((s : ℕ) (site : Site R) → slice_get sites.items s ≡ Some site → SiteStands see tr s site)
       → (s : ℕ) (site : Site R) → slice_get (with_item sites r after).items s ≡ Some site → SiteStands see (Then tr e) s site
   sites_with tr e sites r before after at here others stand s site there =
@@ -134,14 +138,21 @@ module _ {R L : Type 0} (see : Sees R L) where
       ]
 
   -- one site changed into one that is the same
-  pub site_same : (sites : Vec (Site R) Global) (r : ℕ) (before after : Site R) → slice_get sites.items r ≡ Some before → after.is_up ≡ before.is_up → IsSame see.look before.rm after.rm
-      → (s : ℕ) (site : Site R) → slice_get sites.items s ≡ Some site → (now : Site R) × (slice_get (with_item sites r after).items s ≡ Some now) × (now.is_up ≡ site.is_up) × IsSame see.look site.rm now.rm
+  pub site_same : (sites : Vec (Site R) Global) (r : ℕ) (before after : Site R) → slice_get sites.items r ≡ Some before
+      → after.is_up ≡ before.is_up → IsSame see.look before.rm after.rm
+      → (s : ℕ) (site : Site R) → slice_get sites.items s ≡ Some site
+      → (now : Site R) × (slice_get (with_item sites r after).items s ≡ Some now) × (now.is_up ≡ site.is_up) × IsSame see.look site.rm now.rm
   site_same sites r before after at up same s site there =
       elim (eqb_tells s r) [
         | inl w ↦ (
             let one : Some before ≡ Some site = sym at ∙ ap (slice_get sites.items) (sym w.1) ∙ there in
-            let is : before ≡ site = cc in
-            (after, ap (slice_get (set sites.items r after)) w.1 ∙ get_set_same sites.items r after before at, up ∙ ap (λ (x : Site R). x.is_up) is, subst (λ (x : Site R). IsSame see.look x.rm after.rm) is same))
+            let is : before ≡ site = cc in (
+              after,
+              ap (slice_get (set sites.items r after)) w.1 ∙ get_set_same sites.items r after before at,
+              up ∙ ap
+                  (λ (x : Site R). x.is_up) is,
+              subst (λ (x : Site R). IsSame see.look x.rm after.rm) is same,
+            ))
         | inr apart ↦ (site, get_set_other sites.items r s after apart.1 ∙ there, refl, stays_same see.look site.rm)
       ]
 
@@ -163,7 +174,8 @@ module _ {R L : Type 0} (see : Sees R L) where
     pub unchanged : e ≡ Nothing → IsUnchanged see old new
 
   -- so one event more has happened
-  pub goes : (tr : Trace) (step : Step Xid) (reply : Reply Xid) (old new : Parts R L) → Stands see tr old → StepHasXids step → Demanded tr (step_of step) (reply_of reply)
+  pub goes : (tr : Trace) (step : Step Xid) (reply : Reply Xid) (old new : Parts R L) → Stands see tr old → StepHasXids step
+      → Demanded tr (step_of step) (reply_of reply)
       → Follows tr (happened (step_of step) (reply_of reply)) old new → OneMore see step reply tr old new
   goes tr step reply old new stands has demanded follows = record {
     demanded = demanded;
@@ -188,10 +200,12 @@ module _ {R L : Type 0} (see : Sees R L) where
   }
 
   -- the same, where what the history knows of the reply is at hand
-  pub goes_as : (tr : Trace) (step : Step Xid) (reply : Reply Xid) (seen : KnownReply) (old new : Parts R L) → Stands see tr old → StepHasXids step → reply_of reply ≡ seen → Demanded tr (step_of step) seen
+  pub goes_as : (tr : Trace) (step : Step Xid) (reply : Reply Xid) (seen : KnownReply) (old new : Parts R L) → Stands see tr old
+      → StepHasXids step → reply_of reply ≡ seen → Demanded tr (step_of step) seen
       → Follows tr (happened (step_of step) seen) old new → OneMore see step reply tr old new
   goes_as tr step reply seen old new stands has is demanded follows =
-      goes tr step reply old new stands has (subst (Demanded tr (step_of step)) (sym is) demanded) (subst (λ r. Follows tr (happened (step_of step) r) old new) (sym is) follows)
+      goes tr step reply old new stands has (subst (Demanded tr (step_of step)) (sym is) demanded)
+      (subst (λ r. Follows tr (happened (step_of step) r) old new) (sym is) follows)
 
   -- ** what is often needed
 
@@ -212,7 +226,8 @@ module _ {R L : Type 0} (see : Sees R L) where
       (subst (λ n. t < n) (ap (λ o. o.threads) stands.origin) (ltb-true t _ both.0), subst (λ n. r < n) (sym stands.rms) (ltb-true r _ both.1))
 
   pub nothing_to : (tr : Trace) (r : ℕ) → IsNothingTo tr Nothing r
-  nothing_to tr r = record { quiet = record { branches = record { standing = λ b at. refl; vote = λ b at. refl; retries = λ b at. refl }; scan_stays = refl }; is_up = refl }
+  nothing_to tr r =
+      record { quiet = record { branches = record { standing = λ b at. refl; vote = λ b at. refl; retries = λ b at. refl }; scan_stays = refl }; is_up = refl }
 
   pub same_rm : (tr : Trace) (r : ℕ) (old new : R) → IsSame see.look old new → RmStands see.look tr r old → RmStands see.look tr r new
   same_rm tr r old new same stand = record {
@@ -221,12 +236,14 @@ module _ {R L : Type 0} (see : Sees R L) where
   }
 
   -- whether the system has a line, as it finds out
-  pub there_is : (tr : Trace) (parts : Parts R L) (t r : ℕ) → Stands see tr parts → (nat_lt t parts.lines.threads && nat_lt r parts.lines.rms) ≡ (has_thread tr t && has_rm tr r)
+  pub there_is : (tr : Trace) (parts : Parts R L) (t r : ℕ) → Stands see tr parts
+      → (nat_lt t parts.lines.threads && nat_lt r parts.lines.rms) ≡ (has_thread tr t && has_rm tr r)
   there_is tr parts t r stands = λ i. (nat_lt t (sym (ap (λ o. o.threads) stands.origin) i) && nat_lt r (stands.rms i))
 
   -- where nothing happens, what the book says stays
   pub nothing_follows : (tr : Trace) (parts : Parts R L) (manager : Manager L) → Stands see tr parts → book_in manager ≡ book_in parts.manager
-      → log_in manager ≡ log_in parts.manager → Follows tr Nothing parts (record { alloc = parts.alloc; start = parts.start; began = parts.began; sites = parts.sites; lines = parts.lines; manager = manager })
+      → log_in manager ≡ log_in parts.manager
+      → Follows tr Nothing parts (record { alloc = parts.alloc; start = parts.start; began = parts.began; sites = parts.sites; lines = parts.lines; manager = manager })
   nothing_follows tr parts manager stands same log = record {
     start = refl;
     began = refl;
@@ -250,22 +267,28 @@ module _ {R L : Type 0} (see : Sees R L) where
   comes_to_nothing n s f = refl
 
   -- a refused step goes on with nothing changed
-  pub refused_goes : (step : Step Xid) (parts : Parts R L) (reply : Reply Xid) (n : Refusal) → StepHasXids step → reply ≡ Replies.Refused n → ((tr : Trace) → Stands see tr parts → must_refuse tr (step_of step) ≡ Some n)
+  pub refused_goes : (step : Step Xid) (parts : Parts R L) (reply : Reply Xid) (n : Refusal) → StepHasXids step
+      → reply ≡ Replies.Refused n → ((tr : Trace) → Stands see tr parts → must_refuse tr (step_of step) ≡ Some n)
       → GoesOn see step reply parts parts
   refused_goes step parts reply n has is forced_so tr stands few =
       let why = forced_so tr stands in
       goes_as tr step reply (Replies.Refused n) parts parts stands has (ap reply_of is) (By_rule n why refl)
-      (subst (λ e. Follows tr e parts parts) (sym (comes_to_nothing n (step_of step) (forced tr (step_of step) n why))) (nothing_follows tr parts parts.manager stands refl refl))
+      (subst (λ e. Follows tr e parts parts) (sym (comes_to_nothing n (step_of step) (forced tr (step_of step) n why)))
+      (nothing_follows tr parts parts.manager stands refl refl))
 
   -- so does one that memory was refused to
-  pub lacking_goes : (tr : Trace) (step : Step Xid) (parts : Parts R L) (manager : Manager L) (reply : Reply Xid) → Stands see tr parts → StepHasXids step → reply ≡ Replies.Refused Refusals.Memory → must_refuse tr (step_of step) ≡ None → MayLackMemory tr (step_of step)
+  pub lacking_goes : (tr : Trace) (step : Step Xid) (parts : Parts R L) (manager : Manager L) (reply : Reply Xid)
+      → Stands see tr parts → StepHasXids step → reply ≡ Replies.Refused Refusals.Memory → must_refuse tr (step_of step) ≡ None
+      → MayLackMemory tr (step_of step)
       → book_in manager ≡ book_in parts.manager → log_in manager ≡ log_in parts.manager
       → OneMore see step reply tr parts (record { alloc = parts.alloc; start = parts.start; began = parts.began; sites = parts.sites; lines = parts.lines; manager = manager })
   lacking_goes tr step parts manager reply stands has is none may same log =
-      goes_as tr step reply (Replies.Refused Refusals.Memory) parts _ stands has (ap reply_of is) (For_memory none may refl) (nothing_follows tr parts manager stands same log)
+      goes_as tr step reply (Replies.Refused Refusals.Memory) parts _ stands has (ap reply_of is) (For_memory none may refl)
+      (nothing_follows tr parts manager stands same log)
 
   -- the site that was read
-  pub site_read : (tr : Trace) (parts : Parts R L) (t r : ℕ) (site : Site R) → Stands see tr parts → (nat_lt t parts.lines.threads && nat_lt r parts.lines.rms) ≡ true → site ≡ get_or parts.sites.items r site
+  pub site_read : (tr : Trace) (parts : Parts R L) (t r : ℕ) (site : Site R) → Stands see tr parts
+      → (nat_lt t parts.lines.threads && nat_lt r parts.lines.rms) ≡ true → site ≡ get_or parts.sites.items r site
       → slice_get parts.sites.items r ≡ Some site
   site_read tr parts t r site stands e is =
       let within : r < parts.lines.rms = ltb-true r parts.lines.rms (and_parts _ _ e).1 in
@@ -273,7 +296,8 @@ module _ {R L : Type 0} (see : Sees R L) where
       slice_get_read parts.sites.items (vec_len parts.sites) r site parts.sites.ok.0 (omega (arith, within, count)) is
 
   -- a refusal that is forced, where the manager holds what it held
-  pub rule_goes : (tr : Trace) (step : Step Xid) (reply : Reply Xid) (parts : Parts R L) (manager : Manager L) (n : Refusal) → Stands see tr parts → StepHasXids step → reply ≡ Replies.Refused n → must_refuse tr (step_of step) ≡ Some n
+  pub rule_goes : (tr : Trace) (step : Step Xid) (reply : Reply Xid) (parts : Parts R L) (manager : Manager L) (n : Refusal)
+      → Stands see tr parts → StepHasXids step → reply ≡ Replies.Refused n → must_refuse tr (step_of step) ≡ Some n
       → book_in manager ≡ book_in parts.manager → log_in manager ≡ log_in parts.manager
       → OneMore see step reply tr parts (record { alloc = parts.alloc; start = parts.start; began = parts.began; sites = parts.sites; lines = parts.lines; manager = manager })
   rule_goes tr step reply parts manager n stands has is why same log =

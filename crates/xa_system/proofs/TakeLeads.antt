@@ -73,7 +73,8 @@ took_quiet tr l (Calls.Start c false) (Ret code) s home apart = record {
   };
   scan_stays = refl;
 }
-took_quiet tr l (Calls.Start c false) (Page ns) s home apart = record { branches = record { standing = λ b at. refl; vote = λ b at. refl; retries = λ b at. retries_page tr l Start b c ns }; scan_stays = refl }
+took_quiet tr l (Calls.Start c false) (Page ns) s home apart =
+    record { branches = record { standing = λ b at. refl; vote = λ b at. refl; retries = λ b at. retries_page tr l Start b c ns }; scan_stays = refl }
 took_quiet tr l (Calls.Start c true) (Ret code) s home apart = record {
   branches = record {
     standing = λ b at. rw (elsewhere b c l.rm s apart home at) refl;
@@ -82,7 +83,8 @@ took_quiet tr l (Calls.Start c true) (Ret code) s home apart = record {
   };
   scan_stays = refl;
 }
-took_quiet tr l (Calls.Start c true) (Page ns) s home apart = record { branches = record { standing = λ b at. refl; vote = λ b at. refl; retries = λ b at. retries_page tr l Join b c ns }; scan_stays = refl }
+took_quiet tr l (Calls.Start c true) (Page ns) s home apart =
+    record { branches = record { standing = λ b at. refl; vote = λ b at. refl; retries = λ b at. retries_page tr l Join b c ns }; scan_stays = refl }
 took_quiet tr l (Calls.End c f) (Ret code) s home apart = record {
   branches = record {
     standing = λ b at. rw (elsewhere b c l.rm s apart home at) refl;
@@ -91,7 +93,8 @@ took_quiet tr l (Calls.End c f) (Ret code) s home apart = record {
   };
   scan_stays = refl;
 }
-took_quiet tr l (Calls.End c f) (Page ns) s home apart = record { branches = record { standing = λ b at. refl; vote = λ b at. refl; retries = λ b at. retries_page tr l (End f) b c ns }; scan_stays = refl }
+took_quiet tr l (Calls.End c f) (Page ns) s home apart =
+    record { branches = record { standing = λ b at. refl; vote = λ b at. refl; retries = λ b at. retries_page tr l (End f) b c ns }; scan_stays = refl }
 took_quiet tr l (Calls.Prepare c) (Ret code) s home apart = record {
   branches = record {
     standing = λ b at. rw (elsewhere b c l.rm s apart home at) refl;
@@ -100,7 +103,8 @@ took_quiet tr l (Calls.Prepare c) (Ret code) s home apart = record {
   };
   scan_stays = refl;
 }
-took_quiet tr l (Calls.Prepare c) (Page ns) s home apart = record { branches = record { standing = λ b at. refl; vote = λ b at. refl; retries = λ b at. retries_page tr l Prepare b c ns }; scan_stays = refl }
+took_quiet tr l (Calls.Prepare c) (Page ns) s home apart =
+    record { branches = record { standing = λ b at. refl; vote = λ b at. refl; retries = λ b at. retries_page tr l Prepare b c ns }; scan_stays = refl }
 took_quiet tr l (Calls.Commit c false) (Ret code) s home apart = record {
   branches = record {
     standing = λ b at. rw (elsewhere b c l.rm s apart home at) refl;
@@ -109,7 +113,8 @@ took_quiet tr l (Calls.Commit c false) (Ret code) s home apart = record {
   };
   scan_stays = refl;
 }
-took_quiet tr l (Calls.Commit c false) (Page ns) s home apart = record { branches = record { standing = λ b at. refl; vote = λ b at. refl; retries = λ b at. retries_page tr l Commit b c ns }; scan_stays = refl }
+took_quiet tr l (Calls.Commit c false) (Page ns) s home apart =
+    record { branches = record { standing = λ b at. refl; vote = λ b at. refl; retries = λ b at. retries_page tr l Commit b c ns }; scan_stays = refl }
 took_quiet tr l (Calls.Commit c true) (Ret code) s home apart = record {
   branches = record {
     standing = λ b at. rw (elsewhere b c l.rm s apart home at) refl;
@@ -118,7 +123,8 @@ took_quiet tr l (Calls.Commit c true) (Ret code) s home apart = record {
   };
   scan_stays = refl;
 }
-took_quiet tr l (Calls.Commit c true) (Page ns) s home apart = record { branches = record { standing = λ b at. refl; vote = λ b at. refl; retries = λ b at. retries_page tr l OnePhase b c ns }; scan_stays = refl }
+took_quiet tr l (Calls.Commit c true) (Page ns) s home apart =
+    record { branches = record { standing = λ b at. refl; vote = λ b at. refl; retries = λ b at. retries_page tr l OnePhase b c ns }; scan_stays = refl }
 took_quiet tr l (Calls.Rollback c) (Ret code) s home apart = record {
   branches = record {
     standing = λ b at. rw (elsewhere b c l.rm s apart home at) refl;
@@ -127,7 +133,8 @@ took_quiet tr l (Calls.Rollback c) (Ret code) s home apart = record {
   };
   scan_stays = refl;
 }
-took_quiet tr l (Calls.Rollback c) (Page ns) s home apart = record { branches = record { standing = λ b at. refl; vote = λ b at. refl; retries = λ b at. retries_page tr l Rollback b c ns }; scan_stays = refl }
+took_quiet tr l (Calls.Rollback c) (Page ns) s home apart =
+    record { branches = record { standing = λ b at. refl; vote = λ b at. refl; retries = λ b at. retries_page tr l Rollback b c ns }; scan_stays = refl }
 took_quiet tr l (Calls.Forget c) (Ret code) s home apart = record {
   branches = record {
     standing = λ b at. rw (elsewhere b c l.rm s apart home at) refl;
@@ -136,15 +143,21 @@ took_quiet tr l (Calls.Forget c) (Ret code) s home apart = record {
   };
   scan_stays = refl;
 }
-took_quiet tr l (Calls.Forget c) (Page ns) s home apart = record { branches = record { standing = λ b at. refl; vote = λ b at. refl; retries = λ b at. retries_page tr l Forget b c ns }; scan_stays = refl }
-took_quiet tr l Calls.OpenRm a s home apart = record { branches = record { standing = λ b at. standing_none tr l Calls.OpenRm a b refl; vote = λ b at. refl; retries = λ b at. refl }; scan_stays = refl }
-took_quiet tr l Calls.CloseRm a s home apart = record { branches = record { standing = λ b at. standing_none tr l Calls.CloseRm a b refl; vote = λ b at. refl; retries = λ b at. refl }; scan_stays = refl }
-took_quiet tr l (Calls.Recover n x y) a s home apart = record { branches = record { standing = λ b at. standing_none tr l (Calls.Recover n x y) a b refl; vote = λ b at. refl; retries = λ b at. refl }; scan_stays = rw (lines_apart_rm l.thread l.rm 0 s apart) refl }
+took_quiet tr l (Calls.Forget c) (Page ns) s home apart =
+    record { branches = record { standing = λ b at. refl; vote = λ b at. refl; retries = λ b at. retries_page tr l Forget b c ns }; scan_stays = refl }
+took_quiet tr l Calls.OpenRm a s home apart =
+    record { branches = record { standing = λ b at. standing_none tr l Calls.OpenRm a b refl; vote = λ b at. refl; retries = λ b at. refl }; scan_stays = refl }
+took_quiet tr l Calls.CloseRm a s home apart =
+    record { branches = record { standing = λ b at. standing_none tr l Calls.CloseRm a b refl; vote = λ b at. refl; retries = λ b at. refl }; scan_stays = refl }
+took_quiet tr l (Calls.Recover n x y) a s home apart =
+    record { branches = record { standing = λ b at. standing_none tr l (Calls.Recover n x y) a b refl; vote = λ b at. refl; retries = λ b at. refl }; scan_stays = rw (lines_apart_rm l.thread l.rm 0 s apart) refl }
 
 -- ** the line
 
-took_line : (tr : Trace) (l : Line) (k : Call) (call : Asking.Call Xid) (a : Given.Answer Xid) (before after : Traffic) → LineStands tr l before → known call ≡ Some k
-    → PassesOn before.calls call after.calls → after.answers ≡ with_one_more before.answers (call, a) → LineStands (Then tr (Took l k (map_answer name_of a))) l after
+took_line : (tr : Trace) (l : Line) (k : Call) (call : Asking.Call Xid) (a : Given.Answer Xid) (before after : Traffic)
+    → LineStands tr l before → known call ≡ Some k
+    → PassesOn before.calls call after.calls → after.answers ≡ with_one_more before.answers (call, a)
+    → LineStands (Then tr (Took l k (map_answer name_of a))) l after
 took_line tr l k call a before after stands is passes put =
     line_goes_on tr (Took l k (map_answer name_of a)) l before after [] ((call, a) ∷ []) [] stands refl
     (all_of-PassesOn before.calls call after.calls passes ∙ sym (append-nil (issued before))) refl
@@ -158,7 +171,8 @@ took_line tr l k call a before after stands is passes put =
 pub take_why : (there up full : Bool) → Option Refusal
 take_why there up full = if there then (if not up then Some Refusals.RmDown else (if full then Some Refusals.Full else None)) else Some Refusals.Limit
 
-pub take_rule : (tr : Trace) (t r : ℕ) → must_refuse tr (Steps.Take t r) ≡ take_why (has_thread tr t && has_rm tr r) (rm_up tr r) (nat_le 64 (unheard tr (line t r)))
+pub take_rule : (tr : Trace) (t r : ℕ)
+    → must_refuse tr (Steps.Take t r) ≡ take_why (has_thread tr t && has_rm tr r) (rm_up tr r) (nat_le 64 (unheard tr (line t r)))
 unfolding take_why
 take_rule tr t r = refl
 
@@ -173,8 +187,10 @@ take_none false up full e = absurd (cc)
 
 module _ {R L : Type 0} (see : Sees R L) where
   -- where nothing happened to the resource manager and the line
-  take_nothing : (tr : Trace) (parts : Parts R L) (t r : ℕ) (site : Site R) (after : R) (x : Traffic) → slice_get parts.sites.items r ≡ Some site → HasLine parts.lines t r → Stands see tr parts
-      → x ≡ line_at parts.lines t r → IsSame see.look site.rm after → Follows see tr Nothing parts (with_site_and_line see parts t r (record { rm = after; is_up = site.is_up }) x)
+  take_nothing : (tr : Trace) (parts : Parts R L) (t r : ℕ) (site : Site R) (after : R) (x : Traffic)
+      → slice_get parts.sites.items r ≡ Some site → HasLine parts.lines t r → Stands see tr parts
+      → x ≡ line_at parts.lines t r → IsSame see.look site.rm after
+      → Follows see tr Nothing parts (with_site_and_line see parts t r (record { rm = after; is_up = site.is_up }) x)
   take_nothing tr parts t r site after x at has stands same_line same = record {
     start = refl;
     began = refl;
@@ -184,10 +200,12 @@ module _ {R L : Type 0} (see : Sees R L) where
     whole = whole-with_line parts.lines t r x stands.whole;
     count = refl;
     sites = sites_with see tr Nothing parts.sites r site (record { rm = after; is_up = site.is_up }) at
-        (site_stays see tr Nothing r (record { rm = after; is_up = site.is_up }) (nothing_to see tr r) (record { is_up = (stands.sites r site at).is_up; rm = same_rm see tr r site.rm after same (stands.sites r site at).rm }))
+        (site_stays see tr Nothing r (record { rm = after; is_up = site.is_up }) (nothing_to see tr r)
+        (record { is_up = (stands.sites r site at).is_up; rm = same_rm see tr r site.rm after same (stands.sites r site at).rm }))
         (λ s apart. nothing_to see tr s) stands.sites;
     lines = lines_with (Then tr Nothing) parts.lines t r x stands.whole has
-        (subst (LineStands (Then tr Nothing) (line t r)) (sym same_line) (line_stays tr Nothing (line t r) (line_at parts.lines t r) refl refl refl refl (stands.lines t r has)))
+        (subst (LineStands (Then tr Nothing) (line t r)) (sym same_line)
+        (line_stays tr Nothing (line t r) (line_at parts.lines t r) refl refl refl refl (stands.lines t r has)))
         (λ u s has_u apart. line_stays tr Nothing (line u s) (line_at parts.lines u s) refl refl refl refl (stands.lines u s has_u));
     book = stands.book;
     log = log_stays see.logs Nothing parts.manager (λ n. refl);
@@ -199,7 +217,8 @@ module _ {R L : Type 0} (see : Sees R L) where
     };
   }
 
-  took_one : (tr : Trace) (parts : Parts R L) (t r : ℕ) (site : Site R) (after : R) (x : Traffic) (call : Asking.Call Xid) (a : Given.Answer Xid) → slice_get parts.sites.items r ≡ Some site → HasLine parts.lines t r → Stands see tr parts
+  took_one : (tr : Trace) (parts : Parts R L) (t r : ℕ) (site : Site R) (after : R) (x : Traffic) (call : Asking.Call Xid) (a : Given.Answer Xid)
+      → slice_get parts.sites.items r ≡ Some site → HasLine parts.lines t r → Stands see tr parts
       → must_refuse tr (Steps.Take t r) ≡ None → TakesOne see.look t call a site.rm after (line_at parts.lines t r) x
       → OneMore see (Steps.Take t r) (Replies.Took call a) tr parts (with_site_and_line see parts t r (record { rm = after; is_up = site.is_up }) x)
   took_one tr parts t r site after x call a at has stands none took =
@@ -211,9 +230,11 @@ module _ {R L : Type 0} (see : Sees R L) where
       let within : r < (facts.origin tr).rms = subst (λ n. r < n) stands.rms has.1 in
       let right = took_rightly see.look tr l site.rm after stands.kept stands.clear within site_here.rm call k a took.has_xid waits.1 waits.2 took.applied in
       let e = Took l k (map_answer name_of a) in
-      goes_as see tr (Steps.Take t r) (Replies.Took call a) (Replies.Took (map_call Ours k) (map_answer name_of a)) parts _ stands tt (ap (λ c. Replies.Took c (map_answer name_of a)) (ours_back (map_call name_of call) k waits.1))
+      goes_as see tr (Steps.Take t r) (Replies.Took call a) (Replies.Took (map_call Ours k) (map_answer name_of a)) parts _ stands tt
+      (ap (λ c. Replies.Took c (map_answer name_of a)) (ours_back (map_call name_of call) k waits.1))
       (As_value none (Takes_one k (map_answer name_of a) waits.2 right.right))
-      (subst (λ h. Follows see tr h parts (with_site_and_line see parts t r (record { rm = after; is_up = site.is_up }) x)) (sym (ap (if_ours (λ d. Took l d (map_answer name_of a))) (accepted_ours k))) (record {
+      (subst (λ h. Follows see tr h parts (with_site_and_line see parts t r (record { rm = after; is_up = site.is_up }) x))
+      (sym (ap (if_ours (λ d. Took l d (map_answer name_of a))) (accepted_ours k))) (record {
         start = refl;
         began = refl;
         threads = refl;
@@ -233,7 +254,8 @@ module _ {R L : Type 0} (see : Sees R L) where
       }))
 
   pub take_leads : (parts : Parts R L) (t r : ℕ) (site : Site R) (after : R) (x : Traffic) (reply : Reply Xid) → slice_get parts.sites.items r ≡ Some site
-      → Takes see.look t site.rm after (line_at parts.lines t r) x reply → Leads see (Steps.Take t r) reply parts (with_site_and_line see parts t r (record { rm = after; is_up = site.is_up }) x)
+      → Takes see.look t site.rm after (line_at parts.lines t r) x reply
+      → Leads see (Steps.Take t r) reply parts (with_site_and_line see parts t r (record { rm = after; is_up = site.is_up }) x)
   unfolding take_why
   take_leads parts t r site after x (Replies.Took call a) at did tr stands few none =
       took_one tr parts t r site after x call a at (has_line see tr parts t r stands (take_none _ _ _ none).0) stands none did
@@ -252,11 +274,13 @@ module _ {R L : Type 0} (see : Sees R L) where
 
   -- ** a Take that is refused
 
-  pub take_limit : (tr : Trace) (parts : Parts R L) (t r : ℕ) → (nat_lt t parts.lines.threads && nat_lt r parts.lines.rms) ≡ false → Stands see tr parts → must_refuse tr (Steps.Take t r) ≡ Some Refusals.Limit
+  pub take_limit : (tr : Trace) (parts : Parts R L) (t r : ℕ) → (nat_lt t parts.lines.threads && nat_lt r parts.lines.rms) ≡ false
+      → Stands see tr parts → must_refuse tr (Steps.Take t r) ≡ Some Refusals.Limit
   unfolding take_why
   take_limit tr parts t r e stands = λ i. take_why ((sym (there_is see tr parts t r stands) ∙ e) i) (rm_up tr r) (nat_le 64 (unheard tr (line t r)))
 
-  take_seen : (tr : Trace) (parts : Parts R L) (t r : ℕ) (site : Site R) → (nat_lt t parts.lines.threads && nat_lt r parts.lines.rms) ≡ true → slice_get parts.sites.items r ≡ Some site → Stands see tr parts
+  take_seen : (tr : Trace) (parts : Parts R L) (t r : ℕ) (site : Site R)
+      → (nat_lt t parts.lines.threads && nat_lt r parts.lines.rms) ≡ true → slice_get parts.sites.items r ≡ Some site → Stands see tr parts
       → must_refuse tr (Steps.Take t r) ≡ take_why true site.is_up (nat_le 64 (length (line_at parts.lines t r).answers.waiting))
   unfolding take_why
   take_seen tr parts t r site e at stands =
@@ -264,12 +288,15 @@ module _ {R L : Type 0} (see : Sees R L) where
       let many = as_many_answers tr (line t r) (line_at parts.lines t r) (stands.lines t r (has_line see tr parts t r stands there)) in
       λ i. take_why (there i) (sym (stands.sites r site at).is_up i) (nat_le 64 (sym many i))
 
-  pub take_down : (tr : Trace) (parts : Parts R L) (t r : ℕ) (site : Site R) → (nat_lt t parts.lines.threads && nat_lt r parts.lines.rms) ≡ true → slice_get parts.sites.items r ≡ Some site → site.is_up ≡ false → Stands see tr parts
+  pub take_down : (tr : Trace) (parts : Parts R L) (t r : ℕ) (site : Site R)
+      → (nat_lt t parts.lines.threads && nat_lt r parts.lines.rms) ≡ true → slice_get parts.sites.items r ≡ Some site → site.is_up ≡ false → Stands see tr parts
       → must_refuse tr (Steps.Take t r) ≡ Some Refusals.RmDown
   unfolding take_why
-  take_down tr parts t r site e at down stands = take_seen tr parts t r site e at stands ∙ ap (λ u. take_why true u (nat_le 64 (length (line_at parts.lines t r).answers.waiting))) down
+  take_down tr parts t r site e at down stands =
+      take_seen tr parts t r site e at stands ∙ ap (λ u. take_why true u (nat_le 64 (length (line_at parts.lines t r).answers.waiting))) down
 
-  pub take_full : (tr : Trace) (parts : Parts R L) (t r : ℕ) (site : Site R) (free : ℕ) → (nat_lt t parts.lines.threads && nat_lt r parts.lines.rms) ≡ true → slice_get parts.sites.items r ≡ Some site → site.is_up ≡ true
+  pub take_full : (tr : Trace) (parts : Parts R L) (t r : ℕ) (site : Site R) (free : ℕ)
+      → (nat_lt t parts.lines.threads && nat_lt r parts.lines.rms) ≡ true → slice_get parts.sites.items r ≡ Some site → site.is_up ≡ true
       → free ≡ 64 - length (line_at parts.lines t r).answers.waiting → free ≡ 0 → Stands see tr parts → must_refuse tr (Steps.Take t r) ≡ Some Refusals.Full
   unfolding take_why
   take_full tr parts t r site free e at is_up is zero_free stands =
@@ -277,7 +304,8 @@ module _ {R L : Type 0} (see : Sees R L) where
       let full : nat_le 64 n ≡ true = grind (arith, nat_tests) in
       take_seen tr parts t r site e at stands ∙ λ i. take_why true (is_up i) (full i)
 
-  pub take_may : (tr : Trace) (parts : Parts R L) (t r : ℕ) (site : Site R) (free : ℕ) → (nat_lt t parts.lines.threads && nat_lt r parts.lines.rms) ≡ true → slice_get parts.sites.items r ≡ Some site → site.is_up ≡ true
+  pub take_may : (tr : Trace) (parts : Parts R L) (t r : ℕ) (site : Site R) (free : ℕ)
+      → (nat_lt t parts.lines.threads && nat_lt r parts.lines.rms) ≡ true → slice_get parts.sites.items r ≡ Some site → site.is_up ≡ true
       → free ≡ 64 - length (line_at parts.lines t r).answers.waiting → free ≢ 0 → Stands see tr parts → must_refuse tr (Steps.Take t r) ≡ None
   unfolding take_why
   take_may tr parts t r site free e at is_up is some_free stands =

@@ -17,19 +17,19 @@ use Rattle.xa_log.specs.Contract.{Makes, MayMake, one_more_fault}
 use Rattle.xa_log.specs.declared.decision_log.DecisionLog as DecisionLog
 use Rattle.xa_log.specs.KeySet.{KeySet, from_list}
 use Rattle.xa_tm.specs.Kept.{book_in, log_in}
-use Rattle.xa_tm.specs.Starting.{started}
+use Rattle.xa_tm.specs.Starting.{book_at_start}
 use Rattle.xa_tm.specs.Tied.{IsTied, SameRows}
 use Rattle.xa_tm.specs.declared.manager.Manager.{Manager}
 
 -- ** rows and records
 
 -- the row of a transaction: the branches whose xa_commit it waits for
-abbrev pub row_of : Trace → Gtrid → Option (KeySet branch_cmp)
-row_of tr g = if has_row tr g then Some (from_list (participants tr g)) else None
+abbrev pub participants_of_row : Trace → Gtrid → Option (KeySet branch_cmp)
+participants_of_row tr g = if has_row tr g then Some (from_list (participants tr g)) else None
 
 -- the log has just the rows of the history, each with its participants, and its record
 pub record HoldsRows (tr : Trace) (c : Content) : Type 0 where
-  pub rows : (g : Gtrid) → get c.decisions g ≡ row_of tr g
+  pub rows : (g : Gtrid) → get c.decisions g ≡ participants_of_row tr g
   pub row_number : len c.decisions ≡ length (log tr)
   pub records : (b : Branch) → get c.heuristics b ≡ recorded_as tr b
   pub record_number : len c.heuristics ≡ length (heuristic_rows tr)
@@ -100,7 +100,7 @@ says_log_fault reply = false
 abbrev pub log_faults : List Event → ℕ
 log_faults events = length (filter (λ event. says_log_fault event.reply) events)
 
--- ** a manager that was just started
+-- ** a manager that was just book_at_start
 
 -- over a log that was handed to it
 pub record IsStartedOver {L : Type 0} (logs : DecisionLog.Ghosts L) (threads rms : ℕ) (handed : L) (manager : Manager L) : Type 0 where
@@ -109,7 +109,7 @@ pub record IsStartedOver {L : Type 0} (logs : DecisionLog.Ghosts L) (threads rms
   pub tied : (logs.moment handed).is_in_order → (logs.moment (log_in manager)).is_honest
       → IsTied (book_in manager) (logs.moment (log_in manager)).content
   pub book : (logs.moment handed).is_in_order → (logs.moment (log_in manager)).is_honest
-      → IsSomeAnd (logs.moment (log_in manager)).content (λ c. book_in manager ≡ started threads rms c)
+      → IsSomeAnd (logs.moment (log_in manager)).content (λ c. book_in manager ≡ book_at_start threads rms c)
   pub raised : (logs.moment handed).is_in_order → (logs.moment (log_in manager)).is_honest
       → Makes bumped (logs.moment handed).content (logs.moment (log_in manager)).content
   pub faults : (logs.moment (log_in manager)).fault_count ≡ (logs.moment handed).fault_count

@@ -49,15 +49,15 @@ sees held_of scan_of in_doubt_of log = record { look = looks held_of scan_of in_
 -- ** the start
 
 -- what the resource managers hold, the first being number 0, and none beyond them
-abbrev pub held_in : {R : Type 0} → Looks R → List R → (rm : ℕ) → Xid → HeldBranch
-held_in look rms r = option_map_or look.held_of (slice_get rms r) (λ x. new_branch)
+abbrev pub held_at_rm : {R : Type 0} → Looks R → List R → (rm : ℕ) → Xid → HeldBranch
+held_at_rm look rms r = option_map_or look.held_of (slice_get rms r) (λ x. new_branch)
 
 abbrev pub doubt_in : {R : Type 0} → Looks R → List R → (rm : ℕ) → List Xid
 doubt_in look rms r = option_map_or look.in_doubt_of (slice_get rms r) []
 
 -- where the first thread's scan stands: behind an identifier, whatever that names
-abbrev pub scan_in : {R : Type 0} → Looks R → List R → (rm : ℕ) → Scan Name
-scan_in look rms r = option_map_or (λ rm. scan_by (λ x. Foreign x) (look.scan_of rm 0)) (slice_get rms r) NotOpen
+abbrev pub first_scan : {R : Type 0} → Looks R → List R → (rm : ℕ) → Scan Name
+first_scan look rms r = option_map_or (λ rm. scan_by (λ x. Foreign x) (look.scan_of rm 0)) (slice_get rms r) NotOpen
 
 -- where a system starts whose manager begins so
 abbrev pub origin_from : {R : Type 0} → Looks R → (threads : ℕ) → List R
@@ -68,9 +68,9 @@ origin_from look threads rms incarnation rows records = record {
   incarnation = incarnation;
   rows = rows;
   heuristic_rows = records;
-  held = held_in look rms;
+  held = held_at_rm look rms;
   in_doubt = doubt_in look rms;
-  scans = scan_in look rms;
+  scans = first_scan look rms;
 }
 
 -- where a system of these parts starts

@@ -13,18 +13,23 @@ use Rattle.xa_tm.specs.Kept.{AsksFor}
 use Rattle.xa_tm.specs.Tied.{made}
 
 module _ {A B : Type 0} (old new : Moment) where
-  asks_made : (change : Content → Content) (x : A) (y : B) → Changes change old new (let r : Result A Fault = Ok x in r) → AsksFor change old new (let r : Result B Refusal = Ok y in r)
+  asks_made : (change : Content → Content) (x : A) (y : B) → Changes change old new (let r : Result A Fault = Ok x in r)
+      → AsksFor change old new (let r : Result B Refusal = Ok y in r)
   asks_made change x y did = record { fault = λ order is. absurd (cc); crash = did.crash; order = did.order; honest = did.honest; faults = did.faults }
 
-  asks_failed : (change : Content → Content) (e : Fault) → Changes change old new (let r : Result A Fault = Err e in r) → AsksFor change old new (let r : Result B Refusal = Err LogFault in r)
+  asks_failed : (change : Content → Content) (e : Fault) → Changes change old new (let r : Result A Fault = Err e in r)
+      → AsksFor change old new (let r : Result B Refusal = Err LogFault in r)
   asks_failed change e did = record { fault = λ order is. did.err order; crash = did.crash; order = did.order; honest = did.honest; faults = did.faults }
 
   -- ** a row, whose participants have another name
 
   pub adds_row : (g : Gtrid) (s t : KeySet branch_cmp) (x : A) (y : B) → s ≡ t → Changes (committed g s) old new (let r : Result A Fault = Ok x in r)
       → AsksFor (made (Adds g t)) old new (let r : Result B Refusal = Ok y in r)
-  adds_row g s t x y same did = subst (λ (u : KeySet branch_cmp). AsksFor (made (Adds g u)) old new (let r : Result B Refusal = Ok y in r)) same (asks_made (made (Adds g s)) x y did)
+  adds_row g s t x y same did =
+      subst (λ (u : KeySet branch_cmp). AsksFor (made (Adds g u)) old new (let r : Result B Refusal = Ok y in r)) same (asks_made (made (Adds g s)) x y did)
 
   pub adds_no_row : (g : Gtrid) (s t : KeySet branch_cmp) (e : Fault) → s ≡ t → Changes (committed g s) old new (let r : Result A Fault = Err e in r)
       → AsksFor (made (Adds g t)) old new (let r : Result B Refusal = Err LogFault in r)
-  adds_no_row g s t e same did = subst (λ (u : KeySet branch_cmp). AsksFor (made (Adds g u)) old new (let r : Result B Refusal = Err LogFault in r)) same (asks_failed (made (Adds g s)) e did)
+  adds_no_row g s t e same did =
+      subst (λ (u : KeySet branch_cmp). AsksFor (made (Adds g u)) old new (let r : Result B Refusal = Err LogFault in r)) same
+      (asks_failed (made (Adds g s)) e did)

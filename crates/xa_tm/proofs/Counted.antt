@@ -25,7 +25,8 @@ branches_counted tr g = counted_branches tr g ∙ count_is (λ b. gtrid_eq b.gtr
 pub votes_counted : (tr : Trace) (g : Gtrid) → AllRight tr → unvoted tr g ≡ length (filter (λ b. gtrid_eq b.gtrid g && not (has_voted tr b)) (branches tr))
 votes_counted tr g r = counted_votes tr g r ∙ count_is (λ b. gtrid_eq b.gtrid g && not (has_voted tr b)) (branches tr)
 
-pub settlements_counted : (tr : Trace) (g : Gtrid) → AllRight tr → begun tr g ≡ true → unsettled tr g ≡ length (filter (λ b. gtrid_eq b.gtrid g && not (settled tr b)) (branches tr))
+pub settlements_counted : (tr : Trace) (g : Gtrid) → AllRight tr → begun tr g ≡ true
+    → unsettled tr g ≡ length (filter (λ b. gtrid_eq b.gtrid g && not (settled tr b)) (branches tr))
 settlements_counted tr g r e = counted_settled tr g r e
     ∙ same_count _ (λ b. gtrid_eq b.gtrid g && not (settled tr b)) (branches tr) (λ b. ap (λ t. gtrid_eq b.gtrid g && not t) (sym (settled_is tr b)))
     ∙ count_is (λ b. gtrid_eq b.gtrid g && not (settled tr b)) (branches tr)

@@ -51,14 +51,16 @@ branch_tie b q = by (is_at (branch_cmp b) q) (branch_eq b q) refl refl
 
 -- room for a name says nothing of it
 pub reserved : (m n : BTreeMap Gtrid Transaction) (g : Gtrid) → false ≡ is_some (get gtrid_cmp m g)
-    → ((q : Gtrid) → get gtrid_cmp n q ≡ cond (is_at (gtrid_cmp g) q) (Some no_transaction) (get gtrid_cmp m q)) → (q : Gtrid) → transaction_at n q ≡ transaction_at m q
+    → ((q : Gtrid) → get gtrid_cmp n q ≡ cond (is_at (gtrid_cmp g) q) (Some no_transaction) (get gtrid_cmp m q)) → (q : Gtrid)
+    → transaction_at n q ≡ transaction_at m q
 reserved m n g none h q = ap (λ o. unwrap_or o no_transaction) (h q) ∙ by (is_at (gtrid_cmp g) q) refl
   where
     empty : (o : Option Transaction) → false ≡ is_some o → no_transaction ≡ unwrap_or o no_transaction
     empty None e = refl
     empty (Some t) e = absurd (cc)
 
-    by : (t : Bool) → is_at (gtrid_cmp g) q ≡ t → unwrap_or (cond t (Some no_transaction) (get gtrid_cmp m q)) no_transaction ≡ unwrap_or (get gtrid_cmp m q) no_transaction
+    by : (t : Bool) → is_at (gtrid_cmp g) q ≡ t
+        → unwrap_or (cond t (Some no_transaction) (get gtrid_cmp m q)) no_transaction ≡ unwrap_or (get gtrid_cmp m q) no_transaction
     by true e = subst (λ p. no_transaction ≡ unwrap_or (get gtrid_cmp m p) no_transaction) (exact_gtrids g q (equal_is _ e)) (empty (get gtrid_cmp m g) none)
     by false e = refl
 
@@ -66,7 +68,8 @@ reserved m n g none h q = ap (λ o. unwrap_or o no_transaction) (h q) ∙ by (is
 
 pub deal_is : (c d : Deal) → c.begun ≡ d.begun → c.committed ≡ d.committed → c.rolled_back ≡ d.rolled_back → c.handed_over ≡ d.handed_over
     → c.claimed ≡ d.claimed → c.has_yes ≡ d.has_yes → c.branches ≡ d.branches → c.unvoted ≡ d.unvoted → c.unsettled ≡ d.unsettled → c ≡ d
-deal_is c d b m r h l y n u s = λ i. record { begun = b i; committed = m i; rolled_back = r i; handed_over = h i; claimed = l i; has_yes = y i; branches = n i; unvoted = u i; unsettled = s i }
+deal_is c d b m r h l y n u s =
+    λ i. record { begun = b i; committed = m i; rolled_back = r i; handed_over = h i; claimed = l i; has_yes = y i; branches = n i; unvoted = u i; unsettled = s i }
 
 -- what this makes of it, and that the others stay
 pub one_deal : (after : Gtrid → Deal → Deal) (was now : Gtrid → Bool) (old mid new : Gtrid → Transaction) (g : Gtrid) (t : Transaction)
@@ -93,20 +96,24 @@ begun_now u i s e = grind (arith, eq-eqb)
 pub begun_not_yet : (u : Bool) (i s : ℕ) → begun_by u i s (record { incarnation = i; sequence = s + 1 }) ≡ false
 begun_not_yet u i s = grind (arith, and_false)
 
-pub begun_others : (u : Bool) (i s : ℕ) (q : Gtrid) → gtrid_eq (record { incarnation = i; sequence = s + 1 }) q ≡ false → begun_by u i (s + 1) q ≡ begun_by u i s q
+pub begun_others : (u : Bool) (i s : ℕ) (q : Gtrid) → gtrid_eq (record { incarnation = i; sequence = s + 1 }) q ≡ false
+    → begun_by u i (s + 1) q ≡ begun_by u i s q
 begun_others u i s q e = grind (arith, and_false)
 
 pub begin_deals : (k : Book) (u : Bool) (i s : ℕ) (old mid new : Gtrid → Transaction) (t : Transaction) → u ≡ true
     → t ≡ mid (record { incarnation = i; sequence = s + 1 })
     → ((q : Gtrid) → mid q ≡ old q)
     → ((q : Gtrid) → new q ≡ (if gtrid_eq (record { incarnation = i; sequence = s + 1 }) q then record t { is_claimed = false } else mid q))
-    → (q : Gtrid) → deal_of (begun_by u i (s + 1) q) (new q) ≡ deal_after k (Begun (record { incarnation = i; sequence = s + 1 })) q (deal_of (begun_by u i s q) (old q))
-begin_deals k u i s old mid new t up was same h = one_deal (deal_after k (Begun g)) (begun_by u i s) (begun_by u i (s + 1)) old mid new g (record t { is_claimed = false }) same h
+    → (q : Gtrid) → deal_of (begun_by u i (s + 1) q) (new q)
+    ≡ deal_after k (Begun (record { incarnation = i; sequence = s + 1 })) q (deal_of (begun_by u i s q) (old q))
+begin_deals k u i s old mid new t up was same h =
+    one_deal (deal_after k (Begun g)) (begun_by u i s) (begun_by u i (s + 1)) old mid new g (record t { is_claimed = false }) same h
     (λ self. deal_is _ _
     (begun_now u i s up ∙ sym (ap (λ b. b || begun_by u i s g) self))
     (ap (λ (x : Transaction). is_commit x.outcome) is) (ap (λ (x : Transaction). is_rollback x.outcome) is) (ap (λ (x : Transaction). x.is_handed_over) is)
     (and_false (begun_by u i (s + 1) g) ∙ sym (ap (λ b. b && (old g).is_claimed) (begun_not_yet u i s)))
-    (ap (λ (x : Transaction). x.has_yes) is) (ap (λ (x : Transaction). x.branches) is) (ap (λ (x : Transaction). x.unvoted) is) (ap (λ (x : Transaction). x.unsettled) is))
+    (ap (λ (x : Transaction). x.has_yes) is) (ap (λ (x : Transaction). x.branches) is) (ap (λ (x : Transaction). x.unvoted) is)
+    (ap (λ (x : Transaction). x.unsettled) is))
     (λ q e. deal_is _ _
     (begun_others u i s q e ∙ sym (ap (λ b. b || begun_by u i s q) e)) refl refl refl
     (ap (λ b. b && (old q).is_claimed) (begun_others u i s q e)) refl refl refl refl)
@@ -126,7 +133,8 @@ claim_deals k was old mid new g t begun there same h = one_deal (deal_after k (C
     (λ self. deal_is _ _ refl
     (ap (λ (x : Transaction). is_commit x.outcome) is) (ap (λ (x : Transaction). is_rollback x.outcome) is) (ap (λ (x : Transaction). x.is_handed_over) is)
     (ap (λ b. b && true) begun ∙ sym (ap (λ b. b || (was g && (old g).is_claimed)) self))
-    (ap (λ (x : Transaction). x.has_yes) is) (ap (λ (x : Transaction). x.branches) is) (ap (λ (x : Transaction). x.unvoted) is) (ap (λ (x : Transaction). x.unsettled) is))
+    (ap (λ (x : Transaction). x.has_yes) is) (ap (λ (x : Transaction). x.branches) is) (ap (λ (x : Transaction). x.unvoted) is)
+    (ap (λ (x : Transaction). x.unsettled) is))
     (λ q e. deal_is _ _ refl refl refl refl (sym (ap (λ b. b || (was q && (old q).is_claimed)) e)) refl refl refl refl)
   where
     is : t ≡ old g
@@ -134,14 +142,17 @@ claim_deals k was old mid new g t begun there same h = one_deal (deal_after k (C
 
 -- ** a transaction is handed over
 
-pub hand_over_deals : (k : Book) (l : Line) (b : Branch) (was : Gtrid → Bool) (old mid new : Gtrid → Transaction) (g : Gtrid) (t : Transaction) → b.gtrid ≡ g → t ≡ mid g
+pub hand_over_deals : (k : Book) (l : Line) (b : Branch) (was : Gtrid → Bool) (old mid new : Gtrid → Transaction) (g : Gtrid) (t : Transaction)
+    → b.gtrid ≡ g → t ≡ mid g
     → ((q : Gtrid) → mid q ≡ old q) → ((q : Gtrid) → new q ≡ (if gtrid_eq g q then record t { is_handed_over = true } else mid q))
     → (q : Gtrid) → deal_of (was q) (new q) ≡ deal_after k (Issued l (Calls.Commit b true)) q (deal_of (was q) (old q))
-hand_over_deals k l b was old mid new g t of there same h q = one_deal (λ p d. record d { handed_over = gtrid_eq g p || d.handed_over }) was was old mid new g (record t { is_handed_over = true }) same h
+hand_over_deals k l b was old mid new g t of there same h q =
+    one_deal (λ p d. record d { handed_over = gtrid_eq g p || d.handed_over }) was was old mid new g (record t { is_handed_over = true }) same h
     (λ self. deal_is _ _ refl
     (ap (λ (x : Transaction). is_commit x.outcome) is) (ap (λ (x : Transaction). is_rollback x.outcome) is) (sym (ap (λ b. b || (old g).is_handed_over) self))
     (ap (λ (x : Transaction). was g && x.is_claimed) is)
-    (ap (λ (x : Transaction). x.has_yes) is) (ap (λ (x : Transaction). x.branches) is) (ap (λ (x : Transaction). x.unvoted) is) (ap (λ (x : Transaction). x.unsettled) is))
+    (ap (λ (x : Transaction). x.has_yes) is) (ap (λ (x : Transaction). x.branches) is) (ap (λ (x : Transaction). x.unvoted) is)
+    (ap (λ (x : Transaction). x.unsettled) is))
     (λ q e. deal_is _ _ refl refl refl (sym (ap (λ b. b || (old q).is_handed_over) e)) refl refl refl refl refl) q
     ∙ ap (λ h. record (deal_of (was q) (old q)) { handed_over = gtrid_eq h q || (old q).is_handed_over }) (sym of)
   where
@@ -171,7 +182,8 @@ start_deals k b was old mid new t v s is voted settled same h = one_deal (with_b
     (ap (λ (x : Transaction). x.branches + 1) is ∙ sym (ap (λ (e : Bool). if e then (old b.gtrid).branches + 1 else (old b.gtrid).branches) self))
     (pick t.unvoted v (gtrid_eq b.gtrid b.gtrid) self ∙ ap (λ (x : Transaction). if gtrid_eq b.gtrid b.gtrid && not v then x.unvoted + 1 else x.unvoted) is
     ∙ ap (λ y. if gtrid_eq b.gtrid b.gtrid && not y then (old b.gtrid).unvoted + 1 else (old b.gtrid).unvoted) voted)
-    (pick t.unsettled s (gtrid_eq b.gtrid b.gtrid) self ∙ ap (λ (x : Transaction). if gtrid_eq b.gtrid b.gtrid && not s then x.unsettled + 1 else x.unsettled) is
+    (pick t.unsettled s (gtrid_eq b.gtrid b.gtrid) self ∙ ap
+    (λ (x : Transaction). if gtrid_eq b.gtrid b.gtrid && not s then x.unsettled + 1 else x.unsettled) is
     ∙ ap (λ y. if gtrid_eq b.gtrid b.gtrid && not y then (old b.gtrid).unsettled + 1 else (old b.gtrid).unsettled) settled))
     (λ q e. deal_is _ _ refl refl refl refl refl refl
     (sym (ap (λ (t : Bool). if t then (old q).branches + 1 else (old q).branches) e))
@@ -185,7 +197,8 @@ start_deals k b was old mid new t v s is voted settled same h = one_deal (with_b
 
 -- ** a transaction is decided
 
-pub decide_deals : (k : Book) (was : Gtrid → Bool) (old new : Gtrid → Transaction) (g : Gtrid) (o : Outcome) (t w : Transaction) → t ≡ old g → (old g).outcome ≡ None
+pub decide_deals : (k : Book) (was : Gtrid → Bool) (old new : Gtrid → Transaction) (g : Gtrid) (o : Outcome) (t w : Transaction)
+    → t ≡ old g → (old g).outcome ≡ None
     → w ≡ record t { outcome = Some o; is_claimed = false }
     → ((q : Gtrid) → new q ≡ (if gtrid_eq g q then w else old q))
     → (q : Gtrid) → deal_of (was q) (new q) ≡ deal_after k (Decided g o) q (deal_of (was q) (old q))
@@ -193,8 +206,10 @@ decide_deals k was old new g Outcomes.Commit t w is none made h = one_deal (deal
     (with_equal old new g w _ made h)
     (λ self. deal_is _ _ refl (sym (ap (λ b. b || is_commit (old g).outcome) self)) (sym (ap is_rollback none)) (ap (λ (x : Transaction). x.is_handed_over) is)
     (none_left (was g) ∙ sym (ap (λ b. not b && (was g && (old g).is_claimed)) self))
-    (ap (λ (x : Transaction). x.has_yes) is) (ap (λ (x : Transaction). x.branches) is) (ap (λ (x : Transaction). x.unvoted) is) (ap (λ (x : Transaction). x.unsettled) is))
-    (λ q e. deal_is _ _ refl (sym (ap (λ b. b || is_commit (old q).outcome) e)) refl refl (sym (ap (λ b. not b && (was q && (old q).is_claimed)) e)) refl refl refl refl)
+    (ap (λ (x : Transaction). x.has_yes) is) (ap (λ (x : Transaction). x.branches) is) (ap (λ (x : Transaction). x.unvoted) is)
+    (ap (λ (x : Transaction). x.unsettled) is))
+    (λ q e. deal_is _ _ refl (sym (ap (λ b. b || is_commit (old q).outcome) e)) refl refl
+    (sym (ap (λ b. not b && (was q && (old q).is_claimed)) e)) refl refl refl refl)
   where
     none_left : (t : Bool) → (t && false) ≡ false
     none_left true = refl
@@ -203,8 +218,10 @@ decide_deals k was old new g Outcomes.Rollback t w is none made h = one_deal (de
     (with_equal old new g w _ made h)
     (λ self. deal_is _ _ refl (sym (ap is_commit none)) (sym (ap (λ b. b || is_rollback (old g).outcome) self)) (ap (λ (x : Transaction). x.is_handed_over) is)
     (none_left (was g) ∙ sym (ap (λ b. not b && (was g && (old g).is_claimed)) self))
-    (ap (λ (x : Transaction). x.has_yes) is) (ap (λ (x : Transaction). x.branches) is) (ap (λ (x : Transaction). x.unvoted) is) (ap (λ (x : Transaction). x.unsettled) is))
-    (λ q e. deal_is _ _ refl refl (sym (ap (λ b. b || is_rollback (old q).outcome) e)) refl (sym (ap (λ b. not b && (was q && (old q).is_claimed)) e)) refl refl refl refl)
+    (ap (λ (x : Transaction). x.has_yes) is) (ap (λ (x : Transaction). x.branches) is) (ap (λ (x : Transaction). x.unvoted) is)
+    (ap (λ (x : Transaction). x.unsettled) is))
+    (λ q e. deal_is _ _ refl refl (sym (ap (λ b. b || is_rollback (old q).outcome) e)) refl
+    (sym (ap (λ b. not b && (was q && (old q).is_claimed)) e)) refl refl refl refl)
   where
     none_left : (t : Bool) → (t && false) ≡ false
     none_left true = refl

@@ -41,7 +41,8 @@ given (Then tr e) l k c a r h = by (taken_back tr e l k c a h) (λ p. given tr l
     by (Now q) before = let took : Right tr (Took l c a) = subst (Right tr) q r.1 in rightly_given tr l c a took.1
 
 -- a page answers no call on a branch
-no_page : (names : List Name) (call : Branch → Call) (c : Call) (o : Option Branch) → ((b : Branch) → IsGiven (call b) (Page names) → ⊥) → option_map call o ≡ Some c → IsGiven c (Page names) → ⊥
+no_page : (names : List Name) (call : Branch → Call) (c : Call) (o : Option Branch)
+    → ((b : Branch) → IsGiven (call b) (Page names) → ⊥) → option_map call o ≡ Some c → IsGiven c (Page names) → ⊥
 no_page names call c (Some b) none e g = let is : call b ≡ c = cc in none b (subst (λ d. IsGiven d (Page names)) (sym is) g)
 no_page names call c None none e g = cc
 
@@ -60,7 +61,8 @@ codes (Calls.Commit x one) c (Page names) e g = no_page names (λ b. Calls.Commi
 codes (Calls.Rollback x) c (Page names) e g = no_page names Calls.Rollback c (ours_of x) (λ b w. not_code names w) e g
 codes (Calls.Forget x) c (Page names) e g = no_page names Calls.Forget c (ours_of x) (λ b w. not_code names w) e g
 
-pub answer_is_code : (tr : Trace) (l : Line) (c : Call) (a : Answer) (asked : Asked) → AllRight tr → next_answer tr l ≡ Some (c, a) → accepted asked ≡ Some c → IsAnswerTo asked a
+pub answer_is_code : (tr : Trace) (l : Line) (c : Call) (a : Answer) (asked : Asked) → AllRight tr
+    → next_answer tr l ≡ Some (c, a) → accepted asked ≡ Some c → IsAnswerTo asked a
 answer_is_code tr l c a asked r next e = codes asked c a e (given tr l (length (heard tr l)) c a r next)
 
 -- ** records
@@ -89,7 +91,8 @@ module _ (tr : Trace) (limits : IsWithinLimits tr) where
   rolled_back_fits b (Codes.Heuristic how) h fact = branch_fits b how fact
   rolled_back_fits b _ h fact = absurd (cc)
 
-  fits : (asked : Asked) (c : Call) (code : Code) → accepted asked ≡ Some c → AnswerFact tr c (Ret code) → (b : Branch) → branch_asked asked ≡ Some b → IsSome (news_to asked code).how → FitsRow b.gtrid
+  fits : (asked : Asked) (c : Call) (code : Code) → accepted asked ≡ Some c → AnswerFact tr c (Ret code) → (b : Branch)
+      → branch_asked asked ≡ Some b → IsSome (news_to asked code).how → FitsRow b.gtrid
   fits (Calls.Commit (Ours d) false) c code e fact b is h =
       let call : Calls.Commit d false ≡ c = cc in
       let same : d ≡ b = cc in

@@ -29,7 +29,8 @@ pub left_by_a_fault : (k : Book) (asked : Doubt) (f : Fault) (log : Option Conte
     → LeavesAlso (made asked) log old new → IsLeft (book_after k asked (Failed f)) new
 left_by_a_fault k asked f log old new up same tied holds leaves d left = by log tied holds (leaves d left)
   where
-    by : (log : Option Content) → IsTied k log → ((c d : Content) → log ≡ Some c → old d → d ≡ c) → old d ⊎ IsSomeAnd log (λ b. d ≡ made asked b) → IsTiedDown (book_after k asked (Failed f)) d
+    by : (log : Option Content) → IsTied k log → ((c d : Content) → log ≡ Some c → old d → d ≡ c)
+        → old d ⊎ IsSomeAnd log (λ b. d ≡ made asked b) → IsTiedDown (book_after k asked (Failed f)) d
     by None tied holds r = absurd (up_content k None up tied)
     by (Some c) tied holds (inl o) = tied_fault k asked f (Some c) (Some d) up same (inr (inl (ap (λ x. Some x) (holds c d refl o)))) tied d refl
     by (Some c) tied holds (inr e) = tied_fault k asked f (Some c) (Some d) up same (inr (inr (ap (λ x. Some x) e))) tied d refl
@@ -51,6 +52,7 @@ pub left_by_a_crash : (k : Book) (p : Part) (may : Content → Type 0) → IsLef
 left_by_a_crash k p may was d left =
     let t = was d left in
     record {
-      holds = (t.holds.0, record { rows = t.holds.1.rows; row_number = t.holds.1.row_number; records = t.holds.1.records; record_number = t.holds.1.record_number }, t.holds.2);
+      holds =
+          (t.holds.0, record { rows = t.holds.1.rows; row_number = t.holds.1.row_number; records = t.holds.1.records; record_number = t.holds.1.record_number }, t.holds.2);
       incarnation = record { least = t.incarnation.least; most = t.incarnation.most };
     }

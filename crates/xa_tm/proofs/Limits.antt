@@ -127,20 +127,23 @@ rows_few : (tr : Trace) → length (log tr) ≤ length (origin tr).rows + happen
 rows_few (From o) = omega arith
 rows_few (Then tr (Decided g Outcome.Commit)) = by (told tr (says_yes_in g)) (rows_few tr)
   where
-    by : (t : Bool) → length (log tr) ≤ length (origin tr).rows + happenings tr → length (if t then row_for tr g ∷ log tr else log tr) ≤ length (origin tr).rows + (happenings tr + 1)
+    by : (t : Bool) → length (log tr) ≤ length (origin tr).rows + happenings tr
+        → length (if t then row_for tr g ∷ log tr else log tr) ≤ length (origin tr).rows + (happenings tr + 1)
     by true h = omega (arith, h)
     by false h = omega (arith, h)
 rows_few (Then tr (Done g)) = let less = without_fewer g (log tr) in let h = rows_few tr in omega (arith, less, h)
 rows_few (Then tr (Restarted i d n)) = by (d == length (log tr)) (rows_few tr)
   where
-    by : (t : Bool) → length (log tr) ≤ length (origin tr).rows + happenings tr → length (if t then log tr else rows_changed (doubt tr) (log tr)) ≤ length (origin tr).rows + (happenings tr + 1)
+    by : (t : Bool) → length (log tr) ≤ length (origin tr).rows + happenings tr
+        → length (if t then log tr else rows_changed (doubt tr) (log tr)) ≤ length (origin tr).rows + (happenings tr + 1)
     by true h = omega (arith, h)
     by false h = shifted _ (length (origin tr).rows) (happenings tr) (changed_few (doubt tr) (log tr) _ h)
 rows_few (Then tr _) = let h = rows_few tr in omega (arith, h)
 
 records_few : (tr : Trace) → length (heuristic_rows tr) ≤ length (origin tr).heuristic_rows + happenings tr
 records_few (From o) = omega arith
-records_few (Then tr (Heard l c a)) = shifted _ (length (origin tr).heuristic_rows) (happenings tr) (recorded_few (record_of c a) (heuristic_rows tr) _ (records_few tr))
+records_few (Then tr (Heard l c a)) =
+    shifted _ (length (origin tr).heuristic_rows) (happenings tr) (recorded_few (record_of c a) (heuristic_rows tr) _ (records_few tr))
 records_few (Then tr (Restarted i d n)) = by (n == length (heuristic_rows tr)) (records_few tr)
   where
     by : (t : Bool) → length (heuristic_rows tr) ≤ length (origin tr).heuristic_rows + happenings tr
@@ -174,13 +177,17 @@ pub started_fits : (tr : Trace) (b : Branch) → started tr b ≡ true → AllRi
 started_fits (From o) b e r = absurd (cc)
 started_fits (Then tr (Issued l (Calls.Start c false))) b e r = by (branch_eq c b) refl e (λ k. started_fits tr b k r.0)
   where
-    by : (t : Bool) → branch_eq c b ≡ t → (t || started tr b) ≡ true → (started tr b ≡ true → b.gtrid.sequence ≤ happenings tr) → b.gtrid.sequence ≤ happenings tr + 1
-    by true is e rest = as_before _ _ (subst (λ (x : Branch). x.gtrid.sequence ≤ happenings tr) (branch_eq-true c b is) (live_fits tr c.gtrid r.0 r.1.1.may_be.1.is_live))
+    by : (t : Bool) → branch_eq c b ≡ t → (t || started tr b) ≡ true → (started tr b ≡ true → b.gtrid.sequence ≤ happenings tr)
+        → b.gtrid.sequence ≤ happenings tr + 1
+    by true is e rest =
+        as_before _ _ (subst (λ (x : Branch). x.gtrid.sequence ≤ happenings tr) (branch_eq-true c b is) (live_fits tr c.gtrid r.0 r.1.1.may_be.1.is_live))
     by false is e rest = as_before _ _ (rest e)
 started_fits (Then tr (Issued l (Calls.Start c true))) b e r = by (branch_eq c b) refl e (λ k. started_fits tr b k r.0)
   where
-    by : (t : Bool) → branch_eq c b ≡ t → (t || started tr b) ≡ true → (started tr b ≡ true → b.gtrid.sequence ≤ happenings tr) → b.gtrid.sequence ≤ happenings tr + 1
-    by true is e rest = as_before _ _ (subst (λ (x : Branch). x.gtrid.sequence ≤ happenings tr) (branch_eq-true c b is) (live_fits tr c.gtrid r.0 r.1.1.may_be.1.is_live))
+    by : (t : Bool) → branch_eq c b ≡ t → (t || started tr b) ≡ true → (started tr b ≡ true → b.gtrid.sequence ≤ happenings tr)
+        → b.gtrid.sequence ≤ happenings tr + 1
+    by true is e rest =
+        as_before _ _ (subst (λ (x : Branch). x.gtrid.sequence ≤ happenings tr) (branch_eq-true c b is) (live_fits tr c.gtrid r.0 r.1.1.may_be.1.is_live))
     by false is e rest = as_before _ _ (rest e)
 started_fits (Then tr _) b e r = as_before _ _ (started_fits tr b e r.0)
 
@@ -199,7 +206,8 @@ doubt_fits : (tr : Trace) (g : Gtrid) → AllRight tr → adds_row (doubt tr) g 
 doubt_fits (From o) g r e = absurd (cc)
 doubt_fits (Then tr (Failed f)) g r e = by (up tr) (λ k. doubt_fits tr g r.0 k) e
   where
-    by : (t : Bool) → (adds_row (doubt tr) g ≡ true → g.sequence ≤ happenings tr) → adds_row (if t then fault_change tr f else doubt tr) g ≡ true → g.sequence ≤ happenings tr + 1
+    by : (t : Bool) → (adds_row (doubt tr) g ≡ true → g.sequence ≤ happenings tr)
+        → adds_row (if t then fault_change tr f else doubt tr) g ≡ true → g.sequence ≤ happenings tr + 1
     by true before k = as_before _ _ (fault_fits tr f g r.0 r.1 k)
     by false before k = as_before _ _ (before k)
 doubt_fits (Then tr (Restarted i d h)) g r e = absurd (cc)
@@ -214,7 +222,8 @@ row_fits (Then tr e) g r h = by (rowed_new tr e g h) (λ k. row_fits tr g r.0 k)
     later (inl k) = inl k
     later (inr k) = inr (as_before _ _ k)
 
-    by : NewRow tr e g → (had_row tr g ≡ true → (lists_row (origin tr).rows g ≡ true) ⊎ (g.sequence ≤ happenings tr)) → (lists_row (origin tr).rows g ≡ true) ⊎ (g.sequence ≤ happenings tr + 1)
+    by : NewRow tr e g → (had_row tr g ≡ true → (lists_row (origin tr).rows g ≡ true) ⊎ (g.sequence ≤ happenings tr))
+        → (lists_row (origin tr).rows g ≡ true) ⊎ (g.sequence ≤ happenings tr + 1)
     by (Had k) before = later (before k)
     by (By_decision q has) before = let d : Right tr (Decided g Outcome.Commit) = subst (Right tr) q r.1 in later (inr (live_fits tr g r.0 d.is_live))
     by (By_restart i d n q adds has) before = later (inr (doubt_fits tr g r.0 adds))

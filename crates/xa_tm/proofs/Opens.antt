@@ -30,11 +30,13 @@ pub room_kept : (m n : BTreeMap Gtrid Transaction) (gs : List Gtrid) → HasKept
 room_kept m n [] kept room = tt
 room_kept m n (g ∷ gs) kept room = (kept g room.0, room_kept m n gs kept room.1)
 
-pub room_first : (m : BTreeMap Gtrid Transaction) (gs : List Gtrid) (i : ℕ) (d : Gtrid) → i < length gs → HaveRoom m (drop i gs) → IsSome (get gtrid_cmp m (get_or gs i d))
+pub room_first : (m : BTreeMap Gtrid Transaction) (gs : List Gtrid) (i : ℕ) (d : Gtrid) → i < length gs → HaveRoom m (drop i gs)
+    → IsSome (get gtrid_cmp m (get_or gs i d))
 room_first m gs i d low room = (subst (HaveRoom m) (drop_more gs i d low) room).0
 
 -- room for one more
-pub room_more : (gs : List Gtrid) (i : ℕ) (d : Gtrid) (mid now : BTreeMap Gtrid Transaction) → i < length gs → HasKept mid now → IsSome (get gtrid_cmp now (get_or gs i d))
+pub room_more : (gs : List Gtrid) (i : ℕ) (d : Gtrid) (mid now : BTreeMap Gtrid Transaction) → i < length gs → HasKept mid now
+    → IsSome (get gtrid_cmp now (get_or gs i d))
     → ((m : BTreeMap Gtrid Transaction) → HasKept mid m → HaveRoom m (drop i gs) → HaveRoom m gs)
     → (m : BTreeMap Gtrid Transaction) → HasKept now m → HaveRoom m (drop (i + 1) gs) → HaveRoom m gs
 room_more gs i d mid now low kept room before m keep rest =
@@ -67,7 +69,8 @@ opens_are k (x ∷ xs) q = by (branch_of_xid x) (opens_are k xs q)
     here : (b : Branch) (s t : Bool) → gtrid_eq b.gtrid q ≡ s → open_in k b.gtrid ≡ t → Tail
         → is_one_of (cons_option (if t then Some b.gtrid else None) (filter_map (open_gtrid_for k) xs)) q
         ≡ ((s || lists_one_of q (map name_of xs)) && open_in k q)
-    here b true true same free tail = ap (λ u. u || is_one_of (filter_map (open_gtrid_for k) xs) q) same ∙ sym free ∙ ap (open_in k) (gtrid_eq-true b.gtrid q same)
+    here b true true same free tail =
+        ap (λ u. u || is_one_of (filter_map (open_gtrid_for k) xs) q) same ∙ sym free ∙ ap (open_in k) (gtrid_eq-true b.gtrid q same)
     here b true false same free tail = tail ∙ shut (lists_one_of q (map name_of xs)) (open_in k q) (ap (open_in k) (sym (gtrid_eq-true b.gtrid q same)) ∙ free)
       where
         shut : (s t : Bool) → t ≡ false → (s && t) ≡ t
@@ -119,5 +122,6 @@ pub open_deals : (k : Book) (r : ℕ) (was : Gtrid → Bool) (old mid new : Gtri
 open_deals k r was old mid new gs holds same rolled listed q =
     let t = old q in
     ap (deal_of (was q)) (rolled q ∙ ap (rolled_back_by gs q) (same q) ∙ rolled_once gs q t
-    ∙ ap (λ u. if u then rolled_back t else t) (listed q ∙ ap (λ (d : Deal). lists_one_of q (k.page r) && (d.begun && not (d.claimed || (d.committed || d.handed_over)))) (holds q)))
+    ∙ ap (λ u. if u then rolled_back t else t)
+    (listed q ∙ ap (λ (d : Deal). lists_one_of q (k.page r) && (d.begun && not (d.claimed || (d.committed || d.handed_over)))) (holds q)))
     ∙ rolled_deal (lists_one_of q (k.page r)) (was q) t t.outcome t.is_claimed t.is_handed_over refl refl refl

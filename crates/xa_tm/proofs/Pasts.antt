@@ -17,7 +17,7 @@ use Rattle.xa_log.specs.Contract.{AllFit, Makes}
 use Rattle.xa_log.proofs.Keyed.{risen}
 use Rattle.xa_tm.specs.Ascending.{ascends, ascends_behind}
 use Rattle.xa_tm.specs.Book.{Book}
-use Rattle.xa_tm.specs.Starting.{IsOld, IsPast, fits_before, started}
+use Rattle.xa_tm.specs.Starting.{IsOld, IsPast, fits_before, book_at_start}
 
 -- ** lists
 
@@ -72,7 +72,8 @@ can_start_over c fits past =
     (λ b has. let there = contains_key-keys c.heuristics b ∙ has in fits_next c.incarnation b.gtrid (past.records b there) (fits.heuristics b there).1)))
     (and_from _ _
     (all_ascend gtrid_cmp (keys c.decisions) (risen gtrids_total exact_gtrids (entries c.decisions) (entries_sorted c.decisions)))
-    (all_ascend branch_cmp (map (λ (e : Branch × How). e.0) (entries c.heuristics)) (risen branches_total exact_branches (entries c.heuristics) (entries_sorted c.heuristics))))
+    (all_ascend branch_cmp (map (λ (e : Branch × How). e.0) (entries c.heuristics))
+    (risen branches_total exact_branches (entries c.heuristics) (entries_sorted c.heuristics))))
 
 module _ (i : ℕ) (gs : List Gtrid) (hs : List (Branch × How)) where
   -- a manager that can't start has found a row or a record of a later incarnation
@@ -89,11 +90,12 @@ module _ (i : ℕ) (gs : List Gtrid) (hs : List (Branch × How)) where
       && (ascends gtrid_cmp (sym rows j) && ascends branch_cmp (map (λ (e : Branch × How). e.0) (sym ends j)))) ∙ cannot)
 
 -- the rows and records of a manager's start are of earlier incarnations than the one that it raised
-pub past_of : (t r : ℕ) (k : Book) (old new : Option Content) → Makes bumped old new → IsSomeAnd new (λ c. k ≡ started t r c) → IsOld k → IsSomeAnd old IsPast
+pub past_of : (t r : ℕ) (k : Book) (old new : Option Content) → Makes bumped old new
+    → IsSomeAnd new (λ c. k ≡ book_at_start t r c) → IsOld k → IsSomeAnd old IsPast
 past_of t r k None new made is is_old = absurd made
 past_of t r k (Some c) new made is is_old =
-    let book : k ≡ started t r (bumped c) = subst (λ n. IsSomeAnd n (λ c. k ≡ started t r c)) made is in
-    let before : IsOld (started t r (bumped c)) = subst IsOld book is_old in
+    let book : k ≡ book_at_start t r (bumped c) = subst (λ n. IsSomeAnd n (λ c. k ≡ book_at_start t r c)) made is in
+    let before : IsOld (book_at_start t r (bumped c)) = subst IsOld book is_old in
     record { rows = λ g has. by (before.rows g has); records = λ b has. by (before.records b has) }
   where
     by : {m n : ℕ} → m < n + 1 → m ≤ n

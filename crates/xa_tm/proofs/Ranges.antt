@@ -42,13 +42,15 @@ within g q = in_between (nat_cmp g.incarnation q.gtrid.incarnation) (nat_cmp g.s
     ∙ gtrid_numbers q.gtrid g
 
 -- the one runs before the other
-pub forward : (g : Gtrid) → is_gt (branch_cmp (record { gtrid = g; thread = 0; rm = 0 }) (record { gtrid = record g { sequence = g.sequence + 1 }; thread = 0; rm = 0 })) ≡ false
+pub forward : (g : Gtrid)
+    → is_gt (branch_cmp (record { gtrid = g; thread = 0; rm = 0 }) (record { gtrid = record g { sequence = g.sequence + 1 }; thread = 0; rm = 0 })) ≡ false
 forward g = by (nat_cmp g.incarnation g.incarnation) (same_number g.incarnation g.incarnation) (nat_cmp g.sequence (g.sequence + 1)) (up g.sequence)
   where
     up : (s : ℕ) → is_lt (nat_cmp s (s + 1)) ≡ true
     up s = grind arith
 
-    by : (a : Ordering) → is_eq a ≡ nat_eq g.incarnation g.incarnation → (b : Ordering) → is_lt b ≡ true → is_gt (ordering_then (ordering_then a b) (ordering_then (nat_cmp 0 0) (nat_cmp 0 0))) ≡ false
+    by : (a : Ordering) → is_eq a ≡ nat_eq g.incarnation g.incarnation → (b : Ordering) → is_lt b ≡ true
+        → is_gt (ordering_then (ordering_then a b) (ordering_then (nat_cmp 0 0) (nat_cmp 0 0))) ≡ false
     by Less e b l = refl
     by Equal e Less l = refl
     by Equal e Equal l = absurd (cc)

@@ -50,7 +50,8 @@ close_none : (k : Book) (ns : List Name) → has_closed (resolving_calls_in k ns
 close_none k [] = refl
 close_none k (Ours b ∷ ns) = by (live_in k b.gtrid) (close_none k ns)
   where
-    by : (t : Bool) → has_closed (resolving_calls_in k ns) ≡ false → has_closed (if t then resolving_calls_in k ns else on (resolving_kind_in k b) b ∷ resolving_calls_in k ns) ≡ false
+    by : (t : Bool) → has_closed (resolving_calls_in k ns) ≡ false
+        → has_closed (if t then resolving_calls_in k ns else on (resolving_kind_in k b) b ∷ resolving_calls_in k ns) ≡ false
     by true rest = rest
     by false rest = ap (λ t. t || has_closed (resolving_calls_in k ns)) (on_closes_none (resolving_kind_in k b) b) ∙ rest
 close_none k (Foreign x ∷ ns) = close_none k ns

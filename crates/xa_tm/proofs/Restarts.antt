@@ -20,7 +20,7 @@ use Rattle.xa_tm.specs.Book.{Book, Waiting, Doubt, Doubt.Adds, Doubt.Drops, Doub
 use Rattle.xa_tm.specs.Held.{come_up_with, without_doubt, notes_of}
 use Rattle.xa_tm.specs.News.{found_ended}
 use Rattle.xa_tm.specs.declared.notes.BranchNotes.{BranchNotes}
-use Rattle.xa_tm.specs.Tied.{FoundIn, IsFound, may_find, rows_of, Holds, made, SameRows, IsTiedUp, IsTiedDown, TiedBy, IsTied}
+use Rattle.xa_tm.specs.Tied.{FoundIn, IsFound, may_find, rows_of, HoldsBook, made, SameRows, IsTiedUp, IsTiedDown, TiedBy, IsTied}
 use Rattle.xa_tm.proofs.Deals.{branch_tie, gtrid_tie}
 use Rattle.xa_tm.proofs.OneMore.{book_is}
 
@@ -35,7 +35,8 @@ up_book k i d h = book_is _ _ refl refl refl refl refl refl refl (λ g. refl) (�
     (λ b. turned (nat_eq h k.records) (recorded_with k.doubt b (k.recorded b)) (k.recorded b)) refl refl
 
 -- a record doesn't touch the rows
-pub no_row_found : (d : Doubt) (b : Branch) (how : How) (t : Bool) (g : Gtrid) (row : Option Waiting) → d ≡ Records b how → row ≡ (if t then row_with d g row else row)
+pub no_row_found : (d : Doubt) (b : Branch) (how : How) (t : Bool) (g : Gtrid) (row : Option Waiting) → d ≡ Records b how
+    → row ≡ (if t then row_with d g row else row)
 no_row_found d b how true g row is = ap (λ x. row_with x g row) (sym is)
 no_row_found d b how false g row is = refl
 
@@ -50,7 +51,9 @@ module _ (old new : Branch → BranchNotes) (b : Branch) (how : How) (t : Bool)
       by false s e = refl
 
   pub found_records : (d : Doubt) → d ≡ Records b how → (q : Branch) → (new q).recorded ≡ (if t then recorded_with d q (old q).recorded else (old q).recorded)
-  found_records d is q = ap (λ (x : BranchNotes). x.recorded) (at q) ∙ by t (branch_eq b q) refl ∙ ap (λ x. if t then recorded_with x q (old q).recorded else (old q).recorded) (sym is)
+  found_records d is q =
+      ap (λ (x : BranchNotes). x.recorded) (at q) ∙ by t (branch_eq b q) refl
+      ∙ ap (λ x. if t then recorded_with x q (old q).recorded else (old q).recorded) (sym is)
     where
       here : (o : Option How) → branch_eq b q ≡ true → option_or o (Some how) ≡ recorded_with (Records b how) q o
       here None e = sym (ap (λ (s : Bool). if s then Some how else None) e)
@@ -60,7 +63,9 @@ module _ (old new : Branch → BranchNotes) (b : Branch) (how : How) (t : Bool)
       there None e = sym (ap (λ (s : Bool). if s then Some how else None) e)
       there (Some x) e = refl
 
-      by : (u s : Bool) → branch_eq b q ≡ s → (if u then (if s then found_ended how (old b) else old q) else old q).recorded ≡ (if u then recorded_with (Records b how) q (old q).recorded else (old q).recorded)
+      by : (u s : Bool) → branch_eq b q ≡ s
+          → (if u then (if s then found_ended how (old b) else old q) else old q).recorded
+          ≡ (if u then recorded_with (Records b how) q (old q).recorded else (old q).recorded)
       by true true e = ap (λ p. option_or (old p).recorded (Some how)) (branch_eq-true b q e) ∙ here (old q).recorded e
       by true false e = there (old q).recorded e
       by false s e = refl
@@ -92,7 +97,8 @@ module _ (c : Content) (row : Gtrid → Option Waiting) (m : ℕ) (at : (g : Gtr
   stays d e g other = at g ∙ sym (ap (λ (t : Bool). if t then row g else other) (same_number d m e))
 
   -- the number of rows tells whether the change was made
-  pub rows_found : (asked : Doubt) (d : ℕ) → d ≡ len (made asked c).decisions → (g : Gtrid) → get (made asked c).decisions g ≡ (if d == m then row g else row_with asked g (row g))
+  pub rows_found : (asked : Doubt) (d : ℕ) → d ≡ len (made asked c).decisions → (g : Gtrid)
+      → get (made asked c).decisions g ≡ (if d == m then row g else row_with asked g (row g))
   rows_found (Records b how) d is g = by (contains_key c.heuristics b) is
     where
       by : (t : Bool) → d ≡ len (if t then c else record c { heuristics = insert c.heuristics b how }).decisions
@@ -103,11 +109,13 @@ module _ (c : Content) (row : Gtrid → Option Waiting) (m : ℕ) (at : (g : Gtr
   rows_found (Adds h set) d is g = by (contains_key c.decisions h) refl is
     where
       by : (t : Bool) → contains_key c.decisions h ≡ t → d ≡ len (if t then c else record c { decisions = insert c.decisions h set }).decisions
-          → get (if t then c else record c { decisions = insert c.decisions h set }).decisions g ≡ (if d == m then row g else (if gtrid_eq h g then Some set else row g))
+          → get (if t then c else record c { decisions = insert c.decisions h set }).decisions g
+          ≡ (if d == m then row g else (if gtrid_eq h g then Some set else row g))
       by true has e = stays d (e ∙ number) g _
       by false has e =
           let more = e ∙ len-insert gtrids_total c.decisions h set ∙ ap (λ t. cond t (len c.decisions) (len c.decisions + 1)) has ∙ ap (λ n. n + 1) number in
-          get-insert gtrids_total c.decisions h set g ∙ ap (λ t. cond t (Some set) (get c.decisions g)) (swap_gtrid h g) ∙ ap (cond (gtrid_eq h g) (Some set)) (at g)
+          get-insert gtrids_total c.decisions h set g ∙ ap (λ t. cond t (Some set) (get c.decisions g)) (swap_gtrid h g)
+          ∙ ap (cond (gtrid_eq h g) (Some set)) (at g)
           ∙ sym (ap (λ (t : Bool). if t then row g else (if gtrid_eq h g then Some set else row g)) (other_number d m (λ same. let no : ⊥ = absurd (omega (arith, more, same)) in no)))
   rows_found (Drops h) d is g = by (contains_key c.decisions h) refl
     where
@@ -135,7 +143,8 @@ module _ (c : Content) (recs : Branch → Option How) (m : ℕ) (at : (b : Branc
   keeps : (d : ℕ) → d ≡ m → (q : Branch) (other : Option How) → get c.heuristics q ≡ (if d == m then recs q else other)
   keeps d e q other = at q ∙ sym (ap (λ (t : Bool). if t then recs q else other) (same_number d m e))
 
-  pub records_found : (asked : Doubt) (d : ℕ) → d ≡ len (made asked c).heuristics → (q : Branch) → get (made asked c).heuristics q ≡ (if d == m then recs q else recorded_with asked q (recs q))
+  pub records_found : (asked : Doubt) (d : ℕ) → d ≡ len (made asked c).heuristics → (q : Branch)
+      → get (made asked c).heuristics q ≡ (if d == m then recs q else recorded_with asked q (recs q))
   records_found (Adds h set) d is q = by (contains_key c.decisions h) is
     where
       by : (t : Bool) → d ≡ len (if t then c else record c { decisions = insert c.decisions h set }).heuristics
@@ -146,23 +155,28 @@ module _ (c : Content) (recs : Branch → Option How) (m : ℕ) (at : (b : Branc
   records_found Settled d is q = keeps d (is ∙ number) q (recs q)
   records_found (Records b how) d is q = by (contains_key c.heuristics b) refl is
     where
-      put : (o : Option How) (t : Bool) → recs q ≡ o → branch_eq b q ≡ t → is_some (recs b) ≡ false → (if t then Some how else o) ≡ recorded_with (Records b how) q o
+      put : (o : Option How) (t : Bool) → recs q ≡ o → branch_eq b q ≡ t → is_some (recs b) ≡ false
+          → (if t then Some how else o) ≡ recorded_with (Records b how) q o
       put None t none same lacks = sym (ap (λ (u : Bool). if u then Some how else None) same)
       put (Some x) true some same lacks = absurd (true≢false (sym (ap is_some (ap recs (branch_eq-true b q same) ∙ some)) ∙ lacks))
       put (Some x) false some same lacks = refl
 
       by : (t : Bool) → contains_key c.heuristics b ≡ t → d ≡ len (if t then c else record c { heuristics = insert c.heuristics b how }).heuristics
-          → get (if t then c else record c { heuristics = insert c.heuristics b how }).heuristics q ≡ (if d == m then recs q else recorded_with (Records b how) q (recs q))
+          → get (if t then c else record c { heuristics = insert c.heuristics b how }).heuristics q
+          ≡ (if d == m then recs q else recorded_with (Records b how) q (recs q))
       by true has e = keeps d (e ∙ number) q _
       by false has e =
-          let more = e ∙ len-insert branches_total c.heuristics b how ∙ ap (λ t. cond t (len c.heuristics) (len c.heuristics + 1)) has ∙ ap (λ n. n + 1) number in
-          get-insert branches_total c.heuristics b how q ∙ ap (λ t. cond t (Some how) (get c.heuristics q)) (swap_branch b q) ∙ ap (cond (branch_eq b q) (Some how)) (at q)
+          let more =
+          e ∙ len-insert branches_total c.heuristics b how ∙ ap (λ t. cond t (len c.heuristics) (len c.heuristics + 1)) has ∙ ap (λ n. n + 1) number in
+          get-insert branches_total c.heuristics b how q ∙ ap (λ t. cond t (Some how) (get c.heuristics q)) (swap_branch b q)
+          ∙ ap (cond (branch_eq b q) (Some how)) (at q)
           ∙ put (recs q) (branch_eq b q) refl refl (ap is_some (sym (at b)) ∙ has)
           ∙ sym (ap (λ (t : Bool). if t then recs q else recorded_with (Records b how) q (recs q)) (other_number d m (λ same. let no : ⊥ = absurd (omega (arith, more, same)) in no)))
 
 -- ** the log is tied to the book again
 
-pub tied_restart : (k : Book) (i d h : ℕ) (old new : Option Content) → k.up ≡ false → IsSomeAnd old (FoundIn i d h) → Makes bumped old new → IsTied k old → IsTied (after k (Restarted i d h)) new
+pub tied_restart : (k : Book) (i d h : ℕ) (old new : Option Content) → k.up ≡ false → IsSomeAnd old (FoundIn i d h)
+    → Makes bumped old new → IsTied k old → IsTied (after k (Restarted i d h)) new
 tied_restart k i d h old new down found makes tied = go old found makes (subst (λ u. TiedBy u k old) down tied)
   where
     n : Book
@@ -174,26 +188,33 @@ tied_restart k i d h old new down found makes tied = go old found makes (subst (
         b : Content
         b = t.holds.0
 
-        by : SameRows c b ⊎ SameRows c (made k.doubt b) → Holds n (bumped c)
+        by : SameRows c b ⊎ SameRows c (made k.doubt b) → HoldsBook n (bumped c)
         by (inl s) = record {
-          rows = λ g. ap (λ x. get x g) s.decisions ∙ stays b k.row k.rows t.holds.1.rows t.holds.1.row_number d (f.rows ∙ ap len s.decisions ∙ t.holds.1.row_number) g _;
+          rows = λ g. ap (λ x. get x g) s.decisions
+              ∙ stays b k.row k.rows t.holds.1.rows t.holds.1.row_number d (f.rows ∙ ap len s.decisions ∙ t.holds.1.row_number) g _;
           row_number = sym f.rows;
-          records = λ q. ap (λ x. get x q) s.heuristics ∙ keeps b k.recorded k.records t.holds.1.records t.holds.1.record_number h (f.records ∙ ap len s.heuristics ∙ t.holds.1.record_number) q _;
+          records =
+              λ q. ap (λ x. get x q) s.heuristics
+              ∙ keeps b k.recorded k.records t.holds.1.records t.holds.1.record_number h (f.records ∙ ap len s.heuristics ∙ t.holds.1.record_number) q _;
           record_number = sym f.records;
         }
         by (inr s) = record {
           rows = λ g. ap (λ x. get x g) s.decisions ∙ rows_found b k.row k.rows t.holds.1.rows t.holds.1.row_number k.doubt d (f.rows ∙ ap len s.decisions) g;
           row_number = sym f.rows;
-          records = λ q. ap (λ x. get x q) s.heuristics ∙ records_found b k.recorded k.records t.holds.1.records t.holds.1.record_number k.doubt h (f.records ∙ ap len s.heuristics) q;
+          records =
+              λ q. ap (λ x. get x q) s.heuristics
+              ∙ records_found b k.recorded k.records t.holds.1.records t.holds.1.record_number k.doubt h (f.records ∙ ap len s.heuristics) q;
           record_number = sym f.records;
         }
 
-    go : (old : Option Content) → IsSomeAnd old (FoundIn i d h) → Makes bumped old new → ((c : Content) → old ≡ Some c → IsTiedDown k c) → IsSomeAnd new (IsTiedUp n)
+    go : (old : Option Content) → IsSomeAnd old (FoundIn i d h) → Makes bumped old new
+        → ((c : Content) → old ≡ Some c → IsTiedDown k c) → IsSomeAnd new (IsTiedUp n)
     go None f makes t = absurd makes
     go (Some c) f makes t = subst (λ x. IsSomeAnd x (IsTiedUp n)) (sym makes) (up_again c f (t c refl))
 
 -- a restart that fails leaves what may be held, one incarnation higher perhaps
-pub tied_no_restart : (k : Book) (old new : Option Content) → k.up ≡ false → MayMake bumped old new → IsTied k old → IsTied (book_after k Settled (Failed InRestart)) new
+pub tied_no_restart : (k : Book) (old new : Option Content) → k.up ≡ false → MayMake bumped old new → IsTied k old
+    → IsTied (book_after k Settled (Failed InRestart)) new
 tied_no_restart k old new down may tied = go may (subst (λ u. TiedBy u k old) down tied)
   where
     n : Book
@@ -208,17 +229,22 @@ tied_no_restart k old new down may tied = go may (subst (λ u. TiedBy u k old) d
 
     as_it_was : (c : Content) → IsTiedDown k c → IsTiedDown n c
     as_it_was c t = record {
-      holds = (t.holds.0, record { rows = t.holds.1.rows; row_number = t.holds.1.row_number; records = t.holds.1.records; record_number = t.holds.1.record_number }, hold c t.holds.0 t.holds.2);
-      incarnation = record { least = t.incarnation.least; most = let a : c.incarnation ≤ k.incarnation + (k.failed_restarts + 1) = omega (arith, t.incarnation.most) in a };
+      holds =
+          (t.holds.0, record { rows = t.holds.1.rows; row_number = t.holds.1.row_number; records = t.holds.1.records; record_number = t.holds.1.record_number }, hold c t.holds.0 t.holds.2);
+      incarnation =
+          record { least = t.incarnation.least; most = let a : c.incarnation ≤ k.incarnation + (k.failed_restarts + 1) = omega (arith, t.incarnation.most) in a };
     }
 
-    hold_bumped : (c before : Content) → SameRows c before ⊎ SameRows c (made k.doubt before) → SameRows (bumped c) before ⊎ SameRows (bumped c) (made n.doubt before)
+    hold_bumped : (c before : Content) → SameRows c before ⊎ SameRows c (made k.doubt before)
+        → SameRows (bumped c) before ⊎ SameRows (bumped c) (made n.doubt before)
     hold_bumped c before (inl s) = inl (record { decisions = s.decisions; heuristics = s.heuristics })
-    hold_bumped c before (inr s) = inr (subst (λ x. SameRows (bumped c) (made x before)) (sym stays_in_doubt) (record { decisions = s.decisions; heuristics = s.heuristics }))
+    hold_bumped c before (inr s) =
+        inr (subst (λ x. SameRows (bumped c) (made x before)) (sym stays_in_doubt) (record { decisions = s.decisions; heuristics = s.heuristics }))
 
     raised : (c : Content) → IsTiedDown k c → IsTiedDown n (bumped c)
     raised c t = record {
-      holds = (t.holds.0, record { rows = t.holds.1.rows; row_number = t.holds.1.row_number; records = t.holds.1.records; record_number = t.holds.1.record_number }, hold_bumped c t.holds.0 t.holds.2);
+      holds =
+          (t.holds.0, record { rows = t.holds.1.rows; row_number = t.holds.1.row_number; records = t.holds.1.records; record_number = t.holds.1.record_number }, hold_bumped c t.holds.0 t.holds.2);
       incarnation = record {
         least = let a : k.incarnation ≤ c.incarnation + 1 = omega (arith, t.incarnation.least) in a;
         most = let a : c.incarnation + 1 ≤ k.incarnation + (k.failed_restarts + 1) = omega (arith, t.incarnation.most) in a;
@@ -239,7 +265,8 @@ tied_no_restart k old new down may tied = go may (subst (λ u. TiedBy u k old) d
 
 -- ** what is found
 
-pub found : (old mid : Option Content) (ds : List Gtrid) (hs : List (Branch × How)) (n dl hl : ℕ) → IsSomeAnd old (λ c. ds ≡ keys c.decisions) → IsSomeAnd old (λ c. hs ≡ entries c.heuristics)
+pub found : (old mid : Option Content) (ds : List Gtrid) (hs : List (Branch × How)) (n dl hl : ℕ)
+    → IsSomeAnd old (λ c. ds ≡ keys c.decisions) → IsSomeAnd old (λ c. hs ≡ entries c.heuristics)
     → Makes unchanged old mid → IsSomeAnd mid (λ c. n ≡ c.incarnation + 1) → dl ≡ length ds → hl ≡ length hs → IsSomeAnd old (FoundIn n dl hl)
 found None mid ds hs n dl hl rows recs same up d h = absurd rows
 found (Some c) mid ds hs n dl hl rows recs same up d h = record {
@@ -248,7 +275,8 @@ found (Some c) mid ds hs n dl hl rows recs same up d h = record {
   records = h ∙ ap length recs ∙ sym (len-entries c.heuristics);
 }
 
-numbers_rows : (k : Book) (b : Content) (asked : Doubt) (d : ℕ) → len b.decisions ≡ k.rows → d ≡ len (made asked b).decisions → (d ≡ k.rows) ⊎ (d ≡ rows_of asked k.rows)
+numbers_rows : (k : Book) (b : Content) (asked : Doubt) (d : ℕ) → len b.decisions ≡ k.rows → d ≡ len (made asked b).decisions
+    → (d ≡ k.rows) ⊎ (d ≡ rows_of asked k.rows)
 numbers_rows k b Settled d number is = inl (is ∙ number)
 numbers_rows k b (Records c how) d number is = by (contains_key b.heuristics c) is
   where
@@ -257,7 +285,8 @@ numbers_rows k b (Records c how) d number is = by (contains_key b.heuristics c) 
     by false e = inl (e ∙ number)
 numbers_rows k b (Adds h set) d number is = by (contains_key b.decisions h) refl is
   where
-    by : (t : Bool) → contains_key b.decisions h ≡ t → d ≡ len (if t then b else record b { decisions = insert b.decisions h set }).decisions → (d ≡ k.rows) ⊎ (d ≡ k.rows + 1)
+    by : (t : Bool) → contains_key b.decisions h ≡ t
+        → d ≡ len (if t then b else record b { decisions = insert b.decisions h set }).decisions → (d ≡ k.rows) ⊎ (d ≡ k.rows + 1)
     by true has e = inl (e ∙ number)
     by false has e = inr (e ∙ len-insert gtrids_total b.decisions h set ∙ ap (λ t. cond t (len b.decisions) (len b.decisions + 1)) has ∙ ap (λ n. n + 1) number)
 numbers_rows k b (Drops h) d number is = by (contains_key b.decisions h) refl
@@ -280,7 +309,8 @@ numbers_records k b (Records c how) d at number is = by (contains_key b.heuristi
     by : (t : Bool) → contains_key b.heuristics c ≡ t → d ≡ len (if t then b else record b { heuristics = insert b.heuristics c how }).heuristics
         → (d ≡ k.records) ⊎ (d ≡ (if is_some (k.recorded c) then k.records else k.records + 1))
     by true has e = inl (e ∙ number)
-    by false has e = inr (e ∙ len-insert branches_total b.heuristics c how ∙ ap (λ t. cond t (len b.heuristics) (len b.heuristics + 1)) has ∙ ap (λ n. n + 1) number
+    by false has e =
+        inr (e ∙ len-insert branches_total b.heuristics c how ∙ ap (λ t. cond t (len b.heuristics) (len b.heuristics + 1)) has ∙ ap (λ n. n + 1) number
         ∙ sym (ap (λ (t : Bool). if t then k.records else k.records + 1) (ap is_some (sym (at c)) ∙ has)))
 
 pub is_found : (k : Book) (i d h : ℕ) (old : Option Content) → k.up ≡ false → IsSomeAnd old (FoundIn i d h) → IsTied k old → IsFound k i d h
@@ -361,7 +391,8 @@ two_of_one n a b (inr e) = by (nat_eq n a)
 pub so_it_finds : (k : Book) (i d h : ℕ) → IsFound k i d h → may_find k i d h ≡ true
 so_it_finds k i d h f = both_true (nat_lt k.incarnation i && nat_le (i - k.incarnation - 1) k.failed_restarts)
     ((nat_eq d k.rows || nat_eq d (rows_of k.doubt k.rows)) && (nat_eq h k.records || nat_eq h (records_with k k.doubt k.records)))
-    (both_true (nat_lt k.incarnation i) (nat_le (i - k.incarnation - 1) k.failed_restarts) (less k.incarnation i f.greater) (near i k.incarnation k.failed_restarts f.most))
+    (both_true (nat_lt k.incarnation i) (nat_le (i - k.incarnation - 1) k.failed_restarts) (less k.incarnation i f.greater)
+    (near i k.incarnation k.failed_restarts f.most))
     (both_true (nat_eq d k.rows || nat_eq d (rows_of k.doubt k.rows)) (nat_eq h k.records || nat_eq h (records_with k k.doubt k.records))
     (two_of_one d k.rows (rows_of k.doubt k.rows) f.rows) (two_of_one h k.records (records_with k k.doubt k.records) f.records))
   where

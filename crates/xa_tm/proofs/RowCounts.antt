@@ -45,7 +45,8 @@ one_row_less g (x ∷ xs) apart e = by (gtrid_eq x.gtrid g) refl (λ h. one_row_
     by : (t : Bool) → gtrid_eq x.gtrid g ≡ t → (lists_row xs g ≡ true → length (without g xs) ≡ length xs - 1)
         → length (if t then without g xs else x ∷ without g xs) ≡ length (x ∷ xs) - 1
     by true is less =
-        let same : length (without g xs) ≡ length xs = ap length (without_none g xs (subst (λ y. lists_row xs y ≡ false) (gtrid_eq-true x.gtrid g is) apart.0)) in
+        let same : length (without g xs) ≡ length xs =
+        ap length (without_none g xs (subst (λ y. lists_row xs y ≡ false) (gtrid_eq-true x.gtrid g is) apart.0)) in
         omega (arith, same)
     by false is less =
         let has = later (gtrid_eq x.gtrid g) (lists_row xs g) e is in
@@ -105,5 +106,6 @@ counts_rows tr (Done h) a r apart = one_row_less h (log tr) (rows_apart tr a apa
 counts_rows tr (Restarted i d h) a r apart = (r.2, r.3)
 counts_rows tr _ a r apart = tt
 
-pub right_book : (tr : Trace) (e : Happening) → AllRight tr → Right tr e → ApartRows (origin tr).rows → book_of (Then tr e) ≡ book_after (book_of tr) (asked_in tr e) e
+pub right_book : (tr : Trace) (e : Happening) → AllRight tr → Right tr e → ApartRows (origin tr).rows
+    → book_of (Then tr e) ≡ book_after (book_of tr) (asked_in tr e) e
 right_book tr e a r apart = one_more tr e (counts_rows tr e a r apart)

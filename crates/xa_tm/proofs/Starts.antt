@@ -28,13 +28,14 @@ use Rattle.xa_tm.specs.Held.{IsSound, begun_by, held, no_branch, transaction_at}
 use Rattle.xa_tm.specs.declared.ledger.Ledger.{Ledger}
 use Rattle.xa_tm.specs.declared.notes.BranchNotes.{BranchNotes}
 use Rattle.xa_tm.proofs.Deals.{deal_is}
-use Rattle.xa_tm.specs.Starting.{IsOld, StartsAreHistories, StartsHaveContent, ended_among, fits_before, loaded, run_of, start_book, started}
+use Rattle.xa_tm.specs.Starting.{IsOld, StartsAreHistories, StartsHaveContent, ended_among, fits_before, loaded, run_of, start_book, book_at_start}
 use Rattle.xa_tm.specs.Tied.{IsTied}
 use Rattle.xa_tm.proofs.Restarts.{swap_branch, swap_gtrid}
 use Rattle.xa_tm.proofs.OneMore.{book_is}
 
 -- of three the first that is there
-three : {X : Type 0} (x : Option X) (e : Bool) (w r : Option X) (v : X) → w ≡ Some v → option_or (option_or x (if e then w else None)) r ≡ option_or x (if e then w else r)
+three : {X : Type 0} (x : Option X) (e : Bool) (w r : Option X) (v : X) → w ≡ Some v
+    → option_or (option_or x (if e then w else None)) r ≡ option_or x (if e then w else r)
 three (Some a) e w r v is = refl
 three None true w r v is = ap (λ o. option_or o r) is ∙ sym is
 three None false w r v is = refl
@@ -43,7 +44,8 @@ none_or : {X : Type 0} (x : Option X) → option_or None x ≡ x
 none_or x = refl
 
 -- one row more is loaded
-pub row_more : (gs : List Gtrid) (i : ℕ) (g : Gtrid) (rest own later : List Branch) (old new : Gtrid → Option Waiting) (all : Gtrid → Option Waiting) → i < length gs → get_or gs i g ≡ g
+pub row_more : (gs : List Gtrid) (i : ℕ) (g : Gtrid) (rest own later : List Branch) (old new : Gtrid → Option Waiting) (all : Gtrid → Option Waiting)
+    → i < length gs → get_or gs i g ≡ g
     → own ≡ run_of g rest → later ≡ drop (length own) rest
     → ((q : Gtrid) → new q ≡ (if gtrid_eq g q then Some (from_list own) else old q))
     → ((q : Gtrid) → option_or (loaded (drop i gs) rest q) (old q) ≡ all q)
@@ -78,7 +80,8 @@ module _ (ends : List (Branch × How)) (i : ℕ) (d : Branch × How) (old new : 
   recorded_new : (q : Branch) → (new q).recorded ≡ (if branch_eq (get_or ends i d).0 q then Some (get_or ends i d).1 else (old q).recorded)
   recorded_new q = ap (λ (n : BranchNotes). n.recorded) (at q) ∙ by (branch_eq (get_or ends i d).0 q)
     where
-      by : (t : Bool) → (if t then record no_branch { recorded = Some (get_or ends i d).1 } else old q).recorded ≡ (if t then Some (get_or ends i d).1 else (old q).recorded)
+      by : (t : Bool) → (if t then record no_branch { recorded = Some (get_or ends i d).1 } else old q).recorded
+          ≡ (if t then Some (get_or ends i d).1 else (old q).recorded)
       by true = refl
       by false = refl
 
@@ -91,11 +94,14 @@ module _ (ends : List (Branch × How)) (i : ℕ) (d : Branch × How) (old new : 
       ∙ sym (ap (λ ys. option_or (ended_among ys q) (old q).recorded) (drop_more ends i d low))
       ∙ before q
 
-  pub only_recorded : ((q : Branch) → old q ≡ record no_branch { recorded = (old q).recorded }) → (q : Branch) → new q ≡ record no_branch { recorded = (new q).recorded }
-  only_recorded before q = at q ∙ by (branch_eq (get_or ends i d).0 q) (before q) ∙ ap (λ (n : BranchNotes). record no_branch { recorded = n.recorded }) (sym (at q))
+  pub only_recorded : ((q : Branch) → old q ≡ record no_branch { recorded = (old q).recorded }) → (q : Branch)
+      → new q ≡ record no_branch { recorded = (new q).recorded }
+  only_recorded before q =
+      at q ∙ by (branch_eq (get_or ends i d).0 q) (before q) ∙ ap (λ (n : BranchNotes). record no_branch { recorded = n.recorded }) (sym (at q))
     where
       by : (t : Bool) → old q ≡ record no_branch { recorded = (old q).recorded }
-          → (if t then record no_branch { recorded = Some (get_or ends i d).1 } else old q) ≡ record no_branch { recorded = (if t then record no_branch { recorded = Some (get_or ends i d).1 } else old q).recorded }
+          → (if t then record no_branch { recorded = Some (get_or ends i d).1 } else old q)
+          ≡ record no_branch { recorded = (if t then record no_branch { recorded = Some (get_or ends i d).1 } else old q).recorded }
       by true h = refl
       by false h = h
 
@@ -111,35 +117,42 @@ none_begun u i s g e = grind (arith, and_false)
 pub in_incarnation : (l : Ledger) (i t r : ℕ) (row : Gtrid → Option Waiting) (rows : ℕ) (how : Branch → Option How) (records : ℕ)
     → held l ≡ start_book t r 0 row rows how records → held (record l { incarnation = i }) ≡ start_book t r i row rows how records
 in_incarnation l i t r row rows how records e = book_is _ _
-    (ap (λ (k : Book). k.threads) e) (ap (λ (k : Book). k.rms) e) (ap (λ (k : Book). k.up) e) refl (ap (λ (k : Book). k.sequence) e) (ap (λ (k : Book). k.begins) e) (ap (λ (k : Book). k.failed_restarts) e)
+    (ap (λ (k : Book). k.threads) e) (ap (λ (k : Book). k.rms) e) (ap (λ (k : Book). k.up) e) refl (ap (λ (k : Book). k.sequence) e)
+    (ap (λ (k : Book). k.begins) e) (ap (λ (k : Book). k.failed_restarts) e)
     (λ g. let none = none_begun l.is_up i l.sequence g (ap (λ (k : Book). k.sequence) e) in
     deal_is _ _ none (ap (λ (k : Book). (k.deal g).committed) e) (ap (λ (k : Book). (k.deal g).rolled_back) e) (ap (λ (k : Book). (k.deal g).handed_over) e)
     (ap (λ b. b && (transaction_at l.transactions g).is_claimed) none)
-    (ap (λ (k : Book). (k.deal g).has_yes) e) (ap (λ (k : Book). (k.deal g).branches) e) (ap (λ (k : Book). (k.deal g).unvoted) e) (ap (λ (k : Book). (k.deal g).unsettled) e))
+    (ap (λ (k : Book). (k.deal g).has_yes) e) (ap (λ (k : Book). (k.deal g).branches) e) (ap (λ (k : Book). (k.deal g).unvoted) e)
+    (ap (λ (k : Book). (k.deal g).unsettled) e))
     (λ b. ap (λ (k : Book). k.notes b) e) (ap (λ (k : Book). k.known) e) (λ m. ap (λ (k : Book). k.page m) e)
-    (λ g. ap (λ (k : Book). k.row g) e) (ap (λ (k : Book). k.rows) e) (λ b. ap (λ (k : Book). k.recorded b) e) (ap (λ (k : Book). k.records) e) (ap (λ (k : Book). k.doubt) e)
+    (λ g. ap (λ (k : Book). k.row g) e) (ap (λ (k : Book). k.rows) e) (λ b. ap (λ (k : Book). k.recorded b) e)
+    (ap (λ (k : Book). k.records) e) (ap (λ (k : Book). k.doubt) e)
 
 -- ** rows of earlier incarnations
 
-loaded_old : (i : ℕ) (gs : List Gtrid) (bs : List Branch) (q : Gtrid) → list_all (fits_before i) gs ≡ true → is_some (loaded gs bs q) ≡ true → fits_before i q ≡ true
+loaded_old : (i : ℕ) (gs : List Gtrid) (bs : List Branch) (q : Gtrid) → list_all (fits_before i) gs ≡ true
+    → is_some (loaded gs bs q) ≡ true → fits_before i q ≡ true
 loaded_old i [] bs q all has = absurd (cc)
 loaded_old i (g ∷ gs) bs q all has =
     let parts = and_parts (fits_before i g) (list_all (fits_before i) gs) all in
     by (loaded gs (drop (length (run_of g bs)) bs) q) (gtrid_eq g q) refl refl parts.0 (loaded_old i gs (drop (length (run_of g bs)) bs) q parts.1) has
   where
-    by : (o : Option Waiting) (t : Bool) → loaded gs (drop (length (run_of g bs)) bs) q ≡ o → gtrid_eq g q ≡ t → fits_before i g ≡ true → (is_some (loaded gs (drop (length (run_of g bs)) bs) q) ≡ true → fits_before i q ≡ true)
+    by : (o : Option Waiting) (t : Bool) → loaded gs (drop (length (run_of g bs)) bs) q ≡ o → gtrid_eq g q ≡ t
+        → fits_before i g ≡ true → (is_some (loaded gs (drop (length (run_of g bs)) bs) q) ≡ true → fits_before i q ≡ true)
         → is_some (option_or o (if t then Some (from_list {R = branch_cmp} (run_of g bs)) else None)) ≡ true → fits_before i q ≡ true
     by (Some w) t e f first later h = later (ap is_some e)
     by None true e f first later h = ap (fits_before i) (sym (gtrid_eq-true g q f)) ∙ first
     by None false e f first later h = absurd (cc)
 
-ended_old : (i : ℕ) (xs : List (Branch × How)) (q : Branch) → list_all (λ (e : Branch × How). fits_before i e.0.gtrid) xs ≡ true → is_some (ended_among xs q) ≡ true → fits_before i q.gtrid ≡ true
+ended_old : (i : ℕ) (xs : List (Branch × How)) (q : Branch) → list_all (λ (e : Branch × How). fits_before i e.0.gtrid) xs ≡ true
+    → is_some (ended_among xs q) ≡ true → fits_before i q.gtrid ≡ true
 ended_old i [] q all has = absurd (cc)
 ended_old i (x ∷ xs) q all has =
     let parts = and_parts (fits_before i x.0.gtrid) (list_all (λ (e : Branch × How). fits_before i e.0.gtrid) xs) all in
     by (ended_among xs q) (branch_eq x.0 q) refl refl parts.0 (ended_old i xs q parts.1) has
   where
-    by : (o : Option How) (t : Bool) → ended_among xs q ≡ o → branch_eq x.0 q ≡ t → fits_before i x.0.gtrid ≡ true → (is_some (ended_among xs q) ≡ true → fits_before i q.gtrid ≡ true)
+    by : (o : Option How) (t : Bool) → ended_among xs q ≡ o → branch_eq x.0 q ≡ t → fits_before i x.0.gtrid ≡ true
+        → (is_some (ended_among xs q) ≡ true → fits_before i q.gtrid ≡ true)
         → is_some (option_or o (if t then Some x.1 else None)) ≡ true → fits_before i q.gtrid ≡ true
     by (Some w) t e f first later h = later (ap is_some e)
     by None true e f first later h = ap (λ (p : Branch). fits_before i p.gtrid) (sym (branch_eq-true x.0 q f)) ∙ first
@@ -156,11 +169,13 @@ fits_row i g h most =
 
 -- ** what a log that is honest tells
 
-find_none : (g : Gtrid) (es : List (Gtrid × KeySet branch_cmp)) → AllByRecursion (λ h. gtrid_cmp g h ≡ Less) (map (λ (e : Gtrid × KeySet branch_cmp). e.0) es) → find gtrid_cmp g es ≡ None
+find_none : (g : Gtrid) (es : List (Gtrid × KeySet branch_cmp))
+    → AllByRecursion (λ h. gtrid_cmp g h ≡ Less) (map (λ (e : Gtrid × KeySet branch_cmp). e.0) es) → find gtrid_cmp g es ≡ None
 find_none g [] low = refl
 find_none g (e ∷ es) low = ap (λ o. cond (is_eq o) (Some e.1) (find gtrid_cmp g es)) low.0 ∙ find_none g es low.1
 
-end_none : (b : Branch) (es : List (Branch × How)) → AllByRecursion (λ c. branch_cmp b c ≡ Less) (map (λ (e : Branch × How). e.0) es) → find branch_cmp b es ≡ None
+end_none : (b : Branch) (es : List (Branch × How))
+    → AllByRecursion (λ c. branch_cmp b c ≡ Less) (map (λ (e : Branch × How). e.0) es) → find branch_cmp b es ≡ None
 end_none b [] low = refl
 end_none b (e ∷ es) low = ap (λ o. cond (is_eq o) (Some e.1) (find branch_cmp b es)) low.0 ∙ end_none b es low.1
 
@@ -168,11 +183,13 @@ or_none : {X : Type 0} (x : Option X) → option_or x None ≡ x
 or_none None = refl
 or_none (Some v) = refl
 
-pub ended_is : (es : List (Branch × How)) → IsStrictlySortedBy branch_cmp (map (λ (e : Branch × How). e.0) es) → (q : Branch) → ended_among es q ≡ find branch_cmp q es
+pub ended_is : (es : List (Branch × How)) → IsStrictlySortedBy branch_cmp (map (λ (e : Branch × How). e.0) es) → (q : Branch)
+    → ended_among es q ≡ find branch_cmp q es
 unfolding IsStrictlySortedBy
 ended_is [] up q = refl
 ended_is (e ∷ es) up q =
-    ap (λ o. option_or o (if branch_eq e.0 q then Some e.1 else None)) (ended_is es up.1 q) ∙ by (branch_eq e.0 q) refl ∙ ap (λ t. cond t (Some e.1) (find branch_cmp q es)) (sym (swap_branch e.0 q))
+    ap (λ o. option_or o (if branch_eq e.0 q then Some e.1 else None)) (ended_is es up.1 q) ∙ by (branch_eq e.0 q) refl
+    ∙ ap (λ t. cond t (Some e.1) (find branch_cmp q es)) (sym (swap_branch e.0 q))
   where
     by : (t : Bool) → branch_eq e.0 q ≡ t → option_or (find branch_cmp q es) (if t then Some e.1 else None) ≡ cond t (Some e.1) (find branch_cmp q es)
     by true same = ap (λ o. option_or o (Some e.1)) (ap (λ p. find branch_cmp p es) (sym (branch_eq-true e.0 q same)) ∙ end_none e.0 es up.0)
@@ -187,7 +204,11 @@ OwnAll (e ∷ es) = AllByRecursion (λ (b : Branch). b.gtrid ≡ e.0) (items e.1
 
 each_of : (P : Branch → Type 0) (xs : List Branch) → ((b : Branch) → list_any (eq_by_cmp branch_cmp b) xs ≡ true → P b) → AllByRecursion P xs
 each_of P [] all = tt
-each_of P (x ∷ xs) all = (all x (ap (λ t. t || list_any (eq_by_cmp branch_cmp x) xs) ((eq_by_cmp_equiv branches_total).refl x)), each_of P xs (λ b h. all b (or_right (eq_by_cmp branch_cmp b x) _ h)))
+each_of P (x ∷ xs) all = (
+  all x (ap (λ t. t || list_any (eq_by_cmp branch_cmp x) xs) ((eq_by_cmp_equiv branches_total).refl x)),
+  each_of P xs
+      (λ b h. all b (or_right (eq_by_cmp branch_cmp b x) _ h)),
+)
   where
     or_right : (s t : Bool) → t ≡ true → (s || t) ≡ true
     or_right true t e = refl
@@ -198,13 +219,16 @@ own_all : (es : List (Gtrid × KeySet branch_cmp)) → IsStrictlySortedBy gtrid_
 unfolding IsStrictlySortedBy
 own_all [] up own = tt
 own_all (e ∷ es) up own = (
-  each_of (λ b. b.gtrid ≡ e.0) (items e.1) (λ b h. own e.0 e.1 b (ap (λ t. cond t (Some e.1) (find gtrid_cmp e.0 es)) ((eq_by_cmp_equiv gtrids_total).refl e.0)) (contains-items e.1 b ∙ h)),
+  each_of (λ b. b.gtrid ≡ e.0) (items e.1)
+      (λ b h. own e.0 e.1 b (ap (λ t. cond t (Some e.1) (find gtrid_cmp e.0 es)) ((eq_by_cmp_equiv gtrids_total).refl e.0)) (contains-items e.1 b ∙ h)),
   own_all es up.1 (λ g set b is has. later g set b (eq_by_cmp gtrid_cmp g e.0) refl is has),
 )
   where
-    later : (g : Gtrid) (set : KeySet branch_cmp) (b : Branch) (t : Bool) → eq_by_cmp gtrid_cmp g e.0 ≡ t → find gtrid_cmp g es ≡ Some set → contains set b ≡ true → b.gtrid ≡ g
+    later : (g : Gtrid) (set : KeySet branch_cmp) (b : Branch) (t : Bool) → eq_by_cmp gtrid_cmp g e.0 ≡ t
+        → find gtrid_cmp g es ≡ Some set → contains set b ≡ true → b.gtrid ≡ g
     later g set b false other is has = own g set b (ap (λ t. cond t (Some e.1) (find gtrid_cmp g es)) other ∙ is) has
-    later g set b true same is has = let no : None ≡ Some set = sym (find_none e.0 es up.0) ∙ ap (λ p. find gtrid_cmp p es) (sym (exact_gtrids g e.0 (equal_is _ same))) ∙ is in absurd (cc)
+    later g set b true same is has =
+        let no : None ≡ Some set = sym (find_none e.0 es up.0) ∙ ap (λ p. find gtrid_cmp p es) (sym (exact_gtrids g e.0 (equal_is _ same))) ∙ is in absurd (cc)
 
 abbrev IsApart : Gtrid → List Branch → Type 0
 IsApart g bs = AllByRecursion (λ (b : Branch). gtrid_eq b.gtrid g ≡ false) bs
@@ -224,7 +248,8 @@ apart_set : (g h : Gtrid) (xs : List Branch) → gtrid_eq h g ≡ false → AllB
 apart_set g h [] other own = tt
 apart_set g h (x ∷ xs) other own = (ap (λ p. gtrid_eq p g) own.0 ∙ other, apart_set g h xs other own.1)
 
-apart_all : (g : Gtrid) (es : List (Gtrid × KeySet branch_cmp)) → AllByRecursion (λ h. gtrid_cmp g h ≡ Less) (map (λ (e : Gtrid × KeySet branch_cmp). e.0) es) → OwnAll es → IsApart g (all_listed es)
+apart_all : (g : Gtrid) (es : List (Gtrid × KeySet branch_cmp))
+    → AllByRecursion (λ h. gtrid_cmp g h ≡ Less) (map (λ (e : Gtrid × KeySet branch_cmp). e.0) es) → OwnAll es → IsApart g (all_listed es)
 apart_all g [] low own = tt
 apart_all g (e ∷ es) low own = joined g (items e.1) (all_listed es) (apart_set g e.0 (items e.1) (less_differs g e.0 low.0) own.0) (apart_all g es low.1 own.1)
 
@@ -267,11 +292,12 @@ module _ (t r i : ℕ) (gs : List Gtrid) (bs : List Branch) (hs : List (Branch �
   read_book = start_book t r i (loaded gs bs) (length gs) (ended_among hs) (length hs)
 
   pub started_as : (c : Content) → i ≡ c.incarnation + 1 → gs ≡ keys c.decisions → bs ≡ all_listed (entries c.decisions) → hs ≡ entries c.heuristics → AreOwn c
-      → start_book t r i (loaded gs bs) (length gs) (ended_among hs) (length hs) ≡ started t r (bumped c)
+      → start_book t r i (loaded gs bs) (length gs) (ended_among hs) (length hs) ≡ book_at_start t r (bumped c)
   started_as c up rows parts ends own = book_is _ _ refl refl refl up refl refl refl (λ g. refl) (λ b. refl) refl (λ m. refl)
       (λ g. (λ j. loaded (rows j) (parts j) g) ∙ loaded_is (entries c.decisions) sorted all g ∙ sym (get-entries c.decisions g))
       (ap length rows ∙ length-map (entries c.decisions) (λ (e : Gtrid × KeySet branch_cmp). e.0) ∙ sym (len-entries c.decisions))
-      (λ b. ap (λ xs. ended_among xs b) ends ∙ ended_is (entries c.heuristics) (risen branches_total exact_branches (entries c.heuristics) (entries_sorted c.heuristics)) b ∙ sym (get-entries c.heuristics b))
+      (λ b. ap (λ xs. ended_among xs b) ends ∙ ended_is (entries c.heuristics)
+      (risen branches_total exact_branches (entries c.heuristics) (entries_sorted c.heuristics)) b ∙ sym (get-entries c.heuristics b))
       (ap length ends ∙ sym (len-entries c.heuristics)) refl
     where
       sorted : IsStrictlySortedBy gtrid_cmp (map (λ (e : Gtrid × KeySet branch_cmp). e.0) (entries c.decisions))
@@ -280,19 +306,23 @@ module _ (t r i : ℕ) (gs : List Gtrid) (bs : List Branch) (hs : List (Branch �
       all : OwnAll (entries c.decisions)
       all = own_all (entries c.decisions) sorted (λ g set b is has. own g set b (get-entries c.decisions g ∙ is) has)
 
-  pub started_over : (old mid new : Option Content) → IsSomeAnd old (λ c. gs ≡ keys c.decisions) → IsSomeAnd old (λ c. bs ≡ all_listed (entries c.decisions)) → IsSomeAnd old (λ c. hs ≡ entries c.heuristics)
+  pub started_over : (old mid new : Option Content) → IsSomeAnd old (λ c. gs ≡ keys c.decisions)
+      → IsSomeAnd old (λ c. bs ≡ all_listed (entries c.decisions)) → IsSomeAnd old (λ c. hs ≡ entries c.heuristics)
       → Makes unchanged old mid → Makes bumped mid new → IsSomeAnd mid (λ c. i ≡ c.incarnation + 1) → ((c : Content) → old ≡ Some c → AreOwn c)
-      → IsSomeAnd new (λ c. start_book t r i (loaded gs bs) (length gs) (ended_among hs) (length hs) ≡ started t r c)
+      → IsSomeAnd new (λ c. start_book t r i (loaded gs bs) (length gs) (ended_among hs) (length hs) ≡ book_at_start t r c)
   started_over None mid new rows parts ends kept made up own = absurd rows
   started_over (Some c) mid new rows parts ends kept made up own =
-      subst (λ m. Makes bumped m new → IsSomeAnd m (λ c. i ≡ c.incarnation + 1) → IsSomeAnd new (λ c. start_book t r i (loaded gs bs) (length gs) (ended_among hs) (length hs) ≡ started t r c)) (sym kept)
-      (λ does next. subst (λ n. IsSomeAnd n (λ c. start_book t r i (loaded gs bs) (length gs) (ended_among hs) (length hs) ≡ started t r c)) (sym does) (started_as c next rows parts ends (own c refl))) made up
+      subst (λ m. Makes bumped m new → IsSomeAnd m (λ c. i ≡ c.incarnation + 1)
+      → IsSomeAnd new (λ c. start_book t r i (loaded gs bs) (length gs) (ended_among hs) (length hs) ≡ book_at_start t r c)) (sym kept)
+      (λ does next. subst (λ n. IsSomeAnd n (λ c. start_book t r i (loaded gs bs) (length gs) (ended_among hs) (length hs) ≡ book_at_start t r c))
+      (sym does) (started_as c next rows parts ends (own c refl))) made up
 
   pub raised_over : (old mid new : Option Content) → Makes unchanged old mid → Makes bumped mid new → Makes bumped old new
   raised_over None mid new kept made = kept
   raised_over (Some c) mid new kept made = subst (λ m. Makes bumped m new) kept made
 
-  pub start_sound : length gs < 2 ^ 64 - 1 → length hs < 2 ^ 64 - 1 → i ≤ last_number → list_all (fits_before i) gs ≡ true → IsSound (start_book t r i (loaded gs bs) (length gs) (ended_among hs) (length hs))
+  pub start_sound : length gs < 2 ^ 64 - 1 → length hs < 2 ^ 64 - 1 → i ≤ last_number → list_all (fits_before i) gs ≡ true
+      → IsSound (start_book t r i (loaded gs bs) (length gs) (ended_among hs) (length hs))
   start_sound some few most fit = record {
     begins = omega arith;
     restarts = omega arith;
@@ -307,14 +337,15 @@ module _ (t r i : ℕ) (gs : List Gtrid) (bs : List Branch) (hs : List (Branch �
     no_row = λ g b c. absurd (true≢false (sym b));
   }
 
-  pub start_old : (list_all (fits_before i) gs && list_all (λ (e : Branch × How). fits_before i e.0.gtrid) hs) ≡ true → IsOld (start_book t r i (loaded gs bs) (length gs) (ended_among hs) (length hs))
+  pub start_old : (list_all (fits_before i) gs && list_all (λ (e : Branch × How). fits_before i e.0.gtrid) hs) ≡ true
+      → IsOld (start_book t r i (loaded gs bs) (length gs) (ended_among hs) (length hs))
   start_old fit =
       let parts = and_parts _ _ fit in record {
         rows = λ g h. before_incarnation i g (loaded_old i gs bs g parts.0 h);
         records = λ b h. before_incarnation i b.gtrid (ended_old i hs b parts.1 h);
       }
 
-pub start_tied : (t r : ℕ) (k : Book) (new : Option Content) → IsSomeAnd new (λ c. k ≡ started t r c) → IsTied k new
+pub start_tied : (t r : ℕ) (k : Book) (new : Option Content) → IsSomeAnd new (λ c. k ≡ book_at_start t r c) → IsTied k new
 start_tied t r k None is = absurd is
 start_tied t r k (Some c) is = subst (λ b. IsTied b (Some c)) (sym is) (record {
   holds = record { rows = λ g. refl; row_number = refl; records = λ b. refl; record_number = refl };
@@ -323,7 +354,8 @@ start_tied t r k (Some c) is = subst (λ b. IsTied b (Some c)) (sym is) (record 
 
 -- ** a start with a log's rows
 
-row_found : (es : List (Gtrid × KeySet branch_cmp)) (g : Gtrid) → row_in (map (λ (e : Gtrid × KeySet branch_cmp). record { gtrid = e.0; participants = items e.1 }) es) g ≡ find gtrid_cmp g es
+row_found : (es : List (Gtrid × KeySet branch_cmp)) (g : Gtrid)
+    → row_in (map (λ (e : Gtrid × KeySet branch_cmp). record { gtrid = e.0; participants = items e.1 }) es) g ≡ find gtrid_cmp g es
 row_found [] g = refl
 row_found (e ∷ es) g =
     (λ i. if gtrid_eq e.0 g then Some (items_again e.1 i) else row_found es g i) ∙ by (gtrid_eq e.0 g)
@@ -347,7 +379,10 @@ pub has_content : StartsHaveContent
 has_content o c same rows ends = record {
   incarnation = same;
   rows = λ g. ap (λ xs. row_in xs g) rows ∙ row_found (entries c.decisions) g ∙ sym (get-entries c.decisions g);
-  row_number = ap length rows ∙ length-map (entries c.decisions) (λ (e : Gtrid × KeySet branch_cmp). record { gtrid = e.0; participants = items e.1 }) ∙ sym (len-entries c.decisions);
+  row_number =
+      ap length rows ∙ length-map (entries c.decisions) (λ (e : Gtrid × KeySet branch_cmp). record { gtrid = e.0; participants = items e.1 })
+      ∙ sym (len-entries c.decisions);
   records = λ b. ap (λ xs. how_in xs b) ends ∙ end_found (entries c.heuristics) b ∙ sym (get-entries c.heuristics b);
-  record_number = ap length ends ∙ length-map (entries c.heuristics) (λ (e : Branch × How). record { branch = e.0; how = e.1 }) ∙ sym (len-entries c.heuristics);
+  record_number =
+      ap length ends ∙ length-map (entries c.heuristics) (λ (e : Branch × How). record { branch = e.0; how = e.1 }) ∙ sym (len-entries c.heuristics);
 }

@@ -23,7 +23,7 @@ use Rattle.xa_log.specs.Content.{Content, committed, without_decision}
 use Rattle.xa_log.specs.Contract.{Makes, MayMake}
 use Rattle.xa_tm.specs.Book.{Book, Waiting, doubt_of, Doubt, Doubt.Adds, Doubt.Drops, Doubt.Records, Doubt.Settled, after, book_after, failed_restarts_after, row_with, recorded_with, records_with, voted_yes}
 use Rattle.xa_tm.specs.Outcomes.{is_commit}
-use Rattle.xa_tm.specs.Tied.{Holds, made, SameRows, MayHold, IsReached, IsTiedUp, IsTiedDown, TiedBy, IsTied, MakesOf}
+use Rattle.xa_tm.specs.Tied.{HoldsBook, made, SameRows, MayHold, IsReached, IsTiedUp, IsTiedDown, TiedBy, IsTied, MakesOf}
 use Rattle.xa_tm.specs.News.{recording}
 use Rattle.xa_tm.proofs.Deals.{gtrid_tie, branch_tie}
 
@@ -40,7 +40,7 @@ pub record SameOfLog (k l : Book) : Type 0 where
   pub records : l.records ≡ k.records
   pub doubt : l.doubt ≡ k.doubt
 
-holds_same : (k l : Book) (c : Content) → SameOfLog k l → Holds k c → Holds l c
+holds_same : (k l : Book) (c : Content) → SameOfLog k l → HoldsBook k c → HoldsBook l c
 holds_same k l c s h = record {
   rows = λ g. h.rows g ∙ sym (s.row g);
   row_number = h.row_number ∙ sym s.rows;
@@ -60,7 +60,8 @@ down_same k l c s t = record {
   holds = may_hold_same k l c s t.holds;
   incarnation = record {
     least = subst (λ i. i ≤ c.incarnation) (sym s.incarnation) t.incarnation.least;
-    most = subst (λ i. c.incarnation ≤ i + l.failed_restarts) (sym s.incarnation) (subst (λ n. c.incarnation ≤ k.incarnation + n) (sym s.failed_restarts) t.incarnation.most);
+    most = subst (λ i. c.incarnation ≤ i + l.failed_restarts) (sym s.incarnation)
+        (subst (λ n. c.incarnation ≤ k.incarnation + n) (sym s.failed_restarts) t.incarnation.most);
   };
 }
 
@@ -99,7 +100,8 @@ made_incarnation (Records b how) c = by (contains_key c.heuristics b)
 made_incarnation Settled c = refl
 
 -- a failure leaves the change in doubt
-pub tied_fault : (k : Book) (asked : Doubt) (f : Fault) (old new : Option Content) → k.up ≡ true → failed_restarts_after (Failed f) k.failed_restarts ≡ k.failed_restarts
+pub tied_fault : (k : Book) (asked : Doubt) (f : Fault) (old new : Option Content) → k.up ≡ true
+    → failed_restarts_after (Failed f) k.failed_restarts ≡ k.failed_restarts
     → MayMake (made asked) old new → IsTied k old → IsTied (book_after k asked (Failed f)) new
 tied_fault k asked f old new up same may tied = go old (up_content k old up tied) may
   where
@@ -109,7 +111,7 @@ tied_fault k asked f old new up same may tied = go old (up_content k old up tied
     fresh : n.doubt ≡ asked
     fresh = ap (λ (u : Bool). if u then asked else k.doubt) up
 
-    held_still : (c : Content) → Holds k c → Holds n c
+    held_still : (c : Content) → HoldsBook k c → HoldsBook n c
     held_still c h = record { rows = h.rows; row_number = h.row_number; records = h.records; record_number = h.record_number }
 
     reached : (c : Content) → c.incarnation ≡ k.incarnation → IsReached n c
@@ -119,7 +121,8 @@ tied_fault k asked f old new up same may tied = go old (up_content k old up tied
     }
 
     as_before : (d c : Content) → d ≡ c → IsTiedUp k d → IsTiedDown n c
-    as_before d c is t = subst (IsTiedDown n) is (record { holds = (d, held_still d t.holds, inl (record { decisions = refl; heuristics = refl })); incarnation = reached d t.incarnation })
+    as_before d c is t =
+        subst (IsTiedDown n) is (record { holds = (d, held_still d t.holds, inl (record { decisions = refl; heuristics = refl })); incarnation = reached d t.incarnation })
 
     changed : (d c : Content) → made asked d ≡ c → IsTiedUp k d → IsTiedDown n c
     changed d c is t = subst (IsTiedDown n) is (record {
@@ -135,7 +138,8 @@ tied_fault k asked f old new up same may tied = go old (up_content k old up tied
 
 -- the change is made
 module _ (k l : Book) (up : k.up ≡ true) (still_up : l.up ≡ true) (same : l.incarnation ≡ k.incarnation) where
-  pub tied_made : (asked : Doubt) (old new : Option Content) → ((c : Content) → Holds k c → Holds l (made asked c)) → Makes (made asked) old new → IsTied k old → IsTied l new
+  pub tied_made : (asked : Doubt) (old new : Option Content) → ((c : Content) → HoldsBook k c → HoldsBook l (made asked c))
+      → Makes (made asked) old new → IsTied k old → IsTied l new
   tied_made asked old new holds makes tied = subst (λ u. TiedBy u l new) (sym still_up) (go old (up_content k old up tied) makes)
     where
       go : (old : Option Content) → IsSomeAnd old (IsTiedUp k) → Makes (made asked) old new → IsSomeAnd new (IsTiedUp l)
@@ -147,24 +151,31 @@ gtrid_swap : (g q : Gtrid) → eq_by_cmp gtrid_cmp q g ≡ gtrid_eq g q
 gtrid_swap g q = (eq_by_cmp_equiv gtrids_total).symm q g ∙ gtrid_tie g q
 
 -- a row is written, where there was none
-pub holds_row : (k l : Book) (g : Gtrid) (set : Waiting) → k.row g ≡ None → ((q : Gtrid) → l.row q ≡ (if gtrid_eq g q then Some set else k.row q)) → l.rows ≡ k.rows + 1
-    → ((b : Branch) → l.recorded b ≡ k.recorded b) → l.records ≡ k.records → (c : Content) → Holds k c → Holds l (made (Adds g set) c)
-holds_row k l g set none row rows recs number c h = subst (Holds l) (sym (ap (λ (t : Bool). if t then c else record c { decisions = insert c.decisions g set }) absent)) (record {
-  rows = λ q. get-insert gtrids_total c.decisions g set q ∙ ap (λ t. cond t (Some set) (get c.decisions q)) (gtrid_swap g q) ∙ ap (cond (gtrid_eq g q) (Some set)) (h.rows q) ∙ sym (row q);
-  row_number = len-insert gtrids_total c.decisions g set ∙ ap (λ t. cond t (len c.decisions) (len c.decisions + 1)) absent ∙ ap (λ n. n + 1) h.row_number ∙ sym rows;
-  records = λ b. h.records b ∙ sym (recs b);
-  record_number = h.record_number ∙ sym number;
-})
+pub holds_row : (k l : Book) (g : Gtrid) (set : Waiting) → k.row g ≡ None
+    → ((q : Gtrid) → l.row q ≡ (if gtrid_eq g q then Some set else k.row q)) → l.rows ≡ k.rows + 1
+    → ((b : Branch) → l.recorded b ≡ k.recorded b) → l.records ≡ k.records → (c : Content) → HoldsBook k c → HoldsBook l (made (Adds g set) c)
+holds_row k l g set none row rows recs number c h =
+    subst (HoldsBook l) (sym (ap (λ (t : Bool). if t then c else record c { decisions = insert c.decisions g set }) absent)) (record {
+      rows = λ q. get-insert gtrids_total c.decisions g set q ∙ ap (λ t. cond t (Some set) (get c.decisions q)) (gtrid_swap g q)
+          ∙ ap (cond (gtrid_eq g q) (Some set)) (h.rows q) ∙ sym (row q);
+      row_number =
+          len-insert gtrids_total c.decisions g set ∙ ap (λ t. cond t (len c.decisions) (len c.decisions + 1)) absent ∙ ap (λ n. n + 1) h.row_number ∙ sym rows;
+      records = λ b. h.records b ∙ sym (recs b);
+      record_number = h.record_number ∙ sym number;
+    })
   where
     absent : contains_key c.decisions g ≡ false
     absent = ap is_some (h.rows g ∙ none)
 
 -- a row leaves
 pub holds_drop : (k l : Book) (g : Gtrid) → is_some (k.row g) ≡ true → ((q : Gtrid) → l.row q ≡ (if gtrid_eq g q then None else k.row q)) → l.rows ≡ k.rows - 1
-    → ((b : Branch) → l.recorded b ≡ k.recorded b) → l.records ≡ k.records → (c : Content) → Holds k c → Holds l (made (Drops g) c)
+    → ((b : Branch) → l.recorded b ≡ k.recorded b) → l.records ≡ k.records → (c : Content) → HoldsBook k c → HoldsBook l (made (Drops g) c)
 holds_drop k l g some row rows recs number c h = record {
-  rows = λ q. get-remove gtrids_total c.decisions g q ∙ ap (λ t. cond t None (get c.decisions q)) (gtrid_swap g q) ∙ ap (cond (gtrid_eq g q) None) (h.rows q) ∙ sym (row q);
-  row_number = len-remove gtrids_total c.decisions g ∙ ap (λ t. cond t (len c.decisions - 1) (len c.decisions)) (ap is_some (h.rows g) ∙ some) ∙ ap (λ n. n - 1) h.row_number ∙ sym rows;
+  rows = λ q. get-remove gtrids_total c.decisions g q ∙ ap (λ t. cond t None (get c.decisions q)) (gtrid_swap g q)
+      ∙ ap (cond (gtrid_eq g q) None) (h.rows q) ∙ sym (row q);
+  row_number =
+      len-remove gtrids_total c.decisions g
+      ∙ ap (λ t. cond t (len c.decisions - 1) (len c.decisions)) (ap is_some (h.rows g) ∙ some) ∙ ap (λ n. n - 1) h.row_number ∙ sym rows;
   records = λ b. h.records b ∙ sym (recs b);
   record_number = h.record_number ∙ sym number;
 }
@@ -172,7 +183,7 @@ holds_drop k l g some row rows recs number c h = record {
 -- a record is noted: the first of a branch stays
 pub holds_record : (k l : Book) (b : Branch) (how : How) → ((g : Gtrid) → l.row g ≡ k.row g) → l.rows ≡ k.rows
     → ((q : Branch) → l.recorded q ≡ recorded_with (Records b how) q (k.recorded q)) → l.records ≡ records_with k (Records b how) k.records
-    → (c : Content) → Holds k c → Holds l (made (Records b how) c)
+    → (c : Content) → HoldsBook k c → HoldsBook l (made (Records b how) c)
 holds_record k l b how row rows recs number c h = by (contains_key c.heuristics b) refl
   where
     is : contains_key c.heuristics b ≡ is_some (k.recorded b)
@@ -181,7 +192,7 @@ holds_record k l b how row rows recs number c h = by (contains_key c.heuristics 
     swap : (q : Branch) → eq_by_cmp branch_cmp q b ≡ branch_eq b q
     swap q = (eq_by_cmp_equiv branches_total).symm q b ∙ branch_tie b q
 
-    by : (t : Bool) → contains_key c.heuristics b ≡ t → Holds l (if t then c else record c { heuristics = insert c.heuristics b how })
+    by : (t : Bool) → contains_key c.heuristics b ≡ t → HoldsBook l (if t then c else record c { heuristics = insert c.heuristics b how })
     by true e = record {
       rows = λ g. h.rows g ∙ sym (row g);
       row_number = h.row_number ∙ sym rows;
@@ -203,9 +214,12 @@ holds_record k l b how row rows recs number c h = by (contains_key c.heuristics 
     by false e = record {
       rows = λ g. h.rows g ∙ sym (row g);
       row_number = h.row_number ∙ sym rows;
-      records = λ q. get-insert branches_total c.heuristics b how q ∙ ap (λ t. cond t (Some how) (get c.heuristics q)) (swap q) ∙ ap (cond (branch_eq b q) (Some how)) (h.records q)
+      records =
+          λ q. get-insert branches_total c.heuristics b how q ∙ ap (λ t. cond t (Some how) (get c.heuristics q)) (swap q)
+          ∙ ap (cond (branch_eq b q) (Some how)) (h.records q)
           ∙ put q (k.recorded q) (branch_eq b q) refl refl ∙ sym (recs q);
-      record_number = len-insert branches_total c.heuristics b how ∙ ap (λ t. cond t (len c.heuristics) (len c.heuristics + 1)) e ∙ ap (λ n. n + 1) h.record_number
+      record_number =
+          len-insert branches_total c.heuristics b how ∙ ap (λ t. cond t (len c.heuristics) (len c.heuristics + 1)) e ∙ ap (λ n. n + 1) h.record_number
           ∙ sym (ap (λ (t : Bool). if t then k.records else k.records + 1) (sym is ∙ e)) ∙ sym number;
     }
       where
@@ -220,7 +234,8 @@ holds_record k l b how row rows recs number c h = by (contains_key c.heuristics 
 
 -- ** decisions
 
-pub tied_commit : (k : Book) (g : Gtrid) (set : Waiting) (old new : Option Content) → k.up ≡ true → k.row g ≡ None → (k.deal g).has_yes ≡ true → set ≡ voted_yes k g
+pub tied_commit : (k : Book) (g : Gtrid) (set : Waiting) (old new : Option Content) → k.up ≡ true → k.row g ≡ None
+    → (k.deal g).has_yes ≡ true → set ≡ voted_yes k g
     → Makes (committed g set) old new → IsTied k old → IsTied (after k (Decided g Outcomes.Commit)) new
 tied_commit k g set old new up none agreed voters makes tied = tied_made k n up up refl (Adds g (voted_yes k g)) old new
     (holds_row k n g (voted_yes k g) none (λ q. ap (λ (t : Bool). if t then (if gtrid_eq g q then Some (voted_yes k g) else k.row q) else k.row q) agreed)
@@ -231,7 +246,8 @@ tied_commit k g set old new up none agreed voters makes tied = tied_made k n up 
     n = after k (Decided g Outcomes.Commit)
 
 -- where no row is written, the log stays as it is
-pub tied_plain : (k : Book) (g : Gtrid) (o : Outcome) (log : Option Content) → (is_commit (Some o) && (k.deal g).has_yes) ≡ false → IsTied k log → IsTied (after k (Decided g o)) log
+pub tied_plain : (k : Book) (g : Gtrid) (o : Outcome) (log : Option Content) → (is_commit (Some o) && (k.deal g).has_yes) ≡ false
+    → IsTied k log → IsTied (after k (Decided g o)) log
 tied_plain k g Outcomes.Rollback log none tied = tied_same k (after k (Decided g Outcomes.Rollback)) log
     (record { up = refl; incarnation = refl; failed_restarts = refl; row = λ q. refl; rows = refl; recorded = λ b. refl; records = refl; doubt = refl }) tied
 tied_plain k g Outcomes.Commit log none tied = tied_same k (after k (Decided g Outcomes.Commit)) log
@@ -250,11 +266,13 @@ tied_plain k g Outcomes.Commit log none tied = tied_same k (after k (Decided g O
 
 -- the manager falls by itself: nothing is in doubt
 pub tied_fall : (k l : Book) (log : Option Content) → l.up ≡ false → l.incarnation ≡ k.incarnation → l.failed_restarts ≡ k.failed_restarts
-    → ((g : Gtrid) → l.row g ≡ k.row g) → l.rows ≡ k.rows → ((b : Branch) → l.recorded b ≡ k.recorded b) → l.records ≡ k.records → l.doubt ≡ k.doubt → IsTied k log → IsTied l log
+    → ((g : Gtrid) → l.row g ≡ k.row g) → l.rows ≡ k.rows → ((b : Branch) → l.recorded b ≡ k.recorded b) → l.records ≡ k.records
+    → l.doubt ≡ k.doubt → IsTied k log → IsTied l log
 tied_fall k l log down inc failed row rows recs number doubt tied = subst (λ u. TiedBy u l log) (sym down) (by k.up log refl tied)
   where
-    held_still : (c : Content) → Holds k c → Holds l c
-    held_still c h = record { rows = λ g. h.rows g ∙ sym (row g); row_number = h.row_number ∙ sym rows; records = λ b. h.records b ∙ sym (recs b); record_number = h.record_number ∙ sym number }
+    held_still : (c : Content) → HoldsBook k c → HoldsBook l c
+    held_still c h =
+        record { rows = λ g. h.rows g ∙ sym (row g); row_number = h.row_number ∙ sym rows; records = λ b. h.records b ∙ sym (recs b); record_number = h.record_number ∙ sym number }
 
     reached : (c : Content) → IsReached k c → IsReached l c
     reached c r = record {
@@ -263,19 +281,22 @@ tied_fall k l log down inc failed row rows recs number doubt tied = subst (λ u.
     }
 
     at_once : (c : Content) → c.incarnation ≡ k.incarnation → IsReached k c
-    at_once c e = record { least = let a : k.incarnation ≤ c.incarnation = omega arith in a; most = let a : c.incarnation ≤ k.incarnation + k.failed_restarts = omega arith in a }
+    at_once c e =
+        record { least = let a : k.incarnation ≤ c.incarnation = omega arith in a; most = let a : c.incarnation ≤ k.incarnation + k.failed_restarts = omega arith in a }
 
     may : (c before : Content) → SameRows c before ⊎ SameRows c (made k.doubt before) → SameRows c before ⊎ SameRows c (made l.doubt before)
     may c before (inl s) = inl s
     may c before (inr s) = inr (subst (λ d. SameRows c (made d before)) (sym doubt) s)
 
     fallen : (d c : Content) → d ≡ c → IsTiedUp k d → IsTiedDown l c
-    fallen d c is t = subst (IsTiedDown l) is (record { holds = (d, held_still d t.holds, inl (record { decisions = refl; heuristics = refl })); incarnation = reached d (at_once d t.incarnation) })
+    fallen d c is t =
+        subst (IsTiedDown l) is (record { holds = (d, held_still d t.holds, inl (record { decisions = refl; heuristics = refl })); incarnation = reached d (at_once d t.incarnation) })
 
     by : (u : Bool) (log : Option Content) → k.up ≡ u → TiedBy u k log → (c : Content) → log ≡ Some c → IsTiedDown l c
     by true None e tied c is = absurd tied
     by true (Some d) e tied c is = fallen d c (same_some d c is) tied
-    by false log e tied c is = let t = tied c is in record { holds = (t.holds.0, held_still t.holds.0 t.holds.1, may c t.holds.0 t.holds.2); incarnation = reached c t.incarnation }
+    by false log e tied c is =
+        let t = tied c is in record { holds = (t.holds.0, held_still t.holds.0 t.holds.1, may c t.holds.0 t.holds.2); incarnation = reached c t.incarnation }
 
 pub tied_crash : (k : Book) (p : Part) (log : Option Content) → IsTied k log → IsTied (after k (Crashed p)) log
 tied_crash k (Parts.Line t r) log tied = tied_same k (after k (Crashed (Parts.Line t r))) log
@@ -302,7 +323,8 @@ done_row k g e = go k.up ((k.deal g).begun || outlived_in k g) (has_row_in k g) 
     go true true false s e = absurd (cc)
     go true true true s e = refl
 
-pub tied_done : (k : Book) (g : Gtrid) (old new : Option Content) → k.up ≡ true → is_some (k.row g) ≡ true → Makes (without_decision g) old new → IsTied k old → IsTied (after k (Done g)) new
+pub tied_done : (k : Book) (g : Gtrid) (old new : Option Content) → k.up ≡ true → is_some (k.row g) ≡ true
+    → Makes (without_decision g) old new → IsTied k old → IsTied (after k (Done g)) new
 tied_done k g old new up some makes tied = tied_made k (after k (Done g)) up up refl (Drops g) old new
     (holds_drop k (after k (Done g)) g some (λ q. refl) refl (λ b. refl) refl) makes tied
 
@@ -322,7 +344,8 @@ tied_heard k l c a b None old new up is same tied = subst (IsTied (after k (Hear
       doubt = refl;
     }) tied)
 tied_heard k l c a b (Some how) old new up is makes tied = tied_made k (after k (Heard l c a)) up up refl (Records b how) old new
-    (holds_record k (after k (Heard l c a)) b how (λ g. refl) refl (λ q. ap (λ d. recorded_with d q (k.recorded q)) is) (ap (λ d. records_with k d k.records) is)) makes tied
+    (holds_record k (after k (Heard l c a)) b how (λ g. refl) refl (λ q. ap (λ d. recorded_with d q (k.recorded q)) is)
+    (ap (λ d. records_with k d k.records) is)) makes tied
 
 -- ** recovery
 

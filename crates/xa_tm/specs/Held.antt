@@ -52,8 +52,8 @@ no_branch = record {
 abbrev pub transaction_at : BTreeMap Gtrid Transaction → Gtrid → Transaction
 transaction_at m g = unwrap_or (get gtrid_cmp m g) no_transaction
 
-abbrev pub branch_at : BTreeMap Branch BranchNotes → Branch → BranchNotes
-branch_at m b = unwrap_or (get branch_cmp m b) no_branch
+abbrev pub notes_at : BTreeMap Branch BranchNotes → Branch → BranchNotes
+notes_at m b = unwrap_or (get branch_cmp m b) no_branch
 
 -- ** as the book has it
 
@@ -99,8 +99,8 @@ waiting_of v = from_list v.items
 abbrev pub row_at : BTreeMap Gtrid (Option (Vec Branch)) → Gtrid → Option Waiting
 row_at m g = option_map waiting_of (unwrap_or (get gtrid_cmp m g) None)
 
-abbrev pub page_at : BTreeMap ℕ (List Xid) → ℕ → List Name
-page_at pages r = map name_of (unwrap_or (get nat_cmp pages r) [])
+abbrev pub names_at : BTreeMap ℕ (List Xid) → ℕ → List Name
+names_at pages r = map name_of (unwrap_or (get nat_cmp pages r) [])
 
 -- a branch off its line, where what crashes breaks that
 abbrev pub off_line : Part → Branch → BranchNotes → BranchNotes
@@ -123,12 +123,12 @@ held k = record {
   begins = k.begins;
   failed_restarts = k.failed_restarts;
   deal = λ g. deal_of (begun_by k.is_up k.incarnation k.sequence g) (transaction_at k.transactions g);
-  notes = λ b. notes_of (branch_at k.branches b);
+  notes = λ b. notes_of (notes_at k.branches b);
   known = known_in k.branches;
-  page = page_at k.pages;
+  page = names_at k.pages;
   row = row_at k.rows;
   rows = k.row_count;
-  recorded = λ b. (branch_at k.branches b).recorded;
+  recorded = λ b. (notes_at k.branches b).recorded;
   records = k.records;
   doubt = doubt_held k.doubt;
 }

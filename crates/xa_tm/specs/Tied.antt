@@ -8,7 +8,7 @@ use Rattle.xa_log.specs.Contract.{Makes}
 use Rattle.xa_tm.specs.Book.{Book, Doubt, Doubt.Adds, Doubt.Drops, Doubt.Records, Doubt.Settled, records_with}
 
 -- the content has the book's rows, with their participants, and its record
-pub record Holds (k : Book) (c : Content) : Type 0 where
+pub record HoldsBook (k : Book) (c : Content) : Type 0 where
   pub rows : (g : Gtrid) → get c.decisions g ≡ k.row g
   pub row_number : len c.decisions ≡ k.rows
   pub records : (b : Branch) → get c.heuristics b ≡ k.recorded b
@@ -28,7 +28,7 @@ pub record SameRows (c d : Content) : Type 0 where
 
 -- the content has the book's rows and record, or those with the change in doubt
 abbrev pub MayHold : Book → Content → Type 0
-MayHold k c = (before : Content) × Holds k before × (SameRows c before ⊎ SameRows c (made k.doubt before))
+MayHold k c = (before : Content) × HoldsBook k before × (SameRows c before ⊎ SameRows c (made k.doubt before))
 
 -- the content is of an incarnation that the book's restarts may have left
 pub record IsReached (k : Book) (c : Content) : Type 0 where
@@ -37,7 +37,7 @@ pub record IsReached (k : Book) (c : Content) : Type 0 where
 
 -- the log has just what the book says, its incarnation with it
 pub record IsTiedUp (k : Book) (c : Content) : Type 0 where
-  pub holds : Holds k c
+  pub holds : HoldsBook k c
   pub incarnation : c.incarnation ≡ k.incarnation
 
 -- the log, where it isn't shut, has what the book says with or without the change in doubt

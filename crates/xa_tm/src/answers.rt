@@ -12,7 +12,7 @@ ghost use Rattle.xa_model.specs.Replies.History.{name_of};
 ghost use Rattle.xa_tm.specs.Asked.{IsAnswerTo};
 ghost use Rattle.xa_tm.specs.News.{news_by};
 ghost use Rattle.xa_base.specs.declared.code.Code.{Code};
-ghost use Rattle.xa_tm.specs.Held.{HasBranch, HasTransaction, branch_at, held, known_in, page_at, transaction_at};
+ghost use Rattle.xa_tm.specs.Held.{HasBranch, HasTransaction, notes_at, held, known_in, names_at, transaction_at};
 
 use crate::ledger::Ledger;
 use crate::news::News;
@@ -25,13 +25,13 @@ impl Ledger {
     pub(crate) fn put(&mut self, b: Branch, notes: BranchNotes, transaction: Transaction)
         requires branch { HasBranch self.old b }
         requires transaction { HasTransaction self.old b.gtrid }
-        requires started { notes.is_started ≡ (branch_at self.old.branches b).is_started }
+        requires started { notes.is_started ≡ (notes_at self.old.branches b).is_started }
         ensures others { self.new ≡
             record self.old { transactions = self.new.transactions; branches = self.new.branches } }
         ensures transactions { (q : _) → transaction_at self.new.transactions q ≡
             (if gtrid_eq b.gtrid q then transaction else transaction_at self.old.transactions q) }
-        ensures branches { (q : _) → branch_at self.new.branches q ≡
-            (if branch_eq b q then notes else branch_at self.old.branches q) }
+        ensures branches { (q : _) → notes_at self.new.branches q ≡
+            (if branch_eq b q then notes else notes_at self.old.branches q) }
         ensures known { known_in self.new.branches ≡ known_in self.old.branches }
     {
         set_branch(&mut self.branches, b, notes);
@@ -78,9 +78,9 @@ impl Ledger {
     /// Puts the last page of a resource manager, where it came on the first thread's line.
     fn turn_page(&mut self, thread: u32, rm: u32, page: &Page) -> Result<(), Memory>
         ensures others { self.new ≡ record self.old { pages = self.new.pages } }
-        ensures ok { OnOk result ((r : ℕ) → page_at self.new.pages r ≡
-            (if line_eq (line thread rm) (line 0 r) then map name_of page.now else page_at self.old.pages r)) }
-        ensures err { OnErr result ((r : ℕ) → page_at self.new.pages r ≡ page_at self.old.pages r) }
+        ensures ok { OnOk result ((r : ℕ) → names_at self.new.pages r ≡
+            (if line_eq (line thread rm) (line 0 r) then map name_of page.now else names_at self.old.pages r)) }
+        ensures err { OnErr result ((r : ℕ) → names_at self.new.pages r ≡ names_at self.old.pages r) }
     {
         if thread == 0 {
             let copy = page.copy(self.alloc)?;

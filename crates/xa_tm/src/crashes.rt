@@ -3,7 +3,7 @@
 ghost use Rattle.std.specs.Prelude.{true, false, ◌≡◌, ℕ, [], ◌-◌, if◌then◌else◌, Bool, ◌&&◌};
 ghost use Rattle.xa_model.specs.Trace.{Happening.Crashed, Happening.Failed, Line, Fault, line, line_eq, line_of};
 ghost use Rattle.xa_tm.specs.Book.{after, book_after, breaks_in, failed_restarts_after};
-ghost use Rattle.xa_tm.specs.Held.{branch_at, doubt_held, held, known_in, off_line, page_at};
+ghost use Rattle.xa_tm.specs.Held.{notes_at, doubt_held, held, known_in, off_line, names_at};
 
 use crate::change::Change;
 use crate::ledger::Ledger;
@@ -13,7 +13,7 @@ impl Ledger {
     /// The lines of what crashes break: no branch is on one of them any more.
     pub(crate) fn break_lines(&mut self, part: Part)
         ensures others { self.new ≡ record self.old { branches = self.new.branches } }
-        ensures notes { (q : _) → branch_at self.new.branches q ≡ off_line part q (branch_at self.old.branches q) }
+        ensures notes { (q : _) → notes_at self.new.branches q ≡ off_line part q (notes_at self.old.branches q) }
         ensures known { known_in self.new.branches ≡ known_in self.old.branches }
     {
         // Keeps each entry: `values_mut` has no contract on what is written.
@@ -28,8 +28,8 @@ impl Ledger {
     /// The page that came on a line is forgotten.
     fn forget_page(&mut self, thread: u32, rm: u32)
         ensures others { self.new ≡ record self.old { pages = self.new.pages } }
-        ensures pages { (r : ℕ) → page_at self.new.pages r ≡
-            (if line_eq (line thread rm) (line 0 r) then [] else page_at self.old.pages r) }
+        ensures pages { (r : ℕ) → names_at self.new.pages r ≡
+            (if line_eq (line thread rm) (line 0 r) then [] else names_at self.old.pages r) }
     {
         if thread == 0 {
             self.pages.remove(&rm);

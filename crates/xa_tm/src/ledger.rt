@@ -4,7 +4,7 @@ ghost use Rattle.std.specs.Prelude.{true, false, ◌≡◌, ◌<◌, ◌-◌, �
 ghost use Rattle.xa_base.specs.declared.call.Call.TheVariants as Calls;
 ghost use Rattle.xa_model.specs.Trace.{Happening.Begun, Happening.Claimed, Happening.Issued, Line};
 ghost use Rattle.xa_tm.specs.Book.{after, settled_in};
-ghost use Rattle.xa_tm.specs.Held.{HasBranch, HasTransaction, begun_by, branch_at, held, known_in, transaction_at};
+ghost use Rattle.xa_tm.specs.Held.{HasBranch, HasTransaction, begun_by, notes_at, held, known_in, transaction_at};
 
 use crate::change::Change;
 use crate::notes::{BranchNotes, Transaction};
@@ -53,7 +53,7 @@ impl Ledger {
 
     /// What is noted of a branch.
     pub(crate) fn branch(&self, b: Branch) -> BranchNotes
-        ensures { result ≡ branch_at self.now.branches b }
+        ensures { result ≡ notes_at self.now.branches b }
     {
         self.branches.get(&b).copied().unwrap_or(BranchNotes::NEW)
     }
@@ -160,7 +160,7 @@ impl Ledger {
             record self.old { transactions = self.new.transactions; branches = self.new.branches } }
         ensures transactions { (q : _) →
             transaction_at self.new.transactions q ≡ transaction_at self.old.transactions q }
-        ensures branches { (q : _) → branch_at self.new.branches q ≡ branch_at self.old.branches q }
+        ensures branches { (q : _) → notes_at self.new.branches q ≡ notes_at self.old.branches q }
         ensures known { known_in self.new.branches ≡ known_in self.old.branches }
         ensures room { OnOk result (HasTransaction self.new b.gtrid × HasBranch self.new b) }
     {

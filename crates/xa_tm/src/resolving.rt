@@ -2,7 +2,7 @@
 
 ghost use Rattle.std.specs.Prelude.{◌≡◌, map, length, Option, Some, IfOk};
 ghost use Rattle.xa_model.specs.Replies.History.{name_of};
-ghost use Rattle.xa_tm.specs.Held.{held, page_at};
+ghost use Rattle.xa_tm.specs.Held.{held, names_at};
 ghost use Rattle.xa_tm.specs.Refusing.{resolved_in, resolved_open_in};
 ghost use Rattle.xa_tm.specs.Resolving.{call_for, ending_call, open_call_for, waiting_call};
 
@@ -13,7 +13,7 @@ use xa_base::{Branch, Call, Xid};
 impl Ledger {
     /// The last page that a resource manager listed on the first thread's line, since that broke.
     pub(crate) fn page(&self, rm: u32) -> &[Xid]
-        ensures { map name_of result.now ≡ page_at self.now.pages rm }
+        ensures { map name_of result.now ≡ names_at self.now.pages rm }
     {
         match self.pages.get(&rm) {
             Some(page) => page.xids(),

@@ -9,7 +9,7 @@ ghost use Rattle.xa_model.specs.Trace.{Happening.Failed, Happening.Restarted, Fa
 ghost use Rattle.xa_tm.specs.Tied.{may_find, rows_of};
 ghost use Rattle.xa_tm.specs.Book.{records_with, after, book_after, Doubt};
 ghost use Rattle.xa_tm.specs.News.{found_ended};
-ghost use Rattle.xa_tm.specs.Held.{HasBranch, HasRoomForDoubt, come_up_with, without_doubt, branch_at, held};
+ghost use Rattle.xa_tm.specs.Held.{HasBranch, HasRoomForDoubt, come_up_with, without_doubt, notes_at, held};
 ghost use Rattle.xa_tm.specs.Held.{known_in, row_at, waiting_of};
 
 use crate::change::Change;
@@ -168,8 +168,8 @@ impl Ledger {
     fn find_record(&mut self, b: Branch, how: How, is_made: bool)
         requires { HasBranch self.old b }
         ensures others { self.new ≡ record self.old { branches = self.new.branches } }
-        ensures notes { (q : _) → branch_at self.new.branches q ≡
-            (if is_made then (if branch_eq b q then found_ended how (branch_at self.old.branches b) else branch_at self.old.branches q) else branch_at self.old.branches q) }
+        ensures notes { (q : _) → notes_at self.new.branches q ≡
+            (if is_made then (if branch_eq b q then found_ended how (notes_at self.old.branches b) else notes_at self.old.branches q) else notes_at self.old.branches q) }
         ensures known { known_in self.new.branches ≡ known_in self.old.branches }
     {
         if is_made {
@@ -194,7 +194,7 @@ impl Ledger {
     /// No acknowledgement was heard lately.
     fn forget_acknowledgements(&mut self)
         ensures others { self.new ≡ record self.old { branches = self.new.branches } }
-        ensures notes { (q : _) → branch_at self.new.branches q ≡ record (branch_at self.old.branches q) { is_acknowledged_lately = Bool.false } }
+        ensures notes { (q : _) → notes_at self.new.branches q ≡ record (notes_at self.old.branches q) { is_acknowledged_lately = Bool.false } }
         ensures known { known_in self.new.branches ≡ known_in self.old.branches }
     {
         // Keeps each entry, as above.

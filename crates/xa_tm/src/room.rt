@@ -5,7 +5,7 @@ ghost use Rattle.std.specs.BTreeMap.{get};
 ghost use Rattle.std.specs.Option.{option_map};
 ghost use Rattle.xa_base.specs.Branch.{gtrid_cmp, branch_cmp, gtrid_eq, branch_eq};
 ghost use Rattle.xa_log.specs.KeySet.{insert};
-ghost use Rattle.xa_tm.specs.Held.{HasKept, branch_at, known_in, row_at, transaction_at, waiting_of};
+ghost use Rattle.xa_tm.specs.Held.{HasKept, notes_at, known_in, row_at, transaction_at, waiting_of};
 
 use crate::notes::{BranchNotes, Transaction};
 use std::alloc::AllocError;
@@ -50,7 +50,7 @@ pub(crate) fn reserve_branch(
     map: &mut BTreeMap<Branch, BranchNotes>,
     b: Branch,
 ) -> Result<(), AllocError>
-    ensures same { (q : _) → branch_at map.new q ≡ branch_at map.old q }
+    ensures same { (q : _) → notes_at map.new q ≡ notes_at map.old q }
     ensures known { known_in map.new ≡ known_in map.old }
     ensures room { OnOk result (IsSome (get branch_cmp map.new b)) }
 {
@@ -66,12 +66,12 @@ pub(crate) fn reserve_branch(
 /// Puts what is noted of a branch. A start stays noted.
 pub(crate) fn set_branch(map: &mut BTreeMap<Branch, BranchNotes>, b: Branch, notes: BranchNotes)
     requires room { IsSome (get branch_cmp map.old b) }
-    requires started { (branch_at map.old b).is_started ≡ Bool.true → notes.is_started ≡ Bool.true }
-    ensures at { (q : _) → branch_at map.new q ≡
-        (if branch_eq b q then notes else branch_at map.old q) }
+    requires started { (notes_at map.old b).is_started ≡ Bool.true → notes.is_started ≡ Bool.true }
+    ensures at { (q : _) → notes_at map.new q ≡
+        (if branch_eq b q then notes else notes_at map.old q) }
     ensures known { known_in map.new ≡
         (if notes.is_started then insert (known_in map.old) b else known_in map.old) }
-    ensures same_known { notes.is_started ≡ (branch_at map.old b).is_started → known_in map.new ≡ known_in map.old }
+    ensures same_known { notes.is_started ≡ (notes_at map.old b).is_started → known_in map.new ≡ known_in map.old }
 {
     let done: Result<_, _> = map.insert(b, notes);
     done.unwrap();

@@ -6,7 +6,7 @@ ghost use Rattle.xa_log.specs.Contract.{Makes, one_more_fault};
 ghost use Rattle.xa_tm.specs.Held.{IsSound};
 ghost use Rattle.xa_tm.specs.Kept.{book_in, log_in};
 ghost use Rattle.xa_tm.specs.Tied.{IsTied};
-ghost use Rattle.xa_tm.specs.Starting.{IsOld, IsPast, started};
+ghost use Rattle.xa_tm.specs.Starting.{IsOld, IsPast, book_at_start};
 ghost use Rattle.xa_model.specs.Facts.Distinct.{ApartRows};
 ghost use Rattle.xa_model.specs.Trace.{Origin, Trace.From};
 ghost use Rattle.xa_tm.specs.Begins.{BeginsWith, rows_begun};
@@ -40,7 +40,7 @@ impl<L: DecisionLog + Drop> Manager<L> {
     pub fn new(alloc: Global, threads: u32, rms: u32, mut log: L) -> Result<Manager<L>, StartFault>
         ensures book { (L.moment log).is_in_order →
             IfOk result (λ m. (L.moment (log_in m)).is_honest →
-            IsSomeAnd (L.moment (log_in m)).content (λ c. book_in m ≡ started threads rms c)) }
+            IsSomeAnd (L.moment (log_in m)).content (λ c. book_in m ≡ book_at_start threads rms c)) }
         ensures raised { (L.moment log).is_in_order →
             IfOk result (λ m. (L.moment (log_in m)).is_honest →
             Makes bumped (L.moment log).content (L.moment (log_in m)).content) }

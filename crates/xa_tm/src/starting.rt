@@ -6,7 +6,7 @@ ghost use Rattle.xa_base.specs.declared.branch.Branch.{Branch as Named};
 ghost use Rattle.xa_base.specs.declared.code.How.{How as End};
 ghost use Rattle.xa_log.specs.KeySet.{from_list};
 ghost use Rattle.xa_base.specs.Branch.{gtrid_eq, branch_eq};
-ghost use Rattle.xa_tm.specs.Held.{branch_at, held, known_in, no_branch, row_at, waiting_of};
+ghost use Rattle.xa_tm.specs.Held.{notes_at, held, known_in, no_branch, row_at, waiting_of};
 ghost use Rattle.xa_tm.specs.Starting.{AreUnstarted, ended_among, fits_before, loaded, run_of, start_book};
 
 use crate::change::Change;
@@ -72,8 +72,8 @@ fn put_record(
     how: How,
 ) -> Result<(), AllocError>
     requires { AreUnstarted branches.old }
-    ensures notes { OnOk result ((q : _) → branch_at branches.new q ≡
-        (if branch_eq b q then record no_branch { recorded = Some how } else branch_at branches.old q)) }
+    ensures notes { OnOk result ((q : _) → notes_at branches.new q ≡
+        (if branch_eq b q then record no_branch { recorded = Some how } else notes_at branches.old q)) }
     ensures known { OnOk result (known_in branches.new ≡ known_in branches.old) }
 {
     reserve_branch(branches, b)?;
@@ -93,7 +93,7 @@ fn load_records(
     alloc: Global,
     ends: &[(Branch, How)],
 ) -> Result<BTreeMap<Branch, BranchNotes>, AllocError>
-    ensures notes { IfOk result (λ branches. (q : _) → branch_at branches q ≡ record no_branch { recorded = ended_among ends.now q }) }
+    ensures notes { IfOk result (λ branches. (q : _) → notes_at branches q ≡ record no_branch { recorded = ended_among ends.now q }) }
     ensures known { IfOk result (λ branches. known_in branches ≡ from_list []) }
 {
     let mut branches = BTreeMap::new(alloc);

@@ -110,7 +110,8 @@ module _ (jobs : Jobs) (n : ℕ) (ends : List Outcome) (few : vec_len jobs.votes
       )
 
   at_rms : (i r count : ℕ) → i < 1000 → r + count ≤ 8
-      → AllByRecursion (IsOf i r) (filter_map (fate_at jobs n ends i) (range_with_len r count)) × Ascends (filter_map (fate_at jobs n ends i) (range_with_len r count))
+      → AllByRecursion (IsOf i r) (filter_map (fate_at jobs n ends i) (range_with_len r count))
+      × Ascends (filter_map (fate_at jobs n ends i) (range_with_len r count))
   at_rms i r zero job within = (tt, tt)
   at_rms i r (suc count) job within =
       one_more i r (fate_at jobs n ends i r) (filter_map (fate_at jobs n ends i) (range_with_len (r + 1) count)) job (omega (arith, within))
@@ -133,7 +134,8 @@ module _ (jobs : Jobs) (n : ℕ) (ends : List Outcome) (few : vec_len jobs.votes
   below_next i f g h k = rw (h.is, k.is.is) (next_job i k.job h.place k.is.place k.within (omega (arith, k.behind)) h.within k.is.within)
 
   from : (i count : ℕ) → i + count ≤ 1000
-      → AllByRecursion (IsFrom i) (flat_map (job_fates jobs n ends) (range_with_len i count)) × Ascends (flat_map (job_fates jobs n ends) (range_with_len i count))
+      → AllByRecursion (IsFrom i) (flat_map (job_fates jobs n ends) (range_with_len i count))
+      × Ascends (flat_map (job_fates jobs n ends) (range_with_len i count))
   from i zero within = (tt, tt)
   from i (suc count) within =
       let job : i < 1000 = omega (arith, within) in

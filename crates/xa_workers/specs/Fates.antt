@@ -49,11 +49,11 @@ AreInOrder fates = IsStrictlySortedBy xid_cmp (map (λ f. f.0) fates)
 -- ** resource managers
 
 -- what a resource manager in memory holds of each identifier
-abbrev pub held_by : MemRm → Xid → HeldBranch
-held_by = (memory.ghosts).held_of
+abbrev pub held_in_memory : MemRm → Xid → HeldBranch
+held_in_memory = (memory.ghosts).held_of
 
 abbrev pub fate_in : MemRm → Xid → Fate
-fate_in rm x = fate_of (held_by rm x).standing
+fate_in rm x = fate_of (held_in_memory rm x).standing
 
 -- no branch was started there but those with an own identifier
 pub record HasOnly (is_own : Xid → Bool) (rm : MemRm) : Type 0 where

@@ -50,19 +50,19 @@ all_rms jobs = range_with_len 0 jobs.rms
 -- ** ends
 
 -- a job with a No is rolled back, and any other is committed
-abbrev pub end_of : List (Option Vote) → Outcome
-end_of votes = if list_any is_no votes then Rollback else Commit
+abbrev pub planned_end : List (Option Vote) → Outcome
+planned_end votes = if list_any is_no votes then Rollback else Commit
 
 abbrev pub ends_of : Jobs → List Outcome
-ends_of jobs = map (λ votes. end_of votes.items) jobs.votes.items
+ends_of jobs = map (λ votes. planned_end votes.items) jobs.votes.items
 
 -- a recovery that sweeps the jobs may roll back one that would have committed
-abbrev pub MayEnd : (sweep : Bool) → (planned end : Outcome) → Type 0
-MayEnd sweep planned end = (end ≡ planned) ⊎ ((sweep ≡ true) × (end ≡ Rollback))
+abbrev pub MayEndAs : (sweep : Bool) → (planned end : Outcome) → Type 0
+MayEndAs sweep planned end = (end ≡ planned) ⊎ ((sweep ≡ true) × (end ≡ Rollback))
 
 abbrev pub MayAllEnd : (sweep : Bool) → (planned ends : List Outcome) → Type 0
 MayAllEnd sweep planned ends =
-    (i : ℕ) (p e : Outcome) → slice_get planned i ≡ Some p → slice_get ends i ≡ Some e → MayEnd sweep p e
+    (i : ℕ) (p e : Outcome) → slice_get planned i ≡ Some p → slice_get ends i ≡ Some e → MayEndAs sweep p e
 
 -- each job ended, and as it may
 pub record AreEndsOf (jobs : Jobs) (ends : List Outcome) : Type 0 where

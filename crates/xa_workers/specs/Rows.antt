@@ -16,25 +16,25 @@ use Rattle.xa_workers.specs.declared.journal.Journal.{Journal}
 
 -- ** which jobs have rows
 
-abbrev pub is_commit : Option Outcome → Bool
-is_commit (Some Commit) = true
-is_commit _ = false
+abbrev pub is_committed : Option Outcome → Bool
+is_committed (Some Commit) = true
+is_committed _ = false
 
 -- whether job i has a row, where the jobs end so: it committed, and some branch voted yes
-abbrev pub has_row : Jobs → List Outcome → (i : ℕ) → Bool
-has_row jobs ends i = is_commit (slice_get ends i) && list_any is_yes (votes_of jobs i)
+abbrev pub job_has_row : Jobs → List Outcome → (i : ℕ) → Bool
+job_has_row jobs ends i = is_committed (slice_get ends i) && list_any is_yes (votes_of jobs i)
 
--- the participants of job i: its branches that vote yes
-abbrev pub participants : Jobs → (incarnation i : ℕ) → KeySet branch_cmp
-participants jobs incarnation i = from_list (yes_branches jobs incarnation i)
+-- the participants_of_job of job i: its branches that vote yes
+abbrev pub participants_of_job : Jobs → (incarnation i : ℕ) → KeySet branch_cmp
+participants_of_job jobs incarnation i = from_list (yes_branches jobs incarnation i)
 
--- the row of each job that has one, as its participants
-abbrev pub rows_of : Jobs → (incarnation : ℕ) → List Outcome → (i : ℕ) → Option (KeySet branch_cmp)
-rows_of jobs incarnation ends i = if has_row jobs ends i then Some (participants jobs incarnation i) else None
+-- the row of each job that has one, as its participants_of_job
+abbrev pub rows_of_jobs : Jobs → (incarnation : ℕ) → List Outcome → (i : ℕ) → Option (KeySet branch_cmp)
+rows_of_jobs jobs incarnation ends i = if job_has_row jobs ends i then Some (participants_of_job jobs incarnation i) else None
 
 -- the rows of the jobs that are noted as written
-abbrev pub written_rows : (participants : ℕ → KeySet branch_cmp) → List Bool → (i : ℕ) → Option (KeySet branch_cmp)
-written_rows participants written i = if slice_index_or written i false then Some (participants i) else None
+abbrev pub written_rows : (participants_of_job : ℕ → KeySet branch_cmp) → List Bool → (i : ℕ) → Option (KeySet branch_cmp)
+written_rows participants_of_job written i = if slice_index_or written i false then Some (participants_of_job i) else None
 
 -- ** what they make of a log
 
@@ -65,6 +65,6 @@ pub record Logs {L : Type 0} (g : DecisionLog.Ghosts L) (incarnation : ℕ) (row
       × IsSomeAnd (g.moment log).content (λ after. HasRows incarnation rows (bumped before) after))
 
 -- the log of a journal has come to have the rows of the jobs that the journal notes as written
-abbrev pub HasWritten : {L : Type 0} → DecisionLog.Ghosts L → Jobs → (incarnation : ℕ) → Journal L → Type 0
-HasWritten g jobs incarnation journal =
-    Logs g incarnation (written_rows (participants jobs incarnation) journal.written.items) journal.first.value journal.log
+abbrev pub HasRowsOf : {L : Type 0} → DecisionLog.Ghosts L → Jobs → (incarnation : ℕ) → Journal L → Type 0
+HasRowsOf g jobs incarnation journal =
+    Logs g incarnation (written_rows (participants_of_job jobs incarnation) journal.written.items) journal.first.value journal.log

@@ -9,7 +9,7 @@ use Rattle.xa_workers.specs.declared.word.Claim.TheVariants.{Won, Found}
 use Rattle.xa_workers.specs.declared.view.Entry.{Entry}
 use Rattle.xa_workers.specs.declared.view.View.{View}
 use Rattle.xa_workers.specs.declared.view.Place.{Place}
-use Rattle.xa_workers.specs.Words.{number, IsDecided}
+use Rattle.xa_workers.specs.Words.{number_of_word, IsDecided}
 
 abbrev pub entry : ℕ → Word → Word → Entry
 entry slot found left = record { slot = slot; found = found; left = left }
@@ -23,24 +23,24 @@ claim_entry slot (Found w) = entry slot w w
 abbrev pub blank : View
 blank = record { entries = []; held = [] }
 
-abbrev pub without : ℕ → List ℕ → List ℕ
-without slot held = filter (λ k. not (k == slot)) held
+abbrev pub without_slot : ℕ → List ℕ → List ℕ
+without_slot slot held = filter (λ k. not (k == slot)) held
 
 -- a slot is held from the step that finds it open and leaves it claimed to the step that finds it claimed and decides
 -- it
-abbrev pub held_after : List ℕ → ℕ → Word → Word → List ℕ
-held_after held slot Open Claimed = slot ∷ held
-held_after held slot Claimed Committed = without slot held
-held_after held slot Claimed RolledBack = without slot held
-held_after held slot found left = held
+abbrev pub slots_after : List ℕ → ℕ → Word → Word → List ℕ
+slots_after held slot Open Claimed = slot ∷ held
+slots_after held slot Claimed Committed = without_slot slot held
+slots_after held slot Claimed RolledBack = without_slot slot held
+slots_after held slot found left = held
 
 -- the view with one more entry
-abbrev pub noted : View → Entry → View
-noted v e = record { entries = v.entries ++ e ∷ []; held = held_after v.held e.slot e.found e.left }
+abbrev pub with_entry : View → Entry → View
+with_entry v e = record { entries = v.entries ++ e ∷ []; held = slots_after v.held e.slot e.found e.left }
 
 -- after a step that left this word, a step may find it, or a greater one where it was open or claimed
 abbrev pub MayFind : Word → Word → Type 0
-MayFind left found = (found ≡ left) ⊎ ((number left ≤ 1) × (number left < number found))
+MayFind left found = (found ≡ left) ⊎ ((number_of_word left ≤ 1) × (number_of_word left < number_of_word found))
 
 -- of two entries on one slot the later found what the earlier may lead to
 abbrev pub Follows : Entry → Entry → Type 0
@@ -49,8 +49,8 @@ Follows x y = y.slot ≡ x.slot → MayFind x.left y.found
 abbrev pub InOrder : View → Type 0
 InOrder v = AllPairs Follows v.entries
 
-abbrev pub Holds : View → ℕ → Type 0
-Holds v slot = Contains v.held slot
+abbrev pub HoldsSlot : View → ℕ → Type 0
+HoldsSlot v slot = Contains v.held slot
 
 -- a step of this seat left the word at the slot
 abbrev pub Saw : View → ℕ → Word → Type 0
@@ -66,7 +66,7 @@ Agree v w = (slot : ℕ) (x y : Word) → SawDecided v slot x → SawDecided w s
 
 -- no slot is held by both
 abbrev pub HoldApart : View → View → Type 0
-HoldApart v w = (slot : ℕ) → Holds v slot → Holds w slot → ⊥
+HoldApart v w = (slot : ℕ) → HoldsSlot v slot → HoldsSlot w slot → ⊥
 
 -- a seat by itself, with no other aboard
 abbrev pub alone : View → Place
@@ -89,6 +89,6 @@ pub record SeatState : Type 0 where
 abbrev pub MayExchange : View → ℕ → Word → Word → Type 0
 MayExchange v slot Open Claimed = Unit {0}
 MayExchange v slot Open RolledBack = Unit {0}
-MayExchange v slot Claimed Committed = Holds v slot
-MayExchange v slot Claimed RolledBack = Holds v slot
+MayExchange v slot Claimed Committed = HoldsSlot v slot
+MayExchange v slot Claimed RolledBack = HoldsSlot v slot
 MayExchange v slot old new = ⊥

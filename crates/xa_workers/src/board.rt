@@ -1,7 +1,7 @@
 //! The decision board: a word for each slot, on which threads decide without a lock how each job ends.
 ghost use Rattle.std.specs.Prelude.{◌≡◌, ◌≢◌, ◌≤◌, ◌<◌, IfOk};
 ghost use Rattle.xa_workers.specs.Words.{after_rollback, exchanged};
-ghost use Rattle.xa_workers.specs.Views.{blank, entry, claim_entry, noted, InOrder, Holds, SawDecided};
+ghost use Rattle.xa_workers.specs.Views.{blank, entry, claim_entry, with_entry, InOrder, HoldsSlot, SawDecided};
 ghost use Rattle.xa_workers.specs.Views.{MayExchange, Agree, HoldApart};
 ghost use Rattle.xa_workers.specs.BoardRule.{OnOneBoard};
 
@@ -94,7 +94,7 @@ impl Board {
         requires board { seat.old.board ≡ self.now.table }
         requires slot { slot < self.now.slots }
         ensures board { seat.new.board ≡ seat.old.board }
-        ensures entry { seat.new.view ≡ noted seat.old.view (claim_entry slot result) }
+        ensures entry { seat.new.view ≡ with_entry seat.old.view (claim_entry slot result) }
         ensures taken { result ≢ Claim.Found Word.Open }
         ensures decided { (w : _) → SawDecided seat.old.view slot w → result ≡ Claim.Found w }
         ensures in_order { InOrder seat.new.view }
@@ -109,9 +109,9 @@ impl Board {
     pub fn settle(&self, seat: &mut BoardSeat, slot: usize)
         requires board { seat.old.board ≡ self.now.table }
         requires slot { slot < self.now.slots }
-        requires held { Holds seat.old.view slot }
+        requires held { HoldsSlot seat.old.view slot }
         ensures board { seat.new.board ≡ seat.old.board }
-        ensures entry { seat.new.view ≡ noted seat.old.view (entry slot Word.Claimed Word.Committed) }
+        ensures entry { seat.new.view ≡ with_entry seat.old.view (entry slot Word.Claimed Word.Committed) }
         ensures in_order { InOrder seat.new.view }
     {
         self.exchange(seat, slot, Word::Claimed, Word::Committed);
@@ -121,9 +121,9 @@ impl Board {
     pub fn abandon(&self, seat: &mut BoardSeat, slot: usize)
         requires board { seat.old.board ≡ self.now.table }
         requires slot { slot < self.now.slots }
-        requires held { Holds seat.old.view slot }
+        requires held { HoldsSlot seat.old.view slot }
         ensures board { seat.new.board ≡ seat.old.board }
-        ensures entry { seat.new.view ≡ noted seat.old.view (entry slot Word.Claimed Word.RolledBack) }
+        ensures entry { seat.new.view ≡ with_entry seat.old.view (entry slot Word.Claimed Word.RolledBack) }
         ensures in_order { InOrder seat.new.view }
     {
         self.exchange(seat, slot, Word::Claimed, Word::RolledBack);
@@ -135,7 +135,7 @@ impl Board {
         requires slot { slot < self.now.slots }
         ensures board { seat.new.board ≡ seat.old.board }
         ensures entry { (found : _) × (result ≡ after_rollback found)
-            × (seat.new.view ≡ noted seat.old.view (entry slot found result)) }
+            × (seat.new.view ≡ with_entry seat.old.view (entry slot found result)) }
         ensures decided { (w : _) → SawDecided seat.old.view slot w → result ≡ w }
         ensures in_order { InOrder seat.new.view }
     {
@@ -150,7 +150,7 @@ impl Board {
         requires board { seat.old.board ≡ self.now.table }
         requires slot { slot < self.now.slots }
         ensures board { seat.new.board ≡ seat.old.board }
-        ensures entry { seat.new.view ≡ noted seat.old.view (entry slot result result) }
+        ensures entry { seat.new.view ≡ with_entry seat.old.view (entry slot result result) }
         ensures decided { (w : _) → SawDecided seat.old.view slot w → result ≡ w }
         ensures in_order { InOrder seat.new.view }
     {
@@ -184,8 +184,8 @@ impl Board {
         requires slot { slot < self.now.slots }
         requires allowed { MayExchange seat.old.view slot old new }
         ensures board { seat.new.board ≡ seat.old.board }
-        ensures entry { seat.new.view ≡ noted seat.old.view (entry slot result (exchanged old new result)) }
-        ensures held { Holds seat.old.view slot → result ≡ Word.Claimed }
+        ensures entry { seat.new.view ≡ with_entry seat.old.view (entry slot result (exchanged old new result)) }
+        ensures held { HoldsSlot seat.old.view slot → result ≡ Word.Claimed }
         ensures decided { (w : _) → SawDecided seat.old.view slot w → result ≡ w }
         ensures in_order { InOrder seat.new.view }
     {

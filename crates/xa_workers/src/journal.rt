@@ -1,7 +1,7 @@
 //! The log's worker.
 ghost use Rattle.std.specs.Prelude.{◌≡◌, ◌≤◌, ◌<◌, IfOk, OnOk, vec_len};
 ghost use Rattle.xa_log.specs.Content.{last_number};
-ghost use Rattle.xa_workers.specs.Rows.{HasWritten, Logs, no_rows};
+ghost use Rattle.xa_workers.specs.Rows.{HasRowsOf, Logs, no_rows};
 
 use crate::crew::Crew;
 use crate::docket::Task;
@@ -37,7 +37,7 @@ impl<L: DecisionLog> Journal<L> {
         requires { Logs L.DecisionLog incarnation no_rows first.value log }
         ensures first { IfOk result (λ journal. journal.first ≡ first) }
         ensures len { IfOk result (λ journal. vec_len journal.written ≡ vec_len jobs.now.votes) }
-        ensures kept { IfOk result (λ journal. HasWritten L.DecisionLog jobs.now incarnation journal) }
+        ensures kept { IfOk result (λ journal. HasRowsOf L.DecisionLog jobs.now incarnation journal) }
     {
         let written = vec![in alloc; false; jobs.votes.len()]?;
         Ok(Journal {
@@ -58,10 +58,10 @@ impl<L: DecisionLog> Journal<L> {
         requires few { vec_len self.old.written ≤ 1000 }
         requires some { 0 < jobs.now.threads }
         requires fits { incarnation ≤ last_number }
-        requires kept { HasWritten L.DecisionLog jobs.now incarnation self.old }
+        requires kept { HasRowsOf L.DecisionLog jobs.now incarnation self.old }
         ensures first { self.new.first ≡ self.old.first }
         ensures len { vec_len self.new.written ≡ vec_len self.old.written }
-        ensures kept { OnOk result (HasWritten L.DecisionLog jobs.now incarnation self.new) }
+        ensures kept { OnOk result (HasRowsOf L.DecisionLog jobs.now incarnation self.new) }
     {
         if job >= self.written.len() {
             return Err(WorkFault::Mixed);
@@ -82,9 +82,9 @@ pub(crate) fn write_rows<J: Run, G: Gate, L: DecisionLog>(
     journal: &mut Journal<L>,
 ) -> Result<(), Halt>
     requires few { vec_len journal.old.written ≤ 1000 }
-    requires kept { HasWritten L.DecisionLog crew.now.jobs.now crew.now.incarnation journal.old }
+    requires kept { HasRowsOf L.DecisionLog crew.now.jobs.now crew.now.incarnation journal.old }
     ensures first { journal.new.first ≡ journal.old.first }
-    ensures kept { OnOk result (HasWritten L.DecisionLog crew.now.jobs.now crew.now.incarnation journal.new) }
+    ensures kept { OnOk result (HasRowsOf L.DecisionLog crew.now.jobs.now crew.now.incarnation journal.new) }
 {
     for _ in rt.forever() {
         let task = crew.docket.lock(rt).next();

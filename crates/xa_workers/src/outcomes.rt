@@ -1,8 +1,8 @@
 //! The rule by which jobs end, and what a run of them comes to.
 ghost use Rattle.std.specs.Prelude.{◌≡◌, ◌<◌, ◌≤◌, ◌^◌, IfOk, vec_len};
 ghost use Rattle.xa_workers.specs.Fates.{fate_after, fate_at, fates_of, job_fates};
-ghost use Rattle.xa_workers.specs.Jobs.{end_of, ends_of};
-ghost use Rattle.xa_workers.specs.Rows.{has_row, is_commit};
+ghost use Rattle.xa_workers.specs.Jobs.{planned_end, ends_of};
+ghost use Rattle.xa_workers.specs.Rows.{job_has_row, is_committed};
 
 use crate::Jobs;
 use crate::jobs::{has_no, has_yes};
@@ -25,7 +25,7 @@ pub struct Outcomes<L> {
 
 /// How a job with these votes ends.
 fn planned_end(votes: &[Option<Vote>]) -> Outcome
-    ensures { result ≡ end_of votes.now }
+    ensures { result ≡ planned_end votes.now }
 {
     if has_no(votes) {
         Outcome::Rollback
@@ -48,7 +48,7 @@ fn fate_after(end: Outcome, vote: Vote) -> Fate
 
 /// Whether a job ended in a commit, if it ended.
 fn is_commit(end: Option<Outcome>) -> bool
-    ensures { result ≡ is_commit end }
+    ensures { result ≡ is_committed end }
 {
     matches!(end, Some(Outcome::Commit))
 }
@@ -115,7 +115,7 @@ impl Jobs {
 
     /// Whether a job has a row in the log, where the jobs end so.
     pub(crate) fn has_row(&self, ends: &[Outcome], job: usize) -> bool
-        ensures { result ≡ has_row self.now ends.now job }
+        ensures { result ≡ job_has_row self.now ends.now job }
     {
         is_commit(ends.get(job).copied()) && has_yes(self.votes(job))
     }

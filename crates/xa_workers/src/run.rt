@@ -3,7 +3,7 @@ ghost use Rattle.std.specs.Prelude.{◌≡◌, ◌≤◌, ◌<◌, ℕ, All, IfO
 ghost use Rattle.xa_log.specs.Content.{last_number};
 ghost use Rattle.xa_workers.specs.Fates.{AreInOrder, HaveFates, fates_of};
 ghost use Rattle.xa_workers.specs.Jobs.{AreEndsOf, IsRunnable, ends_of, is_xid_of};
-ghost use Rattle.xa_workers.specs.Rows.{HasWritten, Logs, no_rows, rows_of};
+ghost use Rattle.xa_workers.specs.Rows.{HasRowsOf, Logs, no_rows, rows_of_jobs};
 ghost use Rattle.xa_workers.specs.Tied.{ArePaired};
 
 use crate::crew::Crew;
@@ -63,10 +63,10 @@ fn run_crew<
 ) -> Result<Work<J, L>, WorkFault>
     requires seat { hands.seat.board ≡ crew.now.board.now.table }
     requires few { vec_len journal.written ≤ 1000 }
-    requires kept { HasWritten L.DecisionLog crew.now.jobs.now crew.now.incarnation journal }
+    requires kept { HasRowsOf L.DecisionLog crew.now.jobs.now crew.now.incarnation journal }
     ensures first { IfOk result (λ work. work.journal.first ≡ journal.first) }
     ensures kept { IfOk result (λ work.
-        HasWritten L.DecisionLog crew.now.jobs.now crew.now.incarnation work.journal) }
+        HasRowsOf L.DecisionLog crew.now.jobs.now crew.now.incarnation work.journal) }
 {
     let mut team = Team::new(alloc);
     let started = start_all(scope, rt, alloc, crew, hands, &mut team);
@@ -115,10 +115,10 @@ fn run_all<J: Run + Send + Sync, R: Threads + Wait + Sync, G: Gate + Sync, L: De
 ) -> Result<Work<J, L>, WorkFault>
     requires seat { hands.seat.board ≡ crew.now.board.now.table }
     requires few { vec_len journal.written ≤ 1000 }
-    requires kept { HasWritten L.DecisionLog crew.now.jobs.now crew.now.incarnation journal }
+    requires kept { HasRowsOf L.DecisionLog crew.now.jobs.now crew.now.incarnation journal }
     ensures first { IfOk result (λ work. work.journal.first ≡ journal.first) }
     ensures kept { IfOk result (λ work.
-        HasWritten L.DecisionLog crew.now.jobs.now crew.now.incarnation work.journal) }
+        HasRowsOf L.DecisionLog crew.now.jobs.now crew.now.incarnation work.journal) }
 {
     thread::scope(
         thread::scope_env(),
@@ -126,10 +126,10 @@ fn run_all<J: Run + Send + Sync, R: Threads + Wait + Sync, G: Gate + Sync, L: De
         |scope| -> Result<Work<J, L>, WorkFault>
             requires seat { hands.seat.board ≡ crew.now.board.now.table }
             requires few { vec_len journal.written ≤ 1000 }
-            requires kept { HasWritten L.DecisionLog crew.now.jobs.now crew.now.incarnation journal }
+            requires kept { HasRowsOf L.DecisionLog crew.now.jobs.now crew.now.incarnation journal }
             ensures first { IfOk result (λ work. work.journal.first ≡ journal.first) }
             ensures kept { IfOk result (λ work.
-                HasWritten L.DecisionLog crew.entry.now.jobs.now crew.entry.now.incarnation work.journal) }
+                HasRowsOf L.DecisionLog crew.entry.now.jobs.now crew.entry.now.incarnation work.journal) }
         { run_crew(scope, rt, alloc, crew, hands, journal) },
     )
 }
@@ -195,7 +195,7 @@ fn run_named<J: Run + Send + Sync, R: Threads + Wait + Sync, L: DecisionLog + Dr
     ensures fates { IfOk result (λ o. o.fates.items ≡ fates_of jobs.now begun.incarnation o.ends.items) }
     ensures rms { IfOk result (λ o. HaveFates jobs.now begun.incarnation o.rms.items o.fates.items) }
     ensures rows { IfOk result (λ o. Logs L.DecisionLog begun.incarnation
-        (rows_of jobs.now begun.incarnation o.ends.items) begun.first.value o.log) }
+        (rows_of_jobs jobs.now begun.incarnation o.ends.items) begun.first.value o.log) }
 {
     let Begun {
         incarnation,
@@ -260,7 +260,7 @@ pub fn run_jobs<R: Threads + Wait + Sync, L: DecisionLog + Drop, G: Gate + Sync>
     ensures outcome { IfOk result (λ o. (incarnation : ℕ) ×
         (o.fates.items ≡ fates_of jobs.now incarnation o.ends.items) ×
         HaveFates jobs.now incarnation o.rms.items o.fates.items ×
-        Logs L.DecisionLog incarnation (rows_of jobs.now incarnation o.ends.items) log o.log) }
+        Logs L.DecisionLog incarnation (rows_of_jobs jobs.now incarnation o.ends.items) log o.log) }
 {
     let begun = begin(log)?;
     let (issuers, takers) = new_ends(alloc, jobs)?;

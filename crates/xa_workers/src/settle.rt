@@ -2,8 +2,8 @@
 ghost use Rattle.std.specs.Prelude.{◌≡◌, ◌≤◌, ◌<◌, ℕ, All, IfOk, IsTrue, length, vec_len, slice_get, slice_index_or};
 ghost use Rattle.std.specs.Prelude.{Some, false};
 ghost use Rattle.xa_workers.specs.Fates.{HasFate, HasOnly, HaveFates, fates_of};
-ghost use Rattle.xa_workers.specs.Jobs.{AreEndsOf, MayAllEnd, MayEnd, is_xid_of};
-ghost use Rattle.xa_workers.specs.Rows.{HasWritten, Logs, has_row, rows_of};
+ghost use Rattle.xa_workers.specs.Jobs.{AreEndsOf, MayAllEnd, MayEndAs, is_xid_of};
+ghost use Rattle.xa_workers.specs.Rows.{HasRowsOf, Logs, job_has_row, rows_of_jobs};
 
 use crate::control::Controlled;
 use crate::journal::Journal;
@@ -49,7 +49,7 @@ fn gathered_ends<J: Run>(
 
 /// Whether a job may end so.
 fn may_end(sweep: bool, planned: Outcome, end: Outcome) -> bool
-    ensures { IsTrue result → MayEnd sweep planned end }
+    ensures { IsTrue result → MayEndAs sweep planned end }
 {
     end == planned || (sweep && end == Outcome::Rollback)
 }
@@ -129,7 +129,7 @@ fn taken_ends<J: Run>(
 
 /// Whether the rows were written that the jobs have, where they end so.
 fn have_rows(jobs: &Jobs, ends: &[Outcome], written: &[bool]) -> bool
-    ensures { IsTrue result → (i : ℕ) → slice_index_or written.now i false ≡ has_row jobs.now ends.now i }
+    ensures { IsTrue result → (i : ℕ) → slice_index_or written.now i false ≡ job_has_row jobs.now ends.now i }
 {
     if ends.len() != written.len() {
         return false;
@@ -160,12 +160,12 @@ pub(crate) fn settled<J: Run, L: DecisionLog + Drop>(
     requires few { vec_len jobs.now.votes ≤ 1000 }
     requires some { 0 < jobs.now.threads }
     requires own { J.is_own ≡ is_xid_of jobs.now incarnation }
-    requires rows { HasWritten L.DecisionLog jobs.now incarnation work.journal }
+    requires rows { HasRowsOf L.DecisionLog jobs.now incarnation work.journal }
     ensures ends { IfOk result (λ o. AreEndsOf jobs.now o.ends.items) }
     ensures fates { IfOk result (λ o. o.fates.items ≡ fates_of jobs.now incarnation o.ends.items) }
     ensures rms { IfOk result (λ o. HaveFates jobs.now incarnation o.rms.items o.fates.items) }
     ensures rows { IfOk result (λ o. Logs L.DecisionLog incarnation
-        (rows_of jobs.now incarnation o.ends.items) work.journal.first.value o.log) }
+        (rows_of_jobs jobs.now incarnation o.ends.items) work.journal.first.value o.log) }
 {
     let Work {
         controlled,

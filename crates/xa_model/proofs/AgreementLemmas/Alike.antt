@@ -15,7 +15,7 @@ use Rattle.xa_model.proofs.Invariant.Grows.{false_unless}
 use Rattle.xa_base.proofs.Lists.{get_none}
 use Rattle.xa_model.proofs.Invariant.Now.{row_fact_ever, settled_at_rest, step_move}
 use Rattle.xa_model.proofs.Invariant.Preserved.{always}
-use Rattle.xa_model.specs.Promises.Agreement.{after, IsFinal, IsUndone, AreAlike, HeuristicsAreHeld, AsLogged, DoubtIsDown}
+use Rattle.xa_model.specs.Promises.Agreement.{followed_by, IsFinal, IsUndone, AreAlike, HeuristicsAreHeld, AsLogged, DoubtIsDown}
 use Rattle.xa_model.proofs.AgreementLemmas.Ends.{right_before, final}
 
 -- ** alike
@@ -80,13 +80,13 @@ row_of_prepared tr b inv p h = by_test (has_row tr b.gtrid) refl
 pub undone_no_row : (tr : Trace) (b : Branch) → Inv tr → IsUndone (standing tr b) → ever tr b.gtrid ≡ false
 undone_no_row tr b inv u = false_unless _ (λ e. undone_not_good _ u ((row_fact_ever tr b.gtrid inv e).good b refl (has_started tr b inv (undone_begun _ u))))
 
-pub as_logged : (tr : Trace) (e : Happening) (es : List Happening) → AllRight (after (Then tr e) es) → AsLogged tr e (after (Then tr e) es)
+pub as_logged : (tr : Trace) (e : Happening) (es : List Happening) → AllRight (followed_by (Then tr e) es) → AsLogged tr e (followed_by (Then tr e) es)
 as_logged tr e es r =
     let r' = right_before (Then tr e) es r in
     let inv = always tr r'.0 in
     record {
       committed = λ b p c. row_of_prepared tr b inv p (commit_cause tr b _ _ (step_move tr e b inv r'.1) p c);
-      rolled_back = λ b p u. undone_no_row (after (Then tr e) es) b (always _ r) (inl (final (Then tr e) es b r (subst IsFinal (sym u) tt) ∙ u));
+      rolled_back = λ b p u. undone_no_row (followed_by (Then tr e) es) b (always _ r) (inl (final (Then tr e) es b r (subst IsFinal (sym u) tt) ∙ u));
     }
 
 -- ** doubt

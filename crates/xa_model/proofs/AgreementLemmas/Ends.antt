@@ -10,7 +10,7 @@ use Rattle.xa_model.proofs.Invariant.Moves.{Move, Move.Stays, Move.Starts, Move.
 use Rattle.xa_model.proofs.Invariant.Now.{step_move}
 use Rattle.xa_model.proofs.Invariant.Kept.{ended_kept}
 use Rattle.xa_model.proofs.Invariant.Preserved.{always}
-use Rattle.xa_model.specs.Promises.Agreement.{after, end_of, ends, IsFinal}
+use Rattle.xa_model.specs.Promises.Agreement.{followed_by, end_in, ends, IsFinal}
 
 -- ** ends
 
@@ -23,7 +23,7 @@ EndsFit Prepared fs = length fs ≡ 0
 EndsFit RollbackOnly fs = length fs ≡ 0
 EndsFit _ fs = length fs ≤ 1
 
-ends_stay : (f : Standing) (fs : List Standing) → EndsFit f fs → EndsFit f (end_of f f ++ fs)
+ends_stay : (f : Standing) (fs : List Standing) → EndsFit f fs → EndsFit f (end_in f f ++ fs)
 ends_stay Unstarted fs h = h
 ends_stay Active fs h = h
 ends_stay Idle fs h = h
@@ -39,13 +39,13 @@ ends_stay (Forgotten how) fs h = h
 one_end : (f : Standing) (fs : List Standing) → length fs ≡ 0 → length (f ∷ fs) ≤ 1
 one_end f fs h = omega arith
 
-rolled_back_ends : (f : Standing) (fs : List Standing) → CanRollBack f → EndsFit f fs → EndsFit RolledBack (end_of f RolledBack ++ fs)
+rolled_back_ends : (f : Standing) (fs : List Standing) → CanRollBack f → EndsFit f fs → EndsFit RolledBack (end_in f RolledBack ++ fs)
 rolled_back_ends Idle fs c h = one_end RolledBack fs h
 rolled_back_ends Prepared fs c h = one_end RolledBack fs h
 rolled_back_ends RollbackOnly fs c h = one_end RolledBack fs h
 rolled_back_ends _ fs c h = absurd c
 
-ends_move : (tr : Trace) (b : Branch) (f g : Standing) (fs : List Standing) → Move tr b f g → EndsFit f fs → EndsFit g (end_of f g ++ fs)
+ends_move : (tr : Trace) (b : Branch) (f g : Standing) (fs : List Standing) → Move tr b f g → EndsFit f fs → EndsFit g (end_in f g ++ fs)
 ends_move tr b f g fs (Stays x) h = ends_stay x fs h
 ends_move tr b f g fs (Starts s) h = h
 ends_move tr b f g fs Ends h = h
@@ -85,7 +85,7 @@ ends_once tr b r = at_most_one (standing tr b) (ends tr b) (ends_fit tr b r)
 -- ** runs
 
 -- each beginning of a right run is right
-pub right_before : (tr : Trace) (es : List Happening) → AllRight (after tr es) → AllRight tr
+pub right_before : (tr : Trace) (es : List Happening) → AllRight (followed_by tr es) → AllRight tr
 right_before tr [] r = r
 right_before tr (e ∷ es) r = (right_before (Then tr e) es r).0
 
@@ -98,7 +98,8 @@ is_ended (Forgotten how) h = tt
 is_ended _ h = absurd h
 
 -- a final standing stays
-pub final : (tr : Trace) (es : List Happening) (b : Branch) → AllRight (after tr es) → IsFinal (standing tr b) → standing (after tr es) b ≡ standing tr b
+pub final : (tr : Trace) (es : List Happening) (b : Branch) → AllRight (followed_by tr es) → IsFinal (standing tr b)
+    → standing (followed_by tr es) b ≡ standing tr b
 final tr [] b r h = refl
 final tr (e ∷ es) b r h =
     let r' = right_before (Then tr e) es r in

@@ -29,7 +29,8 @@ prefix_more xs ys c p h = grow xs ys p.0 c p.1 h
     grow : (xs ys rest : List Call) (c : Call) → xs ++ rest ≡ ys → slice_get ys (length xs) ≡ Some c → IsPrefixOf (xs ++ c ∷ []) ys
     grow [] ys rest c q h = first ys c h
     grow (x ∷ xs) ys rest c q h =
-        subst (λ z. IsPrefixOf (x ∷ (xs ++ c ∷ [])) z) q (cons x (xs ++ c ∷ []) (xs ++ rest) (grow xs (xs ++ rest) rest c refl (subst (λ z. slice_get z (suc (length xs)) ≡ Some c) (sym q) h)))
+        subst (λ z. IsPrefixOf (x ∷ (xs ++ c ∷ [])) z) q
+        (cons x (xs ++ c ∷ []) (xs ++ rest) (grow xs (xs ++ rest) rest c refl (subst (λ z. slice_get z (suc (length xs)) ≡ Some c) (sym q) h)))
 
 map_append : (xs ys : List (Call × Answer)) → map call_of (xs ++ ys) ≡ map call_of xs ++ map call_of ys
 map_append [] ys = refl

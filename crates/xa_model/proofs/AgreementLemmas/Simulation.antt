@@ -18,7 +18,7 @@ use Rattle.xa_model.proofs.Invariant.Now.{step_move, started_back}
 use Rattle.xa_model.proofs.Invariant.Kept.{ended_kept}
 use Rattle.xa_model.proofs.Invariant.Preserved.{always}
 use Rattle.xa_model.specs.Promises.Commitment.{Phase, Phase.Working, Phase.Prepared as Willing, Phase.Committed as Kept, Phase.Aborted, MayGo.Prepares as Becomes_willing, MayGo.Commits as Keeps, MayGo.Aborts, with_phase, Leads, Leads.There, Leads.Step, phase_of}
-use Rattle.xa_model.specs.Promises.Agreement.{after, IsUndone, IsBranchOf, phases, IsCommitment}
+use Rattle.xa_model.specs.Promises.Agreement.{followed_by, IsUndone, IsBranchOf, phases, IsCommitment}
 use Rattle.xa_model.proofs.AgreementLemmas.Alike.{are_alike}
 use Rattle.xa_model.proofs.AgreementLemmas.Ends.{right_before}
 
@@ -27,7 +27,7 @@ use Rattle.xa_model.proofs.AgreementLemmas.Ends.{right_before}
 abbrev IsEager : Phase → Type 0
 IsEager x = (x ≡ Willing) ⊎ (x ≡ Kept)
 
--- how one branch changes, with what holds of all members before and after
+-- how one branch changes, with what holds of all members before and followed_by
 data Change2 (Member : Branch → Type 0) (p q : Branch → Phase) (b : Branch) : Type 0 where
   Same : p b ≡ q b → Change2 Member p q b
   To_willing : p b ≡ Working → q b ≡ Willing → Change2 Member p q b
@@ -131,14 +131,18 @@ go Member p q m x xs k e (To_willing a b) mx d rec =
     Step m x Willing k (Becomes_willing (e ∙ a)) (rec _ (mixed_set Member p q m _ x s mx) (done_set Member q m _ x xs s d))
 go Member p q m x xs k e (To_kept a b f) mx d rec =
     let s = set_once q m x Kept b in
-    Step m x Kept k (Keeps (e ∙ a) (λ c z. eager_mix (p c) (q c) (m c) (f c z) (mx c z))) (rec _ (mixed_set Member p q m _ x s mx) (done_set Member q m _ x xs s d))
+    Step m x Kept k (Keeps (e ∙ a) (λ c z. eager_mix (p c) (q c) (m c) (f c z) (mx c z)))
+    (rec _ (mixed_set Member p q m _ x s mx) (done_set Member q m _ x xs s d))
 go Member p q m x xs k e (In_one a b f) mx d rec =
     let s = set_twice q m x Willing Kept b in
     let n = with_phase m x Willing in
-    Step m x Willing k (Becomes_willing (e ∙ a)) (Step n x Kept k (Keeps (set_here m x Willing) (λ c z. inl (ap n (f c z) ∙ set_here m x Willing))) (rec _ (mixed_set Member p q m _ x s mx) (done_set Member q m _ x xs s d)))
+    Step m x Willing k (Becomes_willing (e ∙ a))
+    (Step n x Kept k (Keeps (set_here m x Willing) (λ c z. inl (ap n (f c z) ∙ set_here m x Willing)))
+    (rec _ (mixed_set Member p q m _ x s mx) (done_set Member q m _ x xs s d)))
 go Member p q m x xs k e (To_aborted a b f) mx d rec =
     let s = set_once q m x Aborted b in
-    Step m x Aborted k (Aborts (still (p x) (m x) e a) (λ c z. kept_mix (p c) (q c) (m c) (f c z) (mx c z))) (rec _ (mixed_set Member p q m _ x s mx) (done_set Member q m _ x xs s d))
+    Step m x Aborted k (Aborts (still (p x) (m x) e a) (λ c z. kept_mix (p c) (q c) (m c) (f c z) (mx c z)))
+    (rec _ (mixed_set Member p q m _ x s mx) (done_set Member q m _ x xs s d))
 
 go_or_skip : (Member : Branch → Type 0) (p q m : Branch → Phase) (x : Branch) (xs : List Branch) → Member x
     → (m x ≡ p x) ⊎ (m x ≡ q x) → Change2 Member p q x → Mixed Member p q m → DoneBut Member q m (x ∷ xs)
@@ -191,14 +195,14 @@ member_test tr g b = by_tests (gtrid_eq b.gtrid g) refl (started tr b) refl
     by_tests false s u k = inr (λ h. let z = ap (gtrid_eq b.gtrid) h.0 in let y = gtrid_eq-refl b.gtrid in cc)
 
 -- a transaction that is closed has all its branches
-started_before : (tr : Trace) (es : List Happening) (b : Branch) → AllRight (after tr es) → Closed tr b.gtrid
-    → started (after tr es) b ≡ true → started tr b ≡ true
+started_before : (tr : Trace) (es : List Happening) (b : Branch) → AllRight (followed_by tr es) → Closed tr b.gtrid
+    → started (followed_by tr es) b ≡ true → started tr b ≡ true
 started_before tr [] b r c s = s
 started_before tr (e ∷ es) b r c s =
     let r' = right_before (Then tr e) es r in
     started_back tr e b r'.1 c.not_live (started_before (Then tr e) es b r (closed_kept tr e b.gtrid r'.1 c) s)
 
-handed_later : (tr : Trace) (es : List Happening) (g : Gtrid) → handed_over tr g ≡ true → handed_over (after tr es) g ≡ true
+handed_later : (tr : Trace) (es : List Happening) (g : Gtrid) → handed_over tr g ≡ true → handed_over (followed_by tr es) g ≡ true
 handed_later tr [] g h = h
 handed_later tr (e ∷ es) g h = handed_later (Then tr e) es g (handed_kept tr e g h)
 
@@ -252,8 +256,8 @@ eager_fate (Forgotten how) h = inl refl
 eager_fate _ h = absurd h
 
 one_change : (tr : Trace) (e : Happening) (es : List Happening) (g : Gtrid) (b : Branch) (x y : Phase)
-    → AllRight (after (Then tr e) es) → IsBranchOf (after (Then tr e) es) g b → PhaseMove tr b x y → phases tr b ≡ x
-    → phases (Then tr e) b ≡ y → Change2 (IsBranchOf (after (Then tr e) es) g) (phases tr) (phases (Then tr e)) b
+    → AllRight (followed_by (Then tr e) es) → IsBranchOf (followed_by (Then tr e) es) g b → PhaseMove tr b x y → phases tr b ≡ x
+    → phases (Then tr e) b ≡ y → Change2 (IsBranchOf (followed_by (Then tr e) es) g) (phases tr) (phases (Then tr e)) b
 one_change tr e es g b x y r k (P_same z) p q = Same (p ∙ sym q)
 one_change tr e es g b x y r k P_willing p q = To_willing p q
 one_change tr e es g b x y r k (P_kept h) p q =
@@ -268,25 +272,26 @@ one_change tr e es g b x y r k (P_kept h) p q =
     inv' : Inv (Then tr e)
     inv' = always (Then tr e) r'
 
-    same : (c : Branch) → IsBranchOf (after (Then tr e) es) g c → c.gtrid ≡ b.gtrid
+    same : (c : Branch) → IsBranchOf (followed_by (Then tr e) es) g c → c.gtrid ≡ b.gtrid
     same c m = m.0 ∙ sym k.0
 
-    before : (c : Branch) → IsBranchOf (after (Then tr e) es) g c → started tr c ≡ true
+    before : (c : Branch) → IsBranchOf (followed_by (Then tr e) es) g c → started tr c ≡ true
     before c m = started_before tr (e ∷ es) c r (subst (Closed tr) (sym (same c m)) (inv.rows b.gtrid h).closed) m.1
 one_change tr e es g b x y r k (P_one h) p q =
-    In_one p q (λ c m. sym ((always (after (Then tr e) es) r).handed_one b c (handed_later tr (e ∷ es) b.gtrid h) (m.0 ∙ sym k.0) k.1 m.1))
+    In_one p q (λ c m. sym ((always (followed_by (Then tr e) es) r).handed_one b c (handed_later tr (e ∷ es) b.gtrid h) (m.0 ∙ sym k.0) k.1 m.1))
 one_change tr e es g b x y r k (P_aborted z o) p q =
-    To_aborted (still z (phases tr b) p o) q (λ c m. (λ w. none c m (ended_kept tr e c Committed (always tr r'.0) r'.1 tt (kept_fate _ w)), λ w. none c m (kept_fate _ w)))
+    To_aborted (still z (phases tr b) p o) q
+    (λ c m. (λ w. none c m (ended_kept tr e c Committed (always tr r'.0) r'.1 tt (kept_fate _ w)), λ w. none c m (kept_fate _ w)))
   where
     r' : AllRight (Then tr e)
     r' = right_before (Then tr e) es r
 
-    none : (c : Branch) → IsBranchOf (after (Then tr e) es) g c → standing (Then tr e) c ≡ Committed → ⊥
+    none : (c : Branch) → IsBranchOf (followed_by (Then tr e) es) g c → standing (Then tr e) c ≡ Committed → ⊥
     none c m f = are_alike (Then tr e) (always (Then tr e) r') c b (m.0 ∙ sym k.0) f (aborted_fate _ q)
 
-pub commitment : (tr : Trace) (e : Happening) (es : List Happening) → AllRight (after (Then tr e) es) → IsCommitment tr e (after (Then tr e) es)
+pub commitment : (tr : Trace) (e : Happening) (es : List Happening) → AllRight (followed_by (Then tr e) es) → IsCommitment tr e (followed_by (Then tr e) es)
 commitment tr e es r g =
     let r' = right_before (Then tr e) es r in
-    all_go (IsBranchOf (after (Then tr e) es) g) (phases tr) (phases (Then tr e)) (member_test (after (Then tr e) es) g)
+    all_go (IsBranchOf (followed_by (Then tr e) es) g) (phases tr) (phases (Then tr e)) (member_test (followed_by (Then tr e) es) g)
     (λ b k. one_change tr e es g b _ _ r k (phase_move tr b _ _ (step_move tr e b (always tr r'.0) r'.1)) refl refl)
-    (started_list (after (Then tr e) es)) (phases tr) (λ c k. inl refl) (λ c k. inr (started_within (after (Then tr e) es) c k.1))
+    (started_list (followed_by (Then tr e) es)) (phases tr) (λ c k. inl refl) (λ c k. inr (started_within (followed_by (Then tr e) es) c k.1))

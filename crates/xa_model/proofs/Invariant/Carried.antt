@@ -75,8 +75,11 @@ no_start tr l b inv f (inl d) = no_vote tr b inv f.unstarted (inv.all_voted b.gt
 no_start tr l b inv f (inr o) = subst IsGood f.unstarted ((inv.rows b.gtrid (inv.row_rowed b.gtrid (and_parts _ _ o).1)).good b refl f.is_started)
 
 not_closed_yet : (tr : Trace) (l : Line) (b : Branch) → Inv tr → WaitingStart tr l b → (counts_as_committed tr b.gtrid ≡ false) × (claimed tr b.gtrid ≡ false)
-not_closed_yet tr l b inv f =
-    (false_unless _ (λ d. no_start tr l b inv f (or_here _ _ d)), false_unless _ (λ c. no_vote tr b inv f.unstarted (inv.claimed_voted b.gtrid c b refl f.is_started)))
+not_closed_yet tr l b inv f = (
+  false_unless _ (λ d. no_start tr l b inv f (or_here _ _ d)),
+  false_unless _
+      (λ c. no_vote tr b inv f.unstarted (inv.claimed_voted b.gtrid c b refl f.is_started)),
+)
 
 pub no_start_after_commit : (tr : Trace) → Inv tr → NoStartAfterCommit tr
 no_start_after_commit tr inv l Start b s w = not_closed_yet tr l b inv (inv.waiting l Start b (waits_of tr l (Calls.Start b false) w))

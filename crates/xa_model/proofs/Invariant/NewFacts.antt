@@ -150,11 +150,15 @@ answer_new tr l (Calls.Start b true) (Ret (Codes.Heuristic how)) inv r = absurd 
 answer_new tr l (Calls.End b t) (Ret (Codes.Heuristic how)) inv r = absurd (quiet_end (state_of (standing tr b)) t _ _ how (code_of r.1))
 answer_new tr l (Calls.Prepare b) (Ret (Codes.Heuristic how)) inv r = absurd (quiet_prepare (state_of (standing tr b)) _ _ how (code_of r.1))
 answer_new tr l (Calls.Commit b false) (Ret (Codes.Heuristic how)) inv r =
-    heuristic_new tr l Commit b how r ((inv.rows b.gtrid (inv.waiting l Commit b (front_waits tr l (Calls.Commit b false) r.0))).closed) (subst (IsHeuristic how) (took_standing tr l Commit b (Codes.Heuristic how)) (heuristic_answer (standing tr b) Commit _ _ how (code_of r.1)))
+    heuristic_new tr l Commit b how r ((inv.rows b.gtrid (inv.waiting l Commit b (front_waits tr l (Calls.Commit b false) r.0))).closed)
+    (subst (IsHeuristic how) (took_standing tr l Commit b (Codes.Heuristic how)) (heuristic_answer (standing tr b) Commit _ _ how (code_of r.1)))
 answer_new tr l (Calls.Commit b true) (Ret (Codes.Heuristic how)) inv r =
-    heuristic_new tr l OnePhase b how r (closed_handed tr b.gtrid inv (inv.waiting l OnePhase b (front_waits tr l (Calls.Commit b true) r.0))) (subst (IsHeuristic how) (took_standing tr l OnePhase b (Codes.Heuristic how)) (heuristic_answer (standing tr b) OnePhase _ _ how (code_of r.1)))
+    heuristic_new tr l OnePhase b how r
+    (closed_handed tr b.gtrid inv (inv.waiting l OnePhase b (front_waits tr l (Calls.Commit b true) r.0)))
+    (subst (IsHeuristic how) (took_standing tr l OnePhase b (Codes.Heuristic how)) (heuristic_answer (standing tr b) OnePhase _ _ how (code_of r.1)))
 answer_new tr l (Calls.Rollback b) (Ret (Codes.Heuristic how)) inv r =
-    heuristic_new tr l Rollback b how r ((inv.waiting l Rollback b (front_waits tr l (Calls.Rollback b) r.0)).closed) (subst (IsHeuristic how) (took_standing tr l Rollback b (Codes.Heuristic how)) (heuristic_answer (standing tr b) Rollback _ _ how (code_of r.1)))
+    heuristic_new tr l Rollback b how r ((inv.waiting l Rollback b (front_waits tr l (Calls.Rollback b) r.0)).closed)
+    (subst (IsHeuristic how) (took_standing tr l Rollback b (Codes.Heuristic how)) (heuristic_answer (standing tr b) Rollback _ _ how (code_of r.1)))
 answer_new tr l (Calls.Forget b) (Ret (Codes.Heuristic how)) inv r = absurd (quiet_forget (state_of (standing tr b)) _ _ how (code_of r.1))
 answer_new tr l (Calls.Recover n s t) (Page names) inv r = page_started tr l.rm n s names inv r.1
 answer_new tr l Calls.OpenRm (Ret (Codes.Heuristic how)) inv r = tt

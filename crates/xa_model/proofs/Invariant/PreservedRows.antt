@@ -231,7 +231,8 @@ covered_after tr e g inv r h = by_case (row_back tr e g h)
         covers_decided d q = subst (λ y. Covers (Then tr y) (row_for tr g).participants g) (sym q) (row_for_covers tr g (decided_voted tr g inv d))
     by_case (Restarted_now i d n q a p) =
         let f : DoubtFact tr (AddRow a.added) = subst (DoubtFact tr) a.is inv.in_doubt in
-        subst (λ y. Covers (Then tr e) y g) (sym p) (subst (Covers (Then tr e) a.added.participants) a.of (covers_kept tr e a.added.participants a.added.gtrid r f.0.closed f.1))
+        subst (λ y. Covers (Then tr e) y g) (sym p)
+        (subst (Covers (Then tr e) a.added.participants) a.of (covers_kept tr e a.added.participants a.added.gtrid r f.0.closed f.1))
 
 -- ** what is in doubt
 
@@ -257,7 +258,8 @@ failed_decision tr g inv r = record {
   closed = record { old = inv.begun_old g (live_begun tr g d.is_live); not_live = refl };
   good = λ b q s. let l =
       ap (live tr) q ∙ d.is_live
-      in good_moves tr b _ _ (step_move tr (Failed (InDecide g)) b inv r) s (λ c. absurd (not_both tr b.gtrid c l)) (voted_good tr b inv l (decided_voted tr g inv d b q s));
+      in good_moves tr b _ _ (step_move tr (Failed (InDecide g)) b inv r) s (λ c. absurd (not_both tr b.gtrid c l))
+      (voted_good tr b inv l (decided_voted tr g inv d b q s));
   not_handed = not_handed_live tr g d.is_live;
   not_rolled_back = not_rolled_back_live tr g d.is_live;
 }

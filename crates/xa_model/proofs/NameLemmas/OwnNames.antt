@@ -12,8 +12,10 @@ use Rattle.xa_model.specs.Replies.History.{name_by, name_of}
 
 pub own_name : (b : Branch) → IsBranch b → name_of (xid_of_branch b) ≡ Ours b
 own_name b h =
-    ap (λ (p : Option (ℕ × ℕ)). name_by (xid_of_branch b) (branch_of_pairs p (u32_pair (xid_of_branch b).bqual))) (u64_pair-bytes b.gtrid.incarnation b.gtrid.sequence h.incarnation h.sequence)
-    ∙ ap (λ (p : Option (ℕ × ℕ)). name_by (xid_of_branch b) (branch_of_pairs (Some (b.gtrid.incarnation, b.gtrid.sequence)) p)) (u32_pair-bytes b.thread b.rm h.thread h.rm)
+    ap (λ (p : Option (ℕ × ℕ)). name_by (xid_of_branch b) (branch_of_pairs p (u32_pair (xid_of_branch b).bqual)))
+    (u64_pair-bytes b.gtrid.incarnation b.gtrid.sequence h.incarnation h.sequence)
+    ∙ ap (λ (p : Option (ℕ × ℕ)). name_by (xid_of_branch b) (branch_of_pairs (Some (b.gtrid.incarnation, b.gtrid.sequence)) p))
+    (u32_pair-bytes b.thread b.rm h.thread h.rm)
 
 own_format_of : (x : Xid) → int_eq x.format own_format ≡ true → x.format ≡ own_format
 own_format_of x e = search rules

@@ -193,7 +193,8 @@ all_taken t r [] (x ∷ xs) p e n a b q s = absurd (omega (arith, e))
 all_taken t r (d ∷ ds) [] p e n a b q s = absurd (omega (arith, e))
 all_taken t r (d ∷ ds) (x ∷ xs) p e n a b q s =
     subst (λ tr. AllDemanded tr (in_turn r xs)
-    → IsRecovered (with_steps tr (in_turn r xs)) r) (sym after) (λ m. all_taken (Then (Then t (Took (line 0 r) x.0 x.1)) (Heard (line 0 r) x.0 x.1)) r ds xs next (omega (arith, e)) n.1 m) a.1.1 b q s
+    → IsRecovered (with_steps tr (in_turn r xs)) r) (sym after) (λ m. all_taken
+    (Then (Then t (Took (line 0 r) x.0 x.1)) (Heard (line 0 r) x.0 x.1)) r ds xs next (omega (arith, e)) n.1 m) a.1.1 b q s
   where
     takes : happened (Steps.Take 0 r) (Replies.Took (map_call Ours x.0) x.1) ≡ Took (line 0 r) x.0 x.1
     takes = ap (if_ours (λ c. Took (line 0 r) c x.1)) (accepted_ours x.0)
@@ -201,7 +202,8 @@ all_taken t r (d ∷ ds) (x ∷ xs) p e n a b q s =
     hears : happened (Steps.Hear 0 r) (Replies.Heard (map_call Ours x.0) x.1) ≡ Heard (line 0 r) x.0 x.1
     hears = ap (if_ours (λ c. Heard (line 0 r) c x.1)) (accepted_ours x.0)
 
-    after : Then (Then t (happened (Steps.Take 0 r) (Replies.Took (map_call Ours x.0) x.1))) (happened (Steps.Hear 0 r) (Replies.Heard (map_call Ours x.0) x.1)) ≡ Then (Then t (Took (line 0 r) x.0 x.1)) (Heard (line 0 r) x.0 x.1)
+    after : Then (Then t (happened (Steps.Take 0 r) (Replies.Took (map_call Ours x.0) x.1)))
+        (happened (Steps.Hear 0 r) (Replies.Heard (map_call Ours x.0) x.1)) ≡ Then (Then t (Took (line 0 r) x.0 x.1)) (Heard (line 0 r) x.0 x.1)
     after = λ i. Then (Then t (takes i)) (hears i)
 
     took : (next_call t (line 0 r) ≡ Some x.0) × RightAnswer t (line 0 r) x.0 x.1
@@ -211,4 +213,5 @@ all_taken t r (d ∷ ds) (x ∷ xs) p e n a b q s =
     first = pending_first t (line 0 r) x.0 d ds p.pending took.0
 
     next : Left (Then (Then t (Took (line 0 r) x.0 x.1)) (Heard (line 0 r) x.0 x.1)) r ds
-    next = subst (λ c. Left (Then (Then t (Took (line 0 r) c x.1)) (Heard (line 0 r) c x.1)) r ds) (sym first) (left_next t r d ds x.1 (subst (λ c. RightAnswer t (line 0 r) c x.1) first took.1) n.0 p)
+    next = subst (λ c. Left (Then (Then t (Took (line 0 r) c x.1)) (Heard (line 0 r) c x.1)) r ds) (sym first)
+        (left_next t r d ds x.1 (subst (λ c. RightAnswer t (line 0 r) c x.1) first took.1) n.0 p)

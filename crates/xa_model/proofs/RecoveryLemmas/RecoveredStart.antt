@@ -242,7 +242,8 @@ get_behind (x ∷ xs) ys (suc j) k e = get_behind xs ys j k (omega (arith, e))
 -- the history up to the resolving of its page
 abbrev pub paged : Trace → (r count : ℕ) → List Name → Trace
 paged t r count names =
-    Then (Then (Then t (Issued (line 0 r) (Calls.Recover (pos count) true true))) (Took (line 0 r) (Calls.Recover (pos count) true true) (Page names))) (Heard (line 0 r) (Calls.Recover (pos count) true true) (Page names))
+    Then (Then (Then t (Issued (line 0 r) (Calls.Recover (pos count) true true))) (Took (line 0 r) (Calls.Recover (pos count) true true) (Page names)))
+    (Heard (line 0 r) (Calls.Recover (pos count) true true) (Page names))
 
 pub page_is : (t : Trace) (r count : ℕ) (names : List Name) → page (paged t r count names) r ≡ names
 page_is t r count names = ap (λ u. if u then names else page t r) (line_eq-refl (line 0 r))
@@ -271,9 +272,11 @@ pending_calls t r count names e = record { at = λ k c h. at k c h }
         ∙ omega (arith, e, length-append (taken t (line 0 r)) ((Calls.Recover (pos count) true true, Page names) ∷ []), length-append (issued t (line 0 r)) (Calls.Recover (pos count) true true ∷ []))
 
     at : (k : ℕ) (c : Call) → slice_get (resolving_calls (paged t r count names) names) k ≡ Some c
-        → slice_get (issued (Then (paged t r count names) (Resolved r)) (line 0 r)) (length (taken (Then (paged t r count names) (Resolved r)) (line 0 r)) + k) ≡ Some c
+        → slice_get (issued (Then (paged t r count names) (Resolved r)) (line 0 r))
+        (length (taken (Then (paged t r count names) (Resolved r)) (line 0 r)) + k) ≡ Some c
     at k c h =
-        subst (λ xs. slice_get xs (length (taken (Then (paged t r count names) (Resolved r)) (line 0 r)) + k) ≡ Some c) (sym (issued_is t r count names)) (get_behind calls (resolving_calls (paged t r count names) names) _ k (ap (λ n. n + k) many) ∙ h)
+        subst (λ xs. slice_get xs (length (taken (Then (paged t r count names) (Resolved r)) (line 0 r)) + k) ≡ Some c)
+        (sym (issued_is t r count names)) (get_behind calls (resolving_calls (paged t r count names) names) _ k (ap (λ n. n + k) many) ∙ h)
 
 -- ** the whole recovery
 
@@ -289,7 +292,8 @@ recovered t r count names answers a m d =
     all_taken (Then (paged t r count names) (Resolved r)) r (resolving_calls (paged t r count names) names) answers left number m.none_put_off d.1.1.1.1
   where
     took : Right (Then t (Issued (line 0 r) (Calls.Recover (pos count) true true))) (Took (line 0 r) (Calls.Recover (pos count) true true) (Page names))
-    took = demanded_right (Then t (Issued (line 0 r) (Calls.Recover (pos count) true true))) (Steps.Take 0 r) (Replies.Took (Calls.Recover (pos count) true true) (Page names)) d.1.0
+    took = demanded_right (Then t (Issued (line 0 r) (Calls.Recover (pos count) true true))) (Steps.Take 0 r)
+        (Replies.Took (Calls.Recover (pos count) true true) (Page names)) d.1.0
 
     page_taken : Page names ≡ Page (take count (in_doubt t r)) → names ≡ take count (in_doubt t r)
     page_taken e = cc

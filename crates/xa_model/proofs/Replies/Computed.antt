@@ -80,7 +80,8 @@ same_number n = grind (arith, eq-eqb)
 restarts : (tr : Trace) → Restarts tr (Replies.Restarted (incarnation tr + 1) (length (log tr)) (length (heuristic_rows tr)))
 restarts tr = Restarts_as (incarnation tr + 1) (length (log tr)) (length (heuristic_rows tr)) (omega arith) (omega arith)
     (ap (λ t. length {A = Row} (if t then log tr else rows_changed (doubt tr) (log tr))) (sym (same_number (length (log tr)))))
-    (ap (λ t. length {A = Recorded} (if t then heuristic_rows tr else heuristics_changed (doubt tr) (heuristic_rows tr))) (sym (same_number (length (heuristic_rows tr)))))
+    (ap (λ t. length {A = Recorded} (if t then heuristic_rows tr else heuristics_changed (doubt tr) (heuristic_rows tr)))
+    (sym (same_number (length (heuristic_rows tr)))))
 
 pub value_is : (tr : Trace) (s : Step) → IsValue tr s (value tr s)
 value_is tr (Steps.Take t r) = takes tr (line t r) (next_call tr (line t r)) refl

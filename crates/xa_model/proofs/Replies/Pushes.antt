@@ -2,7 +2,7 @@
 use Rattle.std.proofs.Common.{◌≡◌, List, [], ◌∷◌, ◌++◌, refl, sym, ap, ◌∙◌, subst}
 use Rattle.std.specs.Prelude.{map}
 use Rattle.xa_base.specs.declared.reply.Event.{Event}
-use Rattle.xa_model.specs.Promises.Agreement.{after, IsMoment}
+use Rattle.xa_model.specs.Promises.Agreement.{followed_by, IsMoment}
 use Rattle.xa_model.specs.Replies.Demanded.{Demanded, with_steps, AllDemanded}
 use Rattle.xa_model.specs.Replies.History.{read, happening_of, history, IsDemanded, AreDemanded}
 use Rattle.xa_model.specs.Replies.Steps.{Step, Reply, happened}
@@ -41,7 +41,7 @@ happenings : List Event → List Happening
 happenings [] = []
 happenings (e ∷ es) = happening_of e ∷ happenings es
 
-after_happenings : (tr : Trace) (es : List Event) → after tr (happenings es) ≡ with_steps tr (map read es)
+after_happenings : (tr : Trace) (es : List Event) → followed_by tr (happenings es) ≡ with_steps tr (map read es)
 unfolding happenings
 after_happenings tr [] = refl
 after_happenings tr (e ∷ es) = after_happenings (Then tr (happening_of e)) es

@@ -144,7 +144,8 @@ voted_of tr b h = or_here _ _ h
 pub all_of_step : (g : Gtrid) (test : Branch → Bool) (x b : Branch) (rest : Bool) → x ≡ b → b.gtrid ≡ g
     → ((not (gtrid_eq x.gtrid g) || test x) && rest) ≡ true → test b ≡ true
 all_of_step g test x b rest e q h =
-    by_test (not (gtrid_eq x.gtrid g)) (test x) (and_parts _ _ h).0 (ap (λ y. not (gtrid_eq y.gtrid g)) e ∙ (ap (λ y. not (gtrid_eq y g)) q ∙ ap not (gtrid_eq-refl g))) (ap test e)
+    by_test (not (gtrid_eq x.gtrid g)) (test x) (and_parts _ _ h).0
+    (ap (λ y. not (gtrid_eq y.gtrid g)) e ∙ (ap (λ y. not (gtrid_eq y g)) q ∙ ap not (gtrid_eq-refl g))) (ap test e)
   where
     by_test : (s t : Bool) → (s || t) ≡ true → s ≡ false → t ≡ test b → test b ≡ true
     by_test true t h n k = cc
@@ -192,15 +193,23 @@ is_known tr t n Forget b e = not_back _ (none_applies tr (Steps.Issue t n (Calls
 
 pub may_be_called : (tr : Trace) (t n : ℕ) (k : Kind) (b : Branch) → must_refuse tr (Steps.Issue t n (on k (Ours b))) ≡ None
     → IsKnown tr k b.gtrid → MayBeCalled tr k b
-may_be_called tr t n Start b e h =
-    (none_applies tr (Steps.Issue t n (Calls.Start (Ours b) false)) Refusal.AlreadyStarted e, is_open tr b.gtrid h (none_applies tr (Steps.Issue t n (Calls.Start (Ours b) false)) Refusal.Decided e))
-may_be_called tr t n Join b e h =
-    (none_applies tr (Steps.Issue t n (Calls.Start (Ours b) true)) Refusal.AlreadyStarted e, is_open tr b.gtrid h (none_applies tr (Steps.Issue t n (Calls.Start (Ours b) true)) Refusal.Decided e))
+may_be_called tr t n Start b e h = (
+  none_applies tr (Steps.Issue t n (Calls.Start (Ours b) false)) Refusal.AlreadyStarted e,
+  is_open tr b.gtrid h
+      (none_applies tr (Steps.Issue t n (Calls.Start (Ours b) false)) Refusal.Decided e),
+)
+may_be_called tr t n Join b e h = (
+  none_applies tr (Steps.Issue t n (Calls.Start (Ours b) true)) Refusal.AlreadyStarted e,
+  is_open tr b.gtrid h
+      (none_applies tr (Steps.Issue t n (Calls.Start (Ours b) true)) Refusal.Decided e),
+)
 may_be_called tr t n (End fail) b e h = tt
 may_be_called tr t n Prepare b e h = is_open tr b.gtrid h (none_applies tr (Steps.Issue t n (Calls.Prepare (Ours b))) Refusal.Decided e)
 may_be_called tr t n OnePhase b e h =
-    let v = and_parts _ _ (not_back _ (none_applies tr (Steps.Issue t n (Calls.Commit (Ours b) true)) Refusal.Votes e)) in
-    (is_open tr b.gtrid h (none_applies tr (Steps.Issue t n (Calls.Commit (Ours b) true)) Refusal.Decided e), (v.0, λ c q s. branch_eq-true c b (all_of-started tr b.gtrid (λ d. branch_eq d b) (branches tr) c v.1 (started_in tr c s) q)))
+    let v = and_parts _ _ (not_back _ (none_applies tr (Steps.Issue t n (Calls.Commit (Ours b) true)) Refusal.Votes e)) in (
+      is_open tr b.gtrid h (none_applies tr (Steps.Issue t n (Calls.Commit (Ours b) true)) Refusal.Decided e),
+      (v.0, λ c q s. branch_eq-true c b (all_of-started tr b.gtrid (λ d. branch_eq d b) (branches tr) c v.1 (started_in tr c s) q)),
+    )
 may_be_called tr t n Commit b e h = not_back _ (none_applies tr (Steps.Issue t n (Calls.Commit (Ours b) false)) Refusal.NotDecided e)
 may_be_called tr t n Rollback b e h = or_here _ _ (not_back _ (none_applies tr (Steps.Issue t n (Calls.Rollback (Ours b))) Refusal.NotDecided e))
 may_be_called tr t n Forget b e h = not_back _ (none_applies tr (Steps.Issue t n (Calls.Forget (Ours b))) Refusal.NotDecided e)
@@ -236,7 +245,8 @@ pub right_decision : (tr : Trace) (g : Gtrid) (o : Outcome) → must_refuse tr (
 right_decision tr g o e = record {
   is_up = is_up tr (Steps.Decide g o) e refl;
   is_live =
-      is_live tr g (not_back _ (none_applies tr (Steps.Decide g o) Refusal.UnknownTransaction e)) (or_none _ _ (none_applies tr (Steps.Decide g o) Refusal.Decided e)).0;
+      is_live tr g (not_back _ (none_applies tr (Steps.Decide g o) Refusal.UnknownTransaction e))
+      (or_none _ _ (none_applies tr (Steps.Decide g o) Refusal.Decided e)).0;
   votes =
       λ q. inl (λ b k s. voted_of tr b (each_started tr g (has_voted tr) (none_applies tr (Steps.Decide g Outcome.Commit) Refusal.Votes (subst (λ x. must_refuse tr (Steps.Decide g x) ≡ None) q e)) b k s));
 }
@@ -245,7 +255,8 @@ pub right_claim : (tr : Trace) (g : Gtrid) → must_refuse tr (Steps.Claim g) �
 right_claim tr g e = record {
   is_up = is_up tr (Steps.Claim g) e refl;
   is_live =
-      is_live tr g (not_back _ (none_applies tr (Steps.Claim g) Refusal.UnknownTransaction e)) (or_none _ _ (none_applies tr (Steps.Claim g) Refusal.Decided e)).0;
+      is_live tr g (not_back _ (none_applies tr (Steps.Claim g) Refusal.UnknownTransaction e))
+      (or_none _ _ (none_applies tr (Steps.Claim g) Refusal.Decided e)).0;
   votes = λ b k s. voted_of tr b (each_started tr g (has_voted tr) (none_applies tr (Steps.Claim g) Refusal.Votes e) b k s);
 }
 
@@ -299,25 +310,67 @@ restarts_right tr r u (Restarts_as i d h a m b c) = (u, a, b, c)
 pub value_right : (tr : Trace) (s : Step) (r : Reply) → must_refuse tr s ≡ None → IsValue tr s r → Right tr (happened s r)
 value_right tr (Steps.Begin t) r e v = by tr (Steps.Begin t) r _ v (is_up tr (Steps.Begin t) e refl, refl, refl)
 value_right tr (Steps.Issue t n Calls.OpenRm) r e v =
-    by tr (Steps.Issue t n Calls.OpenRm) r _ v (is_up tr (Steps.Issue t n Calls.OpenRm) e refl, tt, none_applies tr (Steps.Issue t n Calls.OpenRm) Refusal.Closed e)
+    by tr (Steps.Issue t n Calls.OpenRm) r _ v
+    (is_up tr (Steps.Issue t n Calls.OpenRm) e refl, tt, none_applies tr (Steps.Issue t n Calls.OpenRm) Refusal.Closed e)
 value_right tr (Steps.Issue t n Calls.CloseRm) r e v =
-    by tr (Steps.Issue t n Calls.CloseRm) r _ v (is_up tr (Steps.Issue t n Calls.CloseRm) e refl, tt, none_applies tr (Steps.Issue t n Calls.CloseRm) Refusal.Closed e)
+    by tr (Steps.Issue t n Calls.CloseRm) r _ v
+    (is_up tr (Steps.Issue t n Calls.CloseRm) e refl, tt, none_applies tr (Steps.Issue t n Calls.CloseRm) Refusal.Closed e)
 value_right tr (Steps.Issue t n (Calls.Start (Ours b) false)) r e v =
-    by tr (Steps.Issue t n (Calls.Start (Ours b) false)) r _ v (is_up tr (Steps.Issue t n (Calls.Start (Ours b) false)) e refl, right_call tr t n Start b e, none_applies tr (Steps.Issue t n (Calls.Start (Ours b) false)) Refusal.Closed e)
+    by tr (Steps.Issue t n (Calls.Start (Ours b) false)) r _ v (
+      is_up tr (Steps.Issue t n (Calls.Start (Ours b) false)) e refl,
+      right_call tr t n Start b e,
+      none_applies tr
+          (Steps.Issue t n (Calls.Start (Ours b) false)) Refusal.Closed e,
+    )
 value_right tr (Steps.Issue t n (Calls.Start (Ours b) true)) r e v =
-    by tr (Steps.Issue t n (Calls.Start (Ours b) true)) r _ v (is_up tr (Steps.Issue t n (Calls.Start (Ours b) true)) e refl, right_call tr t n Join b e, none_applies tr (Steps.Issue t n (Calls.Start (Ours b) true)) Refusal.Closed e)
+    by tr (Steps.Issue t n (Calls.Start (Ours b) true)) r _ v (
+      is_up tr (Steps.Issue t n (Calls.Start (Ours b) true)) e refl,
+      right_call tr t n Join b e,
+      none_applies tr
+          (Steps.Issue t n (Calls.Start (Ours b) true)) Refusal.Closed e,
+    )
 value_right tr (Steps.Issue t n (Calls.End (Ours b) fail)) r e v =
-    by tr (Steps.Issue t n (Calls.End (Ours b) fail)) r _ v (is_up tr (Steps.Issue t n (Calls.End (Ours b) fail)) e refl, right_call tr t n (End fail) b e, none_applies tr (Steps.Issue t n (Calls.End (Ours b) fail)) Refusal.Closed e)
+    by tr (Steps.Issue t n (Calls.End (Ours b) fail)) r _ v (
+      is_up tr (Steps.Issue t n (Calls.End (Ours b) fail)) e refl,
+      right_call tr t n (End fail) b e,
+      none_applies tr
+          (Steps.Issue t n (Calls.End (Ours b) fail)) Refusal.Closed e,
+    )
 value_right tr (Steps.Issue t n (Calls.Prepare (Ours b))) r e v =
-    by tr (Steps.Issue t n (Calls.Prepare (Ours b))) r _ v (is_up tr (Steps.Issue t n (Calls.Prepare (Ours b))) e refl, right_call tr t n Prepare b e, none_applies tr (Steps.Issue t n (Calls.Prepare (Ours b))) Refusal.Closed e)
+    by tr (Steps.Issue t n (Calls.Prepare (Ours b))) r _ v (
+      is_up tr (Steps.Issue t n (Calls.Prepare (Ours b))) e refl,
+      right_call tr t n Prepare b e,
+      none_applies tr
+          (Steps.Issue t n (Calls.Prepare (Ours b))) Refusal.Closed e,
+    )
 value_right tr (Steps.Issue t n (Calls.Commit (Ours b) false)) r e v =
-    by tr (Steps.Issue t n (Calls.Commit (Ours b) false)) r _ v (is_up tr (Steps.Issue t n (Calls.Commit (Ours b) false)) e refl, right_call tr t n Commit b e, none_applies tr (Steps.Issue t n (Calls.Commit (Ours b) false)) Refusal.Closed e)
+    by tr (Steps.Issue t n (Calls.Commit (Ours b) false)) r _ v (
+      is_up tr (Steps.Issue t n (Calls.Commit (Ours b) false)) e refl,
+      right_call tr t n Commit b e,
+      none_applies tr
+          (Steps.Issue t n (Calls.Commit (Ours b) false)) Refusal.Closed e,
+    )
 value_right tr (Steps.Issue t n (Calls.Commit (Ours b) true)) r e v =
-    by tr (Steps.Issue t n (Calls.Commit (Ours b) true)) r _ v (is_up tr (Steps.Issue t n (Calls.Commit (Ours b) true)) e refl, right_call tr t n OnePhase b e, none_applies tr (Steps.Issue t n (Calls.Commit (Ours b) true)) Refusal.Closed e)
+    by tr (Steps.Issue t n (Calls.Commit (Ours b) true)) r _ v (
+      is_up tr (Steps.Issue t n (Calls.Commit (Ours b) true)) e refl,
+      right_call tr t n OnePhase b e,
+      none_applies tr
+          (Steps.Issue t n (Calls.Commit (Ours b) true)) Refusal.Closed e,
+    )
 value_right tr (Steps.Issue t n (Calls.Rollback (Ours b))) r e v =
-    by tr (Steps.Issue t n (Calls.Rollback (Ours b))) r _ v (is_up tr (Steps.Issue t n (Calls.Rollback (Ours b))) e refl, right_call tr t n Rollback b e, none_applies tr (Steps.Issue t n (Calls.Rollback (Ours b))) Refusal.Closed e)
+    by tr (Steps.Issue t n (Calls.Rollback (Ours b))) r _ v (
+      is_up tr (Steps.Issue t n (Calls.Rollback (Ours b))) e refl,
+      right_call tr t n Rollback b e,
+      none_applies tr
+          (Steps.Issue t n (Calls.Rollback (Ours b))) Refusal.Closed e,
+    )
 value_right tr (Steps.Issue t n (Calls.Forget (Ours b))) r e v =
-    by tr (Steps.Issue t n (Calls.Forget (Ours b))) r _ v (is_up tr (Steps.Issue t n (Calls.Forget (Ours b))) e refl, right_call tr t n Forget b e, none_applies tr (Steps.Issue t n (Calls.Forget (Ours b))) Refusal.Closed e)
+    by tr (Steps.Issue t n (Calls.Forget (Ours b))) r _ v (
+      is_up tr (Steps.Issue t n (Calls.Forget (Ours b))) e refl,
+      right_call tr t n Forget b e,
+      none_applies tr
+          (Steps.Issue t n (Calls.Forget (Ours b))) Refusal.Closed e,
+    )
 value_right tr (Steps.Issue t n (Calls.Start (Foreign x) join)) r e v = by tr (Steps.Issue t n (Calls.Start (Foreign x) join)) r _ v tt
 value_right tr (Steps.Issue t n (Calls.End (Foreign x) fail)) r e v = by tr (Steps.Issue t n (Calls.End (Foreign x) fail)) r _ v tt
 value_right tr (Steps.Issue t n (Calls.Prepare (Foreign x))) r e v = by tr (Steps.Issue t n (Calls.Prepare (Foreign x))) r _ v tt
@@ -325,7 +378,8 @@ value_right tr (Steps.Issue t n (Calls.Commit (Foreign x) one_phase)) r e v = by
 value_right tr (Steps.Issue t n (Calls.Rollback (Foreign x))) r e v = by tr (Steps.Issue t n (Calls.Rollback (Foreign x))) r _ v tt
 value_right tr (Steps.Issue t n (Calls.Forget (Foreign x))) r e v = by tr (Steps.Issue t n (Calls.Forget (Foreign x))) r _ v tt
 value_right tr (Steps.Issue t n (Calls.Recover k x y)) r e v =
-    by tr (Steps.Issue t n (Calls.Recover k x y)) r _ v (is_up tr (Steps.Issue t n (Calls.Recover k x y)) e refl, tt, none_applies tr (Steps.Issue t n (Calls.Recover k x y)) Refusal.Closed e)
+    by tr (Steps.Issue t n (Calls.Recover k x y)) r _ v
+    (is_up tr (Steps.Issue t n (Calls.Recover k x y)) e refl, tt, none_applies tr (Steps.Issue t n (Calls.Recover k x y)) Refusal.Closed e)
 value_right tr (Steps.Take t n) r e v = takes_right tr t n r v
 value_right tr (Steps.Hear t n) r e v = hears_right tr t n r (is_up tr (Steps.Hear t n) e refl) v
 value_right tr (Steps.Vote n (Ours b) x) r e v = by tr (Steps.Vote n (Ours b) x) r _ v tt

@@ -11,14 +11,14 @@ use Rattle.xa_model.specs.Trace.{Gtrid, Branch, Line, Call, How, Answer, Happeni
 
 -- ** moments
 
--- the history after further happenings
-abbrev pub after : Trace → List Happening → Trace
-after tr [] = tr
-after tr (e ∷ es) = after (Then tr e) es
+-- the history followed_by further happenings
+abbrev pub followed_by : Trace → List Happening → Trace
+followed_by tr [] = tr
+followed_by tr (e ∷ es) = followed_by (Then tr e) es
 
 -- the whole goes on with this happening behind that beginning
 abbrev pub IsMoment : Trace → Happening → Trace → Type 0
-IsMoment tr e whole = (later : List Happening) × (after (Then tr e) later ≡ whole)
+IsMoment tr e whole = (later : List Happening) × (followed_by (Then tr e) later ≡ whole)
 
 -- ** lines
 
@@ -54,13 +54,13 @@ end_named (Completed how) = Completed how ∷ []
 end_named _ = []
 
 -- the end that this change is, if it is one. Forgetting a heuristic completion is no further end
-abbrev pub end_of : (before now : Standing) → List Standing
-end_of before now = if is_at_work before then end_named now else []
+abbrev pub end_in : (before now : Standing) → List Standing
+end_in before now = if is_at_work before then end_named now else []
 
 -- the ends of a branch, the newest first
 abbrev pub ends : Trace → Branch → List Standing
 ends (From o) b = []
-ends (Then tr e) b = end_of (standing tr b) (standing (Then tr e) b) ++ ends tr b
+ends (Then tr e) b = end_in (standing tr b) (standing (Then tr e) b) ++ ends tr b
 
 -- where a branch stays for good
 abbrev pub IsFinal : Standing → Type 0
@@ -97,7 +97,7 @@ IsCommitment tr e whole = (g : Gtrid) → Leads (IsBranchOf whole g) (phases (Th
 abbrev pub IsHeld : Trace → Branch → How → Type 0
 IsHeld tr b how = (state_of (standing tr b) ≡ S5 how) ⊎ (recorded_as tr b ≡ Some how)
 
--- each heuristic completion is, also after it was forgotten
+-- each heuristic completion is, also followed_by it was forgotten
 abbrev pub HeuristicsAreHeld : Trace → Type 0
 HeuristicsAreHeld tr = (b : Branch) (how : How) → (standing tr b ≡ Completed how) ⊎ (standing tr b ≡ Forgotten how) → IsHeld tr b how
 

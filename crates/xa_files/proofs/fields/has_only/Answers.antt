@@ -12,5 +12,6 @@ pub returns : goal.returns
 returns c =
     let texts = map (λ key. key.now) c.args.keys.now in
     let ks = keys c.args.table.now in
-    all_from_yields_List (λ key. is_among texts (string_bytes key)) _ _ _ c.all.ensures.ran (YieldsList-from_rest ks c.keys.ensures.rest) (λ x b q k. search (rules, tests))
+    all_from_yields_List (λ key. is_among texts (string_bytes key)) _ _ _ c.all.ensures.ran (YieldsList-from_rest ks c.keys.ensures.rest)
+    (λ x b q k. search (rules, tests))
     ∙ sym (list_all-map (is_among texts) string_bytes ks) ∙ ap (list_all (is_among texts)) (sym (keys_of-view c.args.table.now.entries))

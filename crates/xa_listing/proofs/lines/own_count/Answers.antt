@@ -10,5 +10,7 @@ pub returns-clause-count : goal.returns-clause-count
 returns-clause-count c =
     let branches = c.args.branches.now in
     count_from_yields_List _ c.count.result c.count.ensures.ran
-    (YieldsList-from_take_while _ (is_of c.args.g) (YieldsList-at c.take_while.ensures.source (YieldsList-from_slice branches c.iter.ensures.rest)) c.take_while.ensures.closure c.take_while.ensures.done (λ x b q h. search (rules, tests)))
+    (YieldsList-from_take_while _ (is_of c.args.g)
+    (YieldsList-at c.take_while.ensures.source
+    (YieldsList-from_slice branches c.iter.ensures.rest)) c.take_while.ensures.closure c.take_while.ensures.done (λ x b q h. search (rules, tests)))
     ∙ length-prefix_len (is_of c.args.g) branches

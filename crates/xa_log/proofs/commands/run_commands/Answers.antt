@@ -56,7 +56,8 @@ pub returns-in_err-push-clause-err : goal.returns-in_err-push-clause-err
 returns-in_err-push-clause-err g c content order clean is =
     let low : c.loop-command.command-index < length c.args.commands.now = omega arith in
     let answers = c.loop-command.told.items ++ c.in_ok-run_one.field-0 ∷ [] in
-    let run = one_more g.L.DecisionLog.moment c.args.log.now c.loop-command.log c.run_one.new.log c.args.commands.now c.loop-command.command-index c.command-item.result c.loop-command.told.items answers c.in_ok-run_one.field-0 low c.command-item.is refl c.loop-command.invariant
+    let run =
+    one_more g.L.DecisionLog.moment c.args.log.now c.loop-command.log c.run_one.new.log c.args.commands.now c.loop-command.command-index c.command-item.result c.loop-command.told.items answers c.in_ok-run_one.field-0 low c.command-item.is refl c.loop-command.invariant
     c.in_ok-run_one.ensures.changes c.in_ok-run_one.ensures.told in
     on_err _ _ (left g.L.DecisionLog.moment c.args.log.now c.run_one.new.log c.args.commands.now (c.loop-command.command-index + 1) answers run content order clean is)
 
@@ -78,8 +79,10 @@ returns-in_err-run_one-clause-cause g c =
       },
       c.in_err-run_one.ensures.changes.faults ∙ ap one_more_fault c.loop-command.invariant.count,
     ) in
-    passed_up _ c.from_residual.result c.from_residual.ensures.1 (λ e same. subst (EndsBy g.L.DecisionLog.says g.L.DecisionLog.moment c.args.commands.now c.args.log.now c.run_one.new.log) (sym same) stops)
+    passed_up _ c.from_residual.result c.from_residual.ensures.1
+    (λ e same. subst (EndsBy g.L.DecisionLog.says g.L.DecisionLog.moment c.args.commands.now c.args.log.now c.run_one.new.log) (sym same) stops)
 
 pub returns-in_err-push-clause-cause : goal.returns-in_err-push-clause-cause
 returns-in_err-push-clause-cause g c =
-    passed_up _ c.from_residual-in_err-push.result c.from_residual-in_err-push.ensures.1 (λ e refused. inr (refused, c.in_ok-run_one.ensures.changes.faults ∙ c.loop-command.invariant.count))
+    passed_up _ c.from_residual-in_err-push.result c.from_residual-in_err-push.ensures.1
+    (λ e refused. inr (refused, c.in_ok-run_one.ensures.changes.faults ∙ c.loop-command.invariant.count))

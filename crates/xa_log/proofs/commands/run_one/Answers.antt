@@ -14,7 +14,8 @@ returns-in_ok-contains-in-Contains-clause-told g c order honest =
 
 pub returns-in_ok-done-in-Done-clause-told : goal.returns-in_ok-done-in-Done-clause-told
 returns-in_ok-done-in-Done-clause-told g c order honest =
-    some_and _ _ _ (λ content is. subst (λ call. Tells content call (told.Found c.in_ok-done-in-Done.field-0)) (sym c.in-Done.is) (ap told.Found is)) (c.in_ok-done-in-Done.ensures.answer order honest)
+    some_and _ _ _ (λ content is. subst (λ call. Tells content call (told.Found c.in_ok-done-in-Done.field-0)) (sym c.in-Done.is) (ap told.Found is))
+    (c.in_ok-done-in-Done.ensures.answer order honest)
 
 pub returns-in_ok-heuristic_of-in-HeuristicOf-clause-told : goal.returns-in_ok-heuristic_of-in-HeuristicOf-clause-told
 returns-in_ok-heuristic_of-in-HeuristicOf-clause-told g c order honest =
@@ -30,9 +31,12 @@ returns-in_ok-participants-in-Participants-clause-told g c order honest =
 
 pub returns-in_ok-note_heuristic-in-NoteHeuristic-clause-told : goal.returns-in_ok-note_heuristic-in-NoteHeuristic-clause-told
 returns-in_ok-note_heuristic-in-NoteHeuristic-clause-told g c order honest =
-    some_and _ _ _ (λ content is. subst (λ call. Tells content call told.Noted) (sym c.in-NoteHeuristic.is) refl) (c.in_ok-note_heuristic-in-NoteHeuristic.ensures.changes.ok order honest)
+    some_and _ _ _ (λ content is. subst (λ call. Tells content call told.Noted) (sym c.in-NoteHeuristic.is) refl)
+    (c.in_ok-note_heuristic-in-NoteHeuristic.ensures.changes.ok order honest)
 
 pub returns-in_ok-rows-in-Rows-clause-told : goal.returns-in_ok-rows-in-Rows-clause-told
 returns-in_ok-rows-in-Rows-clause-told g c order honest =
-    let all = both3 _ _ _ _ (c.in_ok-rows-in-Rows.ensures.decisions order honest) (c.in_ok-rows-in-Rows.ensures.participants order honest) (c.in_ok-rows-in-Rows.ensures.heuristics order honest) in
+    let all =
+    both3 _ _ _ _ (c.in_ok-rows-in-Rows.ensures.decisions order honest) (c.in_ok-rows-in-Rows.ensures.participants order honest)
+    (c.in_ok-rows-in-Rows.ensures.heuristics order honest) in
     some_and _ _ _ (λ content is. subst (λ call. Tells content call (told.Rows c.in_ok-rows-in-Rows.field-0)) (sym c.in-Rows.is) is) all

@@ -16,7 +16,8 @@ returns-in_err-insert_all-clause-changes g c =
     let a = state g.S.Store c.args.conn.now in
     let b = state g.S.Store c.find_decision.new.conn in
     once (Lacks c.args.g b) (committed c.args.g set) a b (state g.S.Store c.insert_all.new.conn) c.find_decision.ensures.reads c.insert_all.ensures.honest
-    (looked c.args.g a b (opened_clean _ _ (g.met.S.Store.shut_if_dirty c.find_decision.new.conn.store)) (λ order clean. rw c.if-branch.false at (c.in_ok-find_decision.ensures.ok order clean)))
+    (looked c.args.g a b (opened_clean _ _ (g.met.S.Store.shut_if_dirty c.find_decision.new.conn.store))
+    (λ order clean. rw c.if-branch.false at (c.in_ok-find_decision.ensures.ok order clean)))
     c.insert_all.ensures.changes
 
 pub returns-clause-changes : goal.returns-clause-changes
@@ -25,5 +26,6 @@ returns-clause-changes g c =
     let a = state g.S.Store c.args.conn.now in
     let b = state g.S.Store c.find_decision.new.conn in
     once (Lacks c.args.g b) (committed c.args.g set) a b (state g.S.Store c.insert_all.new.conn) c.find_decision.ensures.reads c.insert_all.ensures.honest
-    (looked c.args.g a b (opened_clean _ _ (g.met.S.Store.shut_if_dirty c.find_decision.new.conn.store)) (λ order clean. rw c.if-branch.false at (c.in_ok-find_decision.ensures.ok order clean)))
+    (looked c.args.g a b (opened_clean _ _ (g.met.S.Store.shut_if_dirty c.find_decision.new.conn.store))
+    (λ order clean. rw c.if-branch.false at (c.in_ok-find_decision.ensures.ok order clean)))
     c.insert_all.ensures.changes

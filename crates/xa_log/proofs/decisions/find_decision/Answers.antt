@@ -16,4 +16,5 @@ returns-clause-ok g c order clean =
     let given : bound_value (owned c.params-to_sql.result) ∷ bound_value (owned c.params-to_sql-2.result) ∷ [] ≡ gtrid_params c.args.g =
     rw (c.params-to_sql.ensures, c.params-to_sql-2.ensures, c.stored.ensures, c.stored-2.ensures) (two_params c.args.g c.requires) in
     let count : vec_len c.in_ok-rows.rows ≡ length c.in_ok-rows.rows.items = omega arith in
-    found c.args.g _ given _ (state g.S.Store told.0) _ c.in_ok-rows.rows.items c.is_empty.result (c.is_empty.ensures ∙ ap (λ n. n == 0) count) order told.1 told.2 told.3
+    found c.args.g _ given _ (state g.S.Store told.0) _ c.in_ok-rows.rows.items c.is_empty.result
+    (c.is_empty.ensures ∙ ap (λ n. n == 0) count) order told.1 told.2 told.3

@@ -21,7 +21,9 @@ returns-in_err-insert_decision-clause-changes g c lacks =
     let same : end ≡ c.conn-1.given.0 = search rules in
     let begins = c.transaction-tx.ensures.begun in
     let early : HasCleanDisk (state g.S.Store end) → HasCleanDisk (state g.S.Store mid) = λ clean. omega (arith, c.drop-tx.ensures.survives.clean) in
-    let whole = survives_none (state g.S.Store old) (state g.S.Store mid) (state g.S.Store end) (survives_begin g.S.Store old (state g.S.Store mid) _ (rw begins at c.insert_decision.ensures.survives)) c.drop-tx.ensures.survives in
+    let whole =
+    survives_none (state g.S.Store old) (state g.S.Store mid) (state g.S.Store end)
+    (survives_begin g.S.Store old (state g.S.Store mid) _ (rw begins at c.insert_decision.ensures.survives)) c.drop-tx.ensures.survives in
     subst (λ h. MayChange change (state g.S.Store old) (state g.S.Store h)) same
     (tried (state g.S.Store old) (state g.S.Store end) (opened_clean _ _ (g.met.S.Store.shut_if_dirty end.store)) (λ _. ⊥) whole change
     (λ order clean. inl (undone_after (state g.S.Store old) (state g.S.Store mid) (state g.S.Store end) (rw begins at (c.insert_decision.ensures.kept (early clean))) (c.drop-tx.ensures.undone clean)))
@@ -37,10 +39,16 @@ returns-in_err-insert_participants-clause-changes g c lacks =
     let change = committed c.args.g set in
     let same : end ≡ c.conn-in_err-insert_participants-1.given.0 = search rules in
     let begins = c.transaction-tx.ensures.begun in
-    let back : HasCleanDisk (state g.S.Store mid) → HasCleanDisk (state g.S.Store first) = λ clean. omega (arith, c.insert_participants.ensures.survives.clean) in
-    let early : HasCleanDisk (state g.S.Store end) → HasCleanDisk (state g.S.Store mid) = λ clean. omega (arith, c.drop-tx-in_err-insert_participants.ensures.survives.clean) in
-    let inside = survives_none (state g.S.Store old) (state g.S.Store first) (state g.S.Store mid) (survives_begin g.S.Store old (state g.S.Store first) _ (rw begins at c.insert_decision.ensures.survives)) c.insert_participants.ensures.survives in
-    let keeps = λ (clean : HasCleanDisk (state g.S.Store mid)). keeps_then (begun (state g.S.Store old)) (state g.S.Store first) (state g.S.Store mid) (rw begins at (c.insert_decision.ensures.kept (back clean))) (c.insert_participants.ensures.kept clean) in
+    let back : HasCleanDisk (state g.S.Store mid) → HasCleanDisk (state g.S.Store first) =
+    λ clean. omega (arith, c.insert_participants.ensures.survives.clean) in
+    let early : HasCleanDisk (state g.S.Store end) → HasCleanDisk (state g.S.Store mid) =
+    λ clean. omega (arith, c.drop-tx-in_err-insert_participants.ensures.survives.clean) in
+    let inside =
+    survives_none (state g.S.Store old) (state g.S.Store first) (state g.S.Store mid)
+    (survives_begin g.S.Store old (state g.S.Store first) _ (rw begins at c.insert_decision.ensures.survives)) c.insert_participants.ensures.survives in
+    let keeps =
+    λ (clean : HasCleanDisk (state g.S.Store mid)). keeps_then (begun (state g.S.Store old)) (state g.S.Store first)
+    (state g.S.Store mid) (rw begins at (c.insert_decision.ensures.kept (back clean))) (c.insert_participants.ensures.kept clean) in
     let whole = survives_none (state g.S.Store old) (state g.S.Store mid) (state g.S.Store end) inside c.drop-tx-in_err-insert_participants.ensures.survives in
     subst (λ h. MayChange change (state g.S.Store old) (state g.S.Store h)) same
     (tried (state g.S.Store old) (state g.S.Store end) (opened_clean _ _ (g.met.S.Store.shut_if_dirty end.store)) (λ _. ⊥) whole change
@@ -57,15 +65,25 @@ returns-in_err-commit-clause-changes g c lacks =
     let change = committed c.args.g set in
     let same : end ≡ c.conn-2-1.given.0 = search rules in
     let begins = c.transaction-tx.ensures.begun in
-    let back : HasCleanDisk (state g.S.Store mid) → HasCleanDisk (state g.S.Store first) = λ clean. omega (arith, c.insert_participants.ensures.survives.clean) in
+    let back : HasCleanDisk (state g.S.Store mid) → HasCleanDisk (state g.S.Store first) =
+    λ clean. omega (arith, c.insert_participants.ensures.survives.clean) in
     let early : HasCleanDisk (state g.S.Store end) → HasCleanDisk (state g.S.Store mid) = λ clean. omega (arith, c.commit.ensures.survives.clean) in
-    let inside = survives_none (state g.S.Store old) (state g.S.Store first) (state g.S.Store mid) (survives_begin g.S.Store old (state g.S.Store first) _ (rw begins at c.insert_decision.ensures.survives)) c.insert_participants.ensures.survives in
-    let keeps = λ (clean : HasCleanDisk (state g.S.Store mid)). keeps_then (begun (state g.S.Store old)) (state g.S.Store first) (state g.S.Store mid) (rw begins at (c.insert_decision.ensures.kept (back clean))) (c.insert_participants.ensures.kept clean) in
-    let written = written_all c.args.g set (state g.S.Store old) (state g.S.Store mid) (state g.S.Store end) (state g.S.Store first) back (λ clean. rw begins at (c.in_ok-insert_decision.ensures.live clean))
+    let inside =
+    survives_none (state g.S.Store old) (state g.S.Store first) (state g.S.Store mid)
+    (survives_begin g.S.Store old (state g.S.Store first) _ (rw begins at c.insert_decision.ensures.survives)) c.insert_participants.ensures.survives in
+    let keeps =
+    λ (clean : HasCleanDisk (state g.S.Store mid)). keeps_then (begun (state g.S.Store old)) (state g.S.Store first)
+    (state g.S.Store mid) (rw begins at (c.insert_decision.ensures.kept (back clean))) (c.insert_participants.ensures.kept clean) in
+    let written =
+    written_all c.args.g set (state g.S.Store old) (state g.S.Store mid) (state g.S.Store end) (state g.S.Store first) back
+    (λ clean. rw begins at (c.in_ok-insert_decision.ensures.live clean))
     (λ may clean. rw begins at (c.in_ok-insert_decision.ensures.written (rw begins may) clean)) c.in_ok-insert_participants.ensures.written lacks in
-    let whole = survives_then (state g.S.Store old) (state g.S.Store mid) (state g.S.Store end) _ _ (λ db. db ≡ (state g.S.Store mid).now.trees) (λ _ db none. absurd none) (λ _ db is. is) inside c.commit.ensures.survives in
+    let whole =
+    survives_then (state g.S.Store old) (state g.S.Store mid) (state g.S.Store end) _ _ (λ db. db ≡ (state g.S.Store mid).now.trees)
+    (λ _ db none. absurd none) (λ _ db is. is) inside c.commit.ensures.survives in
     subst (λ h. MayChange change (state g.S.Store old) (state g.S.Store h)) same
-    (tried (state g.S.Store old) (state g.S.Store end) (opened_clean _ _ (g.met.S.Store.shut_if_dirty end.store)) (λ db. db ≡ (state g.S.Store mid).now.trees) whole change
+    (tried (state g.S.Store old) (state g.S.Store end) (opened_clean _ _ (g.met.S.Store.shut_if_dirty end.store))
+    (λ db. db ≡ (state g.S.Store mid).now.trees) whole change
     (λ order clean. inl (failed_all c.args.g set (state g.S.Store old) (state g.S.Store mid) (state g.S.Store end) c.in_err-commit.field-0.0 (keeps (early clean)) (written order (early clean)) (c.in_err-commit.ensures.err clean)))
     (λ order clean. commits_all c.args.g set (state g.S.Store old) (state g.S.Store mid) (state g.S.Store end) (written order (early clean))))
 
@@ -79,15 +97,25 @@ returns-clause-changes g c lacks =
     let change = committed c.args.g set in
     let same : end ≡ c.conn-2-1.given.0 = search rules in
     let begins = c.transaction-tx.ensures.begun in
-    let back : HasCleanDisk (state g.S.Store mid) → HasCleanDisk (state g.S.Store first) = λ clean. omega (arith, c.insert_participants.ensures.survives.clean) in
+    let back : HasCleanDisk (state g.S.Store mid) → HasCleanDisk (state g.S.Store first) =
+    λ clean. omega (arith, c.insert_participants.ensures.survives.clean) in
     let early : HasCleanDisk (state g.S.Store end) → HasCleanDisk (state g.S.Store mid) = λ clean. omega (arith, c.commit.ensures.survives.clean) in
-    let inside = survives_none (state g.S.Store old) (state g.S.Store first) (state g.S.Store mid) (survives_begin g.S.Store old (state g.S.Store first) _ (rw begins at c.insert_decision.ensures.survives)) c.insert_participants.ensures.survives in
-    let keeps = λ (clean : HasCleanDisk (state g.S.Store mid)). keeps_then (begun (state g.S.Store old)) (state g.S.Store first) (state g.S.Store mid) (rw begins at (c.insert_decision.ensures.kept (back clean))) (c.insert_participants.ensures.kept clean) in
-    let written = written_all c.args.g set (state g.S.Store old) (state g.S.Store mid) (state g.S.Store end) (state g.S.Store first) back (λ clean. rw begins at (c.in_ok-insert_decision.ensures.live clean))
+    let inside =
+    survives_none (state g.S.Store old) (state g.S.Store first) (state g.S.Store mid)
+    (survives_begin g.S.Store old (state g.S.Store first) _ (rw begins at c.insert_decision.ensures.survives)) c.insert_participants.ensures.survives in
+    let keeps =
+    λ (clean : HasCleanDisk (state g.S.Store mid)). keeps_then (begun (state g.S.Store old)) (state g.S.Store first)
+    (state g.S.Store mid) (rw begins at (c.insert_decision.ensures.kept (back clean))) (c.insert_participants.ensures.kept clean) in
+    let written =
+    written_all c.args.g set (state g.S.Store old) (state g.S.Store mid) (state g.S.Store end) (state g.S.Store first) back
+    (λ clean. rw begins at (c.in_ok-insert_decision.ensures.live clean))
     (λ may clean. rw begins at (c.in_ok-insert_decision.ensures.written (rw begins may) clean)) c.in_ok-insert_participants.ensures.written lacks in
-    let whole = survives_then (state g.S.Store old) (state g.S.Store mid) (state g.S.Store end) _ _ (λ db. db ≡ (state g.S.Store mid).now.trees) (λ _ db none. absurd none) (λ _ db is. is) inside c.commit.ensures.survives in
+    let whole =
+    survives_then (state g.S.Store old) (state g.S.Store mid) (state g.S.Store end) _ _ (λ db. db ≡ (state g.S.Store mid).now.trees)
+    (λ _ db none. absurd none) (λ _ db is. is) inside c.commit.ensures.survives in
     subst (λ h. MayChange change (state g.S.Store old) (state g.S.Store h)) same
-    (tried (state g.S.Store old) (state g.S.Store end) (opened_clean _ _ (g.met.S.Store.shut_if_dirty end.store)) (λ db. db ≡ (state g.S.Store mid).now.trees) whole change
+    (tried (state g.S.Store old) (state g.S.Store end) (opened_clean _ _ (g.met.S.Store.shut_if_dirty end.store))
+    (λ db. db ≡ (state g.S.Store mid).now.trees) whole change
     (λ order clean. inr (committed_all c.args.g set (state g.S.Store old) (state g.S.Store mid) (state g.S.Store end) (written order (early clean)) (c.in_ok-commit.ensures.ok clean).1))
     (λ order clean. commits_all c.args.g set (state g.S.Store old) (state g.S.Store mid) (state g.S.Store end) (written order (early clean))))
 
@@ -101,11 +129,20 @@ returns-clause-ok g c lacks order =
     let change = committed c.args.g set in
     let same : end ≡ c.conn-2-1.given.0 = search rules in
     let begins = c.transaction-tx.ensures.begun in
-    let back : HasCleanDisk (state g.S.Store mid) → HasCleanDisk (state g.S.Store first) = λ clean. omega (arith, c.insert_participants.ensures.survives.clean) in
+    let back : HasCleanDisk (state g.S.Store mid) → HasCleanDisk (state g.S.Store first) =
+    λ clean. omega (arith, c.insert_participants.ensures.survives.clean) in
     let early : HasCleanDisk (state g.S.Store end) → HasCleanDisk (state g.S.Store mid) = λ clean. omega (arith, c.commit.ensures.survives.clean) in
-    let inside = survives_none (state g.S.Store old) (state g.S.Store first) (state g.S.Store mid) (survives_begin g.S.Store old (state g.S.Store first) _ (rw begins at c.insert_decision.ensures.survives)) c.insert_participants.ensures.survives in
-    let keeps = λ (clean : HasCleanDisk (state g.S.Store mid)). keeps_then (begun (state g.S.Store old)) (state g.S.Store first) (state g.S.Store mid) (rw begins at (c.insert_decision.ensures.kept (back clean))) (c.insert_participants.ensures.kept clean) in
-    let written = written_all c.args.g set (state g.S.Store old) (state g.S.Store mid) (state g.S.Store end) (state g.S.Store first) back (λ clean. rw begins at (c.in_ok-insert_decision.ensures.live clean))
+    let inside =
+    survives_none (state g.S.Store old) (state g.S.Store first) (state g.S.Store mid)
+    (survives_begin g.S.Store old (state g.S.Store first) _ (rw begins at c.insert_decision.ensures.survives)) c.insert_participants.ensures.survives in
+    let keeps =
+    λ (clean : HasCleanDisk (state g.S.Store mid)). keeps_then (begun (state g.S.Store old)) (state g.S.Store first)
+    (state g.S.Store mid) (rw begins at (c.insert_decision.ensures.kept (back clean))) (c.insert_participants.ensures.kept clean) in
+    let written =
+    written_all c.args.g set (state g.S.Store old) (state g.S.Store mid) (state g.S.Store end) (state g.S.Store first) back
+    (λ clean. rw begins at (c.in_ok-insert_decision.ensures.live clean))
     (λ may clean. rw begins at (c.in_ok-insert_decision.ensures.written (rw begins may) clean)) c.in_ok-insert_participants.ensures.written lacks in
     subst (λ h. HasCleanDisk (state g.S.Store h) → Makes change (content_in (state g.S.Store old)) (content_in (state g.S.Store h))) same
-    (λ clean. did_makes change (state g.S.Store old) (state g.S.Store end) (committed_all c.args.g set (state g.S.Store old) (state g.S.Store mid) (state g.S.Store end) (written order (early clean)) (c.in_ok-commit.ensures.ok clean).1))
+    (λ clean. did_makes change (state g.S.Store old) (state g.S.Store end)
+    (committed_all c.args.g set (state g.S.Store old) (state g.S.Store mid) (state g.S.Store end) (written order (early clean))
+    (c.in_ok-commit.ensures.ok clean).1))

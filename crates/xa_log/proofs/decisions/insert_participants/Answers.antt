@@ -16,5 +16,6 @@ loop-branch-preserved g c =
       c.insert_participant.ensures.same_reference ∙ inv.0,
       survives_none old mid new inv.1 c.insert_participant.ensures.survives,
       λ clean. keeps_then old mid new (inv.2 (early clean)) (c.insert_participant.ensures.kept clean),
-      λ clean before has. written_more c.args.g c.args.participants.now c.loop-branch.branch-index _ low c.requires.own before mid new (inv.3 (early clean) before has) (c.in_ok-insert_participant.ensures.written clean),
+      λ clean before has. written_more c.args.g c.args.participants.now c.loop-branch.branch-index _ low c.requires.own before mid new
+          (inv.3 (early clean) before has) (c.in_ok-insert_participant.ensures.written clean),
     )

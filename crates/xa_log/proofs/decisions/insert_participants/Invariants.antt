@@ -11,4 +11,5 @@ invariant-loop-branch g l =
     let old = state g.S.Store l.fn.tx.conn.now in
     let now = state g.S.Store l.tx.conn.now in
     (l.tx.conn.ghost_name ≡ l.fn.tx.conn.ghost_name) × Survives old now (λ _. ⊥) × (HasCleanDisk now → KeepsCommit old now)
-    × (HasCleanDisk now → (before : Content) → HasWritten l.fn.g empty before old → HasWritten l.fn.g (from_list (take l.branch-index l.participants)) before now)
+    × (HasCleanDisk now → (before : Content) → HasWritten l.fn.g empty before old
+    → HasWritten l.fn.g (from_list (take l.branch-index l.participants)) before now)

@@ -20,4 +20,5 @@ returns-clause-ok c =
     let rows = c.args.rows.items in
     let high : length rows ≤ c.loop-row.row-index = omega arith in
     let same : c.in_ok-collect.field-0.items ≡ c.loop-row.branches.keys = search rules in
-    same ∙ set_listed branches_total exact_branches c.loop-row.branches (map branch_from rows) c.loop-row.invariant.1 (c.loop-row.invariant.0 ∙ ap (λ all. from_list {R = branch_cmp} (map branch_from all)) (take_all c.loop-row.row-index rows high))
+    same ∙ set_listed branches_total exact_branches c.loop-row.branches (map branch_from rows) c.loop-row.invariant.1
+    (c.loop-row.invariant.0 ∙ ap (λ all. from_list {R = branch_cmp} (map branch_from all)) (take_all c.loop-row.row-index rows high))

@@ -6,4 +6,5 @@ use Rattle.xa_log.specs.KeySet.{from_list}
 use Rattle.xa_log.proofs.rows.branches.Given as goal
 
 abbrev pub invariant-loop-row : goal.invariant-loop-row
-invariant-loop-row l = (from_list {R = branch_cmp} l.branches.keys ≡ from_list (map branch_from (take l.row-index l.fn.rows.items))) × IsOrdered branch_cmp l.branches
+invariant-loop-row l =
+    (from_list {R = branch_cmp} l.branches.keys ≡ from_list (map branch_from (take l.row-index l.fn.rows.items))) × IsOrdered branch_cmp l.branches

@@ -6,4 +6,6 @@ use Rattle.xa_log.specs.Rows.{heuristic_from}
 use Rattle.xa_log.proofs.rows.ends.Given as goal
 
 abbrev pub invariant-loop-row : goal.invariant-loop-row
-invariant-loop-row l = (from_entries {R = branch_cmp} l.ends.entries ≡ from_entries (reverse (map heuristic_from (take l.row-index l.fn.rows.items)))) × IsOrdered branch_cmp l.ends
+invariant-loop-row l =
+    (from_entries {R = branch_cmp} l.ends.entries ≡ from_entries (reverse (map heuristic_from (take l.row-index l.fn.rows.items))))
+    × IsOrdered branch_cmp l.ends

@@ -20,4 +20,5 @@ returns-clause-ok c =
     let rows = c.args.rows.items in
     let high : length rows ≤ c.loop-row.row-index = omega arith in
     let same : c.in_ok-collect.field-0.items ≡ c.loop-row.gtrids.keys = search rules in
-    same ∙ set_listed gtrids_total exact_gtrids c.loop-row.gtrids (map gtrid_from rows) c.loop-row.invariant.1 (c.loop-row.invariant.0 ∙ ap (λ all. from_list {R = gtrid_cmp} (map gtrid_from all)) (take_all c.loop-row.row-index rows high))
+    same ∙ set_listed gtrids_total exact_gtrids c.loop-row.gtrids (map gtrid_from rows) c.loop-row.invariant.1
+    (c.loop-row.invariant.0 ∙ ap (λ all. from_list {R = gtrid_cmp} (map gtrid_from all)) (take_all c.loop-row.row-index rows high))

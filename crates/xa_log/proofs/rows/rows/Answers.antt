@@ -7,11 +7,13 @@ returns-in_err-heuristics-clause-reads g c =
     let b = state g.S.Store c.all_decisions.new.conn in
     let d = state g.S.Store c.all_participants.new.conn in
     let e = state g.S.Store c.all_heuristics.new.conn in
-    reads_then (state g.S.Store c.args.conn.now) b e c.all_decisions.ensures.reads (reads_then b d e c.all_participants.ensures.reads c.all_heuristics.ensures.reads)
+    reads_then (state g.S.Store c.args.conn.now) b e c.all_decisions.ensures.reads
+    (reads_then b d e c.all_participants.ensures.reads c.all_heuristics.ensures.reads)
 
 pub returns-clause-reads : goal.returns-clause-reads
 returns-clause-reads g c =
     let b = state g.S.Store c.all_decisions.new.conn in
     let d = state g.S.Store c.all_participants.new.conn in
     let e = state g.S.Store c.all_heuristics.new.conn in
-    reads_then (state g.S.Store c.args.conn.now) b e c.all_decisions.ensures.reads (reads_then b d e c.all_participants.ensures.reads c.all_heuristics.ensures.reads)
+    reads_then (state g.S.Store c.args.conn.now) b e c.all_decisions.ensures.reads
+    (reads_then b d e c.all_participants.ensures.reads c.all_heuristics.ensures.reads)

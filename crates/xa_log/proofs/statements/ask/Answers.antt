@@ -8,7 +8,8 @@ use Rattle.xa_log.proofs.statements.ask.Goals as goal
 pub returns-in_err-statement-clause-reads : goal.returns-in_err-statement-clause-reads
 returns-in_err-statement-clause-reads g c =
     let new = c.prepare.new.self in
-    refused_reads _ (state g.S.Store new) (opened_clean _ _ (g.met.S.Store.shut_if_dirty new.store)) c.prepare.ensures.survives c.args.sql.now c.in_err-statement.field-0.0 c.in_err-statement.ensures.err
+    refused_reads _ (state g.S.Store new)
+    (opened_clean _ _ (g.met.S.Store.shut_if_dirty new.store)) c.prepare.ensures.survives c.args.sql.now c.in_err-statement.field-0.0 c.in_err-statement.ensures.err
 
 pub returns-in_err-query_all-clause-reads : goal.returns-in_err-query_all-clause-reads
 returns-in_err-query_all-clause-reads g c =
@@ -17,7 +18,8 @@ returns-in_err-query_all-clause-reads g c =
     let same = c.in_ok-statement.ensures.ok in
     reads_then _ (state g.S.Store mid) (state g.S.Store new)
     (prepare_reads _ _ (opened_clean _ _ (g.met.S.Store.shut_if_dirty mid.store)) c.prepare.ensures.survives (λ clean. (same clean).1))
-    (failed_reads c.args.sql.now c.in_ok-statement.statement.text c.requires (bound c.args.params.now) _ _ (opened_clean _ _ (g.met.S.Store.shut_if_dirty new.store))
+    (failed_reads c.args.sql.now c.in_ok-statement.statement.text c.requires (bound c.args.params.now) _ _
+    (opened_clean _ _ (g.met.S.Store.shut_if_dirty new.store))
     (λ clean. ((same clean).0, (same clean).1.0.is_open)) c.query_all.ensures.survives c.in_err-query_all.field-0.0 c.in_err-query_all.ensures.err)
 
 pub returns-clause-reads : goal.returns-clause-reads
@@ -27,7 +29,8 @@ returns-clause-reads g c =
     let same = c.in_ok-statement.ensures.ok in
     reads_then _ (state g.S.Store mid) (state g.S.Store new)
     (prepare_reads _ _ (opened_clean _ _ (g.met.S.Store.shut_if_dirty mid.store)) c.prepare.ensures.survives (λ clean. (same clean).1))
-    (asked_reads c.args.sql.now c.in_ok-statement.statement.text c.requires (bound c.args.params.now) _ _ (opened_clean _ _ (g.met.S.Store.shut_if_dirty new.store))
+    (asked_reads c.args.sql.now c.in_ok-statement.statement.text c.requires (bound c.args.params.now) _ _
+    (opened_clean _ _ (g.met.S.Store.shut_if_dirty new.store))
     (λ clean. ((same clean).0, (same clean).1.0.is_open)) c.query_all.ensures.survives c.in_ok-query_all.field-0.items c.in_ok-query_all.ensures.ok)
 
 pub returns-clause-shown : goal.returns-clause-shown
@@ -37,6 +40,8 @@ returns-clause-shown g c order clean =
     let same = c.in_ok-statement.ensures.ok in
     let early : HasCleanDisk (state g.S.Store mid) = omega (arith, c.query_all.ensures.survives.clean) in
     let ready = rests_order _ (state g.S.Store mid) (λ _. inl (same early).1) order in
-    let told = asked c.args.sql.now c.in_ok-statement.statement.text c.requires (bound c.args.params.now) _ _ (opened_clean _ _ (g.met.S.Store.shut_if_dirty new.store))
+    let told =
+    asked c.args.sql.now c.in_ok-statement.statement.text c.requires (bound c.args.params.now) _ _
+    (opened_clean _ _ (g.met.S.Store.shut_if_dirty new.store))
     (λ clean. ((same clean).0, (same clean).1.0.is_open)) c.query_all.ensures.survives c.in_ok-query_all.field-0.items c.in_ok-query_all.ensures.ok ready clean in
     (mid, (same early).1, told.1, told.0)

@@ -7,5 +7,6 @@ use Rattle.xa_scenario.proofs.branches.place_of.Goals as goal
 
 pub returns : goal.returns
 returns c =
-    position_from_yields_List (λ x. bytes_eq c.args.name.now x.now) _ _ _ c.position.ensures.ran (YieldsList-from_slice c.args.names.now c.iter.ensures.rest) (λ x b q k. search (rules, tests))
+    position_from_yields_List (λ x. bytes_eq c.args.name.now x.now) _ _ _ c.position.ensures.ran
+    (YieldsList-from_slice c.args.names.now c.iter.ensures.rest) (λ x b q k. search (rules, tests))
     ∙ sym (position-map (bytes_eq c.args.name.now) (λ x. x.now) c.args.names.now)

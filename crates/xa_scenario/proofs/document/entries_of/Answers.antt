@@ -13,7 +13,8 @@ returns-in_err-entry_at c =
     let p = err_from_is_err_and c.from_residual.result c.from_residual.ensures.1 in
     let all = entries_from 1 [] (items_view c.args.items.now) in
     rw (p.1, p.2) (fails c.in_err-entry_at.field-0.0 all
-    (stops c.loop-i.entries.items c.in_err-entry_at.field-0.0 (c.loop-i.i + 1) (map (λ name. name.now) c.loop-i.begun.items) c.args.items.now c.loop-i.i c.index-items-i.result all
+    (stops c.loop-i.entries.items c.in_err-entry_at.field-0.0 (c.loop-i.i + 1)
+    (map (λ name. name.now) c.loop-i.begun.items) c.args.items.now c.loop-i.i c.index-items-i.result all
     c.loop-i-test.true c.index-items-i.is (rw (← c.deref.ensures.value) (sym c.in_err-entry_at.ensures)) c.loop-i.invariant))
 
 pub loop-i-preserved : goal.loop-i-preserved
@@ -22,11 +23,14 @@ loop-i-preserved c =
     let value = view c.index-items-i.result in
     let grown : c.push.new.self.items ≡ c.loop-i.entries.items ++ c.in_ok-entry_at.field-0 ∷ [] = c.in_ok-push.ensures.items in
     let begun : names_after names value ≡ map (λ name. name.now) c.match-name_in.begun.items = elim c.match-name_in.branch [
-      | in-Some+in_ok-push-2 w ↦ names_after-some names value w.in-Some.name.now (sym w.in-Some.ensures) ∙ rw (w.begun-is, w.in_ok-push-2.ensures.items) (sym (map_push _ c.loop-i.begun.items w.in-Some.name))
+      | in-Some+in_ok-push-2 w ↦ names_after-some names value w.in-Some.name.now (sym w.in-Some.ensures)
+          ∙ rw (w.begun-is, w.in_ok-push-2.ensures.items) (sym (map_push _ c.loop-i.begun.items w.in-Some.name))
       | in_default w ↦ names_after-none names value (sym w.in_default.ensures) ∙ ap (λ names. map (λ name. name.now) names.items) (sym w.begun-is)
     ] in
     rw (grown, ← begun) (goes_on c.loop-i.entries.items c.in_ok-entry_at.field-0 (c.loop-i.i + 1) names c.args.items.now c.loop-i.i c.index-items-i.result (entries_from 1 [] (items_view c.args.items.now))
     c.loop-i-test.true c.index-items-i.is (rw (← c.deref.ensures.value) (sym c.in_ok-entry_at.ensures)) c.loop-i.invariant)
 
 pub returns : goal.returns
-returns c = ends c.loop-i.entries.items (c.loop-i.i + 1) (map (λ name. name.now) c.loop-i.begun.items) c.args.items.now c.loop-i.i (entries_from 1 [] (items_view c.args.items.now)) c.loop-i-test.false c.loop-i.invariant
+returns c =
+    ends c.loop-i.entries.items (c.loop-i.i + 1) (map (λ name. name.now) c.loop-i.begun.items) c.args.items.now c.loop-i.i
+    (entries_from 1 [] (items_view c.args.items.now)) c.loop-i-test.false c.loop-i.invariant

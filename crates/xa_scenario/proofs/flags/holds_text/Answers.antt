@@ -8,5 +8,6 @@ use Rattle.xa_scenario.proofs.flags.holds_text.Goals as goal
 
 pub returns : goal.returns
 returns c =
-    any_from_yields_List (λ v. is_text c.args.text.now (view v)) _ _ _ c.any.ensures.ran (YieldsList-from_slice c.args.items.now c.iter.ensures.rest) (λ x b q k. search (rules, tests))
+    any_from_yields_List (λ v. is_text c.args.text.now (view v)) _ _ _ c.any.ensures.ran
+    (YieldsList-from_slice c.args.items.now c.iter.ensures.rest) (λ x b q k. search (rules, tests))
     ∙ holds_text-view c.args.text.now c.args.items.now

@@ -15,7 +15,9 @@ loop-entry-preserved g c =
       | in_default w ↦ rw (w.gtrids-is, w.in_default.is) (sym (append-nil gtrids))
     ] in
     record {
-      leads = play_turn gtrids c.deref.result.now (option_to_list c.play_entry.result) c.match-play_entry.gtrids.items entries i _ (IsPlay [] entries) c.args.system.now.events c.loop-entry.system.events c.play_entry.new.system.events
+      leads =
+          play_turn gtrids c.deref.result.now (option_to_list c.play_entry.result) c.match-play_entry.gtrids.items entries i _
+          (IsPlay [] entries) c.args.system.now.events c.loop-entry.system.events c.play_entry.new.system.events
           c.loop-entry-test.true c.deref.ensures.value grown c.play_entry.ensures.performs c.loop-entry.invariant.leads;
       start = search rules;
     }

@@ -7,7 +7,8 @@ use Rattle.xa_system.proofs.system.are_clear.Goals as goal
 pub loop-rm-preserved : goal.loop-rm-preserved
 loop-rm-preserved g c =
     let look = looks g.R.ResourceManager.held_of g.R.ResourceManager.scan_of g.R.ResourceManager.in_doubt_of in
-    clear_more look c.args.rms.now c.loop-rm.rm-index c.rm-item.result c.loop-rm.invariant (slice_get_read c.args.rms.now (length c.args.rms.now) c.loop-rm.rm-index c.rm-item.result refl c.loop-rm-test.true c.rm-item.is)
+    clear_more look c.args.rms.now c.loop-rm.rm-index c.rm-item.result c.loop-rm.invariant
+    (slice_get_read c.args.rms.now (length c.args.rms.now) c.loop-rm.rm-index c.rm-item.result refl c.loop-rm-test.true c.rm-item.is)
     (record { no_branch = c.if-holds_format.ensures.clear refl; listed = c.in_doubt_len.ensures.in_doubt })
 
 pub returns-clause-clear : goal.returns-clause-clear

@@ -7,4 +7,5 @@ use Rattle.xa_tm.proofs.ascending.do_ends_ascend.Given as goal
 
 -- what is left decides
 abbrev pub invariant-loop-end : goal.invariant-loop-end
-invariant-loop-end l = ascends_behind branch_cmp l.last (map (λ (e : Branch × How). e.0) (drop l.end-index l.ends)) ≡ ascends branch_cmp (map (λ (e : Branch × How). e.0) l.ends)
+invariant-loop-end l =
+    ascends_behind branch_cmp l.last (map (λ (e : Branch × How). e.0) (drop l.end-index l.ends)) ≡ ascends branch_cmp (map (λ (e : Branch × How). e.0) l.ends)

@@ -7,6 +7,8 @@ returns-clause-found g c = λ order honest.
     let rows = c.in-Ok.rows in
     let log = c.rows.new.self in
     let still = c.in-Ok-bump.ensures.changes.honest honest in
-    found (g.L.DecisionLog.moment c.args.log.now).content (g.L.DecisionLog.moment log).content rows.decisions.items rows.heuristics.items c.in-Ok-bump.incarnation c.len.result c.len-in-Ok-bump.result
-    (c.in-Ok.ensures.decisions order still) (c.in-Ok.ensures.heuristics order still) (c.in-Ok.ensures.reads.ok order still) (c.in-Ok-bump.ensures.answer (c.in-Ok.ensures.reads.order order) honest)
+    found (g.L.DecisionLog.moment c.args.log.now).content
+    (g.L.DecisionLog.moment log).content rows.decisions.items rows.heuristics.items c.in-Ok-bump.incarnation c.len.result c.len-in-Ok-bump.result
+    (c.in-Ok.ensures.decisions order still) (c.in-Ok.ensures.heuristics order still) (c.in-Ok.ensures.reads.ok order still)
+    (c.in-Ok-bump.ensures.answer (c.in-Ok.ensures.reads.order order) honest)
     (c.len.ensures ∙ rows.decisions.ok.0) (c.len-in-Ok-bump.ensures ∙ rows.heuristics.ok.0)

@@ -2,11 +2,14 @@ use Rattle.xa_tm.proofs.Leaves.{left_by_a_crash, left_by_a_fault, left_by_a_rest
 use Rattle.xa_tm.proofs.laws.crashes_leave_the_book.Goals as goal
 
 pub returns-clause-up : goal.returns-clause-up
-returns-clause-up g c = λ k log up order tied. left_while_up k (g.L.DecisionLog.moment log).content (g.L.DecisionLog.moment log).may_leave up tied (λ b d is left. g.met.L.DecisionLog.durable log b d order is left)
+returns-clause-up g c =
+    λ k log up order tied. left_while_up k (g.L.DecisionLog.moment log).content (g.L.DecisionLog.moment log).may_leave up tied
+    (λ b d is left. g.met.L.DecisionLog.durable log b d order is left)
 
 pub returns-clause-fault : goal.returns-clause-fault
 returns-clause-fault g c = λ k asked f old new up same order tied leaves.
-    left_by_a_fault k asked f (g.L.DecisionLog.moment old).content (g.L.DecisionLog.moment old).may_leave (g.L.DecisionLog.moment new).may_leave up same tied (λ b d is left. g.met.L.DecisionLog.durable old b d order is left) leaves
+    left_by_a_fault k asked f (g.L.DecisionLog.moment old).content (g.L.DecisionLog.moment old).may_leave
+    (g.L.DecisionLog.moment new).may_leave up same tied (λ b d is left. g.met.L.DecisionLog.durable old b d order is left) leaves
 
 pub returns-clause-restart : goal.returns-clause-restart
 returns-clause-restart g c = λ k old new down tied was leaves.

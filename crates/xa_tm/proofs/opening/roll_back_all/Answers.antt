@@ -16,4 +16,5 @@ loop-g-preserved c =
     let gs = c.args.gtrids.now in
     let i = c.loop-g.g-index in
     let low : i < length gs = omega arith in
-    rolled_more gs i _ c.loop-g.map c.roll_back.new.map (λ q. rolled_back_by gs q (transaction_at c.args.map.now q)) low c.roll_back.ensures.kept c.roll_back.ensures.at c.loop-g.invariant
+    rolled_more gs i _ c.loop-g.map c.roll_back.new.map
+    (λ q. rolled_back_by gs q (transaction_at c.args.map.now q)) low c.roll_back.ensures.kept c.roll_back.ensures.at c.loop-g.invariant

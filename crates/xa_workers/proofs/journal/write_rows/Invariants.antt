@@ -1,5 +1,5 @@
 use Rattle.std.proofs.Common.{◌≡◌, ◌≤◌, vec_len}
-use Rattle.xa_workers.specs.Rows.{HasWritten}
+use Rattle.xa_workers.specs.Rows.{HasRowsOf}
 use Rattle.xa_workers.proofs.journal.write_rows.Given as goal
 
 abbrev pub invariant-loop : goal.invariant-loop
@@ -7,5 +7,5 @@ invariant-loop g l =
     record {
       few : vec_len l.journal.written ≤ 1000;
       first : l.journal.first ≡ l.initial.journal.first;
-      kept : HasWritten g.L.DecisionLog l.crew.jobs.now l.crew.incarnation l.journal;
+      kept : HasRowsOf g.L.DecisionLog l.crew.jobs.now l.crew.incarnation l.journal;
     }

@@ -24,12 +24,14 @@ loop-waited_for-preserved c =
     let put : c.extend.new.self.items ≡ had ++ ks = search rules in
     ap (λ l. l ++ rest) put ∙ append_assoc had ks rest
     ∙ ap (λ l. had ++ (l ++ rest)) (sym (items-from_list branches_total ks c.iter.ensures.ordered))
-    ∙ ap (λ sets. had ++ listed_in sets) (sym (rest_more deref c.loop-waited_for.waited_for-iterator c.next.new.self c.next.result c.in-Some.waited_for c.in-Some.is c.next.ensures.steps))
+    ∙ ap (λ sets. had ++ listed_in sets)
+    (sym (rest_more deref c.loop-waited_for.waited_for-iterator c.next.new.self c.next.result c.in-Some.waited_for c.in-Some.is c.next.ensures.steps))
     ∙ c.loop-waited_for.invariant
 
 pub returns-clause-ok : goal.returns-clause-ok
 returns-clause-ok c =
     let had = c.loop-waited_for.list.items in
     sym (append-nil had)
-    ∙ ap (λ sets. had ++ listed_in sets) (sym (rest_all deref c.loop-waited_for.waited_for-iterator c.next.new.self c.next.result c.in-None.is c.next.ensures.steps))
+    ∙ ap (λ sets. had ++ listed_in sets)
+    (sym (rest_all deref c.loop-waited_for.waited_for-iterator c.next.new.self c.next.result c.in-None.is c.next.ensures.steps))
     ∙ c.loop-waited_for.invariant ∙ sym (participants_listed c.args.self.now.decisions c.values-waited_for-items.ensures.ordered)

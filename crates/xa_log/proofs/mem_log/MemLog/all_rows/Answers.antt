@@ -20,6 +20,7 @@ pub returns-clause-heuristics : goal.returns-clause-heuristics
 returns-clause-heuristics c =
     let rows = c.args.self.now.heuristics.entries in
     let run = items_from_collect _ c.collect-2.ensures.ran
-    (YieldsList-from_map _ (λ (e : Branch × How). e) (YieldsList-at c.map.ensures.source (YieldsList-from_rest rows c.iter.ensures.rest)) c.map.ensures.closure (λ x r q k. search rules)) in
+    (YieldsList-from_map _ (λ (e : Branch × How). e)
+    (YieldsList-at c.map.ensures.source (YieldsList-from_rest rows c.iter.ensures.rest)) c.map.ensures.closure (λ x r q k. search rules)) in
     subst (λ r. IfOk r (λ w. vec_items w ≡ map (λ (e : Branch × How). e) rows)) c.in_ok-collect-2.was run
     ∙ map-id rows ∙ sym (heuristics_listed c.args.self.now.heuristics c.iter.ensures.ordered)

@@ -6,4 +6,5 @@ use Rattle.xa_log.proofs.sql_log.SqlLogDecisionLog.bump.Goals as goal
 
 pub returns-clause-changes : goal.returns-clause-changes
 returns-clause-changes g c =
-    log_changes bumped (state g.S.Store c.args.self.now.conn) (state g.S.Store c.bump-bumped.new.conn) _ _ _ c.bump-bumped.ensures.changes (search rules) (search rules)
+    log_changes bumped (state g.S.Store c.args.self.now.conn) (state g.S.Store c.bump-bumped.new.conn) _ _ _ c.bump-bumped.ensures.changes
+    (search rules) (search rules)

@@ -7,4 +7,5 @@ use Rattle.xa_log.proofs.sql_log.SqlLogDecisionLog.commit.Goals as goal
 
 pub returns-clause-changes : goal.returns-clause-changes
 returns-clause-changes g c =
-    log_changes (committed c.args.g (from_list c.args.participants.now)) (state g.S.Store c.args.self.now.conn) (state g.S.Store c.commit-logged.new.conn) _ _ _ c.commit-logged.ensures.changes (search rules) (search rules)
+    log_changes (committed c.args.g (from_list c.args.participants.now)) (state g.S.Store c.args.self.now.conn)
+    (state g.S.Store c.commit-logged.new.conn) _ _ _ c.commit-logged.ensures.changes (search rules) (search rules)

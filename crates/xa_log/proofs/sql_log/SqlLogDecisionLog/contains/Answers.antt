@@ -5,4 +5,5 @@ use Rattle.xa_log.proofs.sql_log.SqlLogDecisionLog.contains.Goals as goal
 
 pub returns-clause-reads : goal.returns-clause-reads
 returns-clause-reads g c =
-    log_reads (state g.S.Store c.args.self.now.conn) (state g.S.Store c.find_decision-found.new.conn) _ _ _ c.find_decision-found.ensures.reads (search rules) (search rules)
+    log_reads (state g.S.Store c.args.self.now.conn)
+    (state g.S.Store c.find_decision-found.new.conn) _ _ _ c.find_decision-found.ensures.reads (search rules) (search rules)

@@ -6,4 +6,5 @@ use Rattle.xa_log.proofs.sql_log.SqlLogDecisionLog.done.Goals as goal
 
 pub returns-clause-changes : goal.returns-clause-changes
 returns-clause-changes g c =
-    log_changes (without_decision c.args.g) (state g.S.Store c.args.self.now.conn) (state g.S.Store c.done-found.new.conn) _ _ _ c.done-found.ensures.changes (search rules) (search rules)
+    log_changes (without_decision c.args.g) (state g.S.Store c.args.self.now.conn)
+    (state g.S.Store c.done-found.new.conn) _ _ _ c.done-found.ensures.changes (search rules) (search rules)

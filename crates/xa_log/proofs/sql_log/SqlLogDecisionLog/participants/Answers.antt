@@ -5,4 +5,5 @@ use Rattle.xa_log.proofs.sql_log.SqlLogDecisionLog.participants.Goals as goal
 
 pub returns-clause-reads : goal.returns-clause-reads
 returns-clause-reads g c =
-    log_reads (state g.S.Store c.args.self.now.conn) (state g.S.Store c.participants-list.new.conn) _ _ _ c.participants-list.ensures.reads (search rules) (search rules)
+    log_reads (state g.S.Store c.args.self.now.conn) (state g.S.Store c.participants-list.new.conn) _ _ _ c.participants-list.ensures.reads
+    (search rules) (search rules)

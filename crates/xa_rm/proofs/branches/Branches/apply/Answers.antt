@@ -13,7 +13,8 @@ pub set-requires : goal.set-requires
 set-requires c = λ doubt.
     let asked = asks_named c.args.call.now c.in-Some.xid.now (sym c.xid.ensures ∙ ap option_copied c.in-Some.is) in
     let after = c.apply-code.ensures.held asked.0 c.in-Some.xid.now asked.1 ∙ ap (called c.args.thread asked.0) c.get-held.ensures in
-    known_in_doubt (get xid_cmp c.args.self.now.table c.in-Some.xid.now) c.args.thread asked.0 (ap (λ (b : HeldBranch). is_in_doubt b.standing) (sym after) ∙ doubt)
+    known_in_doubt (get xid_cmp c.args.self.now.table c.in-Some.xid.now) c.args.thread asked.0
+    (ap (λ (b : HeldBranch). is_in_doubt b.standing) (sym after) ∙ doubt)
 
 pub returns-in_ok-set-clause-answer : goal.returns-in_ok-set-clause-answer
 returns-in_ok-set-clause-answer c =

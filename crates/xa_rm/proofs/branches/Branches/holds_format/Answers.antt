@@ -6,10 +6,14 @@ use Rattle.xa_rm.proofs.branches.Branches.holds_format.Goals as goal
 
 pub returns-clause-held : goal.returns-clause-held
 returns-clause-held c = λ e.
-    let any = any_from_yields_List (is_of_format c.args.format) _ _ c.any.result c.any.ensures.ran (YieldsList-from_rest c.args.self.now.table.entries c.iter.ensures.rest) (λ x b q k. search (rules, tests)) in
+    let any =
+    any_from_yields_List (is_of_format c.args.format) _ _ c.any.result c.any.ensures.ran
+    (YieldsList-from_rest c.args.self.now.table.entries c.iter.ensures.rest) (λ x b q k. search (rules, tests)) in
     format_held c.args.self.now.table c.iter.ensures.ordered c.args.format (sym any ∙ e)
 
 pub returns-clause-clear : goal.returns-clause-clear
 returns-clause-clear c = λ e.
-    let any = any_from_yields_List (is_of_format c.args.format) _ _ c.any.result c.any.ensures.ran (YieldsList-from_rest c.args.self.now.table.entries c.iter.ensures.rest) (λ x b q k. search (rules, tests)) in
+    let any =
+    any_from_yields_List (is_of_format c.args.format) _ _ c.any.result c.any.ensures.ran
+    (YieldsList-from_rest c.args.self.now.table.entries c.iter.ensures.rest) (λ x b q k. search (rules, tests)) in
     format_not_held c.args.self.now.table c.args.format (sym any ∙ e)

@@ -15,4 +15,5 @@ returns-clause-held c = λ x.
     ap (λ (s : Standing). let b : HeldBranch = record (held_branch c.get-held.result) { standing = s } in b)
     (ap (λ (s : Standing). StateTable.completed s c.args.how) (sym prepared)) in
     c.in_ok-set.ensures.ok x
-    ∙ changed_there (held_at c.args.self.now.branches.table) (completed_by c.args.how) c.args.xid.now _ (completed ∙ ap (completed_by c.args.how) c.get-held.ensures) x
+    ∙ changed_there (held_at c.args.self.now.branches.table) (completed_by c.args.how) c.args.xid.now _
+    (completed ∙ ap (completed_by c.args.how) c.get-held.ensures) x

@@ -24,6 +24,9 @@ returns-in-Ok g c =
 pub returns-in-Err : goal.returns-in-Err
 returns-in-Err g c =
     let see : Sees g.row.R.Denot g.row.L.Denot = sees g.R.ResourceManager.held_of g.R.ResourceManager.scan_of g.R.ResourceManager.in_doubt_of g.L.DecisionLog in
-    manager_refused see {A = Unit {0}} (Steps.Abandon c.args.gtrid) c.args.self.now c.abandon.new.self c.in-Err.refusal c.refused.result tt tt (λ tr. refl) (λ tr. tt) c.refused.ensures c.in-Err.ensures.refused
-    (λ free. only_memory (Adds c.args.gtrid (voted_yes (book_in c.args.self.now.manager) c.args.gtrid)) (InDecide c.args.gtrid) (c.in-Err.ensures.err free) (λ e. let asked = c.in-Err.ensures.asked free (ap (λ (m : Refusal). let x : Result (Unit {0}) Refusal = Err m in x) e) in cc))
+    manager_refused see {A = Unit {0}} (Steps.Abandon c.args.gtrid) c.args.self.now c.abandon.new.self c.in-Err.refusal c.refused.result tt tt
+    (λ tr. refl) (λ tr. tt) c.refused.ensures c.in-Err.ensures.refused
+    (λ free. only_memory (Adds c.args.gtrid (voted_yes (book_in c.args.self.now.manager) c.args.gtrid)) (InDecide c.args.gtrid)
+    (c.in-Err.ensures.err free) (λ e. let asked = c.in-Err.ensures.asked free
+    (ap (λ (m : Refusal). let x : Result (Unit {0}) Refusal = Err m in x) e) in cc))
     c.in-Err.ensures.kept

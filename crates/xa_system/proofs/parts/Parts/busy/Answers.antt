@@ -18,7 +18,8 @@ returns-in-Some g c =
     let r = c.args.rm in
     let x = c.args.xid.now in
     let v = c.args.times in
-    script_hinders see (Steps.Busy r x v) p r x c.in-Some.refusal c.refused.result c.requires.has_xid c.refused.ensures (λ tr stands. sym c.in-Some.is ∙ c.no_script.ensures.why tr stands) (λ tr. refl) (λ tr q. ap not q)
+    script_hinders see (Steps.Busy r x v) p r x c.in-Some.refusal c.refused.result c.requires.has_xid c.refused.ensures
+    (λ tr stands. sym c.in-Some.is ∙ c.no_script.ensures.why tr stands) (λ tr. refl) (λ tr q. ap not q)
 
 pub returns : goal.returns
 returns g c tr stands few =
@@ -28,8 +29,10 @@ returns g c tr stands few =
     let x = c.args.xid.now in
     let v = c.args.times in
     let at = rm_read see tr p r c.index_mut.result.now stands (c.no_script.ensures.there c.in_default.is) c.index_mut.ensures.value in
-    script_told see tr (Steps.Busy r x v) (λ b. PutOff b v) p r c.index_mut.result.now c.retry.new.self c.noted.result x (retrying v) c.retry.result stands c.requires.has_xid at c.noted.ensures (λ tr stands. sym c.in_default.is ∙ c.no_script.ensures.why tr stands) refl
+    script_told see tr (Steps.Busy r x v) (λ b. PutOff b v) p r c.index_mut.result.now c.retry.new.self c.noted.result x
+    (retrying v) c.retry.result stands c.requires.has_xid at c.noted.ensures (λ tr stands. sym c.in_default.is ∙ c.no_script.ensures.why tr stands) refl
     (λ b named here told. absurd (never_scripts c.retry.result told c.retry.ensures.never_script))
     (λ b named here other. ap not (is_there r (name_of x) b named here))
-    refl tt (λ b named. ap (λ m. known.happened (Steps.Busy r m v) Replies.Noted) named) c.requires.has_xid (λ b. put_off tr b v) (λ b. put_off_script tr b v) (λ b l. refl) (λ b l. refl) (λ b l. refl) (λ b l. refl) (λ b. stands.book)
+    refl tt (λ b named. ap (λ m. known.happened (Steps.Busy r m v) Replies.Noted) named) c.requires.has_xid (λ b. put_off tr b v)
+    (λ b. put_off_script tr b v) (λ b l. refl) (λ b l. refl) (λ b l. refl) (λ b l. refl) (λ b. stands.book)
     c.retry.ensures.held c.retry.ensures.err c.retry.ensures.scans

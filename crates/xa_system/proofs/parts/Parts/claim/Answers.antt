@@ -12,5 +12,6 @@ returns-in-Ok g c =
 pub returns-in-Err : goal.returns-in-Err
 returns-in-Err g c =
     let see : Sees g.row.R.Denot g.row.L.Denot = sees g.R.ResourceManager.held_of g.R.ResourceManager.scan_of g.R.ResourceManager.in_doubt_of g.L.DecisionLog in
-    manager_refused see {A = Unit {0}} (Steps.Claim c.args.gtrid) c.args.self.now c.claim.new.self c.in-Err.refusal c.refused.result tt tt (λ tr. refl) (λ tr. tt) c.refused.ensures c.in-Err.ensures.refused c.in-Err.ensures.err
+    manager_refused see {A = Unit {0}} (Steps.Claim c.args.gtrid) c.args.self.now c.claim.new.self c.in-Err.refusal c.refused.result tt tt
+    (λ tr. refl) (λ tr. tt) c.refused.ensures c.in-Err.ensures.refused c.in-Err.ensures.err
     (λ other. c.in-Err.ensures.log)

@@ -43,7 +43,8 @@ returns-then-not-index g c =
     let there = sym c.has_line.ensures ∙ c.if-not-has_line.false in
     let up = sym c.is_up.ensures ∙ c.if-not-is_up.false in
     refused_goes see (Steps.Hear t r) p c.refused-then-not-index.result Refusals.RmDown tt c.refused-then-not-index.ensures
-    (λ tr stands. hear_found see tr p t r true false there up (sym (stands.sites r c.index.result.now (site_read see tr p t r c.index.result.now stands there c.index.ensures)).is_up ∙ c.if-not-index.true) stands)
+    (λ tr stands. hear_found see tr p t r true false there up
+    (sym (stands.sites r c.index.result.now (site_read see tr p t r c.index.result.now stands there c.index.ensures)).is_up ∙ c.if-not-index.true) stands)
 
 pub returns-in_default : goal.returns-in_default
 returns-in_default g c tr stands few =
@@ -53,8 +54,11 @@ returns-in_default g c tr stands few =
     let r = c.args.rm in
     let there = sym c.has_line.ensures ∙ c.if-not-has_line.false in
     let up = sym c.is_up.ensures ∙ c.if-not-is_up.false in
-    let none = hear_found see tr p t r true true there up (sym (stands.sites r c.index.result.now (site_read see tr p t r c.index.result.now stands there c.index.ensures)).is_up ∙ c.if-not-index.false) stands in
-    hear_nothing see tr p t r stands there none c.new.result c.new.ensures (sym (ap option_copied c.in_default.is) ∙ c.front_answer.ensures ∙ ap (λ (l : Traffic). slice_get l.answers.waiting 0) c.line.ensures.value)
+    let none =
+    hear_found see tr p t r true true there up
+    (sym (stands.sites r c.index.result.now (site_read see tr p t r c.index.result.now stands there c.index.ensures)).is_up ∙ c.if-not-index.false) stands in
+    hear_nothing see tr p t r stands there none c.new.result c.new.ensures
+    (sym (ap option_copied c.in_default.is) ∙ c.front_answer.ensures ∙ ap (λ (l : Traffic). slice_get l.answers.waiting 0) c.line.ensures.value)
 
 pub returns-in_default-copy : goal.returns-in_default-copy
 returns-in_default-copy g c tr stands few =
@@ -64,7 +68,9 @@ returns-in_default-copy g c tr stands few =
     let r = c.args.rm in
     let there = sym c.has_line.ensures ∙ c.if-not-has_line.false in
     let up = sym c.is_up.ensures ∙ c.if-not-is_up.false in
-    let none = hear_found see tr p t r true true there up (sym (stands.sites r c.index.result.now (site_read see tr p t r c.index.result.now stands there c.index.ensures)).is_up ∙ c.if-not-index.false) stands in
+    let none =
+    hear_found see tr p t r true true there up
+    (sym (stands.sites r c.index.result.now (site_read see tr p t r c.index.result.now stands there c.index.ensures)).is_up ∙ c.if-not-index.false) stands in
     let first = sym (ap option_copied c.in-Some.is) ∙ c.front_answer.ensures ∙ ap (λ (l : Traffic). slice_get l.answers.waiting 0) c.line.ensures.value in
     hear_lacks see tr p t r stands there none c.in-Some.field-0.now.0 c.in-Some.field-0.now.1 p.manager c.refused-in_default-copy.result first c.refused-in_default-copy.ensures refl refl
 
@@ -84,7 +90,9 @@ hear-requires-clause-answers g c =
     let stands = c.requires.1 in
     let there = sym c.has_line.ensures ∙ c.if-not-has_line.false in
     let up = sym c.is_up.ensures ∙ c.if-not-is_up.false in
-    let none = hear_found see tr p t r true true there up (sym (stands.sites r c.index.result.now (site_read see tr p t r c.index.result.now stands there c.index.ensures)).is_up ∙ c.if-not-index.false) stands in
+    let none =
+    hear_found see tr p t r true true there up
+    (sym (stands.sites r c.index.result.now (site_read see tr p t r c.index.result.now stands there c.index.ensures)).is_up ∙ c.if-not-index.false) stands in
     let first = sym (ap option_copied c.in-Some.is) ∙ c.front_answer.ensures ∙ ap (λ (l : Traffic). slice_get l.answers.waiting 0) c.line.ensures.value in
     hear_answers see tr p t r stands there none c.in-Some.field-0.now.0 c.in-Some.field-0.now.1 first
 
@@ -98,7 +106,9 @@ hear-requires-clause-fits g c =
     let stands = c.requires.1 in
     let there = sym c.has_line.ensures ∙ c.if-not-has_line.false in
     let up = sym c.is_up.ensures ∙ c.if-not-is_up.false in
-    let none = hear_found see tr p t r true true there up (sym (stands.sites r c.index.result.now (site_read see tr p t r c.index.result.now stands there c.index.ensures)).is_up ∙ c.if-not-index.false) stands in
+    let none =
+    hear_found see tr p t r true true there up
+    (sym (stands.sites r c.index.result.now (site_read see tr p t r c.index.result.now stands there c.index.ensures)).is_up ∙ c.if-not-index.false) stands in
     let first = sym (ap option_copied c.in-Some.is) ∙ c.front_answer.ensures ∙ ap (λ (l : Traffic). slice_get l.answers.waiting 0) c.line.ensures.value in
     hear_fits see tr p t r stands there none c.in-Some.field-0.now.0 c.in-Some.field-0.now.1 first c.requires.2
 
@@ -110,10 +120,14 @@ returns-in-Ok-hear g c tr stands few =
     let r = c.args.rm in
     let there = sym c.has_line.ensures ∙ c.if-not-has_line.false in
     let up = sym c.is_up.ensures ∙ c.if-not-is_up.false in
-    let none = hear_found see tr p t r true true there up (sym (stands.sites r c.index.result.now (site_read see tr p t r c.index.result.now stands there c.index.ensures)).is_up ∙ c.if-not-index.false) stands in
+    let none =
+    hear_found see tr p t r true true there up
+    (sym (stands.sites r c.index.result.now (site_read see tr p t r c.index.result.now stands there c.index.ensures)).is_up ∙ c.if-not-index.false) stands in
     let first = sym (ap option_copied c.in-Some.is) ∙ c.front_answer.ensures ∙ ap (λ (l : Traffic). slice_get l.answers.waiting 0) c.line.ensures.value in
     let did = subst (λ (l : Traffic). HearsOne c.in-Some.field-0.now l c.heard.new.line c.heard.result) c.line_mut.ensures.value
-    (some_and (λ pair. HearsOne pair c.line_mut.result.now c.heard.new.line c.heard.result) (slice_get c.line_mut.result.now.answers.waiting 0) c.in-Some.field-0.now (first ∙ ap (λ (l : Traffic). slice_get l.answers.waiting 0) (sym c.line_mut.ensures.value)) c.heard.ensures) in
+    (some_and (λ pair. HearsOne pair c.line_mut.result.now c.heard.new.line c.heard.result)
+    (slice_get c.line_mut.result.now.answers.waiting 0) c.in-Some.field-0.now
+    (first ∙ ap (λ (l : Traffic). slice_get l.answers.waiting 0) (sym c.line_mut.ensures.value)) c.heard.ensures) in
     hear_did see tr p t r stands there none c.in-Some.field-0.now.0 c.in-Some.field-0.now.1 c.heard.new.line c.hear.new.self c.heard.result first did.reply_is c.in-Ok-hear.ensures.ok did.heard did.calls
     (record { order = c.in-Ok-hear.ensures.order; honest = c.in-Ok-hear.ensures.honest; tied = c.in-Ok-hear.ensures.tied; faults = λ o h t. c.in-Ok-hear.ensures.faults })
 
@@ -125,8 +139,13 @@ returns-in-Err g c tr stands few =
     let r = c.args.rm in
     let there = sym c.has_line.ensures ∙ c.if-not-has_line.false in
     let up = sym c.is_up.ensures ∙ c.if-not-is_up.false in
-    let none = hear_found see tr p t r true true there up (sym (stands.sites r c.index.result.now (site_read see tr p t r c.index.result.now stands there c.index.ensures)).is_up ∙ c.if-not-index.false) stands in
+    let none =
+    hear_found see tr p t r true true there up
+    (sym (stands.sites r c.index.result.now (site_read see tr p t r c.index.result.now stands there c.index.ensures)).is_up ∙ c.if-not-index.false) stands in
     let first = sym (ap option_copied c.in-Some.is) ∙ c.front_answer.ensures ∙ ap (λ (l : Traffic). slice_get l.answers.waiting 0) c.line.ensures.value in
     hear_undone see tr p t r stands there none c.in-Some.field-0.now.0 c.in-Some.field-0.now.1 c.in-Err.refusal c.undone.new.sites c.undone.new.lines c.hear.new.self c.undone.result first c.undone.ensures.reply
-    (sym (book_up see tr p stands) ∙ up) (c.in-Err.ensures.err up) (λ e. recorded_answer (map_call name_of c.in-Some.field-0.now.0) c.in-Some.field-0.now.1 (c.in-Err.ensures.asked (ap (λ (m : Refusal). let x : Result (Unit {0}) Refusal = Err m in x) e))) c.undone.ensures.failed c.undone.ensures.broken c.undone.ensures.sites_stay c.undone.ensures.lines_stay
-    (λ known is_known. log_undone see.logs c.in-Err.refusal _ p.manager c.hear.new.self (c.in-Err.ensures.asks known is_known) c.in-Err.ensures.tied c.in-Err.ensures.kept)
+    (sym (book_up see tr p stands) ∙ up) (c.in-Err.ensures.err up)
+    (λ e. recorded_answer (map_call name_of c.in-Some.field-0.now.0) c.in-Some.field-0.now.1
+    (c.in-Err.ensures.asked (ap (λ (m : Refusal). let x : Result (Unit {0}) Refusal = Err m in x) e))) c.undone.ensures.failed c.undone.ensures.broken c.undone.ensures.sites_stay c.undone.ensures.lines_stay
+    (λ known is_known. log_undone see.logs c.in-Err.refusal _ p.manager c.hear.new.self
+    (c.in-Err.ensures.asks known is_known) c.in-Err.ensures.tied c.in-Err.ensures.kept)

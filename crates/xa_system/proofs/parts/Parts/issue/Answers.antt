@@ -55,7 +55,9 @@ returns-then-not-index g c =
     let there = sym c.has_line.ensures ∙ c.if-not-has_line.false in
     let up = sym c.is_up.ensures ∙ c.if-not-is_up.false in
     refused_goes see (Steps.Issue t r call) p c.refused-then-not-index.result Refusals.RmDown c.requires.has_xid c.refused-then-not-index.ensures
-    (λ tr stands. issue_found see tr p t r c.index.result.now call stands there up (site_read see tr p t r c.index.result.now stands there c.index.ensures) ∙ ap (λ u. issue_why true true u (barred (issued (line_at p.lines t r)) call) (refusal_in (book_in p.manager) (Steps.Issue t r (map_call name_of call))) (nat_le 64 (length (line_at p.lines t r).calls.waiting))) c.if-not-index.true)
+    (λ tr stands. issue_found see tr p t r c.index.result.now call stands there up
+    (site_read see tr p t r c.index.result.now stands there c.index.ensures)
+    ∙ ap (λ u. issue_why true true u (barred (issued (line_at p.lines t r)) call) (refusal_in (book_in p.manager) (Steps.Issue t r (map_call name_of call))) (nat_le 64 (length (line_at p.lines t r).calls.waiting))) c.if-not-index.true)
 
 pub returns-in-Some : goal.returns-in-Some
 returns-in-Some g c =
@@ -68,7 +70,10 @@ returns-in-Some g c =
     let up = sym c.is_up.ensures ∙ c.if-not-is_up.false in
     let barred_so = sym (c.bar.ensures ∙ ap (λ l. barred (issued l) call) c.line.ensures.value) ∙ c.in-Some.is in
     refused_goes see (Steps.Issue t r call) p c.refused-in-Some.result c.in-Some.refusal c.requires.has_xid c.refused-in-Some.ensures
-    (λ tr stands. issue_found see tr p t r c.index.result.now call stands there up (site_read see tr p t r c.index.result.now stands there c.index.ensures) ∙ λ i. issue_why true true (c.if-not-index.false i) (barred_so i) (refusal_in (book_in p.manager) (Steps.Issue t r (map_call name_of call))) (nat_le 64 (length (line_at p.lines t r).calls.waiting)))
+    (λ tr stands. issue_found see tr p t r c.index.result.now call stands there up
+    (site_read see tr p t r c.index.result.now stands there c.index.ensures)
+    ∙ λ i. issue_why true true (c.if-not-index.false i) (barred_so i)
+    (refusal_in (book_in p.manager) (Steps.Issue t r (map_call name_of call))) (nat_le 64 (length (line_at p.lines t r).calls.waiting)))
 
 pub returns-in-Some-may_issue : goal.returns-in-Some-may_issue
 returns-in-Some-may_issue g c =
@@ -81,7 +86,10 @@ returns-in-Some-may_issue g c =
     let up = sym c.is_up.ensures ∙ c.if-not-is_up.false in
     let barred_so = sym (c.bar.ensures ∙ ap (λ l. barred (issued l) call) c.line.ensures.value) ∙ c.in_default.is in
     refused_goes see (Steps.Issue t r call) p c.refused-in-Some-may_issue.result c.in-Some-may_issue.refusal c.requires.has_xid c.refused-in-Some-may_issue.ensures
-    (λ tr stands. issue_found see tr p t r c.index.result.now call stands there up (site_read see tr p t r c.index.result.now stands there c.index.ensures) ∙ λ i. issue_why true true (c.if-not-index.false i) (barred_so i) ((sym c.may_issue.ensures ∙ c.in-Some-may_issue.is) i) (nat_le 64 (length (line_at p.lines t r).calls.waiting)))
+    (λ tr stands. issue_found see tr p t r c.index.result.now call stands there up
+    (site_read see tr p t r c.index.result.now stands there c.index.ensures)
+    ∙ λ i. issue_why true true (c.if-not-index.false i) (barred_so i) ((sym c.may_issue.ensures ∙ c.in-Some-may_issue.is) i)
+    (nat_le 64 (length (line_at p.lines t r).calls.waiting)))
 
 pub returns-then-free_calls-eq0 : goal.returns-then-free_calls-eq0
 returns-then-free_calls-eq0 g c =
@@ -94,9 +102,13 @@ returns-then-free_calls-eq0 g c =
     let up = sym c.is_up.ensures ∙ c.if-not-is_up.false in
     let barred_so = sym (c.bar.ensures ∙ ap (λ l. barred (issued l) call) c.line.ensures.value) ∙ c.in_default.is in
     let free = sym c.may_issue.ensures ∙ c.in_default-may_issue.is in
-    let full = is_full_at c.free_calls.result (length (line_at p.lines t r).calls.waiting) (rw c.line-2.ensures.value at c.free_calls.ensures) c.if-free_calls-eq0.true in
+    let full =
+    is_full_at c.free_calls.result (length (line_at p.lines t r).calls.waiting)
+    (rw c.line-2.ensures.value at c.free_calls.ensures) c.if-free_calls-eq0.true in
     refused_goes see (Steps.Issue t r call) p c.refused-then-free_calls-eq0.result Refusals.Full c.requires.has_xid c.refused-then-free_calls-eq0.ensures
-    (λ tr stands. issue_found see tr p t r c.index.result.now call stands there up (site_read see tr p t r c.index.result.now stands there c.index.ensures) ∙ λ i. issue_why true true (c.if-not-index.false i) (barred_so i) (free i) (full i))
+    (λ tr stands. issue_found see tr p t r c.index.result.now call stands there up
+    (site_read see tr p t r c.index.result.now stands there c.index.ensures)
+    ∙ λ i. issue_why true true (c.if-not-index.false i) (barred_so i) (free i) (full i))
 
 pub returns-in-Err : goal.returns-in-Err
 returns-in-Err g c tr stands few =
@@ -109,9 +121,14 @@ returns-in-Err g c tr stands few =
     let up = sym c.is_up.ensures ∙ c.if-not-is_up.false in
     let barred_so = sym (c.bar.ensures ∙ ap (λ l. barred (issued l) call) c.line.ensures.value) ∙ c.in_default.is in
     let free = sym c.may_issue.ensures ∙ c.in_default-may_issue.is in
-    let full = has_room_at c.free_calls.result (length (line_at p.lines t r).calls.waiting) (rw c.line-2.ensures.value at c.free_calls.ensures) c.if-free_calls-eq0.false in
-    let none = issue_found see tr p t r c.index.result.now call stands there up (site_read see tr p t r c.index.result.now stands there c.index.ensures) ∙ λ i. issue_why true true (c.if-not-index.false i) (barred_so i) (free i) (full i) in
-    lacking_goes see tr (Steps.Issue t r call) p c.note_issued.new.self c.refused-in-Err.result stands c.requires.has_xid (c.refused-in-Err.ensures ∙ ap (λ n. Replies.Refused n) c.in-Err.ensures.err.0) none tt c.in-Err.ensures.err.1 c.in-Err.ensures.log
+    let full =
+    has_room_at c.free_calls.result (length (line_at p.lines t r).calls.waiting)
+    (rw c.line-2.ensures.value at c.free_calls.ensures) c.if-free_calls-eq0.false in
+    let none =
+    issue_found see tr p t r c.index.result.now call stands there up (site_read see tr p t r c.index.result.now stands there c.index.ensures)
+    ∙ λ i. issue_why true true (c.if-not-index.false i) (barred_so i) (free i) (full i) in
+    lacking_goes see tr (Steps.Issue t r call) p c.note_issued.new.self c.refused-in-Err.result stands c.requires.has_xid
+    (c.refused-in-Err.ensures ∙ ap (λ n. Replies.Refused n) c.in-Err.ensures.err.0) none tt c.in-Err.ensures.err.1 c.in-Err.ensures.log
 
 pub returns : goal.returns
 returns g c tr stands few =
@@ -124,7 +141,12 @@ returns g c tr stands few =
     let up = sym c.is_up.ensures ∙ c.if-not-is_up.false in
     let barred_so = sym (c.bar.ensures ∙ ap (λ l. barred (issued l) call) c.line.ensures.value) ∙ c.in_default.is in
     let free = sym c.may_issue.ensures ∙ c.in_default-may_issue.is in
-    let full = has_room_at c.free_calls.result (length (line_at p.lines t r).calls.waiting) (rw c.line-2.ensures.value at c.free_calls.ensures) c.if-free_calls-eq0.false in
-    let none = issue_found see tr p t r c.index.result.now call stands there up (site_read see tr p t r c.index.result.now stands there c.index.ensures) ∙ λ i. issue_why true true (c.if-not-index.false i) (barred_so i) (free i) (full i) in
-    let put = line_took (line_at p.lines t r) c.line_mut.result.now call c.copy.result c.issue.result c.issue.new.self c.line_mut.ensures.value c.copy.ensures c.issue.ensures.reason c.issue.ensures.accepted barred_so full in
+    let full =
+    has_room_at c.free_calls.result (length (line_at p.lines t r).calls.waiting)
+    (rw c.line-2.ensures.value at c.free_calls.ensures) c.if-free_calls-eq0.false in
+    let none =
+    issue_found see tr p t r c.index.result.now call stands there up (site_read see tr p t r c.index.result.now stands there c.index.ensures)
+    ∙ λ i. issue_why true true (c.if-not-index.false i) (barred_so i) (free i) (full i) in
+    let put =
+    line_took (line_at p.lines t r) c.line_mut.result.now call c.copy.result c.issue.result c.issue.new.self c.line_mut.ensures.value c.copy.ensures c.issue.ensures.reason c.issue.ensures.accepted barred_so full in
     issue_did see p t r call c.index.result.now c.issue.new.self c.note_issued.new.self c.new.result c.requires.has_xid c.new.ensures there up free c.in_default-note_issued.ensures.ok c.in_default-note_issued.ensures.log put tr stands none

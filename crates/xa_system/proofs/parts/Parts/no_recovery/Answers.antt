@@ -51,7 +51,8 @@ returns-then-is_full_for g c tr stands =
     let found = recovery_found see tr p r c.args.count c.index.result.now stands within (rm_read see tr p r c.index.result.now stands within c.index.ensures) in
     let open_so = ap (λ l. has_opened (issued l)) (sym c.line-line.ensures.value) ∙ sym c.is_open.ensures ∙ c.if-not-is_open.false in
     let closed_so = ap (λ l. has_closed (issued l)) (sym c.line-line.ensures.value) ∙ sym c.is_closed.ensures ∙ c.if-is_closed.false in
-    let full_so = ap (λ l. nat_lt 64 (length l.calls.waiting + c.args.count)) (sym c.line-line.ensures.value) ∙ sym c.is_full_for.ensures ∙ c.if-is_full_for.true in
+    let full_so =
+    ap (λ l. nat_lt 64 (length l.calls.waiting + c.args.count)) (sym c.line-line.ensures.value) ∙ sym c.is_full_for.ensures ∙ c.if-is_full_for.true in
     sym (found ∙ λ i. recovery_why true (up i) (c.if-not-index.false i) (not (open_so i)) (closed_so i) (full_so i))
 
 pub returns : goal.returns
@@ -64,5 +65,6 @@ returns g c tr stands =
     let found = recovery_found see tr p r c.args.count c.index.result.now stands within (rm_read see tr p r c.index.result.now stands within c.index.ensures) in
     let open_so = ap (λ l. has_opened (issued l)) (sym c.line-line.ensures.value) ∙ sym c.is_open.ensures ∙ c.if-not-is_open.false in
     let closed_so = ap (λ l. has_closed (issued l)) (sym c.line-line.ensures.value) ∙ sym c.is_closed.ensures ∙ c.if-is_closed.false in
-    let full_so = ap (λ l. nat_lt 64 (length l.calls.waiting + c.args.count)) (sym c.line-line.ensures.value) ∙ sym c.is_full_for.ensures ∙ c.if-is_full_for.false in
+    let full_so =
+    ap (λ l. nat_lt 64 (length l.calls.waiting + c.args.count)) (sym c.line-line.ensures.value) ∙ sym c.is_full_for.ensures ∙ c.if-is_full_for.false in
     sym (found ∙ λ i. recovery_why true (up i) (c.if-not-index.false i) (not (open_so i)) (closed_so i) (full_so i))

@@ -21,11 +21,14 @@ returns-in-Ok g c tr stands few =
     let see : Sees g.row.R.Denot g.row.L.Denot = sees g.R.ResourceManager.held_of g.R.ResourceManager.scan_of g.R.ResourceManager.in_doubt_of g.L.DecisionLog in
     let p = c.args.self.now in
     restart_did see p c.restart.new.self c.in-Ok.field-0.incarnation c.in-Ok.field-0.decisions c.in-Ok.field-0.heuristics c.new.result c.new.ensures c.in-Ok.ensures.down c.in-Ok.ensures.ok c.in-Ok.ensures.found c.in-Ok.ensures.most
-    (λ tr. log_done see.logs {A = Found} (Restarted c.in-Ok.field-0.incarnation c.in-Ok.field-0.decisions c.in-Ok.field-0.heuristics) c.in-Ok.field-0 p.manager c.restart.new.self (λ n. refl) (record { order = c.in-Ok.ensures.order; honest = c.in-Ok.ensures.honest; tied = c.in-Ok.ensures.tied; faults = c.in-Ok.ensures.faults })) tr stands
+    (λ tr. log_done see.logs {A = Found}
+    (Restarted c.in-Ok.field-0.incarnation c.in-Ok.field-0.decisions c.in-Ok.field-0.heuristics) c.in-Ok.field-0 p.manager c.restart.new.self
+    (λ n. refl) (record { order = c.in-Ok.ensures.order; honest = c.in-Ok.ensures.honest; tied = c.in-Ok.ensures.tied; faults = c.in-Ok.ensures.faults })) tr stands
 
 pub returns-in-Err : goal.returns-in-Err
 returns-in-Err g c tr stands few =
     let see : Sees g.row.R.Denot g.row.L.Denot = sees g.R.ResourceManager.held_of g.R.ResourceManager.scan_of g.R.ResourceManager.in_doubt_of g.L.DecisionLog in
     let p = c.args.self.now in
-    restart_undone see p c.restart.new.self c.in-Err.refusal c.refused.result c.refused.ensures (λ e. (err_is {A = Found} _ _ (c.in-Err.ensures.busy e).0, ap book_in (c.in-Err.ensures.busy e).1)) c.in-Err.ensures.err
+    restart_undone see p c.restart.new.self c.in-Err.refusal c.refused.result c.refused.ensures
+    (λ e. (err_is {A = Found} _ _ (c.in-Err.ensures.busy e).0, ap book_in (c.in-Err.ensures.busy e).1)) c.in-Err.ensures.err
     (record { called = record { order = c.in-Err.ensures.order; honest = c.in-Err.ensures.honest; tied = c.in-Err.ensures.tied; faults = c.in-Err.ensures.faults }; kept = c.in-Err.ensures.kept; failed = λ is order honest. c.in-Err.ensures.fault order honest (ap (λ (m : Refusal). let x : Result Found Refusal = Err m in x) is) }) tr stands

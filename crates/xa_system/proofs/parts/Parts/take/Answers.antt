@@ -19,7 +19,8 @@ returns-then-not-index g c =
     let p = c.args.self.now in
     let there = sym c.has_line.ensures ∙ c.if-not-has_line.false in
     refused_goes see (Steps.Take c.args.thread c.args.rm) p c.refused-then-not-index.result Refusals.RmDown tt c.refused-then-not-index.ensures
-    (λ tr stands. take_down see tr p c.args.thread c.args.rm c.index.result.now there (site_read see tr p c.args.thread c.args.rm c.index.result.now stands there c.index.ensures) c.if-not-index.true stands)
+    (λ tr stands. take_down see tr p c.args.thread c.args.rm c.index.result.now there
+    (site_read see tr p c.args.thread c.args.rm c.index.result.now stands there c.index.ensures) c.if-not-index.true stands)
 
 pub returns-then-free_answers-eq0 : goal.returns-then-free_answers-eq0
 returns-then-free_answers-eq0 g c =
@@ -27,7 +28,8 @@ returns-then-free_answers-eq0 g c =
     let p = c.args.self.now in
     let there = sym c.has_line.ensures ∙ c.if-not-has_line.false in
     refused_goes see (Steps.Take c.args.thread c.args.rm) p c.refused-then-free_answers-eq0.result Refusals.Full tt c.refused-then-free_answers-eq0.ensures
-    (λ tr stands. take_full see tr p c.args.thread c.args.rm c.index.result.now c.free_answers.result there (site_read see tr p c.args.thread c.args.rm c.index.result.now stands there c.index.ensures) c.if-not-index.false
+    (λ tr stands. take_full see tr p c.args.thread c.args.rm c.index.result.now c.free_answers.result there
+    (site_read see tr p c.args.thread c.args.rm c.index.result.now stands there c.index.ensures) c.if-not-index.false
     (rw c.line.ensures.value at c.free_answers.ensures) c.if-free_answers-eq0.true stands)
 
 pub returns : goal.returns
@@ -37,5 +39,7 @@ returns g c tr stands few =
     let there = sym c.has_line.ensures ∙ c.if-not-has_line.false in
     let at = site_read see tr p c.args.thread c.args.rm c.index_mut.result.now stands there c.index_mut.ensures.value in
     let seen = site_read see tr p c.args.thread c.args.rm c.index.result.now stands there c.index.ensures in
-    take_leads see p c.args.thread c.args.rm c.index_mut.result.now c.take.new.rm c.take.new.line c.take.result at (rw c.line_mut-line.ensures.value at c.take.ensures) tr stands few
-    (take_may see tr p c.args.thread c.args.rm c.index.result.now c.free_answers.result there seen c.if-not-index.false (rw c.line.ensures.value at c.free_answers.ensures) c.if-free_answers-eq0.false stands)
+    take_leads see p c.args.thread c.args.rm c.index_mut.result.now c.take.new.rm c.take.new.line c.take.result at
+    (rw c.line_mut-line.ensures.value at c.take.ensures) tr stands few
+    (take_may see tr p c.args.thread c.args.rm c.index.result.now c.free_answers.result there seen c.if-not-index.false
+    (rw c.line.ensures.value at c.free_answers.ensures) c.if-free_answers-eq0.false stands)

@@ -17,7 +17,8 @@ returns-in-Some g c =
     let r = c.args.rm in
     let x = c.args.xid.now in
     let v = c.args.vote in
-    script_hinders see (Steps.Vote r x v) p r x c.in-Some.refusal c.refused.result c.requires.has_xid c.refused.ensures (λ tr stands. sym c.in-Some.is ∙ c.no_script.ensures.why tr stands) (λ tr. refl) (λ tr q. vote_elsewhere tr r (name_of x) v q)
+    script_hinders see (Steps.Vote r x v) p r x c.in-Some.refusal c.refused.result c.requires.has_xid c.refused.ensures
+    (λ tr stands. sym c.in-Some.is ∙ c.no_script.ensures.why tr stands) (λ tr. refl) (λ tr q. vote_elsewhere tr r (name_of x) v q)
 
 pub returns : goal.returns
 returns g c tr stands few =
@@ -27,8 +28,12 @@ returns g c tr stands few =
     let x = c.args.xid.now in
     let v = c.args.vote in
     let at = rm_read see tr p r c.index_mut.result.now stands (c.no_script.ensures.there c.in_default.is) c.index_mut.ensures.value in
-    script_told see tr (Steps.Vote r x v) (λ b. Voted b v) p r c.index_mut.result.now c.vote.new.self c.noted.result x (voting v) c.vote.result stands c.requires.has_xid at c.noted.ensures (λ tr stands. sym c.in_default.is ∙ c.no_script.ensures.why tr stands) refl
-    (λ b named here told. vote_bad tr r (name_of x) b v (g.R.ResourceManager.held_of c.index_mut.result.now.rm x).standing named here (held_here see tr p r c.index_mut.result.now x b at c.requires.has_xid named here stands) (c.vote.ensures.script.0 told))
-    (λ b named here other. vote_fine tr r (name_of x) b v (g.R.ResourceManager.held_of c.index_mut.result.now.rm x).standing named here (held_here see tr p r c.index_mut.result.now x b at c.requires.has_xid named here stands) (λ e. other (c.vote.ensures.script.1 e)))
-    refl tt (λ b named. ap (λ m. known.happened (Steps.Vote r m v) Replies.Noted) named) c.requires.has_xid (λ b. voted tr b v) (λ b. voted_script tr b v) (λ b l. refl) (λ b l. refl) (λ b l. refl) (λ b l. refl) (λ b. stands.book)
+    script_told see tr (Steps.Vote r x v) (λ b. Voted b v) p r c.index_mut.result.now c.vote.new.self c.noted.result x
+    (voting v) c.vote.result stands c.requires.has_xid at c.noted.ensures (λ tr stands. sym c.in_default.is ∙ c.no_script.ensures.why tr stands) refl
+    (λ b named here told. vote_bad tr r (name_of x) b v (g.R.ResourceManager.held_of c.index_mut.result.now.rm x).standing named here
+    (held_here see tr p r c.index_mut.result.now x b at c.requires.has_xid named here stands) (c.vote.ensures.script.0 told))
+    (λ b named here other. vote_fine tr r (name_of x) b v (g.R.ResourceManager.held_of c.index_mut.result.now.rm x).standing named here
+    (held_here see tr p r c.index_mut.result.now x b at c.requires.has_xid named here stands) (λ e. other (c.vote.ensures.script.1 e)))
+    refl tt (λ b named. ap (λ m. known.happened (Steps.Vote r m v) Replies.Noted) named) c.requires.has_xid (λ b. voted tr b v)
+    (λ b. voted_script tr b v) (λ b l. refl) (λ b l. refl) (λ b l. refl) (λ b l. refl) (λ b. stands.book)
     c.vote.ensures.held c.vote.ensures.err c.vote.ensures.scans

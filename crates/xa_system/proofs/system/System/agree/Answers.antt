@@ -15,4 +15,5 @@ pub returns-clause-headline : goal.returns-clause-headline
 returns-clause-headline g c =
     let see : Sees g.row.R.Denot g.row.L.Denot = sees g.R.ResourceManager.held_of g.R.ResourceManager.scan_of g.R.ResourceManager.in_doubt_of g.L.DecisionLog in
     subst (λ v. Headline (origin_in see.look v) v.events) c.self.view_is
-    (c.headline_holds.ensures (origin_in see.look (seen c.self.inside)) (seen c.self.inside).events (start_right see c.self.inside c.self.invariant) c.self.invariant.demanded)
+    (c.headline_holds.ensures (origin_in see.look (seen c.self.inside)) (seen c.self.inside).events
+    (start_right see c.self.inside c.self.invariant) c.self.invariant.demanded)

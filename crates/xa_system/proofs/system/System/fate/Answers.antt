@@ -13,4 +13,5 @@ returns-in_Some-branch-clause-own g c b own e =
     let found = c.in_Some-branch.branch in
     let at = site_read see _ c.self.inside.parts found.thread found.rm c.index.result.now c.self.invariant.stands there c.index.ensures in
     subst (λ v. c.fate.result ≡ fate (trace_in see.look v) b) c.self.view_is
-    (c.fate.ensures ∙ fate_is see c.self.inside c.self.invariant c.args.xid.now found b c.index.result.now (c.in_Some-branch.ensures.inverse b own.fits e) own.fits e at)
+    (c.fate.ensures ∙ fate_is see c.self.inside c.self.invariant c.args.xid.now found b c.index.result.now
+    (c.in_Some-branch.ensures.inverse b own.fits e) own.fits e at)

@@ -14,10 +14,15 @@ invariant_of-result g c =
     let clear = rw c.as_slice.ensures.value at (c.if-not-are_clear.ensures.clear refl) in
     let manager = c.in_ok-manager.manager in
     let some : 0 < c.args.threads = omega (arith, c.if-threads-eq0.false) in
-    let lines : c.in-Ok-new.lines ≡ new_grid c.args.threads (length c.args.rms.items) = c.in-Ok-new.ensures ∙ ap (new_grid c.args.threads) (c.len-2.ensures ∙ c.args.rms.ok.0) in
-    let started : IsStarted c.args.threads (length c.args.rms.items) manager = subst (λ n. IsStarted c.args.threads n manager) (c.rms.ensures.value ∙ ap (λ (g : Grid). g.rms) lines) c.in_ok-manager.ensures.manager in
-    let over : IsStartedOver see.logs c.args.threads (length c.args.rms.items) c.args.log manager = subst (λ n. IsStartedOver see.logs c.args.threads n c.args.log manager) (c.rms.ensures.value ∙ ap (λ (g : Grid). g.rms) lines) c.in_ok-manager.ensures.log in
-    new_sound see c.args.threads c.args.rms.items manager clear started (record { handed = c.of-handed.result; parts = record { alloc = c.args.alloc; start = c.of-start.result; began = c.of-began.result; sites = c.in-Ok-sites_of.sites; lines = c.in-Ok-new.lines; manager = manager }; events = c.in-Ok.events }) some (ap (λ (v : Vec g.row.R.Denot Global). v.items) c.of-start.ensures) c.of-began.ensures refl c.in-Ok-sites_of.ensures lines c.in-Ok.ensures.items c.in-Ok.ensures.len c.in-Ok.ensures.exact (subst (λ l. IsStartedOver see.logs c.args.threads (length c.args.rms.items) l manager) (sym c.of-handed.ensures) over)
+    let lines : c.in-Ok-new.lines ≡ new_grid c.args.threads (length c.args.rms.items) =
+    c.in-Ok-new.ensures ∙ ap (new_grid c.args.threads) (c.len-2.ensures ∙ c.args.rms.ok.0) in
+    let started : IsStarted c.args.threads (length c.args.rms.items) manager =
+    subst (λ n. IsStarted c.args.threads n manager) (c.rms.ensures.value ∙ ap (λ (g : Grid). g.rms) lines) c.in_ok-manager.ensures.manager in
+    let over : IsStartedOver see.logs c.args.threads (length c.args.rms.items) c.args.log manager =
+    subst (λ n. IsStartedOver see.logs c.args.threads n c.args.log manager)
+    (c.rms.ensures.value ∙ ap (λ (g : Grid). g.rms) lines) c.in_ok-manager.ensures.log in
+    new_sound see c.args.threads c.args.rms.items manager clear started
+    (record { handed = c.of-handed.result; parts = record { alloc = c.args.alloc; start = c.of-start.result; began = c.of-began.result; sites = c.in-Ok-sites_of.sites; lines = c.in-Ok-new.lines; manager = manager }; events = c.in-Ok.events }) some (ap (λ (v : Vec g.row.R.Denot Global). v.items) c.of-start.ensures) c.of-began.ensures refl c.in-Ok-sites_of.ensures lines c.in-Ok.ensures.items c.in-Ok.ensures.len c.in-Ok.ensures.exact (subst (λ l. IsStartedOver see.logs c.args.threads (length c.args.rms.items) l manager) (sym c.of-handed.ensures) over)
 
 pub returns-clause-ok : goal.returns-clause-ok
 returns-clause-ok g c =
@@ -25,10 +30,16 @@ returns-clause-ok g c =
     let clear = rw c.as_slice.ensures.value at (c.if-not-are_clear.ensures.clear refl) in
     let manager = c.in_ok-manager.manager in
     let some : 0 < c.args.threads = omega (arith, c.if-threads-eq0.false) in
-    let lines : c.in-Ok-new.lines ≡ new_grid c.args.threads (length c.args.rms.items) = c.in-Ok-new.ensures ∙ ap (new_grid c.args.threads) (c.len-2.ensures ∙ c.args.rms.ok.0) in
-    let started : IsStarted c.args.threads (length c.args.rms.items) manager = subst (λ n. IsStarted c.args.threads n manager) (c.rms.ensures.value ∙ ap (λ (g : Grid). g.rms) lines) c.in_ok-manager.ensures.manager in
-    let over : IsStartedOver see.logs c.args.threads (length c.args.rms.items) c.args.log manager = subst (λ n. IsStartedOver see.logs c.args.threads n c.args.log manager) (c.rms.ensures.value ∙ ap (λ (g : Grid). g.rms) lines) c.in_ok-manager.ensures.log in
-    let sound = new_sound see c.args.threads c.args.rms.items manager clear started (record { handed = c.of-handed.result; parts = record { alloc = c.args.alloc; start = c.of-start.result; began = c.of-began.result; sites = c.in-Ok-sites_of.sites; lines = c.in-Ok-new.lines; manager = manager }; events = c.in-Ok.events }) some (ap (λ (v : Vec g.row.R.Denot Global). v.items) c.of-start.ensures) c.of-began.ensures refl c.in-Ok-sites_of.ensures lines c.in-Ok.ensures.items c.in-Ok.ensures.len c.in-Ok.ensures.exact (subst (λ l. IsStartedOver see.logs c.args.threads (length c.args.rms.items) l manager) (sym c.of-handed.ensures) over) in (
+    let lines : c.in-Ok-new.lines ≡ new_grid c.args.threads (length c.args.rms.items) =
+    c.in-Ok-new.ensures ∙ ap (new_grid c.args.threads) (c.len-2.ensures ∙ c.args.rms.ok.0) in
+    let started : IsStarted c.args.threads (length c.args.rms.items) manager =
+    subst (λ n. IsStarted c.args.threads n manager) (c.rms.ensures.value ∙ ap (λ (g : Grid). g.rms) lines) c.in_ok-manager.ensures.manager in
+    let over : IsStartedOver see.logs c.args.threads (length c.args.rms.items) c.args.log manager =
+    subst (λ n. IsStartedOver see.logs c.args.threads n c.args.log manager)
+    (c.rms.ensures.value ∙ ap (λ (g : Grid). g.rms) lines) c.in_ok-manager.ensures.log in
+    let sound =
+    new_sound see c.args.threads c.args.rms.items manager clear started
+    (record { handed = c.of-handed.result; parts = record { alloc = c.args.alloc; start = c.of-start.result; began = c.of-began.result; sites = c.in-Ok-sites_of.sites; lines = c.in-Ok-new.lines; manager = manager }; events = c.in-Ok.events }) some (ap (λ (v : Vec g.row.R.Denot Global). v.items) c.of-start.ensures) c.of-began.ensures refl c.in-Ok-sites_of.ensures lines c.in-Ok.ensures.items c.in-Ok.ensures.len c.in-Ok.ensures.exact (subst (λ l. IsStartedOver see.logs c.args.threads (length c.args.rms.items) l manager) (sym c.of-handed.ensures) over) in (
       c.in-Ok.ensures.items,
       ap (λ (v : Vec g.row.R.Denot Global). v.items) c.of-start.ensures,
       ap (map (λ (x : Site g.row.R.Denot). x.rm)) c.in-Ok-sites_of.ensures ∙ back_again c.args.rms.items,

@@ -10,9 +10,11 @@ loop-branch-preserved g c =
     let xs = c.deref-branch-items.result.now in
     let i = c.loop-branch.branch-index in
     let low : i < length xs = omega (arith, c.loop-branch-test.true) in
-    let own = own_at see c.self.inside c.self.invariant c.args.self.now c.self.view_is xs c.in_ok-branches.branches.items i _ c.deref-branch-items.ensures.value c.in_ok-branches.ensures.all low in
+    let own =
+    own_at see c.self.inside c.self.invariant c.args.self.now c.self.view_is xs c.in_ok-branches.branches.items i _ c.deref-branch-items.ensures.value c.in_ok-branches.ensures.all low in
     record {
-      listed = one_more (trace_in see.look c.args.self.now) xs i _ c.loop-branch.list.items _ c.xid-xid.result c.fate-fate.result low c.loop-branch.invariant.listed
+      listed =
+          one_more (trace_in see.look c.args.self.now) xs i _ c.loop-branch.list.items _ c.xid-xid.result c.fate-fate.result low c.loop-branch.invariant.listed
           c.push_reserved.ensures.items c.xid-xid.ensures (c.fate-fate.ensures.own _ own c.xid-xid.ensures);
       room = search rules;
       count = search rules;

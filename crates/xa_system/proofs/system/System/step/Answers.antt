@@ -24,14 +24,17 @@ step-requires-clause-stands g c =
 pub invariant_of-self : goal.invariant_of-self
 invariant_of-self g c =
     let see : Sees g.row.R.Denot g.row.L.Denot = sees g.R.ResourceManager.held_of g.R.ResourceManager.scan_of g.R.ResourceManager.in_doubt_of g.L.DecisionLog in
-    sound_then see c.self.inside c.step.new.self c.push_reserved.new.self c.args.step c.step.result c.split-reply.result.1 c.self.invariant c.step.ensures (ap (λ p. p.1) c.split-reply.ensures) (rw c.len.ensures at c.if-len-ge-EVENT_LIMIT.false) c.push_reserved.ensures.len c.push_reserved.ensures.items c.push_reserved.ensures.capacity
+    sound_then see c.self.inside c.step.new.self c.push_reserved.new.self c.args.step c.step.result c.split-reply.result.1 c.self.invariant c.step.ensures
+    (ap (λ p. p.1) c.split-reply.ensures)
+    (rw c.len.ensures at c.if-len-ge-EVENT_LIMIT.false) c.push_reserved.ensures.len c.push_reserved.ensures.items c.push_reserved.ensures.capacity
 
 pub returns-clause-demanded : goal.returns-clause-demanded
 returns-clause-demanded g c few =
     let see : Sees g.row.R.Denot g.row.L.Denot = sees g.R.ResourceManager.held_of g.R.ResourceManager.scan_of g.R.ResourceManager.in_doubt_of g.L.DecisionLog in
     subst (λ r. Demanded (trace_in see.look c.args.self.now) (step_of c.args.step) (reply_of r)) (sym (ap (λ p. p.0) c.split-reply.ensures))
     (subst (λ v. Demanded (trace_in see.look v) (step_of c.args.step) (reply_of c.step.result)) c.self.view_is
-    (was_demanded see c.self.inside c.step.new.self c.args.step c.step.result c.self.invariant c.step.ensures (rw c.len.ensures at c.if-len-ge-EVENT_LIMIT.false)))
+    (was_demanded see c.self.inside c.step.new.self c.args.step c.step.result c.self.invariant c.step.ensures
+    (rw c.len.ensures at c.if-len-ge-EVENT_LIMIT.false)))
 
 pub returns-clause-parts : goal.returns-clause-parts
 returns-clause-parts g c =
@@ -48,12 +51,14 @@ pub returns-clause-honest : goal.returns-clause-honest
 returns-clause-honest g c =
     let see : Sees g.row.R.Denot g.row.L.Denot = sees g.R.ResourceManager.held_of g.R.ResourceManager.scan_of g.R.ResourceManager.in_doubt_of g.L.DecisionLog in
     subst (λ v. (see.logs.moment (log_in c.step.new.self.manager)).is_honest → (see.logs.moment v.log).is_honest) c.self.view_is
-    (honest_before see c.self.inside c.step.new.self c.args.step c.step.result c.self.invariant c.step.ensures (rw c.len.ensures at c.if-len-ge-EVENT_LIMIT.false))
+    (honest_before see c.self.inside c.step.new.self c.args.step c.step.result c.self.invariant c.step.ensures
+    (rw c.len.ensures at c.if-len-ge-EVENT_LIMIT.false))
 
 pub returns-clause-faults : goal.returns-clause-faults
 returns-clause-faults g c =
     let see : Sees g.row.R.Denot g.row.L.Denot = sees g.R.ResourceManager.held_of g.R.ResourceManager.scan_of g.R.ResourceManager.in_doubt_of g.L.DecisionLog in
-    subst (λ v. (see.logs.moment v.handed).is_in_order → (see.logs.moment (log_in c.step.new.self.manager)).is_honest → FaultsHaveCauses see v (seen (record { handed = c.self.inside.handed; parts = c.step.new.self; events = c.push_reserved.new.self }))) c.self.view_is
+    subst (λ v. (see.logs.moment v.handed).is_in_order → (see.logs.moment (log_in c.step.new.self.manager)).is_honest
+    → FaultsHaveCauses see v (seen (record { handed = c.self.inside.handed; parts = c.step.new.self; events = c.push_reserved.new.self }))) c.self.view_is
     (fault_has_cause see c.self.inside c.step.new.self c.push_reserved.new.self c.args.step c.step.result c.split-reply.result.1 c.self.invariant c.step.ensures (ap (λ p. p.1) c.split-reply.ensures) (rw c.len.ensures at c.if-len-ge-EVENT_LIMIT.false) c.push_reserved.ensures.items)
 
 pub returns-clause-handed : goal.returns-clause-handed
@@ -77,7 +82,8 @@ pub returns-clause-refused : goal.returns-clause-refused
 returns-clause-refused g c n is other =
     let see : Sees g.row.R.Denot g.row.L.Denot = sees g.R.ResourceManager.held_of g.R.ResourceManager.scan_of g.R.ResourceManager.in_doubt_of g.L.DecisionLog in
     subst (λ v. IsAsBefore see v (seen (record { handed = c.self.inside.handed; parts = c.step.new.self; events = c.push_reserved.new.self }))) c.self.view_is
-    (as_before see c.self.inside c.step.new.self c.push_reserved.new.self c.args.step c.step.result c.self.invariant c.step.ensures (rw c.len.ensures at c.if-len-ge-EVENT_LIMIT.false) n (sym (ap (λ p. p.0) c.split-reply.ensures) ∙ is) other)
+    (as_before see c.self.inside c.step.new.self c.push_reserved.new.self c.args.step c.step.result c.self.invariant c.step.ensures
+    (rw c.len.ensures at c.if-len-ge-EVENT_LIMIT.false) n (sym (ap (λ p. p.0) c.split-reply.ensures) ∙ is) other)
 
 pub returns-clause-nothing : goal.returns-clause-nothing
 returns-clause-nothing g c n is other =
@@ -86,10 +92,15 @@ returns-clause-nothing g c n is other =
 pub returns-clause-down : goal.returns-clause-down
 returns-clause-down g c is =
     let see : Sees g.row.R.Denot g.row.L.Denot = sees g.R.ResourceManager.held_of g.R.ResourceManager.scan_of g.R.ResourceManager.in_doubt_of g.L.DecisionLog in
-    down_after see c.self.inside c.step.new.self c.push_reserved.new.self c.args.step c.step.result c.split-reply.result.1 c.self.invariant c.step.ensures (ap (λ p. p.1) c.split-reply.ensures) (rw c.len.ensures at c.if-len-ge-EVENT_LIMIT.false) c.push_reserved.ensures.items (sym (ap (λ p. p.0) c.split-reply.ensures) ∙ is)
+    down_after see c.self.inside c.step.new.self c.push_reserved.new.self c.args.step c.step.result c.split-reply.result.1 c.self.invariant c.step.ensures
+    (ap (λ p. p.1) c.split-reply.ensures) (rw c.len.ensures at c.if-len-ge-EVENT_LIMIT.false) c.push_reserved.ensures.items
+    (sym (ap (λ p. p.0) c.split-reply.ensures) ∙ is)
 
 pub returns-clause-failed : goal.returns-clause-failed
 returns-clause-failed g c is =
     let see : Sees g.row.R.Denot g.row.L.Denot = sees g.R.ResourceManager.held_of g.R.ResourceManager.scan_of g.R.ResourceManager.in_doubt_of g.L.DecisionLog in
-    subst (λ v. (see.logs.moment v.handed).is_in_order → (see.logs.moment (log_in c.step.new.self.manager)).is_honest → MayHaveFailed (trace_in see.look v) (log_failed (step_of c.args.step)) (see.logs.moment v.log).content (see.logs.moment (log_in c.step.new.self.manager)).content) c.self.view_is
-    (failed_so see c.self.inside c.step.new.self c.args.step c.step.result c.self.invariant c.step.ensures (rw c.len.ensures at c.if-len-ge-EVENT_LIMIT.false) (sym (ap (λ p. p.0) c.split-reply.ensures) ∙ is))
+    subst (λ v. (see.logs.moment v.handed).is_in_order → (see.logs.moment (log_in c.step.new.self.manager)).is_honest
+    → MayHaveFailed (trace_in see.look v) (log_failed (step_of c.args.step)) (see.logs.moment v.log).content
+    (see.logs.moment (log_in c.step.new.self.manager)).content) c.self.view_is
+    (failed_so see c.self.inside c.step.new.self c.args.step c.step.result c.self.invariant c.step.ensures
+    (rw c.len.ensures at c.if-len-ge-EVENT_LIMIT.false) (sym (ap (λ p. p.0) c.split-reply.ensures) ∙ is))

@@ -8,6 +8,7 @@ pub returns-clause-ok : goal.returns-clause-ok
 returns-clause-ok c =
     let k = c.args.self.now in
     book_is _ _ refl refl refl refl refl refl refl
-    (claim_deals (held k) (begun_by k.is_up k.incarnation k.sequence) (transaction_at k.transactions) (transaction_at c.reserve_transaction.new.map) (transaction_at c.set_transaction.new.map) c.args.g c.transaction-transaction.result
+    (claim_deals (held k) (begun_by k.is_up k.incarnation k.sequence) (transaction_at k.transactions)
+    (transaction_at c.reserve_transaction.new.map) (transaction_at c.set_transaction.new.map) c.args.g c.transaction-transaction.result
     c.requires c.transaction-transaction.ensures c.in_ok-reserve_transaction.ensures.same c.set_transaction.ensures.at)
     (λ b. refl) refl (λ r. refl) (λ g. refl) refl (λ b. refl) refl refl

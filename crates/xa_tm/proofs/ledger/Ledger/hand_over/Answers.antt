@@ -8,6 +8,7 @@ pub returns-clause-ok : goal.returns-clause-ok
 returns-clause-ok c = λ l b of.
     let k = c.args.self.now in
     book_is _ _ refl refl refl refl refl refl refl
-    (hand_over_deals (held k) l b (begun_by k.is_up k.incarnation k.sequence) (transaction_at k.transactions) (transaction_at c.reserve_transaction.new.map) (transaction_at c.set_transaction.new.map) c.args.g c.transaction-transaction.result
+    (hand_over_deals (held k) l b (begun_by k.is_up k.incarnation k.sequence) (transaction_at k.transactions)
+    (transaction_at c.reserve_transaction.new.map) (transaction_at c.set_transaction.new.map) c.args.g c.transaction-transaction.result
     of c.transaction-transaction.ensures c.in_ok-reserve_transaction.ensures.same c.set_transaction.ensures.at)
     (λ b. refl) refl (λ r. refl) (λ g. refl) refl (λ b. refl) refl refl

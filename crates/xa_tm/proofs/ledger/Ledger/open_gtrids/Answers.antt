@@ -15,6 +15,7 @@ returns c =
     let k = held c.args.self.now in
     let xids = c.page.result.now in
     let run = items_from_collect _ c.collect.ensures.ran
-    (YieldsList-from_filter_map _ (open_gtrid_for k) (YieldsList-at c.filter_map.ensures.source (YieldsList-from_slice xids cc)) c.filter_map.ensures.closure (λ x r q h. search (rules, tests))) in
+    (YieldsList-from_filter_map _ (open_gtrid_for k)
+    (YieldsList-at c.filter_map.ensures.source (YieldsList-from_slice xids cc)) c.filter_map.ensures.closure (λ x r q h. search (rules, tests))) in
     IfOk-weaker c.collect.result (λ w. vec_items w ≡ filter_map (open_gtrid_for k) xids) _ (λ w is q.
     ap (λ gs. is_one_of gs q) is ∙ opens_are k xids q ∙ ap (λ names. lists_one_of q names && open_in k q) c.page.ensures) run

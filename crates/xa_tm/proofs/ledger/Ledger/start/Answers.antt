@@ -1,6 +1,6 @@
 use Rattle.std.proofs.Common.{refl, ◌∙◌, ap, ◌||◌}
 use Rattle.xa_log.specs.KeySet.{insert}
-use Rattle.xa_tm.specs.Held.{held, transaction_at, branch_at, begun_by}
+use Rattle.xa_tm.specs.Held.{held, transaction_at, notes_at, begun_by}
 use Rattle.xa_tm.specs.declared.notes.BranchNotes.{BranchNotes}
 use Rattle.xa_tm.proofs.Deals.{start_deals, with_equal}
 use Rattle.xa_tm.proofs.Noted.{start_notes, same_records}
@@ -14,13 +14,17 @@ returns-clause-start c = λ l.
     let m = c.reserve.new.self in
     let same = c.in_ok-reserve.ensures in
     rw same.others (book_is _ _ refl refl refl refl refl refl refl
-    (start_deals (held k) b (begun_by k.is_up k.incarnation k.sequence) (transaction_at k.transactions) (transaction_at m.transactions) (transaction_at c.set_transaction.new.map) c.transaction-transaction.result
+    (start_deals (held k) b (begun_by k.is_up k.incarnation k.sequence) (transaction_at k.transactions) (transaction_at m.transactions)
+    (transaction_at c.set_transaction.new.map) c.transaction-transaction.result
     c.has_voted.result c.is_settled-is_settled.result c.transaction-transaction.ensures
     (c.has_voted.ensures ∙ ap (λ (n : BranchNotes). n.said_yes || n.said_read_only) c.branch-notes.ensures) c.is_settled-is_settled.ensures same.transactions
-    (with_equal (transaction_at m.transactions) (transaction_at c.set_transaction.new.map) b.gtrid c.with_branch.result _ c.with_branch.ensures c.set_transaction.ensures.at))
-    (start_notes (branch_at k.branches) (branch_at m.branches) (branch_at c.set_branch.new.map) b c.branch-notes.result c.branch-notes.ensures same.branches c.set_branch.ensures.at)
+    (with_equal (transaction_at m.transactions)
+    (transaction_at c.set_transaction.new.map) b.gtrid c.with_branch.result _ c.with_branch.ensures c.set_transaction.ensures.at))
+    (start_notes (notes_at k.branches) (notes_at m.branches)
+    (notes_at c.set_branch.new.map) b c.branch-notes.result c.branch-notes.ensures same.branches c.set_branch.ensures.at)
     (c.set_branch.ensures.known ∙ ap (λ s. insert s b) same.known) (λ r. refl) (λ g. refl) refl
-    (same_records (branch_at k.branches) (branch_at m.branches) (branch_at c.set_branch.new.map) b _ same.branches c.set_branch.ensures.at (ap (λ (n : BranchNotes). n.recorded) c.branch-notes.ensures)) refl refl)
+    (same_records (notes_at k.branches) (notes_at m.branches) (notes_at c.set_branch.new.map) b _ same.branches c.set_branch.ensures.at
+    (ap (λ (n : BranchNotes). n.recorded) c.branch-notes.ensures)) refl refl)
 
 pub returns-clause-join : goal.returns-clause-join
 returns-clause-join c = λ l. returns-clause-start c l

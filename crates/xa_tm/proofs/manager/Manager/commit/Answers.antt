@@ -15,7 +15,8 @@ use Rattle.xa_tm.proofs.manager.Manager.commit.Goals as goal
 pub commit-requires-in-Ok-commit-clause-undecided : goal.commit-requires-in-Ok-commit-clause-undecided
 commit-requires-in-Ok-commit-clause-undecided g c =
     let same = c.prepare_row.ensures.book in
-    undecided _ (ap (λ (b : Book). (b.deal c.args.g).committed) same ∙ c.requires.open.uncommitted) (ap (λ (b : Book). (b.deal c.args.g).rolled_back) same ∙ c.requires.open.not_rolled_back)
+    undecided _ (ap (λ (b : Book). (b.deal c.args.g).committed) same ∙ c.requires.open.uncommitted)
+    (ap (λ (b : Book). (b.deal c.args.g).rolled_back) same ∙ c.requires.open.not_rolled_back)
 
 pub commit-requires-in-Ok-commit-clause-agreed : goal.commit-requires-in-Ok-commit-clause-agreed
 commit-requires-in-Ok-commit-clause-agreed g c = ap (λ (b : Book). (b.deal c.args.g).has_yes) c.prepare_row.ensures.book ∙ c.requires.yes
@@ -57,12 +58,15 @@ returns-in-Err-commit-clause-tied g c = λ order honest tied.
     let new = (g.L.DecisionLog.moment c.commit.new.self).content in
     subst (λ b. IsTied b new) (sym made)
     (tied_fault k (Adds c.args.g (voted_yes k c.args.g)) (InDecide c.args.g) old new c.requires.open.up refl
-    (subst (λ s. MayMake (committed c.args.g s) old new) (ap from_list c.as_slice.ensures.value ∙ c.in-Ok.ensures.all) (c.in-Err-commit.ensures.changes.err order)) tied)
+    (subst (λ s. MayMake (committed c.args.g s) old new) (ap from_list c.as_slice.ensures.value ∙ c.in-Ok.ensures.all)
+    (c.in-Err-commit.ensures.changes.err order)) tied)
 
 pub returns-in-Ok-commit-clause-asks : goal.returns-in-Ok-commit-clause-asks
 returns-in-Ok-commit-clause-asks g c =
-    adds_row (g.L.DecisionLog.moment c.args.self.now.log) (g.L.DecisionLog.moment c.commit.new.self) c.args.g _ _ _ tt (ap from_list c.as_slice.ensures.value ∙ c.in-Ok.ensures.all) c.in-Ok-commit.ensures.changes
+    adds_row (g.L.DecisionLog.moment c.args.self.now.log) (g.L.DecisionLog.moment c.commit.new.self) c.args.g _ _ _ tt
+    (ap from_list c.as_slice.ensures.value ∙ c.in-Ok.ensures.all) c.in-Ok-commit.ensures.changes
 
 pub returns-in-Err-commit-clause-asks : goal.returns-in-Err-commit-clause-asks
 returns-in-Err-commit-clause-asks g c =
-    adds_no_row {B = Unit {0}} (g.L.DecisionLog.moment c.args.self.now.log) (g.L.DecisionLog.moment c.commit.new.self) c.args.g _ _ _ (ap from_list c.as_slice.ensures.value ∙ c.in-Ok.ensures.all) c.in-Err-commit.ensures.changes
+    adds_no_row {B = Unit {0}} (g.L.DecisionLog.moment c.args.self.now.log) (g.L.DecisionLog.moment c.commit.new.self) c.args.g _ _ _
+    (ap from_list c.as_slice.ensures.value ∙ c.in-Ok.ensures.all) c.in-Err-commit.ensures.changes

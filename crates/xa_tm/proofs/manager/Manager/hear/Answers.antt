@@ -23,7 +23,8 @@ returns-in-Some-clause-ok g c =
     let given : map_answer name_of c.args.answer.now ≡ Ret c.in-Ret.code = ap (map_answer name_of) c.in-Ret.is in
     on_ok c.hear_news.result _ _ (λ heard call is.
     let on = call_on asked c.in-Some.b call (sym c.in-Some.ensures) is in
-    heard l on.kind c.in-Ret.code (c.of.ensures ∙ on.news c.in-Ret.code) ∙ ap (λ x. after k (Heard l x (Ret c.in-Ret.code))) on.call ∙ ap (λ a. after k (Heard l call a)) (sym given)) c.hear_news.ensures.ok
+    heard l on.kind c.in-Ret.code (c.of.ensures ∙ on.news c.in-Ret.code)
+    ∙ ap (λ x. after k (Heard l x (Ret c.in-Ret.code))) on.call ∙ ap (λ a. after k (Heard l call a)) (sym given)) c.hear_news.ensures.ok
 
 pub returns-in-Some-clause-err : goal.returns-in-Some-clause-err
 returns-in-Some-clause-err g c = λ up.
@@ -35,7 +36,8 @@ returns-in-Some-clause-err g c = λ up.
     if_err c.hear_news.result _ _ (λ e failed call is.
     let on = call_on asked c.in-Some.b call (sym c.in-Some.ensures) is in
     subst (λ (a : Answer). FailsBy (doubt_of (record_of call a)) (InHear l) k n e) (sym given)
-    (subst (λ (x : Call). FailsBy (doubt_of (record_of x (Ret c.in-Ret.code))) (InHear l) k n e) on.call (failed l on.kind c.in-Ret.code (c.of.ensures ∙ on.news c.in-Ret.code)))) c.hear_news.ensures.err
+    (subst (λ (x : Call). FailsBy (doubt_of (record_of x (Ret c.in-Ret.code))) (InHear l) k n e) on.call
+    (failed l on.kind c.in-Ret.code (c.of.ensures ∙ on.news c.in-Ret.code)))) c.hear_news.ensures.err
 
 pub returns-in-Some-clause-tied : goal.returns-in-Some-clause-tied
 returns-in-Some-clause-tied g c = λ order honest.

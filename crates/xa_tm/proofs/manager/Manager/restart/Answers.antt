@@ -20,7 +20,8 @@ returns-else-try_restart-clause-tied g c = λ order honest tied.
     let k = held c.args.self.now.ledger in
     let new = (g.L.DecisionLog.moment c.find_and_raise.new.log).content in
     subst (λ b. IsTied b new) (sym (c.if-try_restart.ensures.down refl Settled ∙ ap (λ b. book_after b Settled (Failed InRestart)) c.prepare_restart.ensures.book))
-    (tied_no_restart k (g.L.DecisionLog.moment c.args.self.now.log).content new c.if-self.false (inr (inr (c.in-Ok-find_and_raise.ensures.ok order honest))) tied)
+    (tied_no_restart k (g.L.DecisionLog.moment c.args.self.now.log).content new c.if-self.false
+    (inr (inr (c.in-Ok-find_and_raise.ensures.ok order honest))) tied)
 
 pub returns-else-try_restart-clause-faults : goal.returns-else-try_restart-clause-faults
 returns-else-try_restart-clause-faults g c = λ order honest tied.
@@ -28,7 +29,8 @@ returns-else-try_restart-clause-faults g c = λ order honest tied.
     let f = c.in-Ok-find_and_raise.found in
     absurd (never_found k f.incarnation f.decisions f.heuristics
     (ap (λ b. may_find b f.incarnation f.decisions f.heuristics) (sym c.prepare_restart.ensures.book) ∙ sym c.if-try_restart.ensures.value)
-    (is_found k f.incarnation f.decisions f.heuristics (g.L.DecisionLog.moment c.args.self.now.log).content c.if-self.false (c.in-Ok-find_and_raise.ensures.found order honest) tied))
+    (is_found k f.incarnation f.decisions f.heuristics (g.L.DecisionLog.moment c.args.self.now.log).content c.if-self.false
+    (c.in-Ok-find_and_raise.ensures.found order honest) tied))
 
 pub returns-in-Err-find_and_raise-clause-tied : goal.returns-in-Err-find_and_raise-clause-tied
 returns-in-Err-find_and_raise-clause-tied g c = λ order honest tied.
