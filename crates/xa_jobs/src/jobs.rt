@@ -33,7 +33,7 @@ fn branch_named(word: &str) -> Option<Option<Vote>>
 }
 
 /// The same of an item.
-#[tactic(auto, unfolding(crate::specs::JobFiles::branch_in))]
+#[tactic(auto, unfolding(crate::specs::JobFiles::vote_in))]
 fn branch_in(value: &Value) -> Option<Option<Vote>>
     ensures { result ≡ vote_in (view value.now) }
 {
@@ -55,7 +55,7 @@ fn votes_of(alloc: Global, items: &[Value]) -> Result<Option<Row>, AllocError>
 }
 
 /// The votes that a table has, if it is that of a job with a vote or none for each resource manager.
-#[tactic(auto, unfolding(crate::specs::JobFiles::row_of))]
+#[tactic(auto, unfolding(crate::specs::JobFiles::votes_in_table))]
 fn row_of(alloc: Global, rms: u32, table: &Table) -> Result<Option<Row>, AllocError>
     ensures row { IfOk result (λ row. option_map (λ votes. votes.items) row ≡ votes_in_table rms (table_view table.now)) }
     ensures number { IfOk result (λ row. IfSome row (λ votes. vec_len votes ≡ rms)) }

@@ -9,7 +9,7 @@ use toml::Table;
 use xa_files::{has_only, index_at};
 
 /// The line that a table names, by its thread and its resource manager.
-#[tactic(auto, unfolding(crate::specs::Moves::line_at))]
+#[tactic(auto, unfolding(crate::specs::Moves::line_in_table))]
 pub fn line_at(table: &Table) -> Option<(u32, u32)>
     ensures { result ≡ line_in_table (table_view table.now) }
 {
