@@ -9,7 +9,7 @@ use Rattle.xa_base.specs.declared.reply.Event.{Event}
 use Rattle.xa_base.specs.declared.reply.Reply.{Reply}
 use Rattle.xa_base.specs.declared.step.Step.TheVariants as steps
 use Rattle.xa_scenario.specs.declared.entry.Entry.{Entry}
-use Rattle.xa_scenario.specs.Plays.{AreAnswered, IsAnswered, IsDrain, IsPlay, MakesEvents, Performs, trace_after, is_begin, gtrid_begun, gtrids_of, moves, trace_after}
+use Rattle.xa_scenario.specs.Plays.{AreAnswered, IsAnswered, IsDrain, IsPlay, MakesEvents, Performs, events_after, begins_one, gtrid_answered, gtrids_of, moves, trace_after}
 
 -- From this trace on, events that P asks for at the end make the whole one that P asks for from the start.
 abbrev pub GoesOn : (List Event → Type 0) → List Event → List Event → Type 0
@@ -20,8 +20,8 @@ starts P trace others wanted answered = record { events = others; wanted = wante
 
 -- a pair that moves something, and then the rest of a drain
 pub drain_goes_on : (thread rm : ℕ) (start trace mid new : List Event) (took heard : Reply Xid)
-    → IsAnswered trace took → mid ≡ trace_after trace (record { step = steps.Take thread rm; reply = took })
-    → IsAnswered mid heard → new ≡ trace_after mid (record { step = steps.Hear thread rm; reply = heard })
+    → IsAnswered trace took → mid ≡ events_after trace (record { step = steps.Take thread rm; reply = took })
+    → IsAnswered mid heard → new ≡ events_after mid (record { step = steps.Hear thread rm; reply = heard })
     → (moves took || moves heard) ≡ true → GoesOn (IsDrain thread rm) start trace → GoesOn (IsDrain thread rm) start new
 drain_goes_on thread rm start trace mid new took heard first second third fourth moved whole others wanted answered =
     let a : Event = record { step = steps.Take thread rm; reply = took } in
@@ -30,8 +30,8 @@ drain_goes_on thread rm start trace mid new took heard first second third fourth
 
 -- a pair that moves nothing
 pub drain_ends : (thread rm : ℕ) (start trace mid new : List Event) (took heard : Reply Xid)
-    → IsAnswered trace took → mid ≡ trace_after trace (record { step = steps.Take thread rm; reply = took })
-    → IsAnswered mid heard → new ≡ trace_after mid (record { step = steps.Hear thread rm; reply = heard })
+    → IsAnswered trace took → mid ≡ events_after trace (record { step = steps.Take thread rm; reply = took })
+    → IsAnswered mid heard → new ≡ events_after mid (record { step = steps.Hear thread rm; reply = heard })
     → (moves took || moves heard) ≡ false → GoesOn (IsDrain thread rm) start trace → Performs (IsDrain thread rm) start new
 drain_ends thread rm start trace mid new took heard first second third fourth still whole =
     let a : Event = record { step = steps.Take thread rm; reply = took } in
@@ -40,7 +40,7 @@ drain_ends thread rm start trace mid new took heard first second third fourth st
 
 -- three events in turn
 pub three : (P : List Event → Type 0) (a b d : Event) (old one two new : List Event)
-    → IsAnswered old a.reply → one ≡ trace_after old a → IsAnswered one b.reply → two ≡ trace_after one b → IsAnswered two d.reply → new ≡ trace_after two d
+    → IsAnswered old a.reply → one ≡ events_after old a → IsAnswered one b.reply → two ≡ events_after one b → IsAnswered two d.reply → new ≡ events_after two d
     → P (a ∷ b ∷ d ∷ []) → Performs P old new
 three P a b d old one two new first second third fourth fifth sixth wanted = record {
   events = a ∷ b ∷ d ∷ [];
@@ -58,7 +58,7 @@ names_none_after : (thread rm : ℕ) (moved : Bool) (rest : List Event) → (IsD
 names_none_after thread rm true rest by h = by h
 names_none_after thread rm false rest by h = rw h refl
 
--- a drain is_begin no transaction
+-- a drain begins_one no transaction
 pub drain_names_none : (thread rm : ℕ) (events : List Event) → IsDrain thread rm events → gtrids_of events ≡ []
 drain_names_none thread rm [] h = absurd h
 drain_names_none thread rm (a ∷ []) h = absurd h
@@ -72,13 +72,13 @@ Leads Q P start trace = (others : List Event) → Q others → AreAnswered trace
 
 trace_after-append : (trace here others : List Event) → trace_after trace (here ++ others) ≡ trace_after (trace_after trace here) others
 trace_after-append trace [] others = refl
-trace_after-append trace (e ∷ here) others = trace_after-append (trace_after trace e) here others
+trace_after-append trace (e ∷ here) others = trace_after-append (events_after trace e) here others
 
 answered_both : (trace here others : List Event) → AreAnswered trace here → AreAnswered (trace_after trace here) others → AreAnswered trace (here ++ others)
 answered_both trace [] others first second = second
-answered_both trace (e ∷ here) others first second = (first.0, answered_both (trace_after trace e) here others first.1 second)
+answered_both trace (e ∷ here) others first second = (first.0, answered_both (events_after trace e) here others first.1 second)
 
--- an entry that was played, and then those trace_after it
+-- an entry that was played, and then those events_after it
 pub play_goes_on : (gtrids began after_gtrids : List Gtrid) (entry : Entry) (entries : List Entry) (P : List Event → Type 0) (start trace new : List Event)
     → after_gtrids ≡ gtrids ++ began → Performs (λ here. MakesEvents gtrids entry here × (gtrids_of here ≡ began)) trace new
     → Leads (IsPlay gtrids (entry ∷ entries)) P start trace → Leads (IsPlay after_gtrids entries) P start new
@@ -104,7 +104,7 @@ play_turn gtrids seen began grown entries i d P start trace new within same more
     play_goes_on gtrids began grown (get_or entries i d) (drop (i + 1) entries) P start trace new more at_gtrids at_entries
 
 -- one event
-pub one : (P : List Event → Type 0) (a : Event) (old new : List Event) → IsAnswered old a.reply → new ≡ trace_after old a → P (a ∷ []) → Performs P old new
+pub one : (P : List Event → Type 0) (a : Event) (old new : List Event) → IsAnswered old a.reply → new ≡ events_after old a → P (a ∷ []) → Performs P old new
 one P a old new answered added wanted = record {
   events = a ∷ [];
   wanted = wanted;
@@ -113,7 +113,7 @@ one P a old new answered added wanted = record {
 }
 
 -- what the name of one event stands for, if it is a begin
-pub begun_one : (event : Event) (is_begin : Bool) → is_begin event.step ≡ is_begin
-    → gtrids_of (event ∷ []) ≡ option_to_list (cond is_begin (Some (gtrid_begun event.reply)) None)
+pub begun_one : (event : Event) (is_begin : Bool) → begins_one event.step ≡ is_begin
+    → gtrids_of (event ∷ []) ≡ option_to_list (cond is_begin (Some (gtrid_answered event.reply)) None)
 begun_one event true is = rw is refl
 begun_one event false is = rw is refl

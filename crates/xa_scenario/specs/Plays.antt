@@ -28,18 +28,18 @@ abbrev pub IsAnswered : List Event → Reply Xid → Type 0
 IsAnswered trace reply =
     MatchBool (nat_lt (length trace) EVENT_LIMIT) (Unit {0}) (reply ≡ replies.Refused refusals.Limit)
 
--- the trace trace_after a step: it holds no more events, once it is full
-abbrev pub trace_after : List Event → Event → List Event
-trace_after trace event = if nat_lt (length trace) EVENT_LIMIT then trace ++ event ∷ [] else trace
+-- the trace events_after a step: it holds no more events, once it is full
+abbrev pub events_after : List Event → Event → List Event
+events_after trace event = if nat_lt (length trace) EVENT_LIMIT then trace ++ event ∷ [] else trace
 
 abbrev pub AreAnswered : List Event → List Event → Type 0
 AreAnswered trace [] = Unit {0}
-AreAnswered trace (event ∷ events) = IsAnswered trace event.reply × AreAnswered (trace_after trace event) events
+AreAnswered trace (event ∷ events) = IsAnswered trace event.reply × AreAnswered (events_after trace event) events
 
--- the trace trace_after steps in turn
+-- the trace events_after steps in turn
 abbrev pub trace_after : List Event → List Event → List Event
 trace_after trace [] = trace
-trace_after trace (event ∷ events) = trace_after (trace_after trace event) events
+trace_after trace (event ∷ events) = trace_after (events_after trace event) events
 
 -- some steps and their replies, with P, lead from one trace to another
 pub record Performs (P : List Event → Type 0) (old new : List Event) : Type 0 where
@@ -55,20 +55,20 @@ abbrev pub no_gtrid : Gtrid
 no_gtrid = record { incarnation = 0; sequence = 0 }
 
 -- the transaction that a begin is answered with; none, where it is refused
-abbrev pub gtrid_begun : Reply Xid → Gtrid
-gtrid_begun (replies.Begun gtrid) = gtrid
-gtrid_begun _ = no_gtrid
+abbrev pub gtrid_answered : Reply Xid → Gtrid
+gtrid_answered (replies.Begun gtrid) = gtrid
+gtrid_answered _ = no_gtrid
 
--- whether the step is_begin a transaction
-abbrev pub is_begin : Step Xid → Bool
-is_begin (steps.Begin thread) = true
-is_begin _ = false
+-- whether the step begins_one a transaction
+abbrev pub begins_one : Step Xid → Bool
+begins_one (steps.Begin thread) = true
+begins_one _ = false
 
 -- what a name stands for whose begin is this event, if it is one
 abbrev pub gtrid_begun : Event → Option Gtrid
-gtrid_begun event = if is_begin event.step then Some (gtrid_begun event.reply) else None
+gtrid_begun event = if begins_one event.step then Some (gtrid_answered event.reply) else None
 
--- what the names of the is_begin among these events stand for
+-- what the names of the begins_one among these events stand for
 abbrev pub gtrids_of : List Event → List Gtrid
 gtrids_of = filter_map gtrid_begun
 

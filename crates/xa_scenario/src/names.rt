@@ -2,7 +2,7 @@
 
 ghost use Rattle.std.specs.Prelude.{◌≡◌};
 ghost use Rattle.xa_base.specs.Call.{map_call};
-ghost use Rattle.xa_scenario.specs.Plays.{is_begin, ending_step, gtrid_at, gtrid_begun, issue_of, script_step, step_of_entry, xid_at};
+ghost use Rattle.xa_scenario.specs.Plays.{begins_one, ending_step, gtrid_at, gtrid_answered, issue_of, script_step, step_of_entry, xid_at};
 
 use crate::entry::{BranchEntry, Ending, Entry, Script};
 use xa_base::{Branch, Call, Gtrid, Reply, Step, Xid};
@@ -15,7 +15,7 @@ const NO_GTRID: Gtrid = Gtrid {
 
 /// The transaction that a begin is answered with; none, where it is refused.
 pub fn gtrid_in(reply: Reply) -> Gtrid
-    ensures { result ≡ gtrid_begun reply }
+    ensures { result ≡ gtrid_answered reply }
 {
     match reply {
         Reply::Begun(gtrid) => gtrid,
@@ -25,7 +25,7 @@ pub fn gtrid_in(reply: Reply) -> Gtrid
 
 /// Whether the step begins a transaction.
 pub fn begins(step: &Step) -> bool
-    ensures { result ≡ is_begin step.now }
+    ensures { result ≡ begins_one step.now }
 {
     matches!(step, Step::Begin { .. })
 }

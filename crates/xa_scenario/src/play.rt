@@ -2,7 +2,7 @@
 
 ghost use Rattle.std.specs.Prelude.{◌≡◌, ◌||◌, ◌∷◌, [], map, OnOk};
 ghost use Rattle.std.specs.Option.{option_to_list};
-ghost use Rattle.xa_scenario.specs.Plays.{HaveSteps, IsAnswered, IsDrain, IsPlay, MakesEvents, Performs, trace_after, gtrids_of, moves};
+ghost use Rattle.xa_scenario.specs.Plays.{HaveSteps, IsAnswered, IsDrain, IsPlay, MakesEvents, Performs, events_after, gtrids_of, moves};
 ghost use Rattle.xa_system.specs.Seen.{origin_in};
 ghost use Rattle.xa_system.specs.Sites.{looks};
 
@@ -20,7 +20,7 @@ fn act<R: ResourceManager + Drop, L: DecisionLog + Drop>(
     step: Step,
 ) -> Reply
     ensures answered { IsAnswered system.old.events result }
-    ensures added { system.new.events ≡ trace_after system.old.events (record { step = step; reply = result }) }
+    ensures added { system.new.events ≡ events_after system.old.events (record { step = step; reply = result }) }
     ensures start { origin_in (looks R.held_of R.scan_of R.in_doubt_of) system.new
         ≡ origin_in (looks R.held_of R.scan_of R.in_doubt_of) system.old }
 {
