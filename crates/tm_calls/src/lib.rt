@@ -11,3 +11,5 @@ mod calls;
 mod run;
 #[cfg(test)]
 mod starts;
+#[cfg(test)]
+mod swaps;

@@ -32,3 +32,5 @@ pub mod Ties
 pub mod Unfinished
 pub mod Begins
 pub mod Pasts
+pub mod HeldAgain
+pub mod SameBranches

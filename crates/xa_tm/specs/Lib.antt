@@ -15,3 +15,5 @@ pub mod Tied
 pub mod Starting
 pub mod Ascending
 pub mod Begins
+pub mod Slots
+pub mod Swaps

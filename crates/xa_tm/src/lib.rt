@@ -24,9 +24,13 @@ mod resolving;
 mod restarting;
 mod room;
 mod rules;
+mod slot;
 mod start;
 mod started;
 mod starting;
+mod swap_fault;
+mod swapping;
+mod swaps;
 
 pub use coming_up::Found;
 pub use laws::{
@@ -35,4 +39,6 @@ pub use laws::{
     restarts_find_what_is_there, rows_are_counted, starts_are_histories,
 };
 pub use manager::Manager;
+pub use slot::Slot;
 pub use start::StartFault;
+pub use swap_fault::SwapFault;

@@ -1,0 +1,93 @@
+//! The manager's log is taken out while the manager is down, and one with the same rows is put in.
+
+ghost use Rattle.std.specs.Prelude.{◌≡◌, ◌≢◌, ◌⊎◌, Bool, Some, None, IsSome, IsSomeAnd, Err, IfErr, OnOk, OnErr};
+ghost use Rattle.xa_log.specs.Content.{unchanged};
+ghost use Rattle.xa_log.specs.Contract.{Makes, one_more_fault};
+ghost use Rattle.xa_tm.specs.Held.{held};
+ghost use Rattle.xa_tm.specs.Kept.{book_in, log_in};
+ghost use Rattle.xa_tm.specs.Slots.{LooksAt, TakesIn, slot_moment};
+ghost use Rattle.xa_tm.specs.Tied.{MayHold};
+
+use crate::ledger::Ledger;
+use crate::manager::Manager;
+use crate::slot::Slot;
+use crate::swap_fault::SwapFault;
+use xa_log::{DecisionLog, LogFault};
+
+impl<L: DecisionLog + Drop> Manager<Slot<L>> {
+    /// Takes the log out, where the manager is down and holds one. Until another is put in, a restart is refused.
+    pub fn take_log(&mut self) -> Option<L>
+        ensures up { (book_in self.old).up ≡ Bool.true → (result ≡ None) × (self.new ≡ self.old) }
+        ensures empty { (log_in self.old).log ≡ None → (result ≡ None) × (self.new ≡ self.old) }
+        ensures taken { (book_in self.old).up ≡ Bool.false → result ≡ (log_in self.old).log }
+        ensures out { (book_in self.old).up ≡ Bool.false → (log_in self.new).log ≡ None }
+        ensures was { (log : L) → result ≡ Some log → (log_in self.new).was.value ≡ log }
+        ensures book { book_in self.new ≡ book_in self.old }
+    {
+        if self.ledger.is_up {
+            return None;
+        }
+        self.log.take()
+    }
+
+    /// Puts a log in, where the manager is down and its log is out. Its rows and records are read: they are those that
+    /// the manager's log had before the change in doubt, or with it. A fault gives the log back, and comes in this order:
+    ///
+    /// - [`SwapFault::Up`]: the manager is up or holds a log;
+    /// - [`SwapFault::Memory`]: a request for memory was refused;
+    /// - [`SwapFault::Log`]: the log failed for another cause;
+    /// - [`SwapFault::OtherRows`]: its rows and records are others.
+    pub fn give_log(&mut self, mut log: L) -> Result<(), (SwapFault, L)>
+        ensures up { (book_in self.old).up ≡ Bool.true → (result ≡ Err (SwapFault.Up, log)) × (self.new ≡ self.old) }
+        ensures held { IsSome (log_in self.old).log → (result ≡ Err (SwapFault.Up, log)) × (self.new ≡ self.old) }
+        ensures only_up { IfErr result (λ e. e.0 ≡ SwapFault.Up →
+            ((book_in self.old).up ≡ Bool.true) ⊎ IsSome (log_in self.old).log) }
+        ensures err { OnErr result (self.new ≡ self.old) }
+        ensures back { IfErr result (λ e. LooksAt (L.moment log) (L.moment e.1)) }
+        ensures log_fault { IfErr result (λ e. e.0 ≡ SwapFault.Log →
+            (L.moment e.1).fault_count ≡ one_more_fault (L.moment log).fault_count) }
+        ensures other_rows { IfErr result (λ e. e.0 ≡ SwapFault.OtherRows →
+            (L.moment e.1).fault_count ≡ (L.moment log).fault_count) }
+        ensures ok { OnOk result (TakesIn L.DecisionLog log (log_in self.new).log) }
+        ensures may_hold { OnOk result ((L.moment log).is_in_order →
+            (slot_moment L.moment (log_in self.new)).is_honest →
+            IsSomeAnd (slot_moment L.moment (log_in self.new)).content (MayHold (book_in self.new))) }
+        ensures book { book_in self.new ≡ book_in self.old }
+    {
+        if self.ledger.is_up || self.log.is_held() {
+            return Err((SwapFault::Up, log));
+        }
+        match swap_fault(&self.ledger, &mut log) {
+            Some(fault) => Err((fault, log)),
+            None => {
+                self.log.put(log);
+                Ok(())
+            }
+        }
+    }
+}
+
+/// Why a log whose rows are read isn't one that the book tells of, if it isn't.
+fn swap_fault<L: DecisionLog>(ledger: &Ledger, log: &mut L) -> Option<SwapFault>
+    ensures none { result ≡ None → (L.moment log.old).is_in_order → (L.moment log.new).is_honest →
+        IsSomeAnd (L.moment log.new).content (MayHold (held ledger.now)) }
+    ensures same { result ≡ None → (L.moment log.old).is_in_order → (L.moment log.new).is_honest →
+        Makes unchanged (L.moment log.old).content (L.moment log.new).content }
+    ensures looks { LooksAt (L.moment log.old) (L.moment log.new) }
+    ensures not_up { result ≢ Some SwapFault.Up }
+    ensures log_fault { result ≡ Some SwapFault.Log →
+        (L.moment log.new).fault_count ≡ one_more_fault (L.moment log.old).fault_count }
+    ensures other_rows { result ≡ Some SwapFault.OtherRows →
+        (L.moment log.new).fault_count ≡ (L.moment log.old).fault_count }
+    ensures ok { result ≡ None → (L.moment log.new).fault_count ≡ (L.moment log.old).fault_count }
+{
+    match log.rows() {
+        Err(LogFault::Memory) => Some(SwapFault::Memory),
+        Err(_) => Some(SwapFault::Log),
+        Ok(rows) => match ledger.may_hold(&rows) {
+            Err(_) => Some(SwapFault::Memory),
+            Ok(true) => None,
+            Ok(false) => Some(SwapFault::OtherRows),
+        },
+    }
+}
