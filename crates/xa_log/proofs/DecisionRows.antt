@@ -21,7 +21,7 @@ use Rattle.sqlite.proofs.Callers.{runs_as, reads_as, statement_of}
 use Rattle.sqlite.specs.Listing.{understood}
 use Rattle.sqlite_trees.proofs.TreeLemmas.{all-put_row, IsTable-put_row}
 use Rattle.xa_base.specs.declared.branch.Gtrid.{Gtrid}
-use Rattle.xa_base.specs.Branch.{gtrid_cmp}
+use Rattle.xa_base.specs.Branch.{gtrid_cmp, gtrid_eq}
 use Rattle.xa_base.proofs.BranchOrder.{exact_gtrids}
 use Rattle.xa_log.specs.Contract.{FitsRow}
 use Rattle.xa_log.specs.Tables.{log_schema}
@@ -46,7 +46,7 @@ use Rattle.xa_log.proofs.Cascade.{cascade}
 use Rattle.xa_log.proofs.Inserts.{at_once, puts_participant}
 use Rattle.xa_log.proofs.Deletes.{taken_rows}
 use Rattle.xa_log.proofs.Texts.{insert_participant, insert_participant_is, insert_participant_plain}
-use Rattle.xa_log.specs.Rows.{IsLog, IsDecisionRow, AreHeuristicRows, IsParticipantRow, gtrid_of_row, branch_of_row, is_of, participants_of_rows, content_of, meta_row}
+use Rattle.xa_log.specs.Rows.{IsLog, IsDecisionRow, AreHeuristicRows, IsParticipantRow, gtrid_of_row, branch_of_row, participants_of_rows, content_of, meta_row}
 use Rattle.xa_log.specs.Sql.{HasLogTables, IsOrderly, content_in}
 use Rattle.xa_log.proofs.Texts.{over, insert_decision, insert_decision_is, insert_decision_plain, find_decision, find_decision_is, find_decision_plain, find_decision_unlisted, delete_decision, delete_decision_is, delete_decision_plain}
 use Rattle.xa_log.proofs.Plain.{shown, plain_rows}
@@ -175,17 +175,17 @@ has_pairs (old ∷ olds) move h = elim h [ inl same ↦ inl (ap (λ (m : Row × 
 
 module _ (g : Gtrid) (db after : Database) (is : IsLog db) (takes : Takes gtrid_tests (col 1 0 ∷ []) (gtrid_params g) db after) where
   -- a decision that is taken is one of the transaction
-  taken_is : (old : Row) → Has (taken_rows db.trees takes.found) old → IsDecisionRow old × (is_of g (gtrid_of_row old) ≡ true)
+  taken_is : (old : Row) → Has (taken_rows db.trees takes.found) old → IsDecisionRow old × (gtrid_eq g (gtrid_of_row old) ≡ true)
   taken_is old h =
       let at = has_mapped (row_at (db.trees 1)) (ids_of takes.found) old h in
       let was = has_gone g (db.trees 1) takes.found is.decisions_apart is.decisions takes.answer at.0 at.1 in
       let row = all_has _ (db.trees 1) was.0 is.decisions was.1 in
       let own = subst (λ id. Rattle.sqlite.specs.Tree.has_rowid id was.0 ≡ true) (sym was.3) (has_own was.0 row) in
       let one : old ≡ was.0 = at.2 ∙ row_at_is (db.trees 1) at.0 was.0 is.decisions_apart was.1 own in
-      subst (λ r. IsDecisionRow r × (is_of g (gtrid_of_row r) ≡ true)) (sym one) (row, was.2)
+      subst (λ r. IsDecisionRow r × (gtrid_eq g (gtrid_of_row r) ≡ true)) (sym one) (row, was.2)
 
   -- and so is a participant that goes with it
-  gone_is : (id : Rattle.std.proofs.Common.ℤ) → Has takes.ids id → (r : Row) × Has (db.trees 5) r × (is_of g (gtrid_of_row r) ≡ true) × (rowid r ≡ Int id)
+  gone_is : (id : Rattle.std.proofs.Common.ℤ) → Has takes.ids id → (r : Row) × Has (db.trees 5) r × (gtrid_eq g (gtrid_of_row r) ≡ true) × (rowid r ≡ Int id)
   gone_is id k =
       let it = takes.sound id k in
       let olds = taken_rows db.trees takes.found in
@@ -194,10 +194,10 @@ module _ (g : Gtrid) (db after : Database) (is : IsLog db) (takes : Takes gtrid_
       let taken = taken_is old (has_pairs olds some.0 some.1) in
       let agrees = (and_parts _ _ some.2).1 in
       let row = all_has _ (db.trees 5) it.0 is.participants it.1 in
-      let same : is_of (gtrid_of_row it.0) (gtrid_of_row old) ≡ true =
+      let same : gtrid_eq (gtrid_of_row it.0) (gtrid_of_row old) ≡ true =
       sym (agree_is it.0 old (gtrid_of_row it.0) (gtrid_of_row old) (participant_carries it.0 row) (decision_carries old taken.0)) ∙ agrees in
       let one : gtrid_of_row it.0 ≡ gtrid_of_row old = exact_gtrids (gtrid_of_row it.0) (gtrid_of_row old) (equal_is _ same) in
-      (it.0, it.1, subst (λ q. is_of g q ≡ true) (sym one) taken.1, it.3)
+      (it.0, it.1, subst (λ q. gtrid_eq g q ≡ true) (sym one) taken.1, it.3)
 
   pub taken_content : IsLog after × (content_of after.trees ≡ without_decision g (content_of db.trees))
   taken_content =

@@ -31,13 +31,13 @@ use Rattle.sqlite_trees.proofs.TreeLemmas.{all-put_row, IsTable-put_row}
 use Rattle.xa_base.specs.declared.branch.Branch.{Branch}
 use Rattle.xa_base.specs.declared.code.How.{How}
 use Rattle.xa_base.specs.declared.code.How.TheVariants as Ends
-use Rattle.xa_base.specs.Branch.{branch_cmp}
+use Rattle.xa_base.specs.Branch.{branch_cmp, branch_eq}
 use Rattle.xa_base.specs.Code.{how_number, how_of_number}
 use Rattle.xa_base.proofs.BranchOrder.{branches_total, exact_branches}
 use Rattle.xa_log.specs.Content.{last_number, with_heuristic, recorded}
 use Rattle.xa_log.specs.Contract.{FitsRow}
 use Rattle.xa_log.specs.Tables.{log_schema}
-use Rattle.xa_log.specs.Rows.{IsLog, IsDecisionRow, IsHeuristicRow, AreHeuristicRows, IsParticipantRow, HasDecision, heuristic_row, branch_from, branch_of_row, heuristic_from, how_of_row, integer_in, is_branch, content_of}
+use Rattle.xa_log.specs.Rows.{IsLog, IsDecisionRow, IsHeuristicRow, AreHeuristicRows, IsParticipantRow, HasDecision, heuristic_row, branch_from, branch_of_row, heuristic_from, how_of_row, integer_in, content_of}
 use Rattle.xa_log.specs.Sql.{AreLogTrees, HasLogTables, IsOrderly, content_in}
 use Rattle.xa_log.proofs.Lasting.{as_log}
 use Rattle.xa_log.proofs.Texts.{is, find_heuristic, find_heuristic_is, find_heuristic_plain, find_heuristic_unlisted, insert_heuristic, insert_heuristic_is, insert_heuristic_plain}
@@ -60,11 +60,11 @@ how_read Ends.Mix = refl
 how_read Ends.Haz = refl
 
 abbrev differ : Row → Row → Type 0
-differ a b = is_branch (branch_of_row a) (branch_of_row b) ≡ false
+differ a b = branch_eq (branch_of_row a) (branch_of_row b) ≡ false
 
 apart : (a b : Row) → differ a b → branch_of_row a ≡ branch_of_row b → ⊥
 apart a b other same =
-    true≢false (sym (ap is_eq (tied_itself branches_total (branch_of_row a))) ∙ subst (λ x. is_branch (branch_of_row a) x ≡ false) (sym same) other)
+    true≢false (sym (ap is_eq (tied_itself branches_total (branch_of_row a))) ∙ subst (λ x. branch_eq (branch_of_row a) x ≡ false) (sym same) other)
 
 one_row : (rows : List Row) → IsAscending differ rows → (a b : Row) → Has rows a → Has rows b → branch_of_row a ≡ branch_of_row b → a ≡ b
 one_row [] once a b h k same = absurd h
@@ -101,21 +101,21 @@ four_parts Equal Equal q r = both_parts q r
 four_parts Equal Greater q r = refl
 four_parts Greater p q r = refl
 
-names_branch : (id : ℤ) (x b : Branch) (how : How) → list_all (holds (branch_params b ∷ heuristic_row id x how ∷ [])) heuristic_tests ≡ is_branch b x
+names_branch : (id : ℤ) (x b : Branch) (how : How) → list_all (holds (branch_params b ∷ heuristic_row id x how ∷ [])) heuristic_tests ≡ branch_eq b x
 names_branch id x b how =
     rw (same_number x.gtrid.incarnation b.gtrid.incarnation, same_number x.gtrid.sequence b.gtrid.sequence, same_number x.thread b.thread, same_number x.rm b.rm)
     (four_parts (nat_cmp b.gtrid.incarnation x.gtrid.incarnation) (nat_cmp b.gtrid.sequence x.gtrid.sequence) (nat_cmp b.thread x.thread) (nat_cmp b.rm x.rm))
 
-names_branch_in : (b : Branch) (r : Row) → IsHeuristicRow r → list_all (holds (branch_params b ∷ r ∷ [])) heuristic_tests ≡ is_branch b (branch_of_row r)
+names_branch_in : (b : Branch) (r : Row) → IsHeuristicRow r → list_all (holds (branch_params b ∷ r ∷ [])) heuristic_tests ≡ branch_eq b (branch_of_row r)
 names_branch_in b r is = rw is.3 (names_branch is.0 is.1 b is.2)
 
 chosen_heuristic : (b : Branch) (rows : List Row) → AllByRecursion IsHeuristicRow rows
-    → chosen heuristic_tests (branch_params b) rows ≡ filter (λ r. is_branch b (branch_of_row r)) rows
+    → chosen heuristic_tests (branch_params b) rows ≡ filter (λ r. branch_eq b (branch_of_row r)) rows
 chosen_heuristic b rows all = filter_same _ _ rows (all_weaker _ _ (names_branch_in b) rows all)
 
 module _ (old new : State) (b : Branch) (rows : List Row) (log : IsLog old.now) (h : Shown find_heuristic (branch_params b) old new rows) where
   mine : List Row
-  mine = filter (λ r. is_branch b (branch_of_row r)) (old.now.trees 3)
+  mine = filter (λ r. branch_eq b (branch_of_row r)) (old.now.trees 3)
 
   answers : IsPermutation (map (shown how_shown (branch_params b)) mine) rows
   unfolding mine
@@ -151,8 +151,8 @@ module _ (old new : State) (b : Branch) (rows : List Row) (log : IsLog old.now) 
         let was = has_mapped entry_in (old.now.trees 3) (b, how) (find_has branches_total exact_branches b how _ (sym looks ∙ is)) in
         let named : b ≡ branch_of_row was.0 = ap (λ (e : Branch × How). e.0) was.2 in
         let kept =
-        has_kept (λ r. is_branch b (branch_of_row r)) (old.now.trees 3) was.0 was.1
-        (subst (λ x. is_branch b x ≡ true) named (ap is_eq (tied_itself branches_total b))) in
+        has_kept (λ r. branch_eq b (branch_of_row r)) (old.now.trees 3) was.0 was.1
+        (subst (λ x. branch_eq b x ≡ true) named (ap is_eq (tied_itself branches_total b))) in
         no_first rows _ none (permuted_has _ rows _ answers (mapped_has (shown how_shown (branch_params b)) mine was.0 kept)))
   ] refl
     where
@@ -192,7 +192,7 @@ once_put new (r ∷ rows) all once = go (value_cmp (rowid r) (rowid new)) (once_
 -- no row of the branch is there
 none_there : (b : Branch) (new : Row) (rows : List Row) → branch_of_row new ≡ b → IsAscending differ rows
     → get (from_entries {R = branch_cmp} (map entry_in rows)) b ≡ None → AllByRecursion (differ new) rows
-none_there b new rows named once none = all_from (differ new) rows (λ r h. elim (cases_Bool (is_branch (branch_of_row new) (branch_of_row r))) [
+none_there b new rows named once none = all_from (differ new) rows (λ r h. elim (cases_Bool (branch_eq (branch_of_row new) (branch_of_row r))) [
   | inl same ↦ absurd (
       let one : b ≡ branch_of_row r = sym named ∙ exact_branches _ _ (equal_is _ same) in
       let found : find branch_cmp b (map entry_in rows) ≡ Some (how_of_row r) =

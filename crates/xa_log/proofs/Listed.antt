@@ -21,25 +21,25 @@ use Rattle.sqlite_trees.proofs.ListLemmas.{filter_same, all_weaker}
 use Rattle.sqlite_rules.proofs.ListLemmas.{some_has, some_from}
 use Rattle.xa_base.specs.declared.branch.Gtrid.{Gtrid}
 use Rattle.xa_base.specs.declared.branch.Branch.{Branch}
-use Rattle.xa_base.specs.Branch.{branch_cmp}
+use Rattle.xa_base.specs.Branch.{branch_cmp, gtrid_eq}
 use Rattle.xa_base.proofs.BranchOrder.{exact_gtrids, branches_total, exact_branches}
 use Rattle.xa_log.specs.Tables.{log_schema}
-use Rattle.xa_log.specs.Rows.{IsLog, IsParticipantRow, participant_row, gtrid_of_row, branch_of_row, is_of, participant_from, participants_of_rows, content_of}
+use Rattle.xa_log.specs.Rows.{IsLog, IsParticipantRow, participant_row, gtrid_of_row, branch_of_row, participant_from, participants_of_rows, content_of}
 use Rattle.xa_log.proofs.Texts.{find_participants, find_participants_is, find_participants_plain, find_participants_unlisted}
 use Rattle.xa_log.proofs.Plain.{chosen, shown, plain_rows}
 use Rattle.xa_log.proofs.Values.{equal_to}
 use Rattle.xa_log.proofs.Contents.{gtrid_params, gtrid_tests, same_number, both_parts, equal_is, any_mapped, permuted_has}
 use Rattle.xa_log.proofs.Maps.{parts_of, names, contains_part, any_filtered}
 
-names_branch : (id : ℤ) (b : Branch) (g : Gtrid) → list_all (holds (gtrid_params g ∷ participant_row id b ∷ [])) gtrid_tests ≡ is_of g b.gtrid
+names_branch : (id : ℤ) (b : Branch) (g : Gtrid) → list_all (holds (gtrid_params g ∷ participant_row id b ∷ [])) gtrid_tests ≡ gtrid_eq g b.gtrid
 names_branch id b g = ap (λ t. t && (equal_to (Int (pos b.gtrid.sequence)) (Int (pos g.sequence)) && true)) (same_number b.gtrid.incarnation g.incarnation)
     ∙ ap (λ t. is_eq (nat_cmp g.incarnation b.gtrid.incarnation) && (t && true)) (same_number b.gtrid.sequence g.sequence) ∙ both_parts _ _
 
-names_branch_in : (g : Gtrid) (r : Row) → IsParticipantRow r → list_all (holds (gtrid_params g ∷ r ∷ [])) gtrid_tests ≡ is_of g (gtrid_of_row r)
+names_branch_in : (g : Gtrid) (r : Row) → IsParticipantRow r → list_all (holds (gtrid_params g ∷ r ∷ [])) gtrid_tests ≡ gtrid_eq g (gtrid_of_row r)
 names_branch_in g r is = rw is.2 (names_branch is.0 is.1 g)
 
 chosen_branch : (g : Gtrid) (rows : List Row) → AllByRecursion IsParticipantRow rows
-    → chosen gtrid_tests (gtrid_params g) rows ≡ filter (λ r. is_of g (gtrid_of_row r)) rows
+    → chosen gtrid_tests (gtrid_params g) rows ≡ filter (λ r. gtrid_eq g (gtrid_of_row r)) rows
 chosen_branch g rows all = filter_same _ _ rows (all_weaker _ _ (names_branch_in g) rows all)
 
 any_same : {X : Type 0} (p q : X → Bool) → ((x : X) → p x ≡ q x) → (xs : List X) → list_any p xs ≡ list_any q xs
@@ -55,11 +55,11 @@ abbrev parts_shown : List Term
 parts_shown = col 1 3 ∷ col 1 4 ∷ []
 
 same_branch : (g : Gtrid) (x : Branch) (r : Row)
-    → (is_of g (gtrid_of_row r) && eq_by_cmp branch_cmp x (participant_from g (shown parts_shown (gtrid_params g) r))) ≡ names g x r
-same_branch g x r = elim (cases_Bool (is_of g (gtrid_of_row r))) [
+    → (gtrid_eq g (gtrid_of_row r) && eq_by_cmp branch_cmp x (participant_from g (shown parts_shown (gtrid_params g) r))) ≡ names g x r
+same_branch g x r = elim (cases_Bool (gtrid_eq g (gtrid_of_row r))) [
   | inl same ↦ (
       let one : g ≡ gtrid_of_row r = exact_gtrids g (gtrid_of_row r) (equal_is _ same) in
-      ap (λ q. is_of g (gtrid_of_row r) && eq_by_cmp branch_cmp x (record { gtrid = q; thread = number_in (column r 3); rm = number_in (column r 4) })) one)
+      ap (λ q. gtrid_eq g (gtrid_of_row r) && eq_by_cmp branch_cmp x (record { gtrid = q; thread = number_in (column r 3); rm = number_in (column r 4) })) one)
   | inr apart ↦ ap (λ b. b && eq_by_cmp branch_cmp x (participant_from g (shown parts_shown (gtrid_params g) r))) apart
       ∙ sym (ap (λ b. b && eq_by_cmp branch_cmp x (branch_of_row r)) apart)
 ]
@@ -79,7 +79,7 @@ lists old new g rows is h =
     ∙ any_mapped (eq_by_cmp branch_cmp x) (participant_from g) (map (shown parts_shown (gtrid_params g)) mine)
     ∙ any_mapped (λ row. eq_by_cmp branch_cmp x (participant_from g row)) (shown parts_shown (gtrid_params g)) mine
     ∙ ap (list_any p) (chosen_branch g (old.now.trees 5) is.participants)
-    ∙ any_filtered p (λ r. is_of g (gtrid_of_row r)) (old.now.trees 5)
+    ∙ any_filtered p (λ r. gtrid_eq g (gtrid_of_row r)) (old.now.trees 5)
     ∙ any_same _ (names g x) (same_branch g x) (old.now.trees 5)
     ∙ sym (contains_part (old.now.trees 5) g x))
 

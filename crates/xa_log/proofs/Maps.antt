@@ -16,15 +16,15 @@ use Rattle.sqlite_rules.proofs.ListLemmas.{all_has, some_has, some_from}
 use Rattle.sqlite_rules.proofs.PlaceLemmas.{tied_same}
 use Rattle.xa_base.specs.declared.branch.Gtrid.{Gtrid}
 use Rattle.xa_base.specs.declared.branch.Branch.{Branch}
-use Rattle.xa_base.specs.Branch.{gtrid_cmp, branch_cmp}
+use Rattle.xa_base.specs.Branch.{gtrid_cmp, branch_cmp, gtrid_eq}
 use Rattle.xa_base.proofs.BranchOrder.{gtrids_total, exact_gtrids, branches_total, exact_branches}
-use Rattle.xa_log.specs.Rows.{gtrid_of_row, branch_of_row, is_of, participants_of_rows, HasDecision}
+use Rattle.xa_log.specs.Rows.{gtrid_of_row, branch_of_row, participants_of_rows, HasDecision}
 use Rattle.xa_log.proofs.Contents.{any_put, any_mapped, has_left, left_has, equal_is, is_itself}
 
 -- ---- the map, as lookups
 
 abbrev pub is_there : List Row → Gtrid → Bool
-is_there rows q = list_any (λ r. is_of q (gtrid_of_row r)) rows
+is_there rows q = list_any (λ r. gtrid_eq q (gtrid_of_row r)) rows
 
 abbrev pub booked : (Gtrid → KeySet branch_cmp) → List Row → FinMap gtrid_cmp (KeySet branch_cmp)
 booked parts rows = from_entries (map (λ row. (gtrid_of_row row, parts (gtrid_of_row row))) rows)
@@ -32,7 +32,7 @@ booked parts rows = from_entries (map (λ row. (gtrid_of_row row, parts (gtrid_o
 found_in : (parts : Gtrid → KeySet branch_cmp) (rows : List Row) (q : Gtrid)
     → find gtrid_cmp q (map (λ row. (gtrid_of_row row, parts (gtrid_of_row row))) rows) ≡ cond (is_there rows q) (Some (parts q)) None
 found_in parts [] q = refl
-found_in parts (r ∷ rows) q = elim (cases_Bool (is_of q (gtrid_of_row r))) [
+found_in parts (r ∷ rows) q = elim (cases_Bool (gtrid_eq q (gtrid_of_row r))) [
   | inl same ↦ rw same (ap (λ g. Some (parts g)) (sym (exact_gtrids q (gtrid_of_row r) (equal_is _ same))))
   | inr apart ↦ rw apart (found_in parts rows q)
 ]
@@ -50,20 +50,20 @@ any_filtered p t (x ∷ xs) = elim (t x) as (λ b. list_any p (cond b (x ∷ fil
 ]
 
 abbrev pub names : Gtrid → Branch → Row → Bool
-names q x r = is_of q (gtrid_of_row r) && eq_by_cmp branch_cmp x (branch_of_row r)
+names q x r = gtrid_eq q (gtrid_of_row r) && eq_by_cmp branch_cmp x (branch_of_row r)
 
 pub contains_part : (rows : List Row) (q : Gtrid) (x : Branch) → contains (participants_of_rows rows q) x ≡ list_any (names q x) rows
 contains_part rows q x =
-    contains-from_list branches_total _ x ∙ any_filtered (eq_by_cmp branch_cmp x) (λ b. is_of q b.gtrid) (map branch_of_row rows)
-    ∙ any_mapped (λ b. is_of q b.gtrid && eq_by_cmp branch_cmp x b) branch_of_row rows
+    contains-from_list branches_total _ x ∙ any_filtered (eq_by_cmp branch_cmp x) (λ b. gtrid_eq q b.gtrid) (map branch_of_row rows)
+    ∙ any_mapped (λ b. gtrid_eq q b.gtrid && eq_by_cmp branch_cmp x b) branch_of_row rows
 
 pub parts_put : (new : Row) (rows : List Row) → is_taken rows new ≡ false → (q : Gtrid)
     → participants_of_rows (put_row new rows) q
-    ≡ cond (is_of q (gtrid_of_row new)) (insert (participants_of_rows rows q) (branch_of_row new)) (participants_of_rows rows q)
+    ≡ cond (gtrid_eq q (gtrid_of_row new)) (insert (participants_of_rows rows q) (branch_of_row new)) (participants_of_rows rows q)
 parts_put new rows free q = same_set branches_total exact_branches _ _ (λ x.
     let into : contains (participants_of_rows (put_row new rows) q) x ≡ (names q x new || contains (participants_of_rows rows q) x) =
     contains_part (put_row new rows) q x ∙ any_put (names q x) new rows free ∙ ap (λ b. names q x new || b) (sym (contains_part rows q x)) in
-    elim (cases_Bool (is_of q (gtrid_of_row new))) [
+    elim (cases_Bool (gtrid_eq q (gtrid_of_row new))) [
       | inl same ↦ into ∙ rw same (sym (contains-insert branches_total (participants_of_rows rows q) (branch_of_row new) x))
       | inr apart ↦ into ∙ rw apart refl
     ])
@@ -95,8 +95,8 @@ parts_of decisions rows g parents = ap (λ o. unwrap_or o empty) (get_booked (pa
 -- ---- the rows of a transaction are taken out
 
 module _ (g : Gtrid) (rows : List Row) (ids : List ℤ) (up : IsTable rows)
-    (sound : (id : ℤ) → Has ids id → (r : Row) × Has rows r × (is_of g (gtrid_of_row r) ≡ true) × (rowid r ≡ Int id)) where
-  stays : (q : Gtrid) (r : Row) → is_of q g ≡ false → Has rows r → is_of q (gtrid_of_row r) ≡ true → Has (without_all rows ids) r
+    (sound : (id : ℤ) → Has ids id → (r : Row) × Has rows r × (gtrid_eq g (gtrid_of_row r) ≡ true) × (rowid r ≡ Int id)) where
+  stays : (q : Gtrid) (r : Row) → gtrid_eq q g ≡ false → Has rows r → gtrid_eq q (gtrid_of_row r) ≡ true → Has (without_all rows ids) r
   stays q r apart h is = left_has ids rows r h (λ id k. elim (cases_Bool (has_rowid id r)) [
     | inl tied ↦ absurd (
         let was = sound id k in
@@ -104,11 +104,11 @@ module _ (g : Gtrid) (rows : List Row) (ids : List ℤ) (up : IsTable rows)
         let mine : q ≡ gtrid_of_row r = exact_gtrids q (gtrid_of_row r) (equal_is _ is) in
         let other : g ≡ gtrid_of_row was.0 = exact_gtrids g (gtrid_of_row was.0) (equal_is _ was.2) in
         let same : q ≡ g = mine ∙ ap gtrid_of_row one ∙ sym other in
-        true≢false (sym (is_itself g) ∙ subst (λ x. is_of x g ≡ false) same apart))
+        true≢false (sym (is_itself g) ∙ subst (λ x. gtrid_eq x g ≡ false) same apart))
     | inr free ↦ free
   ])
 
-  pub parts_left : (q : Gtrid) → is_of q g ≡ false → participants_of_rows (without_all rows ids) q ≡ participants_of_rows rows q
+  pub parts_left : (q : Gtrid) → gtrid_eq q g ≡ false → participants_of_rows (without_all rows ids) q ≡ participants_of_rows rows q
   parts_left q apart = same_set branches_total exact_branches _ _ (λ x. contains_part (without_all rows ids) q x ∙ both_ways _ _
       (λ h. let one = some_has _ (without_all rows ids) h in some_from _ rows one.0 (has_left ids rows one.0 one.1).0 one.2)
       (λ h. let one = some_has _ rows h in some_from _ (without_all rows ids) one.0 (stays q one.0 apart one.1 (and_parts _ _ one.2).0) one.2)
@@ -131,10 +131,10 @@ pub booked_decision : (g : Gtrid) (new : Row) (decisions rows : List Row) → is
     → booked (participants_of_rows rows) (put_row new decisions) ≡ put (booked (participants_of_rows rows) decisions) g empty
 booked_decision g new decisions rows free named parents absent = same_map gtrids_total exact_gtrids _ _ (λ q.
     let none : is_there decisions g ≡ false = none_is _ _ (sym (get_booked (participants_of_rows rows) decisions g) ∙ absent) in
-    let there : is_there (put_row new decisions) q ≡ (is_of q g || is_there decisions q) =
-    any_put (λ r. is_of q (gtrid_of_row r)) new decisions free ∙ ap (λ x. is_of q x || is_there decisions q) named in
+    let there : is_there (put_row new decisions) q ≡ (gtrid_eq q g || is_there decisions q) =
+    any_put (λ r. gtrid_eq q (gtrid_of_row r)) new decisions free ∙ ap (λ x. gtrid_eq q x || is_there decisions q) named in
     get_booked (participants_of_rows rows) (put_row new decisions) q ∙ ap (λ b. cond b (Some (participants_of_rows rows q)) None) there
-    ∙ elim (cases_Bool (is_of q g)) as (λ _. cond (is_of q g || is_there decisions q) (Some (participants_of_rows rows q)) None ≡ get (put (booked (participants_of_rows rows) decisions) g empty) q) [
+    ∙ elim (cases_Bool (gtrid_eq q g)) as (λ _. cond (gtrid_eq q g || is_there decisions q) (Some (participants_of_rows rows q)) None ≡ get (put (booked (participants_of_rows rows) decisions) g empty) q) [
       | inl same ↦ (
           let one : q ≡ g = exact_gtrids q g (equal_is _ same) in
           ap (λ b. cond (b || is_there decisions q) (Some (participants_of_rows rows q)) None) same
@@ -151,16 +151,16 @@ pub booked_participant : (g : Gtrid) (set : KeySet branch_cmp) (before : FinMap 
     → booked (participants_of_rows rows) decisions ≡ put before g set
     → booked (participants_of_rows (put_row new rows)) decisions ≡ put before g (insert set (branch_of_row new))
 booked_participant g set before new decisions rows free named was = same_map gtrids_total exact_gtrids _ _ (λ q.
-    let old : cond (is_there decisions q) (Some (participants_of_rows rows q)) None ≡ cond (is_of q g) (Some set) (get before q) =
+    let old : cond (is_there decisions q) (Some (participants_of_rows rows q)) None ≡ cond (gtrid_eq q g) (Some set) (get before q) =
     sym (get_booked (participants_of_rows rows) decisions q) ∙ ap (λ m. get m q) was ∙ get-insert gtrids_total before g set q in
     let parts : participants_of_rows (put_row new rows) q
-    ≡ cond (is_of q g) (insert (participants_of_rows rows q) (branch_of_row new)) (participants_of_rows rows q) =
-    parts_put new rows free q ∙ ap (λ x. cond (is_of q x) (insert (participants_of_rows rows q) (branch_of_row new)) (participants_of_rows rows q)) named in
+    ≡ cond (gtrid_eq q g) (insert (participants_of_rows rows q) (branch_of_row new)) (participants_of_rows rows q) =
+    parts_put new rows free q ∙ ap (λ x. cond (gtrid_eq q x) (insert (participants_of_rows rows q) (branch_of_row new)) (participants_of_rows rows q)) named in
     get_booked (participants_of_rows (put_row new rows)) decisions q ∙ ap (λ s. cond (is_there decisions q) (Some s) None) parts
-    ∙ elim (cases_Bool (is_of q g)) as (λ _. cond (is_there decisions q) (Some (cond (is_of q g) (insert (participants_of_rows rows q) (branch_of_row new)) (participants_of_rows rows q))) None ≡ get (put before g (insert set (branch_of_row new))) q) [
+    ∙ elim (cases_Bool (gtrid_eq q g)) as (λ _. cond (is_there decisions q) (Some (cond (gtrid_eq q g) (insert (participants_of_rows rows q) (branch_of_row new)) (participants_of_rows rows q))) None ≡ get (put before g (insert set (branch_of_row new))) q) [
       | inl same ↦ (
           let both = some_is _ (participants_of_rows rows q) set (old ∙ ap (λ b. cond b (Some set) (get before q)) same) in
-          ap (λ b. cond b (Some (cond (is_of q g) (insert (participants_of_rows rows q) (branch_of_row new)) (participants_of_rows rows q))) None) both.0
+          ap (λ b. cond b (Some (cond (gtrid_eq q g) (insert (participants_of_rows rows q) (branch_of_row new)) (participants_of_rows rows q))) None) both.0
           ∙ ap (λ b. Some (cond b (insert (participants_of_rows rows q) (branch_of_row new)) (participants_of_rows rows q))) same
           ∙ ap (λ s. Some (insert s (branch_of_row new))) both.1
           ∙ sym (get-insert gtrids_total before g (insert set (branch_of_row new)) q ∙ ap (λ b. cond b (Some (insert set (branch_of_row new))) (get before q)) same))
@@ -171,12 +171,12 @@ booked_participant g set before new decisions rows free named was = same_map gtr
     ])
 
 -- the rows of a transaction went out of both tables
-pub booked_without : (g : Gtrid) (decisions left rows rest : List Row) → ((q : Gtrid) → is_there left q ≡ (not (is_of q g) && is_there decisions q))
-    → ((q : Gtrid) → is_of q g ≡ false → participants_of_rows rest q ≡ participants_of_rows rows q)
+pub booked_without : (g : Gtrid) (decisions left rows rest : List Row) → ((q : Gtrid) → is_there left q ≡ (not (gtrid_eq q g) && is_there decisions q))
+    → ((q : Gtrid) → gtrid_eq q g ≡ false → participants_of_rows rest q ≡ participants_of_rows rows q)
     → booked (participants_of_rows rest) left ≡ remove (booked (participants_of_rows rows) decisions) g
 booked_without g decisions left rows rest there parts = same_map gtrids_total exact_gtrids _ _ (λ q.
     get_booked (participants_of_rows rest) left q ∙ ap (λ b. cond b (Some (participants_of_rows rest q)) None) (there q)
-    ∙ elim (cases_Bool (is_of q g)) as (λ _. cond (not (is_of q g) && is_there decisions q) (Some (participants_of_rows rest q)) None ≡ get (remove (booked (participants_of_rows rows) decisions) g) q) [
+    ∙ elim (cases_Bool (gtrid_eq q g)) as (λ _. cond (not (gtrid_eq q g) && is_there decisions q) (Some (participants_of_rows rest q)) None ≡ get (remove (booked (participants_of_rows rows) decisions) g) q) [
       | inl same ↦ ap (λ b. cond (not b && is_there decisions q) (Some (participants_of_rows rest q)) None) same
           ∙ sym (get-remove gtrids_total (booked (participants_of_rows rows) decisions) g q ∙ ap (λ b. cond b None (get (booked (participants_of_rows rows) decisions) q)) same)
       | inr apart ↦ ap (λ b. cond (not b && is_there decisions q) (Some (participants_of_rows rest q)) None) apart

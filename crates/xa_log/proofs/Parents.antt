@@ -4,6 +4,7 @@ use Rattle.std.specs.Cmp.{both_ways, tied_itself, int_cmp_total, nat_cmp_total}
 use Rattle.std.specs.FinMap.{int_cmp-IsAntisymmetric, nat_cmp-IsAntisymmetric}
 use Rattle.std.specs.List.{AllByRecursion, list_any}
 use Rattle.std.proofs.lemmas.Bool.{and_parts}
+use Rattle.xa_base.specs.Branch.{gtrid_eq}
 use Rattle.sqlite.specs.declared.types.Value.{Value}
 use Rattle.sqlite.specs.declared.types.Value.TheVariants.{Int}
 use Rattle.sqlite.specs.Order.{Row, column}
@@ -18,7 +19,7 @@ use Rattle.xa_base.specs.declared.branch.Gtrid.{Gtrid}
 use Rattle.xa_base.proofs.BranchOrder.{exact_gtrids}
 use Rattle.sqlite_sql.specs.Ops.{is_null}
 use Rattle.xa_log.specs.Tables.{log_schema}
-use Rattle.xa_log.specs.Rows.{gtrid_of_row, is_of, IsDecisionRow, IsParticipantRow, HasDecision}
+use Rattle.xa_log.specs.Rows.{gtrid_of_row, IsDecisionRow, IsParticipantRow, HasDecision}
 use Rattle.xa_log.proofs.Contents.{both_parts, equal_is, is_itself}
 use Rattle.xa_log.proofs.Values.{alike_numbers}
 
@@ -49,7 +50,7 @@ alike_in : (v w : Value) (a b : ℕ) → v ≡ Int (pos a) → w ≡ Int (pos b)
 alike_in v w a b p q = subst₂ (λ x y. equal Binary x y ≡ is_eq (nat_cmp a b)) (sym p) (sym q) (alike a b)
 
 -- keys agree where they are of one transaction
-pub agree_is : (r s : Row) (g h : Gtrid) → Carries r g → Carries s h → agree plain_order key_places r key_places s ≡ is_of g h
+pub agree_is : (r s : Row) (g h : Gtrid) → Carries r g → Carries s h → agree plain_order key_places r key_places s ≡ gtrid_eq g h
 unfolding everything
 agree_is r s g h p q =
     ap (λ b. b && (equal Binary (column r 2) (column s 2) && true)) (alike_in (column r 1) (column s 1) g.incarnation h.incarnation p.0 q.0)
@@ -64,7 +65,7 @@ own_parent db decisions r carries h =
     let same =
     sym (agree_is some.0 r (gtrid_of_row some.0) (gtrid_of_row r) (decision_carries some.0 (all_has _ (db 1) some.0 decisions some.1)) carries) ∙ some.2 in
     let one : gtrid_of_row some.0 ≡ gtrid_of_row r = exact_gtrids (gtrid_of_row some.0) (gtrid_of_row r) (equal_is _ same) in
-    some_from _ (db 1) some.0 some.1 (subst (λ g. is_of g (gtrid_of_row some.0) ≡ true) one (is_itself (gtrid_of_row some.0)))
+    some_from _ (db 1) some.0 some.1 (subst (λ g. gtrid_eq g (gtrid_of_row some.0) ≡ true) one (is_itself (gtrid_of_row some.0)))
 
 -- Where each foreign key holds, each participant has its decision.
 pub parents_held : (db : Trees) → AllByRecursion IsDecisionRow (db 1) → AllByRecursion IsParticipantRow (db 5)

@@ -1,7 +1,6 @@
 -- What the rows of the tables stand for.
 use Rattle.std.specs.Prelude.{◌≡◌, ℕ, ℤ, pos, Bool, true, false, List, [], ◌∷◌, map, filter, slice_index_or, unwrap_or}
 use Rattle.std.specs.List.{AllByRecursion, list_any}
-use Rattle.std.specs.Ordering.{eq_by_cmp}
 use Rattle.std.specs.FinMap.{from_entries}
 use Rattle.xa_log.specs.KeySet.{KeySet, from_list, empty}
 use Rattle.sqlite.specs.declared.types.Value.{Value}
@@ -14,7 +13,7 @@ use Rattle.xa_base.specs.declared.branch.Gtrid.{Gtrid}
 use Rattle.xa_base.specs.declared.branch.Branch.{Branch}
 use Rattle.xa_base.specs.declared.code.How.{How}
 use Rattle.xa_base.specs.declared.code.How.TheVariants.{Com}
-use Rattle.xa_base.specs.Branch.{gtrid_cmp, branch_cmp}
+use Rattle.xa_base.specs.Branch.{branch_cmp, branch_eq, gtrid_eq}
 use Rattle.xa_base.specs.Code.{how_number, how_of_number}
 use Rattle.xa_log.specs.Content.{Content}
 use Rattle.xa_log.specs.Contract.{FitsRow}
@@ -58,15 +57,9 @@ integer_in _ = pos 0
 abbrev pub how_of_row : Row → How
 how_of_row row = unwrap_or (how_of_number (integer_in (column row 5))) Com
 
-abbrev pub is_branch : Branch → Branch → Bool
-is_branch b c = eq_by_cmp branch_cmp b c
-
-abbrev pub is_of : Gtrid → Gtrid → Bool
-is_of g h = eq_by_cmp gtrid_cmp g h
-
 -- the participants that the rows have for a transaction
 abbrev pub participants_of_rows : List Row → Gtrid → KeySet branch_cmp
-participants_of_rows rows g = from_list (filter (λ (b : Branch). is_of g b.gtrid) (map branch_of_row rows))
+participants_of_rows rows g = from_list (filter (λ (b : Branch). gtrid_eq g b.gtrid) (map branch_of_row rows))
 
 abbrev pub content_of : Trees → Content
 content_of trees = record {
@@ -97,11 +90,11 @@ heuristic_from row = (branch_from row, unwrap_or (how_of_number (integer_in (col
 pub record AreHeuristicRows (rows : List Row) : Type 0 where
   pub all : AllByRecursion IsHeuristicRow rows
   pub apart : IsTable rows
-  pub once : IsAscending (λ a b. is_branch (branch_of_row a) (branch_of_row b) ≡ false) rows
+  pub once : IsAscending (λ a b. branch_eq (branch_of_row a) (branch_of_row b) ≡ false) rows
 
 -- the transaction of a participant has a row
 abbrev pub HasDecision : List Row → Row → Type 0
-HasDecision decisions row = list_any (λ r. is_of (gtrid_of_row row) (gtrid_of_row r)) decisions ≡ true
+HasDecision decisions row = list_any (λ r. gtrid_eq (gtrid_of_row row) (gtrid_of_row r)) decisions ≡ true
 
 -- the tables are those of version 2, and each row is one of the log's
 pub record IsLog (db : Database) : Type 0 where

@@ -11,12 +11,12 @@ use Rattle.sqlite.specs.Order.{Row}
 use Rattle.sqlite.specs.State.{State}
 use Rattle.sqlite.specs.Tree.{Trees}
 use Rattle.xa_base.proofs.BranchOrder.{branches_total, exact_branches, exact_gtrids, gtrids_total}
-use Rattle.xa_base.specs.Branch.{branch_cmp, gtrid_cmp}
+use Rattle.xa_base.specs.Branch.{branch_cmp, gtrid_cmp, branch_eq, gtrid_eq}
 use Rattle.xa_base.specs.declared.branch.Branch.{Branch}
 use Rattle.xa_base.specs.declared.branch.Gtrid.{Gtrid}
 use Rattle.xa_log.specs.Content.{AreOwn, Content}
 use Rattle.xa_log.specs.Contract.{AllFit, FitsRow}
-use Rattle.xa_log.specs.Rows.{IsDecisionRow, IsHeuristicRow, IsLog, branch_of_row, content_of, gtrid_of_row, how_of_row, is_branch, is_of, participants_of_rows}
+use Rattle.xa_log.specs.Rows.{IsDecisionRow, IsHeuristicRow, IsLog, branch_of_row, content_of, gtrid_of_row, how_of_row, participants_of_rows}
 use Rattle.xa_log.specs.Sql.{IsOrderly, MayLeave, content_in}
 
 pub durable_content : (s : State) → ((db : Trees) → IsTrue s.is_open → s.may_leave db → db ≡ s.committed.trees) → (c d : Content)
@@ -43,7 +43,7 @@ told x y e = cc
 found_as : (parts : Gtrid → KeySet branch_cmp) (rows : List Row) (g : Gtrid) (set : KeySet branch_cmp)
     → find gtrid_cmp g (map (λ row. (gtrid_of_row row, parts (gtrid_of_row row))) rows) ≡ Some set → parts g ≡ set
 found_as parts [] g set e = absurd (let none : None ≡ Some set = e in cc)
-found_as parts (r ∷ rows) g set e = elim (cases_Bool (is_of g (gtrid_of_row r))) [
+found_as parts (r ∷ rows) g set e = elim (cases_Bool (gtrid_eq g (gtrid_of_row r))) [
   | inl same ↦ ap parts (exact_gtrids g (gtrid_of_row r) (equal_is _ same)) ∙ told _ set (rw same at e)
   | inr apart ↦ found_as parts rows g set (rw apart at e)
 ]
@@ -65,7 +65,7 @@ part_is_own trees g set b has inside =
     let parts = participants_of_rows (trees 5) in
     let same : parts g ≡ set = found_as parts (trees 1) g set (sym (get-from_entries gtrids_total _ g) ∙ has) in
     let one =
-    passes (λ c. is_of g c.gtrid) (eq_by_cmp branch_cmp b) (map branch_of_row (trees 5))
+    passes (λ c. gtrid_eq g c.gtrid) (eq_by_cmp branch_cmp b) (map branch_of_row (trees 5))
     (sym (contains-from_list branches_total _ b) ∙ ap (λ s. contains s b) same ∙ inside) in
     ap (λ (c : Branch). c.gtrid) (exact_branches b one.0 (equal_is _ one.2)) ∙ sym (exact_gtrids g one.0.gtrid (equal_is _ one.1))
 
@@ -84,7 +84,7 @@ own_content s c order is g set b has inside = elim (cases_Bool s.is_open) [
 decision_fits : (parts : Gtrid → KeySet branch_cmp) (rows : List Row) (g : Gtrid) → AllByRecursion IsDecisionRow rows
     → is_some (find gtrid_cmp g (map (λ row. (gtrid_of_row row, parts (gtrid_of_row row))) rows)) ≡ true → FitsRow g
 decision_fits parts [] g all e = absurd (true≢false (sym e))
-decision_fits parts (r ∷ rows) g all e = elim (cases_Bool (is_of g (gtrid_of_row r))) [
+decision_fits parts (r ∷ rows) g all e = elim (cases_Bool (gtrid_eq g (gtrid_of_row r))) [
   | inl same ↦ subst FitsRow (sym (exact_gtrids g (gtrid_of_row r) (equal_is _ same) ∙ ap gtrid_of_row all.0.2)) all.0.3
   | inr apart ↦ decision_fits parts rows g all.1 (rw apart at e)
 ]
@@ -92,7 +92,7 @@ decision_fits parts (r ∷ rows) g all e = elim (cases_Bool (is_of g (gtrid_of_r
 heuristic_fits : (rows : List Row) (b : Branch) → AllByRecursion IsHeuristicRow rows
     → is_some (find branch_cmp b (map (λ row. (branch_of_row row, how_of_row row)) rows)) ≡ true → FitsRow b.gtrid
 heuristic_fits [] b all e = absurd (true≢false (sym e))
-heuristic_fits (r ∷ rows) b all e = elim (cases_Bool (is_branch b (branch_of_row r))) [
+heuristic_fits (r ∷ rows) b all e = elim (cases_Bool (branch_eq b (branch_of_row r))) [
   | inl same ↦ subst (λ (x : Branch). FitsRow x.gtrid) (sym (exact_branches b (branch_of_row r) (equal_is _ same) ∙ ap branch_of_row all.0.3)) all.0.4
   | inr apart ↦ heuristic_fits rows b all.1 (rw apart at e)
 ]
