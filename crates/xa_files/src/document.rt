@@ -11,7 +11,7 @@ use std::alloc::Global;
 use toml::{Table, Value};
 
 /// Whether each of the items is a table.
-pub fn are_tables(items: &[Value]) -> bool
+fn are_tables(items: &[Value]) -> bool
     ensures { result ≡ are_tables (items_view items.now) }
 {
     items.iter().all(|item| item.is_table())

@@ -10,7 +10,7 @@ mod gtrids;
 mod output;
 mod words;
 
-pub use document::{are_tables, document_of, size_at, tables_at};
+pub use document::{document_of, size_at, tables_at};
 pub use fates::{fate_line, fate_text, push_fates};
 pub use fault::RunFault;
 pub use fields::{
