@@ -19,8 +19,6 @@ mod refusal;
 mod reply;
 mod state;
 mod step;
-#[cfg(test)]
-mod tests;
 mod vote;
 mod xid;
 

@@ -21,8 +21,6 @@ mod lines;
 mod outlet;
 mod queue;
 mod taker;
-#[cfg(test)]
-mod tests;
 
 pub use histories::{lines_as_in_histories, traffic_as_in_histories};
 pub use issuer::Issuer;

@@ -23,8 +23,6 @@ mod rows;
 mod sql_log;
 mod statements;
 mod tables;
-#[cfg(test)]
-mod tests;
 
 pub use commands::{Command, Told, run_commands};
 pub use decision_log::{DecisionLog, Logged};

@@ -11,8 +11,6 @@ mod mem_rm;
 mod pages;
 mod resource_manager;
 mod scans;
-#[cfg(test)]
-mod tests;
 
 pub use fault::RmFault;
 pub use mem_rm::MemRm;

@@ -1,0 +1,36 @@
+//! A log in memory.
+
+ghost use Rattle.std.specs.List.{AllByRecursion};
+ghost use Rattle.xa_log.specs.Commands.{Fits};
+
+use crate::commands::{FIRST, run_each_call};
+use std::alloc::Global;
+use std::test::Fail;
+use xa_log::{Command, LogFault, MemLog, Told, run_commands};
+
+#[test]
+fn answers_each_call(rt: HostRuntime) -> Result<(), Fail> {
+    run_each_call(&rt, &mut MemLog::new(rt.alloc()))
+}
+
+/// What commands are told that change nothing. They are made again after one refusal of memory.
+fn told(alloc: Global, log: &mut MemLog, commands: &[Command]) -> Result<Vec<Told>, LogFault>
+    requires { AllByRecursion Fits commands.now }
+{
+    match run_commands(alloc, log, commands) {
+        Err(LogFault::Memory) => run_commands(alloc, log, commands),
+        told => told,
+    }
+}
+
+#[test]
+fn answers_a_list_of_commands(rt: HostRuntime) -> Result<(), Fail> {
+    let mut log = MemLog::new(rt.alloc());
+    let commands = [Command::Contains(FIRST), Command::Rows];
+    let told = told(rt.alloc(), &mut log, &commands)?;
+    let [Told::Found(false), Told::Rows(rows)] = told.as_slice() else {
+        return Err(Fail::from("other answers"));
+    };
+    assert!(rt; rows.decisions.is_empty());
+    Ok(())
+}
