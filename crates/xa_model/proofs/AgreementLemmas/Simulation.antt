@@ -261,7 +261,10 @@ one_change : (tr : Trace) (e : Happening) (es : List Happening) (g : Gtrid) (b :
 one_change tr e es g b x y r k (P_same z) p q = Same (p ∙ sym q)
 one_change tr e es g b x y r k P_willing p q = To_willing p q
 one_change tr e es g b x y r k (P_kept h) p q =
-    To_kept p q (λ c m. (eager_fate _ ((inv.rows b.gtrid h).good c (same c m) (before c m)), eager_fate _ ((inv'.rows b.gtrid (rowed_kept tr e b.gtrid h)).good c (same c m) (started_kept tr e c (before c m)))))
+    To_kept p q (λ c m. (
+      eager_fate _ ((inv.rows b.gtrid h).good c (same c m) (before c m)),
+      eager_fate _ ((inv'.rows b.gtrid (rowed_kept tr e b.gtrid h)).good c (same c m) (started_kept tr e c (before c m))),
+    ))
   where
     r' : AllRight (Then tr e)
     r' = right_before (Then tr e) es r

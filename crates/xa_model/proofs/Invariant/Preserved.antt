@@ -67,7 +67,10 @@ ack_now tr b _ _ inv t h = cc
 
 ack_kept : (tr : Trace) (e : Happening) (b : Branch) → Inv tr → Right tr e → AckFact tr b → AckFact (Then tr e) b
 ack_kept tr e b inv r f =
-    record { is_fixed = fixed_kept tr e b r f.is_fixed; at_rest = λ s. rest_moves tr b _ _ (step_move tr e b inv r) (f.at_rest (fixed_back tr e b r f.is_fixed s)) }
+    record {
+      is_fixed = fixed_kept tr e b r f.is_fixed;
+      at_rest = λ s. rest_moves tr b _ _ (step_move tr e b inv r) (f.at_rest (fixed_back tr e b r f.is_fixed s));
+    }
 
 voted_yes_after : (tr : Trace) (e : Happening) (b : Branch) → Inv tr → Right tr e → told (Then tr e) (says_yes b) ≡ true → YesFact (Then tr e) b
 voted_yes_after tr e b inv r h = by_case (told_new tr e (says_yes b) h)
@@ -104,7 +107,10 @@ pub record RecordFact (tr : Trace) (b : Branch) (how : How) : Type 0 where
 
 record_kept : (tr : Trace) (e : Happening) (b : Branch) (how : How) → Inv tr → Right tr e → RecordFact tr b how → RecordFact (Then tr e) b how
 record_kept tr e b how inv r f =
-    record { closed = closed_kept tr e b.gtrid r f.closed; heuristic = λ s. heuristic_kept tr e b how inv r (f.heuristic (started_back tr e b r f.closed.not_live s)) }
+    record {
+      closed = closed_kept tr e b.gtrid r f.closed;
+      heuristic = λ s. heuristic_kept tr e b how inv r (f.heuristic (started_back tr e b r f.closed.not_live s));
+    }
 
 heuristic_record_fact : (tr : Trace) (b : Branch) (how : How) → HeuristicFact tr b how → RecordFact tr b how
 heuristic_record_fact tr b how h = record { closed = h.closed; heuristic = λ s. h.heuristic }

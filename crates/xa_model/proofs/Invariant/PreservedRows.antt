@@ -126,7 +126,11 @@ no_longer_live b c d h false p q = cc
 decided_row_fact : (tr : Trace) (g : Gtrid) → Inv tr → RightDecision tr g Outcome.Commit → RowFact (Then tr (Decided g Outcome.Commit)) g
 decided_row_fact tr g inv d = record {
   closed =
-      record { old = inv.begun_old g (live_begun tr g d.is_live); not_live = false_unless _ (λ l. no_longer_live (begun tr g) (decided_so Outcome.Commit tr g) (decided_so Outcome.Rollback tr g) (handed_over tr g) _ (gtrid_eq-refl g) l) };
+      record {
+        old = inv.begun_old g (live_begun tr g d.is_live);
+        not_live = false_unless _ (λ l. no_longer_live (begun tr g) (decided_so Outcome.Commit tr g) (decided_so Outcome.Rollback tr g) (handed_over tr g) _
+            (gtrid_eq-refl g) l);
+      };
   good = λ b q s. voted_good tr b inv (ap (live tr) q ∙ d.is_live) (decided_voted tr g inv d b q s);
   not_handed = not_handed_live tr g d.is_live;
   not_rolled_back = not_rolled_back_live tr g d.is_live;

@@ -89,7 +89,11 @@ start_not_taken tr e l x b s inv r f w n m a q =
 start_kept : (tr : Trace) (e : Happening) (l : Line) (x : Kind) (b : Branch) → Starts x → Inv tr → Right tr e
     → WaitingStart tr l b → (w : Waits tr l (on x b)) → length (taken tr l ++ new_taken e l) ≤ w.place → WaitingStart (Then tr e) l b
 start_kept tr e l x b s inv r f w n =
-    record { own_line = f.own_line; is_started = started_kept tr e b f.is_started; unstarted = unstarted_stays tr e b (start_not_taken tr e l x b s inv r f w n) f.unstarted }
+    record {
+      own_line = f.own_line;
+      is_started = started_kept tr e b f.is_started;
+      unstarted = unstarted_stays tr e b (start_not_taken tr e l x b s inv r f w n) f.unstarted;
+    }
 
 no_row_kept : (tr : Trace) (e : Happening) (g : Gtrid) → Right tr e → up tr ≡ true → live tr g ≡ false → has_row tr g ≡ false → has_row (Then tr e) g ≡ false
 no_row_kept tr e g r u n h = false_unless _ (λ k. by_case (row_back tr e g k))
@@ -109,7 +113,10 @@ waited_kept tr e l OnePhase b inv r w n = handed_kept tr e b.gtrid (inv.waiting 
 waited_kept tr e l Commit b inv r w n = rowed_kept tr e b.gtrid (inv.waiting l Commit b w)
 waited_kept tr e l Rollback b inv r w n =
     let f = inv.waiting l Rollback b w in
-    record { closed = closed_kept tr e b.gtrid r f.closed; no_row = no_row_kept tr e b.gtrid r (inv.waiting_up l (Calls.Rollback b) w) f.closed.not_live f.no_row }
+    record {
+      closed = closed_kept tr e b.gtrid r f.closed;
+      no_row = no_row_kept tr e b.gtrid r (inv.waiting_up l (Calls.Rollback b) w) f.closed.not_live f.no_row;
+    }
 waited_kept tr e l Forget b inv r w n = recorded_kept tr e b (inv.waiting l Forget b w)
 
 -- ** calls that are new
@@ -310,7 +317,8 @@ new_start tr (Issued m d) l i x b s r h =
 new_start tr (Resolved n) l i x b s r h =
     absurd (resolving_no_start tr b x s (resolving_item tr (page tr n) i x b (page_if (line_eq (line 0 n) l) _ i (on x b) h)).kind)
 new_start tr (ResolvedOpen n) l i x b s r h =
-    absurd (resolving_no_start (Then tr (ResolvedOpen n)) b x s (resolving_item (Then tr (ResolvedOpen n)) (page tr n) i x b (page_if (line_eq (line 0 n) l) _ i (on x b) h)).kind)
+    absurd (resolving_no_start (Then tr (ResolvedOpen n)) b x s
+    (resolving_item (Then tr (ResolvedOpen n)) (page tr n) i x b (page_if (line_eq (line 0 n) l) _ i (on x b) h)).kind)
 new_start tr _ l i x b s r h = cc
 
 -- where an xa_start on the line came from
