@@ -89,7 +89,8 @@ finds old new g rows is h =
     length_permutation _ _ moved ∙ length-map _ _ ∙ ap length (chosen_gtrid g (old.now.trees 1) is.decisions) in
     not_empty (length rows == 0) (list_any p (old.now.trees 1)) (λ h. none_kept p (old.now.trees 1) (sym same ∙ eqb-true (length rows) 0 h))
     (λ none. ap (λ n. n == 0) (same ∙ kept_none p (old.now.trees 1) none))
-    ∙ sym (ap Rattle.std.proofs.Common.is_some (get_booked (participants_of_rows (old.now.trees 5)) (old.now.trees 1) g) ∙ some_of (list_any p (old.now.trees 1)) (participants_of_rows (old.now.trees 5) g))
+    ∙ sym (ap Rattle.std.proofs.Common.is_some (get_booked (participants_of_rows (old.now.trees 5)) (old.now.trees 1) g)
+    ∙ some_of (list_any p (old.now.trees 1)) (participants_of_rows (old.now.trees 5) g))
 
 -- the call that asks, from the log before it to the log after it
 pub found : (g : Gtrid) (params : Row) → params ≡ gtrid_params g → (old mid new : State) (rows : List Row) (empty : Bool)
@@ -243,10 +244,12 @@ module _ (g : Gtrid) (params : Row) (given : params ≡ gtrid_params g) (old : S
   pub delete_commits : IsTrue old.is_open → (db : Trees) → CommitsBy delete_decision params old db
       → (content_of db ≡ without_decision g (content_of old.now.trees)) × AreLogTrees db
   delete_commits is_open db h =
-      elim (commits_as delete_decision delete_decision_plain old (λ _. ready) is_open delete_command delete_decision_is (gtrid_params g) db (subst (λ p. CommitsBy delete_decision p old db) given h)) [
+      elim (commits_as delete_decision delete_decision_plain old (λ _. ready) is_open delete_command delete_decision_is (gtrid_params g) db
+      (subst (λ p. CommitsBy delete_decision p old db) given h)) [
         | inl (inl is, same) ↦ absurd (let e = is in cc)
         | inl (inr release, same) ↦ absurd (let e = release.2 in cc)
-        | inr writes ↦ (let made = delete_makes delete_text writes.1 writes.2 writes.3 in (ap content_of writes.5 ∙ made.1, subst AreLogTrees (sym writes.5) (as_log writes.2 made.0 writes.4)))
+        | inr writes ↦ (let made = delete_makes delete_text writes.1 writes.2 writes.3 in
+            (ap content_of writes.5 ∙ made.1, subst AreLogTrees (sym writes.5) (as_log writes.2 made.0 writes.4)))
       ]
 
 -- ---- in a transaction

@@ -103,7 +103,12 @@ four_parts Greater p q r = refl
 
 names_branch : (id : ℤ) (x b : Branch) (how : How) → list_all (holds (branch_params b ∷ heuristic_row id x how ∷ [])) heuristic_tests ≡ branch_eq b x
 names_branch id x b how =
-    rw (same_number x.gtrid.incarnation b.gtrid.incarnation, same_number x.gtrid.sequence b.gtrid.sequence, same_number x.thread b.thread, same_number x.rm b.rm)
+    rw (
+      same_number x.gtrid.incarnation b.gtrid.incarnation,
+      same_number x.gtrid.sequence b.gtrid.sequence,
+      same_number x.thread b.thread,
+      same_number x.rm b.rm,
+    )
     (four_parts (nat_cmp b.gtrid.incarnation x.gtrid.incarnation) (nat_cmp b.gtrid.sequence x.gtrid.sequence) (nat_cmp b.thread x.thread) (nat_cmp b.rm x.rm))
 
 names_branch_in : (b : Branch) (r : Row) → IsHeuristicRow r → list_all (holds (branch_params b ∷ r ∷ [])) heuristic_tests ≡ branch_eq b (branch_of_row r)
@@ -213,7 +218,8 @@ put_entries new rows free others once =
     ]))
     (λ e h. elim h [
       | inl one ↦ subst (Has (map entry_in (put_row new rows))) (sym one) (mapped_has entry_in (put_row new rows) new (has_put new rows))
-      | inr later ↦ (let r = has_mapped entry_in rows e later in subst (Has (map entry_in (put_row new rows))) (sym r.2) (mapped_has entry_in (put_row new rows) r.0 (put_keeps new rows r.0 free r.1)))
+      | inr later ↦ (let r = has_mapped entry_in rows e later in
+          subst (Has (map entry_in (put_row new rows))) (sym r.2) (mapped_has entry_in (put_row new rows) r.0 (put_keeps new rows r.0 free r.1)))
     ])
     (entries_once (new ∷ rows) (others, once))
 
@@ -292,7 +298,8 @@ module _ (b : Branch) (how : How) (fits : FitsRow b.gtrid) (params : Row) (given
   pub record_commits : IsTrue old.is_open → (db : Trees) → CommitsBy insert_heuristic params old db
       → (content_of db ≡ recorded b how (content_of old.now.trees)) × AreLogTrees db
   record_commits is_open db h =
-      elim (commits_as insert_heuristic insert_heuristic_plain old (λ _. ready) is_open insert_end insert_heuristic_is (end_params b how) db (subst (λ p. CommitsBy insert_heuristic p old db) given h)) [
+      elim (commits_as insert_heuristic insert_heuristic_plain old (λ _. ready) is_open insert_end insert_heuristic_is (end_params b how) db
+      (subst (λ p. CommitsBy insert_heuristic p old db) given h)) [
         | inl (inl is, same) ↦ absurd (let e = is in cc)
         | inl (inr release, same) ↦ absurd (let e = release.2 in cc)
         | inr writes ↦ (

@@ -156,7 +156,8 @@ module _ {K X A : Type 0} {R : K → K → Ordering} (o : IsTotalOrder R) (exact
     → K × X) (xs ys : List A) (i : ℕ) (x : A) (seen : ys ≡ xs) (here : x ≡ get_or ys i x) (low : i < length xs) where
   turned : reverse (map f (take (i + 1) xs)) ≡ f x ∷ reverse (map f (take i xs))
   turned =
-      ap reverse (ap (map f) (take_more xs i x low) ∙ map-append f (take i xs) (get_or xs i x ∷ []) ∙ ap (λ y. map f (take i xs) ++ f y ∷ []) (sym (here ∙ ap (λ all. get_or all i x) seen)))
+      ap reverse (ap (map f) (take_more xs i x low) ∙ map-append f (take i xs) (get_or xs i x ∷ [])
+      ∙ ap (λ y. map f (take i xs) ++ f y ∷ []) (sym (here ∙ ap (λ all. get_or all i x) seen)))
       ∙ reverse-append (map f (take i xs)) (f x ∷ [])
 
   pub map_more : (old new : BTreeMap K X) (k : K) (v : X) → (k, v) ≡ f x
@@ -215,4 +216,5 @@ module _ {K : Type 0} (R : K → K → Ordering) where
   append_rises xs ys p q below =
       let first : IsAscending (λ a b. R a b ≡ Less) xs = as_ascending xs p in
       let second : IsAscending (λ a b. R a b ≡ Less) ys = as_ascending ys q in
-      from_ascending (xs ++ ys) (ascending-append (λ a b. R a b ≡ Less) xs ys first second (all_from (λ x. AllByRecursion (λ y. R x y ≡ Less) ys) xs (λ x h. all_from (λ y. R x y ≡ Less) ys (λ y k. below x y h k))))
+      from_ascending (xs ++ ys) (ascending-append (λ a b. R a b ≡ Less) xs ys first second
+      (all_from (λ x. AllByRecursion (λ y. R x y ≡ Less) ys) xs (λ x h. all_from (λ y. R x y ≡ Less) ys (λ y k. below x y h k))))

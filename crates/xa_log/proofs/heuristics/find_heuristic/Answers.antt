@@ -15,15 +15,34 @@ returns-in-Some-clause-ok g c order clean =
     let told = c.in_ok-rows.ensures.shown order clean in
     let given : bound_value (owned c.params-to_sql.result) ∷ bound_value (owned c.params-to_sql-2.result)
     ∷ bound_value (owned c.params-to_sql-3.result) ∷ bound_value (owned c.params-to_sql-4.result) ∷ [] ≡ branch_params c.args.b =
-    rw (c.params-to_sql.ensures, c.params-to_sql-2.ensures, c.params-to_sql-3.ensures, c.params-to_sql-4.ensures, c.stored.ensures, c.stored-2.ensures, c.from.ensures, c.from-2.ensures) (four_params c.args.b c.requires (omega arith) (omega arith)) in
+    rw (
+      c.params-to_sql.ensures,
+      c.params-to_sql-2.ensures,
+      c.params-to_sql-3.ensures,
+      c.params-to_sql-4.ensures,
+      c.stored.ensures,
+      c.stored-2.ensures,
+      c.from.ensures,
+      c.from-2.ensures,
+    ) (four_params c.args.b c.requires (omega arith) (omega arith)) in
     let first : slice_get c.in_ok-rows.rows.items 0 ≡ Some c.in-Some.row.now = search rules in
-    found_end c.args.b _ given _ (state g.S.Store told.0) _ c.in_ok-rows.rows.items order told.1 told.2 told.3 c.in-Some.row.now c.in_ok-how-in-Some.field-0 first c.in_ok-how-in-Some.ensures.ok
+    found_end c.args.b _ given _ (state g.S.Store told.0) _ c.in_ok-rows.rows.items order told.1 told.2 told.3 c.in-Some.row.now c.in_ok-how-in-Some.field-0
+    first c.in_ok-how-in-Some.ensures.ok
 
 pub returns-clause-ok : goal.returns-clause-ok
 returns-clause-ok g c order clean =
     let told = c.in_ok-rows.ensures.shown order clean in
     let given : bound_value (owned c.params-to_sql.result) ∷ bound_value (owned c.params-to_sql-2.result)
     ∷ bound_value (owned c.params-to_sql-3.result) ∷ bound_value (owned c.params-to_sql-4.result) ∷ [] ≡ branch_params c.args.b =
-    rw (c.params-to_sql.ensures, c.params-to_sql-2.ensures, c.params-to_sql-3.ensures, c.params-to_sql-4.ensures, c.stored.ensures, c.stored-2.ensures, c.from.ensures, c.from-2.ensures) (four_params c.args.b c.requires (omega arith) (omega arith)) in
+    rw (
+      c.params-to_sql.ensures,
+      c.params-to_sql-2.ensures,
+      c.params-to_sql-3.ensures,
+      c.params-to_sql-4.ensures,
+      c.stored.ensures,
+      c.stored-2.ensures,
+      c.from.ensures,
+      c.from-2.ensures,
+    ) (four_params c.args.b c.requires (omega arith) (omega arith)) in
     let first : slice_get c.in_ok-rows.rows.items 0 ≡ None = search rules in
     found_no_end c.args.b _ given _ (state g.S.Store told.0) _ c.in_ok-rows.rows.items order told.1 told.2 told.3 first
