@@ -29,8 +29,8 @@ use Rattle.xa_log.proofs.Texts.{all_decisions, all_decisions_is, all_decisions_p
 use Rattle.xa_log.proofs.Plain.{chosen, shown, plain_rows}
 use Rattle.xa_log.proofs.Contents.{any_mapped, equal_is, is_itself, permuted_has}
 use Rattle.xa_log.proofs.Maps.{booked, contains_part, get_booked, is_there, names, some_is}
-use Rattle.xa_log.proofs.DecisionRows.{some_of}
-use Rattle.xa_log.proofs.HeuristicRows.{entries_once, entry_in}
+use Rattle.xa_log.proofs.DecisionReads.{some_of}
+use Rattle.xa_log.proofs.HeuristicReads.{entries_once, entry_in}
 use Rattle.xa_log.proofs.Keyed.{append_rises, find_has, has_find, items_rise, risen, rising_once, same_entries_in, same_items_in}
 use Rattle.xa_log.proofs.KeySets.{items-from_list}
 use Rattle.xa_log.proofs.States.{answered}

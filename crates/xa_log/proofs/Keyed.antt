@@ -39,7 +39,7 @@ parted true true false d h = absurd h
 parted true false c d h = absurd h
 parted false b c d h = absurd h
 
-less : (o : Ordering) → T (is_lt o) → o ≡ Less
+pub less : (o : Ordering) → T (is_lt o) → o ≡ Less
 less Less h = refl
 less Equal h = absurd h
 less Greater h = absurd h
@@ -197,6 +197,11 @@ rising_once {K} {X} {R} o (e ∷ es) up a b h k same = go h k (λ p q. rising_on
     go (inl p) (inr q) later = absurd (clash b q (sym (ap (λ (x : K × X). x.0) p) ∙ same))
     go (inr p) (inl q) later = absurd (clash a p (sym (ap (λ (x : K × X). x.0) q) ∙ sym same))
     go (inr p) (inr q) later = later p q
+
+-- what holds of all that is found in the entries of a map holds of each of them
+pub all_entries : {K X : Type 0} {R : K → K → Ordering} → IsTotalOrder R → IsAntisymmetric R → (P : K × X → Type 0) (es : List (K × X)) → T (is_sorted R es)
+    → ((k : K) (v : X) → find R k es ≡ Some v → P (k, v)) → AllByRecursion P es
+all_entries o exact P es up each = all_from P es (λ e there. each e.0 e.1 (has_find o exact e.0 e.1 es (rising_once o es (risen o exact es up)) there))
 
 -- ---- one list after another
 

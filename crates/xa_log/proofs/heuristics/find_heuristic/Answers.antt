@@ -4,7 +4,7 @@ use Rattle.sqlite.specs.Values.{bound_value}
 use Rattle.sqlite.specs.Value.{owned}
 use Rattle.xa_log.proofs.Texts.{find_heuristic_plain}
 use Rattle.xa_log.proofs.DecisionRows.{branch_params, four_params}
-use Rattle.xa_log.proofs.HeuristicRows.{found_end, found_no_end}
+use Rattle.xa_log.proofs.HeuristicReads.{found_end, found_no_end}
 use Rattle.xa_log.proofs.heuristics.find_heuristic.Goals as goal
 
 pub ask-requires : goal.ask-requires

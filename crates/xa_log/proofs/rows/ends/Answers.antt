@@ -4,7 +4,7 @@ use Rattle.std.specs.FinMap.{from_entries}
 use Rattle.xa_base.proofs.BranchOrder.{branches_total, exact_branches}
 use Rattle.xa_base.specs.Branch.{branch_cmp}
 use Rattle.xa_log.specs.Rows.{heuristic_from}
-use Rattle.xa_log.proofs.HeuristicRows.{entry_read}
+use Rattle.xa_log.proofs.HeuristicReads.{entry_read}
 use Rattle.xa_log.proofs.Keyed.{map_more, map_listed}
 use Rattle.xa_log.proofs.rows.ends.Goals as goal
 
