@@ -35,7 +35,7 @@ use Rattle.xa_model.proofs.Invariant.PreservedRows.{started_listed}
 use Rattle.xa_model.proofs.Invariant.Records.{recorded_how}
 use Rattle.xa_model.proofs.RecoveryLemmas.Recovered.{In, Pending, EndsBranch, AllEnd, IsToEnd, Left, all_taken}
 use Rattle.xa_model.proofs.Replies.Replies.{demanded_right}
-use Rattle.xa_model.proofs.Invariant.Rows.{or_here}
+use Rattle.xa_model.proofs.Invariant.RowLists.{or_here}
 
 -- ** what is in doubt is listed
 

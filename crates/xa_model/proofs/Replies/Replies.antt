@@ -20,7 +20,7 @@ use Rattle.xa_base.specs.declared.call.Call.TheVariants as Calls
 use Rattle.xa_base.specs.StateTable.{on}
 use Rattle.xa_model.specs.Trace.{Gtrid, Branch, Call, Name.Ours, Name.Foreign, Kind, Kind.Start, Kind.Join, Kind.End, Kind.Prepare, Kind.Commit, Kind.OnePhase, Kind.Rollback, Kind.Forget, Outcome, Happening, Happening.Issued, Trace, Trace.From, Trace.Then, line}
 use Rattle.xa_base.proofs.BranchKeys.{branch_eq-true, gtrid_eq-refl}
-use Rattle.xa_model.proofs.Invariant.Rows.{or_here}
+use Rattle.xa_model.proofs.Invariant.RowLists.{or_here}
 
 -- ** no rule applies
 
