@@ -27,7 +27,8 @@ unfolding listed page entries
 three_pages = refl
 
 -- a negative count is refused in the middle of a scan, whatever its flags, and the scan goes on where it stood
-refused_in_the_middle : listed ((pos 2, true, false) ∷ (negsuc 0, false, false) ∷ (negsuc 4, true, false) ∷ (negsuc 0, false, true) ∷ (pos 2, false, false) ∷ []) NotOpen
+refused_in_the_middle : listed ((pos 2, true, false) ∷ (negsuc 0, false, false) ∷ (negsuc 4, true, false) ∷ (negsuc 0, false, true)
+    ∷ (pos 2, false, false) ∷ []) NotOpen
     ≡ (Some (1 ∷ 2 ∷ []), Behind (Some 2)) ∷ (None, Behind (Some 2)) ∷ (None, Behind (Some 2)) ∷ (None, Behind (Some 2))
     ∷ (Some (3 ∷ 4 ∷ []), Behind (Some 4)) ∷ []
 unfolding listed page entries

@@ -1,5 +1,5 @@
 //! Answers of resource managers.
-ghost use Rattle.std.specs.Prelude.{◌≡◌, IfOk, OnOk};
+ghost use Rattle.std.specs.Prelude.{◌≡◌, IfOk};
 
 use crate::{Code, Memory, Xid};
 use std::alloc::{AllocError, Global};

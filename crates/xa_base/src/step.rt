@@ -1,5 +1,6 @@
 //! Steps of the whole system.
 ghost use Rattle.std.specs.Prelude.{◌≡◌};
+ghost use Rattle.xa_base.specs.declared.step.Step.TheVariants as Steps;
 
 use crate::{Call, Gtrid, How, Vote, Xid};
 
@@ -124,28 +125,12 @@ impl Step {
                 thread,
                 rm,
                 ref call,
-            } => Step::Issue {
-                thread,
-                rm,
-                call: call.copy(),
-            },
+            } => Step::issue(thread, rm, call.copy()),
             Step::Take { thread, rm } => Step::Take { thread, rm },
             Step::Hear { thread, rm } => Step::Hear { thread, rm },
-            Step::Vote { rm, ref xid, vote } => Step::Vote {
-                rm,
-                xid: xid.copy(),
-                vote,
-            },
-            Step::Busy { rm, ref xid, times } => Step::Busy {
-                rm,
-                xid: xid.copy(),
-                times,
-            },
-            Step::Heuristic { rm, ref xid, how } => Step::Heuristic {
-                rm,
-                xid: xid.copy(),
-                how,
-            },
+            Step::Vote { rm, ref xid, vote } => Step::vote(rm, xid.copy(), vote),
+            Step::Busy { rm, ref xid, times } => Step::busy(rm, xid.copy(), times),
+            Step::Heuristic { rm, ref xid, how } => Step::heuristic(rm, xid.copy(), how),
             Step::Decide { gtrid, outcome } => Step::Decide { gtrid, outcome },
             Step::Claim { gtrid } => Step::Claim { gtrid },
             Step::Settle { gtrid } => Step::Settle { gtrid },
@@ -167,5 +152,29 @@ impl Step {
             Step::Crash(part) => Step::Crash(part),
             Step::Restart(side) => Step::Restart(side),
         }
+    }
+
+    fn issue(thread: u32, rm: u32, call: Call) -> Step
+        ensures { result ≡ Steps.Issue thread rm call }
+    {
+        Step::Issue { thread, rm, call }
+    }
+
+    fn vote(rm: u32, xid: Xid, vote: Vote) -> Step
+        ensures { result ≡ Steps.Vote rm xid vote }
+    {
+        Step::Vote { rm, xid, vote }
+    }
+
+    fn busy(rm: u32, xid: Xid, times: u32) -> Step
+        ensures { result ≡ Steps.Busy rm xid times }
+    {
+        Step::Busy { rm, xid, times }
+    }
+
+    fn heuristic(rm: u32, xid: Xid, how: How) -> Step
+        ensures { result ≡ Steps.Heuristic rm xid how }
+    {
+        Step::Heuristic { rm, xid, how }
     }
 }

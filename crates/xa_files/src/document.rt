@@ -20,7 +20,8 @@ fn are_tables(items: &[Value]) -> bool
 /// The tables at a key, of which there may be none, as where the key is missing.
 #[tactic(auto, unfolding(crate::specs::Documents::tables_at))]
 pub fn tables_at<'a>(document: &'a Table, key: &str) -> Option<&'a [Value]>
-    ensures { option_map (λ items. items_view items.now) result ≡ tables_at key.now (table_view document.now) }
+    ensures { option_map (λ items. items_view items.now) result
+        ≡ tables_at key.now (table_view document.now) }
 {
     match value_at(document, key) {
         None => Some(&[]),

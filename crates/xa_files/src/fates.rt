@@ -42,7 +42,8 @@ pub fn fate_line(alloc: Global, line: &(Xid, Fate)) -> Result<String, RunFault>
 
 /// Adds a line for each branch.
 pub fn push_fates(text: &mut String, alloc: Global, fates: &[(Xid, Fate)]) -> Result<(), RunFault>
-    ensures text { OnOk result (string_bytes text.new ≡ string_bytes text.old ++ fate_lines fates.now) }
+    ensures text { OnOk result (string_bytes text.new ≡ string_bytes text.old
+        ++ fate_lines fates.now) }
     ensures fault { IfErr result (λ e. e ≡ Memory) }
 {
     for line in fates {

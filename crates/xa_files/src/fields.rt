@@ -1,6 +1,6 @@
 //! What the keys of a table hold.
 
-ghost use Rattle.std.specs.Prelude.{◌≡◌, List, ℕ, map, option_map};
+ghost use Rattle.std.specs.Prelude.{◌≡◌, map, option_map};
 ghost use Rattle.toml.specs.View.{view, table_view};
 ghost use Rattle.toml.specs.Data.{get_member};
 ghost use Rattle.xa_files.specs.Fields.{is_among, has_only, text_at, integer_at, number_at, index_at, holds, index_or, is_name_byte, is_name, name_at};
@@ -23,7 +23,8 @@ pub fn has_only(table: &Table, keys: &[&str]) -> bool
 
 /// The value at a key.
 pub fn value_at<'a>(table: &'a Table, key: &str) -> Option<&'a Value>
-    ensures { option_map (λ value. view value.now) result ≡ get_member key.now (table_view table.now) }
+    ensures { option_map (λ value. view value.now) result
+        ≡ get_member key.now (table_view table.now) }
 {
     table.get(key)
 }

@@ -11,7 +11,8 @@ use std::io::{ErrorKind, Write};
 /// Writes a text whole. What was written before a write failed is left: a beginning of the text.
 pub fn write_text<W: Write>(text: &[u8], out: &mut W) -> Result<(), RunFault>
     ensures whole { OnOk result (Appends (W.contents out.old) (W.contents out.new) text.now) }
-    ensures begun { OnErr result (AppendsBeginning (W.contents out.old) (W.contents out.new) text.now) }
+    ensures begun { OnErr result (AppendsBeginning (W.contents out.old)
+        (W.contents out.new) text.now) }
     ensures fault { IfErr result (λ e. e ≡ Output) }
 {
     let mut rest = text;

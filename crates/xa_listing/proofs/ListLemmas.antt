@@ -1,11 +1,12 @@
 -- The text of the rows of a log is that of its content.
-use Rattle.std.proofs.Common.{◌≡◌, ◌∙◌, T, ℕ, Bool, true, false, ◌&&◌, ◌||◌, cond, List, [], ◌∷◌, ◌++◌, length, map, drop, Ordering, Less, Equal, Greater, Option, Some, None, Result, Ok, Err, IfOk, IfErr, IsSomeAnd, OnOk, OnErr, refl, sym, ap, subst, inl, inr, arith}
+use Rattle.std.proofs.Common.{◌≡◌, ◌∙◌, T, ℕ, Bool, true, false, ◌&&◌, ◌||◌, List, [], ◌∷◌, ◌++◌, length, map, drop, Less, Equal, Option, Some, None, Result, Ok, Err, IfOk, IfErr, IsSomeAnd, OnOk, OnErr, refl, sym, ap, subst, inl, inr, arith}
 use Rattle.std.specs.Cmp.{tied_itself}
-use Rattle.std.specs.FinMap.{entries, entries_sorted, find, get-entries, is_sorted, keys}
+use Rattle.std.specs.FinMap.{entries, entries_sorted, get-entries, is_sorted, keys}
 use Rattle.std.specs.FinMap.Entries.{below_all}
 use Rattle.std.specs.Io.KnownBytes.{Appends}
 use Rattle.std.specs.List.{AllByRecursion, flat_map, list_any}
-use Rattle.std.specs.Ordering.{eq_by_cmp, is_eq, is_lt}
+use Rattle.std.specs.Ordering.{eq_by_cmp, is_eq}
+use Rattle.std.proofs.Math.Seq.{drop-append_seam}
 use Rattle.std.proofs.lemmas.Bool.{cases_Bool}
 use Rattle.std.proofs.lemmas.Result.{on_ok_weaker}
 use Rattle.xa_base.proofs.BranchOrder.{branches_total, exact_gtrids, gtrids_total}
@@ -19,6 +20,7 @@ use Rattle.xa_files.specs.declared.fault.RunFault.{RunFault}
 use Rattle.xa_files.specs.declared.fault.RunFault.TheVariants.{Output}
 use Rattle.xa_listing.specs.Lines.{decision_lines, heuristic_lines, is_of, own_count, rows_text}
 use Rattle.xa_listing.specs.Texts.{BeginsLog, PrintsLog, count_line, decision_line, log_text}
+use Rattle.xa_log.proofs.Keyed.{all_entries, less}
 use Rattle.xa_log.specs.Content.{AreOwn, Content, all_listed}
 use Rattle.xa_log.specs.KeySet.{KeySet, contains-items, items}
 use Rattle.xa_log.specs.declared.log_fault.LogFault.{LogFault}
@@ -43,10 +45,6 @@ first_count g [] [] own others = refl
 first_count g [] (y ∷ ys) own others = rw (others.0) refl
 first_count g (x ∷ xs) ys own others = rw (own.0) (omega (arith, first_count g xs ys own.1 others))
 
-drop_first : {A : Type 0} (xs ys : List A) → drop (length xs) (xs ++ ys) ≡ ys
-drop_first [] ys = refl
-drop_first (x ∷ xs) ys = drop_first xs ys
-
 -- ** the rows of a map of which each has branches of its own
 
 abbrev IsOwn : Row → Type 0
@@ -55,11 +53,6 @@ IsOwn row = AllByRecursion (λ (b : Branch). b.gtrid ≡ row.0) (items row.1)
 parts : (a b : Bool) → T (a && b) → T a × T b
 parts true b p = (tt, p)
 parts false b p = absurd p
-
-less : (o : Ordering) → T (is_lt o) → o ≡ Less
-less Less p = refl
-less Equal p = absurd p
-less Greater p = absurd p
 
 -- a greater transaction is another one
 apart : (g k : Gtrid) → gtrid_cmp g k ≡ Less → gtrid_eq k g ≡ false
@@ -90,7 +83,7 @@ decisions_text (row ∷ rows) up own =
     let count : own_count row.0 (items row.1 ++ all_listed rows) ≡ length (items row.1) =
     first_count row.0 (items row.1) (all_listed rows) (own_first row own.0) (others_after row.0 rows p.0 own.1) in
     ap (λ n. count_line row.0 n ++ decision_lines (map (λ r. r.0) rows) (drop n (items row.1 ++ all_listed rows))) count
-    ∙ ap (λ bs. decision_line row ++ decision_lines (map (λ r. r.0) rows) bs) (drop_first (items row.1) (all_listed rows))
+    ∙ ap (λ bs. decision_line row ++ decision_lines (map (λ r. r.0) rows) bs) (drop-append_seam (items row.1) (all_listed rows))
     ∙ ap (λ text. decision_line row ++ text) (decisions_text rows p.1 own.1)
 
 -- ** the rows of a log are so
@@ -107,40 +100,9 @@ all_items P (x ∷ xs) each = (
   all_items P xs (λ b there. each b (later (eq_by_cmp branch_cmp b x) _ there)),
 )
 
-found_below : (g : Gtrid) (rows : List Row) → T (below_all gtrid_cmp g rows) → find gtrid_cmp g rows ≡ None
-found_below g [] below = refl
-found_below g (row ∷ rows) below =
-    let p = parts _ _ below in
-    ap (λ o. cond (is_eq o) (Some row.1) (find gtrid_cmp g rows)) (less _ p.0) ∙ found_below g rows p.1
-
-equal_is : (o : Ordering) → is_eq o ≡ true → o ≡ Equal
-equal_is Less h = absurd (cc)
-equal_is Equal h = refl
-equal_is Greater h = absurd (cc)
-
--- what is found in later rows isn't the first
-found_later : (first : Row) (rows : List Row) (g : Gtrid) (set : KeySet branch_cmp) → T (below_all gtrid_cmp first.0 rows)
-    → find gtrid_cmp g rows ≡ Some set → find gtrid_cmp g (first ∷ rows) ≡ Some set
-found_later first rows g set below is = elim (cases_Bool (eq_by_cmp gtrid_cmp g first.0)) [
-  | inl same ↦ (
-      let none : None ≡ Some set =
-      sym (found_below first.0 rows below) ∙ ap (λ k. find gtrid_cmp k rows) (sym (exact_gtrids g first.0 (equal_is _ same))) ∙ is in
-      absurd (cc))
-  | inr other ↦ ap (λ b. cond b (Some first.1) (find gtrid_cmp g rows)) other ∙ is
-]
-
-all_found : (P : Row → Type 0) (rows : List Row) → T (is_sorted gtrid_cmp rows)
-    → ((g : Gtrid) (set : KeySet branch_cmp) → find gtrid_cmp g rows ≡ Some set → P (g, set)) → AllByRecursion P rows
-all_found P [] up each = tt
-all_found P (row ∷ rows) up each =
-    let p = parts _ _ up in (
-      each row.0 row.1 (ap (λ o. cond (is_eq o) (Some row.1) (find gtrid_cmp row.0 rows)) (tied_itself gtrids_total row.0)),
-      all_found P rows p.1 (λ g set is. each g set (found_later row rows g set p.0 is)),
-    )
-
 own_rows : (c : Content) → AreOwn c → AllByRecursion IsOwn (entries c.decisions)
 own_rows c own =
-    all_found IsOwn (entries c.decisions) (entries_sorted c.decisions) (λ g set is.
+    all_entries gtrids_total exact_gtrids IsOwn (entries c.decisions) (entries_sorted c.decisions) (λ g set is.
     all_items _ (items set) (λ b there. own g set b (get-entries c.decisions g ∙ is) (contains-items set b ∙ there)))
 
 -- the text of the rows that a log lists

@@ -24,7 +24,8 @@ use xa_log::DecisionLog;
 /// before it is left, and is a beginning of what is printed otherwise.
 pub fn list_log<L: DecisionLog, W: Write>(log: &mut L, out: &mut W) -> Result<(), RunFault>
     ensures prints { (L.moment log.old).is_in_order → (L.moment log.new).is_honest →
-        OnOk result (PrintsLog (L.moment log.old).content (W.contents out.old) (W.contents out.new)) }
+        OnOk result (PrintsLog (L.moment log.old).content (W.contents out.old)
+        (W.contents out.new)) }
     ensures begun { (L.moment log.old).is_in_order → (L.moment log.new).is_honest →
         IfErr result (λ e. e ≡ Output →
         BeginsLog (L.moment log.old).content (W.contents out.old) (W.contents out.new)) }
@@ -41,7 +42,8 @@ pub fn list_log<L: DecisionLog, W: Write>(log: &mut L, out: &mut W) -> Result<()
         LeavesNoMore (L.moment log.old).may_leave (L.moment log.new).may_leave }
     ensures order { (L.moment log.old).is_in_order → (L.moment log.new).is_in_order }
     ensures honest { (L.moment log.new).is_honest → (L.moment log.old).is_honest }
-    ensures faults { CountsFault result (L.moment log.old).fault_count (L.moment log.new).fault_count }
+    ensures faults { CountsFault result (L.moment log.old).fault_count
+        (L.moment log.new).fault_count }
 {
     let rows = log.rows().map_err(run_fault)?;
     let text = rows_text(&rows)?;

@@ -29,8 +29,8 @@ use Rattle.xa_log.proofs.Texts.{all_decisions, all_decisions_is, all_decisions_p
 use Rattle.xa_log.proofs.Plain.{chosen, shown, plain_rows}
 use Rattle.xa_log.proofs.Contents.{any_mapped, equal_is, is_itself, permuted_has}
 use Rattle.xa_log.proofs.Maps.{booked, contains_part, get_booked, is_there, names, some_is}
-use Rattle.xa_log.proofs.DecisionRows.{some_of}
-use Rattle.xa_log.proofs.HeuristicRows.{entries_once, entry_in}
+use Rattle.xa_log.proofs.DecisionReads.{some_of}
+use Rattle.xa_log.proofs.HeuristicReads.{entries_once, entry_in}
 use Rattle.xa_log.proofs.Keyed.{append_rises, find_has, has_find, items_rise, risen, rising_once, same_entries_in, same_items_in}
 use Rattle.xa_log.proofs.KeySets.{items-from_list}
 use Rattle.xa_log.proofs.States.{answered}
@@ -70,7 +70,8 @@ reads_decisions old new rows log h =
     let moved =
     same_reading gtrid_from gtrid_of_row (col 1 1 ∷ col 1 2 ∷ []) (λ r. refl) (old.now.trees 1) rows
     (plain_rows 1 [] (col 1 1 ∷ col 1 2 ∷ []) old.now.trees [] rows read.answer) in
-    ap items (same_items_in gtrids_total exact_gtrids (map gtrid_from rows) (map gtrid_of_row (old.now.trees 1)) (λ x. permuted_has _ _ x (IsPermutation-sym _ _ moved)) (λ x. permuted_has _ _ x moved))
+    ap items (same_items_in gtrids_total exact_gtrids (map gtrid_from rows) (map gtrid_of_row (old.now.trees 1))
+    (λ x. permuted_has _ _ x (IsPermutation-sym _ _ moved)) (λ x. permuted_has _ _ x moved))
     ∙ keys_booked (participants_of_rows (old.now.trees 5)) (old.now.trees 1)
 
 -- ---- the participants
@@ -177,7 +178,8 @@ reads_participants old new rows log h =
     let terms = col 1 1 ∷ col 1 2 ∷ col 1 3 ∷ col 1 4 ∷ [] in
     let read = reads_as all_participants [] old new log_schema log.schema _ all_participants_is all_participants_plain all_participants_unlisted rows h in
     let moved = same_reading branch_from branch_of_row terms (λ r. refl) (old.now.trees 5) rows (plain_rows 5 [] terms old.now.trees [] rows read.answer) in
-    ap items (same_items_in branches_total exact_branches (map branch_from rows) (map branch_of_row (old.now.trees 5)) (λ x. permuted_has _ _ x (IsPermutation-sym _ _ moved)) (λ x. permuted_has _ _ x moved))
+    ap items (same_items_in branches_total exact_branches (map branch_from rows) (map branch_of_row (old.now.trees 5))
+    (λ x. permuted_has _ _ x (IsPermutation-sym _ _ moved)) (λ x. permuted_has _ _ x moved))
     ∙ all_listed_is (old.now.trees 1) (old.now.trees 5) log.parents
 
 -- ---- the heuristic ends

@@ -27,7 +27,8 @@ acts_on olds = list_any (loses (record { digits = 0 }) (1 ∷ 2 ∷ [])) (pairs 
 one_work : (olds : List Row) → works log_schema Enforced 0 1 olds [] ≡ cond (acts_on olds) (cascade olds ∷ []) []
 unfolding everything
 one_work olds =
-    elim (acts_on olds) as (λ b. filter_map (λ (ref : Reference). cond b (Some (cascade olds)) None) (of_decision ∷ []) ++ [] ≡ cond b (cascade olds ∷ []) []) [ true ↦ refl | false ↦ refl ]
+    elim (acts_on olds) as (λ b. filter_map (λ (ref : Reference). cond b (Some (cascade olds)) None) (of_decision ∷ [])
+    ++ [] ≡ cond b (cascade olds ∷ []) []) [ true ↦ refl | false ↦ refl ]
 
 no_work : (depth : ℕ) (olds : List Row) → works log_schema Enforced depth 5 olds [] ≡ []
 unfolding everything

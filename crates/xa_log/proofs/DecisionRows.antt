@@ -1,12 +1,8 @@
 -- The statements on decisions and participants, from their texts to the content of the log.
-use Rattle.std.proofs.Common.{◌≡◌, ◌⊎◌, inl, inr, ℕ, pos, ◌==◌, List, [], ◌∷◌, length, map, filter, Bool, true, false, not, ◌&&◌, ◌||◌, cond, Some, None, Ok, IsTrue, IsSomeAnd, ◌↔◌, arith, refl, sym, ap, subst, ◌∙◌, ◌≤◌, to_z, of_z, w64}
-use Rattle.std.specs.List.{list_any, AllByRecursion}
-use Rattle.std.specs.FinMap.{get, contains_key}
+use Rattle.std.proofs.Common.{◌≡◌, inl, inr, ℕ, pos, List, [], ◌∷◌, true, None, Ok, IsTrue, refl, sym, ap, subst, ◌∙◌, ◌≤◌, to_z, of_z, w64}
+use Rattle.std.specs.List.{AllByRecursion}
+use Rattle.std.specs.FinMap.{get}
 use Rattle.xa_log.specs.KeySet.{KeySet, insert, empty}
-use Rattle.std.specs.Ordering.{eq_by_cmp}
-use Rattle.std.proofs.lemmas.Bool.{true≢false, eqb-true}
-use Rattle.std.proofs.lemmas.List.{length-map}
-use Rattle.std.proofs.lemmas.List.Sorted.{length_permutation}
 use Rattle.sqlite.specs.declared.types.Value.TheVariants.{Null, Int}
 use Rattle.sqlite.specs.Order.{Row}
 use Rattle.sqlite.specs.Tree.{Trees, IsTable}
@@ -16,19 +12,19 @@ use Rattle.sqlite.specs.Command.TheVariants.{Insert, Delete}
 use Rattle.sqlite.specs.Does.{Tally, Does}
 use Rattle.sqlite.specs.Source.TheVariants.{Values}
 use Rattle.sqlite.specs.Effect.{Database}
-use Rattle.sqlite.specs.State.{State, Executes, CommitsBy, Shown, IsUnchanged}
-use Rattle.sqlite.proofs.Callers.{runs_as, reads_as, statement_of}
+use Rattle.sqlite.specs.State.{State, Executes, CommitsBy}
+use Rattle.sqlite.proofs.Callers.{runs_as, statement_of}
 use Rattle.sqlite.specs.Listing.{understood}
 use Rattle.sqlite_trees.proofs.TreeLemmas.{all-put_row, IsTable-put_row}
 use Rattle.xa_base.specs.declared.branch.Gtrid.{Gtrid}
-use Rattle.xa_base.specs.Branch.{gtrid_cmp, gtrid_eq}
+use Rattle.xa_base.specs.Branch.{gtrid_eq}
 use Rattle.xa_base.proofs.BranchOrder.{exact_gtrids}
 use Rattle.xa_log.specs.Contract.{FitsRow}
 use Rattle.xa_log.specs.Tables.{log_schema}
 use Rattle.xa_log.specs.Content.{Content, last_number, with_decision, without_decision}
 use Rattle.xa_base.specs.declared.branch.Branch.{Branch}
 use Rattle.xa_base.specs.Branch.{branch_cmp}
-use Rattle.xa_log.proofs.Maps.{booked, get_booked, booked_decision, booked_participant, booked_without, parts_left}
+use Rattle.xa_log.proofs.Maps.{booked, booked_decision, booked_participant, booked_without, parts_left}
 use Rattle.xa_log.proofs.Parents.{agree_is, decision_carries, participant_carries, parents_held}
 use Rattle.sqlite_rules.specs.Lists.{Has}
 use Rattle.sqlite_rules.specs.Action.{pairs, is_child_of}
@@ -47,57 +43,14 @@ use Rattle.xa_log.proofs.Inserts.{at_once, puts_participant}
 use Rattle.xa_log.proofs.Deletes.{taken_rows}
 use Rattle.xa_log.proofs.Texts.{insert_participant, insert_participant_is, insert_participant_plain}
 use Rattle.xa_log.specs.Rows.{IsLog, IsDecisionRow, AreHeuristicRows, IsParticipantRow, gtrid_of_row, branch_of_row, participants_of_rows, content_of, meta_row}
-use Rattle.xa_log.specs.Sql.{HasLogTables, IsOrderly, content_in}
-use Rattle.xa_log.proofs.Texts.{over, insert_decision, insert_decision_is, insert_decision_plain, find_decision, find_decision_is, find_decision_plain, find_decision_unlisted, delete_decision, delete_decision_is, delete_decision_plain}
-use Rattle.xa_log.proofs.Plain.{shown, plain_rows}
+use Rattle.xa_log.specs.Sql.{HasLogTables}
+use Rattle.xa_log.proofs.Texts.{over, insert_decision, insert_decision_is, insert_decision_plain, delete_decision, delete_decision_is, delete_decision_plain}
+use Rattle.xa_log.proofs.Plain.{shown}
 use Rattle.sqlite_rules.specs.Calls.{ids_of}
 use Rattle.xa_log.proofs.Deletes.{Takes, takes_decision}
 use Rattle.xa_log.proofs.Inserts.{Puts, puts_decision}
-use Rattle.xa_log.proofs.Contents.{bound_number, gtrid_params, gtrid_tests, chosen_gtrid, equal_is, all_left, table_left, any_gone, has_gone, has_own}
-use Rattle.xa_log.proofs.States.{Did, answered, wrote, commits_as}
-
--- ---- is it there
-
-none_kept : {X : Type 0} (p : X → Bool) (xs : List X) → length (filter p xs) ≡ 0 → list_any p xs ≡ false
-none_kept p [] none = refl
-none_kept p (x ∷ xs) none =
-    elim (p x) as (λ b. length (cond b (x ∷ filter p xs) (filter p xs)) ≡ 0
-    → (b || list_any p xs) ≡ false) [ true ↦ λ e. absurd (omega (arith, e)) | false ↦ none_kept p xs ] none
-
-kept_none : {X : Type 0} (p : X → Bool) (xs : List X) → list_any p xs ≡ false → length (filter p xs) ≡ 0
-kept_none p [] none = refl
-kept_none p (x ∷ xs) none =
-    elim (p x) as (λ b. (b || list_any p xs) ≡ false
-    → length (cond b (x ∷ filter p xs) (filter p xs)) ≡ 0) [ true ↦ λ e. absurd (true≢false e) | false ↦ kept_none p xs ] none
-
-not_empty : (empty found : Bool) → (IsTrue empty → found ≡ false) → (found ≡ false → IsTrue empty) → not empty ≡ found
-not_empty true found p q = sym (p refl)
-not_empty false true p q = refl
-not_empty false false p q = absurd (true≢false (sym (q refl)))
-
-pub some_of : {X : Type 0} (b : Bool) (x : X) → Rattle.std.proofs.Common.is_some (cond b (Some x) None) ≡ b
-some_of true x = refl
-some_of false x = refl
-
-pub finds : (old new : State) (g : Gtrid) (rows : List Row) → IsLog old.now → Shown find_decision (gtrid_params g) old new rows
-    → not (length rows == 0) ≡ contains_key (content_of old.now.trees).decisions g
-finds old new g rows is h =
-    let read = reads_as find_decision (gtrid_params g) old new log_schema is.schema _ find_decision_is find_decision_plain find_decision_unlisted rows h in
-    let moved = plain_rows 1 gtrid_tests (lit (Int (pos 1)) ∷ []) old.now.trees (gtrid_params g) rows read.answer in
-    let p : Row → Bool = λ r. eq_by_cmp gtrid_cmp g (gtrid_of_row r) in
-    let same : length rows ≡ length (filter p (old.now.trees 1)) =
-    length_permutation _ _ moved ∙ length-map _ _ ∙ ap length (chosen_gtrid g (old.now.trees 1) is.decisions) in
-    not_empty (length rows == 0) (list_any p (old.now.trees 1)) (λ h. none_kept p (old.now.trees 1) (sym same ∙ eqb-true (length rows) 0 h))
-    (λ none. ap (λ n. n == 0) (same ∙ kept_none p (old.now.trees 1) none))
-    ∙ sym (ap Rattle.std.proofs.Common.is_some (get_booked (participants_of_rows (old.now.trees 5)) (old.now.trees 1) g) ∙ some_of (list_any p (old.now.trees 1)) (participants_of_rows (old.now.trees 5) g))
-
--- the call that asks, from the log before it to the log after it
-pub found : (g : Gtrid) (params : Row) → params ≡ gtrid_params g → (old mid new : State) (rows : List Row) (empty : Bool)
-    → empty ≡ (length rows == 0) → IsOrderly old → IsUnchanged old mid → IsUnchanged mid new → Shown find_decision params mid new rows
-    → IsSomeAnd (content_in old) (λ c. (content_in new ≡ Some c) × (not empty ≡ contains_key c.decisions g))
-found g params given old mid new rows empty is order first second shown =
-    answered old mid new order first second (λ c. not empty ≡ contains_key c.decisions g)
-    (λ log. ap not is ∙ finds mid new g rows log (subst (λ p. Shown find_decision p mid new rows) given shown))
+use Rattle.xa_log.proofs.Contents.{bound_number, gtrid_params, gtrid_tests, equal_is, all_left, table_left, any_gone, has_gone, has_own}
+use Rattle.xa_log.proofs.States.{Did, wrote, commits_as}
 
 -- ---- one more
 
@@ -243,10 +196,12 @@ module _ (g : Gtrid) (params : Row) (given : params ≡ gtrid_params g) (old : S
   pub delete_commits : IsTrue old.is_open → (db : Trees) → CommitsBy delete_decision params old db
       → (content_of db ≡ without_decision g (content_of old.now.trees)) × AreLogTrees db
   delete_commits is_open db h =
-      elim (commits_as delete_decision delete_decision_plain old (λ _. ready) is_open delete_command delete_decision_is (gtrid_params g) db (subst (λ p. CommitsBy delete_decision p old db) given h)) [
+      elim (commits_as delete_decision delete_decision_plain old (λ _. ready) is_open delete_command delete_decision_is (gtrid_params g) db
+      (subst (λ p. CommitsBy delete_decision p old db) given h)) [
         | inl (inl is, same) ↦ absurd (let e = is in cc)
         | inl (inr release, same) ↦ absurd (let e = release.2 in cc)
-        | inr writes ↦ (let made = delete_makes delete_text writes.1 writes.2 writes.3 in (ap content_of writes.5 ∙ made.1, subst AreLogTrees (sym writes.5) (as_log writes.2 made.0 writes.4)))
+        | inr writes ↦ (let made = delete_makes delete_text writes.1 writes.2 writes.3 in
+            (ap content_of writes.5 ∙ made.1, subst AreLogTrees (sym writes.5) (as_log writes.2 made.0 writes.4)))
       ]
 
 -- ---- in a transaction

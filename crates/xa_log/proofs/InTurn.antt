@@ -74,7 +74,11 @@ module _ {Log : Type 0} (moment : Log → Moment) (start : Log) where
       elim (changes.err (run.order at_first)) [
         | inl shut ↦ inl shut
         | inr (inl same) ↦ inr (i, same ∙ was)
-        | inr (inr made) ↦ inr (i + 1, some_is (moment old).content (after_all calls c) _ was made ∙ ap Some (sym (after_push calls call c) ∙ ap (λ all. after_all all c) (sym next)))
+        | inr (inr made) ↦ inr (
+          i + 1,
+          some_is (moment old).content (after_all calls c) _ was made
+              ∙ ap Some (sym (after_push calls call c) ∙ ap (λ all. after_all all c) (sym next)),
+        )
       ]
 
   -- the last call was made, and then no memory was left

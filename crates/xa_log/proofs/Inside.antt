@@ -79,7 +79,11 @@ module _ (a e : State) (opened : IsTrue e.is_open → HasCleanDisk e) where
     honest = λ clean. omega (arith, survives.clean);
     order = λ order h. elim (did order (opened h)) [ inl undone ↦ undone_ready undone order h | inr made ↦ made.ready ];
     kept = λ order. elim (cases_Bool e.is_open) [
-      | inl is_open ↦ elim (did order (opened is_open)) [ inl undone ↦ inr (inl (undone_same undone order is_open)) | inr made ↦ inr (inr (did_makes change a e made)) ]
+      | inl is_open ↦ elim (did order (opened is_open)) [
+        | inl undone ↦ inr (inl (undone_same undone order is_open))
+        | inr made ↦
+            inr (inr (did_makes change a e made))
+      ]
       | inr shut ↦ inl (rw shut refl)
     ];
     crash = λ order clean c h. elim (survives.crash clean h.0 h.1) [

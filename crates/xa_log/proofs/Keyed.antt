@@ -39,7 +39,7 @@ parted true true false d h = absurd h
 parted true false c d h = absurd h
 parted false b c d h = absurd h
 
-less : (o : Ordering) → T (is_lt o) → o ≡ Less
+pub less : (o : Ordering) → T (is_lt o) → o ≡ Less
 less Less h = refl
 less Equal h = absurd h
 less Greater h = absurd h
@@ -156,7 +156,8 @@ module _ {K X A : Type 0} {R : K → K → Ordering} (o : IsTotalOrder R) (exact
     → K × X) (xs ys : List A) (i : ℕ) (x : A) (seen : ys ≡ xs) (here : x ≡ get_or ys i x) (low : i < length xs) where
   turned : reverse (map f (take (i + 1) xs)) ≡ f x ∷ reverse (map f (take i xs))
   turned =
-      ap reverse (ap (map f) (take_more xs i x low) ∙ map-append f (take i xs) (get_or xs i x ∷ []) ∙ ap (λ y. map f (take i xs) ++ f y ∷ []) (sym (here ∙ ap (λ all. get_or all i x) seen)))
+      ap reverse (ap (map f) (take_more xs i x low) ∙ map-append f (take i xs) (get_or xs i x ∷ [])
+      ∙ ap (λ y. map f (take i xs) ++ f y ∷ []) (sym (here ∙ ap (λ all. get_or all i x) seen)))
       ∙ reverse-append (map f (take i xs)) (f x ∷ [])
 
   pub map_more : (old new : BTreeMap K X) (k : K) (v : X) → (k, v) ≡ f x
@@ -197,6 +198,11 @@ rising_once {K} {X} {R} o (e ∷ es) up a b h k same = go h k (λ p q. rising_on
     go (inr p) (inl q) later = absurd (clash a p (sym (ap (λ (x : K × X). x.0) q) ∙ sym same))
     go (inr p) (inr q) later = later p q
 
+-- what holds of all that is found in the entries of a map holds of each of them
+pub all_entries : {K X : Type 0} {R : K → K → Ordering} → IsTotalOrder R → IsAntisymmetric R → (P : K × X → Type 0) (es : List (K × X)) → T (is_sorted R es)
+    → ((k : K) (v : X) → find R k es ≡ Some v → P (k, v)) → AllByRecursion P es
+all_entries o exact P es up each = all_from P es (λ e there. each e.0 e.1 (has_find o exact e.0 e.1 es (rising_once o es (risen o exact es up)) there))
+
 -- ---- one list after another
 
 module _ {K : Type 0} (R : K → K → Ordering) where
@@ -215,4 +221,5 @@ module _ {K : Type 0} (R : K → K → Ordering) where
   append_rises xs ys p q below =
       let first : IsAscending (λ a b. R a b ≡ Less) xs = as_ascending xs p in
       let second : IsAscending (λ a b. R a b ≡ Less) ys = as_ascending ys q in
-      from_ascending (xs ++ ys) (ascending-append (λ a b. R a b ≡ Less) xs ys first second (all_from (λ x. AllByRecursion (λ y. R x y ≡ Less) ys) xs (λ x h. all_from (λ y. R x y ≡ Less) ys (λ y k. below x y h k))))
+      from_ascending (xs ++ ys) (ascending-append (λ a b. R a b ≡ Less) xs ys first second
+      (all_from (λ x. AllByRecursion (λ y. R x y ≡ Less) ys) xs (λ x h. all_from (λ y. R x y ≡ Less) ys (λ y k. below x y h k))))

@@ -1,9 +1,11 @@
 pub mod AllRows
 pub mod Cascade
 pub mod Contents
+pub mod DecisionReads
 pub mod DecisionRows
 pub mod Deletes
 pub mod HeldRows
+pub mod HeuristicReads
 pub mod HeuristicRows
 pub mod InOrder
 pub mod InTurn

@@ -164,7 +164,8 @@ made a b c d e f k l m n o has one two three four five =
     let made_3 = creates schema_2 heuristic_text (record heuristic { tree = 0 }) makes_heuristic c d m made_2.schema_is three in
     let old = made_3.schema_is ∙ first_three in
     let made_4 =
-    adds d e n old (subst (λ t. Writes d e None CreateTable t [] n) makes_participant.1 (runs_as participant_text [] d e old_schema old CreateTable makes_participant.0 makes_plain n four)) in
+    adds d e n old (subst (λ t. Writes d e None CreateTable t [] n) makes_participant.1
+    (runs_as participant_text [] d e old_schema old CreateTable makes_participant.0 makes_plain n four)) in
     let w = runs_as first_meta [] e f log_schema made_4.schema (Insert 0 (Values first_terms 4)) first_meta_is first_meta_plain o five in
     let put = puts_meta e.step_limit e.now f.now (statement_of first_meta (understood log_schema first_meta)) w.tally made_4.schema w.changed in
     let none_0 : e.now.trees 0 ≡ [] = made_4.meta ∙ made_3.others.0 ∙ made_2.others.0 ∙ made_1.empty in

@@ -134,15 +134,18 @@ booked_decision g new decisions rows free named parents absent = same_map gtrids
     let there : is_there (put_row new decisions) q ≡ (gtrid_eq q g || is_there decisions q) =
     any_put (λ r. gtrid_eq q (gtrid_of_row r)) new decisions free ∙ ap (λ x. gtrid_eq q x || is_there decisions q) named in
     get_booked (participants_of_rows rows) (put_row new decisions) q ∙ ap (λ b. cond b (Some (participants_of_rows rows q)) None) there
-    ∙ elim (cases_Bool (gtrid_eq q g)) as (λ _. cond (gtrid_eq q g || is_there decisions q) (Some (participants_of_rows rows q)) None ≡ get (put (booked (participants_of_rows rows) decisions) g empty) q) [
+    ∙ elim (cases_Bool (gtrid_eq q g)) as (λ _. cond (gtrid_eq q g || is_there decisions q) (Some (participants_of_rows rows q)) None
+    ≡ get (put (booked (participants_of_rows rows) decisions) g empty) q) [
       | inl same ↦ (
           let one : q ≡ g = exact_gtrids q g (equal_is _ same) in
           ap (λ b. cond (b || is_there decisions q) (Some (participants_of_rows rows q)) None) same
           ∙ ap Some (ap (participants_of_rows rows) one ∙ no_parts decisions rows g parents none)
-          ∙ sym (get-insert gtrids_total (booked (participants_of_rows rows) decisions) g empty q ∙ ap (λ b. cond b (Some empty) (get (booked (participants_of_rows rows) decisions) q)) same))
+          ∙ sym (get-insert gtrids_total (booked (participants_of_rows rows) decisions) g empty q
+          ∙ ap (λ b. cond b (Some empty) (get (booked (participants_of_rows rows) decisions) q)) same))
       | inr apart ↦ ap (λ b. cond (b || is_there decisions q) (Some (participants_of_rows rows q)) None) apart
           ∙ sym (get_booked (participants_of_rows rows) decisions q)
-          ∙ sym (get-insert gtrids_total (booked (participants_of_rows rows) decisions) g empty q ∙ ap (λ b. cond b (Some empty) (get (booked (participants_of_rows rows) decisions) q)) apart)
+          ∙ sym (get-insert gtrids_total (booked (participants_of_rows rows) decisions) g empty q
+          ∙ ap (λ b. cond b (Some empty) (get (booked (participants_of_rows rows) decisions) q)) apart)
     ])
 
 -- a participant of a transaction with a row went in
@@ -157,17 +160,22 @@ booked_participant g set before new decisions rows free named was = same_map gtr
     ≡ cond (gtrid_eq q g) (insert (participants_of_rows rows q) (branch_of_row new)) (participants_of_rows rows q) =
     parts_put new rows free q ∙ ap (λ x. cond (gtrid_eq q x) (insert (participants_of_rows rows q) (branch_of_row new)) (participants_of_rows rows q)) named in
     get_booked (participants_of_rows (put_row new rows)) decisions q ∙ ap (λ s. cond (is_there decisions q) (Some s) None) parts
-    ∙ elim (cases_Bool (gtrid_eq q g)) as (λ _. cond (is_there decisions q) (Some (cond (gtrid_eq q g) (insert (participants_of_rows rows q) (branch_of_row new)) (participants_of_rows rows q))) None ≡ get (put before g (insert set (branch_of_row new))) q) [
+    ∙ elim (cases_Bool (gtrid_eq q g)) as (λ _.
+    cond (is_there decisions q) (Some (cond (gtrid_eq q g) (insert (participants_of_rows rows q) (branch_of_row new)) (participants_of_rows rows q))) None
+    ≡ get (put before g (insert set (branch_of_row new))) q) [
       | inl same ↦ (
           let both = some_is _ (participants_of_rows rows q) set (old ∙ ap (λ b. cond b (Some set) (get before q)) same) in
           ap (λ b. cond b (Some (cond (gtrid_eq q g) (insert (participants_of_rows rows q) (branch_of_row new)) (participants_of_rows rows q))) None) both.0
           ∙ ap (λ b. Some (cond b (insert (participants_of_rows rows q) (branch_of_row new)) (participants_of_rows rows q))) same
           ∙ ap (λ s. Some (insert s (branch_of_row new))) both.1
-          ∙ sym (get-insert gtrids_total before g (insert set (branch_of_row new)) q ∙ ap (λ b. cond b (Some (insert set (branch_of_row new))) (get before q)) same))
+          ∙ sym (get-insert gtrids_total before g (insert set (branch_of_row new)) q
+          ∙ ap (λ b. cond b (Some (insert set (branch_of_row new))) (get before q)) same))
       | inr apart ↦
-          ap (λ b. cond (is_there decisions q) (Some (cond b (insert (participants_of_rows rows q) (branch_of_row new)) (participants_of_rows rows q))) None) apart
+          ap (λ b. cond (is_there decisions q) (Some (cond b (insert (participants_of_rows rows q) (branch_of_row new)) (participants_of_rows rows q))) None)
+          apart
           ∙ old ∙ ap (λ b. cond b (Some set) (get before q)) apart
-          ∙ sym (get-insert gtrids_total before g (insert set (branch_of_row new)) q ∙ ap (λ b. cond b (Some (insert set (branch_of_row new))) (get before q)) apart)
+          ∙ sym (get-insert gtrids_total before g (insert set (branch_of_row new)) q
+          ∙ ap (λ b. cond b (Some (insert set (branch_of_row new))) (get before q)) apart)
     ])
 
 -- the rows of a transaction went out of both tables
@@ -176,10 +184,13 @@ pub booked_without : (g : Gtrid) (decisions left rows rest : List Row) → ((q :
     → booked (participants_of_rows rest) left ≡ remove (booked (participants_of_rows rows) decisions) g
 booked_without g decisions left rows rest there parts = same_map gtrids_total exact_gtrids _ _ (λ q.
     get_booked (participants_of_rows rest) left q ∙ ap (λ b. cond b (Some (participants_of_rows rest q)) None) (there q)
-    ∙ elim (cases_Bool (gtrid_eq q g)) as (λ _. cond (not (gtrid_eq q g) && is_there decisions q) (Some (participants_of_rows rest q)) None ≡ get (remove (booked (participants_of_rows rows) decisions) g) q) [
+    ∙ elim (cases_Bool (gtrid_eq q g)) as (λ _. cond (not (gtrid_eq q g) && is_there decisions q) (Some (participants_of_rows rest q)) None
+    ≡ get (remove (booked (participants_of_rows rows) decisions) g) q) [
       | inl same ↦ ap (λ b. cond (not b && is_there decisions q) (Some (participants_of_rows rest q)) None) same
-          ∙ sym (get-remove gtrids_total (booked (participants_of_rows rows) decisions) g q ∙ ap (λ b. cond b None (get (booked (participants_of_rows rows) decisions) q)) same)
+          ∙ sym (get-remove gtrids_total (booked (participants_of_rows rows) decisions) g q
+          ∙ ap (λ b. cond b None (get (booked (participants_of_rows rows) decisions) q)) same)
       | inr apart ↦ ap (λ b. cond (not b && is_there decisions q) (Some (participants_of_rows rest q)) None) apart
           ∙ ap (λ s. cond (is_there decisions q) (Some s) None) (parts q apart) ∙ sym (get_booked (participants_of_rows rows) decisions q)
-          ∙ sym (get-remove gtrids_total (booked (participants_of_rows rows) decisions) g q ∙ ap (λ b. cond b None (get (booked (participants_of_rows rows) decisions) q)) apart)
+          ∙ sym (get-remove gtrids_total (booked (participants_of_rows rows) decisions) g q
+          ∙ ap (λ b. cond b None (get (booked (participants_of_rows rows) decisions) q)) apart)
     ])

@@ -83,7 +83,8 @@ sets limit new last db after text tally has one h =
     let trees : done.0.trees ≡ written.0 = ap (λ (it : Written). it.trees) (same_value written.2) in
     let row : Row = Int (pos 1) ∷ Int (pos 1) ∷ Null ∷ Int (pos 2) ∷ Int (pos new) ∷ [] in
     let rows : found.0 ≡ row ∷ [] =
-    one_permutation row found.0 (subst (λ all. IsPermutation (map (shown project params) (chosen [] params all)) found.0) one (plain_rows 0 [] project db.trees params found.0 found.1.answer)) in
+    one_permutation row found.0 (subst (λ all. IsPermutation (map (shown project params) (chosen [] params all)) found.0) one
+    (plain_rows 0 [] project db.trees params found.0 found.1.answer)) in
     let none : works log_schema Enforced 0 0 (taken_by db.trees (edit_of db.trees meta (ids_of found.0) Given 1 found.0))
     (edit_of db.trees meta (ids_of found.0) Given 1 found.0).news ≡ [] =
     no_work _ _ (ap (λ all. length (edit_of db.trees meta (ids_of all) Given 1 all).news) rows) in
@@ -139,7 +140,8 @@ module _ (new : ℕ) (params : Row) (given : params ≡ Int (pos new) ∷ []) (o
   pub update_commits : IsTrue old.is_open → (db : Trees) → CommitsBy set_incarnation params old db
       → (content_of db ≡ with_incarnation new (content_of old.now.trees)) × AreLogTrees db
   update_commits is_open db h =
-      elim (commits_as set_incarnation set_incarnation_plain old (λ _. ready) is_open update set_incarnation_is (Int (pos new) ∷ []) db (subst (λ p. CommitsBy set_incarnation p old db) given h)) [
+      elim (commits_as set_incarnation set_incarnation_plain old (λ _. ready) is_open update set_incarnation_is (Int (pos new) ∷ []) db
+      (subst (λ p. CommitsBy set_incarnation p old db) given h)) [
         | inl (inl is, same) ↦ absurd (let e = is in cc)
         | inl (inr release, same) ↦ absurd (let e = release.2 in cc)
         | inr writes ↦ (

@@ -128,7 +128,8 @@ sets limit incarnation db after text tally has one h =
     let trees : done.0.trees ≡ written.0 = ap (λ (it : Written). it.trees) (same_value written.2) in
     let row : Row = Int (pos 1) ∷ Int (pos 1) ∷ Null ∷ Int (pos 2) ∷ Int (pos incarnation) ∷ [] in
     let rows : found.0 ≡ row ∷ [] =
-    one_permutation row found.0 (subst (λ all. IsPermutation (map (shown project []) (chosen [] [] all)) found.0) one (plain_rows 0 [] project db.trees [] found.0 found.1.answer)) in
+    one_permutation row found.0 (subst (λ all. IsPermutation (map (shown project []) (chosen [] [] all)) found.0) one
+    (plain_rows 0 [] project db.trees [] found.0 found.1.answer)) in
     let none : works log_schema Enforced 0 0 (taken_by db.trees (edit_of db.trees meta (ids_of found.0) Given 1 found.0))
     (edit_of db.trees meta (ids_of found.0) Given 1 found.0).news ≡ [] =
     no_work _ _ (ap (λ all. length (edit_of db.trees meta (ids_of all) Given 1 all).news) rows) in

@@ -38,7 +38,8 @@ own_with c g list all own q set b is has = elim (cases_Bool (eq_by_cmp gtrid_cmp
       let inside : list_any (eq_by_cmp branch_cmp b) list ≡ true =
       sym (contains-from_list branches_total list b) ∙ ap (λ o. contains (unwrap_or o set) b) set_is ∙ has in
       one_of list g b all inside ∙ sym (exact_gtrids q g (equal_is _ same)))
-  | inr other ↦ own q set b (sym (ap (λ t. cond t (Some (from_list list)) (get c.decisions q)) other) ∙ sym (get-insert gtrids_total c.decisions g (from_list list) q) ∙ is) has
+  | inr other ↦ own q set b (sym (ap (λ t. cond t (Some (from_list list)) (get c.decisions q)) other)
+      ∙ sym (get-insert gtrids_total c.decisions g (from_list list) q) ∙ is) has
 ]
 
 own_committed : (c : Content) (g : Gtrid) (list : List Branch) → AllByRecursion (λ (b : Branch). b.gtrid ≡ g) list → AreOwn c
@@ -50,7 +51,8 @@ own_committed c g list all own = elim (contains_key c.decisions g) as (λ t. Are
 
 own_without : (c : Content) (g : Gtrid) → AreOwn c → AreOwn (without_decision g c)
 own_without c g own q set b is has = elim (cases_Bool (eq_by_cmp gtrid_cmp q g)) [
-  | inl same ↦ (let no : None ≡ Some set = sym (ap (λ t. cond t None (get c.decisions q)) same) ∙ sym (get-remove gtrids_total c.decisions g q) ∙ is in absurd (cc))
+  | inl same ↦ (let no : None ≡ Some set = sym (ap (λ t. cond t None (get c.decisions q)) same) ∙ sym (get-remove gtrids_total c.decisions g q)
+      ∙ is in absurd (cc))
   | inr other ↦ own q set b (sym (ap (λ t. cond t None (get c.decisions q)) other) ∙ sym (get-remove gtrids_total c.decisions g q) ∙ is) has
 ]
 
@@ -66,7 +68,8 @@ fits_with : (c : Content) (g : Gtrid) (set : KeySet branch_cmp) → FitsRow g �
 fits_with c g set own fits = record {
   decisions = λ q h. elim (cases_Bool (eq_by_cmp gtrid_cmp q g)) [
     | inl same ↦ subst FitsRow (sym (exact_gtrids q g (equal_is _ same))) own
-    | inr other ↦ fits.decisions q (sym (ap (λ t. is_some (cond t (Some set) (get c.decisions q))) other) ∙ ap is_some (sym (get-insert gtrids_total c.decisions g set q)) ∙ h)
+    | inr other ↦ fits.decisions q (sym (ap (λ t. is_some (cond t (Some set) (get c.decisions q))) other)
+        ∙ ap is_some (sym (get-insert gtrids_total c.decisions g set q)) ∙ h)
   ];
   heuristics = fits.heuristics;
 }
@@ -81,7 +84,8 @@ fits_without : (c : Content) (g : Gtrid) → AllFit c → AllFit (without_decisi
 fits_without c g fits = record {
   decisions = λ q h. elim (cases_Bool (eq_by_cmp gtrid_cmp q g)) [
     | inl same ↦ absurd (true≢false (sym h ∙ ap is_some (get-remove gtrids_total c.decisions g q) ∙ ap (λ t. is_some (cond t None (get c.decisions q))) same))
-    | inr other ↦ fits.decisions q (sym (ap (λ t. is_some (cond t None (get c.decisions q))) other) ∙ ap is_some (sym (get-remove gtrids_total c.decisions g q)) ∙ h)
+    | inr other ↦ fits.decisions q (sym (ap (λ t. is_some (cond t None (get c.decisions q))) other)
+        ∙ ap is_some (sym (get-remove gtrids_total c.decisions g q)) ∙ h)
   ];
   heuristics = fits.heuristics;
 }
@@ -91,7 +95,8 @@ fits_with_heuristic c b how own fits = record {
   decisions = fits.decisions;
   heuristics = λ q h. elim (cases_Bool (eq_by_cmp branch_cmp q b)) [
     | inl same ↦ subst (λ (x : Branch). FitsRow x.gtrid) (sym (exact_branches q b (equal_is _ same))) own
-    | inr other ↦ fits.heuristics q (sym (ap (λ t. is_some (cond t (Some how) (get c.heuristics q))) other) ∙ ap is_some (sym (get-insert branches_total c.heuristics b how q)) ∙ h)
+    | inr other ↦ fits.heuristics q (sym (ap (λ t. is_some (cond t (Some how) (get c.heuristics q))) other)
+        ∙ ap is_some (sym (get-insert branches_total c.heuristics b how q)) ∙ h)
   ];
 }
 

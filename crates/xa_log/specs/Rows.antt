@@ -1,5 +1,5 @@
 -- What the rows of the tables stand for.
-use Rattle.std.specs.Prelude.{◌≡◌, ℕ, ℤ, pos, Bool, true, false, List, [], ◌∷◌, map, filter, slice_index_or, unwrap_or}
+use Rattle.std.specs.Prelude.{◌≡◌, ℕ, ℤ, pos, true, false, List, [], ◌∷◌, map, filter, slice_index_or, unwrap_or}
 use Rattle.std.specs.List.{AllByRecursion, list_any}
 use Rattle.std.specs.FinMap.{from_entries}
 use Rattle.xa_log.specs.KeySet.{KeySet, from_list, empty}

@@ -96,7 +96,14 @@ participant_text =
 -- a participant has a decision, and goes with it
 abbrev pub of_decision : Reference
 of_decision =
-    record { columns = 1 ∷ 2 ∷ []; parent = codes "decision"; parent_columns = codes "inc" ∷ codes "seq" ∷ []; on_delete = Cascade; on_update = NoAction; is_deferred = false }
+    record {
+      columns = 1 ∷ 2 ∷ [];
+      parent = codes "decision";
+      parent_columns = codes "inc" ∷ codes "seq" ∷ [];
+      on_delete = Cascade;
+      on_update = NoAction;
+      is_deferred = false;
+    }
 
 abbrev pub participant : Table
 participant = record {

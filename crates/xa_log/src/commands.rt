@@ -47,7 +47,8 @@ fn run_one<L: DecisionLog>(log: &mut L, command: &Command) -> Result<Told, LogFa
     ensures told { (L.moment log.old).is_in_order → (L.moment log.new).is_honest →
         IfOk result (λ told. IsSomeAnd (L.moment log.old).content (λ c.
         Tells c command.now told)) }
-    ensures changes { Changes (content_after command.now) (L.moment log.old) (L.moment log.new) result }
+    ensures changes { Changes (content_after command.now) (L.moment log.old)
+        (L.moment log.new) result }
     ensures cause { IfErr result (λ e. L.says (kind_of command.now) (content_after command.now)
         log.old log.new (Some e)) }
 {

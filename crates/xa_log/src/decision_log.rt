@@ -93,7 +93,8 @@ pub trait DecisionLog {
             IfOk result (λ found. IsSomeAnd (moment self.old).content (λ c.
             found ≡ contains_key c.decisions g)) }
         ensures changes { Changes (without_decision g) (moment self.old) (moment self.new) result }
-        ensures cause { says LogCall.Done (without_decision g) self.old self.new (fault_of result) };
+        ensures cause { says LogCall.Done (without_decision g) self.old self.new
+            (fault_of result) };
 
     /// Records for good how a resource manager ended a branch by itself (XA, section 2.3.3, Heuristic Branch
     /// Completion). The first record of a branch stays.

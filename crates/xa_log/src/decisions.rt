@@ -1,5 +1,5 @@
 //! The rows of decisions and of their participants.
-ghost use Rattle.std.specs.Prelude.{map, ◌≡◌, ◌≤◌, true, false, if◌then◌else◌, Some, IsSomeAnd, IsTrue, IfOk, OnOk, IfErr, ◌≢◌};
+ghost use Rattle.std.specs.Prelude.{map, ◌≡◌, true, false, if◌then◌else◌, Some, IsSomeAnd, IsTrue, IfOk, OnOk, IfErr, ◌≢◌};
 ghost use Rattle.std.specs.List.{AllByRecursion};
 ghost use Rattle.std.specs.FinMap.{contains_key};
 ghost use Rattle.xa_log.specs.KeySet.{empty, insert, from_list, items, KeySet};
@@ -22,8 +22,11 @@ use xa_base::{Branch, Gtrid};
 pub(crate) fn find_decision<S: Alter>(conn: &mut Connection<S>, g: Gtrid) -> Result<bool, LogFault>
     requires { FitsRow g }
     ensures reads { OnlyReads (state S.Store conn.old) (state S.Store conn.new) }
-    ensures ok { IsOrderly (state S.Store conn.old) → HasCleanDisk (state S.Store conn.new) → IfOk result (λ found.
-        IsSomeAnd (content_in (state S.Store conn.old)) (λ c. (content_in (state S.Store conn.new) ≡ Some c) × (found ≡ contains_key c.decisions g))) }
+    ensures ok { IsOrderly (state S.Store conn.old) → HasCleanDisk (state S.Store conn.new)
+        → IfOk result (λ found.
+        IsSomeAnd (content_in (state S.Store conn.old))
+        (λ c. (content_in (state S.Store conn.new) ≡ Some c)
+        × (found ≡ contains_key c.decisions g))) }
     ensures unspent { IfErr result (λ fault. fault ≢ LogFault.Spent) }
 {
     let rows = ask(
@@ -37,8 +40,11 @@ pub(crate) fn find_decision<S: Alter>(conn: &mut Connection<S>, g: Gtrid) -> Res
 /// Takes the row of a transaction away. Its participants go with it.
 fn delete_decision<S: Alter>(conn: &mut Connection<S>, g: Gtrid) -> Result<(), LogFault>
     requires { FitsRow g }
-    ensures changes { MayChange (without_decision g) (state S.Store conn.old) (state S.Store conn.new) }
-    ensures ok { IsOrderly (state S.Store conn.old) → HasCleanDisk (state S.Store conn.new) → OnOk result (Makes (without_decision g) (content_in (state S.Store conn.old)) (content_in (state S.Store conn.new))) }
+    ensures changes { MayChange (without_decision g) (state S.Store conn.old)
+        (state S.Store conn.new) }
+    ensures ok { IsOrderly (state S.Store conn.old) → HasCleanDisk (state S.Store conn.new)
+        → OnOk result (Makes (without_decision g) (content_in (state S.Store conn.old))
+        (content_in (state S.Store conn.new))) }
     ensures unspent { IfErr result (λ fault. fault ≢ LogFault.Spent) }
 {
     run(
@@ -52,11 +58,16 @@ fn delete_decision<S: Alter>(conn: &mut Connection<S>, g: Gtrid) -> Result<(), L
 fn insert_decision<S: Alter>(tx: &mut Transaction<'_, S>, g: Gtrid) -> Result<(), LogFault>
     requires { FitsRow g }
     ensures same_reference { tx.new.conn.ghost_name ≡ tx.old.conn.ghost_name }
-    ensures written { MayInsert g (state S.Store tx.old.conn.now) → HasCleanDisk (state S.Store tx.new.conn.now)
-        → OnOk result (HasWritten g empty (content_of (state S.Store tx.old.conn.now).now.trees) (state S.Store tx.new.conn.now)) }
-    ensures live { HasCleanDisk (state S.Store tx.new.conn.now) → OnOk result (IsTrue (state S.Store tx.old.conn.now).is_open) }
-    ensures kept { HasCleanDisk (state S.Store tx.new.conn.now) → KeepsCommit (state S.Store tx.old.conn.now) (state S.Store tx.new.conn.now) }
-    ensures survives { Survives (state S.Store tx.old.conn.now) (state S.Store tx.new.conn.now) (λ _. ⊥) }
+    ensures written { MayInsert g (state S.Store tx.old.conn.now)
+        → HasCleanDisk (state S.Store tx.new.conn.now)
+        → OnOk result (HasWritten g empty (content_of (state S.Store tx.old.conn.now).now.trees)
+        (state S.Store tx.new.conn.now)) }
+    ensures live { HasCleanDisk (state S.Store tx.new.conn.now)
+        → OnOk result (IsTrue (state S.Store tx.old.conn.now).is_open) }
+    ensures kept { HasCleanDisk (state S.Store tx.new.conn.now)
+        → KeepsCommit (state S.Store tx.old.conn.now) (state S.Store tx.new.conn.now) }
+    ensures survives { Survives (state S.Store tx.old.conn.now)
+        (state S.Store tx.new.conn.now) (λ _. ⊥) }
     ensures unspent { IfErr result (λ fault. fault ≢ LogFault.Spent) }
 {
     tx.execute(
@@ -70,10 +81,15 @@ fn insert_decision<S: Alter>(tx: &mut Transaction<'_, S>, g: Gtrid) -> Result<()
 fn insert_participant<S: Alter>(tx: &mut Transaction<'_, S>, branch: Branch) -> Result<(), LogFault>
     requires { FitsRow branch.gtrid }
     ensures same_reference { tx.new.conn.ghost_name ≡ tx.old.conn.ghost_name }
-    ensures written { HasCleanDisk (state S.Store tx.new.conn.now) → (set : KeySet branch_cmp) (before : Content) → HasWritten branch.gtrid set before (state S.Store tx.old.conn.now)
-        → OnOk result (HasWritten branch.gtrid (insert set branch) before (state S.Store tx.new.conn.now)) }
-    ensures kept { HasCleanDisk (state S.Store tx.new.conn.now) → KeepsCommit (state S.Store tx.old.conn.now) (state S.Store tx.new.conn.now) }
-    ensures survives { Survives (state S.Store tx.old.conn.now) (state S.Store tx.new.conn.now) (λ _. ⊥) }
+    ensures written { HasCleanDisk (state S.Store tx.new.conn.now)
+        → (set : KeySet branch_cmp) (before : Content)
+        → HasWritten branch.gtrid set before (state S.Store tx.old.conn.now)
+        → OnOk result (HasWritten branch.gtrid (insert set branch) before
+        (state S.Store tx.new.conn.now)) }
+    ensures kept { HasCleanDisk (state S.Store tx.new.conn.now)
+        → KeepsCommit (state S.Store tx.old.conn.now) (state S.Store tx.new.conn.now) }
+    ensures survives { Survives (state S.Store tx.old.conn.now)
+        (state S.Store tx.new.conn.now) (λ _. ⊥) }
     ensures unspent { IfErr result (λ fault. fault ≢ LogFault.Spent) }
 {
     tx.execute(
@@ -97,10 +113,14 @@ fn insert_participants<S: Alter>(
     requires fits { FitsRow g }
     requires own { AllByRecursion (λ b. b.gtrid ≡ g) participants.now }
     ensures same_reference { tx.new.conn.ghost_name ≡ tx.old.conn.ghost_name }
-    ensures written { HasCleanDisk (state S.Store tx.new.conn.now) → (before : Content) → HasWritten g empty before (state S.Store tx.old.conn.now)
-        → OnOk result (HasWritten g (from_list participants.now) before (state S.Store tx.new.conn.now)) }
-    ensures kept { HasCleanDisk (state S.Store tx.new.conn.now) → KeepsCommit (state S.Store tx.old.conn.now) (state S.Store tx.new.conn.now) }
-    ensures survives { Survives (state S.Store tx.old.conn.now) (state S.Store tx.new.conn.now) (λ _. ⊥) }
+    ensures written { HasCleanDisk (state S.Store tx.new.conn.now) → (before : Content)
+        → HasWritten g empty before (state S.Store tx.old.conn.now)
+        → OnOk result (HasWritten g (from_list participants.now) before
+        (state S.Store tx.new.conn.now)) }
+    ensures kept { HasCleanDisk (state S.Store tx.new.conn.now)
+        → KeepsCommit (state S.Store tx.old.conn.now) (state S.Store tx.new.conn.now) }
+    ensures survives { Survives (state S.Store tx.old.conn.now)
+        (state S.Store tx.new.conn.now) (λ _. ⊥) }
     ensures unspent { IfErr result (λ fault. fault ≢ LogFault.Spent) }
 {
     for branch in participants {
@@ -118,9 +138,13 @@ fn insert_all<S: Alter>(
     requires fits { FitsRow g }
     requires own { AllByRecursion (λ b. b.gtrid ≡ g) participants.now }
     ensures honest { HasCleanDisk (state S.Store conn.new) → HasCleanDisk (state S.Store conn.old) }
-    ensures changes { Lacks g (state S.Store conn.old) → MayChange (committed g (from_list participants.now)) (state S.Store conn.old) (state S.Store conn.new) }
-    ensures ok { Lacks g (state S.Store conn.old) → IsOrderly (state S.Store conn.old) → HasCleanDisk (state S.Store conn.new)
-        → OnOk result (Makes (committed g (from_list participants.now)) (content_in (state S.Store conn.old)) (content_in (state S.Store conn.new))) }
+    ensures changes { Lacks g (state S.Store conn.old)
+        → MayChange (committed g (from_list participants.now)) (state S.Store conn.old)
+        (state S.Store conn.new) }
+    ensures ok { Lacks g (state S.Store conn.old) → IsOrderly (state S.Store conn.old)
+        → HasCleanDisk (state S.Store conn.new)
+        → OnOk result (Makes (committed g (from_list participants.now))
+        (content_in (state S.Store conn.old)) (content_in (state S.Store conn.new))) }
     ensures unspent { IfErr result (λ fault. fault ≢ LogFault.Spent) }
 {
     if !conn.is_autocommit() {
@@ -141,11 +165,15 @@ pub(crate) fn commit<S: Alter>(
 ) -> Result<Logged, LogFault>
     requires fits { FitsRow g }
     requires own { AllByRecursion (λ b. b.gtrid ≡ g) participants.now }
-    ensures changes { MayChange (committed g (from_list participants.now)) (state S.Store conn.old) (state S.Store conn.new) }
+    ensures changes { MayChange (committed g (from_list participants.now)) (state S.Store conn.old)
+        (state S.Store conn.new) }
     ensures ok { IsOrderly (state S.Store conn.old) → HasCleanDisk (state S.Store conn.new)
-        → OnOk result (Makes (committed g (from_list participants.now)) (content_in (state S.Store conn.old)) (content_in (state S.Store conn.new))) }
-    ensures answer { IsOrderly (state S.Store conn.old) → HasCleanDisk (state S.Store conn.new) → IfOk result (λ logged.
-        IsSomeAnd (content_in (state S.Store conn.old)) (λ c. logged ≡ (if contains_key c.decisions g then Logged.Already else Logged.New))) }
+        → OnOk result (Makes (committed g (from_list participants.now))
+        (content_in (state S.Store conn.old)) (content_in (state S.Store conn.new))) }
+    ensures answer { IsOrderly (state S.Store conn.old) → HasCleanDisk (state S.Store conn.new)
+        → IfOk result (λ logged.
+        IsSomeAnd (content_in (state S.Store conn.old)) (λ c. logged
+        ≡ (if contains_key c.decisions g then Logged.Already else Logged.New))) }
     ensures unspent { IfErr result (λ fault. fault ≢ LogFault.Spent) }
 {
     if find_decision(conn, g)? {
@@ -158,9 +186,13 @@ pub(crate) fn commit<S: Alter>(
 /// Takes a decision away with its participants, and answers whether it was there.
 pub(crate) fn done<S: Alter>(conn: &mut Connection<S>, g: Gtrid) -> Result<bool, LogFault>
     requires { FitsRow g }
-    ensures changes { MayChange (without_decision g) (state S.Store conn.old) (state S.Store conn.new) }
-    ensures ok { IsOrderly (state S.Store conn.old) → HasCleanDisk (state S.Store conn.new) → OnOk result (Makes (without_decision g) (content_in (state S.Store conn.old)) (content_in (state S.Store conn.new))) }
-    ensures answer { IsOrderly (state S.Store conn.old) → HasCleanDisk (state S.Store conn.new) → IfOk result (λ found.
+    ensures changes { MayChange (without_decision g) (state S.Store conn.old)
+        (state S.Store conn.new) }
+    ensures ok { IsOrderly (state S.Store conn.old) → HasCleanDisk (state S.Store conn.new)
+        → OnOk result (Makes (without_decision g) (content_in (state S.Store conn.old))
+        (content_in (state S.Store conn.new))) }
+    ensures answer { IsOrderly (state S.Store conn.old) → HasCleanDisk (state S.Store conn.new)
+        → IfOk result (λ found.
         IsSomeAnd (content_in (state S.Store conn.old)) (λ c. found ≡ contains_key c.decisions g)) }
     ensures unspent { IfErr result (λ fault. fault ≢ LogFault.Spent) }
 {

@@ -60,7 +60,10 @@ impl FailLog {
     /// What the next call does, by the plan.
     fn turn(&mut self, call: LogCall) -> Turn
         ensures turn { result ≡ turn_of self.old.plan call self.old.calls }
-        ensures calls { self.new ≡ record self.old { calls = calls_after self.old.plan call self.old.calls } }
+        ensures calls { self.new ≡ record self.old {
+          calls =
+              calls_after self.old.plan call self.old.calls;
+        } }
     {
         self.plan.next_turn(call, &mut self.calls)
     }

@@ -23,12 +23,13 @@ mod rows;
 mod sql_log;
 mod statements;
 mod tables;
+mod version;
 
 pub use commands::{Command, Told, run_commands};
 pub use decision_log::{DecisionLog, Logged};
 pub use fail_log::FailLog;
 pub use fail_plan::{FailPlan, LogCall};
-pub use log_fault::LogFault;
+pub use log_fault::{LogFault, counted};
 pub use log_rows::LogRows;
 pub use mem_log::MemLog;
 pub use sql_log::SqlLog;

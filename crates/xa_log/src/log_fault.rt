@@ -42,8 +42,9 @@ impl<T: Drop> From<AllocFailed<T>> for LogFault {
     }
 }
 
-/// Counts a call that failed.
-pub(crate) fn counted<T>(faults: &mut u64, answer: Result<T, LogFault>) -> Result<T, LogFault>
+/// The answer of a call of a log, unchanged. Where it is a failure, `faults` is one more, up to the greatest number:
+/// so a log counts what [`faults`](crate::DecisionLog::faults) tells.
+pub fn counted<T>(faults: &mut u64, answer: Result<T, LogFault>) -> Result<T, LogFault>
     ensures same { result ≡ answer }
     ensures count { faults.new ≡ faults_after result faults.old }
 {

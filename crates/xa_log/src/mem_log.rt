@@ -62,7 +62,8 @@ impl MemLog {
     ) -> Result<Logged, LogFault>
         ensures answer { IfOk result (λ logged. logged ≡ logged_as (content_held self.old) g) }
         ensures ok { OnOk result
-            (content_held self.new ≡ committed g (from_list participants.now) (content_held self.old)) }
+            (content_held self.new ≡ committed g (from_list participants.now)
+            (content_held self.old)) }
         ensures err { OnErr result (content_held self.new ≡ content_held self.old) }
         ensures memory { IfErr result (λ e. e ≡ Memory) }
         ensures faults { self.new.faults ≡ self.old.faults }

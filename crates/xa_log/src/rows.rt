@@ -99,10 +99,12 @@ pub(crate) fn rows<S: Alter>(conn: &mut Connection<S>) -> Result<LogRows, LogFau
     ensures decisions { IsOrderly (state S.Store conn.old) → HasCleanDisk (state S.Store conn.new) →
         IfOk result (λ rows. IsSomeAnd (content_in (state S.Store conn.old)) (λ c.
         rows.decisions.items ≡ keys c.decisions)) }
-    ensures participants { IsOrderly (state S.Store conn.old) → HasCleanDisk (state S.Store conn.new) →
+    ensures participants { IsOrderly (state S.Store conn.old)
+        → HasCleanDisk (state S.Store conn.new) →
         IfOk result (λ rows. IsSomeAnd (content_in (state S.Store conn.old)) (λ c.
         rows.participants.items ≡ all_listed (entries c.decisions))) }
-    ensures heuristics { IsOrderly (state S.Store conn.old) → HasCleanDisk (state S.Store conn.new) →
+    ensures heuristics { IsOrderly (state S.Store conn.old)
+        → HasCleanDisk (state S.Store conn.new) →
         IfOk result (λ rows. IsSomeAnd (content_in (state S.Store conn.old)) (λ c.
         rows.heuristics.items ≡ entries c.heuristics)) }
     ensures unspent { IfErr result (λ fault. fault ≢ LogFault.Spent) }

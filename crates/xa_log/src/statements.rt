@@ -1,5 +1,5 @@
 //! Statements over the tables of a log.
-ghost use Rattle.std.specs.Prelude.{◌≡◌, ◌≤◌, pos, if◌then◌else◌, IfOk, IfErr, OnOk, OnErr};
+ghost use Rattle.std.specs.Prelude.{◌≡◌, ◌≤◌, pos, IfOk, IfErr, OnOk, OnErr};
 ghost use Rattle.sqlite.specs.State.{HasCleanDisk};
 ghost use Rattle.sqlite.specs.Held.{state};
 ghost use Rattle.sqlite.specs.Given.{IsPlain};
@@ -42,7 +42,9 @@ pub(crate) fn ask<S: Alter>(
 ) -> Result<Vec<Row>, LogFault>
     requires { IsPlain (understood log_schema sql.now) }
     ensures reads { OnlyReads (state S.Store conn.old) (state S.Store conn.new) }
-    ensures shown { IsOrderly (state S.Store conn.old) → HasCleanDisk (state S.Store conn.new) → IfOk result (λ rows. Answers S.Store sql.now (bound params.now) conn.old conn.new rows.items) }
+    ensures shown { IsOrderly (state S.Store conn.old) → HasCleanDisk (state S.Store conn.new)
+        → IfOk result (λ rows. Answers S.Store sql.now (bound params.now) conn.old
+        conn.new rows.items) }
     ensures cause { IfErr result IsStoreFault }
 {
     let statement = conn.prepare(sql)?;
@@ -57,9 +59,12 @@ pub(crate) fn run<S: Alter>(
 ) -> Result<(), LogFault>
     requires { IsPlain (understood log_schema sql.now) }
     ensures honest { HasCleanDisk (state S.Store conn.new) → HasCleanDisk (state S.Store conn.old) }
-    ensures ran { IsOrderly (state S.Store conn.old) → HasCleanDisk (state S.Store conn.new) → OnOk result (RunsFrom S.Store sql.now (bound params.now) conn.old conn.new) }
-    ensures rests { IsOrderly (state S.Store conn.old) → HasCleanDisk (state S.Store conn.new) → OnErr result (Rests (state S.Store conn.old) (state S.Store conn.new)) }
-    ensures crash { IsOrderly (state S.Store conn.old) → HasCleanDisk (state S.Store conn.new) → LeavesBy S.Store sql.now (bound params.now) conn.old conn.new }
+    ensures ran { IsOrderly (state S.Store conn.old) → HasCleanDisk (state S.Store conn.new)
+        → OnOk result (RunsFrom S.Store sql.now (bound params.now) conn.old conn.new) }
+    ensures rests { IsOrderly (state S.Store conn.old) → HasCleanDisk (state S.Store conn.new)
+        → OnErr result (Rests (state S.Store conn.old) (state S.Store conn.new)) }
+    ensures crash { IsOrderly (state S.Store conn.old) → HasCleanDisk (state S.Store conn.new)
+        → LeavesBy S.Store sql.now (bound params.now) conn.old conn.new }
     ensures cause { IfErr result IsStoreFault }
 {
     let statement = conn.prepare(sql)?;

@@ -1,21 +1,17 @@
 //! The tables of a log: made where there is none, and migrated from version 1.
-ghost use Rattle.std.specs.Prelude.{◌≡◌, ◌⊎◌, ℕ, List, pos, false, IsTrue, [], ◌∷◌, Err, IfOk, IfErr, OnOk, OnErr};
-ghost use Rattle.std.specs.List.{Contains};
-ghost use Rattle.sqlite.specs.declared.types.Value.{Value};
-ghost use Rattle.sqlite.specs.declared.types.Value.TheVariants.{Int};
-ghost use Rattle.sqlite.specs.Order.{column};
-ghost use Rattle.sqlite.specs.State.{HasCleanDisk, IsUnchanged, KeepsCommit, Survives};
+ghost use Rattle.std.specs.Prelude.{◌≡◌, false, IsTrue, [], Err, IfErr, OnOk, OnErr};
+ghost use Rattle.sqlite.specs.State.{HasCleanDisk, KeepsCommit, Survives};
 ghost use Rattle.sqlite.specs.Held.{state};
 ghost use Rattle.xa_log.specs.Content.{nothing};
 ghost use Rattle.xa_log.specs.Contract.{IsStoreFault};
 ghost use Rattle.xa_log.specs.Rows.{content_of, old_content_of, IsOldLog};
 ghost use Rattle.xa_log.specs.Tables.{old_schema, log_schema};
 ghost use Rattle.xa_log.specs.Sql.{IsOrderly, IsReadyWith, IsShutOrAsBefore, IsNewLog, AreNewTrees, IsOldReady, Rests};
-ghost use Rattle.xa_log.specs.Opened.{IsBlank, HasTables, IsTakeable, IsKnownDatabase, HasRow, IsNatural, NamesVersion, NamesKnown, RunsInside, LeavesOr, LeavesTables, LeavesSame, IsUntouched};
+ghost use Rattle.xa_log.specs.Opened.{IsBlank, HasTables, IsTakeable, IsKnownDatabase, NamesVersion, NamesKnown, RunsInside, LeavesOr, LeavesTables, LeavesSame, IsUntouched};
 
 use crate::LogFault;
-use crate::fields::number;
-use sqlite::{Alter, Connection, Row, Transaction};
+use crate::version::check_version;
+use sqlite::{Alter, Connection, Transaction};
 
 const CREATE_META: &str = "CREATE TABLE tm_meta (k INTEGER PRIMARY KEY CHECK (k = 1), \
     version INTEGER NOT NULL, incarnation INTEGER NOT NULL)";
@@ -37,8 +33,6 @@ const FIRST_META: &str = "INSERT INTO tm_meta (k, version, incarnation) VALUES (
 
 const SET_VERSION: &str = "UPDATE tm_meta SET version = 2";
 
-const READ_META: &str = "SELECT version, incarnation FROM tm_meta";
-
 /// The tables of a database, by their names.
 #[derive(Clone, Copy, Debug, PartialEq, Eq)]
 enum Layout {
@@ -56,7 +50,8 @@ fn execute<S: Alter>(tx: &mut Transaction<'_, S>, sql: &str) -> Result<(), LogFa
         (state S.Store tx.old.conn.now) (state S.Store tx.new.conn.now)) }
     ensures kept { HasCleanDisk (state S.Store tx.new.conn.now) →
         KeepsCommit (state S.Store tx.old.conn.now) (state S.Store tx.new.conn.now) }
-    ensures survives { Survives (state S.Store tx.old.conn.now) (state S.Store tx.new.conn.now) (λ _. ⊥) }
+    ensures survives { Survives (state S.Store tx.old.conn.now)
+        (state S.Store tx.new.conn.now) (λ _. ⊥) }
     ensures cause { IfErr result IsStoreFault }
 {
     tx.execute(sql, &[])?;
@@ -73,7 +68,8 @@ fn create_tables<S: Alter>(tx: &mut Transaction<'_, S>) -> Result<(), LogFault>
         IsNewLog nothing (state S.Store tx.new.conn.now).now) }
     ensures kept { HasCleanDisk (state S.Store tx.new.conn.now) →
         KeepsCommit (state S.Store tx.old.conn.now) (state S.Store tx.new.conn.now) }
-    ensures survives { Survives (state S.Store tx.old.conn.now) (state S.Store tx.new.conn.now) (λ _. ⊥) }
+    ensures survives { Survives (state S.Store tx.old.conn.now)
+        (state S.Store tx.new.conn.now) (λ _. ⊥) }
     ensures cause { IfErr result IsStoreFault }
 {
     execute(tx, CREATE_META)?;
@@ -113,7 +109,8 @@ fn make_version_2<S: Alter>(tx: &mut Transaction<'_, S>) -> Result<(), LogFault>
         (state S.Store tx.new.conn.now).now) }
     ensures kept { HasCleanDisk (state S.Store tx.new.conn.now) →
         KeepsCommit (state S.Store tx.old.conn.now) (state S.Store tx.new.conn.now) }
-    ensures survives { Survives (state S.Store tx.old.conn.now) (state S.Store tx.new.conn.now) (λ _. ⊥) }
+    ensures survives { Survives (state S.Store tx.old.conn.now)
+        (state S.Store tx.new.conn.now) (λ _. ⊥) }
     ensures cause { IfErr result IsStoreFault }
 {
     execute(tx, CREATE_PARTICIPANT)?;
@@ -139,42 +136,6 @@ fn migrate<S: Alter>(conn: &mut Connection<S>) -> Result<(), LogFault>
     make_version_2(&mut tx)?;
     tx.commit()?;
     Ok(())
-}
-
-/// The version in the row of `tm_meta`, both of whose numbers have to fit their types.
-fn version_in(rows: &[Row]) -> Result<u64, LogFault>
-    ensures ok { IfOk result (λ version. (row : List Value) × Contains rows.now row ×
-        (column row 0 ≡ Int (pos version)) × IsNatural (column row 1)) }
-    ensures err { (v i : ℕ) → rows.now ≡ (Int (pos v) ∷ Int (pos i) ∷ []) ∷ [] →
-        IfErr result (λ fault. fault ≡ LogFault.Memory) }
-{
-    let row = rows.first().ok_or(LogFault::Version)?;
-    let version = number(row, 0)?;
-    let _incarnation: u64 = number(row, 1)?;
-    Ok(version)
-}
-
-/// Whether the tables name this version; [`LogFault::Version`] where they name another or none.
-fn check_version<S: Alter>(conn: &mut Connection<S>, version: u64) -> Result<(), LogFault>
-    ensures honest { HasCleanDisk (state S.Store conn.new) → HasCleanDisk (state S.Store conn.old) }
-    ensures mode { conn.old.in_transaction ≡ false → conn.new.in_transaction ≡ false }
-    ensures same { HasTables (state S.Store conn.old) → HasCleanDisk (state S.Store conn.new) →
-        OnOk result (IsUnchanged (state S.Store conn.old) (state S.Store conn.new)) }
-    ensures rests { HasTables (state S.Store conn.old) → HasCleanDisk (state S.Store conn.new) →
-        OnErr result (Rests (state S.Store conn.old) (state S.Store conn.new)) }
-    ensures survives { HasTables (state S.Store conn.old) →
-        Survives (state S.Store conn.old) (state S.Store conn.new) (λ _. ⊥) }
-    ensures version { HasTables (state S.Store conn.old) → HasCleanDisk (state S.Store conn.new) →
-        OnOk result (NamesVersion version (state S.Store conn.old)) }
-    ensures known { (i : ℕ) → HasRow version i (state S.Store conn.old) →
-        HasCleanDisk (state S.Store conn.new) → IfErr result IsStoreFault }
-{
-    let rows = conn.query_all(READ_META, &[])?;
-    if version_in(rows.as_slice())? == version {
-        Ok(())
-    } else {
-        Err(LogFault::Version)
-    }
 }
 
 /// Migrates a log whose tables are those of version 1, if they name that version.
@@ -244,10 +205,12 @@ pub(crate) fn prepare<S: Alter>(conn: &mut Connection<S>) -> Result<(), LogFault
     ensures crash { IsTakeable (state S.Store conn.old) → HasCleanDisk (state S.Store conn.new) →
         LeavesTables (state S.Store conn.old) (state S.Store conn.new) }
     ensures crash_kept { (state S.Store conn.old).now.schema ≡ log_schema →
-        HasCleanDisk (state S.Store conn.new) → LeavesSame (state S.Store conn.old) (state S.Store conn.new) }
+        HasCleanDisk (state S.Store conn.new)
+        → LeavesSame (state S.Store conn.old) (state S.Store conn.new) }
     ensures version { HasTables (state S.Store conn.old) → HasCleanDisk (state S.Store conn.new) →
         OnOk result (NamesKnown (state S.Store conn.old)) }
-    ensures known { IsKnownDatabase (state S.Store conn.old) → HasCleanDisk (state S.Store conn.new) →
+    ensures known { IsKnownDatabase (state S.Store conn.old)
+        → HasCleanDisk (state S.Store conn.new) →
         IfErr result IsStoreFault }
     ensures unknown { conn.old.in_transaction ≡ false →
         HasTables (state S.Store conn.old) → ¬ NamesKnown (state S.Store conn.old) →

@@ -2,5 +2,6 @@
 pub mod Alike
 pub mod Distinct
 pub mod Ends
+pub mod PhaseMaps
 pub mod Prefix
 pub mod Simulation

@@ -1,4 +1,7 @@
 -- What holds after every list of right events.
+pub mod Heard
+pub mod RowLists
+pub mod WaitedCalls
 pub mod WaitingCalls
 pub mod Carried
 pub mod Grows

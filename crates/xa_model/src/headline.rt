@@ -19,7 +19,8 @@ use crate::histories::{demanded, one_more_event};
 /// [`agreement_invariant`] say them of histories. A start is right where its rows and records are of earlier
 /// incarnations, and what it lists as another manager's is.
 pub fn headline_holds()
-    ensures { (o : Origin) (events : List Event) → RightOrigin o → AreDemanded o events → Headline o events }
+    ensures { (o : Origin) (events : List Event) → RightOrigin o → AreDemanded o events
+        → Headline o events }
 {
     demanded();
     one_more_event();

@@ -1,5 +1,5 @@
 //! Identifiers and the names that histories know them by.
-ghost use Rattle.std.specs.Prelude.{◌≡◌, ℤ, All, List, None, Option, Some, map, option_map};
+ghost use Rattle.std.specs.Prelude.{◌≡◌, ℤ, All, List, None, Option, map, option_map};
 ghost use Rattle.xa_base.specs.Branch.{IsBranch, branch_of_xid, xid_of_branch};
 ghost use Rattle.xa_base.specs.Scan.{page_of};
 ghost use Rattle.xa_base.specs.Xid.{IsXid, Xid, xid_cmp};

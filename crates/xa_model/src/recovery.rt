@@ -10,6 +10,7 @@ ghost use Rattle.xa_model.specs.Trace.{Answer, Call, Name, Trace};
 /// put off, each branch that is still prepared there is of a live transaction.
 pub fn recovery_completes()
     ensures { (tr : Trace) (r count : ℕ) (names : List Name) (answers : List (Call × Answer)) →
-        AllRight tr → MayComplete tr r count answers → AllDemanded tr (recovery r count names answers) →
+        AllRight tr → MayComplete tr r count answers
+        → AllDemanded tr (recovery r count names answers) →
         IsRecovered (with_steps tr (recovery r count names answers)) r }
 {}

@@ -58,7 +58,8 @@ impl Branches {
         requires { is_in_doubt held.standing ≡ true → IsSome (get xid_cmp self.old.table xid.now) }
         ensures ok { OnOk result ((x : Xid) → held_at self.new.table x ≡
             (if xid_eq xid.now x then held_branch held else held_at self.old.table x)) }
-        ensures err { OnErr result ((x : Xid) → held_at self.new.table x ≡ held_at self.old.table x) }
+        ensures err { OnErr result ((x : Xid)
+            → held_at self.new.table x ≡ held_at self.old.table x) }
     {
         if held.is_in_doubt() {
             self.index.insert(xid.copy())?;
@@ -76,7 +77,8 @@ impl Branches {
         ensures answer { IfOk result (λ code. code ≡ code_for (held_at self.old.table) call.now) }
         ensures held { OnOk result ((x : Xid) →
             held_at self.new.table x ≡ held_after thread call.now x (held_at self.old.table x)) }
-        ensures err { OnErr result ((x : Xid) → held_at self.new.table x ≡ held_at self.old.table x) }
+        ensures err { OnErr result ((x : Xid)
+            → held_at self.new.table x ≡ held_at self.old.table x) }
         ensures line { is_of_line call.now ≡ true → IsOk result }
         ensures not_found { code_for (held_at self.old.table) call.now ≡ NotAnXid → IsOk result }
     {
@@ -93,7 +95,8 @@ impl Branches {
 
     /// A line of the thread broke. It moves no branch in or out of doubt.
     pub(crate) fn break_line(&mut self, thread: u32)
-        ensures { (x : Xid) → held_at self.new.table x ≡ broken_by thread (held_at self.old.table x) }
+        ensures { (x : Xid) → held_at self.new.table x
+            ≡ broken_by thread (held_at self.old.table x) }
     {
         // Keeps each entry: `values_mut` has no contract on what is written.
         self.table.retain(|_, held| {

@@ -50,16 +50,20 @@ impl MemRm {
         end_scan: bool,
     ) -> Result<Answer, Memory>
         ensures answer { IfOk result (λ answer. answer ≡ page_answer
-            (xid_page (scan_at self.old.scans.cursors thread) count start_scan self.old.branches.index.keys)) }
+            (xid_page (scan_at self.old.scans.cursors thread) count start_scan
+            self.old.branches.index.keys)) }
         ensures branches { self.new.branches ≡ self.old.branches }
         ensures scans { OnOk result ((t : ℕ) → scan_at self.new.scans.cursors t ≡ (if t == thread
             then scan_after (scan_at self.old.scans.cursors t) start_scan end_scan
-            (xid_page (scan_at self.old.scans.cursors t) count start_scan self.old.branches.index.keys)
+            (xid_page (scan_at self.old.scans.cursors t) count start_scan
+            self.old.branches.index.keys)
             else scan_at self.old.scans.cursors t)) }
         ensures in_doubt { IfOk result (λ answer. (page : List Xid) → answer ≡ Answers.Page page →
             IsInDoubtList (held_at self.old.branches.table) self.old.branches.index.keys) }
-        ensures err { OnErr result ((t : ℕ) → scan_at self.new.scans.cursors t ≡ scan_at self.old.scans.cursors t) }
-        ensures invalid { page_answer (xid_page (scan_at self.old.scans.cursors thread) count start_scan self.old.branches.index.keys)
+        ensures err { OnErr result ((t : ℕ)
+            → scan_at self.new.scans.cursors t ≡ scan_at self.old.scans.cursors t) }
+        ensures invalid { page_answer (xid_page (scan_at self.old.scans.cursors thread) count
+            start_scan self.old.branches.index.keys)
             ≡ Answers.Ret Invalid → IsOk result }
     {
         let Ok(count) = usize::try_from(count) else {

@@ -34,11 +34,13 @@ pub trait ResourceManager {
     /// memory, and so never fail.
     fn apply(&mut self, thread: u32, call: &Call) -> Result<Answer, Memory>
         ensures answer { IfOk result (λ answer.
-            answer ≡ answer_to (held_of self.old) (scan_of self.old thread) (in_doubt_of self.old) call.now) }
+            answer ≡ answer_to (held_of self.old) (scan_of self.old thread)
+            (in_doubt_of self.old) call.now) }
         ensures held { OnOk result ((x : Xid) →
             held_of self.new x ≡ held_after thread call.now x (held_of self.old x)) }
         ensures scans { OnOk result ((t : ℕ) →
-            scan_of self.new t ≡ scan_after_call thread call.now (in_doubt_of self.old) t (scan_of self.old t)) }
+            scan_of self.new t ≡ scan_after_call thread call.now (in_doubt_of self.old) t
+            (scan_of self.old t)) }
         // Wherever a page is answered, it is one of what is in doubt.
         ensures in_doubt { IfOk result (λ answer. (page : List Xid) → answer ≡ Page page →
             IsInDoubtList (held_of self.old) (in_doubt_of self.old)) }
@@ -46,9 +48,11 @@ pub trait ResourceManager {
         ensures err_scans { OnErr result ((t : ℕ) → scan_of self.new t ≡ scan_of self.old t) }
         // Neither xa_open and xa_close nor an answer XAER_INVAL or XAER_NOTA takes memory.
         ensures line { is_of_line call.now ≡ true → IsOk result }
-        ensures invalid { answer_to (held_of self.old) (scan_of self.old thread) (in_doubt_of self.old) call.now ≡ Ret Invalid
+        ensures invalid { answer_to (held_of self.old) (scan_of self.old thread)
+            (in_doubt_of self.old) call.now ≡ Ret Invalid
             → IsOk result }
-        ensures not_found { answer_to (held_of self.old) (scan_of self.old thread) (in_doubt_of self.old) call.now ≡ Ret NotAnXid
+        ensures not_found { answer_to (held_of self.old) (scan_of self.old thread)
+            (in_doubt_of self.old) call.now ≡ Ret NotAnXid
             → IsOk result };
 
     /// Lists up to `count` identifiers in doubt that stand behind the thread's recovery scan, in order and of any format,
@@ -59,7 +63,8 @@ pub trait ResourceManager {
     /// and none is started.
     fn recover(&mut self, thread: u32, count: i64, flags: u32) -> Result<Answer, Memory>
         ensures answer { IfOk result (λ answer. answer ≡
-            answer_to_recover (held_of self.old) (scan_of self.old thread) (in_doubt_of self.old) count flags) }
+            answer_to_recover (held_of self.old) (scan_of self.old thread)
+            (in_doubt_of self.old) count flags) }
         ensures held { (x : Xid) → held_of self.new x ≡ held_of self.old x }
         ensures scans { OnOk result ((t : ℕ) → scan_of self.new t ≡
             scan_after_recover thread count flags (in_doubt_of self.old) t (scan_of self.old t)) }
@@ -68,7 +73,8 @@ pub trait ResourceManager {
             IsInDoubtList (held_of self.old) (in_doubt_of self.old)) }
         ensures err_scans { OnErr result ((t : ℕ) → scan_of self.new t ≡ scan_of self.old t) }
         // An answer XAER_INVAL takes no memory.
-        ensures invalid { answer_to_recover (held_of self.old) (scan_of self.old thread) (in_doubt_of self.old) count flags ≡ Ret Invalid
+        ensures invalid { answer_to_recover (held_of self.old) (scan_of self.old thread)
+            (in_doubt_of self.old) count flags ≡ Ret Invalid
             → IsOk result };
 
     /// Sets how the branch votes when it is next prepared or committed in one phase. The last vote set counts, and
@@ -76,7 +82,8 @@ pub trait ResourceManager {
     ///
     /// `RmFault::Script` where the branch is prepared or heuristically completed, and so has voted.
     fn vote(&mut self, xid: &Xid, vote: Vote) -> Result<(), RmFault>
-        ensures script { IsErrOf result RmFault.Script ↔ (is_in_doubt (held_of self.old xid.now).standing ≡ true) }
+        ensures script { IsErrOf result RmFault.Script
+            ↔ (is_in_doubt (held_of self.old xid.now).standing ≡ true) }
         ensures held { OnOk result ((x : Xid) →
             held_of self.new x ≡ changed_at xid.now (voting vote) x (held_of self.old x)) }
         ensures err { OnErr result ((x : Xid) → held_of self.new x ≡ held_of self.old x) }
@@ -96,7 +103,8 @@ pub trait ResourceManager {
     ///
     /// `RmFault::Script` where the branch isn't prepared.
     fn heuristic(&mut self, xid: &Xid, how: How) -> Result<(), RmFault>
-        ensures script { IsErrOf result RmFault.Script ↔ (is_prepared (held_of self.old xid.now).standing ≡ false) }
+        ensures script { IsErrOf result RmFault.Script
+            ↔ (is_prepared (held_of self.old xid.now).standing ≡ false) }
         ensures held { OnOk result ((x : Xid) →
             held_of self.new x ≡ changed_at xid.now (completed_by how) x (held_of self.old x)) }
         ensures err { OnErr result ((x : Xid) → held_of self.new x ≡ held_of self.old x) }
@@ -106,7 +114,8 @@ pub trait ResourceManager {
     /// the thread's recovery scan is closed. No memory is taken.
     fn break_line(&mut self, thread: u32)
         ensures held { (x : Xid) → held_of self.new x ≡ broken_by thread (held_of self.old x) }
-        ensures scans { (t : ℕ) → scan_of self.new t ≡ (if t == thread then NotOpen else scan_of self.old t) };
+        ensures scans { (t : ℕ) → scan_of self.new t
+            ≡ (if t == thread then NotOpen else scan_of self.old t) };
 
     /// The lines of all threads broke: the resource manager crashed, or who calls it, with all its lines, did. Each branch
     /// that isn't prepared or completed is lost, and all recovery scans are closed. No memory is taken.

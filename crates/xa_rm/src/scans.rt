@@ -72,7 +72,8 @@ impl Scans {
 
     /// From where a thread's call reads: from the start if it asks for that, else from where its scan stands, if one is open.
     pub(crate) fn reads_from(&self, thread: u32, start_scan: bool) -> Option<Cursor>
-        ensures { option_map place_of result ≡ reads_from (scan_at self.now.cursors thread) start_scan }
+        ensures { option_map place_of result
+            ≡ reads_from (scan_at self.now.cursors thread) start_scan }
     {
         if start_scan {
             return Some(Cursor::Start);
@@ -87,7 +88,8 @@ impl Scans {
     pub(crate) fn stand(&mut self, thread: u32, cursor: Cursor) -> Result<(), Memory>
         ensures moved { OnOk result ((t : ℕ) → scan_at self.new.cursors t ≡
             (if t == thread then Behind (place_of cursor) else scan_at self.old.cursors t)) }
-        ensures err { OnErr result ((t : ℕ) → scan_at self.new.cursors t ≡ scan_at self.old.cursors t) }
+        ensures err { OnErr result ((t : ℕ)
+            → scan_at self.new.cursors t ≡ scan_at self.old.cursors t) }
     {
         self.cursors.insert(thread, cursor)?;
         Ok(())
@@ -95,7 +97,8 @@ impl Scans {
 
     /// Ends the thread's scan.
     pub(crate) fn close(&mut self, thread: u32)
-        ensures { (t : ℕ) → scan_at self.new.cursors t ≡ (if t == thread then NotOpen else scan_at self.old.cursors t) }
+        ensures { (t : ℕ) → scan_at self.new.cursors t
+            ≡ (if t == thread then NotOpen else scan_at self.old.cursors t) }
     {
         self.cursors.remove(&thread);
     }

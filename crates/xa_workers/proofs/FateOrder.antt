@@ -1,16 +1,15 @@
 -- The listed identifiers are ascending: by job, and for each job by resource manager.
-use Rattle.std.proofs.Common.{◌≡◌, ℕ, zero, suc, ◌+◌, ◌<◌, ◌≤◌, ◌^◌, ◌%◌, List, [], ◌∷◌, ◌++◌, map, length, vec_len, Option, Some, None, ap, refl, sym, ◌∙◌, subst, arith}
+use Rattle.std.proofs.Common.{◌≡◌, ℕ, zero, suc, ◌+◌, ◌<◌, ◌≤◌, ◌^◌, ◌%◌, List, [], ◌∷◌, ◌++◌, map, length, vec_len, Option, Some, None, refl, sym, ◌∙◌, subst, arith}
 use Rattle.std.specs.Prelude.{IfOk, Result, Ok, Err, IfSome, slice_get}
 use Rattle.std.specs.Cmp.{nat_cmp_is}
 use Rattle.std.specs.List.{AllByRecursion, cons_option, filter_map, flat_map, range_with_len}
 use Rattle.std.specs.Option.{option_and_then, option_map}
 use Rattle.std.specs.List.Sorted.{IsStrictlySortedBy}
-use Rattle.std.specs.Ordering.{nat_cmp, ordering_then}
+use Rattle.std.specs.Ordering.{nat_cmp}
 use Rattle.std.specs.declared.cmp.Ordering.TheVariants.{Less, Equal}
 use Rattle.std.proofs.Math.Nat.{mod-lt}
-use Rattle.std.proofs.lemmas.List.{map-append}
 use Rattle.xa_base.proofs.BytesOrder.{branch_order}
-use Rattle.xa_base.specs.Branch.{IsBranch, branch_cmp, xid_of_branch}
+use Rattle.xa_base.specs.Branch.{IsBranch, xid_of_branch}
 use Rattle.xa_base.specs.Xid.{Xid, xid_cmp}
 use Rattle.xa_base.specs.declared.state.Fate.{Fate}
 use Rattle.xa_base.specs.declared.step.Outcome.{Outcome}
@@ -19,6 +18,7 @@ use Rattle.xa_log.specs.Content.{last_number}
 use Rattle.xa_workers.specs.Fates.{AreInOrder, fate_after, fate_at, fates_of, job_fates}
 use Rattle.xa_workers.specs.Jobs.{IsRunnable, branch_of, vote_at}
 use Rattle.xa_workers.specs.declared.jobs.Jobs.{Jobs}
+use Rattle.xa_workers.specs.declared.limits.TheConstants.{JOB_LIMIT}
 
 abbrev Listed : Type 0
 Listed = Xid × Fate
@@ -51,10 +51,10 @@ unfolding IsStrictlySortedBy
 keys_ascend [] is = tt
 keys_ascend (f ∷ fs) is = (all_keys f.0 fs is.0, keys_ascend fs is.1)
 
-module _ (jobs : Jobs) (n : ℕ) (ends : List Outcome) (few : vec_len jobs.votes ≤ 1000) (some : 0 < jobs.threads)
+module _ (jobs : Jobs) (n : ℕ) (ends : List Outcome) (few : vec_len jobs.votes ≤ JOB_LIMIT) (some : 0 < jobs.threads)
     (threads : jobs.threads ≤ 8) (rms : jobs.rms ≤ 8) (fits : n ≤ last_number) where
   -- the numbers of a job's branch fit their types
-  fits_branch : (i r : ℕ) → i < 1000 → r < 8 → IsBranch (branch_of jobs n i r)
+  fits_branch : (i r : ℕ) → i < JOB_LIMIT → r < 8 → IsBranch (branch_of jobs n i r)
   fits_branch i r job rm = record {
     incarnation = let e : n < 2 ^ 64 = omega (arith, fits) in e;
     sequence = let e : i + 1 < 2 ^ 64 = omega (arith, job) in e;
@@ -71,12 +71,12 @@ module _ (jobs : Jobs) (n : ℕ) (ends : List Outcome) (few : vec_len jobs.votes
   abbrev xid_at : ℕ → ℕ → Xid
   xid_at i r = xid_of_branch (branch_of jobs n i r)
 
-  next_rm : (i r s : ℕ) → i < 1000 → s < 8 → r < s → xid_cmp (xid_at i r) (xid_at i s) ≡ Less
+  next_rm : (i r s : ℕ) → i < JOB_LIMIT → s < 8 → r < s → xid_cmp (xid_at i r) (xid_at i s) ≡ Less
   next_rm i r s job rm below =
       branch_order (branch_of jobs n i r) (branch_of jobs n i s) (fits_branch i r job (omega (arith, rm, below))) (fits_branch i s job rm)
       ∙ rw (same_number n, same_number (i + 1), same_number (i % jobs.threads), lesser r s below) refl
 
-  next_job : (i j r s : ℕ) → j < 1000 → i < j → r < 8 → s < 8 → xid_cmp (xid_at i r) (xid_at j s) ≡ Less
+  next_job : (i j r s : ℕ) → j < JOB_LIMIT → i < j → r < 8 → s < 8 → xid_cmp (xid_at i r) (xid_at j s) ≡ Less
   next_job i j r s job below rm rm' =
       branch_order (branch_of jobs n i r) (branch_of jobs n j s) (fits_branch i r (omega (arith, job, below)) rm) (fits_branch j s job rm')
       ∙ rw (same_number n, lesser (i + 1) (j + 1) (omega (arith, below))) refl
@@ -97,10 +97,10 @@ module _ (jobs : Jobs) (n : ℕ) (ends : List Outcome) (few : vec_len jobs.votes
   earlier : (i r : ℕ) (f : Listed) → IsOf i (r + 1) f → IsOf i r f
   earlier i r f h = record { place = h.place; behind = omega (arith, h.behind); within = h.within; is = h.is }
 
-  below_later : (i r : ℕ) (f g : Listed) → i < 1000 → f.0 ≡ xid_at i r → IsOf i (r + 1) g → Below f g
+  below_later : (i r : ℕ) (f g : Listed) → i < JOB_LIMIT → f.0 ≡ xid_at i r → IsOf i (r + 1) g → Below f g
   below_later i r f g job is h = rw (is, h.is) (next_rm i r h.place job h.within (omega (arith, h.behind)))
 
-  one_more : (i r : ℕ) (o : Option Listed) (fs : List Listed) → i < 1000 → r < 8 → IfSome o (λ f. f.0 ≡ xid_at i r)
+  one_more : (i r : ℕ) (o : Option Listed) (fs : List Listed) → i < JOB_LIMIT → r < 8 → IfSome o (λ f. f.0 ≡ xid_at i r)
       → AllByRecursion (IsOf i (r + 1)) fs × Ascends fs → AllByRecursion (IsOf i r) (cons_option o fs) × Ascends (cons_option o fs)
   one_more i r None fs job rm is all = (all_of (IsOf i (r + 1)) (IsOf i r) (earlier i r) fs all.0, all.1)
   one_more i r (Some f) fs job rm is all =
@@ -109,7 +109,7 @@ module _ (jobs : Jobs) (n : ℕ) (ends : List Outcome) (few : vec_len jobs.votes
         (all_of (IsOf i (r + 1)) (Below f) (λ g h. below_later i r f g job is h) fs all.0, all.1),
       )
 
-  at_rms : (i r count : ℕ) → i < 1000 → r + count ≤ 8
+  at_rms : (i r count : ℕ) → i < JOB_LIMIT → r + count ≤ 8
       → AllByRecursion (IsOf i r) (filter_map (fate_at jobs n ends i) (range_with_len r count))
       × Ascends (filter_map (fate_at jobs n ends i) (range_with_len r count))
   at_rms i r zero job within = (tt, tt)
@@ -117,14 +117,14 @@ module _ (jobs : Jobs) (n : ℕ) (ends : List Outcome) (few : vec_len jobs.votes
       one_more i r (fate_at jobs n ends i r) (filter_map (fate_at jobs n ends i) (range_with_len (r + 1) count)) job (omega (arith, within))
       (named i r (slice_get ends i) (vote_at jobs i r)) (at_rms i (r + 1) count job (omega (arith, within)))
 
-  of_job : (i : ℕ) → i < 1000 → AllByRecursion (IsOf i 0) (job_fates jobs n ends i) × Ascends (job_fates jobs n ends i)
+  of_job : (i : ℕ) → i < JOB_LIMIT → AllByRecursion (IsOf i 0) (job_fates jobs n ends i) × Ascends (job_fates jobs n ends i)
   of_job i job = at_rms i 0 jobs.rms job (omega (arith, rms))
 
   -- what is listed of the jobs from i on
   record IsFrom (i : ℕ) (f : Listed) : Type 0 where
     job : ℕ
     behind : i ≤ job
-    within : job < 1000
+    within : job < JOB_LIMIT
     is : IsOf job 0 f
 
   from_later : (i : ℕ) (f : Listed) → IsFrom (i + 1) f → IsFrom i f
@@ -133,12 +133,12 @@ module _ (jobs : Jobs) (n : ℕ) (ends : List Outcome) (few : vec_len jobs.votes
   below_next : (i : ℕ) (f g : Listed) → IsOf i 0 f → IsFrom (i + 1) g → Below f g
   below_next i f g h k = rw (h.is, k.is.is) (next_job i k.job h.place k.is.place k.within (omega (arith, k.behind)) h.within k.is.within)
 
-  from : (i count : ℕ) → i + count ≤ 1000
+  from : (i count : ℕ) → i + count ≤ JOB_LIMIT
       → AllByRecursion (IsFrom i) (flat_map (job_fates jobs n ends) (range_with_len i count))
       × Ascends (flat_map (job_fates jobs n ends) (range_with_len i count))
   from i zero within = (tt, tt)
   from i (suc count) within =
-      let job : i < 1000 = omega (arith, within) in
+      let job : i < JOB_LIMIT = omega (arith, within) in
       let here = of_job i job in
       let later = from (i + 1) count (omega (arith, within)) in
       let rest = flat_map (job_fates jobs n ends) (range_with_len (i + 1) count) in (

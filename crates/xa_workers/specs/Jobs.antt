@@ -12,6 +12,7 @@ use Rattle.xa_base.specs.declared.step.Outcome.TheVariants.{Commit, Rollback}
 use Rattle.xa_base.specs.declared.vote.Vote.{Vote}
 use Rattle.xa_base.specs.declared.vote.Vote.TheVariants.{Yes, No}
 use Rattle.xa_workers.specs.declared.jobs.Jobs.{Jobs}
+use Rattle.xa_workers.specs.declared.limits.TheConstants.{JOB_LIMIT}
 
 -- what a run asks of its jobs
 pub record IsRunnable (jobs : Jobs) : Type 0 where
@@ -19,7 +20,7 @@ pub record IsRunnable (jobs : Jobs) : Type 0 where
   pub few_threads : jobs.threads ≤ 8
   pub some_rms : 0 < jobs.rms
   pub few_rms : jobs.rms ≤ 8
-  pub few_jobs : vec_len jobs.votes ≤ 1000
+  pub few_jobs : vec_len jobs.votes ≤ JOB_LIMIT
   -- a vote or none for each resource manager
   pub rows : All (λ votes. vec_len votes ≡ jobs.rms) jobs.votes.items
 

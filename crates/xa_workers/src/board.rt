@@ -5,6 +5,7 @@ ghost use Rattle.xa_workers.specs.Views.{blank, entry, claim_entry, with_entry, 
 ghost use Rattle.xa_workers.specs.Views.{MayExchange, Agree, HoldApart};
 ghost use Rattle.xa_workers.specs.BoardRule.{OnOneBoard};
 
+use crate::limits::JOB_LIMIT;
 use crate::rule::{Agreement, Comparing, Newcomer, Noting, Visit};
 use crate::view::Place;
 use crate::word::{Claim, Word};
@@ -28,12 +29,14 @@ pub struct Board {
 impl Model for Board {
     ghost use Rattle.std.specs.Prelude.{◌≡◌, ◌+◌, ◌≤◌};
     ghost use Rattle.xa_workers.specs.Views.{BoardId};
+    ghost use Rattle.xa_workers.specs.declared.limits.TheConstants.{JOB_LIMIT};
 
     ghost Value = { BoardId };
 
     ghost view = { λ b. record { table = b.table.shared.table_id; slots = b.table.shared.key } };
 
-    ghost invariant = { λ b. (b.table.shared.table_id.words ≡ b.table.shared.key + 1) × (b.table.shared.key ≤ 1000) };
+    ghost invariant = { λ b. (b.table.shared.table_id.words ≡ b.table.shared.key + 1)
+        × (b.table.shared.key ≤ JOB_LIMIT) };
 }
 
 /// The right to take steps on one board. Contracts see in it the steps that were taken with it, and the slots that it
@@ -58,7 +61,7 @@ impl Board {
     /// A board of 0 to 1,000 slots, all of them open, and its first seat. Takes all the memory that it ever needs, and
     /// fails only where that is refused.
     pub fn new(alloc: Global, slots: usize) -> Result<(Board, BoardSeat), Memory>
-        requires { slots ≤ 1000 }
+        requires { slots ≤ JOB_LIMIT }
         ensures slots { IfOk result (λ r. r.0.slots ≡ slots) }
         ensures seat { IfOk result (λ r. (r.1.board ≡ r.0.table) × (r.1.view ≡ blank)) }
     {
@@ -111,7 +114,8 @@ impl Board {
         requires slot { slot < self.now.slots }
         requires held { HoldsSlot seat.old.view slot }
         ensures board { seat.new.board ≡ seat.old.board }
-        ensures entry { seat.new.view ≡ with_entry seat.old.view (entry slot Word.Claimed Word.Committed) }
+        ensures entry { seat.new.view ≡ with_entry seat.old.view
+            (entry slot Word.Claimed Word.Committed) }
         ensures in_order { InOrder seat.new.view }
     {
         self.exchange(seat, slot, Word::Claimed, Word::Committed);
@@ -123,7 +127,8 @@ impl Board {
         requires slot { slot < self.now.slots }
         requires held { HoldsSlot seat.old.view slot }
         ensures board { seat.new.board ≡ seat.old.board }
-        ensures entry { seat.new.view ≡ with_entry seat.old.view (entry slot Word.Claimed Word.RolledBack) }
+        ensures entry { seat.new.view ≡ with_entry seat.old.view
+            (entry slot Word.Claimed Word.RolledBack) }
         ensures in_order { InOrder seat.new.view }
     {
         self.exchange(seat, slot, Word::Claimed, Word::RolledBack);
@@ -184,7 +189,8 @@ impl Board {
         requires slot { slot < self.now.slots }
         requires allowed { MayExchange seat.old.view slot old new }
         ensures board { seat.new.board ≡ seat.old.board }
-        ensures entry { seat.new.view ≡ with_entry seat.old.view (entry slot result (exchanged old new result)) }
+        ensures entry { seat.new.view ≡ with_entry seat.old.view
+            (entry slot result (exchanged old new result)) }
         ensures held { HoldsSlot seat.old.view slot → result ≡ Word.Claimed }
         ensures decided { (w : _) → SawDecided seat.old.view slot w → result ≡ w }
         ensures in_order { InOrder seat.new.view }

@@ -4,6 +4,7 @@ ghost use Rattle.std.specs.List.{list_any};
 ghost use Rattle.xa_workers.specs.Jobs.{IsRunnable, branch_of, gtrid_of, is_branch_of, is_no, is_xid_of, is_yes, vote_at};
 ghost use Rattle.xa_workers.specs.Jobs.{votes_of, yes_branch, yes_branches};
 
+use crate::limits::JOB_LIMIT;
 use std::alloc::{AllocError, Global};
 use xa_base::{Branch, Gtrid, Vote, Xid};
 
@@ -70,7 +71,7 @@ impl Jobs {
     {
         (1..=8).contains(&self.threads)
             && (1..=8).contains(&self.rms)
-            && self.votes.len() <= 1000
+            && self.votes.len() <= JOB_LIMIT
             && self.have_rows()
     }
 
@@ -123,7 +124,7 @@ impl Jobs {
 
     /// Whether a branch is that of a job, at a resource manager.
     fn is_branch(&self, incarnation: u64, branch: Branch, rm: u32) -> bool
-        requires jobs { vec_len self.now.votes ≤ 1000 }
+        requires jobs { vec_len self.now.votes ≤ JOB_LIMIT }
         requires threads { 0 < self.now.threads }
         ensures { IsTrue result → is_branch_of self.now incarnation rm branch ≡ true }
     {
@@ -138,7 +139,7 @@ impl Jobs {
 
     /// Whether an identifier is that of a job's branch, at a resource manager.
     pub(crate) fn is_xid(&self, incarnation: u64, xid: &Xid, rm: u32) -> bool
-        requires jobs { vec_len self.now.votes ≤ 1000 }
+        requires jobs { vec_len self.now.votes ≤ JOB_LIMIT }
         requires threads { 0 < self.now.threads }
         ensures { IsTrue result → is_xid_of self.now incarnation rm xid.now ≡ true }
     {

@@ -7,6 +7,7 @@ use crate::crew::Crew;
 use crate::docket::Task;
 use crate::fault::Halt;
 use crate::jobs::gtrid;
+use crate::limits::JOB_LIMIT;
 use crate::roll::Run;
 use crate::{Gate, Jobs, WorkFault};
 use std::alloc::{AllocError, Global};
@@ -37,7 +38,8 @@ impl<L: DecisionLog> Journal<L> {
         requires { Logs L.DecisionLog incarnation no_rows first.value log }
         ensures first { IfOk result (λ journal. journal.first ≡ first) }
         ensures len { IfOk result (λ journal. vec_len journal.written ≡ vec_len jobs.now.votes) }
-        ensures kept { IfOk result (λ journal. HasRowsOf L.DecisionLog jobs.now incarnation journal) }
+        ensures kept { IfOk result (λ journal. HasRowsOf L.DecisionLog jobs.now
+            incarnation journal) }
     {
         let written = vec![in alloc; false; jobs.votes.len()]?;
         Ok(Journal {
@@ -55,7 +57,7 @@ impl<L: DecisionLog> Journal<L> {
         incarnation: u64,
         job: usize,
     ) -> Result<(), WorkFault>
-        requires few { vec_len self.old.written ≤ 1000 }
+        requires few { vec_len self.old.written ≤ JOB_LIMIT }
         requires some { 0 < jobs.now.threads }
         requires fits { incarnation ≤ last_number }
         requires kept { HasRowsOf L.DecisionLog jobs.now incarnation self.old }
@@ -81,10 +83,11 @@ pub(crate) fn write_rows<J: Run, G: Gate, L: DecisionLog>(
     crew: &Crew<'_, J, G>,
     journal: &mut Journal<L>,
 ) -> Result<(), Halt>
-    requires few { vec_len journal.old.written ≤ 1000 }
+    requires few { vec_len journal.old.written ≤ JOB_LIMIT }
     requires kept { HasRowsOf L.DecisionLog crew.now.jobs.now crew.now.incarnation journal.old }
     ensures first { journal.new.first ≡ journal.old.first }
-    ensures kept { OnOk result (HasRowsOf L.DecisionLog crew.now.jobs.now crew.now.incarnation journal.new) }
+    ensures kept { OnOk result (HasRowsOf L.DecisionLog crew.now.jobs.now
+        crew.now.incarnation journal.new) }
 {
     for _ in rt.forever() {
         let task = crew.docket.lock(rt).next();

@@ -8,6 +8,7 @@
 //! (1991).
 #![tactic(auto)]
 
+mod beginning;
 mod board;
 mod control;
 mod crew;
@@ -18,6 +19,7 @@ mod gate;
 mod jobs;
 mod journal;
 mod kept;
+mod limits;
 mod meet;
 mod numbered;
 mod outcomes;
@@ -37,6 +39,7 @@ pub use board::{Board, BoardSeat};
 pub use fault::WorkFault;
 pub use gate::{Gate, Point};
 pub use jobs::Jobs;
+pub use limits::JOB_LIMIT;
 pub use outcomes::Outcomes;
 pub use run::run_jobs;
 pub use view::{Entry, View};

@@ -6,6 +6,7 @@ ghost use Rattle.xa_workers.specs.Rows.{job_has_row, is_committed};
 
 use crate::Jobs;
 use crate::jobs::{has_no, has_yes};
+use crate::limits::JOB_LIMIT;
 use std::alloc::{AllocError, Global};
 use xa_base::{Fate, Outcome, Vote, Xid};
 use xa_rm::MemRm;
@@ -101,7 +102,7 @@ impl Jobs {
         incarnation: u64,
         ends: &[Outcome],
     ) -> Result<Vec<(Xid, Fate)>, AllocError>
-        requires jobs { vec_len self.now.votes ≤ 1000 }
+        requires jobs { vec_len self.now.votes ≤ JOB_LIMIT }
         requires threads { 0 < self.now.threads }
         ensures { IfOk result (λ v. v.items ≡ fates_of self.now incarnation ends.now) }
     {

@@ -1,16 +1,18 @@
 //! Runs of jobs.
-ghost use Rattle.std.specs.Prelude.{◌≡◌, ◌≤◌, ◌<◌, ℕ, All, IfOk, false, true, vec_len};
+ghost use Rattle.std.specs.Prelude.{◌≡◌, ◌≤◌, ◌<◌, ℕ, IfOk, false, vec_len};
 ghost use Rattle.xa_log.specs.Content.{last_number};
 ghost use Rattle.xa_workers.specs.Fates.{AreInOrder, HaveFates, fates_of};
 ghost use Rattle.xa_workers.specs.Jobs.{AreEndsOf, IsRunnable, ends_of, is_xid_of};
 ghost use Rattle.xa_workers.specs.Rows.{HasRowsOf, Logs, no_rows, rows_of_jobs};
 ghost use Rattle.xa_workers.specs.Tied.{ArePaired};
 
+use crate::beginning::{Begun, begin};
 use crate::crew::Crew;
 use crate::deal::{by_rm, by_thread, new_ends};
 use crate::docket::Docket;
 use crate::fault::Halt;
 use crate::journal::{Journal, write_rows};
+use crate::limits::JOB_LIMIT;
 use crate::roll::Run;
 use crate::settle::{Work, settled};
 use crate::signals::Signals;
@@ -18,11 +20,9 @@ use crate::start::{Hands, Joined, Team, start_all};
 use crate::{Board, Gate, Jobs, Outcomes, WorkFault};
 use std::alloc::Global;
 use std::marker::{Brand, PhantomData};
-use std::snapshot::Snapshot;
 use std::sync::{Mutex, Wait};
 use std::thread;
 use std::thread::{Scope, Threads};
-use xa_base::Gtrid;
 use xa_line::{Issuer, Taker};
 use xa_log::DecisionLog;
 
@@ -62,7 +62,7 @@ fn run_crew<
     mut journal: Journal<L>,
 ) -> Result<Work<J, L>, WorkFault>
     requires seat { hands.seat.board ≡ crew.now.board.now.table }
-    requires few { vec_len journal.written ≤ 1000 }
+    requires few { vec_len journal.written ≤ JOB_LIMIT }
     requires kept { HasRowsOf L.DecisionLog crew.now.jobs.now crew.now.incarnation journal }
     ensures first { IfOk result (λ work. work.journal.first ≡ journal.first) }
     ensures kept { IfOk result (λ work.
@@ -114,7 +114,7 @@ fn run_all<J: Run + Send + Sync, R: Threads + Wait + Sync, G: Gate + Sync, L: De
     journal: Journal<L>,
 ) -> Result<Work<J, L>, WorkFault>
     requires seat { hands.seat.board ≡ crew.now.board.now.table }
-    requires few { vec_len journal.written ≤ 1000 }
+    requires few { vec_len journal.written ≤ JOB_LIMIT }
     requires kept { HasRowsOf L.DecisionLog crew.now.jobs.now crew.now.incarnation journal }
     ensures first { IfOk result (λ work. work.journal.first ≡ journal.first) }
     ensures kept { IfOk result (λ work.
@@ -125,52 +125,14 @@ fn run_all<J: Run + Send + Sync, R: Threads + Wait + Sync, G: Gate + Sync, L: De
         rt,
         |scope| -> Result<Work<J, L>, WorkFault>
             requires seat { hands.seat.board ≡ crew.now.board.now.table }
-            requires few { vec_len journal.written ≤ 1000 }
+            requires few { vec_len journal.written ≤ JOB_LIMIT }
             requires kept { HasRowsOf L.DecisionLog crew.now.jobs.now crew.now.incarnation journal }
             ensures first { IfOk result (λ work. work.journal.first ≡ journal.first) }
             ensures kept { IfOk result (λ work.
-                HasRowsOf L.DecisionLog crew.entry.now.jobs.now crew.entry.now.incarnation work.journal) }
+                HasRowsOf L.DecisionLog crew.entry.now.jobs.now
+                crew.entry.now.incarnation work.journal) }
         { run_crew(scope, rt, alloc, crew, hands, journal) },
     )
-}
-
-/// A log that has given a run its incarnation. `first` remembers it as it was before.
-#[derive(Drop)]
-struct Begun<L> {
-    incarnation: u64,
-    first: Snapshot<L>,
-    log: L,
-}
-
-/// Whether all rows are of older incarnations.
-fn all_older(rows: &[Gtrid], incarnation: u64) -> bool
-    ensures { result ≡ true → All (λ g. g.incarnation < incarnation) rows.now }
-{
-    rows.iter().all(|row| row.incarnation < incarnation)
-}
-
-/// Raises a log's incarnation for a run. Rows of that incarnation or a later one are a fault.
-fn begin<L: DecisionLog + Drop>(mut log: L) -> Result<Begun<L>, WorkFault>
-    ensures first { IfOk result (λ begun. begun.first.value ≡ log) }
-    ensures most { IfOk result (λ begun. begun.incarnation ≤ last_number) }
-    ensures begun { IfOk result (λ begun. Logs L.DecisionLog begun.incarnation no_rows begun.first.value begun.log) }
-{
-    let first = Snapshot::of(&log);
-    let incarnation = log.bump()?;
-    let rows = log.rows()?;
-    let recorded = rows
-        .heuristics
-        .iter()
-        .all(|row| row.0.gtrid.incarnation < incarnation);
-    if recorded && all_older(&rows.decisions, incarnation) {
-        Ok(Begun {
-            incarnation,
-            first,
-            log,
-        })
-    } else {
-        Err(WorkFault::Log)
-    }
 }
 
 /// Runs the jobs over a log that has begun, and over the two ends of each line.
@@ -183,7 +145,7 @@ fn run_named<J: Run + Send + Sync, R: Threads + Wait + Sync, L: DecisionLog + Dr
     issuers: Vec<Issuer>,
     takers: Vec<Taker>,
 ) -> Result<Outcomes<L>, WorkFault>
-    requires few { vec_len jobs.now.votes ≤ 1000 }
+    requires few { vec_len jobs.now.votes ≤ JOB_LIMIT }
     requires some { 0 < jobs.now.threads }
     requires some_rms { 0 < jobs.now.rms }
     requires fits { begun.incarnation ≤ last_number }
@@ -192,8 +154,10 @@ fn run_named<J: Run + Send + Sync, R: Threads + Wait + Sync, L: DecisionLog + Dr
     requires paired { ArePaired issuers.items J.takers }
     requires begun { Logs L.DecisionLog begun.incarnation no_rows begun.first.value begun.log }
     ensures ends { IfOk result (λ o. AreEndsOf jobs.now o.ends.items) }
-    ensures fates { IfOk result (λ o. o.fates.items ≡ fates_of jobs.now begun.incarnation o.ends.items) }
-    ensures rms { IfOk result (λ o. HaveFates jobs.now begun.incarnation o.rms.items o.fates.items) }
+    ensures fates { IfOk result (λ o. o.fates.items
+        ≡ fates_of jobs.now begun.incarnation o.ends.items) }
+    ensures rms { IfOk result (λ o. HaveFates jobs.now begun.incarnation
+        o.rms.items o.fates.items) }
     ensures rows { IfOk result (λ o. Logs L.DecisionLog begun.incarnation
         (rows_of_jobs jobs.now begun.incarnation o.ends.items) begun.first.value o.log) }
 {

@@ -7,6 +7,7 @@ ghost use Rattle.xa_workers.specs.Rows.{HasRowsOf, Logs, job_has_row, rows_of_jo
 
 use crate::control::Controlled;
 use crate::journal::Journal;
+use crate::limits::JOB_LIMIT;
 use crate::meet::all_met;
 use crate::numbered::{NumberedIssuer, NumberedTaker};
 use crate::roll::Run;
@@ -76,7 +77,8 @@ fn taken_rms<J: Run>(
     served: Vec<Served<J>>,
     lines: &mut Vec<NumberedTaker<J>>,
 ) -> Result<Vec<MemRm>, WorkFault>
-    ensures { IfOk result (λ rms. (r : ℕ) (rm : _) → slice_get rms.items r ≡ Some rm → HasOnly (J.is_own r) rm) }
+    ensures { IfOk result (λ rms. (r : ℕ) (rm : _) → slice_get rms.items r ≡ Some rm
+        → HasOnly (J.is_own r) rm) }
 {
     let mut rms = Vec::new(alloc);
     for left in served {
@@ -129,7 +131,8 @@ fn taken_ends<J: Run>(
 
 /// Whether the rows were written that the jobs have, where they end so.
 fn have_rows(jobs: &Jobs, ends: &[Outcome], written: &[bool]) -> bool
-    ensures { IsTrue result → (i : ℕ) → slice_index_or written.now i false ≡ job_has_row jobs.now ends.now i }
+    ensures { IsTrue result → (i : ℕ)
+        → slice_index_or written.now i false ≡ job_has_row jobs.now ends.now i }
 {
     if ends.len() != written.len() {
         return false;
@@ -157,7 +160,7 @@ pub(crate) fn settled<J: Run, L: DecisionLog + Drop>(
     incarnation: u64,
     work: Work<J, L>,
 ) -> Result<Outcomes<L>, WorkFault>
-    requires few { vec_len jobs.now.votes ≤ 1000 }
+    requires few { vec_len jobs.now.votes ≤ JOB_LIMIT }
     requires some { 0 < jobs.now.threads }
     requires own { J.is_own ≡ is_xid_of jobs.now incarnation }
     requires rows { HasRowsOf L.DecisionLog jobs.now incarnation work.journal }

@@ -13,7 +13,7 @@ use Rattle.xa_model.proofs.Invariant.Grows.{both, false_unless}
 use Rattle.xa_model.proofs.Invariant.{Inv}
 use Rattle.xa_base.proofs.BranchKeys.{gtrid_eq-true, gtrid_eq-refl}
 use Rattle.xa_model.proofs.Invariant.Preserved.{always}
-use Rattle.xa_model.proofs.Invariant.Rows.{without_keeps}
+use Rattle.xa_model.proofs.Invariant.RowLists.{without_keeps}
 
 -- ** rows
 

@@ -17,7 +17,7 @@ use Rattle.xa_model.proofs.Invariant.Grows.{false_unless}
 use Rattle.xa_model.proofs.Invariant.{Old, IsAtRest, IsGood, HasBegun, Waits, WaitingStart, Inv}
 use Rattle.xa_model.proofs.Invariant.Now.{closed_handed, ever_up, row_fact_ever, settled_at_rest}
 use Rattle.xa_model.proofs.Invariant.Records.{has_of}
-use Rattle.xa_model.proofs.Invariant.Rows.{or_here}
+use Rattle.xa_model.proofs.Invariant.RowLists.{or_here}
 use Rattle.xa_model.proofs.Invariant.PreservedRows.{voted_good}
 
 good_phase : (f : Standing) → IsGood f → (phase_of f ≡ Phase.Prepared) ⊎ (phase_of f ≡ Phase.Committed)

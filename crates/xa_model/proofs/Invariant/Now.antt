@@ -18,7 +18,8 @@ use Rattle.xa_model.proofs.Invariant.Records.{recorded_how}
 use Rattle.xa_base.proofs.BranchKeys.{branch_eq-true}
 use Rattle.xa_model.proofs.Invariant.Moves.{Move, Move.Stays, Move.Completes, TakenFact, taken_move, broken_move}
 use Rattle.xa_model.proofs.Invariant.Grows.{NewBranch, false_unless, closed_kept, started_kept, started_new}
-use Rattle.xa_model.proofs.Invariant.Rows.{or_here, adds_row-true}
+use Rattle.xa_model.proofs.Invariant.Rows.{adds_row-true}
+use Rattle.xa_model.proofs.Invariant.RowLists.{or_here}
 
 -- ** at one moment
 

@@ -17,7 +17,8 @@ use Rattle.xa_model.proofs.Invariant.{Old, Closed, IsGood, AnswerFact, RowFact, 
 use Rattle.xa_base.proofs.BranchKeys.{gtrid_eq-true, branch_eq-true, gtrid_eq-refl, branch_eq-refl}
 use Rattle.xa_model.proofs.Invariant.Moves.{good_moves, unstarted_moves, committed_moves}
 use Rattle.xa_model.proofs.Invariant.Grows.{NewBranch, false_unless, or_left, or_right, old_kept, closed_kept, started_kept, started_new, handed_kept, handed_new, NewDecision, NewDecision.Was_decided, NewDecision.By_decide, NewDecision.By_recovery, decided_new}
-use Rattle.xa_model.proofs.Invariant.Rows.{or_here, or_map, RowNow, RowNow.Before, RowNow.Decided_now, RowNow.Restarted_now, row_back, settled_lately_settled, rowed_kept, NewRow, NewRow.Had, NewRow.By_decision, NewRow.By_restart, rowed_new, LeftRow, LeftRow.By_done, LeftRow.By_doubt, row_lost}
+use Rattle.xa_model.proofs.Invariant.Rows.{RowNow, RowNow.Before, RowNow.Decided_now, RowNow.Restarted_now, row_back, settled_lately_settled, rowed_kept, NewRow, NewRow.Had, NewRow.By_decision, NewRow.By_restart, rowed_new, LeftRow, LeftRow.By_done, LeftRow.By_doubt, row_lost}
+use Rattle.xa_model.proofs.Invariant.RowLists.{or_here, or_map}
 use Rattle.xa_model.proofs.Invariant.Now.{row_fact_ever, closed_handed, live_begun, step_move, starting_live, started_back, right_on}
 use Rattle.xa_model.proofs.Invariant.Kept.{heuristic_fact_kept, decided_voted, row_fact_kept, covers_kept, all_settled_kept, doubt_kept}
 
@@ -126,7 +127,11 @@ no_longer_live b c d h false p q = cc
 decided_row_fact : (tr : Trace) (g : Gtrid) → Inv tr → RightDecision tr g Outcome.Commit → RowFact (Then tr (Decided g Outcome.Commit)) g
 decided_row_fact tr g inv d = record {
   closed =
-      record { old = inv.begun_old g (live_begun tr g d.is_live); not_live = false_unless _ (λ l. no_longer_live (begun tr g) (decided_so Outcome.Commit tr g) (decided_so Outcome.Rollback tr g) (handed_over tr g) _ (gtrid_eq-refl g) l) };
+      record {
+        old = inv.begun_old g (live_begun tr g d.is_live);
+        not_live = false_unless _ (λ l. no_longer_live (begun tr g) (decided_so Outcome.Commit tr g) (decided_so Outcome.Rollback tr g) (handed_over tr g) _
+            (gtrid_eq-refl g) l);
+      };
   good = λ b q s. voted_good tr b inv (ap (live tr) q ∙ d.is_live) (decided_voted tr g inv d b q s);
   not_handed = not_handed_live tr g d.is_live;
   not_rolled_back = not_rolled_back_live tr g d.is_live;

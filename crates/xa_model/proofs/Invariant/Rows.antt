@@ -10,42 +10,7 @@ use Rattle.xa_model.specs.Facts.{told, told_lately, row_for, participants_in, pa
 use Rattle.xa_base.proofs.BranchKeys.{gtrid_eq-true}
 use Rattle.xa_model.proofs.Invariant.Grows.{or_left, or_right, told_kept}
 use Rattle.xa_model.proofs.Invariant.Records.{recorded_kept}
-
--- ** lists of rows
-
-pub or_map : (s a b : Bool) → (a ≡ true → b ≡ true) → (s || a) ≡ true → (s || b) ≡ true
-or_map true a b f e = refl
-or_map false a b f e = f e
-
-keep_step : (t : Bool) (x : Row) (g : Gtrid) (less rows : List Row) → (lists_row less g ≡ true → lists_row rows g ≡ true)
-    → lists_row (if t then less else x ∷ less) g ≡ true → lists_row (x ∷ rows) g ≡ true
-keep_step true x g less rows f e = or_right _ _ (f e)
-keep_step false x g less rows f e = or_map (gtrid_eq x.gtrid g) _ _ f e
-
-pub without_keeps : (h g : Gtrid) (rows : List Row) → lists_row (without h rows) g ≡ true → lists_row rows g ≡ true
-without_keeps h g [] e = e
-without_keeps h g (x ∷ rows) e = keep_step (gtrid_eq x.gtrid h) x g (without h rows) rows (without_keeps h g rows) e
-
-or_drop : (s a b : Bool) (h g : Gtrid) → (a ≡ true → b ≡ false → h ≡ g) → (s || a) ≡ true → (s || b) ≡ false → h ≡ g
-or_drop true a b h g f e k = cc
-or_drop false a b h g f e k = f e k
-
-pub or_here : (s a : Bool) → (s || a) ≡ true → (s ≡ true) ⊎ (a ≡ true)
-or_here true a e = inl refl
-or_here false a e = inr e
-
-drop_step : (t : Bool) (h : Gtrid) (x : Row) (g : Gtrid) (less rows : List Row) → gtrid_eq x.gtrid h ≡ t
-    → (lists_row rows g ≡ true → lists_row less g ≡ false → h ≡ g) → lists_row (x ∷ rows) g ≡ true → lists_row (if t then less else x ∷ less) g ≡ false → h ≡ g
-drop_step true h x g less rows k f e n = by_place (or_here (gtrid_eq x.gtrid g) _ e)
-  where
-    by_place : (gtrid_eq x.gtrid g ≡ true) ⊎ (lists_row rows g ≡ true) → h ≡ g
-    by_place (inl s) = sym (gtrid_eq-true x.gtrid h k) ∙ gtrid_eq-true x.gtrid g s
-    by_place (inr s) = f s n
-drop_step false h x g less rows k f e n = or_drop (gtrid_eq x.gtrid g) _ _ h g f e n
-
-pub without_drops : (h g : Gtrid) (rows : List Row) → lists_row rows g ≡ true → lists_row (without h rows) g ≡ false → h ≡ g
-without_drops h g [] e f = cc
-without_drops h g (x ∷ rows) e f = drop_step (gtrid_eq x.gtrid h) h x g (without h rows) rows refl (without_drops h g rows) e f
+use Rattle.xa_model.proofs.Invariant.RowLists.{or_map, without_keeps, or_here, without_drops}
 
 -- ** rows after one happening more
 

@@ -35,7 +35,7 @@ use Rattle.xa_model.proofs.Invariant.PreservedRows.{started_listed}
 use Rattle.xa_model.proofs.Invariant.Records.{recorded_how}
 use Rattle.xa_model.proofs.RecoveryLemmas.Recovered.{In, Pending, EndsBranch, AllEnd, IsToEnd, Left, all_taken}
 use Rattle.xa_model.proofs.Replies.Replies.{demanded_right}
-use Rattle.xa_model.proofs.Invariant.Rows.{or_here}
+use Rattle.xa_model.proofs.Invariant.RowLists.{or_here}
 
 -- ** what is in doubt is listed
 
@@ -145,7 +145,9 @@ in_doubt_started t b inv h = by_test (started t b) refl
 
 pub all_known : (t : Trace) (r : ℕ) → AllRight t → Each (IsKnownName t) (in_doubt t r)
 all_known t r a =
-    each_in_order (IsKnownName t) _ (each_append (IsKnownName t) _ _ (foreign_known t ((origin t).in_doubt r) (λ x i. (origin_right t a).foreign r x (contains_in _ x i))) (own_known t r (branches t) (λ b. in_doubt_started t b (always t a))))
+    each_in_order (IsKnownName t) _
+    (each_append (IsKnownName t) _ _ (foreign_known t ((origin t).in_doubt r) (λ x i. (origin_right t a).foreign r x (contains_in _ x i)))
+    (own_known t r (branches t) (λ b. in_doubt_started t b (always t a))))
 
 pub each_in : (P : Name → Type 0) (xs : List Name) (n : Name) → Each P xs → In xs n → P n
 each_in P [] n h i = absurd i
@@ -170,7 +172,8 @@ listed t r b a f q s = as_itself h.0 h.1 h.2 (each_in (IsKnownName t) (in_doubt 
         here = eq-eqb b.rm r q
 
     h : HasXid (in_doubt t r) (xid_of_branch b)
-    h = in_order_has _ (Ours b) (in_behind (map (λ x. Foreign x) ((origin t).in_doubt r)) _ (Ours b) (in_mapped _ b (in_filtered (is_in_doubt_at t r) (branches t) b (has_in (branches t) b (started_listed t b b_started)) passes)))
+    h = in_order_has _ (Ours b) (in_behind (map (λ x. Foreign x) ((origin t).in_doubt r)) _ (Ours b)
+        (in_mapped _ b (in_filtered (is_in_doubt_at t r) (branches t) b (has_in (branches t) b (started_listed t b b_started)) passes)))
 
     as_itself : (n : Name) → In (in_doubt t r) n → xid_of_name n ≡ xid_of_branch b → IsKnownName t n → In (in_doubt t r) (Ours b)
     as_itself (Ours c) i e k = subst (In (in_doubt t r)) (sym (own_name c (f c k)) ∙ (ap name_of e ∙ own_name b (f b b_started))) i
@@ -258,7 +261,8 @@ issued_is t r count names = λ i.
 pub taken_is : (t : Trace) (r count : ℕ) (names : List Name)
     → taken (Then (paged t r count names) (Resolved r)) (line 0 r) ≡ taken t (line 0 r) ++ ((Calls.Recover (pos count) true true, Page names) ∷ [])
 taken_is t r count names = λ i.
-    append-nil (append-nil (append-nil (taken t (line 0 r)) i ++ (if line_eq-refl (line 0 r) i then (Calls.Recover (pos count) true true, Page names) ∷ [] else [])) i) i
+    append-nil (append-nil (append-nil (taken t (line 0 r)) i
+    ++ (if line_eq-refl (line 0 r) i then (Calls.Recover (pos count) true true, Page names) ∷ [] else [])) i) i
 
 pub pending_calls : (t : Trace) (r count : ℕ) (names : List Name) → length (taken t (line 0 r)) ≡ length (issued t (line 0 r))
     → Pending (Then (paged t r count names) (Resolved r)) (line 0 r) (resolving_calls (paged t r count names) names)
@@ -269,7 +273,12 @@ pending_calls t r count names e = record { at = λ k c h. at k c h }
 
     many : length (taken (Then (paged t r count names) (Resolved r)) (line 0 r)) ≡ length calls
     many = ap (length {A = Call × Answer}) (taken_is t r count names)
-        ∙ omega (arith, e, length-append (taken t (line 0 r)) ((Calls.Recover (pos count) true true, Page names) ∷ []), length-append (issued t (line 0 r)) (Calls.Recover (pos count) true true ∷ []))
+        ∙ omega (
+          arith,
+          e,
+          length-append (taken t (line 0 r)) ((Calls.Recover (pos count) true true, Page names) ∷ []),
+          length-append (issued t (line 0 r)) (Calls.Recover (pos count) true true ∷ []),
+        )
 
     at : (k : ℕ) (c : Call) → slice_get (resolving_calls (paged t r count names) names) k ≡ Some c
         → slice_get (issued (Then (paged t r count names) (Resolved r)) (line 0 r))
@@ -310,7 +319,12 @@ recovered t r count names answers a m d =
         → (u ≡ true) ⊎ IsToEnd (resolving_calls (paged t r count names) names) b
     by_live b q s true l = inl refl
     by_live b q s false l =
-        inr (to_end (paged t r count names) _ b (not_recorded t b (always t a) (in_doubt_started t b (always t a) (ap is_in_doubt s)) s) (resolved (paged t r count names) names b (subst (λ ns. In ns (Ours b)) (sym whole) (listed t r b a m.numbers q s)) l))
+        inr (to_end (paged t r count names) _ b (not_recorded t b (always t a) (in_doubt_started t b (always t a) (ap is_in_doubt s)) s)
+        (resolved (paged t r count names) names b (subst (λ ns. In ns (Ours b)) (sym whole) (listed t r b a m.numbers q s)) l))
 
     left : Left (Then (paged t r count names) (Resolved r)) r (resolving_calls (paged t r count names) names)
-    left = record { pending = pending_calls t r count names m.none_waits; end = all_end (paged t r count names) names; left = λ b q s. by_live b q s (live t b.gtrid) refl }
+    left = record {
+      pending = pending_calls t r count names m.none_waits;
+      end = all_end (paged t r count names) names;
+      left = λ b q s. by_live b q s (live t b.gtrid) refl;
+    }

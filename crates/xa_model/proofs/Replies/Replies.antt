@@ -20,7 +20,7 @@ use Rattle.xa_base.specs.declared.call.Call.TheVariants as Calls
 use Rattle.xa_base.specs.StateTable.{on}
 use Rattle.xa_model.specs.Trace.{Gtrid, Branch, Call, Name.Ours, Name.Foreign, Kind, Kind.Start, Kind.Join, Kind.End, Kind.Prepare, Kind.Commit, Kind.OnePhase, Kind.Rollback, Kind.Forget, Outcome, Happening, Happening.Issued, Trace, Trace.From, Trace.Then, line}
 use Rattle.xa_base.proofs.BranchKeys.{branch_eq-true, gtrid_eq-refl}
-use Rattle.xa_model.proofs.Invariant.Rows.{or_here}
+use Rattle.xa_model.proofs.Invariant.RowLists.{or_here}
 
 -- ** no rule applies
 
@@ -248,7 +248,9 @@ right_decision tr g o e = record {
       is_live tr g (not_back _ (none_applies tr (Steps.Decide g o) Refusal.UnknownTransaction e))
       (or_none _ _ (none_applies tr (Steps.Decide g o) Refusal.Decided e)).0;
   votes =
-      λ q. inl (λ b k s. voted_of tr b (each_started tr g (has_voted tr) (none_applies tr (Steps.Decide g Outcome.Commit) Refusal.Votes (subst (λ x. must_refuse tr (Steps.Decide g x) ≡ None) q e)) b k s));
+      λ q. inl (λ b k s. voted_of tr b
+      (each_started tr g (has_voted tr)
+      (none_applies tr (Steps.Decide g Outcome.Commit) Refusal.Votes (subst (λ x. must_refuse tr (Steps.Decide g x) ≡ None) q e)) b k s));
 }
 
 pub right_claim : (tr : Trace) (g : Gtrid) → must_refuse tr (Steps.Claim g) ≡ None → RightClaim tr g
@@ -267,7 +269,11 @@ claimed_of false t p e = absurd (cc)
 pub right_settle : (tr : Trace) (g : Gtrid) → must_refuse tr (Steps.Settle g) ≡ None → RightDecision tr g Outcome.Commit
 right_settle tr g e =
     let l = is_live tr g (not_back _ (none_applies tr (Steps.Settle g) Refusal.UnknownTransaction e)) (none_applies tr (Steps.Settle g) Refusal.Decided e) in
-    record { is_up = is_up tr (Steps.Settle g) e refl; is_live = l; votes = λ q. inr (claimed_of (live tr g) (claimed tr g) l (none_applies tr (Steps.Settle g) Refusal.NotDecided e)) }
+    record {
+      is_up = is_up tr (Steps.Settle g) e refl;
+      is_live = l;
+      votes = λ q. inr (claimed_of (live tr g) (claimed tr g) l (none_applies tr (Steps.Settle g) Refusal.NotDecided e));
+    }
 
 pub right_abandon : (tr : Trace) (g : Gtrid) → must_refuse tr (Steps.Abandon g) ≡ None → RightDecision tr g Outcome.Rollback
 right_abandon tr g e =

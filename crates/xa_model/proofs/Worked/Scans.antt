@@ -125,10 +125,12 @@ foreign_beside_own =
     ++ ready 0 (own 1 0 0)
     ++ called 0 0 (Calls.Prepare (own 1 0 0)) (Ret Codes.Success)
     ++ once (Steps.Decide (gtrid 1 1) Outcome.Rollback) Replies.Decided
-    ++ scanned 0 (pos 8) true true (Page (Foreign (foreign (negsuc 1) (9 ∷ [])) ∷ Foreign (foreign (pos 1) (2 ∷ [])) ∷ Foreign (foreign (pos 1) (2 ∷ 1 ∷ [])) ∷ Ours (own 1 0 0) ∷ Foreign (foreign (pos 8) (2 ∷ [])) ∷ []))
+    ++ scanned 0 (pos 8) true true (Page (Foreign (foreign (negsuc 1) (9 ∷ [])) ∷ Foreign (foreign (pos 1) (2 ∷ [])) ∷ Foreign (foreign (pos 1) (2 ∷ 1 ∷ []))
+    ∷ Ours (own 1 0 0) ∷ Foreign (foreign (pos 8) (2 ∷ [])) ∷ []))
     ++ once (Steps.Resolve 0) (Replies.Resolved 1)
     ++ answered 0 0 (Calls.Rollback (own 1 0 0)) (Ret Codes.Success)
-    ++ scanned 0 (pos 8) true true (Page (Foreign (foreign (negsuc 1) (9 ∷ [])) ∷ Foreign (foreign (pos 1) (2 ∷ [])) ∷ Foreign (foreign (pos 1) (2 ∷ 1 ∷ [])) ∷ Foreign (foreign (pos 8) (2 ∷ [])) ∷ []))
+    ++ scanned 0 (pos 8) true true (Page (Foreign (foreign (negsuc 1) (9 ∷ [])) ∷ Foreign (foreign (pos 1) (2 ∷ [])) ∷ Foreign (foreign (pos 1) (2 ∷ 1 ∷ []))
+    ∷ Foreign (foreign (pos 8) (2 ∷ [])) ∷ []))
 
 foreign_beside_own-demanded : AllDemanded (From (with_foreign)) foreign_beside_own
 unfolding foreign_beside_own

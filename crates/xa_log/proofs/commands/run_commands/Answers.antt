@@ -24,18 +24,21 @@ returns-in_err-push-clause-honest g c clean = c.loop-command.invariant.honest (c
 pub loop-command-preserved : goal.loop-command-preserved
 loop-command-preserved g c =
     let low : c.loop-command.command-index < length c.args.commands.now = omega arith in
-    one_more g.L.DecisionLog.moment c.args.log.now c.loop-command.log c.run_one.new.log c.args.commands.now c.loop-command.command-index c.command-item.result c.loop-command.told.items c.push.new.self.items c.in_ok-run_one.field-0 low c.command-item.is c.in_ok-push.ensures.items c.loop-command.invariant
+    one_more g.L.DecisionLog.moment c.args.log.now c.loop-command.log c.run_one.new.log c.args.commands.now c.loop-command.command-index c.command-item.result
+    c.loop-command.told.items c.push.new.self.items c.in_ok-run_one.field-0 low c.command-item.is c.in_ok-push.ensures.items c.loop-command.invariant
     c.in_ok-run_one.ensures.changes c.in_ok-run_one.ensures.told
 
 pub returns-clause-told : goal.returns-clause-told
 returns-clause-told g c =
     let high : length c.args.commands.now ≤ c.loop-command.command-index = omega arith in
-    (whole g.L.DecisionLog.moment c.args.log.now c.loop-command.log c.args.commands.now c.loop-command.command-index c.loop-command.told.items high c.loop-command.invariant).told
+    (whole g.L.DecisionLog.moment c.args.log.now c.loop-command.log c.args.commands.now c.loop-command.command-index c.loop-command.told.items high
+    c.loop-command.invariant).told
 
 pub returns-clause-ok : goal.returns-clause-ok
 returns-clause-ok g c =
     let high : length c.args.commands.now ≤ c.loop-command.command-index = omega arith in
-    (whole g.L.DecisionLog.moment c.args.log.now c.loop-command.log c.args.commands.now c.loop-command.command-index c.loop-command.told.items high c.loop-command.invariant).made
+    (whole g.L.DecisionLog.moment c.args.log.now c.loop-command.log c.args.commands.now c.loop-command.command-index c.loop-command.told.items high
+    c.loop-command.invariant).made
 
 pub returns-clause-order : goal.returns-clause-order
 returns-clause-order g c = c.loop-command.invariant.order
@@ -49,7 +52,8 @@ returns-clause-faults g c = c.loop-command.invariant.count
 pub returns-in_err-run_one-clause-err : goal.returns-in_err-run_one-clause-err
 returns-in_err-run_one-clause-err g c content order clean is =
     let low : c.loop-command.command-index < length c.args.commands.now = omega arith in
-    on_err _ _ (stopped g.L.DecisionLog.moment c.args.log.now c.loop-command.log c.run_one.new.log c.args.commands.now c.loop-command.command-index c.command-item.result c.loop-command.told.items low c.command-item.is c.loop-command.invariant
+    on_err _ _ (stopped g.L.DecisionLog.moment c.args.log.now c.loop-command.log c.run_one.new.log c.args.commands.now c.loop-command.command-index
+    c.command-item.result c.loop-command.told.items low c.command-item.is c.loop-command.invariant
     c.in_err-run_one.field-0.0 c.in_err-run_one.ensures.changes content order clean is)
 
 pub returns-in_err-push-clause-err : goal.returns-in_err-push-clause-err
@@ -57,9 +61,11 @@ returns-in_err-push-clause-err g c content order clean is =
     let low : c.loop-command.command-index < length c.args.commands.now = omega arith in
     let answers = c.loop-command.told.items ++ c.in_ok-run_one.field-0 ∷ [] in
     let run =
-    one_more g.L.DecisionLog.moment c.args.log.now c.loop-command.log c.run_one.new.log c.args.commands.now c.loop-command.command-index c.command-item.result c.loop-command.told.items answers c.in_ok-run_one.field-0 low c.command-item.is refl c.loop-command.invariant
+    one_more g.L.DecisionLog.moment c.args.log.now c.loop-command.log c.run_one.new.log c.args.commands.now c.loop-command.command-index c.command-item.result
+    c.loop-command.told.items answers c.in_ok-run_one.field-0 low c.command-item.is refl c.loop-command.invariant
     c.in_ok-run_one.ensures.changes c.in_ok-run_one.ensures.told in
-    on_err _ _ (left g.L.DecisionLog.moment c.args.log.now c.run_one.new.log c.args.commands.now (c.loop-command.command-index + 1) answers run content order clean is)
+    on_err _ _ (left g.L.DecisionLog.moment c.args.log.now c.run_one.new.log c.args.commands.now (c.loop-command.command-index + 1) answers run
+    content order clean is)
 
 -- what the exit of a `?` returns
 passed_up : {A E : Type 0} {Q : E → Type 0} (P : E → Type 0) (r : Result A E) → IsErrAnd r Q → ((e : E) → Q e → P e) → IfErr r P

@@ -4,7 +4,7 @@ use Rattle.sqlite.specs.Values.{bound_value}
 use Rattle.sqlite.specs.Value.{owned}
 use Rattle.xa_log.proofs.Texts.{find_decision_plain}
 use Rattle.xa_log.proofs.Contents.{gtrid_params, two_params}
-use Rattle.xa_log.proofs.DecisionRows.{found}
+use Rattle.xa_log.proofs.DecisionReads.{found}
 use Rattle.xa_log.proofs.decisions.find_decision.Goals as goal
 
 pub ask-requires : goal.ask-requires

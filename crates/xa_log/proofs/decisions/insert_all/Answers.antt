@@ -26,7 +26,8 @@ returns-in_err-insert_decision-clause-changes g c lacks =
     (survives_begin g.S.Store old (state g.S.Store mid) _ (rw begins at c.insert_decision.ensures.survives)) c.drop-tx.ensures.survives in
     subst (λ h. MayChange change (state g.S.Store old) (state g.S.Store h)) same
     (tried (state g.S.Store old) (state g.S.Store end) (opened_clean _ _ (g.met.S.Store.shut_if_dirty end.store)) (λ _. ⊥) whole change
-    (λ order clean. inl (undone_after (state g.S.Store old) (state g.S.Store mid) (state g.S.Store end) (rw begins at (c.insert_decision.ensures.kept (early clean))) (c.drop-tx.ensures.undone clean)))
+    (λ order clean. inl (undone_after (state g.S.Store old) (state g.S.Store mid) (state g.S.Store end)
+    (rw begins at (c.insert_decision.ensures.kept (early clean))) (c.drop-tx.ensures.undone clean)))
     (λ order clean db none. absurd none))
 
 pub returns-in_err-insert_participants-clause-changes : goal.returns-in_err-insert_participants-clause-changes
@@ -52,7 +53,8 @@ returns-in_err-insert_participants-clause-changes g c lacks =
     let whole = survives_none (state g.S.Store old) (state g.S.Store mid) (state g.S.Store end) inside c.drop-tx-in_err-insert_participants.ensures.survives in
     subst (λ h. MayChange change (state g.S.Store old) (state g.S.Store h)) same
     (tried (state g.S.Store old) (state g.S.Store end) (opened_clean _ _ (g.met.S.Store.shut_if_dirty end.store)) (λ _. ⊥) whole change
-    (λ order clean. inl (undone_after (state g.S.Store old) (state g.S.Store mid) (state g.S.Store end) (keeps (early clean)) (c.drop-tx-in_err-insert_participants.ensures.undone clean)))
+    (λ order clean. inl (undone_after (state g.S.Store old) (state g.S.Store mid) (state g.S.Store end) (keeps (early clean))
+    (c.drop-tx-in_err-insert_participants.ensures.undone clean)))
     (λ order clean db none. absurd none))
 
 pub returns-in_err-commit-clause-changes : goal.returns-in_err-commit-clause-changes
@@ -84,7 +86,8 @@ returns-in_err-commit-clause-changes g c lacks =
     subst (λ h. MayChange change (state g.S.Store old) (state g.S.Store h)) same
     (tried (state g.S.Store old) (state g.S.Store end) (opened_clean _ _ (g.met.S.Store.shut_if_dirty end.store))
     (λ db. db ≡ (state g.S.Store mid).now.trees) whole change
-    (λ order clean. inl (failed_all c.args.g set (state g.S.Store old) (state g.S.Store mid) (state g.S.Store end) c.in_err-commit.field-0.0 (keeps (early clean)) (written order (early clean)) (c.in_err-commit.ensures.err clean)))
+    (λ order clean. inl (failed_all c.args.g set (state g.S.Store old) (state g.S.Store mid) (state g.S.Store end) c.in_err-commit.field-0.0
+    (keeps (early clean)) (written order (early clean)) (c.in_err-commit.ensures.err clean)))
     (λ order clean. commits_all c.args.g set (state g.S.Store old) (state g.S.Store mid) (state g.S.Store end) (written order (early clean))))
 
 pub returns-clause-changes : goal.returns-clause-changes
@@ -116,7 +119,8 @@ returns-clause-changes g c lacks =
     subst (λ h. MayChange change (state g.S.Store old) (state g.S.Store h)) same
     (tried (state g.S.Store old) (state g.S.Store end) (opened_clean _ _ (g.met.S.Store.shut_if_dirty end.store))
     (λ db. db ≡ (state g.S.Store mid).now.trees) whole change
-    (λ order clean. inr (committed_all c.args.g set (state g.S.Store old) (state g.S.Store mid) (state g.S.Store end) (written order (early clean)) (c.in_ok-commit.ensures.ok clean).1))
+    (λ order clean. inr (committed_all c.args.g set (state g.S.Store old) (state g.S.Store mid) (state g.S.Store end) (written order (early clean))
+    (c.in_ok-commit.ensures.ok clean).1))
     (λ order clean. commits_all c.args.g set (state g.S.Store old) (state g.S.Store mid) (state g.S.Store end) (written order (early clean))))
 
 pub returns-clause-ok : goal.returns-clause-ok

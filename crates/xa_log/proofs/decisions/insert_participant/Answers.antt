@@ -10,6 +10,15 @@ returns-clause-written g c clean set before has =
     let b = c.args.branch in
     let given : bound_value (owned c.params-to_sql.result) ∷ bound_value (owned c.params-to_sql-2.result)
     ∷ bound_value (owned c.params-to_sql-3.result) ∷ bound_value (owned c.params-to_sql-4.result) ∷ [] ≡ branch_params b =
-    rw (c.params-to_sql.ensures, c.params-to_sql-2.ensures, c.params-to_sql-3.ensures, c.params-to_sql-4.ensures, c.stored.ensures, c.stored-2.ensures, c.from.ensures, c.from-2.ensures) (four_params b c.requires (omega arith) (omega arith)) in
+    rw (
+      c.params-to_sql.ensures,
+      c.params-to_sql-2.ensures,
+      c.params-to_sql-3.ensures,
+      c.params-to_sql-4.ensures,
+      c.stored.ensures,
+      c.stored-2.ensures,
+      c.from.ensures,
+      c.from-2.ensures,
+    ) (four_params b c.requires (omega arith) (omega arith)) in
     writes_participant b _ given (state g.S.Store c.args.tx.now.conn.now)
     (state g.S.Store c.execute.new.self.conn.now) c.in_ok-execute.field-0 set before has (c.in_ok-execute.ensures.runs clean has.inside)

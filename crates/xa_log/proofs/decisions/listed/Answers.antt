@@ -14,7 +14,8 @@ loop-row-preserved c =
     let low : i < length rows = omega arith in
     let seen : c.deref-row-items.result.now ≡ rows = c.deref-row-items.ensures.value in (
       set_more branches_total exact_branches
-          (participant_from c.args.g) rows _ i c.row-item.result seen c.row-item.is low c.loop-row.branches c.insert.new.self c.in_ok-participant.field-0 c.in_ok-participant.ensures.ok c.loop-row.invariant.0 c.in_ok-insert.ensures.updates,
+          (participant_from c.args.g) rows _ i c.row-item.result seen c.row-item.is low c.loop-row.branches c.insert.new.self c.in_ok-participant.field-0
+          c.in_ok-participant.ensures.ok c.loop-row.invariant.0 c.in_ok-insert.ensures.updates,
       c.insert.ensures.ordered,
     )
 

@@ -19,7 +19,19 @@ returns-clause-changes g c lacks =
     let given : bound_value (owned c.params-to_sql.result) ∷ bound_value (owned c.params-to_sql-2.result)
     ∷ bound_value (owned c.params-to_sql-3.result) ∷ bound_value (owned c.params-to_sql-4.result)
     ∷ bound_value (owned c.params-to_sql-5.result) ∷ [] ≡ end_params b how =
-    rw (c.params-to_sql.ensures, c.params-to_sql-2.ensures, c.params-to_sql-3.ensures, c.params-to_sql-4.ensures, c.params-to_sql-5.ensures, c.stored.ensures, c.stored-2.ensures, c.from.ensures, c.from-2.ensures, c.from-3.ensures, c.number.ensures)
+    rw (
+      c.params-to_sql.ensures,
+      c.params-to_sql-2.ensures,
+      c.params-to_sql-3.ensures,
+      c.params-to_sql-4.ensures,
+      c.params-to_sql-5.ensures,
+      c.stored.ensures,
+      c.stored-2.ensures,
+      c.from.ensures,
+      c.from-2.ensures,
+      c.from-3.ensures,
+      c.number.ensures,
+    )
     (five_params b how c.requires (omega arith) (omega arith)) in
     run_changes g.S.Store insert_heuristic _ (recorded b how) c.args.conn.now new (opened_clean _ _ (g.met.S.Store.shut_if_dirty new.store))
     (λ mid same ready. records b how c.requires _ given mid ready (lacks _ (held_there _ mid same)) (state g.S.Store new))
@@ -34,7 +46,19 @@ returns-clause-ok g c lacks order clean =
     let given : bound_value (owned c.params-to_sql.result) ∷ bound_value (owned c.params-to_sql-2.result)
     ∷ bound_value (owned c.params-to_sql-3.result) ∷ bound_value (owned c.params-to_sql-4.result)
     ∷ bound_value (owned c.params-to_sql-5.result) ∷ [] ≡ end_params b how =
-    rw (c.params-to_sql.ensures, c.params-to_sql-2.ensures, c.params-to_sql-3.ensures, c.params-to_sql-4.ensures, c.params-to_sql-5.ensures, c.stored.ensures, c.stored-2.ensures, c.from.ensures, c.from-2.ensures, c.from-3.ensures, c.number.ensures)
+    rw (
+      c.params-to_sql.ensures,
+      c.params-to_sql-2.ensures,
+      c.params-to_sql-3.ensures,
+      c.params-to_sql-4.ensures,
+      c.params-to_sql-5.ensures,
+      c.stored.ensures,
+      c.stored-2.ensures,
+      c.from.ensures,
+      c.from-2.ensures,
+      c.from-3.ensures,
+      c.number.ensures,
+    )
     (five_params b how c.requires (omega arith) (omega arith)) in
     run_ok g.S.Store insert_heuristic _ (recorded b how) c.args.conn.now new (opened_clean _ _ (g.met.S.Store.shut_if_dirty new.store))
     (λ mid same ready. records b how c.requires _ given mid ready (lacks _ (held_there _ mid same)) (state g.S.Store new))

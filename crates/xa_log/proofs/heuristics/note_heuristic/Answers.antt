@@ -16,5 +16,6 @@ returns-clause-changes g c =
     let none : found ≡ None = no_some found (search rules) in
     once (LacksHeuristic b looked) (recorded b c.args.how) before looked
     (state g.S.Store c.insert_heuristic.new.conn) c.find_heuristic.ensures.reads c.insert_heuristic.ensures.honest
-    (λ order x held. sym (told (λ x. found ≡ get x.heuristics b) before looked (opened_clean _ _ (g.met.S.Store.shut_if_dirty c.find_heuristic.new.conn.store)) c.in_ok-find_heuristic.ensures.ok order x held) ∙ none)
+    (λ order x held. sym (told (λ x. found ≡ get x.heuristics b) before looked (opened_clean _ _ (g.met.S.Store.shut_if_dirty c.find_heuristic.new.conn.store))
+    c.in_ok-find_heuristic.ensures.ok order x held) ∙ none)
     c.insert_heuristic.ensures.changes

@@ -12,4 +12,5 @@ pub returns-in-Some-clause-ok : goal.returns-in-Some-clause-ok
 returns-in-Some-clause-ok g c order clean =
     let told = c.in_ok-rows.ensures.shown order clean in
     let first : slice_get c.in_ok-rows.rows.items 0 ≡ Some c.in-Some.row.now = search rules in
-    if_ok c.number.result _ _ (λ n number. found_incarnation _ (state g.S.Store told.0) _ c.in_ok-rows.rows.items c.in-Some.row.now n first number order told.1 told.2 told.3) c.number.ensures.ok
+    if_ok c.number.result _ _ (λ n number. found_incarnation _ (state g.S.Store told.0) _ c.in_ok-rows.rows.items c.in-Some.row.now n first number order told.1
+    told.2 told.3) c.number.ensures.ok

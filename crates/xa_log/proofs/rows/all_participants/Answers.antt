@@ -10,4 +10,5 @@ ask-requires g c = all_participants_plain
 pub returns-clause-ok : goal.returns-clause-ok
 returns-clause-ok g c order clean =
     let told = c.in_ok-ask.ensures.shown order clean in
-    if_ok c.branches.result _ _ (λ list is. told_all _ (state g.S.Store told.0) _ c.in_ok-ask.field-0.items order told.1 told.2 told.3 list.items is) c.branches.ensures.ok
+    if_ok c.branches.result _ _ (λ list is. told_all _ (state g.S.Store told.0) _ c.in_ok-ask.field-0.items order told.1 told.2 told.3 list.items is)
+    c.branches.ensures.ok

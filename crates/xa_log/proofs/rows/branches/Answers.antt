@@ -12,8 +12,11 @@ loop-row-preserved c =
     let rows = c.args.rows.items in
     let i = c.loop-row.row-index in
     let low : i < length rows = omega arith in
-    let seen : c.deref-row-items.result.now ≡ rows = c.deref-row-items.ensures.value in
-    (set_more branches_total exact_branches branch_from rows _ i c.row-item.result seen c.row-item.is low c.loop-row.branches c.insert.new.self c.in_ok-branch.field-0 c.in_ok-branch.ensures.ok c.loop-row.invariant.0 c.in_ok-insert.ensures.updates, c.insert.ensures.ordered)
+    let seen : c.deref-row-items.result.now ≡ rows = c.deref-row-items.ensures.value in (
+      set_more branches_total exact_branches branch_from rows _ i c.row-item.result seen c.row-item.is low c.loop-row.branches c.insert.new.self
+          c.in_ok-branch.field-0 c.in_ok-branch.ensures.ok c.loop-row.invariant.0 c.in_ok-insert.ensures.updates,
+      c.insert.ensures.ordered,
+    )
 
 pub returns-clause-ok : goal.returns-clause-ok
 returns-clause-ok c =

@@ -4,7 +4,7 @@ use Rattle.std.specs.FinMap.{from_entries}
 use Rattle.xa_base.proofs.BranchOrder.{branches_total, exact_branches}
 use Rattle.xa_base.specs.Branch.{branch_cmp}
 use Rattle.xa_log.specs.Rows.{heuristic_from}
-use Rattle.xa_log.proofs.HeuristicRows.{entry_read}
+use Rattle.xa_log.proofs.HeuristicReads.{entry_read}
 use Rattle.xa_log.proofs.Keyed.{map_more, map_listed}
 use Rattle.xa_log.proofs.rows.ends.Goals as goal
 
@@ -14,8 +14,11 @@ loop-row-preserved c =
     let i = c.loop-row.row-index in
     let low : i < length rows = omega arith in
     let seen : c.deref-row-items.result.now ≡ rows = c.deref-row-items.ensures.value in
-    let says = entry_read c.row-item.result c.in_ok-branch.field-0 c.in_ok-how.field-0 c.in_ok-branch.ensures.ok c.in_ok-how.ensures.ok in
-    (map_more branches_total exact_branches heuristic_from rows _ i c.row-item.result seen c.row-item.is low c.loop-row.ends c.insert.new.self c.in_ok-branch.field-0 c.in_ok-how.field-0 says c.loop-row.invariant.0 c.in_ok-insert.ensures.updates.0, c.insert.ensures.ordered)
+    let says = entry_read c.row-item.result c.in_ok-branch.field-0 c.in_ok-how.field-0 c.in_ok-branch.ensures.ok c.in_ok-how.ensures.ok in (
+      map_more branches_total exact_branches heuristic_from rows _ i c.row-item.result seen c.row-item.is low c.loop-row.ends c.insert.new.self
+          c.in_ok-branch.field-0 c.in_ok-how.field-0 says c.loop-row.invariant.0 c.in_ok-insert.ensures.updates.0,
+      c.insert.ensures.ordered,
+    )
 
 pub returns-clause-ok : goal.returns-clause-ok
 returns-clause-ok c =

@@ -9,7 +9,8 @@ pub returns-in_err-statement-clause-reads : goal.returns-in_err-statement-clause
 returns-in_err-statement-clause-reads g c =
     let new = c.prepare.new.self in
     refused_reads _ (state g.S.Store new)
-    (opened_clean _ _ (g.met.S.Store.shut_if_dirty new.store)) c.prepare.ensures.survives c.args.sql.now c.in_err-statement.field-0.0 c.in_err-statement.ensures.err
+    (opened_clean _ _ (g.met.S.Store.shut_if_dirty new.store)) c.prepare.ensures.survives c.args.sql.now c.in_err-statement.field-0.0
+    c.in_err-statement.ensures.err
 
 pub returns-in_err-query_all-clause-reads : goal.returns-in_err-query_all-clause-reads
 returns-in_err-query_all-clause-reads g c =
@@ -43,5 +44,6 @@ returns-clause-shown g c order clean =
     let told =
     asked c.args.sql.now c.in_ok-statement.statement.text c.requires (bound c.args.params.now) _ _
     (opened_clean _ _ (g.met.S.Store.shut_if_dirty new.store))
-    (λ clean. ((same clean).0, (same clean).1.0.is_open)) c.query_all.ensures.survives c.in_ok-query_all.field-0.items c.in_ok-query_all.ensures.ok ready clean in
+    (λ clean. ((same clean).0, (same clean).1.0.is_open)) c.query_all.ensures.survives c.in_ok-query_all.field-0.items
+    c.in_ok-query_all.ensures.ok ready clean in
     (mid, (same early).1, told.1, told.0)

@@ -8,7 +8,8 @@ use Rattle.xa_log.proofs.statements.run.Goals as goal
 
 pub returns-in_err-statement-clause-rests : goal.returns-in_err-statement-clause-rests
 returns-in_err-statement-clause-rests g c order clean =
-    on_err _ _ (rests_not_run _ (state g.S.Store c.prepare.new.self) c.args.sql.now (bound c.args.params.now) c.in_err-statement.field-0.0 (c.in_err-statement.ensures.err clean (bound c.args.params.now)))
+    on_err _ _ (rests_not_run _ (state g.S.Store c.prepare.new.self) c.args.sql.now (bound c.args.params.now) c.in_err-statement.field-0.0
+    (c.in_err-statement.ensures.err clean (bound c.args.params.now)))
 
 pub returns-in_err-statement-clause-crash : goal.returns-in_err-statement-clause-crash
 returns-in_err-statement-clause-crash g c order clean db h = elim (c.prepare.ensures.survives.crash clean db h) [ inl was ↦ inl was | inr none ↦ absurd none ]
@@ -46,5 +47,12 @@ returns-clause-ran g c order clean =
     let mid = c.prepare.new.self in
     let new = c.execute.new.conn in
     let early : HasCleanDisk (state g.S.Store mid) = omega (arith, c.execute.ensures.survives.clean) in
-    let same = c.in_ok-statement.ensures.ok early in
-    (mid, same.1, (c.in_ok-execute.field-0, subst (λ t. Executes t (bound c.args.params.now) (state g.S.Store mid) (state g.S.Store new) (Ok c.in_ok-execute.field-0)) same.0 (c.in_ok-execute.ensures.runs clean)))
+    let same = c.in_ok-statement.ensures.ok early in (
+      mid,
+      same.1,
+      (
+        c.in_ok-execute.field-0,
+        subst (λ t. Executes t (bound c.args.params.now) (state g.S.Store mid) (state g.S.Store new) (Ok c.in_ok-execute.field-0)) same.0
+            (c.in_ok-execute.ensures.runs clean),
+      ),
+    )

@@ -5,7 +5,8 @@ use Rattle.xa_line.proofs.queue.Queue.pop.Goals as goal
 
 pub returns-clause-some : goal.returns-clause-some
 returns-clause-some g c =
-    pop-flow _ _ _ _ _ _ _ _ _ _ _ (ap (λ s. length (received s.value)) c.look.ensures.outlet.0.1) c.self.view_is c.self.inside.outlet.started c.self.invariant.all_seen
+    pop-flow _ _ _ _ _ _ _ _ _ _ _ (ap (λ s. length (received s.value)) c.look.ensures.outlet.0.1) c.self.view_is c.self.inside.outlet.started
+    c.self.invariant.all_seen
     c.pop_known-item.ensures.received.0 c.pop_known-item.ensures.received.1 c.look.ensures.outlet.1
     (c.look.ensures.seen.all_seen ∙ c.look.ensures.inlet.1)
 

@@ -10,5 +10,6 @@ returns-clause-changes c =
     held_changes (committed c.args.g (from_list c.args.participants.now)) (content_held c.args.self.now)
     (content_held c.put_decision-logged.new.self) _ _ _ (search rules) (search rules)
     (order_after_commit c.put_decision-logged.result (content_held c.args.self.now)
-    (content_held c.put_decision-logged.new.self) c.args.g c.args.participants.now c.requires.fits c.requires.own c.put_decision-logged.ensures.ok c.put_decision-logged.ensures.err)
+    (content_held c.put_decision-logged.new.self) c.args.g c.args.participants.now c.requires.fits c.requires.own c.put_decision-logged.ensures.ok
+    c.put_decision-logged.ensures.err)
     (search rules)

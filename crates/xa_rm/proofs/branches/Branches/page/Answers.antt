@@ -24,5 +24,6 @@ returns-clause-page c =
     (YieldsList-from_rest c.range.result refl)) c.take.ensures.count)) c.map.ensures.closure (λ x r q k. search rules)) in
     let listed = subst (λ r. IfOk r (λ w. vec_items w ≡ map (λ (x : Xid). x) (take c.args.count c.range.result))) c.in_ok-page.was run in
     listed ∙ map-id (take c.args.count c.range.result)
-    ∙ ap (take c.args.count) (c.range.ensures.between tt ∙ ap (λ (start : Bound Xid). keys_between xid_cmp start Unbounded c.args.self.now.index) c.bound.ensures
+    ∙ ap (take c.args.count) (c.range.ensures.between tt
+    ∙ ap (λ (start : Bound Xid). keys_between xid_cmp start Unbounded c.args.self.now.index) c.bound.ensures
     ∙ keys_behind c.args.cursor.now c.args.self.now.index)

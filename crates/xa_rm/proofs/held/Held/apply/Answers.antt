@@ -18,13 +18,15 @@ pub returns-in-Commit-default-true-clause-held : goal.returns-in-Commit-default-
 returns-in-Commit-default-true-clause-held c =
     called_as (asks_of c.args.call.now) OnePhase c.in-Commit-default-true.xid
     (commit_asks c.args.call.now c.in-Commit-default-true.xid c.in-Commit-default-true.one_phase c.in-Commit-default-true.is _
-    (sym c.in-Commit-default-true.one_phase-is ∙ c.in-Commit-default-true.one_phase-test)) c.args.thread (held_branch c.args.self.now) (held_branch c.commit_one_phase.new.self) c.commit_one_phase.ensures.held
+    (sym c.in-Commit-default-true.one_phase-is ∙ c.in-Commit-default-true.one_phase-test)) c.args.thread (held_branch c.args.self.now)
+    (held_branch c.commit_one_phase.new.self) c.commit_one_phase.ensures.held
 
 pub returns-in-Commit-default-false-clause-held : goal.returns-in-Commit-default-false-clause-held
 returns-in-Commit-default-false-clause-held c =
     called_as (asks_of c.args.call.now) Commit c.in-Commit-default-false.xid
     (commit_asks c.args.call.now c.in-Commit-default-false.xid c.in-Commit-default-false.one_phase c.in-Commit-default-false.is _
-    (sym c.in-Commit-default-false.one_phase-is ∙ c.in-Commit-default-false.one_phase-test)) c.args.thread (held_branch c.args.self.now) (held_branch c.commit.new.self) c.commit.ensures.held
+    (sym c.in-Commit-default-false.one_phase-is ∙ c.in-Commit-default-false.one_phase-test)) c.args.thread (held_branch c.args.self.now)
+    (held_branch c.commit.new.self) c.commit.ensures.held
 
 pub returns-in-Rollback-clause-held : goal.returns-in-Rollback-clause-held
 returns-in-Rollback-clause-held c =

@@ -1,5 +1,5 @@
 use Rattle.xa_log.proofs.Parts.{both_ok}
-use Rattle.xa_log.proofs.sql_log.SqlLog+FileStore+FileFrom+S.open_from.Goals as goal
+use Rattle.xa_log.proofs.sql_log.opening.SqlLog+FileStore+FileFrom+S.open_from.Goals as goal
 
 pub returns-clause-opened : goal.returns-clause-opened
 returns-clause-opened g c =

@@ -6,11 +6,12 @@ use Rattle.xa_log.specs.Contract.{IsStoreFault}
 use Rattle.xa_log.proofs.Parts.{on_err}
 use Rattle.xa_log.proofs.States.{rests_query}
 use Rattle.xa_log.proofs.Versions.{read_meta, looks, looks_at, number_of_one, names, look_survives}
-use Rattle.xa_log.proofs.tables.check_version.Goals as goal
+use Rattle.xa_log.proofs.version.check_version.Goals as goal
 
 pub returns-in_err-rows-clause-rests : goal.returns-in_err-rows-clause-rests
 returns-in_err-rows-clause-rests g c has clean =
-    on_err _ _ (rests_query read_meta [] (state g.S.Store c.args.conn.now) (state g.S.Store c.query_all.new.self) c.in_err-rows.field-0.0 (c.in_err-rows.ensures.err clean))
+    on_err _ _ (rests_query read_meta [] (state g.S.Store c.args.conn.now) (state g.S.Store c.query_all.new.self) c.in_err-rows.field-0.0
+    (c.in_err-rows.ensures.err clean))
 
 pub returns-in_err-rows-clause-survives : goal.returns-in_err-rows-clause-survives
 returns-in_err-rows-clause-survives g c has =
@@ -18,7 +19,8 @@ returns-in_err-rows-clause-survives g c has =
 
 pub returns-in_err-version_in-clause-rests : goal.returns-in_err-version_in-clause-rests
 returns-in_err-version_in-clause-rests g c has clean =
-    on_err _ _ (inl (looks (state g.S.Store c.args.conn.now) (state g.S.Store c.query_all.new.self) c.in_ok-rows.rows.items has (c.in_ok-rows.ensures.ok clean)))
+    on_err _ _ (inl (looks (state g.S.Store c.args.conn.now) (state g.S.Store c.query_all.new.self) c.in_ok-rows.rows.items has
+    (c.in_ok-rows.ensures.ok clean)))
 
 pub returns-in_err-version_in-clause-survives : goal.returns-in_err-version_in-clause-survives
 returns-in_err-version_in-clause-survives g c has =

@@ -1,6 +1,6 @@
 use Rattle.xa_log.proofs.Parts.{if_ok, on_any_ok}
 use Rattle.sqlite.proofs.Callers.{memory_is_clean}
-use Rattle.xa_log.proofs.sql_log.SqlLog+MemStore.open_in_memory.Goals as goal
+use Rattle.xa_log.proofs.sql_log.opening.SqlLog+MemStore.open_in_memory.Goals as goal
 
 pub returns-clause-empty : goal.returns-clause-empty
 returns-clause-empty c =
