@@ -1,8 +1,8 @@
 //! What no clause says: that lines are made where there is memory, and again after a refusal; that real threads
 //! get calls and answers through; and worked calls on one line.
 
-ghost use Rattle.std.specs.Prelude.{◌≡◌, IsErr};
-ghost use Rattle.xa_line.specs.Ends.{AreEndsOfOne, SameIssuer, SameTaker};
+ghost use Rattle.std.specs.Prelude.{◌≡◌};
+ghost use Rattle.xa_line.specs.Ends.{SameIssuer, SameTaker};
 
 use std::alloc::Global;
 use std::test::Fail;

@@ -2,7 +2,7 @@
 //!
 //! - without arguments: prints how many of 1,000 jobs with two yes votes are committed by 1, 2, 4 and 8 threads of
 //!   control at two resource managers;
-//! - `time [PATH]`: the same, and how many they are a second, over a log in memory and over one in the file at PATH;
+//! - `time`: the same, and how many they are a second, over a log in memory;
 //! - `stress [RUNS]`: runs 1,000 jobs of mixed votes on 8 threads at 8 resource managers, 200 times or as often as it
 //!   says, each second time with a recovery that sweeps them. It ends at the first run that ends with a fault or not as
 //!   the votes say.
@@ -17,7 +17,7 @@ use std::sync::Wait;
 use std::thread::Threads;
 use std::time::Instant;
 use xa_base::{Outcome, Vote};
-use xa_log::{DecisionLog, MemLog, SqlLog};
+use xa_log::MemLog;
 use xa_workers::{Gate, Jobs, Point, WorkFault, run_jobs};
 
 const YES: Option<Vote> = Some(Vote::Yes);
@@ -52,16 +52,15 @@ fn jobs(alloc: Global, threads: u32) -> Result<Jobs, AllocError> {
 }
 
 /// How many of the jobs a run commits.
-fn committed<T: Threads + Wait + Sync, L: DecisionLog + Drop>(
+fn committed<T: Threads + Wait + Sync>(
     rt: &T,
     alloc: Global,
     jobs: &Jobs,
-    log: L,
 ) -> Result<usize, WorkFault> {
     if !jobs.is_runnable() {
         return Ok(0);
     }
-    let done = run_jobs(rt, alloc, jobs, log, &Open)?;
+    let done = run_jobs(rt, alloc, jobs, MemLog::new(alloc), &Open)?;
     Ok(
         done.ends
             .iter()
@@ -70,19 +69,17 @@ fn committed<T: Threads + Wait + Sync, L: DecisionLog + Drop>(
     )
 }
 
-/// Times a run over a log, and prints how many jobs it committed a second.
-fn measure<T: Threads + Wait + Sync, L: DecisionLog + Drop>(
+/// Times a run, and prints how many jobs it committed a second.
+fn measure<T: Threads + Wait + Sync>(
     rt: &HostRuntime,
     threads: &T,
     jobs: &Jobs,
-    place: &str,
-    log: L,
 ) -> anyhow::Result<()> {
     let start = Instant::now(rt)?;
-    let count = committed(threads, rt.alloc(), jobs, log)?;
+    let count = committed(threads, rt.alloc(), jobs)?;
     let micros = start.elapsed(rt)?.as_micros();
     println!(rt;
-        "{} threads, log {place}: {} a second",
+        "{} threads, log in memory: {} a second",
         jobs.threads,
         count as u128 * 1_000_000 / micros.max(1)
     )?;
@@ -104,12 +101,9 @@ fn main(rt: HostRuntime) -> anyhow::Result<()> {
     for threads in [1, 2, 4, 8] {
         let jobs = jobs(alloc, threads)?;
         if command == Some("time") {
-            measure(&rt, &rt, &jobs, "in memory", MemLog::new(alloc))?;
-            if let Some(path) = word {
-                measure(&rt, &rt, &jobs, "in a file", SqlLog::open(&rt, path)?)?;
-            }
+            measure(&rt, &rt, &jobs)?;
         } else {
-            let count = committed(&rt, alloc, &jobs, MemLog::new(alloc))?;
+            let count = committed(&rt, alloc, &jobs)?;
             println!(rt; "{threads} threads: {count} committed")?;
         }
     }
