@@ -1,5 +1,5 @@
 -- The faults that texts of tables can have.
-use Rattle.std.proofs.Common.{◌≡◌, inl, ℕ, List, Option, Some, None, Result, Ok, Err, refl, subst}
+use Rattle.std.proofs.Common.{◌≡◌, ◌≢◌, inl, inr, ℕ, List, Option, Some, None, Result, Ok, Err, refl, subst}
 use Rattle.std.specs.Option.{ok_or}
 use Rattle.std.specs.Prelude.{if◌then◌else◌}
 use Rattle.std.specs.Str.{is_utf8}
@@ -9,7 +9,7 @@ use Rattle.xa_files.specs.Documents.{document_of}
 use Rattle.xa_files.specs.Listed.{IsTextFault}
 use Rattle.xa_files.specs.Reading.{◌>>=◌}
 use Rattle.xa_files.specs.declared.fault.RunFault.{RunFault}
-use Rattle.xa_files.specs.declared.fault.RunFault.TheVariants.{NotToml}
+use Rattle.xa_files.specs.declared.fault.RunFault.TheVariants.{NotToml, Header}
 
 -- a fault where something is missing
 pub missing : {A : Type 0} (of_table : ℕ → RunFault) (o : Option A) (e fault : RunFault) → IsTextFault of_table e → ok_or o e ≡ Err fault
@@ -28,3 +28,10 @@ pub in_turn : {A B : Type 0} (of_table : ℕ → RunFault) (read : Result A RunF
     → (read >>= next) ≡ Err fault → IsTextFault of_table fault
 in_turn of_table (Ok x) next fault here later is = later x is
 in_turn of_table (Err e) next fault here later is = subst (IsTextFault of_table) (same_err e fault is) (here e refl)
+
+-- a fault that is none of these is no fault of a text
+pub no_text_fault : (of_table : ℕ → RunFault) (fault : RunFault) → fault ≢ NotToml → fault ≢ Header → ((number : ℕ) → fault ≢ of_table number)
+    → ¬ IsTextFault of_table fault
+no_text_fault of_table fault toml header table (inl is) = toml is
+no_text_fault of_table fault toml header table (inr (inl is)) = header is
+no_text_fault of_table fault toml header table (inr (inr is)) = table is.0 is.1

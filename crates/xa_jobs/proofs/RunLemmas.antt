@@ -5,25 +5,25 @@ use Rattle.xa_files.specs.Reading.{Explains, Fails}
 use Rattle.xa_files.specs.declared.fault.RunFault.{RunFault}
 use Rattle.xa_files.specs.declared.fault.RunFault.TheVariants.{NotToml, Header, Step, Job, Log, Memory, Work, Output}
 use Rattle.xa_jobs.specs.JobFiles.{Plan, jobs_of}
-use Rattle.xa_jobs.specs.JobRuns.{Begins, BeginsEnds, IsRunFault, IsWorkFault, Prints, PrintsEnds, fault_of}
+use Rattle.xa_jobs.specs.JobRuns.{Begins, BeginsEnds, IsRunFault, IsWorkFault, Prints, PrintsEnds, run_fault_of}
 use Rattle.xa_workers.specs.declared.fault.WorkFault.{WorkFault}
 use Rattle.xa_workers.specs.declared.fault.WorkFault.TheVariants as work
-use Rattle.xa_jobs.proofs.TextFaults.{faults_are_of_texts}
+use Rattle.xa_jobs.proofs.TextFaults as texts
 
 -- ** a fault of the reading
 
 pub explains : (fault : RunFault) (text : List ℕ) → Fails fault (jobs_of text) → Explains fault (jobs_of text)
 explains fault text =
-    explained_by_text fault (jobs_of text) (faults_are_of_texts text Log) (faults_are_of_texts text Work) (faults_are_of_texts text Output)
+    explained_by_text fault (jobs_of text) (texts.not_of_log text) (texts.not_of_work text) (texts.not_of_output text)
 
 -- no reading ends with a fault of the output
 pub not_of_output : (fault : RunFault) (text : List ℕ) → Fails fault (jobs_of text) → fault ≡ Output → ⊥
-not_of_output fault text fails e = faults_are_of_texts text Output
+not_of_output fault text fails e = texts.not_of_output text
     (subst (λ (f : RunFault). Fails f (jobs_of text)) e fails)
 
 -- ** a fault of the run
 
-pub is_work_fault : (fault : WorkFault) → IsWorkFault (fault_of fault)
+pub is_work_fault : (fault : WorkFault) → IsWorkFault (run_fault_of fault)
 is_work_fault work.Memory = tt
 is_work_fault work.Log = tt
 is_work_fault work.Stuck = tt

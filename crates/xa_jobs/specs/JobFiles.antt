@@ -11,6 +11,7 @@ use Rattle.xa_files.specs.Fields.{has_only}
 use Rattle.xa_files.specs.Reading.{◌>>=◌}
 use Rattle.xa_files.specs.declared.fault.RunFault.{RunFault}
 use Rattle.xa_files.specs.declared.fault.RunFault.TheVariants.{Job}
+use Rattle.xa_workers.specs.declared.limits.TheConstants.{JOB_LIMIT}
 use Rattle.xa_jobs.specs.Headers.{header_of}
 use Rattle.xa_files.specs.Words.{vote_named}
 use Rattle.xa_workers.specs.declared.jobs.Jobs.{Jobs}
@@ -62,7 +63,7 @@ votes_in_table rms table =
 -- the votes of the job of a number: there are at most 1,000
 abbrev pub job_at : (rms number : ℕ) → Data → Result Votes RunFault
 job_at rms number value =
-    if nat_lt 1000 number then Err (Job number) else ok_or (option_and_then (votes_in_table rms) (as_table value)) (Job number)
+    if nat_lt JOB_LIMIT number then Err (Job number) else ok_or (option_and_then (votes_in_table rms) (as_table value)) (Job number)
 
 -- the votes of the jobs in turn, or the first faulty one; the first has this number
 unfoldable pub jobs_from : (rms number : ℕ) → Items → Result (List Votes) RunFault

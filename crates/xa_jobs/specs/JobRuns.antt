@@ -47,11 +47,11 @@ pub record Begins (text : List ℕ) (old new : Option (List ℕ)) : Type 0 where
   pub lines : BeginsEnds plan old new
 
 -- what a fault of a run is to the file
-abbrev pub fault_of : WorkFault → RunFault
-fault_of work.Memory = Memory
-fault_of work.Log = Log
-fault_of work.Stuck = Work
-fault_of work.Mixed = Work
+abbrev pub run_fault_of : WorkFault → RunFault
+run_fault_of work.Memory = Memory
+run_fault_of work.Log = Log
+run_fault_of work.Stuck = Work
+run_fault_of work.Mixed = Work
 
 -- a fault that a run can have once the file is read and before the writes
 abbrev pub IsWorkFault : RunFault → Type 0

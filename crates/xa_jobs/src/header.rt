@@ -41,7 +41,8 @@ fn header_at(document: &Table) -> Option<(u32, u32, bool, &[Value])>
 
 /// The same, with its fault.
 pub(crate) fn header_of(document: &Table) -> Result<(u32, u32, bool, &[Value]), RunFault>
-    ensures header { Gives (λ h. (h.0, h.1, h.2, items_view h.3.now)) result (header_of (table_view document.now)) }
+    ensures header { Gives (λ h. (h.0, h.1, h.2, items_view h.3.now)) result
+        (header_of (table_view document.now)) }
     ensures sizes { IfOk result (λ h. (0 < h.0) × (h.0 ≤ 8) × (0 < h.1) × (h.1 ≤ 8)) }
 {
     match header_at(document) {

@@ -1,11 +1,13 @@
 //! A jobs file as a whole.
 
-ghost use Rattle.std.specs.Prelude.{◌≡◌, ◌≤◌, All, IfOk, IfSome, map, option_map, vec_len};
+ghost use Rattle.std.specs.Prelude.{◌≡◌, ◌≤◌, ℕ, All, IfOk, IfSome, option_map, vec_len};
 ghost use Rattle.toml.specs.View.{items_view, table_view, view};
 ghost use Rattle.xa_files.specs.Reading.{Gives};
 ghost use Rattle.xa_jobs.specs.JobFiles.{vote_in, branch_named, job_at, jobs_from, jobs_of};
 ghost use Rattle.xa_jobs.specs.JobFiles.{plan_of, votes_in_table, rows_in, votes_in};
-ghost use Rattle.xa_jobs.specs.Listed.{EachIsRead, FaultsAreOfTexts, FirstIsFaulty};
+ghost use Rattle.xa_files.specs.Listed.{EachIsRead, FaultsAreOfTexts, FirstIsFaulty};
+ghost use Rattle.xa_files.specs.declared.fault.RunFault.TheVariants.{Job};
+ghost use Rattle.xa_jobs.specs.Listed.{asked_at};
 ghost use Rattle.xa_workers.specs.Jobs.{IsRunnable};
 
 use crate::header::header_of;
@@ -13,10 +15,7 @@ use std::alloc::{AllocError, Global};
 use toml::{Table, Value};
 use xa_base::Vote;
 use xa_files::{RunFault, document_of, has_only, value_at, vote_named};
-use xa_workers::Jobs;
-
-/// The most jobs of a file.
-const MAX_JOBS: usize = 1000;
+use xa_workers::{JOB_LIMIT, Jobs};
 
 /// The votes of a job, one or none for each resource manager.
 type Row = Vec<Option<Vote>>;
@@ -42,7 +41,8 @@ fn branch_in(value: &Value) -> Option<Option<Vote>>
 
 /// The votes that the items name, if each names one.
 fn votes_of(alloc: Global, items: &[Value]) -> Result<Option<Row>, AllocError>
-    ensures { IfOk result (λ row. option_map (λ votes. votes.items) row ≡ votes_in (items_view items.now)) }
+    ensures { IfOk result (λ row. option_map (λ votes. votes.items) row
+        ≡ votes_in (items_view items.now)) }
 {
     let mut votes = Vec::new(alloc);
     for value in items {
@@ -57,7 +57,8 @@ fn votes_of(alloc: Global, items: &[Value]) -> Result<Option<Row>, AllocError>
 /// The votes that a table has, if it is that of a job with a vote or none for each resource manager.
 #[tactic(auto, unfolding(crate::specs::JobFiles::votes_in_table))]
 fn row_of(alloc: Global, rms: u32, table: &Table) -> Result<Option<Row>, AllocError>
-    ensures row { IfOk result (λ row. option_map (λ votes. votes.items) row ≡ votes_in_table rms (table_view table.now)) }
+    ensures row { IfOk result (λ row. option_map (λ votes. votes.items) row
+        ≡ votes_in_table rms (table_view table.now)) }
     ensures number { IfOk result (λ row. IfSome row (λ votes. vec_len votes ≡ rms)) }
 {
     if !has_only(table, &["votes"]) {
@@ -82,11 +83,11 @@ fn row_of(alloc: Global, rms: u32, table: &Table) -> Result<Option<Row>, AllocEr
 /// The votes of the job of a number.
 fn job_at(alloc: Global, rms: u32, number: usize, value: &Value) -> Result<Row, RunFault>
     ensures job { Gives (λ votes. votes.items) result (job_at rms number (view value.now)) }
-    ensures few { IfOk result (λ _. number ≤ 1000) }
+    ensures few { IfOk result (λ _. number ≤ JOB_LIMIT) }
     ensures number { IfOk result (λ votes. vec_len votes ≡ rms) }
 {
     let fault = RunFault::Job(number);
-    if number > MAX_JOBS {
+    if number > JOB_LIMIT {
         return Err(fault);
     }
     match value.as_table() {
@@ -97,8 +98,9 @@ fn job_at(alloc: Global, rms: u32, number: usize, value: &Value) -> Result<Row, 
 
 /// The votes of all jobs.
 fn jobs_in(alloc: Global, rms: u32, items: &[Value]) -> Result<Vec<Row>, RunFault>
-    ensures jobs { Gives (λ jobs. rows_in jobs.items) result (jobs_from rms 1 (items_view items.now)) }
-    ensures few { IfOk result (λ jobs. vec_len jobs ≤ 1000) }
+    ensures jobs { Gives (λ jobs. rows_in jobs.items) result
+        (jobs_from rms 1 (items_view items.now)) }
+    ensures few { IfOk result (λ jobs. vec_len jobs ≤ JOB_LIMIT) }
     ensures rows { IfOk result (λ jobs. All (λ votes. vec_len votes ≡ rms) jobs.items) }
 {
     let mut jobs = Vec::new(alloc);
@@ -129,11 +131,11 @@ pub fn read_jobs(alloc: Global, text: &[u8]) -> Result<Jobs, RunFault>
 
 /// The tables are read each by itself, and a fault is the first one.
 pub fn tables_are_read_in_turn()
-    ensures each_is_read { EachIsRead }
-    ensures first_is_faulty { FirstIsFaulty }
+    ensures each_is_read { (rms : ℕ) → EachIsRead (asked_at rms) (jobs_from rms 1) }
+    ensures first_is_faulty { (rms : ℕ) → FirstIsFaulty (asked_at rms) (jobs_from rms 1) }
 {}
 
 /// A text has no other faults than these: it is no TOML, its header is faulty, or a job.
 pub fn faults_are_of_texts()
-    ensures { FaultsAreOfTexts }
+    ensures { FaultsAreOfTexts Job jobs_of }
 {}

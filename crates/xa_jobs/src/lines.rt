@@ -1,6 +1,6 @@
 //! What a run prints.
 
-ghost use Rattle.std.specs.Prelude.{◌≡◌, ◌⊎◌, ◌≤◌, IfErr, IfOk, OnOk, length};
+ghost use Rattle.std.specs.Prelude.{◌≡◌, ◌⊎◌, IfErr, IfOk, OnOk};
 ghost use Rattle.std.specs.Io.KnownBytes.{Appends, Keeps};
 ghost use Rattle.xa_files.specs.Outputs.{AppendsBeginning};
 ghost use Rattle.xa_files.specs.declared.fault.RunFault.TheVariants.{Memory, Output};
@@ -39,10 +39,12 @@ pub(crate) fn print_ends<W: Write>(
     ends: &[Outcome],
     out: &mut W,
 ) -> Result<(), RunFault>
-    ensures lines { OnOk result (Appends (W.contents out.old) (W.contents out.new) (end_lines ends.now)) }
+    ensures lines { OnOk result (Appends (W.contents out.old) (W.contents out.new)
+        (end_lines ends.now)) }
     ensures begun { IfErr result (λ e. e ≡ Output →
         AppendsBeginning (W.contents out.old) (W.contents out.new) (end_lines ends.now)) }
-    ensures memory { IfErr result (λ e. e ≡ Memory → Keeps (W.contents out.old) (W.contents out.new)) }
+    ensures memory { IfErr result (λ e. e ≡ Memory
+        → Keeps (W.contents out.old) (W.contents out.new)) }
     ensures fault { IfErr result (λ e. (e ≡ Memory) ⊎ (e ≡ Output)) }
 {
     let lines = end_lines(alloc, ends)?;

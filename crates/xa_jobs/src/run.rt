@@ -7,7 +7,7 @@ ghost use Rattle.xa_files.specs.declared.fault.RunFault.{RunFault};
 ghost use Rattle.xa_files.specs.declared.fault.RunFault.TheVariants.{Output};
 ghost use Rattle.xa_jobs.specs.JobFiles.{jobs_of, plan_of};
 ghost use Rattle.xa_jobs.specs.JobRuns.{AreEnds, Begins, BeginsEnds, Prints, PrintsEnds};
-ghost use Rattle.xa_jobs.specs.JobRuns.{IsRunFault, IsWorkFault, fault_of};
+ghost use Rattle.xa_jobs.specs.JobRuns.{IsRunFault, IsWorkFault, run_fault_of};
 ghost use Rattle.xa_workers.specs.Jobs.{IsRunnable};
 
 use crate::jobs::read_jobs;
@@ -31,8 +31,8 @@ impl Gate for Open {
 }
 
 /// What the fault of a run is to the file.
-fn fault_of(fault: WorkFault) -> RunFault
-    ensures { result ≡ fault_of fault }
+fn run_fault_of(fault: WorkFault) -> RunFault
+    ensures { result ≡ run_fault_of fault }
 {
     match fault {
         WorkFault::Memory => RunFault::Memory,
@@ -54,7 +54,7 @@ fn ends_of_run<R: Threads + Wait + Sync, L: DecisionLog + Drop>(
 {
     match run_jobs(rt, alloc, jobs, log, &Open) {
         Ok(done) => Ok(done.ends),
-        Err(fault) => Err(fault_of(fault)),
+        Err(fault) => Err(run_fault_of(fault)),
     }
 }
 
@@ -67,10 +67,12 @@ fn run_and_print<R: Threads + Wait + Sync, L: DecisionLog + Drop, W: Write>(
     out: &mut W,
 ) -> Result<(), RunFault>
     requires { IsRunnable jobs.now }
-    ensures ends { OnOk result (PrintsEnds (plan_of jobs.now) (W.contents out.old) (W.contents out.new)) }
+    ensures ends { OnOk result (PrintsEnds (plan_of jobs.now) (W.contents out.old)
+        (W.contents out.new)) }
     ensures begun { IfErr result (λ e. e ≡ Output →
         BeginsEnds (plan_of jobs.now) (W.contents out.old) (W.contents out.new)) }
-    ensures kept { IfErr result (λ e. e ≢ Output → Keeps (W.contents out.old) (W.contents out.new)) }
+    ensures kept { IfErr result (λ e. e ≢ Output
+        → Keeps (W.contents out.old) (W.contents out.new)) }
     ensures fault { IfErr result IsRunFault }
 {
     let ends = ends_of_run(rt, alloc, jobs, log)?;
@@ -96,8 +98,10 @@ pub fn run_job_file<R: Threads + Wait + Sync, L: DecisionLog + Drop, W: Write>(
     // A file that is no jobs file writes nothing.
     ensures unwritten { IsErr (jobs_of text.now) → Keeps (W.contents out.old) (W.contents out.new) }
     // Nor does a run that ends by another fault than that of the output.
-    ensures kept { IfErr result (λ e. e ≢ Output → Keeps (W.contents out.old) (W.contents out.new)) }
-    ensures begun { IfErr result (λ e. e ≡ Output → Begins text.now (W.contents out.old) (W.contents out.new)) }
+    ensures kept { IfErr result (λ e. e ≢ Output
+        → Keeps (W.contents out.old) (W.contents out.new)) }
+    ensures begun { IfErr result (λ e. e ≡ Output
+        → Begins text.now (W.contents out.old) (W.contents out.new)) }
 {
     let jobs = read_jobs(alloc, text)?;
     run_and_print(rt, alloc, &jobs, log, out)

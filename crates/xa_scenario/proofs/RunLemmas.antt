@@ -10,24 +10,24 @@ use Rattle.xa_files.specs.Outputs.{AppendsBeginning}
 use Rattle.xa_files.proofs.ReadingLemmas.{explained}
 use Rattle.xa_files.specs.Reading.{Explains, Fails}
 use Rattle.xa_files.specs.declared.fault.RunFault.{RunFault}
-use Rattle.xa_files.specs.declared.fault.RunFault.TheVariants.{Log, Work, Output}
+use Rattle.xa_files.specs.declared.fault.RunFault.TheVariants.{Work, Output}
 use Rattle.xa_scenario.specs.Plays.{IsPlay, Performs}
 use Rattle.xa_scenario.specs.Runs.{Begins, BeginsCheck, BeginsRun, IsReportOf, IsRunOf, IsStartOf, IsTextOf, Prints, PrintsRun, check_line, run_text}
 use Rattle.xa_scenario.specs.Scenarios.{Plan, scenario_of}
-use Rattle.xa_scenario.proofs.TextFaults.{faults_are_of_texts}
+use Rattle.xa_scenario.proofs.TextFaults as texts
 
 -- a fault of the reading
 pub explains : (fault : RunFault) (text : List ℕ) → Fails fault (scenario_of text) → Explains fault (scenario_of text)
 explains fault text =
-    explained fault (scenario_of text) (faults_are_of_texts text Log) (faults_are_of_texts text Work) (faults_are_of_texts text Output)
+    explained fault (scenario_of text) (texts.not_of_log text) (texts.not_of_work text) (texts.not_of_output text)
 
 -- no reading ends with a fault of the output
 pub not_of_output : (fault : RunFault) (text : List ℕ) → Fails fault (scenario_of text) → fault ≡ Output → ⊥
-not_of_output fault text fails e = faults_are_of_texts text Output (subst (λ (f : RunFault). Fails f (scenario_of text)) e fails)
+not_of_output fault text fails e = texts.not_of_output text (subst (λ (f : RunFault). Fails f (scenario_of text)) e fails)
 
 -- nor with one of the work
 pub not_of_work : (fault : RunFault) (text : List ℕ) → Fails fault (scenario_of text) → fault ≢ Work
-not_of_work fault text fails e = faults_are_of_texts text Work (subst (λ (f : RunFault). Fails f (scenario_of text)) e fails)
+not_of_work fault text fails e = texts.not_of_work text (subst (λ (f : RunFault). Fails f (scenario_of text)) e fails)
 
 -- what a fault of the output leaves
 pub on_output : (result : Result (Unit {0}) RunFault) (P Q : Type 0) → (P → Q)

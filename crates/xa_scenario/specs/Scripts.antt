@@ -10,23 +10,23 @@ use Rattle.xa_scenario.specs.declared.entry.Entry.{Entry}
 use Rattle.xa_scenario.specs.declared.entry.Entry.TheVariants as entries
 use Rattle.xa_scenario.specs.declared.entry.Script.TheVariants as scripts
 
-unfoldable pub vote_row : Names → Members → Option Entry
-vote_row begun table = only (codes "rm" ∷ codes "tx" ∷ codes "of" ∷ codes "vote" ∷ []) table (do
+unfoldable pub vote_entry : Names → Members → Option Entry
+vote_entry begun table = only (codes "rm" ∷ codes "tx" ∷ codes "of" ∷ codes "vote" ∷ []) table (do
   rm ← index_at (codes "rm") table
   branch ← branch_at begun 0 table
   vote ← text_at (codes "vote") table >>= vote_named
   Some (entries.Script rm branch (scripts.Vote vote)))
 
 -- a commit is put off at most 1,000 times
-unfoldable pub busy_row : Names → Members → Option Entry
-busy_row begun table = only (codes "rm" ∷ codes "tx" ∷ codes "of" ∷ codes "times" ∷ []) table (do
+unfoldable pub busy_entry : Names → Members → Option Entry
+busy_entry begun table = only (codes "rm" ∷ codes "tx" ∷ codes "of" ∷ codes "times" ∷ []) table (do
   rm ← index_at (codes "rm") table
   branch ← branch_at begun 0 table
   times ← number_at 1000 (codes "times") table
   Some (entries.Script rm branch (scripts.Busy times)))
 
-unfoldable pub heuristic_row : Names → Members → Option Entry
-heuristic_row begun table = only (codes "rm" ∷ codes "tx" ∷ codes "of" ∷ codes "how" ∷ []) table (do
+unfoldable pub heuristic_entry : Names → Members → Option Entry
+heuristic_entry begun table = only (codes "rm" ∷ codes "tx" ∷ codes "of" ∷ codes "how" ∷ []) table (do
   rm ← index_at (codes "rm") table
   branch ← branch_at begun 0 table
   how ← text_at (codes "how") table >>= how_named

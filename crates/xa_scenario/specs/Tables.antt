@@ -9,7 +9,7 @@ use Rattle.xa_scenario.specs.Crashes.{crash_row, restart_row}
 use Rattle.xa_scenario.specs.Endings.{abandon_row, claim_row, decide_row, done_row, settle_row}
 use Rattle.xa_scenario.specs.Moves.{drain_row, hear_row, take_row}
 use Rattle.xa_scenario.specs.Recoveries.{recover_row, resolve_open_row, resolve_row}
-use Rattle.xa_scenario.specs.Scripts.{busy_row, heuristic_row, vote_row}
+use Rattle.xa_scenario.specs.Scripts.{busy_entry, heuristic_entry, vote_entry}
 use Rattle.xa_scenario.specs.Words.{entry_named}
 use Rattle.xa_scenario.specs.declared.entry.Entry.{Entry}
 use Rattle.xa_scenario.specs.declared.words.EntryKind.{EntryKind}
@@ -22,9 +22,9 @@ entry_in_table kinds.Call begun table = call_row begun table
 entry_in_table kinds.Take begun table = take_row table
 entry_in_table kinds.Hear begun table = hear_row table
 entry_in_table kinds.Drain begun table = drain_row table
-entry_in_table kinds.Vote begun table = vote_row begun table
-entry_in_table kinds.Busy begun table = busy_row begun table
-entry_in_table kinds.Heuristic begun table = heuristic_row begun table
+entry_in_table kinds.Vote begun table = vote_entry begun table
+entry_in_table kinds.Busy begun table = busy_entry begun table
+entry_in_table kinds.Heuristic begun table = heuristic_entry begun table
 entry_in_table kinds.Decide begun table = decide_row begun table
 entry_in_table kinds.Recover begun table = recover_row table
 entry_in_table kinds.Resolve begun table = resolve_row table

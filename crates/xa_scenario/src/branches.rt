@@ -48,7 +48,8 @@ pub fn branch_at(table: &Table, begun: &[&str], default: u32) -> Option<BranchEn
 /// The same, where the table may name none.
 #[tactic(auto, unfolding(crate::specs::Branches::branch_if_named))]
 pub fn branch_if_named(table: &Table, begun: &[&str], default: u32) -> Option<Option<BranchEntry>>
-    ensures { result ≡ branch_if_named (map (λ name. name.now) begun.now) default (table_view table.now) }
+    ensures { result ≡ branch_if_named (map (λ name. name.now) begun.now) default
+        (table_view table.now) }
 {
     if holds(table, "tx") {
         Some(Some(branch_at(table, begun, default)?))

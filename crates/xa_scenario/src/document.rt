@@ -1,13 +1,15 @@
 //! A scenario file as a whole.
 
-ghost use Rattle.std.specs.Prelude.{◌≡◌, IfOk, IfSome, ℕ, ◌^◌, ◌+◌, List, [], codes, map, option_map, is_some};
+ghost use Rattle.std.specs.Prelude.{◌≡◌, IfOk, IfSome, ◌+◌, [], map, option_map};
 ghost use Rattle.toml.specs.View.{view, table_view, items_view};
 ghost use Rattle.xa_scenario.specs.Headers.{header_at};
 ghost use Rattle.xa_files.specs.Documents.{size_at, tables_at};
-ghost use Rattle.xa_scenario.specs.Scenarios.{IsSize, IsSized, plan_of, entry_at, name_in, names_after, entries_from, header_of, scenario_of};
+ghost use Rattle.xa_scenario.specs.Scenarios.{IsSize, IsSized, plan_of, entry_at, name_in, entries_from, header_of, scenario_of};
 ghost use Rattle.xa_files.specs.Reading.{Gives};
 ghost use Rattle.xa_files.specs.Documents.{document_of};
-ghost use Rattle.xa_scenario.specs.Listed.{EachIsRead, FirstIsFaulty, FaultsAreOfTexts};
+ghost use Rattle.xa_files.specs.Listed.{EachIsRead, FirstIsFaulty, FaultsAreOfTexts};
+ghost use Rattle.xa_files.specs.declared.fault.RunFault.TheVariants.{Step};
+ghost use Rattle.xa_scenario.specs.Listed.{asked_at};
 
 use crate::begins::name_begun;
 use crate::entry::Entry;
@@ -39,7 +41,8 @@ pub struct Scenario {
 /// The top of a document: the threads, the resource managers and the tables of the steps.
 #[tactic(auto, unfolding(crate::specs::Headers::header_at))]
 fn header_at(document: &Table) -> Option<(u32, u32, &[Value])>
-    ensures value { option_map (λ h. (h.0, h.1, items_view h.2.now)) result ≡ header_at (table_view document.now) }
+    ensures value { option_map (λ h. (h.0, h.1, items_view h.2.now)) result
+        ≡ header_at (table_view document.now) }
     ensures sized { IfSome result (λ h. IsSize h.0 × IsSize h.1) }
 {
     if !has_only(document, &["threads", "rms", "step"]) {
@@ -53,7 +56,8 @@ fn header_at(document: &Table) -> Option<(u32, u32, &[Value])>
 
 /// The same, with its fault.
 fn header_of(document: &Table) -> Result<(u32, u32, &[Value]), RunFault>
-    ensures value { Gives (λ h. (h.0, h.1, items_view h.2.now)) result (header_of (table_view document.now)) }
+    ensures value { Gives (λ h. (h.0, h.1, items_view h.2.now)) result
+        (header_of (table_view document.now)) }
     ensures sized { IfOk result (λ h. IsSize h.0 × IsSize h.1) }
 {
     match header_at(document) {
@@ -118,11 +122,11 @@ pub fn read_scenario(alloc: Global, text: &[u8]) -> Result<Scenario, RunFault>
 
 /// The tables are read each by itself, after the names that those before it begin, and a fault is the first one.
 pub fn tables_are_read_in_turn()
-    ensures each_is_read { EachIsRead }
-    ensures first_is_faulty { FirstIsFaulty }
+    ensures each_is_read { EachIsRead asked_at (entries_from 1 []) }
+    ensures first_is_faulty { FirstIsFaulty asked_at (entries_from 1 []) }
 {}
 
 /// A text has no other faults than these: it is no TOML, its header is faulty, or a step.
 pub fn faults_are_of_texts()
-    ensures { FaultsAreOfTexts }
+    ensures { FaultsAreOfTexts Step scenario_of }
 {}

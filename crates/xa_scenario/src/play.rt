@@ -1,6 +1,6 @@
 //! What a run of a scenario does.
 
-ghost use Rattle.std.specs.Prelude.{◌≡◌, ◌||◌, ◌∷◌, [], map, OnOk};
+ghost use Rattle.std.specs.Prelude.{◌≡◌, ◌||◌, ◌∷◌, [], OnOk};
 ghost use Rattle.std.specs.Option.{option_to_list};
 ghost use Rattle.xa_scenario.specs.Plays.{HaveSteps, IsAnswered, IsDrain, IsPlay, MakesEvents, Performs, events_after, gtrids_of, moves};
 ghost use Rattle.xa_system.specs.Seen.{origin_in};
@@ -20,7 +20,8 @@ fn act<R: ResourceManager + Drop, L: DecisionLog + Drop>(
     step: Step,
 ) -> Reply
     ensures answered { IsAnswered system.old.events result }
-    ensures added { system.new.events ≡ events_after system.old.events (record { step = step; reply = result }) }
+    ensures added { system.new.events
+        ≡ events_after system.old.events (record { step = step; reply = result }) }
     ensures start { origin_in (looks R.held_of R.scan_of R.in_doubt_of) system.new
         ≡ origin_in (looks R.held_of R.scan_of R.in_doubt_of) system.old }
 {
@@ -65,7 +66,8 @@ fn play_step<R: ResourceManager + Drop, L: DecisionLog + Drop>(
     system: &mut System<R, L>,
     step: Step,
 ) -> Option<Gtrid>
-    ensures performs { Performs (λ here. HaveSteps (step ∷ []) here × (gtrids_of here ≡ option_to_list result))
+    ensures performs { Performs (λ here. HaveSteps (step ∷ []) here
+        × (gtrids_of here ≡ option_to_list result))
         system.old.events system.new.events }
     ensures start { origin_in (looks R.held_of R.scan_of R.in_doubt_of) system.new
         ≡ origin_in (looks R.held_of R.scan_of R.in_doubt_of) system.old }
@@ -82,7 +84,8 @@ fn play_entry<R: ResourceManager + Drop, L: DecisionLog + Drop>(
     gtrids: &[Gtrid],
     entry: &Entry,
 ) -> Option<Gtrid>
-    ensures performs { Performs (λ here. MakesEvents gtrids.now entry.now here × (gtrids_of here ≡ option_to_list result))
+    ensures performs { Performs (λ here. MakesEvents gtrids.now entry.now here
+        × (gtrids_of here ≡ option_to_list result))
         system.old.events system.new.events }
     ensures start { origin_in (looks R.held_of R.scan_of R.in_doubt_of) system.new
         ≡ origin_in (looks R.held_of R.scan_of R.in_doubt_of) system.old }
@@ -112,7 +115,8 @@ pub fn play<R: ResourceManager + Drop, L: DecisionLog + Drop>(
     system: &mut System<R, L>,
     entries: &[Entry],
 ) -> Result<(), AllocError>
-    ensures performs { OnOk result (Performs (IsPlay [] entries.now) system.old.events system.new.events) }
+    ensures performs { OnOk result (Performs (IsPlay [] entries.now) system.old.events
+        system.new.events) }
     ensures start { origin_in (looks R.held_of R.scan_of R.in_doubt_of) system.new
         ≡ origin_in (looks R.held_of R.scan_of R.in_doubt_of) system.old }
 {

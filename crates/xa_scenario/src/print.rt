@@ -19,7 +19,8 @@ pub fn run_text(
     events: &[Event],
     fates: &[(Xid, Fate)],
 ) -> Result<String, RunFault>
-    ensures text { IfOk result (λ text. string_bytes text ≡ run_text with_trace events.now fates.now) }
+    ensures text { IfOk result (λ text. string_bytes text
+        ≡ run_text with_trace events.now fates.now) }
     ensures fault { IfErr result (λ e. e ≡ Memory) }
 {
     let mut text = if with_trace {

@@ -29,7 +29,8 @@ fn call_name(call: &Call) -> &'static str
 
 /// Adds each identifier behind a space.
 fn push_xids(text: &mut String, alloc: Global, xids: &[Xid]) -> Result<(), RunFault>
-    ensures text { OnOk result (string_bytes text.new ≡ string_bytes text.old ++ flat_map listed_xid xids.now) }
+    ensures text { OnOk result (string_bytes text.new ≡ string_bytes text.old
+        ++ flat_map listed_xid xids.now) }
     ensures fault { IfErr result (λ e. e ≡ Memory) }
 {
     for xid in xids {
@@ -60,7 +61,8 @@ fn restarted_text(
     decisions: usize,
     heuristics: usize,
 ) -> Result<String, RunFault>
-    ensures text { IfOk result (λ text. string_bytes text ≡ restarted_text incarnation decisions heuristics) }
+    ensures text { IfOk result (λ text. string_bytes text
+        ≡ restarted_text incarnation decisions heuristics) }
     ensures fault { IfErr result (λ e. e ≡ Memory) }
 {
     Ok(format!(in alloc; "restarted {incarnation} {decisions} {heuristics}")?)

@@ -49,7 +49,8 @@ fn system_of<R: ResourceManager + Drop, L: DecisionLog + Drop>(
     requires unstarted { All (λ rm. (x : Xid) → R.held_of rm x ≡ new_branch) rms.items }
     ensures empty { IfOk result (λ system. system.events ≡ []) }
     ensures start { IfOk result (λ system.
-        IsStartOf (plan_of scenario.now) (origin_in (looks R.held_of R.scan_of R.in_doubt_of) system)) }
+        IsStartOf (plan_of scenario.now)
+        (origin_in (looks R.held_of R.scan_of R.in_doubt_of) system)) }
     ensures fault { IfErr result IsStartFault }
 {
     match System::new(alloc, scenario.threads, rms, log) {
@@ -69,7 +70,8 @@ fn text_of<R: ResourceManager + Drop, L: DecisionLog + Drop>(
     with_trace: bool,
 ) -> Result<String, RunFault>
     ensures text { IfOk result (λ text. IsTextOf with_trace
-        (origin_in (looks R.held_of R.scan_of R.in_doubt_of) system.now) system.now.events (string_bytes text)) }
+        (origin_in (looks R.held_of R.scan_of R.in_doubt_of) system.now) system.now.events
+        (string_bytes text)) }
     ensures fault { IfErr result (λ e. e ≡ Memory) }
 {
     let fates = system.report(alloc)?;
@@ -85,12 +87,14 @@ fn run<R: ResourceManager + Drop, L: DecisionLog + Drop, W: Write>(
     out: &mut W,
 ) -> Result<(), RunFault>
     requires empty { system.events ≡ [] }
-    requires start { IsStartOf (plan_of scenario.now) (origin_in (looks R.held_of R.scan_of R.in_doubt_of) system) }
+    requires start { IsStartOf (plan_of scenario.now)
+        (origin_in (looks R.held_of R.scan_of R.in_doubt_of) system) }
     ensures prints { OnOk result (PrintsRun (plan_of scenario.now) with_trace
         (W.contents out.old) (W.contents out.new)) }
     ensures begun { IfErr result (λ e. e ≡ Output →
         BeginsRun (plan_of scenario.now) with_trace (W.contents out.old) (W.contents out.new)) }
-    ensures memory { IfErr result (λ e. e ≡ Memory → Keeps (W.contents out.old) (W.contents out.new)) }
+    ensures memory { IfErr result (λ e. e ≡ Memory
+        → Keeps (W.contents out.old) (W.contents out.new)) }
     ensures fault { IfErr result (λ e. (e ≡ Memory) ⊎ (e ≡ Output)) }
 {
     play(alloc, &mut system, &scenario.entries)?;
@@ -114,14 +118,17 @@ pub fn run_scenario<L: DecisionLog + Drop, W: Write>(
     with_trace: bool,
     out: &mut W,
 ) -> Result<(), RunFault>
-    ensures ok { OnOk result (Prints text.now with_trace (W.contents out.old) (W.contents out.new)) }
+    ensures ok { OnOk result (Prints text.now with_trace (W.contents out.old)
+        (W.contents out.new)) }
     ensures fault { IfErr result (λ e. Explains e (scenario_of text.now)) }
     ensures work { IfErr result (λ e. e ≢ Work) }
     ensures refused { (e : RunFault) → scenario_of text.now ≡ Err e → EndsWith e result }
     // A file that is no scenario writes nothing.
-    ensures unwritten { IsErr (scenario_of text.now) → Keeps (W.contents out.old) (W.contents out.new) }
+    ensures unwritten { IsErr (scenario_of text.now)
+        → Keeps (W.contents out.old) (W.contents out.new) }
     // Nor does a run that wants memory.
-    ensures memory { IfErr result (λ e. e ≡ Memory → Keeps (W.contents out.old) (W.contents out.new)) }
+    ensures memory { IfErr result (λ e. e ≡ Memory
+        → Keeps (W.contents out.old) (W.contents out.new)) }
     ensures begun { IfErr result (λ e. e ≡ Output →
         Begins text.now with_trace (W.contents out.old) (W.contents out.new)) }
 {
@@ -139,9 +146,12 @@ pub fn check_scenario<W: Write>(alloc: Global, text: &[u8], out: &mut W) -> Resu
     ensures fault { IfErr result (λ e. Explains e (scenario_of text.now)) }
     ensures refused { (e : RunFault) → scenario_of text.now ≡ Err e → EndsWith e result }
     // A file that is no scenario writes nothing.
-    ensures unwritten { IsErr (scenario_of text.now) → Keeps (W.contents out.old) (W.contents out.new) }
-    ensures memory { IfErr result (λ e. e ≡ Memory → Keeps (W.contents out.old) (W.contents out.new)) }
-    ensures begun { IfErr result (λ e. e ≡ Output → BeginsCheck text.now (W.contents out.old) (W.contents out.new)) }
+    ensures unwritten { IsErr (scenario_of text.now)
+        → Keeps (W.contents out.old) (W.contents out.new) }
+    ensures memory { IfErr result (λ e. e ≡ Memory
+        → Keeps (W.contents out.old) (W.contents out.new)) }
+    ensures begun { IfErr result (λ e. e ≡ Output
+        → BeginsCheck text.now (W.contents out.old) (W.contents out.new)) }
 {
     let plan = read_scenario(alloc, text)?;
     let line = check_line(alloc, &plan)?;

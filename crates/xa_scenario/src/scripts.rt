@@ -2,7 +2,7 @@
 
 ghost use Rattle.std.specs.Prelude.{◌≡◌, map};
 ghost use Rattle.toml.specs.View.{table_view};
-ghost use Rattle.xa_scenario.specs.Scripts.{busy_row, heuristic_row, vote_row};
+ghost use Rattle.xa_scenario.specs.Scripts.{busy_entry, heuristic_entry, vote_entry};
 
 use crate::branches::branch_at;
 use crate::entry::{Entry, Script};
@@ -14,9 +14,9 @@ use xa_files::{has_only, index_at, number_at, text_at, vote_named};
 const MAX_TIMES: u32 = 1000;
 
 /// What a `vote` asks for.
-#[tactic(auto, unfolding(crate::specs::Scripts::vote_row))]
-pub fn vote_row(table: &Table, begun: &[&str]) -> Option<Entry>
-    ensures { result ≡ vote_row (map (λ name. name.now) begun.now) (table_view table.now) }
+#[tactic(auto, unfolding(crate::specs::Scripts::vote_entry))]
+pub fn vote_entry(table: &Table, begun: &[&str]) -> Option<Entry>
+    ensures { result ≡ vote_entry (map (λ name. name.now) begun.now) (table_view table.now) }
 {
     if !has_only(table, &["do", "rm", "tx", "of", "vote"]) {
         return None;
@@ -32,9 +32,9 @@ pub fn vote_row(table: &Table, begun: &[&str]) -> Option<Entry>
 }
 
 /// What a `busy` asks for.
-#[tactic(auto, unfolding(crate::specs::Scripts::busy_row))]
-pub fn busy_row(table: &Table, begun: &[&str]) -> Option<Entry>
-    ensures { result ≡ busy_row (map (λ name. name.now) begun.now) (table_view table.now) }
+#[tactic(auto, unfolding(crate::specs::Scripts::busy_entry))]
+pub fn busy_entry(table: &Table, begun: &[&str]) -> Option<Entry>
+    ensures { result ≡ busy_entry (map (λ name. name.now) begun.now) (table_view table.now) }
 {
     if !has_only(table, &["do", "rm", "tx", "of", "times"]) {
         return None;
@@ -50,9 +50,9 @@ pub fn busy_row(table: &Table, begun: &[&str]) -> Option<Entry>
 }
 
 /// What a `heuristic` asks for.
-#[tactic(auto, unfolding(crate::specs::Scripts::heuristic_row))]
-pub fn heuristic_row(table: &Table, begun: &[&str]) -> Option<Entry>
-    ensures { result ≡ heuristic_row (map (λ name. name.now) begun.now) (table_view table.now) }
+#[tactic(auto, unfolding(crate::specs::Scripts::heuristic_entry))]
+pub fn heuristic_entry(table: &Table, begun: &[&str]) -> Option<Entry>
+    ensures { result ≡ heuristic_entry (map (λ name. name.now) begun.now) (table_view table.now) }
 {
     if !has_only(table, &["do", "rm", "tx", "of", "how"]) {
         return None;

@@ -11,14 +11,15 @@ use crate::endings::{abandon_row, claim_row, decide_row, done_row, settle_row};
 use crate::entry::Entry;
 use crate::moves::{drain_row, hear_row, take_row};
 use crate::recoveries::{recover_row, resolve_open_row, resolve_row};
-use crate::scripts::{busy_row, heuristic_row, vote_row};
+use crate::scripts::{busy_entry, heuristic_entry, vote_entry};
 use crate::words::{EntryKind, entry_named};
 use toml::Table;
 use xa_files::text_at;
 
 /// What a table of a kind asks for.
 fn row_of(kind: EntryKind, table: &Table, begun: &[&str]) -> Option<Entry>
-    ensures { result ≡ entry_in_table kind (map (λ name. name.now) begun.now) (table_view table.now) }
+    ensures { result ≡ entry_in_table kind (map (λ name. name.now) begun.now)
+        (table_view table.now) }
 {
     match kind {
         EntryKind::Begin => begin_row(table, begun),
@@ -27,9 +28,9 @@ fn row_of(kind: EntryKind, table: &Table, begun: &[&str]) -> Option<Entry>
         EntryKind::Take => take_row(table),
         EntryKind::Hear => hear_row(table),
         EntryKind::Drain => drain_row(table),
-        EntryKind::Vote => vote_row(table, begun),
-        EntryKind::Busy => busy_row(table, begun),
-        EntryKind::Heuristic => heuristic_row(table, begun),
+        EntryKind::Vote => vote_entry(table, begun),
+        EntryKind::Busy => busy_entry(table, begun),
+        EntryKind::Heuristic => heuristic_entry(table, begun),
         EntryKind::Decide => decide_row(table, begun),
         EntryKind::Recover => recover_row(table),
         EntryKind::Resolve => resolve_row(table),

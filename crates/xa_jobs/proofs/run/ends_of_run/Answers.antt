@@ -9,4 +9,4 @@ returns-in-Ok g c = record {
 }
 
 pub returns-in-Err-clause-fault : goal.returns-in-Err-clause-fault
-returns-in-Err-clause-fault g c = rw c.fault_of.ensures (is_work_fault c.in-Err.fault)
+returns-in-Err-clause-fault g c = rw c.run_fault_of.ensures (is_work_fault c.in-Err.fault)

@@ -27,7 +27,8 @@ loop-i-preserved c =
           ∙ rw (w.begun-is, w.in_ok-push-2.ensures.items) (sym (map_push _ c.loop-i.begun.items w.in-Some.name))
       | in_default w ↦ names_after-none names value (sym w.in_default.ensures) ∙ ap (λ names. map (λ name. name.now) names.items) (sym w.begun-is)
     ] in
-    rw (grown, ← begun) (goes_on c.loop-i.entries.items c.in_ok-entry_at.field-0 (c.loop-i.i + 1) names c.args.items.now c.loop-i.i c.index-items-i.result (entries_from 1 [] (items_view c.args.items.now))
+    rw (grown, ← begun) (goes_on c.loop-i.entries.items c.in_ok-entry_at.field-0 (c.loop-i.i + 1) names c.args.items.now c.loop-i.i c.index-items-i.result
+    (entries_from 1 [] (items_view c.args.items.now))
     c.loop-i-test.true c.index-items-i.is (rw (← c.deref.ensures.value) (sym c.in_ok-entry_at.ensures)) c.loop-i.invariant)
 
 pub returns : goal.returns

@@ -4,14 +4,16 @@ use Rattle.xa_scenario.proofs.play.drain.Goals as goal
 
 pub returns-then-not-pair_moves-clause-performs : goal.returns-then-not-pair_moves-clause-performs
 returns-then-not-pair_moves-clause-performs g c =
-    drain_ends c.args.thread c.args.rm c.args.system.now.events c.pairs.system.events c.act-took.new.system.events c.act-heard.new.system.events c.act-took.result c.act-heard.result
+    drain_ends c.args.thread c.args.rm c.args.system.now.events c.pairs.system.events c.act-took.new.system.events c.act-heard.new.system.events
+    c.act-took.result c.act-heard.result
     c.act-took.ensures.answered c.act-took.ensures.added c.act-heard.ensures.answered c.act-heard.ensures.added
     (sym c.if-not-pair_moves.ensures) c.pairs.invariant.goes_on
 
 pub pairs-preserved : goal.pairs-preserved
 pairs-preserved g c = record {
   goes_on =
-      drain_goes_on c.args.thread c.args.rm c.args.system.now.events c.pairs.system.events c.act-took.new.system.events c.act-heard.new.system.events c.act-took.result c.act-heard.result
+      drain_goes_on c.args.thread c.args.rm c.args.system.now.events c.pairs.system.events c.act-took.new.system.events c.act-heard.new.system.events
+      c.act-took.result c.act-heard.result
       c.act-took.ensures.answered c.act-took.ensures.added c.act-heard.ensures.answered c.act-heard.ensures.added
       (sym c.if-not-pair_moves.ensures) c.pairs.invariant.goes_on;
   start = search rules;

@@ -10,7 +10,8 @@ returns-in-Call-clause-performs g c =
     three _ (record { step = c.issue_of.result; reply = c.act-issued.result }) (record { step = steps.Take thread rm; reply = c.act-took.result })
     (record { step = steps.Hear thread rm; reply = c.act-heard.result })
     c.args.system.now.events c.act-issued.new.system.events c.act-took.new.system.events c.act-heard.new.system.events
-    c.act-issued.ensures.answered c.act-issued.ensures.added c.act-took.ensures.answered c.act-took.ensures.added c.act-heard.ensures.answered c.act-heard.ensures.added
+    c.act-issued.ensures.answered c.act-issued.ensures.added c.act-took.ensures.answered c.act-took.ensures.added c.act-heard.ensures.answered
+    c.act-heard.ensures.added
     (rw (c.in-Call.is, c.issue_of.ensures) refl, rw c.issue_of.ensures refl)
 
 pub returns-in-Drain-clause-performs : goal.returns-in-Drain-clause-performs
