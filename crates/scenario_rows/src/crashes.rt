@@ -1,15 +1,13 @@
 //! Crashes, and recoveries after them.
 
-use crate::files::{READY, READY_REPLIES, READY_TOO, READY_TOO_REPLIES, file, prints, run_over};
+use crate::files::{READY, READY_REPLIES, file, prints, run_over};
 use std::fs;
 use std::test::Fail;
 use xa_log::SqlLog;
 
 /// A page with the branch at resource manager 0 alone, as it is printed.
-const PAGE: &str = "call xa_recover 1 7:00000000000000010000000000000001:0000000000000000";
-
-/// The same of the branch at resource manager 1.
-const PAGE_TOO: &str = "call xa_recover 1 7:00000000000000010000000000000001:0000000000000001";
+pub(crate) const PAGE: &str =
+    "call xa_recover 1 7:00000000000000010000000000000001:0000000000000000";
 
 pub(crate) const PREPARE: &str = "do = 'call', thread = 0, rm = 0, xa = 'xa_prepare', tx = 'a'";
 
@@ -80,134 +78,6 @@ fn presumed_rollback(rt: HostRuntime) -> Result<(), Fail> {
             ],
         ],
         &["7:00000000000000010000000000000001:0000000000000000 rolled-back"],
-    )
-}
-
-/// The calls of a recovery at both resource managers: the lines are opened, scanned and resolved.
-pub(crate) const RECOVERIES: [&str; 8] = [
-    "do = 'call', thread = 0, rm = 0, xa = 'xa_open'",
-    "do = 'recover', rm = 0, count = 8, flags = ['TMSTARTRSCAN', 'TMENDRSCAN']",
-    "do = 'drain', thread = 0, rm = 0",
-    "do = 'resolve', rm = 0",
-    "do = 'call', thread = 0, rm = 1, xa = 'xa_open'",
-    "do = 'recover', rm = 1, count = 8, flags = ['TMSTARTRSCAN', 'TMENDRSCAN']",
-    "do = 'drain', thread = 0, rm = 1",
-    "do = 'resolve', rm = 1",
-];
-
-/// The row of a transaction of an older incarnation leaves once both its branches have answered.
-#[test]
-fn acknowledged_later(rt: HostRuntime) -> Result<(), Fail> {
-    let alloc = rt.alloc();
-    let decided = [
-        PREPARE,
-        PREPARE_TOO,
-        DECIDE,
-        "do = 'crash', part = 'manager'",
-        "do = 'restart', part = 'manager'",
-    ];
-    let ended = [
-        "do = 'drain', thread = 0, rm = 0",
-        "do = 'done', tx = 'a'",
-        "do = 'drain', thread = 0, rm = 1",
-        "do = 'done', tx = 'a'",
-    ];
-    let text = file(
-        alloc,
-        1,
-        2,
-        &[&READY, &READY_TOO, &decided, &RECOVERIES, &ended],
-    )?;
-    prints(
-        &rt,
-        alloc,
-        text.as_str(),
-        &[
-            &READY_REPLIES,
-            &READY_TOO_REPLIES,
-            &[
-                "call xa_prepare 0",
-                "call xa_prepare 0",
-                "decided",
-                "crashed",
-                "restarted 2 1 0",
-                "call xa_open 0",
-                PAGE,
-                "nothing",
-                "nothing",
-                "resolved 1",
-                "call xa_open 0",
-                PAGE_TOO,
-                "nothing",
-                "nothing",
-                "resolved 1",
-                "took xa_commit 0",
-                "heard xa_commit 0",
-                "nothing",
-                "nothing",
-                "refused 11 Busy",
-                "took xa_commit 0",
-                "heard xa_commit 0",
-                "nothing",
-                "nothing",
-                "noted",
-            ],
-        ],
-        &[
-            "7:00000000000000010000000000000001:0000000000000000 committed",
-            "7:00000000000000010000000000000001:0000000000000001 committed",
-        ],
-    )
-}
-
-#[test]
-fn resource_manager_crash(rt: HostRuntime) -> Result<(), Fail> {
-    let alloc = rt.alloc();
-    let entries = [
-        PREPARE,
-        PREPARE_TOO,
-        DECIDE,
-        "do = 'call', thread = 0, rm = 0, xa = 'xa_commit', tx = 'a'",
-        "do = 'crash', part = 'rm', rm = 1",
-        "do = 'done', tx = 'a'",
-        "do = 'restart', part = 'rm', rm = 1",
-        "do = 'call', thread = 0, rm = 1, xa = 'xa_open'",
-        "do = 'recover', rm = 1, count = 8, flags = ['TMSTARTRSCAN', 'TMENDRSCAN']",
-        "do = 'take', thread = 0, rm = 1",
-        "do = 'hear', thread = 0, rm = 1",
-        "do = 'resolve', rm = 1",
-        "do = 'take', thread = 0, rm = 1",
-        "do = 'hear', thread = 0, rm = 1",
-        "do = 'done', tx = 'a'",
-    ];
-    let text = file(alloc, 1, 2, &[&READY, &READY_TOO, &entries])?;
-    prints(
-        &rt,
-        alloc,
-        text.as_str(),
-        &[
-            &READY_REPLIES,
-            &READY_TOO_REPLIES,
-            &[
-                "call xa_prepare 0",
-                "call xa_prepare 0",
-                "decided",
-                "call xa_commit 0",
-                "crashed",
-                "refused 11 Busy",
-                "restarted",
-                "call xa_open 0",
-                PAGE_TOO,
-                "resolved 1",
-                "took xa_commit 0",
-                "heard xa_commit 0",
-                "noted",
-            ],
-        ],
-        &[
-            "7:00000000000000010000000000000001:0000000000000000 committed",
-            "7:00000000000000010000000000000001:0000000000000001 committed",
-        ],
     )
 }
 

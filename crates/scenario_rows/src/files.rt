@@ -5,7 +5,7 @@ use std::process::Abort;
 use std::test::Fail;
 use xa_files::RunFault;
 use xa_log::{DecisionLog, MemLog};
-use xa_scenario::run_scenario;
+use xa_scenario::{check_scenario, run_scenario};
 
 /// The entries up to the end of a transaction's work at resource manager 0.
 pub(crate) const READY: [&str; 4] = [
@@ -54,6 +54,13 @@ pub(crate) fn file(
     }
     text.push_str("]\n")?;
     Ok(text)
+}
+
+/// What a check of a text prints, or its fault.
+pub(crate) fn check_of(alloc: Global, text: &str) -> Result<String, RunFault> {
+    let mut out = Vec::new(alloc);
+    check_scenario(alloc, text.as_bytes(), &mut out)?;
+    String::from_utf8(out).map_err(|_| RunFault::Output)
 }
 
 /// The lines of these replies, in some groups, and then those of the fates. `call NAME NUMBER` stands for the three

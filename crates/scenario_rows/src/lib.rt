@@ -8,6 +8,8 @@ mod commits;
 #[cfg(test)]
 mod crashes;
 #[cfg(test)]
+mod early;
+#[cfg(test)]
 mod failing;
 #[cfg(test)]
 mod files;
@@ -15,5 +17,7 @@ mod files;
 mod lines;
 #[cfg(test)]
 mod logs;
+#[cfg(test)]
+mod recoveries;
 #[cfg(test)]
 mod refused;

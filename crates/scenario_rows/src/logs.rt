@@ -2,9 +2,10 @@
 
 ghost use Rattle.std.specs.Prelude.{◌≡◌};
 
-use crate::crashes::{DECIDE, PREPARE, PREPARE_TOO, RECOVERIES};
+use crate::crashes::{DECIDE, PREPARE, PREPARE_TOO};
 use crate::failing::Failing;
 use crate::files::{READY, READY_TOO, file, run_over};
+use crate::recoveries::RECOVERIES;
 use std::alloc::Global;
 use std::fs;
 use std::test::Fail;

@@ -12,7 +12,8 @@ use xa_model::headline_holds;
 /// After these events no branch of a transaction is committed beside one that is rolled back or lost. Nothing is done.
 #[tactic(auto, using(crate::proofs::Alike::at_end))]
 pub(crate) fn end_alike(events: &[Event])
-    ensures { (o : Origin) → RightOrigin o → AreDemanded o events.now → AreAlike (history o events.now) }
+    ensures { (o : Origin) → RightOrigin o → AreDemanded o events.now
+        → AreAlike (history o events.now) }
 {
     let _ = events.len();
     headline_holds();

@@ -17,7 +17,7 @@ use Rattle.xa_base.specs.declared.branch.Gtrid.{Gtrid}
 use Rattle.xa_base.specs.declared.branch.Branch.{Branch}
 use Rattle.xa_base.specs.Branch.{gtrid_cmp, branch_cmp}
 use Rattle.xa_base.proofs.BranchOrder.{gtrids_total, exact_gtrids, branches_total, exact_branches}
-use Rattle.xa_log.specs.Content.{Content, with_decision, without_decision, committed}
+use Rattle.xa_log.specs.Content.{Content, with_decision, without_decision, with_commit}
 use Rattle.xa_log.specs.Contract.{Makes}
 use Rattle.xa_log.specs.Rows.{IsLog, content_of}
 use Rattle.xa_log.specs.Sql.{AreLogTrees, HasLogTables, IsOrderly, content_in, OnlyReads, MayChange, HasWritten, MayInsert, Lacks, IsShutOrAsBefore}
@@ -98,7 +98,7 @@ module _ (a e : State) (opened : IsTrue e.is_open → HasCleanDisk e) where
 
 -- ---- all that was written, and its commit
 
-pub fresh : (x : Gtrid) (set : KeySet branch_cmp) (c : Content) → get c.decisions x ≡ None → with_decision x set c ≡ committed x set c
+pub fresh : (x : Gtrid) (set : KeySet branch_cmp) (c : Content) → get c.decisions x ≡ None → with_decision x set c ≡ with_commit x set c
 fresh x set c none = sym (ap (λ o. cond (is_some o) c (with_decision x set c)) none)
 
 -- in the transaction all is written, and there was none of it before
@@ -119,7 +119,7 @@ module _ (x : Gtrid) (set : KeySet branch_cmp) (a m e : State) where
       let begins : MayInsert x (begun a) = record { inside = refl; now = (order is_open).now; none = none } in
       record { was_open = is_open; none = none; has = rest clean (content_of a.now.trees) (one begins (early clean)) }
 
-  pub committed_all : IsWritten x set a m → Shows m e m.now m.now false → Did (committed x set) a e
+  pub committed_all : IsWritten x set a m → Shows m e m.now m.now false → Did (with_commit x set) a e
   committed_all it shown = record {
     was_open = it.was_open;
     is_open = shown.is_open;
@@ -132,7 +132,7 @@ module _ (x : Gtrid) (set : KeySet branch_cmp) (a m e : State) where
   failed_all error keeps it (inr ended) = absurd (true≢false (sym it.has.inside ∙ ended.1))
 
   pub commits_all : IsWritten x set a m → (db : Trees) → db ≡ m.now.trees
-      → IsTrue a.is_open × (content_of db ≡ committed x set (content_of a.now.trees)) × AreLogTrees db
+      → IsTrue a.is_open × (content_of db ≡ with_commit x set (content_of a.now.trees)) × AreLogTrees db
   commits_all it db same = (
     it.was_open,
     ap content_of same ∙ it.has.content ∙ fresh x set (content_of a.now.trees) it.none,
@@ -177,12 +177,12 @@ looked x a b opened found order c is = no_some _ (told (λ c. false ≡ contains
 
 -- and what follows from it
 pub found_none : (x : Gtrid) (set : KeySet branch_cmp) (a b c : Option Content)
-    → IsSomeAnd a (λ y. (b ≡ Some y) × (false ≡ contains_key y.decisions x)) → Makes (committed x set) b c → Makes (committed x set) a c
+    → IsSomeAnd a (λ y. (b ≡ Some y) × (false ≡ contains_key y.decisions x)) → Makes (with_commit x set) b c → Makes (with_commit x set) a c
 found_none x set None b c h made = h
-found_none x set (Some y) b c h made = subst (λ o. Makes (committed x set) o c) h.0 made
+found_none x set (Some y) b c h made = subst (λ o. Makes (with_commit x set) o c) h.0 made
 
 pub found_one : (x : Gtrid) (set : KeySet branch_cmp) (a b : Option Content)
-    → IsSomeAnd a (λ y. (b ≡ Some y) × (true ≡ contains_key y.decisions x)) → Makes (committed x set) a b
+    → IsSomeAnd a (λ y. (b ≡ Some y) × (true ≡ contains_key y.decisions x)) → Makes (with_commit x set) a b
 found_one x set None b h = h
 found_one x set (Some y) b h = h.0 ∙ ap Some (ap (λ t. cond t y (with_decision x set y)) h.1)
 

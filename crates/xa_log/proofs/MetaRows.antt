@@ -20,7 +20,7 @@ use Rattle.sqlite.proofs.Callers.{statement_of, runs_as, reads_as, one_step, one
 use Rattle.sqlite_schema.specs.declared.schema.Keys.TheVariants.{Enforced}
 use Rattle.sqlite_rules.specs.Calls.{ids_of}
 use Rattle.sqlite_rules.specs.Action.{works}
-use Rattle.xa_log.specs.Content.{Content, bumped, with_incarnation}
+use Rattle.xa_log.specs.Content.{Content, with_bump, with_incarnation}
 use Rattle.xa_log.specs.Tables.{log_schema, meta}
 use Rattle.xa_log.specs.Rows.{IsLog, IsDecisionRow, AreHeuristicRows, IsParticipantRow, HasDecision, meta_row, content_of}
 use Rattle.xa_log.specs.Sql.{AreLogTrees, HasLogTables, IsOrderly, MayChange, OnlyReads, content_in}
@@ -152,7 +152,7 @@ module _ (new : ℕ) (params : Row) (given : params ≡ Int (pos new) ∷ []) (o
 -- to read the incarnation and to write the next one is to raise it
 pub raises : (last : ℕ) (a b c : State) → OnlyReads a b → (IsTrue b.is_open → HasCleanDisk b)
     → (IsOrderly a → HasCleanDisk b → IsSomeAnd (content_in a) (λ x. (content_in b ≡ Some x) × (last ≡ x.incarnation)))
-    → MayChange (with_incarnation (last + 1)) b c → MayChange bumped a c
+    → MayChange (with_incarnation (last + 1)) b c → MayChange with_bump a c
 raises last a b c reads opened found may =
-    once ((x : Content) → content_in b ≡ Some x → last ≡ x.incarnation) bumped a b c reads may.honest (told (λ x. last ≡ x.incarnation) a b opened found)
-    (λ is. changes_as (with_incarnation (last + 1)) bumped b c (λ x held. ap (λ n. with_incarnation (n + 1) x) (is x held)) may)
+    once ((x : Content) → content_in b ≡ Some x → last ≡ x.incarnation) with_bump a b c reads may.honest (told (λ x. last ≡ x.incarnation) a b opened found)
+    (λ is. changes_as (with_incarnation (last + 1)) with_bump b c (λ x held. ap (λ n. with_incarnation (n + 1) x) (is x held)) may)

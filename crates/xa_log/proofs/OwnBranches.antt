@@ -11,7 +11,7 @@ use Rattle.xa_base.specs.declared.branch.Branch.{Branch}
 use Rattle.xa_base.specs.declared.code.How.{How}
 use Rattle.xa_base.specs.Branch.{gtrid_cmp, branch_cmp}
 use Rattle.xa_base.proofs.BranchOrder.{gtrids_total, exact_gtrids, branches_total, exact_branches}
-use Rattle.xa_log.specs.Content.{Content, AreOwn, bumped, committed, with_decision, without_decision, with_heuristic, recorded, nothing}
+use Rattle.xa_log.specs.Content.{Content, AreOwn, with_bump, with_commit, with_decision, without_decision, with_heuristic, with_record, nothing}
 use Rattle.xa_log.specs.Contract.{AllFit, Changes, FitsRow, faults_after}
 use Rattle.xa_log.specs.Memory.{IsInOrder, content_held, memory_moment}
 use Rattle.xa_log.specs.declared.log_fault.LogFault.{LogFault}
@@ -43,7 +43,7 @@ own_with c g list all own q set b is has = elim (cases_Bool (eq_by_cmp gtrid_cmp
 ]
 
 own_committed : (c : Content) (g : Gtrid) (list : List Branch) → AllByRecursion (λ (b : Branch). b.gtrid ≡ g) list → AreOwn c
-    → AreOwn (committed g (from_list list) c)
+    → AreOwn (with_commit g (from_list list) c)
 own_committed c g list all own = elim (contains_key c.decisions g) as (λ t. AreOwn (cond t c (with_decision g (from_list list) c))) [
   | true ↦ own
   | false ↦ own_with c g list all own
@@ -74,7 +74,7 @@ fits_with c g set own fits = record {
   heuristics = fits.heuristics;
 }
 
-fits_committed : (c : Content) (g : Gtrid) (set : KeySet branch_cmp) → FitsRow g → AllFit c → AllFit (committed g set c)
+fits_committed : (c : Content) (g : Gtrid) (set : KeySet branch_cmp) → FitsRow g → AllFit c → AllFit (with_commit g set c)
 fits_committed c g set own fits = elim (contains_key c.decisions g) as (λ t. AllFit (cond t c (with_decision g set c))) [
   | true ↦ fits
   | false ↦ fits_with c g set own fits
@@ -100,7 +100,7 @@ fits_with_heuristic c b how own fits = record {
   ];
 }
 
-fits_recorded : (c : Content) (b : Branch) (how : How) → FitsRow b.gtrid → AllFit c → AllFit (recorded b how c)
+fits_recorded : (c : Content) (b : Branch) (how : How) → FitsRow b.gtrid → AllFit c → AllFit (with_record b how c)
 fits_recorded c b how own fits = elim (contains_key c.heuristics b) as (λ t. AllFit (cond t c (with_heuristic b how c))) [
   | true ↦ fits
   | false ↦ fits_with_heuristic c b how own fits
@@ -116,17 +116,17 @@ order_without c g order = record { own = own_without c g order.own; fits = fits_
 
 pub order_after_commit : {A E : Type 0} (result : Result A E) (old new : Content) (g : Gtrid) (list : List Branch) → FitsRow g
     → AllByRecursion (λ (b : Branch). b.gtrid ≡ g) list
-    → OnOk result (new ≡ committed g (from_list list) old) → OnErr result (new ≡ old) → IsInOrder old → IsInOrder new
+    → OnOk result (new ≡ with_commit g (from_list list) old) → OnErr result (new ≡ old) → IsInOrder old → IsInOrder new
 order_after_commit (Ok x) old new g list fits all ok err order =
     subst IsInOrder (sym ok) (record { own = own_committed old g list all order.own; fits = fits_committed old g (from_list list) fits order.fits })
 order_after_commit (Err e) old new g list fits all ok err order = subst IsInOrder (sym err) order
 
 -- no participants change
-own_recorded : (c : Content) (b : Branch) (how : How) → AreOwn c → AreOwn (recorded b how c)
+own_recorded : (c : Content) (b : Branch) (how : How) → AreOwn c → AreOwn (with_record b how c)
 own_recorded c b how own = elim (contains_key c.heuristics b) as (λ t. AreOwn (cond t c (with_heuristic b how c))) [ true ↦ own | false ↦ own ]
 
 pub order_after_note : {A E : Type 0} (result : Result A E) (old new : Content) (b : Branch) (how : How) → FitsRow b.gtrid
-    → OnOk result (new ≡ recorded b how old) → OnErr result (new ≡ old) → IsInOrder old → IsInOrder new
+    → OnOk result (new ≡ with_record b how old) → OnErr result (new ≡ old) → IsInOrder old → IsInOrder new
 order_after_note (Ok x) old new b how fits ok err order =
     subst IsInOrder (sym ok) (record { own = own_recorded old b how order.own; fits = fits_recorded old b how fits order.fits })
 order_after_note (Err e) old new b how fits ok err order = subst IsInOrder (sym err) order
@@ -163,10 +163,10 @@ held_changes change old new n m (Err e) ok err order faults = record {
 
 pub bump_held : (old new : MemLog) (n m : ℕ) (answer r : Result ℕ LogFault) → r ≡ answer
     → OnOk answer (new ≡ record old { incarnation = old.incarnation + 1 }) → OnErr answer (new ≡ old)
-    → m ≡ faults_after r n → Changes bumped (memory_moment (content_held old) n) (memory_moment (content_held new) m) r
-bump_held old new n m (Ok x) r same ok err faults = subst (Changes bumped (memory_moment (content_held old) n) (memory_moment (content_held new) m)) (sym same)
-    (held_changes bumped (content_held old) (content_held new) n m (Ok x) (ap content_held ok) tt
+    → m ≡ faults_after r n → Changes with_bump (memory_moment (content_held old) n) (memory_moment (content_held new) m) r
+bump_held old new n m (Ok x) r same ok err faults = subst (Changes with_bump (memory_moment (content_held old) n) (memory_moment (content_held new) m)) (sym same)
+    (held_changes with_bump (content_held old) (content_held new) n m (Ok x) (ap content_held ok) tt
     (order_after_raise {A = ℕ} {E = LogFault} (Ok x) old new ok tt) (faults ∙ ap (λ a. faults_after a n) same))
-bump_held old new n m (Err e) r same ok err faults = subst (Changes bumped (memory_moment (content_held old) n) (memory_moment (content_held new) m)) (sym same)
-    (held_changes bumped (content_held old) (content_held new) n m (Err e) tt (ap content_held err)
+bump_held old new n m (Err e) r same ok err faults = subst (Changes with_bump (memory_moment (content_held old) n) (memory_moment (content_held new) m)) (sym same)
+    (held_changes with_bump (content_held old) (content_held new) n m (Err e) tt (ap content_held err)
     (order_after_raise {A = ℕ} {E = LogFault} (Err e) old new tt err) (faults ∙ ap (λ a. faults_after a n) same))

@@ -4,7 +4,7 @@ use Rattle.std.specs.FinMap.{contains_key, entries, get, keys}
 use Rattle.std.specs.List.{AllByRecursion}
 use Rattle.xa_base.specs.declared.branch.Branch.{Branch}
 use Rattle.xa_log.specs.KeySet.{from_list, items}
-use Rattle.xa_log.specs.Content.{Content, all_listed, bumped, committed, logged_as, participants_of, recorded, without_decision}
+use Rattle.xa_log.specs.Content.{Content, all_listed, with_bump, with_commit, logged_as, participants_of, with_record, without_decision}
 use Rattle.xa_log.specs.Contract.{FitsRow, Moment, one_more_fault}
 use Rattle.xa_log.specs.declared.fail_plan.LogCall.{LogCall}
 use Rattle.xa_log.specs.declared.fail_plan.LogCall.TheVariants as kind
@@ -30,10 +30,10 @@ Fits Rows = Unit {0}
 
 -- what it leaves
 abbrev pub content_after : Command → Content → Content
-content_after (Commit g participants) c = committed g (from_list participants.items) c
+content_after (Commit g participants) c = with_commit g (from_list participants.items) c
 content_after (Done g) c = without_decision g c
-content_after (NoteHeuristic b how) c = recorded b how c
-content_after Bump c = bumped c
+content_after (NoteHeuristic b how) c = with_record b how c
+content_after Bump c = with_bump c
 content_after (Contains g) c = c
 content_after (Participants g) c = c
 content_after (HeuristicOf b) c = c

@@ -51,8 +51,8 @@ abbrev pub with_decision : Gtrid → KeySet branch_cmp → Content → Content
 with_decision g participants c = record c { decisions = insert c.decisions g participants }
 
 -- the first row of a transaction stays, with its own participants
-abbrev pub committed : Gtrid → KeySet branch_cmp → Content → Content
-committed g participants c = if contains_key c.decisions g then c else with_decision g participants c
+abbrev pub with_commit : Gtrid → KeySet branch_cmp → Content → Content
+with_commit g participants c = if contains_key c.decisions g then c else with_decision g participants c
 
 abbrev pub without_decision : Gtrid → Content → Content
 without_decision g c = record c { decisions = remove c.decisions g }
@@ -61,14 +61,14 @@ abbrev pub with_heuristic : Branch → How → Content → Content
 with_heuristic b how c = record c { heuristics = insert c.heuristics b how }
 
 -- the first record of a branch stays
-abbrev pub recorded : Branch → How → Content → Content
-recorded b how c = if contains_key c.heuristics b then c else with_heuristic b how c
+abbrev pub with_record : Branch → How → Content → Content
+with_record b how c = if contains_key c.heuristics b then c else with_heuristic b how c
 
 abbrev pub with_incarnation : ℕ → Content → Content
 with_incarnation n c = record c { incarnation = n }
 
-abbrev pub bumped : Content → Content
-bumped c = record c { incarnation = c.incarnation + 1 }
+abbrev pub with_bump : Content → Content
+with_bump c = record c { incarnation = c.incarnation + 1 }
 
 abbrev pub unchanged : Content → Content
 unchanged c = c

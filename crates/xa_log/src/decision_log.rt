@@ -3,7 +3,7 @@ ghost use Rattle.std.specs.Prelude.{◌≡◌, ◌≤◌, ◌+◌, Err, Option, 
 ghost use Rattle.std.specs.FinMap.{contains_key, entries, get, keys};
 ghost use Rattle.xa_log.specs.KeySet.{from_list, items};
 ghost use Rattle.std.specs.List.{AllByRecursion};
-ghost use Rattle.xa_log.specs.Content.{AreOwn, Content, all_listed, bumped, committed, last_number, logged_as, participants_of, recorded, unchanged, without_decision};
+ghost use Rattle.xa_log.specs.Content.{AreOwn, Content, all_listed, with_bump, with_commit, last_number, logged_as, participants_of, with_record, unchanged, without_decision};
 ghost use Rattle.xa_log.specs.Contract.{AllFit, Changes, FitsRow, Moment, Reads, fault_of};
 
 use crate::log_fault::LogFault;
@@ -63,9 +63,9 @@ pub trait DecisionLog {
         ensures answer { (moment self.old).is_in_order → (moment self.new).is_honest →
             IfOk result (λ logged. IsSomeAnd (moment self.old).content (λ c.
             logged ≡ logged_as c g)) }
-        ensures changes { Changes (committed g (from_list participants.now))
+        ensures changes { Changes (with_commit g (from_list participants.now))
             (moment self.old) (moment self.new) result }
-        ensures cause { says LogCall.Commit (committed g (from_list participants.now))
+        ensures cause { says LogCall.Commit (with_commit g (from_list participants.now))
             self.old self.new (fault_of result) };
 
     /// Whether a transaction is decided to commit.
@@ -100,8 +100,8 @@ pub trait DecisionLog {
     /// Completion). The first record of a branch stays.
     fn note_heuristic(&mut self, b: Branch, how: How) -> Result<(), LogFault>
         requires { FitsRow b.gtrid }
-        ensures changes { Changes (recorded b how) (moment self.old) (moment self.new) result }
-        ensures cause { says LogCall.NoteHeuristic (recorded b how)
+        ensures changes { Changes (with_record b how) (moment self.old) (moment self.new) result }
+        ensures cause { says LogCall.NoteHeuristic (with_record b how)
             self.old self.new (fault_of result) };
 
     /// How a branch is recorded as heuristic, or none where it isn't.
@@ -122,8 +122,8 @@ pub trait DecisionLog {
         ensures spent { (moment self.old).is_in_order → (moment self.new).is_honest →
             result ≡ Err LogFault.Spent → IsSomeAnd (moment self.old).content (λ c.
             (last_number ≤ c.incarnation) × ((moment self.new).content ≡ Some c)) }
-        ensures changes { Changes bumped (moment self.old) (moment self.new) result }
-        ensures cause { says LogCall.Bump bumped self.old self.new (fault_of result) };
+        ensures changes { Changes with_bump (moment self.old) (moment self.new) result }
+        ensures cause { says LogCall.Bump with_bump self.old self.new (fault_of result) };
 
     /// All rows.
     fn rows(&mut self) -> Result<LogRows, LogFault>

@@ -7,7 +7,7 @@ ghost use Rattle.sqlite.specs.State.{HasCleanDisk, KeepsCommit, Survives};
 ghost use Rattle.sqlite.specs.Held.{state};
 ghost use Rattle.xa_base.specs.Branch.{branch_cmp};
 ghost use Rattle.xa_log.specs.Contract.{Makes, FitsRow};
-ghost use Rattle.xa_log.specs.Content.{Content, committed, participants_of, without_decision};
+ghost use Rattle.xa_log.specs.Content.{Content, with_commit, participants_of, without_decision};
 ghost use Rattle.xa_log.specs.Rows.{content_of, participant_from};
 ghost use Rattle.xa_log.specs.Sql.{IsOrderly, content_in, OnlyReads, MayChange, HasWritten, MayInsert, Lacks};
 ghost use Rattle.xa_log.specs.declared.log_fault.LogFault.{LogFault};
@@ -139,11 +139,11 @@ fn insert_all<S: Alter>(
     requires own { AllByRecursion (λ b. b.gtrid ≡ g) participants.now }
     ensures honest { HasCleanDisk (state S.Store conn.new) → HasCleanDisk (state S.Store conn.old) }
     ensures changes { Lacks g (state S.Store conn.old)
-        → MayChange (committed g (from_list participants.now)) (state S.Store conn.old)
+        → MayChange (with_commit g (from_list participants.now)) (state S.Store conn.old)
         (state S.Store conn.new) }
     ensures ok { Lacks g (state S.Store conn.old) → IsOrderly (state S.Store conn.old)
         → HasCleanDisk (state S.Store conn.new)
-        → OnOk result (Makes (committed g (from_list participants.now))
+        → OnOk result (Makes (with_commit g (from_list participants.now))
         (content_in (state S.Store conn.old)) (content_in (state S.Store conn.new))) }
     ensures unspent { IfErr result (λ fault. fault ≢ LogFault.Spent) }
 {
@@ -165,10 +165,10 @@ pub(crate) fn commit<S: Alter>(
 ) -> Result<Logged, LogFault>
     requires fits { FitsRow g }
     requires own { AllByRecursion (λ b. b.gtrid ≡ g) participants.now }
-    ensures changes { MayChange (committed g (from_list participants.now)) (state S.Store conn.old)
+    ensures changes { MayChange (with_commit g (from_list participants.now)) (state S.Store conn.old)
         (state S.Store conn.new) }
     ensures ok { IsOrderly (state S.Store conn.old) → HasCleanDisk (state S.Store conn.new)
-        → OnOk result (Makes (committed g (from_list participants.now))
+        → OnOk result (Makes (with_commit g (from_list participants.now))
         (content_in (state S.Store conn.old)) (content_in (state S.Store conn.new))) }
     ensures answer { IsOrderly (state S.Store conn.old) → HasCleanDisk (state S.Store conn.new)
         → IfOk result (λ logged.

@@ -2,7 +2,7 @@
 ghost use Rattle.std.specs.Prelude.{◌≡◌, ◌≢◌, ◌≤◌, ◌+◌, Err, IfErr, IfOk, IsSomeAnd, OnOk, Some};
 ghost use Rattle.sqlite.specs.Held.{state};
 ghost use Rattle.sqlite.specs.State.{HasCleanDisk};
-ghost use Rattle.xa_log.specs.Content.{bumped, last_number, with_incarnation};
+ghost use Rattle.xa_log.specs.Content.{with_bump, last_number, with_incarnation};
 ghost use Rattle.xa_log.specs.Contract.{Makes};
 ghost use Rattle.xa_log.specs.Sql.{IsOrderly, MayChange, OnlyReads, content_in};
 ghost use Rattle.xa_log.specs.declared.log_fault.LogFault.{LogFault};
@@ -45,9 +45,9 @@ fn set_incarnation<S: Alter>(conn: &mut Connection<S>, incarnation: u64) -> Resu
 
 /// Adds one to the incarnation, and answers the new one. At the last one it is [`LogFault::Spent`].
 pub(crate) fn bump<S: Alter>(conn: &mut Connection<S>) -> Result<u64, LogFault>
-    ensures changes { MayChange bumped (state S.Store conn.old) (state S.Store conn.new) }
+    ensures changes { MayChange with_bump (state S.Store conn.old) (state S.Store conn.new) }
     ensures ok { IsOrderly (state S.Store conn.old) → HasCleanDisk (state S.Store conn.new) →
-        OnOk result (Makes bumped
+        OnOk result (Makes with_bump
         (content_in (state S.Store conn.old)) (content_in (state S.Store conn.new))) }
     ensures answer { IsOrderly (state S.Store conn.old) → HasCleanDisk (state S.Store conn.new) →
         IfOk result (λ n. IsSomeAnd (content_in (state S.Store conn.old)) (λ c.

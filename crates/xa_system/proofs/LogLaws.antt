@@ -6,7 +6,7 @@ use Rattle.xa_model.specs.Facts as facts
 use Rattle.xa_model.specs.Facts.{Change, Change.AddRecord, Change.AddRow, Change.DropRow, Change.NoChange, lists_row, participants_in}
 use Rattle.xa_model.specs.Trace.{Origin, Row, Trace, Trace.From}
 use Rattle.xa_base.specs.declared.branch.Gtrid.{Gtrid}
-use Rattle.xa_log.specs.Content.{Content, bumped}
+use Rattle.xa_log.specs.Content.{Content, with_bump}
 use Rattle.xa_log.specs.Contract.{Makes}
 use Rattle.xa_log.specs.KeySet.{from_list}
 use Rattle.xa_tm.specs.Book.{Book, book_of, doubt_of, row_in}
@@ -63,11 +63,11 @@ tied_stands tr held tied = by (facts.up tr) held tied
 -- ** the start
 
 -- a history whose book is that of a start over a log starts over that log
-pub starts_over : (o : Origin) (threads rms : ℕ) (handed now : Option Content) → Makes bumped handed now
+pub starts_over : (o : Origin) (threads rms : ℕ) (handed now : Option Content) → Makes with_bump handed now
     → IsSomeAnd now (λ c. book_of (From o) ≡ book_at_start threads rms c) → IsSomeAnd handed (StartsOver o)
 starts_over o threads rms None now raised book = absurd raised
 starts_over o threads rms (Some c) now raised book =
-    let is : book_of (From o) ≡ book_at_start threads rms (bumped c) =
+    let is : book_of (From o) ≡ book_at_start threads rms (with_bump c) =
     subst (λ held. IsSomeAnd held (λ d. book_of (From o) ≡ book_at_start threads rms d)) raised book in
     record {
       rows = record {

@@ -31,7 +31,7 @@ use Rattle.xa_model.proofs.Replies.Replies.{demanded_right}
 use Rattle.xa_line.specs.Grid.{HasLine, line_at, with_line}
 use Rattle.xa_line.specs.Traffic.{Traffic, answered, barred, refusal, with_one_more, heard, issued, taken}
 use Rattle.xa_line.proofs.GridLaws.{whole-with_line}
-use Rattle.xa_log.specs.Content.{last_number, bumped}
+use Rattle.xa_log.specs.Content.{last_number, with_bump}
 use Rattle.xa_tm.specs.declared.manager.Manager.{Manager}
 use Rattle.xa_system.specs.Logged.{LogFollows}
 use Rattle.xa_system.proofs.Logging.{LogUndone, log_failing, log_stays}
@@ -284,7 +284,7 @@ module _ {R L : Type 0} (see : Sees R L) where
   pub restart_undone : (parts : Parts R L) (manager : Manager L) (n : Refusal) (reply : Reply Xid) → reply ≡ Replies.Refused n
       → ((book_in parts.manager).up ≡ true → (n ≡ Refusals.Busy) × (book_in manager ≡ book_in parts.manager))
       → ((book_in parts.manager).up ≡ false → FailsBy Settled InRestart (book_in parts.manager) (book_in manager) n)
-      → LogUndone see.logs Found n bumped parts.manager manager
+      → LogUndone see.logs Found n with_bump parts.manager manager
       → (tr : Trace) → Stands see tr parts → OneMore see (Steps.Restart Sides.Manager) reply tr parts (with_manager see parts manager)
   restart_undone parts manager n reply is busy fails undone tr stands = by_up (book_in parts.manager).up refl
     where

@@ -12,7 +12,7 @@ use Rattle.xa_base.specs.declared.refusal.Refusal.TheVariants as Refusals
 use Rattle.xa_base.specs.declared.reply.Event.{Event}
 use Rattle.xa_base.specs.declared.reply.Reply.{Reply}
 use Rattle.xa_base.specs.declared.reply.Reply.TheVariants as Replies
-use Rattle.xa_log.specs.Content.{Content, bumped, committed, recorded, without_decision}
+use Rattle.xa_log.specs.Content.{Content, with_bump, with_commit, with_record, without_decision}
 use Rattle.xa_log.specs.Contract.{Makes, MayMake, one_more_fault}
 use Rattle.xa_log.specs.declared.decision_log.DecisionLog as DecisionLog
 use Rattle.xa_log.specs.KeySet.{KeySet, from_list}
@@ -36,9 +36,9 @@ pub record HoldsRows (tr : Trace) (c : Content) : Type 0 where
 
 -- a log with a change
 abbrev pub changed : Change → Content → Content
-changed (AddRow x) c = committed x.gtrid (from_list x.participants) c
+changed (AddRow x) c = with_commit x.gtrid (from_list x.participants) c
 changed (DropRow g) c = without_decision g c
-changed (AddRecord x) c = recorded x.branch x.how c
+changed (AddRecord x) c = with_record x.branch x.how c
 changed NoChange c = c
 
 -- the log has those rows and that record, with or without the change in doubt
@@ -74,7 +74,7 @@ LogStands tr held = LogStandsBy (up tr) tr held
 
 -- the change that a step is to make in which the log fails: that of its fault, and a restart's is the next incarnation
 abbrev pub change_in : Trace → Fault → Content → Content
-change_in tr InRestart c = bumped c
+change_in tr InRestart c = with_bump c
 change_in tr f c = changed (fault_change tr f) c
 
 -- where the log failed, it is shut, or as before, or has that change
@@ -111,7 +111,7 @@ pub record IsStartedOver {L : Type 0} (logs : DecisionLog.Ghosts L) (threads rms
   pub book : (logs.moment handed).is_in_order → (logs.moment (log_in manager)).is_honest
       → IsSomeAnd (logs.moment (log_in manager)).content (λ c. book_in manager ≡ book_at_start threads rms c)
   pub raised : (logs.moment handed).is_in_order → (logs.moment (log_in manager)).is_honest
-      → Makes bumped (logs.moment handed).content (logs.moment (log_in manager)).content
+      → Makes with_bump (logs.moment handed).content (logs.moment (log_in manager)).content
   pub faults : (logs.moment (log_in manager)).fault_count ≡ (logs.moment handed).fault_count
 
 -- ** one happening more

@@ -1,6 +1,6 @@
 -- Why no system is made over a log that was handed in.
 use Rattle.std.specs.Prelude.{◌≡◌, ◌⊎◌, IsSomeAnd}
-use Rattle.xa_log.specs.Content.{bumped}
+use Rattle.xa_log.specs.Content.{with_bump}
 use Rattle.xa_log.specs.Contract.{Makes, one_more_fault}
 use Rattle.xa_log.specs.declared.decision_log.DecisionLog as DecisionLog
 use Rattle.xa_tm.specs.Starting.{IsPast}
@@ -16,7 +16,7 @@ module _ {L : Type 0} (logs : DecisionLog.Ghosts L) where
     pub not_past : (logs.moment handed).is_in_order → (logs.moment left).is_honest
         → IsSomeAnd (logs.moment handed).content (λ c. ¬ IsPast c)
     pub raised : (logs.moment handed).is_in_order → (logs.moment left).is_honest
-        → Makes bumped (logs.moment handed).content (logs.moment left).content
+        → Makes with_bump (logs.moment handed).content (logs.moment left).content
 
   -- the log is to blame: no system can be made over it
   abbrev pub IsToBlame : L → Type 0

@@ -4,7 +4,7 @@ use Rattle.xa_base.specs.Branch.{branch_cmp}
 use Rattle.xa_base.specs.declared.branch.Gtrid.{Gtrid}
 use Rattle.xa_base.specs.declared.refusal.Refusal.{Refusal}
 use Rattle.xa_base.specs.declared.refusal.Refusal.TheVariants.{LogFault}
-use Rattle.xa_log.specs.Content.{Content, committed}
+use Rattle.xa_log.specs.Content.{Content, with_commit}
 use Rattle.xa_log.specs.Contract.{Changes, Moment}
 use Rattle.xa_log.specs.KeySet.{KeySet}
 use Rattle.xa_log.specs.declared.log_fault.LogFault.{LogFault as Fault}
@@ -23,12 +23,12 @@ module _ {A B : Type 0} (old new : Moment) where
 
   -- ** a row, whose participants have another name
 
-  pub adds_row : (g : Gtrid) (s t : KeySet branch_cmp) (x : A) (y : B) → s ≡ t → Changes (committed g s) old new (let r : Result A Fault = Ok x in r)
+  pub adds_row : (g : Gtrid) (s t : KeySet branch_cmp) (x : A) (y : B) → s ≡ t → Changes (with_commit g s) old new (let r : Result A Fault = Ok x in r)
       → AsksFor (made (Adds g t)) old new (let r : Result B Refusal = Ok y in r)
   adds_row g s t x y same did =
       subst (λ (u : KeySet branch_cmp). AsksFor (made (Adds g u)) old new (let r : Result B Refusal = Ok y in r)) same (asks_made (made (Adds g s)) x y did)
 
-  pub adds_no_row : (g : Gtrid) (s t : KeySet branch_cmp) (e : Fault) → s ≡ t → Changes (committed g s) old new (let r : Result A Fault = Err e in r)
+  pub adds_no_row : (g : Gtrid) (s t : KeySet branch_cmp) (e : Fault) → s ≡ t → Changes (with_commit g s) old new (let r : Result A Fault = Err e in r)
       → AsksFor (made (Adds g t)) old new (let r : Result B Refusal = Err LogFault in r)
   adds_no_row g s t e same did =
       subst (λ (u : KeySet branch_cmp). AsksFor (made (Adds g u)) old new (let r : Result B Refusal = Err LogFault in r)) same

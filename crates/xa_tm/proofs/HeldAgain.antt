@@ -20,7 +20,7 @@ use Rattle.xa_base.specs.declared.code.How.{How}
 use Rattle.xa_base.specs.declared.code.How.TheVariants.{Haz, Com, Rb, Mix}
 use Rattle.xa_base.proofs.BranchOrder.{branches_total, exact_branches, gtrids_total, exact_gtrids}
 use Rattle.xa_base.proofs.BranchKeys.{gtrid_eq-true, gtrid_eq-refl, branch_eq-true, branch_eq-refl}
-use Rattle.xa_log.specs.Content.{AreOwn, Content, all_listed, committed, with_decision, without_decision, recorded, with_heuristic, unchanged}
+use Rattle.xa_log.specs.Content.{AreOwn, Content, all_listed, with_commit, with_decision, without_decision, with_record, with_heuristic, unchanged}
 use Rattle.xa_log.specs.Contract.{Makes}
 use Rattle.xa_log.specs.KeySet.{from_list}
 use Rattle.xa_log.proofs.Contents.{equal_is}

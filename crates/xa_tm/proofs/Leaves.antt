@@ -2,7 +2,7 @@
 use Rattle.std.proofs.Common.{◌≡◌, ◌≤◌, ◌+◌, ◌⊎◌, inl, inr, true, false, Option, Some, None, IsSomeAnd, refl, sym, ap, subst, arith}
 use Rattle.xa_base.specs.declared.step.Part.{Part}
 use Rattle.xa_model.specs.Trace.{Fault, Fault.InRestart, Happening.Crashed, Happening.Failed}
-use Rattle.xa_log.specs.Content.{Content, bumped}
+use Rattle.xa_log.specs.Content.{Content, with_bump}
 use Rattle.xa_log.specs.Contract.{LeavesAlso}
 use Rattle.xa_tm.specs.Book.{Book, Doubt, Doubt.Settled, after, book_after, failed_restarts_after}
 use Rattle.xa_tm.specs.Leaving.{IsLeft}
@@ -39,10 +39,10 @@ same_some : (c d : Content) → Some c ≡ Some d → c ≡ d
 same_some c d e = cc
 
 pub left_by_a_restart : (k : Book) (log : Option Content) (old new : Content → Type 0) → k.up ≡ false → IsTied k log → IsLeft k old
-    → LeavesAlso bumped log old new → IsLeft (book_after k Settled (Failed InRestart)) new
+    → LeavesAlso with_bump log old new → IsLeft (book_after k Settled (Failed InRestart)) new
 left_by_a_restart k log old new down tied was leaves d left = by log tied (leaves d left)
   where
-    by : (log : Option Content) → IsTied k log → old d ⊎ IsSomeAnd log (λ b. d ≡ bumped b) → IsTiedDown (book_after k Settled (Failed InRestart)) d
+    by : (log : Option Content) → IsTied k log → old d ⊎ IsSomeAnd log (λ b. d ≡ with_bump b) → IsTiedDown (book_after k Settled (Failed InRestart)) d
     by log tied (inl o) = tied_no_restart k (Some d) (Some d) down (inr (inl refl))
         (subst (λ u. TiedBy u k (Some d)) (sym down) (λ c is. subst (IsTiedDown k) (same_some d c is) (was d o))) d refl
     by None tied (inr e) = absurd e

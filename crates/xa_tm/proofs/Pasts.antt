@@ -12,7 +12,7 @@ use Rattle.xa_base.proofs.BranchOrder.{branches_total, exact_branches, exact_gtr
 use Rattle.xa_base.specs.declared.branch.Branch.{Branch}
 use Rattle.xa_base.specs.declared.branch.Gtrid.{Gtrid}
 use Rattle.xa_base.specs.declared.code.How.{How}
-use Rattle.xa_log.specs.Content.{Content, bumped, last_number, unchanged}
+use Rattle.xa_log.specs.Content.{Content, with_bump, last_number, unchanged}
 use Rattle.xa_log.specs.Contract.{AllFit, Makes}
 use Rattle.xa_log.proofs.Keyed.{risen}
 use Rattle.xa_tm.specs.Ascending.{ascends, ascends_behind}
@@ -90,12 +90,12 @@ module _ (i : ℕ) (gs : List Gtrid) (hs : List (Branch × How)) where
       && (ascends gtrid_cmp (sym rows j) && ascends branch_cmp (map (λ (e : Branch × How). e.0) (sym ends j)))) ∙ cannot)
 
 -- the rows and records of a manager's start are of earlier incarnations than the one that it raised
-pub past_of : (t r : ℕ) (k : Book) (old new : Option Content) → Makes bumped old new
+pub past_of : (t r : ℕ) (k : Book) (old new : Option Content) → Makes with_bump old new
     → IsSomeAnd new (λ c. k ≡ book_at_start t r c) → IsOld k → IsSomeAnd old IsPast
 past_of t r k None new made is is_old = absurd made
 past_of t r k (Some c) new made is is_old =
-    let book : k ≡ book_at_start t r (bumped c) = subst (λ n. IsSomeAnd n (λ c. k ≡ book_at_start t r c)) made is in
-    let before : IsOld (book_at_start t r (bumped c)) = subst IsOld book is_old in
+    let book : k ≡ book_at_start t r (with_bump c) = subst (λ n. IsSomeAnd n (λ c. k ≡ book_at_start t r c)) made is in
+    let before : IsOld (book_at_start t r (with_bump c)) = subst IsOld book is_old in
     record { rows = λ g has. by (before.rows g has); records = λ b has. by (before.records b has) }
   where
     by : {m n : ℕ} → m < n + 1 → m ≤ n

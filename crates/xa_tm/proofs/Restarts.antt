@@ -14,7 +14,7 @@ use Rattle.xa_base.specs.declared.branch.Gtrid.{Gtrid}
 use Rattle.xa_base.specs.declared.code.How.{How}
 use Rattle.xa_base.proofs.BranchOrder.{branches_total, gtrids_total}
 use Rattle.xa_base.proofs.BranchKeys.{branch_eq-true, gtrid_eq-true}
-use Rattle.xa_log.specs.Content.{Content, bumped, unchanged}
+use Rattle.xa_log.specs.Content.{Content, with_bump, unchanged}
 use Rattle.xa_log.specs.Contract.{Makes, MayMake}
 use Rattle.xa_tm.specs.Book.{Book, Waiting, Doubt, Doubt.Adds, Doubt.Drops, Doubt.Records, Doubt.Settled, after, book_after, row_with, recorded_with, records_with}
 use Rattle.xa_tm.specs.Held.{come_up_with, without_doubt, notes_of}
@@ -176,19 +176,19 @@ module _ (c : Content) (recs : Branch → Option How) (m : ℕ) (at : (b : Branc
 -- ** the log is tied to the book again
 
 pub tied_restart : (k : Book) (i d h : ℕ) (old new : Option Content) → k.up ≡ false → IsSomeAnd old (FoundIn i d h)
-    → Makes bumped old new → IsTied k old → IsTied (after k (Restarted i d h)) new
+    → Makes with_bump old new → IsTied k old → IsTied (after k (Restarted i d h)) new
 tied_restart k i d h old new down found makes tied = go old found makes (subst (λ u. TiedBy u k old) down tied)
   where
     n : Book
     n = after k (Restarted i d h)
 
-    up_again : (c : Content) → FoundIn i d h c → IsTiedDown k c → IsTiedUp n (bumped c)
+    up_again : (c : Content) → FoundIn i d h c → IsTiedDown k c → IsTiedUp n (with_bump c)
     up_again c f t = record { holds = by t.holds.2; incarnation = sym f.incarnation }
       where
         b : Content
         b = t.holds.0
 
-        by : SameRows c b ⊎ SameRows c (made k.doubt b) → HoldsBook n (bumped c)
+        by : SameRows c b ⊎ SameRows c (made k.doubt b) → HoldsBook n (with_bump c)
         by (inl s) = record {
           rows = λ g. ap (λ x. get x g) s.decisions
               ∙ stays b k.row k.rows t.holds.1.rows t.holds.1.row_number d (f.rows ∙ ap len s.decisions ∙ t.holds.1.row_number) g _;
@@ -207,13 +207,13 @@ tied_restart k i d h old new down found makes tied = go old found makes (subst (
           record_number = sym f.records;
         }
 
-    go : (old : Option Content) → IsSomeAnd old (FoundIn i d h) → Makes bumped old new
+    go : (old : Option Content) → IsSomeAnd old (FoundIn i d h) → Makes with_bump old new
         → ((c : Content) → old ≡ Some c → IsTiedDown k c) → IsSomeAnd new (IsTiedUp n)
     go None f makes t = absurd makes
     go (Some c) f makes t = subst (λ x. IsSomeAnd x (IsTiedUp n)) (sym makes) (up_again c f (t c refl))
 
 -- a restart that fails leaves what may be held, one incarnation higher perhaps
-pub tied_no_restart : (k : Book) (old new : Option Content) → k.up ≡ false → MayMake bumped old new → IsTied k old
+pub tied_no_restart : (k : Book) (old new : Option Content) → k.up ≡ false → MayMake with_bump old new → IsTied k old
     → IsTied (book_after k Settled (Failed InRestart)) new
 tied_no_restart k old new down may tied = go may (subst (λ u. TiedBy u k old) down tied)
   where
@@ -236,12 +236,12 @@ tied_no_restart k old new down may tied = go may (subst (λ u. TiedBy u k old) d
     }
 
     hold_bumped : (c before : Content) → SameRows c before ⊎ SameRows c (made k.doubt before)
-        → SameRows (bumped c) before ⊎ SameRows (bumped c) (made n.doubt before)
+        → SameRows (with_bump c) before ⊎ SameRows (with_bump c) (made n.doubt before)
     hold_bumped c before (inl s) = inl (record { decisions = s.decisions; heuristics = s.heuristics })
     hold_bumped c before (inr s) =
-        inr (subst (λ x. SameRows (bumped c) (made x before)) (sym stays_in_doubt) (record { decisions = s.decisions; heuristics = s.heuristics }))
+        inr (subst (λ x. SameRows (with_bump c) (made x before)) (sym stays_in_doubt) (record { decisions = s.decisions; heuristics = s.heuristics }))
 
-    raised : (c : Content) → IsTiedDown k c → IsTiedDown n (bumped c)
+    raised : (c : Content) → IsTiedDown k c → IsTiedDown n (with_bump c)
     raised c t = record {
       holds =
           (t.holds.0, record { rows = t.holds.1.rows; row_number = t.holds.1.row_number; records = t.holds.1.records; record_number = t.holds.1.record_number }, hold_bumped c t.holds.0 t.holds.2);
@@ -254,14 +254,14 @@ tied_no_restart k old new down may tied = go may (subst (λ u. TiedBy u k old) d
     same_some : (x y : Content) → Some x ≡ Some y → x ≡ y
     same_some x y e = cc
 
-    go : MayMake bumped old new → ((c : Content) → old ≡ Some c → IsTiedDown k c) → (c : Content) → new ≡ Some c → IsTiedDown n c
+    go : MayMake with_bump old new → ((c : Content) → old ≡ Some c → IsTiedDown k c) → (c : Content) → new ≡ Some c → IsTiedDown n c
     go (inl none) t c is = absurd (let no : None ≡ Some c = sym none ∙ is in cc)
     go (inr (inl same)) t c is = as_it_was c (t c (sym same ∙ is))
     go (inr (inr makes)) t c is = made_of old refl makes t
       where
-        made_of : (o : Option Content) → old ≡ o → Makes bumped o new → ((x : Content) → old ≡ Some x → IsTiedDown k x) → IsTiedDown n c
+        made_of : (o : Option Content) → old ≡ o → Makes with_bump o new → ((x : Content) → old ≡ Some x → IsTiedDown k x) → IsTiedDown n c
         made_of None e m t = absurd m
-        made_of (Some x) e m t = subst (IsTiedDown n) (same_some (bumped x) c (sym m ∙ is)) (raised x (t x e))
+        made_of (Some x) e m t = subst (IsTiedDown n) (same_some (with_bump x) c (sym m ∙ is)) (raised x (t x e))
 
 -- ** what is found
 

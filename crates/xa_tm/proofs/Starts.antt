@@ -17,7 +17,7 @@ use Rattle.xa_base.proofs.BranchKeys.{gtrid_eq-refl, gtrid_eq-true, branch_eq-tr
 use Rattle.xa_base.specs.declared.branch.Branch.{Branch}
 use Rattle.xa_base.specs.declared.branch.Gtrid.{Gtrid}
 use Rattle.xa_base.specs.declared.code.How.{How}
-use Rattle.xa_log.specs.Content.{AreOwn, Content, all_listed, bumped, last_number, unchanged}
+use Rattle.xa_log.specs.Content.{AreOwn, Content, all_listed, with_bump, last_number, unchanged}
 use Rattle.xa_log.specs.Contract.{FitsRow, Makes}
 use Rattle.xa_log.specs.KeySet.{KeySet, contains, contains-from_list, contains-items, from_list, items, same_set}
 use Rattle.xa_log.proofs.Keyed.{risen}
@@ -292,7 +292,7 @@ module _ (t r i : ℕ) (gs : List Gtrid) (bs : List Branch) (hs : List (Branch �
   read_book = start_book t r i (loaded gs bs) (length gs) (ended_among hs) (length hs)
 
   pub started_as : (c : Content) → i ≡ c.incarnation + 1 → gs ≡ keys c.decisions → bs ≡ all_listed (entries c.decisions) → hs ≡ entries c.heuristics → AreOwn c
-      → start_book t r i (loaded gs bs) (length gs) (ended_among hs) (length hs) ≡ book_at_start t r (bumped c)
+      → start_book t r i (loaded gs bs) (length gs) (ended_among hs) (length hs) ≡ book_at_start t r (with_bump c)
   started_as c up rows parts ends own = book_is _ _ refl refl refl up refl refl refl (λ g. refl) (λ b. refl) refl (λ m. refl)
       (λ g. (λ j. loaded (rows j) (parts j) g) ∙ loaded_is (entries c.decisions) sorted all g ∙ sym (get-entries c.decisions g))
       (ap length rows ∙ length-map (entries c.decisions) (λ (e : Gtrid × KeySet branch_cmp). e.0) ∙ sym (len-entries c.decisions))
@@ -308,18 +308,18 @@ module _ (t r i : ℕ) (gs : List Gtrid) (bs : List Branch) (hs : List (Branch �
 
   pub started_over : (old mid new : Option Content) → IsSomeAnd old (λ c. gs ≡ keys c.decisions)
       → IsSomeAnd old (λ c. bs ≡ all_listed (entries c.decisions)) → IsSomeAnd old (λ c. hs ≡ entries c.heuristics)
-      → Makes unchanged old mid → Makes bumped mid new → IsSomeAnd mid (λ c. i ≡ c.incarnation + 1) → ((c : Content) → old ≡ Some c → AreOwn c)
+      → Makes unchanged old mid → Makes with_bump mid new → IsSomeAnd mid (λ c. i ≡ c.incarnation + 1) → ((c : Content) → old ≡ Some c → AreOwn c)
       → IsSomeAnd new (λ c. start_book t r i (loaded gs bs) (length gs) (ended_among hs) (length hs) ≡ book_at_start t r c)
   started_over None mid new rows parts ends kept made up own = absurd rows
   started_over (Some c) mid new rows parts ends kept made up own =
-      subst (λ m. Makes bumped m new → IsSomeAnd m (λ c. i ≡ c.incarnation + 1)
+      subst (λ m. Makes with_bump m new → IsSomeAnd m (λ c. i ≡ c.incarnation + 1)
       → IsSomeAnd new (λ c. start_book t r i (loaded gs bs) (length gs) (ended_among hs) (length hs) ≡ book_at_start t r c)) (sym kept)
       (λ does next. subst (λ n. IsSomeAnd n (λ c. start_book t r i (loaded gs bs) (length gs) (ended_among hs) (length hs) ≡ book_at_start t r c))
       (sym does) (started_as c next rows parts ends (own c refl))) made up
 
-  pub raised_over : (old mid new : Option Content) → Makes unchanged old mid → Makes bumped mid new → Makes bumped old new
+  pub raised_over : (old mid new : Option Content) → Makes unchanged old mid → Makes with_bump mid new → Makes with_bump old new
   raised_over None mid new kept made = kept
-  raised_over (Some c) mid new kept made = subst (λ m. Makes bumped m new) kept made
+  raised_over (Some c) mid new kept made = subst (λ m. Makes with_bump m new) kept made
 
   pub start_sound : length gs < 2 ^ 64 - 1 → length hs < 2 ^ 64 - 1 → i ≤ last_number → list_all (fits_before i) gs ≡ true
       → IsSound (start_book t r i (loaded gs bs) (length gs) (ended_among hs) (length hs))

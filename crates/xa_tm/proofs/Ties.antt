@@ -19,7 +19,7 @@ use Rattle.xa_tm.specs.Refusing.{refusal_in, outlived_in, has_row_in, row_settle
 use Rattle.xa_model.specs.Facts.{record_of}
 use Rattle.xa_base.proofs.BranchOrder.{gtrids_total, branches_total}
 use Rattle.xa_base.proofs.BranchKeys.{branch_eq-true}
-use Rattle.xa_log.specs.Content.{Content, committed, without_decision}
+use Rattle.xa_log.specs.Content.{Content, with_commit, without_decision}
 use Rattle.xa_log.specs.Contract.{Makes, MayMake}
 use Rattle.xa_tm.specs.Book.{Book, Waiting, doubt_of, Doubt, Doubt.Adds, Doubt.Drops, Doubt.Records, Doubt.Settled, after, book_after, failed_restarts_after, row_with, recorded_with, records_with, voted_yes}
 use Rattle.xa_tm.specs.Outcomes.{is_commit}
@@ -236,11 +236,11 @@ holds_record k l b how row rows recs number c h = by (contains_key c.heuristics 
 
 pub tied_commit : (k : Book) (g : Gtrid) (set : Waiting) (old new : Option Content) → k.up ≡ true → k.row g ≡ None
     → (k.deal g).has_yes ≡ true → set ≡ voted_yes k g
-    → Makes (committed g set) old new → IsTied k old → IsTied (after k (Decided g Outcomes.Commit)) new
+    → Makes (with_commit g set) old new → IsTied k old → IsTied (after k (Decided g Outcomes.Commit)) new
 tied_commit k g set old new up none agreed voters makes tied = tied_made k n up up refl (Adds g (voted_yes k g)) old new
     (holds_row k n g (voted_yes k g) none (λ q. ap (λ (t : Bool). if t then (if gtrid_eq g q then Some (voted_yes k g) else k.row q) else k.row q) agreed)
     (ap (λ (t : Bool). if t then k.rows + 1 else k.rows) agreed) (λ b. refl) refl)
-    (subst (λ s. Makes (committed g s) old new) voters makes) tied
+    (subst (λ s. Makes (with_commit g s) old new) voters makes) tied
   where
     n : Book
     n = after k (Decided g Outcomes.Commit)

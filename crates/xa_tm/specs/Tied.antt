@@ -3,7 +3,7 @@ use Rattle.std.specs.Prelude.{ℕ, ◌+◌, ◌-◌, ◌<◌, ◌≡◌, ◌≤�
 use Rattle.std.specs.FinMap.{get, len}
 use Rattle.xa_base.specs.declared.branch.Branch.{Branch}
 use Rattle.xa_base.specs.declared.branch.Gtrid.{Gtrid}
-use Rattle.xa_log.specs.Content.{Content, committed, without_decision, recorded}
+use Rattle.xa_log.specs.Content.{Content, with_commit, without_decision, with_record}
 use Rattle.xa_log.specs.Contract.{Makes}
 use Rattle.xa_tm.specs.Book.{Book, Doubt, Doubt.Adds, Doubt.Drops, Doubt.Records, Doubt.Settled, records_with}
 
@@ -16,9 +16,9 @@ pub record HoldsBook (k : Book) (c : Content) : Type 0 where
 
 -- what a change makes of a content
 abbrev pub made : Doubt → Content → Content
-made (Adds g set) c = committed g set c
+made (Adds g set) c = with_commit g set c
 made (Drops g) c = without_decision g c
-made (Records b how) c = recorded b how c
+made (Records b how) c = with_record b how c
 made Settled c = c
 
 -- the content has the rows and the record of another

@@ -3,7 +3,7 @@
 ghost use Rattle.std.specs.Prelude.{◌⊎◌, ◌≡◌, ◌≢◌, ◌≤◌, Bool, IsSomeAnd, Err, IfOk, IfErr, OnOk, OnErr};
 ghost use Rattle.xa_model.specs.Trace.{Happening.Restarted, Fault.InRestart};
 ghost use Rattle.xa_base.specs.declared.refusal.Refusal.TheVariants as Refusals;
-ghost use Rattle.xa_log.specs.Content.{bumped, last_number};
+ghost use Rattle.xa_log.specs.Content.{with_bump, last_number};
 ghost use Rattle.xa_tm.specs.Book.{Doubt.Settled, after};
 ghost use Rattle.xa_log.specs.Contract.{LeavesAlso, Makes, MayMake, faults_after};
 ghost use Rattle.xa_tm.specs.Tied.{FoundIn, IsFound};
@@ -44,11 +44,11 @@ impl<L: DecisionLog + Drop> Manager<L> {
         ensures kept { IfErr result (λ n. n ≢ Refusals.LogFault → log_in self.new ≡ log_in self.old) }
         ensures fault { (L.moment (log_in self.old)).is_in_order →
             (L.moment (log_in self.new)).is_honest → result ≡ Err Refusals.LogFault →
-            MayMake bumped (L.moment (log_in self.old)).content
+            MayMake with_bump (L.moment (log_in self.old)).content
             (L.moment (log_in self.new)).content }
         ensures crash { (L.moment (log_in self.old)).is_in_order →
             (L.moment (log_in self.new)).is_honest →
-            LeavesAlso bumped (L.moment (log_in self.old)).content
+            LeavesAlso with_bump (L.moment (log_in self.old)).content
             (L.moment (log_in self.old)).may_leave (L.moment (log_in self.new)).may_leave }
         ensures order { (L.moment (log_in self.old)).is_in_order →
             (L.moment (log_in self.new)).is_in_order }
@@ -97,11 +97,11 @@ fn find_and_raise<L: DecisionLog>(log: &mut L) -> Result<Found, LogFault>
         IsSomeAnd (L.moment log.old).content (FoundIn found.incarnation found.decisions found.heuristics)) }
     ensures most { IfOk result (λ found. found.incarnation ≤ last_number) }
     ensures ok { (L.moment log.old).is_in_order → (L.moment log.new).is_honest →
-        OnOk result (Makes bumped (L.moment log.old).content (L.moment log.new).content) }
+        OnOk result (Makes with_bump (L.moment log.old).content (L.moment log.new).content) }
     ensures err { (L.moment log.old).is_in_order → (L.moment log.new).is_honest →
-        OnErr result (MayMake bumped (L.moment log.old).content (L.moment log.new).content) }
+        OnErr result (MayMake with_bump (L.moment log.old).content (L.moment log.new).content) }
     ensures crash { (L.moment log.old).is_in_order → (L.moment log.new).is_honest →
-        LeavesAlso bumped (L.moment log.old).content (L.moment log.old).may_leave
+        LeavesAlso with_bump (L.moment log.old).content (L.moment log.old).may_leave
         (L.moment log.new).may_leave }
     ensures order { (L.moment log.old).is_in_order → (L.moment log.new).is_in_order }
     ensures honest { (L.moment log.new).is_honest → (L.moment log.old).is_honest }

@@ -3,7 +3,7 @@
 ghost use Rattle.std.specs.Prelude.{◌≡◌, true, false};
 ghost use Rattle.xa_model.specs.Trace.{Fault, Fault.InRestart, Happening.Crashed, Happening.Failed};
 ghost use Rattle.xa_base.specs.declared.step.Part.{Part as Crashing};
-ghost use Rattle.xa_log.specs.Content.{bumped};
+ghost use Rattle.xa_log.specs.Content.{with_bump};
 ghost use Rattle.xa_log.specs.Contract.{LeavesAlso};
 ghost use Rattle.xa_tm.specs.Book.{Book, Doubt, Doubt.Settled, after, book_after, failed_restarts_after};
 ghost use Rattle.xa_tm.specs.Leaving.{IsLeft};
@@ -136,7 +136,7 @@ pub fn crashes_leave_the_book<L: DecisionLog>()
         IsLeft (book_after k asked (Failed f)) (L.moment new).may_leave }
     ensures restart { (k : Book) (old new : L) → k.up ≡ false → IsTied k (L.moment old).content →
         IsLeft k (L.moment old).may_leave →
-        LeavesAlso bumped (L.moment old).content (L.moment old).may_leave (L.moment new).may_leave →
+        LeavesAlso with_bump (L.moment old).content (L.moment old).may_leave (L.moment new).may_leave →
         IsLeft (book_after k Settled (Failed InRestart)) (L.moment new).may_leave }
     ensures crash { (k : Book) (part : Crashing) (log : L) → IsLeft k (L.moment log).may_leave →
         IsLeft (after k (Crashed part)) (L.moment log).may_leave }

@@ -7,7 +7,7 @@ use Rattle.xa_base.specs.Branch.{branch_cmp}
 use Rattle.xa_base.specs.declared.branch.Gtrid.{Gtrid}
 use Rattle.xa_base.specs.declared.step.Outcome.{Outcome}
 use Rattle.xa_base.specs.declared.step.Outcome.TheVariants.{Commit}
-use Rattle.xa_log.specs.Content.{Content, bumped}
+use Rattle.xa_log.specs.Content.{Content, with_bump}
 use Rattle.xa_log.specs.KeySet.{KeySet, from_list}
 use Rattle.xa_log.specs.declared.decision_log.DecisionLog as DecisionLog
 use Rattle.xa_workers.specs.Jobs.{gtrid_of, is_yes, votes_of, yes_branches}
@@ -62,7 +62,7 @@ pub record Logs {L : Type 0} (g : DecisionLog.Ghosts L) (incarnation : ℕ) (row
   pub honest : (g.moment log).is_honest → (g.moment first).is_honest
   pub rows_are : (g.moment first).is_in_order → (g.moment log).is_honest
       → IsSomeAnd (g.moment first).content (λ before. (incarnation ≡ before.incarnation + 1)
-      × IsSomeAnd (g.moment log).content (λ after. HasRows incarnation rows (bumped before) after))
+      × IsSomeAnd (g.moment log).content (λ after. HasRows incarnation rows (with_bump before) after))
 
 -- the log of a journal has come to have the rows of the jobs that the journal notes as written
 abbrev pub HasRowsOf : {L : Type 0} → DecisionLog.Ghosts L → Jobs → (incarnation : ℕ) → Journal L → Type 0

@@ -1,6 +1,6 @@
 use Rattle.xa_log.specs.KeySet.{from_list}
 use Rattle.sqlite.specs.Held.{state}
-use Rattle.xa_log.specs.Content.{committed}
+use Rattle.xa_log.specs.Content.{with_commit}
 use Rattle.xa_log.specs.Sql.{Lacks}
 use Rattle.xa_log.proofs.States.{opened_clean}
 use Rattle.xa_log.proofs.Inside.{once, looked, found_one}
@@ -15,7 +15,7 @@ returns-in_err-insert_all-clause-changes g c =
     let set = from_list c.args.participants.now in
     let a = state g.S.Store c.args.conn.now in
     let b = state g.S.Store c.find_decision.new.conn in
-    once (Lacks c.args.g b) (committed c.args.g set) a b (state g.S.Store c.insert_all.new.conn) c.find_decision.ensures.reads c.insert_all.ensures.honest
+    once (Lacks c.args.g b) (with_commit c.args.g set) a b (state g.S.Store c.insert_all.new.conn) c.find_decision.ensures.reads c.insert_all.ensures.honest
     (looked c.args.g a b (opened_clean _ _ (g.met.S.Store.shut_if_dirty c.find_decision.new.conn.store))
     (λ order clean. rw c.if-branch.false at (c.in_ok-find_decision.ensures.ok order clean)))
     c.insert_all.ensures.changes
@@ -25,7 +25,7 @@ returns-clause-changes g c =
     let set = from_list c.args.participants.now in
     let a = state g.S.Store c.args.conn.now in
     let b = state g.S.Store c.find_decision.new.conn in
-    once (Lacks c.args.g b) (committed c.args.g set) a b (state g.S.Store c.insert_all.new.conn) c.find_decision.ensures.reads c.insert_all.ensures.honest
+    once (Lacks c.args.g b) (with_commit c.args.g set) a b (state g.S.Store c.insert_all.new.conn) c.find_decision.ensures.reads c.insert_all.ensures.honest
     (looked c.args.g a b (opened_clean _ _ (g.met.S.Store.shut_if_dirty c.find_decision.new.conn.store))
     (λ order clean. rw c.if-branch.false at (c.in_ok-find_decision.ensures.ok order clean)))
     c.insert_all.ensures.changes

@@ -5,7 +5,7 @@ use Rattle.sqlite.specs.State.{HasCleanDisk}
 use Rattle.sqlite.proofs.Callers.{survives_begin}
 use Rattle.sqlite.proofs.StateLemmas.{survives_then}
 use Rattle.sqlite.proofs.InsideLemmas.{keeps_then}
-use Rattle.xa_log.specs.Content.{committed}
+use Rattle.xa_log.specs.Content.{with_commit}
 use Rattle.xa_log.specs.Contract.{Makes}
 use Rattle.xa_log.specs.Sql.{MayChange, content_in}
 use Rattle.xa_log.proofs.States.{opened_clean, did_makes}
@@ -17,7 +17,7 @@ returns-in_err-insert_decision-clause-changes g c lacks =
     let old = c.args.conn.now in
     let mid = c.insert_decision.new.tx.conn.now in
     let end = c.drop-tx.new.self.0 in
-    let change = committed c.args.g (from_list c.args.participants.now) in
+    let change = with_commit c.args.g (from_list c.args.participants.now) in
     let same : end ≡ c.conn-1.given.0 = search rules in
     let begins = c.transaction-tx.ensures.begun in
     let early : HasCleanDisk (state g.S.Store end) → HasCleanDisk (state g.S.Store mid) = λ clean. omega (arith, c.drop-tx.ensures.survives.clean) in
@@ -37,7 +37,7 @@ returns-in_err-insert_participants-clause-changes g c lacks =
     let mid = c.insert_participants.new.tx.conn.now in
     let end = c.drop-tx-in_err-insert_participants.new.self.0 in
     let set = from_list c.args.participants.now in
-    let change = committed c.args.g set in
+    let change = with_commit c.args.g set in
     let same : end ≡ c.conn-in_err-insert_participants-1.given.0 = search rules in
     let begins = c.transaction-tx.ensures.begun in
     let back : HasCleanDisk (state g.S.Store mid) → HasCleanDisk (state g.S.Store first) =
@@ -64,7 +64,7 @@ returns-in_err-commit-clause-changes g c lacks =
     let mid = c.insert_participants.new.tx.conn.now in
     let end = c.commit.new.self.0 in
     let set = from_list c.args.participants.now in
-    let change = committed c.args.g set in
+    let change = with_commit c.args.g set in
     let same : end ≡ c.conn-2-1.given.0 = search rules in
     let begins = c.transaction-tx.ensures.begun in
     let back : HasCleanDisk (state g.S.Store mid) → HasCleanDisk (state g.S.Store first) =
@@ -97,7 +97,7 @@ returns-clause-changes g c lacks =
     let mid = c.insert_participants.new.tx.conn.now in
     let end = c.commit.new.self.0 in
     let set = from_list c.args.participants.now in
-    let change = committed c.args.g set in
+    let change = with_commit c.args.g set in
     let same : end ≡ c.conn-2-1.given.0 = search rules in
     let begins = c.transaction-tx.ensures.begun in
     let back : HasCleanDisk (state g.S.Store mid) → HasCleanDisk (state g.S.Store first) =
@@ -130,7 +130,7 @@ returns-clause-ok g c lacks order =
     let mid = c.insert_participants.new.tx.conn.now in
     let end = c.commit.new.self.0 in
     let set = from_list c.args.participants.now in
-    let change = committed c.args.g set in
+    let change = with_commit c.args.g set in
     let same : end ≡ c.conn-2-1.given.0 = search rules in
     let begins = c.transaction-tx.ensures.begun in
     let back : HasCleanDisk (state g.S.Store mid) → HasCleanDisk (state g.S.Store first) =

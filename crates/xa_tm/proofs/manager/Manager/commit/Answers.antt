@@ -1,7 +1,7 @@
 use Rattle.std.proofs.Common.{inl, inr, refl, sym, ap, ◌∙◌, subst}
 use Rattle.xa_base.specs.declared.step.Outcome.TheVariants as Outcomes
 use Rattle.xa_model.specs.Trace.{Fault.InDecide, Happening.Decided, Happening.Failed}
-use Rattle.xa_log.specs.Content.{committed}
+use Rattle.xa_log.specs.Content.{with_commit}
 use Rattle.xa_log.specs.Contract.{MayMake}
 use Rattle.xa_log.specs.KeySet.{from_list}
 use Rattle.xa_tm.specs.Book.{Book, Doubt.Adds, after, book_after, voted_yes}
@@ -58,7 +58,7 @@ returns-in-Err-commit-clause-tied g c = λ order honest tied.
     let new = (g.L.DecisionLog.moment c.commit.new.self).content in
     subst (λ b. IsTied b new) (sym made)
     (tied_fault k (Adds c.args.g (voted_yes k c.args.g)) (InDecide c.args.g) old new c.requires.open.up refl
-    (subst (λ s. MayMake (committed c.args.g s) old new) (ap from_list c.as_slice.ensures.value ∙ c.in-Ok.ensures.all)
+    (subst (λ s. MayMake (with_commit c.args.g s) old new) (ap from_list c.as_slice.ensures.value ∙ c.in-Ok.ensures.all)
     (c.in-Err-commit.ensures.changes.err order)) tied)
 
 pub returns-in-Ok-commit-clause-asks : goal.returns-in-Ok-commit-clause-asks
