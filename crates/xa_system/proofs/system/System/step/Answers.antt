@@ -1,10 +1,13 @@
-use Rattle.std.proofs.Common.{◌≡◌, inr, refl, subst, sym, ap, ◌∙◌, arith}
+use Rattle.std.proofs.Common.{◌≡◌, false, Some, None, inr, refl, subst, sym, ap, ◌∙◌, arith}
 use Rattle.xa_model.specs.Replies.Demanded.{Demanded}
 use Rattle.xa_model.specs.Replies.History.{reply_of, step_of}
 use Rattle.xa_model.specs.Replies.Steps.{happened, log_failed}
-use Rattle.xa_system.specs.Logged.{MayHaveFailed}
+use Rattle.xa_model.specs.Facts.{up}
+use Rattle.xa_system.specs.Logged.{IsBeforeNext, MayHaveFailed}
+use Rattle.xa_system.proofs.Restarting.{empty_fails, followed, found_in, not_restarted}
+use Rattle.xa_tm.specs.Slots.{log_held}
 use Rattle.xa_system.proofs.Standing.{refused_as_nothing, stays_same}
-use Rattle.xa_system.specs.Seen.{FaultsHaveCauses, HoldsItsTrace, IsAsBefore, MayRestart, Observes, observes, origin_in, seen, trace_in}
+use Rattle.xa_system.specs.Seen.{FaultsHaveCauses, HoldsItsTrace, IsAsBefore, IsFailed, MayRestart, Observes, observes, origin_in, seen, trace_in}
 use Rattle.xa_system.proofs.Seeing.{as_before, began_kept, down_after, failed_so, fault_has_cause, holds, honest_before, restart_may_follow, somewhere, sound_then, start_kept, was_demanded}
 use Rattle.xa_tm.specs.Kept.{log_in}
 use Rattle.xa_system.proofs.system.System.step.Goals as goal
@@ -43,8 +46,7 @@ returns-clause-parts g c =
 pub returns-clause-start : goal.returns-clause-start
 returns-clause-start g c =
     let see : Observes g.row.R.Denot g.row.L.Denot = observes g.R.ResourceManager.held_of g.R.ResourceManager.scan_of g.R.ResourceManager.in_doubt_of g.L.DecisionLog.moment in
-    let new = record { first = c.self.inside.first; handed = c.self.inside.handed; parts = c.step.new.self; events = c.push_reserved.new.self } in
-    subst (λ v. origin_in see.look (seen new) ≡ origin_in see.look v) c.self.view_is
+    subst (λ v. origin_in see.look (seen (record { first = c.self.inside.first; handed = c.self.inside.handed; parts = c.step.new.self; events = c.push_reserved.new.self })) ≡ origin_in see.look v) c.self.view_is
     (start_kept _ _ c.self.inside c.step.new.self c.args.step c.step.result c.self.invariant c.step.ensures.goes (rw c.len.ensures at c.if-len-ge-EVENT_LIMIT.false))
 
 pub returns-clause-honest : goal.returns-clause-honest
@@ -113,7 +115,33 @@ returns-clause-failed g c is =
 pub returns-clause-near : goal.returns-clause-near
 returns-clause-near g c =
     let see : Observes g.row.R.Denot g.row.L.Denot = observes g.R.ResourceManager.held_of g.R.ResourceManager.scan_of g.R.ResourceManager.in_doubt_of g.L.DecisionLog.moment in
-    let new = record { first = c.self.inside.first; handed = c.self.inside.handed; parts = c.step.new.self; events = c.push_reserved.new.self } in
-    subst (λ v. (see.moment v.handed).is_in_order → (see.place (log_in c.step.new.self.manager)).is_honest → MayRestart see v → MayRestart see (seen new)) c.self.view_is
+    subst (λ v. (see.moment v.handed).is_in_order → (see.place (log_in c.step.new.self.manager)).is_honest → MayRestart see v → MayRestart see (seen (record { first = c.self.inside.first; handed = c.self.inside.handed; parts = c.step.new.self; events = c.push_reserved.new.self }))) c.self.view_is
     (restart_may_follow _ _ c.self.inside c.step.new.self c.push_reserved.new.self c.args.step c.step.result c.split-reply.result.1 c.self.invariant c.step.ensures.goes
     (ap (λ p. p.1) c.split-reply.ensures) (rw c.len.ensures at c.if-len-ge-EVENT_LIMIT.false) c.push_reserved.ensures.items)
+
+pub returns-clause-out : goal.returns-clause-out
+returns-clause-out g c none is few down =
+    let see : Observes g.row.R.Denot g.row.L.Denot = observes g.R.ResourceManager.held_of g.R.ResourceManager.scan_of g.R.ResourceManager.in_doubt_of g.L.DecisionLog.moment in
+    let same = ap (λ p. p.0) c.split-reply.ensures in
+    let demanded = was_demanded _ _ c.self.inside c.step.new.self c.args.step c.step.result c.self.invariant c.step.ensures.goes (rw c.len.ensures at c.if-len-ge-EVENT_LIMIT.false) in
+    subst IsFailed (sym same)
+    (not_restarted (trace_in see.look (seen c.self.inside)) c.step.result
+    (subst (λ s. Demanded (trace_in see.look (seen c.self.inside)) (step_of s) (reply_of c.step.result)) is demanded)
+    (subst (λ v. up (trace_in see.look v) ≡ false) (sym c.self.view_is) down)
+    (λ i d h restarted. empty_fails g.L.DecisionLog.says _ _ (log_held (log_in c.self.inside.parts.manager)) _
+    (subst (λ v. log_held v.log ≡ None) (sym c.self.view_is) none) (c.step.ensures.read i d h is restarted).rows))
+
+pub returns-clause-other_incarnation : goal.returns-clause-other_incarnation
+returns-clause-other_incarnation g c content is few down order honest holds other =
+    let see : Observes g.row.R.Denot g.row.L.Denot = observes g.R.ResourceManager.held_of g.R.ResourceManager.scan_of g.R.ResourceManager.in_doubt_of g.L.DecisionLog.moment in
+    let same = ap (λ p. p.0) c.split-reply.ensures in
+    let demanded = was_demanded _ _ c.self.inside c.step.new.self c.args.step c.step.result c.self.invariant c.step.ensures.goes (rw c.len.ensures at c.if-len-ge-EVENT_LIMIT.false) in
+    let as_restart = subst (λ s. Demanded (trace_in see.look (seen c.self.inside)) (step_of s) (reply_of c.step.result)) is demanded in
+    let in_order = c.self.invariant.log.order (subst (λ v. (see.moment v.handed).is_in_order) (sym c.self.view_is) order) in
+    let held = subst (λ v. (see.place v.log).content ≡ Some content) (sym c.self.view_is) holds in
+    subst IsFailed (sym same)
+    (not_restarted (trace_in see.look (seen c.self.inside)) c.step.result as_restart
+    (subst (λ v. up (trace_in see.look v) ≡ false) (sym c.self.view_is) down)
+    (λ i d h restarted. subst (λ v. IsBeforeNext (trace_in see.look v) content → ⊥) (sym c.self.view_is) other
+    (followed (trace_in see.look (seen c.self.inside)) c.step.result as_restart i d h restarted content
+    (found_in (see.place (log_in c.self.inside.parts.manager)).content content i d h held ((c.step.ensures.read i d h is restarted).found in_order honest)))))
