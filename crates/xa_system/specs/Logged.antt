@@ -12,7 +12,7 @@ use Rattle.xa_base.specs.declared.refusal.Refusal.TheVariants as Refusals
 use Rattle.xa_base.specs.declared.reply.Event.{Event}
 use Rattle.xa_base.specs.declared.reply.Reply.{Reply}
 use Rattle.xa_base.specs.declared.reply.Reply.TheVariants as Replies
-use Rattle.xa_log.specs.Content.{Content, bumped, committed, recorded, without_decision}
+use Rattle.xa_log.specs.Content.{Content, with_bump, with_commit, with_record, without_decision}
 use Rattle.xa_log.specs.Contract.{Makes, MayMake, Moment, one_more_fault}
 use Rattle.xa_log.specs.KeySet.{KeySet, from_list}
 use Rattle.xa_tm.specs.Kept.{book_in, log_in}
@@ -112,7 +112,7 @@ pub record IsStartedOver {L : Type 0} (moment : L → Moment) (threads rms : ℕ
   pub book : (moment handed).is_in_order → (moment (log_in manager)).is_honest
       → IsSomeAnd (moment (log_in manager)).content (λ c. book_in manager ≡ book_at_start threads rms c)
   pub raised : (moment handed).is_in_order → (moment (log_in manager)).is_honest
-      → Makes bumped (moment handed).content (moment (log_in manager)).content
+      → Makes with_bump (moment handed).content (moment (log_in manager)).content
   pub faults : (moment (log_in manager)).fault_count ≡ (moment handed).fault_count
 
 -- ** one happening more

@@ -3,7 +3,7 @@ use Rattle.std.specs.Prelude.{ℕ, ◌+◌, ◌-◌, ◌<◌, ◌≡◌, ◌≤�
 use Rattle.std.specs.FinMap.{get, len}
 use Rattle.xa_base.specs.declared.branch.Branch.{Branch}
 use Rattle.xa_base.specs.declared.branch.Gtrid.{Gtrid}
-use Rattle.xa_log.specs.Content.{Content, bumped, committed, without_decision, recorded, unchanged}
+use Rattle.xa_log.specs.Content.{Content, with_bump, with_commit, without_decision, with_record, unchanged}
 use Rattle.xa_log.specs.Contract.{Makes}
 use Rattle.xa_log.specs.declared.decision_log.DecisionLog as DecisionLog
 use Rattle.xa_log.specs.declared.fail_plan.LogCall.TheVariants.{Bump, Rows}
@@ -71,7 +71,7 @@ pub record FoundIn (i d h : ℕ) (c : Content) : Type 0 where
 pub record IsReadFrom {L : Type 0} (logs : DecisionLog.Ghosts L) (i d h : ℕ) (old new : L) : Type 0 where
   pub between : L
   pub rows : logs.says Rows unchanged old between None
-  pub raised : logs.says Bump bumped between new None
+  pub raised : logs.says Bump with_bump between new None
   pub found : (logs.moment old).is_in_order → (logs.moment new).is_honest → IsSomeAnd (logs.moment old).content (FoundIn i d h)
 
 -- the numbers that a restart may find: the next incarnation after one that the failures since may have reached, and

@@ -1,7 +1,7 @@
 //! A manager starts over a log.
 
 ghost use Rattle.std.specs.Prelude.{◌≡◌, ◌⊎◌, ◌+◌, Bool, IsSomeAnd, Err, IfOk};
-ghost use Rattle.xa_log.specs.Content.{bumped, unchanged};
+ghost use Rattle.xa_log.specs.Content.{with_bump, unchanged};
 ghost use Rattle.xa_log.specs.Contract.{Makes, one_more_fault};
 ghost use Rattle.xa_tm.specs.Held.{IsSound};
 ghost use Rattle.xa_tm.specs.Kept.{book_in, log_in};
@@ -43,7 +43,7 @@ impl<L: DecisionLog + Drop> Manager<L> {
             IsSomeAnd (L.moment (log_in m)).content (λ c. book_in m ≡ book_at_start threads rms c)) }
         ensures raised { (L.moment log).is_in_order →
             IfOk result (λ m. (L.moment (log_in m)).is_honest →
-            Makes bumped (L.moment log).content (L.moment (log_in m)).content) }
+            Makes with_bump (L.moment log).content (L.moment (log_in m)).content) }
         ensures tied { (near : Bool) → (L.moment log).is_in_order →
             IfOk result (λ m. (L.moment (log_in m)).is_honest →
             IsTied near (book_in m) (L.moment (log_in m)).content) }
