@@ -284,7 +284,7 @@ module _ {R L : Type 0} (see : Sees R L) where
   pub restart_undone : (parts : Parts R L) (manager : Manager L) (n : Refusal) (reply : Reply Xid) → reply ≡ Replies.Refused n
       → ((book_in parts.manager).up ≡ true → (n ≡ Refusals.Busy) × (book_in manager ≡ book_in parts.manager))
       → ((book_in parts.manager).up ≡ false → FailsBy Settled InRestart (book_in parts.manager) (book_in manager) n)
-      → LogUndone see.moment Found n bumped parts.manager manager
+      → LogUndone see.moment Found n with_bump parts.manager manager
       → (tr : Trace) → Stands see tr parts → OneMore see (Steps.Restart Sides.Manager) reply tr parts (with_manager see parts manager)
   restart_undone parts manager n reply is busy fails undone tr stands = by_up (book_in parts.manager).up refl
     where

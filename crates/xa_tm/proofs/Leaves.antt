@@ -39,10 +39,10 @@ same_some : (c d : Content) → Some c ≡ Some d → c ≡ d
 same_some c d e = cc
 
 pub left_by_a_restart : (near : Bool) (k : Book) (log : Option Content) (old new : Content → Type 0) → k.up ≡ false → IsTied near k log → IsLeft near k old
-    → LeavesAlso bumped log old new → IsLeft near (book_after k Settled (Failed InRestart)) new
+    → LeavesAlso with_bump log old new → IsLeft near (book_after k Settled (Failed InRestart)) new
 left_by_a_restart near k log old new down tied was leaves d left = by log tied (leaves d left)
   where
-    by : (log : Option Content) → IsTied near k log → old d ⊎ IsSomeAnd log (λ b. d ≡ bumped b) → IsTiedDown near (book_after k Settled (Failed InRestart)) d
+    by : (log : Option Content) → IsTied near k log → old d ⊎ IsSomeAnd log (λ b. d ≡ with_bump b) → IsTiedDown near (book_after k Settled (Failed InRestart)) d
     by log tied (inl o) = tied_no_restart near k (Some d) (Some d) down (inr (inl refl))
         (subst (λ u. TiedBy u near k (Some d)) (sym down) (λ c is. subst (IsTiedDown near k) (same_some d c is) (was d o))) d refl
     by None tied (inr e) = absurd e

@@ -176,13 +176,13 @@ module _ (c : Content) (recs : Branch → Option How) (m : ℕ) (at : (b : Branc
 -- ** the log is tied to the book again
 
 pub tied_restart : (near : Bool) (k : Book) (i d h : ℕ) (old new : Option Content) → k.up ≡ false → IsSomeAnd old (FoundIn i d h)
-    → Makes bumped old new → IsTied near k old → IsTied near (after k (Restarted i d h)) new
+    → Makes with_bump old new → IsTied near k old → IsTied near (after k (Restarted i d h)) new
 tied_restart near k i d h old new down found makes tied = go old found makes (subst (λ u. TiedBy u near k old) down tied)
   where
     n : Book
     n = after k (Restarted i d h)
 
-    up_again : (c : Content) → FoundIn i d h c → IsTiedDown near k c → IsTiedUp n (bumped c)
+    up_again : (c : Content) → FoundIn i d h c → IsTiedDown near k c → IsTiedUp n (with_bump c)
     up_again c f t = record { holds = by t.holds.2; incarnation = sym f.incarnation }
       where
         b : Content
@@ -207,13 +207,13 @@ tied_restart near k i d h old new down found makes tied = go old found makes (su
           record_number = sym f.records;
         }
 
-    go : (old : Option Content) → IsSomeAnd old (FoundIn i d h) → Makes bumped old new
+    go : (old : Option Content) → IsSomeAnd old (FoundIn i d h) → Makes with_bump old new
         → ((c : Content) → old ≡ Some c → IsTiedDown near k c) → IsSomeAnd new (IsTiedUp n)
     go None f makes t = absurd makes
     go (Some c) f makes t = subst (λ x. IsSomeAnd x (IsTiedUp n)) (sym makes) (up_again c f (t c refl))
 
 -- a restart that fails leaves what may be held, one incarnation higher perhaps
-pub tied_no_restart : (near : Bool) (k : Book) (old new : Option Content) → k.up ≡ false → MayMake bumped old new → IsTied near k old
+pub tied_no_restart : (near : Bool) (k : Book) (old new : Option Content) → k.up ≡ false → MayMake with_bump old new → IsTied near k old
     → IsTied near (book_after k Settled (Failed InRestart)) new
 tied_no_restart near k old new down may tied = go may (subst (λ u. TiedBy u near k old) down tied)
   where
@@ -243,7 +243,7 @@ tied_no_restart near k old new down may tied = go may (subst (λ u. TiedBy u nea
     hold_bumped c before (inr s) =
         inr (subst (λ x. SameRows (with_bump c) (made x before)) (sym stays_in_doubt) (record { decisions = s.decisions; heuristics = s.heuristics }))
 
-    raised : (c : Content) → IsTiedDown near k c → IsTiedDown near n (bumped c)
+    raised : (c : Content) → IsTiedDown near k c → IsTiedDown near n (with_bump c)
     raised c t = record {
       holds =
           (t.holds.0, record { rows = t.holds.1.rows; row_number = t.holds.1.row_number; records = t.holds.1.records; record_number = t.holds.1.record_number }, hold_bumped c t.holds.0 t.holds.2);
@@ -256,14 +256,14 @@ tied_no_restart near k old new down may tied = go may (subst (λ u. TiedBy u nea
     same_some : (x y : Content) → Some x ≡ Some y → x ≡ y
     same_some x y e = cc
 
-    go : MayMake bumped old new → ((c : Content) → old ≡ Some c → IsTiedDown near k c) → (c : Content) → new ≡ Some c → IsTiedDown near n c
+    go : MayMake with_bump old new → ((c : Content) → old ≡ Some c → IsTiedDown near k c) → (c : Content) → new ≡ Some c → IsTiedDown near n c
     go (inl none) t c is = absurd (let no : None ≡ Some c = sym none ∙ is in cc)
     go (inr (inl same)) t c is = as_it_was c (t c (sym same ∙ is))
     go (inr (inr makes)) t c is = made_of old refl makes t
       where
-        made_of : (o : Option Content) → old ≡ o → Makes bumped o new → ((x : Content) → old ≡ Some x → IsTiedDown near k x) → IsTiedDown near n c
+        made_of : (o : Option Content) → old ≡ o → Makes with_bump o new → ((x : Content) → old ≡ Some x → IsTiedDown near k x) → IsTiedDown near n c
         made_of None e m t = absurd m
-        made_of (Some x) e m t = subst (IsTiedDown near n) (same_some (bumped x) c (sym m ∙ is)) (raised x (t x e))
+        made_of (Some x) e m t = subst (IsTiedDown near n) (same_some (with_bump x) c (sym m ∙ is)) (raised x (t x e))
 
 -- ** what is found
 

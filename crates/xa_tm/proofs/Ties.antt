@@ -236,7 +236,7 @@ holds_record k l b how row rows recs number c h = by (contains_key c.heuristics 
 
 pub tied_commit : (near : Bool) (k : Book) (g : Gtrid) (set : Waiting) (old new : Option Content) → k.up ≡ true → k.row g ≡ None
     → (k.deal g).has_yes ≡ true → set ≡ voted_yes k g
-    → Makes (committed g set) old new → IsTied near k old → IsTied near (after k (Decided g Outcomes.Commit)) new
+    → Makes (with_commit g set) old new → IsTied near k old → IsTied near (after k (Decided g Outcomes.Commit)) new
 tied_commit near k g set old new up none agreed voters makes tied = tied_made near k n up up refl (Adds g (voted_yes k g)) old new
     (holds_row k n g (voted_yes k g) none (λ q. ap (λ (t : Bool). if t then (if gtrid_eq g q then Some (voted_yes k g) else k.row q) else k.row q) agreed)
     (ap (λ (t : Bool). if t then k.rows + 1 else k.rows) agreed) (λ b. refl) refl)

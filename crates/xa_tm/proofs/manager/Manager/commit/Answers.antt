@@ -58,7 +58,7 @@ returns-in-Err-commit-clause-tied g c = λ near order honest tied.
     let new = (g.L.DecisionLog.moment c.commit.new.self).content in
     subst (λ b. IsTied near b new) (sym made)
     (tied_fault near k (Adds c.args.g (voted_yes k c.args.g)) (InDecide c.args.g) old new c.requires.open.up refl
-    (subst (λ s. MayMake (committed c.args.g s) old new) (ap from_list c.as_slice.ensures.value ∙ c.in-Ok.ensures.all)
+    (subst (λ s. MayMake (with_commit c.args.g s) old new) (ap from_list c.as_slice.ensures.value ∙ c.in-Ok.ensures.all)
     (c.in-Err-commit.ensures.changes.err order)) tied)
 
 pub returns-in-Ok-commit-clause-asks : goal.returns-in-Ok-commit-clause-asks
