@@ -1,5 +1,5 @@
 -- A log that the book may hold agrees with it, so that none is refused for its rows.
-use Rattle.std.proofs.Common.{◌≡◌, ℕ, ◌⊎◌, inl, inr, ◌+◌, ◌-◌, List, [], ◌∷◌, Bool, true, false, not, ◌&&◌, ◌||◌, cond, Equal, Ordering, Option, Some, None, IsSomeAnd, is_some, refl, sym, ap, ◌∙◌, subst, arith}
+use Rattle.std.proofs.Common.{◌≡◌, ℕ, ◌⊎◌, inl, inr, ◌+◌, ◌-◌, List, [], ◌∷◌, Bool, true, false, not, ◌&&◌, ◌||◌, cond, Equal, Ordering, Option, Some, None, IsSomeAnd, is_some, refl, sym, ap, ◌∙◌, subst}
 use Rattle.std.specs.Prelude.{if◌then◌else◌, nat_eq}
 use Rattle.std.specs.Global.{Vec}
 use Rattle.std.specs.List.{list_all}
@@ -8,14 +8,14 @@ use Rattle.std.specs.Ordering.{eq_by_cmp}
 use Rattle.std.specs.Cmp.{IsTotalOrder}
 use Rattle.xa_log.proofs.Contents.{equal_is}
 use Rattle.std.specs.FinMap.{FinMap, contains_key, entries, get, insert, keys, len, remove, get-insert, get-remove, len-insert, len-remove}
-use Rattle.std.proofs.lemmas.Bool.{and_from, eq-eqb, not_from_false, or_left, or_right, true≢false}
-use Rattle.xa_base.specs.Branch.{branch_cmp, branch_eq, gtrid_cmp, gtrid_eq}
+use Rattle.std.proofs.lemmas.Bool.{and_from, eq-eqb, or_left, or_right, true≢false}
+use Rattle.xa_base.specs.Branch.{branch_eq, gtrid_eq}
 use Rattle.xa_base.specs.declared.branch.Branch.{Branch}
 use Rattle.xa_base.specs.declared.branch.Gtrid.{Gtrid}
 use Rattle.xa_base.specs.declared.code.How.{How}
 use Rattle.xa_base.specs.declared.code.How.TheVariants.{Haz, Com, Rb, Mix}
-use Rattle.xa_base.proofs.BranchOrder.{branches_total, exact_branches, exact_gtrids, gtrids_total}
-use Rattle.xa_base.proofs.BranchKeys.{branch_eq-refl, branch_eq-true, gtrid_eq-refl, gtrid_eq-true}
+use Rattle.xa_base.proofs.BranchOrder.{branches_total, exact_gtrids, gtrids_total}
+use Rattle.xa_base.proofs.BranchKeys.{branch_eq-true, gtrid_eq-true}
 use Rattle.xa_log.specs.Content.{AreOwn, Content, all_listed, with_decision, with_heuristic}
 use Rattle.xa_log.specs.declared.log_rows.LogRows.{LogRows}
 use Rattle.xa_log.specs.KeySet.{from_list}

@@ -1,14 +1,12 @@
 -- Lists of the same branches are the same sets.
-use Rattle.std.proofs.Common.{◌≡◌, List, [], ◌∷◌, Bool, true, false, ◌&&◌, ◌||◌, Option, Some, None, refl, sym, ap, ◌∙◌, subst}
+use Rattle.std.proofs.Common.{◌≡◌, List, [], ◌∷◌, Bool, true, false, ◌||◌, refl, sym, ap, ◌∙◌}
 use Rattle.std.specs.List.{list_all, list_any}
-use Rattle.std.specs.Option.{option_map}
-use Rattle.std.specs.Ordering.{eq_by_cmp}
-use Rattle.std.proofs.lemmas.Bool.{and_from, and_parts, or_left, or_right, true≢false}
+use Rattle.std.proofs.lemmas.Bool.{and_from, and_parts, or_left, or_right}
 use Rattle.xa_base.specs.Branch.{branch_cmp, branch_eq}
 use Rattle.xa_base.specs.declared.branch.Branch.{Branch}
 use Rattle.xa_base.proofs.BranchOrder.{branches_total, exact_branches}
 use Rattle.xa_base.proofs.BranchKeys.{branch_eq-refl, branch_eq-true}
-use Rattle.xa_log.specs.KeySet.{KeySet, contains, contains-from_list, from_list, same_set}
+use Rattle.xa_log.specs.KeySet.{contains, contains-from_list, from_list, same_set}
 use Rattle.xa_tm.specs.Swaps.{is_among, same_branches}
 use Rattle.xa_tm.proofs.Restarts.{swap_branch}
 

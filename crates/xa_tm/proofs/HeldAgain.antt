@@ -1,5 +1,5 @@
 -- A log whose rows agree with those of the book may be held by it.
-use Rattle.std.proofs.Common.{◌≡◌, ℕ, ◌⊎◌, inl, inr, ◌+◌, ◌-◌, List, [], ◌∷◌, length, Bool, true, false, not, ◌&&◌, ◌||◌, cond, is_eq, Option, Some, None, is_some, refl, sym, ap, ◌∙◌, subst, arith, Ordering, Equal, IsSomeAnd, Ok, Err}
+use Rattle.std.proofs.Common.{◌≡◌, ℕ, ◌⊎◌, inl, inr, ◌+◌, ◌-◌, List, [], ◌∷◌, Bool, true, false, not, ◌&&◌, ◌||◌, cond, is_eq, Option, Some, None, is_some, refl, sym, ap, ◌∙◌, subst, arith, Ordering, Equal, IsSomeAnd}
 use Rattle.std.specs.Prelude.{if◌then◌else◌, nat_eq}
 use Rattle.std.specs.Global.{Vec}
 use Rattle.std.specs.BTreeMap.{BTreeMap, get as tree_get}
@@ -8,7 +8,7 @@ use Rattle.std.specs.List.{list_all}
 use Rattle.std.specs.Option.{option_map}
 use Rattle.std.specs.Ordering.{eq_by_cmp}
 use Rattle.std.specs.Cmp.{IsTotalOrder}
-use Rattle.std.specs.FinMap.{FinMap, get, len, keys, entries, insert, remove, contains_key, get-insert, get-remove, len-insert, len-remove, same_map}
+use Rattle.std.specs.FinMap.{FinMap, get, len, keys, entries, insert, remove, get-insert, get-remove, len-insert, len-remove, same_map}
 use Rattle.std.proofs.lemmas.Bool.{and_parts, true≢false}
 use Rattle.std.proofs.lemmas.Bool.Decides.{eqb_tells}
 use Rattle.std.proofs.lemmas.Cmp.{eq_by_cmp_equiv}
@@ -18,17 +18,16 @@ use Rattle.xa_base.specs.declared.branch.Gtrid.{Gtrid}
 use Rattle.xa_base.specs.declared.code.How.{How}
 use Rattle.xa_base.specs.declared.code.How.TheVariants.{Haz, Com, Rb, Mix}
 use Rattle.xa_base.proofs.BranchOrder.{branches_total, exact_branches, gtrids_total, exact_gtrids}
-use Rattle.xa_base.proofs.BranchKeys.{gtrid_eq-true, gtrid_eq-refl, branch_eq-true, branch_eq-refl}
-use Rattle.xa_log.specs.Content.{AreOwn, Content, all_listed, committed, with_decision, without_decision, recorded, with_heuristic, unchanged}
+use Rattle.xa_base.proofs.BranchKeys.{gtrid_eq-refl, branch_eq-refl}
+use Rattle.xa_log.specs.Content.{AreOwn, Content, all_listed, with_decision, with_heuristic, unchanged}
 use Rattle.xa_log.specs.Contract.{Makes}
 use Rattle.xa_log.specs.KeySet.{from_list}
 use Rattle.xa_log.proofs.Contents.{equal_is}
 use Rattle.xa_log.specs.declared.log_rows.LogRows.{LogRows}
-use Rattle.xa_tm.specs.Book.{Book, Waiting, Doubt, Doubt.Adds, Doubt.Drops, Doubt.Records, Doubt.Settled}
+use Rattle.xa_tm.specs.Book.{Book, Waiting}
 use Rattle.xa_tm.specs.Held.{notes_at, doubt_held, held, row_at, waiting_of}
-use Rattle.xa_tm.specs.Starting.{ended_among, loaded, start_book}
 use Rattle.xa_tm.specs.Swaps.{ReadsOf, rows_agree_with, records_agree_with, agrees, change_agrees, change_agrees_with, counts_agree, end_agrees, end_agrees_with, ends_agree, how_eq, is_how, kept_row, names_just, row_agrees, row_agrees_with, rows_agree, same_how, same_row}
-use Rattle.xa_tm.specs.Tied.{HoldsBook, MayHold, SameRows, made}
+use Rattle.xa_tm.specs.Tied.{MayHold, SameRows, made}
 use Rattle.xa_tm.specs.declared.change.Change.{Change}
 use Rattle.xa_tm.specs.declared.change.Change.TheVariants.{AddRow, DropRow, AddRecord, Nothing}
 use Rattle.xa_tm.specs.declared.ledger.Ledger.{Ledger}
