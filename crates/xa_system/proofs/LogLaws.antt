@@ -48,6 +48,22 @@ may_hold_rows tr c holds = (holds.0, holds_rows tr holds.0 holds.1, by holds.2)
     by (inl same) = inl same
     by (inr same) = inr (subst (SameRows c) (made_is (facts.doubt tr) holds.0) same)
 
+-- what the history tells of is what its book says
+rows_held : (tr : Trace) (c : Content) → HoldsRows tr c → HoldsBook (book_of tr) c
+rows_held tr c holds = record {
+  rows = λ g. holds.rows g ∙ sym (row_in_is (facts.log tr) g);
+  row_number = holds.row_number;
+  records = holds.records;
+  record_number = holds.record_number;
+}
+
+pub rows_may_hold : (tr : Trace) (c : Content) → MayHoldRows tr c → MayHold (book_of tr) c
+rows_may_hold tr c holds = (holds.0, rows_held tr holds.0 holds.1, by holds.2)
+  where
+    by : SameRows c holds.0 ⊎ SameRows c (changed (facts.doubt tr) holds.0) → SameRows c holds.0 ⊎ SameRows c (made (doubt_of (facts.doubt tr)) holds.0)
+    by (inl same) = inl same
+    by (inr same) = inr (subst (SameRows c) (sym (made_is (facts.doubt tr) holds.0)) same)
+
 -- what is tied to the book of a history is where the history leaves it
 pub tied_stands : (tr : Trace) (held : Option Content) → IsTied false (book_of tr) held → LogStands tr held
 tied_stands tr held tied = by (facts.up tr) held tied

@@ -1,8 +1,10 @@
 //! The system's log is taken out while the manager is down, and one with the same rows is put in.
 ghost use Rattle.std.specs.Prelude.{◌≡◌, ◌⊎◌, Bool, Some, None, IsSome, Err, IfErr, OnOk, OnErr};
+ghost use Rattle.xa_log.specs.Content.{Content};
 ghost use Rattle.xa_log.specs.Contract.{one_more_fault};
 ghost use Rattle.xa_model.specs.Facts.{up};
 ghost use Rattle.xa_model.specs.Promises.Headline.{Headline};
+ghost use Rattle.xa_system.specs.Logged.{MayHoldRows};
 ghost use Rattle.xa_system.specs.Seen.{HoldsItsTrace, observes, origin_in, trace_in};
 ghost use Rattle.xa_system.specs.Sites.{looks};
 ghost use Rattle.xa_tm.specs.Slots.{LooksAt, TakesIn, last_out, log_held};
@@ -57,6 +59,10 @@ impl<R: ResourceManager + Drop, L: DecisionLog + Drop> System<R, L> {
             (L.moment e.1).fault_count ≡ one_more_fault (L.moment log).fault_count) }
         ensures other_rows { IfErr result (λ e. e.0 ≡ SwapFault.OtherRows →
             (L.moment e.1).fault_count ≡ (L.moment log).fault_count) }
+        ensures only_other_rows { IfErr result (λ e. e.0 ≡ SwapFault.OtherRows →
+            (L.moment log).is_in_order → (L.moment e.1).is_honest → (c : Content) →
+            (L.moment log).content ≡ Some c →
+            MayHoldRows (trace_in (looks R.held_of R.scan_of R.in_doubt_of) self.old) c → ⊥) }
         ensures ok { OnOk result (TakesIn L.DecisionLog log (log_held self.new.log)) }
         ensures others { OnOk result (self.new ≡ record self.old { handed = log; log = self.new.log }) }
         ensures parts { HoldsItsTrace (observes R.held_of R.scan_of R.in_doubt_of L.moment) self.new }

@@ -1,15 +1,14 @@
 -- A log whose rows agree with those of the book may be held by it.
-use Rattle.std.proofs.Common.{◌≡◌, ℕ, ◌⊎◌, inl, inr, ◌+◌, ◌-◌, List, [], ◌∷◌, length, Bool, true, false, not, ◌&&◌, ◌||◌, cond, is_eq, Option, Some, None, is_some, refl, sym, ap, ◌∙◌, subst, arith, Ordering, Equal, IsSomeAnd, Ok, Err}
+use Rattle.std.proofs.Common.{◌≡◌, ℕ, ◌⊎◌, inl, inr, ◌+◌, ◌-◌, List, [], ◌∷◌, Bool, true, false, not, ◌&&◌, ◌||◌, cond, is_eq, Option, Some, None, is_some, refl, sym, ap, ◌∙◌, subst, arith, Ordering, Equal, IsSomeAnd}
 use Rattle.std.specs.Prelude.{if◌then◌else◌, nat_eq}
 use Rattle.std.specs.Global.{Vec}
 use Rattle.std.specs.BTreeMap.{BTreeMap, get as tree_get}
 use Rattle.std.specs.Map.{lookup}
-use Rattle.std.specs.Cmp.Lexicographic.{pointwise}
 use Rattle.std.specs.List.{list_all}
 use Rattle.std.specs.Option.{option_map}
 use Rattle.std.specs.Ordering.{eq_by_cmp}
 use Rattle.std.specs.Cmp.{IsTotalOrder}
-use Rattle.std.specs.FinMap.{FinMap, get, len, keys, entries, insert, remove, contains_key, get-insert, get-remove, len-insert, len-remove, same_map}
+use Rattle.std.specs.FinMap.{FinMap, get, len, keys, entries, insert, remove, get-insert, get-remove, len-insert, len-remove, same_map}
 use Rattle.std.proofs.lemmas.Bool.{and_parts, true≢false}
 use Rattle.std.proofs.lemmas.Bool.Decides.{eqb_tells}
 use Rattle.std.proofs.lemmas.Cmp.{eq_by_cmp_equiv}
@@ -19,36 +18,28 @@ use Rattle.xa_base.specs.declared.branch.Gtrid.{Gtrid}
 use Rattle.xa_base.specs.declared.code.How.{How}
 use Rattle.xa_base.specs.declared.code.How.TheVariants.{Haz, Com, Rb, Mix}
 use Rattle.xa_base.proofs.BranchOrder.{branches_total, exact_branches, gtrids_total, exact_gtrids}
-use Rattle.xa_base.proofs.BranchKeys.{gtrid_eq-true, gtrid_eq-refl, branch_eq-true, branch_eq-refl}
-use Rattle.xa_log.specs.Content.{AreOwn, Content, all_listed, with_commit, with_decision, without_decision, with_record, with_heuristic, unchanged}
+use Rattle.xa_base.proofs.BranchKeys.{gtrid_eq-refl, branch_eq-refl}
+use Rattle.xa_log.specs.Content.{AreOwn, Content, all_listed, with_decision, with_heuristic, unchanged}
 use Rattle.xa_log.specs.Contract.{Makes}
 use Rattle.xa_log.specs.KeySet.{from_list}
 use Rattle.xa_log.proofs.Contents.{equal_is}
 use Rattle.xa_log.specs.declared.log_rows.LogRows.{LogRows}
-use Rattle.xa_tm.specs.Book.{Book, Waiting, Doubt, Doubt.Adds, Doubt.Drops, Doubt.Records, Doubt.Settled}
+use Rattle.xa_tm.specs.Book.{Book, Waiting}
 use Rattle.xa_tm.specs.Held.{notes_at, doubt_held, held, row_at, waiting_of}
-use Rattle.xa_tm.specs.Starting.{ended_among, loaded, start_book}
 use Rattle.xa_tm.specs.Swaps.{ReadsOf, rows_agree_with, records_agree_with, agrees, change_agrees, change_agrees_with, counts_agree, end_agrees, end_agrees_with, ends_agree, how_eq, is_how, kept_row, names_just, row_agrees, row_agrees_with, rows_agree, same_how, same_row}
-use Rattle.xa_tm.specs.Tied.{HoldsBook, MayHold, SameRows, made}
+use Rattle.xa_tm.specs.Tied.{MayHold, SameRows, made}
 use Rattle.xa_tm.specs.declared.change.Change.{Change}
 use Rattle.xa_tm.specs.declared.change.Change.TheVariants.{AddRow, DropRow, AddRecord, Nothing}
 use Rattle.xa_tm.specs.declared.ledger.Ledger.{Ledger}
 use Rattle.xa_tm.specs.declared.notes.BranchNotes.{BranchNotes}
 use Rattle.xa_tm.proofs.Restarts.{swap_branch, swap_gtrid}
+use Rattle.xa_tm.proofs.BranchSets.{sets_are}
 use Rattle.xa_tm.proofs.Starts.{started_as}
 
 -- ** what agrees
 
-branches_are : (xs ys : List Branch) → pointwise branch_eq xs ys ≡ true → xs ≡ ys
-branches_are [] [] e = refl
-branches_are [] (y ∷ ys) e = absurd (cc)
-branches_are (x ∷ xs) [] e = absurd (cc)
-branches_are (x ∷ xs) (y ∷ ys) e =
-    let parts = and_parts (branch_eq x y) (pointwise branch_eq xs ys) e in
-    ap (λ b. b ∷ xs) (branch_eq-true x y parts.0) ∙ ap (λ bs. y ∷ bs) (branches_are xs ys parts.1)
-
 names_is : (row : Option (Vec Branch)) (bs : List Branch) → names_just row bs ≡ true → option_map waiting_of row ≡ Some (from_list bs)
-names_is (Some v) bs e = ap (λ xs. Some (from_list xs)) (branches_are v.items bs e)
+names_is (Some v) bs e = ap (λ s. Some s) (sets_are v.items bs e)
 names_is None bs e = absurd (cc)
 
 no_row : (row : Option (Vec Branch)) → not (is_some row) ≡ true → option_map waiting_of row ≡ None
@@ -187,7 +178,7 @@ module _ (k n : Ledger) (c : Content) (reads : Reads n c) where
 -- ** maps with one key more or less
 
 module _ {K X : Type 0} {R : K → K → Ordering} (o : IsTotalOrder R) (exact : (a b : K) → R a b ≡ Equal → a ≡ b) (m : FinMap R X) (k : K) (v : X) where
-  put_back : get m k ≡ Some v → insert (remove m k) k v ≡ m
+  pub put_back : get m k ≡ Some v → insert (remove m k) k v ≡ m
   put_back has = same_map o exact _ _ (λ q. get-insert o (remove m k) k v q ∙ by q (eq_by_cmp R q k) refl)
     where
       by : (q : K) (t : Bool) → eq_by_cmp R q k ≡ t → cond (eq_by_cmp R q k) (Some v) (get (remove m k) q) ≡ get m q
@@ -201,7 +192,7 @@ module _ {K X : Type 0} {R : K → K → Ordering} (o : IsTotalOrder R) (exact :
       by q true h = ap (λ t. cond t None (get (insert m k v) q)) h ∙ sym none ∙ ap (get m) (sym (exact q k (equal_is _ h)))
       by q false h = ap (λ t. cond t None (get (insert m k v) q)) h ∙ get-insert o m k v q ∙ ap (λ t. cond t (Some v) (get m q)) h
 
-  is_gone : get (remove m k) k ≡ None
+  pub is_gone : get (remove m k) k ≡ None
   is_gone = get-remove o m k k ∙ ap (λ t. cond t None (get m k)) ((eq_by_cmp_equiv o).refl k)
 
   gone : (q : K) → get (remove m k) q ≡ cond (eq_by_cmp R q k) None (get m q)
@@ -380,8 +371,8 @@ module _ (k n : Ledger) (c : Content) (reads : Reads n c) where
 
 -- ** what was read of a log
 
-module _ (k : Ledger) (rows : LogRows) (read : ReadsOf k rows true) where
-  as_read : (c : Content) → rows.decisions.items ≡ keys c.decisions → rows.participants.items ≡ all_listed (entries c.decisions)
+module _ (k : Ledger) (rows : LogRows) (may : Bool) (read : ReadsOf k rows may) where
+  pub as_read : (c : Content) → rows.decisions.items ≡ keys c.decisions → rows.participants.items ≡ all_listed (entries c.decisions)
       → rows.heuristics.items ≡ entries c.heuristics → AreOwn c → Reads read.read c
   as_read c ds ps hs own =
       let same = read.book in
@@ -393,9 +384,9 @@ module _ (k : Ledger) (rows : LogRows) (read : ReadsOf k rows true) where
         ends = sym (ap (λ (b : Book). b.records) same ∙ ap (λ (b : Book). b.records) is);
       }
 
-  held_again : (c : Content) → rows.decisions.items ≡ keys c.decisions
+  held_again : may ≡ true → (c : Content) → rows.decisions.items ≡ keys c.decisions
       → rows.participants.items ≡ all_listed (entries c.decisions) → rows.heuristics.items ≡ entries c.heuristics → AreOwn c → MayHold (held k) c
-  held_again c ds ps hs own = may_hold k read.read c (as_read c ds ps hs own) (sym read.agree)
+  held_again told c ds ps hs own = may_hold k read.read c (as_read c ds ps hs own) (sym read.agree ∙ told)
 
 -- what a look at the rows left of a log
 pub held_by : (k : Ledger) (rows : LogRows) (may : Bool) → may ≡ true → ReadsOf k rows may → (old new : Option Content)
@@ -404,4 +395,4 @@ pub held_by : (k : Ledger) (rows : LogRows) (may : Bool) → may ≡ true → Re
     → IsSomeAnd new (MayHold (held k))
 held_by k rows may told read None new ds ps hs same own = absurd ds
 held_by k rows may told read (Some c) new ds ps hs same own =
-    subst (λ o. IsSomeAnd o (MayHold (held k))) (sym same) (held_again k rows (subst (ReadsOf k rows) told read) c ds ps hs (own c refl))
+    subst (λ o. IsSomeAnd o (MayHold (held k))) (sym same) (held_again k rows may read told c ds ps hs (own c refl))

@@ -34,3 +34,5 @@ pub mod Begins
 pub mod Pasts
 pub mod HeldAgain
 pub mod SameBranches
+pub mod BranchSets
+pub mod AgreesWith

@@ -1,7 +1,7 @@
 -- A manager can start over a log whose rows and records are of its incarnation or earlier ones, and over no other.
 use Rattle.std.proofs.Common.{◌≡◌, ℕ, ◌<◌, ◌≤◌, ◌+◌, List, [], ◌∷◌, map, Bool, true, false, ◌&&◌, ◌||◌, Option, Some, None, refl, sym, ap, ◌∙◌, arith, is_lt, Ordering, Less, IsSomeAnd, subst}
 use Rattle.std.specs.Prelude.{nat_lt, nat_le}
-use Rattle.std.specs.FinMap.{contains_key, contains_key-keys, entries, entries_sorted, keys}
+use Rattle.std.specs.FinMap.{contains_key-keys, entries, entries_sorted, keys}
 use Rattle.std.specs.List.{AllByRecursion, list_all, list_any}
 use Rattle.std.specs.List.Sorted.{IsStrictlySortedBy}
 use Rattle.std.specs.Ordering.{eq_by_cmp}

@@ -2,8 +2,7 @@
 use Rattle.std.specs.Prelude.{ℕ, ◌+◌, Bool, true, false, not, ◌≡◌, ◌&&◌, ◌||◌, length, if◌then◌else◌, Option, Some, None, is_some, List, unwrap_or, nat_eq}
 use Rattle.std.specs.Global.{Vec}
 use Rattle.std.specs.BTreeMap.{BTreeMap, get}
-use Rattle.std.specs.List.{list_all}
-use Rattle.std.specs.Cmp.Lexicographic.{pointwise}
+use Rattle.std.specs.List.{list_all, list_any}
 use Rattle.xa_base.specs.Branch.{gtrid_cmp, gtrid_eq, branch_eq}
 use Rattle.xa_base.specs.declared.branch.Branch.{Branch}
 use Rattle.xa_base.specs.declared.branch.Gtrid.{Gtrid}
@@ -21,9 +20,20 @@ use Rattle.xa_tm.specs.declared.notes.BranchNotes.{BranchNotes}
 abbrev pub kept_row : BTreeMap Gtrid (Option (Vec Branch)) → Gtrid → Option (Vec Branch)
 kept_row m g = unwrap_or (get gtrid_cmp m g) None
 
+-- whether a branch is among these
+abbrev pub is_among : Branch → List Branch → Bool
+is_among b bs = list_any (λ c. branch_eq c b) bs
+
+abbrev pub are_among : (branches others : List Branch) → Bool
+are_among bs cs = list_all (λ b. is_among b cs) bs
+
+-- whether two lists are of the same branches
+abbrev pub same_branches : List Branch → List Branch → Bool
+same_branches bs cs = are_among bs cs && are_among cs bs
+
 -- whether a row is there and names just these branches
 abbrev pub names_just : Option (Vec Branch) → List Branch → Bool
-names_just (Some v) bs = pointwise branch_eq v.items bs
+names_just (Some v) bs = same_branches v.items bs
 names_just None bs = false
 
 -- whether a row is there in both with the same branches, or in neither

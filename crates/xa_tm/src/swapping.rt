@@ -1,7 +1,7 @@
 //! The manager's log is taken out while the manager is down, and one with the same rows is put in.
 
 ghost use Rattle.std.specs.Prelude.{◌≡◌, ◌≢◌, ◌⊎◌, Bool, Some, None, IsSome, IsSomeAnd, Err, IfErr, OnOk, OnErr};
-ghost use Rattle.xa_log.specs.Content.{unchanged};
+ghost use Rattle.xa_log.specs.Content.{Content, unchanged};
 ghost use Rattle.xa_log.specs.Contract.{Makes, one_more_fault};
 ghost use Rattle.xa_tm.specs.Begins.{records_begun, rows_begun};
 ghost use Rattle.xa_tm.specs.Held.{held};
@@ -65,6 +65,9 @@ impl<L: DecisionLog + Drop> Manager<Slot<L>> {
             (L.moment e.1).fault_count ≡ one_more_fault (L.moment log).fault_count) }
         ensures other_rows { IfErr result (λ e. e.0 ≡ SwapFault.OtherRows →
             (L.moment e.1).fault_count ≡ (L.moment log).fault_count) }
+        ensures only_other_rows { IfErr result (λ e. e.0 ≡ SwapFault.OtherRows → (L.moment log).is_in_order →
+            (L.moment e.1).is_honest → (c : Content) → (L.moment log).content ≡ Some c →
+            MayHold (book_in self.old) c → ⊥) }
         ensures ok { OnOk result (TakesIn L.DecisionLog log (log_held (log_in self.new))) }
         ensures may_hold { OnOk result ((L.moment log).is_in_order →
             (slot_moment L.moment (log_in self.new)).is_honest →
@@ -96,6 +99,9 @@ fn swap_fault<L: DecisionLog>(ledger: &Ledger, log: &mut L) -> Option<SwapFault>
         (L.moment log.new).fault_count ≡ one_more_fault (L.moment log.old).fault_count }
     ensures other_rows { result ≡ Some SwapFault.OtherRows →
         (L.moment log.new).fault_count ≡ (L.moment log.old).fault_count }
+    ensures only_other_rows { result ≡ Some SwapFault.OtherRows → (L.moment log.old).is_in_order →
+        (L.moment log.new).is_honest → (c : Content) → (L.moment log.old).content ≡ Some c →
+        MayHold (held ledger.now) c → ⊥ }
     ensures ok { result ≡ None → (L.moment log.new).fault_count ≡ (L.moment log.old).fault_count }
 {
     match log.rows() {

@@ -3,7 +3,7 @@
 ghost use Rattle.std.specs.Prelude.{◌≡◌, ◌&&◌, ◌||◌, length, IfOk};
 ghost use Rattle.xa_tm.specs.Held.{notes_at};
 ghost use Rattle.xa_tm.specs.Swaps.{agrees, change_agrees, counts_agree, end_agrees, end_agrees_with, ends_agree};
-ghost use Rattle.xa_tm.specs.Swaps.{is_how, kept_row, names_just, records_agree_with, row_agrees, row_agrees_with};
+ghost use Rattle.xa_tm.specs.Swaps.{are_among, is_among, is_how, kept_row, names_just, records_agree_with, same_branches, row_agrees, row_agrees_with};
 ghost use Rattle.xa_tm.specs.Swaps.{ReadsOf, ends_agree_at, rows_agree, rows_agree_at, rows_agree_with, same_how, same_row};
 
 use crate::change::Change;
@@ -20,7 +20,7 @@ impl Ledger {
         ensures { result ≡ names_just (kept_row self.now.rows g) branches.now }
     {
         match self.rows.get(&g) {
-            Some(Some(own)) => own.as_slice() == branches,
+            Some(Some(own)) => same_branches(own.as_slice(), branches),
             _ => false,
         }
     }
@@ -195,6 +195,27 @@ impl Ledger {
         let read = Ledger::load(self.alloc, self.threads, self.rms, rows)?;
         Ok(self.agrees(&read, false) || self.agrees(&read, true))
     }
+}
+
+/// Whether a branch is among these.
+fn is_among(branch: Branch, branches: &[Branch]) -> bool
+    ensures { result ≡ is_among branch branches.now }
+{
+    branches.contains(&branch)
+}
+
+/// Whether each of these branches is among the others.
+fn are_among(branches: &[Branch], others: &[Branch]) -> bool
+    ensures { result ≡ are_among branches.now others.now }
+{
+    branches.iter().all(|branch| is_among(*branch, others))
+}
+
+/// Whether two lists are of the same branches.
+fn same_branches(one: &[Branch], other: &[Branch]) -> bool
+    ensures { result ≡ same_branches one.now other.now }
+{
+    are_among(one, other) && are_among(other, one)
 }
 
 /// Whether a branch is recorded so.

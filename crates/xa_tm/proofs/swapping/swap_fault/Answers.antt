@@ -1,3 +1,4 @@
+use Rattle.xa_tm.proofs.AgreesWith.{not_held}
 use Rattle.xa_tm.proofs.HeldAgain.{held_by}
 use Rattle.xa_tm.proofs.swapping.swap_fault.Goals as goal
 
@@ -7,3 +8,10 @@ returns-in-Ok-true-clause-none g c = λ is order honest.
     (g.L.DecisionLog.moment c.args.log.now).content (g.L.DecisionLog.moment c.rows.new.self).content
     (c.in-Ok.ensures.decisions order honest) (c.in-Ok.ensures.participants order honest) (c.in-Ok.ensures.heuristics order honest) (c.in-Ok.ensures.reads.ok order honest)
     (λ content is. g.met.L.DecisionLog.own c.args.log.now content order is)
+
+pub returns-clause-only_other_rows : goal.returns-clause-only_other_rows
+returns-clause-only_other_rows g c = λ is order honest content holds may.
+    not_held c.args.ledger.now c.in-Ok.rows c.in-Ok-false.field-0 c.in-Ok-false.field-0-test c.in-Ok-false.ensures
+    (g.L.DecisionLog.moment c.args.log.now).content
+    (c.in-Ok.ensures.decisions order honest) (c.in-Ok.ensures.participants order honest) (c.in-Ok.ensures.heuristics order honest)
+    (λ d held. g.met.L.DecisionLog.own c.args.log.now d order held) content holds may
