@@ -2,7 +2,6 @@ use Rattle.std.proofs.Common.{refl, inr}
 use Rattle.xa_model.specs.Trace.{Fault.InDone}
 use Rattle.xa_base.specs.declared.step.Step.TheVariants as Steps
 use Rattle.xa_tm.specs.Tied.{made}
-use Rattle.std.specs.Prelude.{Err}
 use Rattle.xa_system.specs.Parts.{Sees, sees}
 use Rattle.xa_system.proofs.Deciding.{manager_undone, up_where}
 use Rattle.xa_system.proofs.Managing.{done_did, sound_book}

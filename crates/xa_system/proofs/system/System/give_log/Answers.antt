@@ -1,6 +1,4 @@
-use Rattle.std.proofs.Common.{◌≡◌, Some, subst, sym}
-use Rattle.xa_base.specs.Xid.{Xid}
-use Rattle.xa_log.specs.Content.{Content}
+use Rattle.std.proofs.Common.{subst, sym}
 use Rattle.xa_system.specs.Logged.{MayHoldRows}
 use Rattle.xa_system.specs.Seen.{Observes, observes, seen, trace_in}
 use Rattle.xa_system.proofs.LogLaws.{rows_may_hold}
