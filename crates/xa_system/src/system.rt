@@ -1,13 +1,7 @@
 //! The system: its parts, with the events that left them where they stand.
-ghost use Rattle.std.specs.Prelude.{◌≡◌, ◌≢◌, Bool, ◌<◌, ◌≤◌, ◌+◌, ◌++◌, true, false, ◌∷◌, [], ◌⊎◌, ◌↔◌, All, Contains, length, map, Some, None, Err, IfErr, IfOk, IsOk, IsSome, IsSomeAnd, OnErr, OnOk, vec_len, ℕ, List};
-ghost use Rattle.std.specs.List.Sorted.{IsStrictlySortedBy};
-ghost use Rattle.std.specs.Map.{keys_of};
-ghost use Rattle.xa_model.specs.Replies.ReadBack.{StepHasXids};
-ghost use Rattle.xa_base.specs.Xid.{xid_cmp};
-ghost use Rattle.xa_base.specs.declared.refusal.Refusal.TheVariants as Refusals;
-ghost use Rattle.xa_base.specs.declared.reply.Reply.TheVariants as Replies;
+ghost use Rattle.std.specs.Prelude.{◌≡◌, ◌+◌, true, false, [], ◌⊎◌, length, map, Err, IfErr, IfOk, IsSome, IsSomeAnd, vec_len};
 ghost use Rattle.xa_system.specs.Parts.{sees};
-ghost use Rattle.xa_system.specs.Logged.{IsStartedOver, MayHaveFailed};
+ghost use Rattle.xa_system.specs.Logged.{IsStartedOver};
 ghost use Rattle.xa_system.specs.Sites.{looks};
 ghost use Rattle.xa_system.specs.Seen.{AreClear, IsStarted, IsUnclear, new_site};
 ghost use Rattle.xa_system.specs.Unmade.{IsToBlame};
@@ -21,7 +15,7 @@ use std::alloc::{AllocFailed, Global};
 use std::marker::Model;
 use std::snapshot::Snapshot;
 use thiserror::Error;
-use xa_base::{Event, Fate, Memory, Refusal, Reply, Step, Xid};
+use xa_base::Event;
 use xa_line::Lines;
 use xa_log::DecisionLog;
 use xa_rm::ResourceManager;
@@ -38,7 +32,7 @@ pub struct System<R: ResourceManager + Drop, L: DecisionLog + Drop> {
     /// The log as it was handed in last.
     pub(crate) handed: Snapshot<L>,
     pub(crate) parts: Parts<R, Slot<L>>,
-    events: Vec<Event>,
+    pub(crate) events: Vec<Event>,
 }
 
 impl<R: ResourceManager + Drop, L: DecisionLog + Drop> Model for System<R, L> {
@@ -124,43 +118,11 @@ fn start_manager<L: DecisionLog + Drop>(
     }
 }
 
-/// The identifiers in a step are such. Nothing is done.
-fn has_xids(step: &Step)
-    ensures { StepHasXids step.now }
-{
-    match step {
-        Step::Issue { call, .. } => {
-            if let Some(xid) = call.xid() {
-                let _ = xid.format();
-            }
-        }
-        Step::Vote { xid, .. } | Step::Busy { xid, .. } | Step::Heuristic { xid, .. } => {
-            let _ = xid.format();
-        }
-        _ => {}
-    }
-}
-
 impl<R: ResourceManager + Drop, L: DecisionLog + Drop> System<R, L> {
-    ghost use Rattle.xa_model.specs.Replies.Demanded.{Demanded};
-    ghost use Rattle.xa_model.specs.Replies.History.{IsDemanded, reply_of, step_of};
-    ghost use Rattle.xa_system.specs.declared.system.TheConstants.{EVENT_LIMIT};
-    ghost use Rattle.xa_base.specs.Branch.{xid_of_branch};
-    ghost use Rattle.xa_model.specs.Facts.{fate, up};
-    ghost use Rattle.xa_model.specs.Replies.Steps.{happened, log_failed};
-    ghost use Rattle.xa_model.specs.Trace.{Happening.Nothing};
-    ghost use Rattle.xa_base.specs.declared.refusal.Refusal.{Refusal};
     ghost use Rattle.xa_model.specs.Promises.Headline.{Headline};
-    ghost use Rattle.xa_base.specs.declared.state.Fate.TheVariants as Fates;
-    ghost use Rattle.xa_base.specs.declared.branch.Branch.{Branch};
-    ghost use Rattle.xa_system.specs.Report.{IsReported};
-    ghost use Rattle.xa_base.specs.declared.step.Side.TheVariants as Sides;
-    ghost use Rattle.xa_base.specs.declared.step.Step.TheVariants as Steps;
-    ghost use Rattle.xa_log.specs.Content.{Content};
-    ghost use Rattle.xa_system.specs.Logged.{IsBeforeNext};
-    ghost use Rattle.xa_system.specs.Seen.{AddsSteps, FaultsHaveCauses, HasWrongSize, HoldsItsTrace, IsAsBefore, IsFailed, IsOwnIn, MayRestart, observes, origin_in, trace_in};
-    ghost use Rattle.xa_tm.specs.Slots.{LooksAt, TakesIn, last_out, log_held, slot_moment};
-    ghost use Rattle.xa_tm.specs.declared.swap_fault.SwapFault.TheVariants as SwapFault;
+    ghost use Rattle.xa_system.specs.Seen.{HasWrongSize, HoldsItsTrace, MayRestart, observes, origin_in};
+    ghost use Rattle.xa_system.specs.declared.system.TheConstants.{EVENT_LIMIT};
+    ghost use Rattle.xa_tm.specs.Slots.{log_held, slot_moment};
 
     /// A system with no events, of 1 to 8 threads and 1 to 8 resource managers that hold no branch of this manager's
     /// format, with a manager that starts over the log. Room for all events is made here, and all other room before the
@@ -236,97 +198,6 @@ impl<R: ResourceManager + Drop, L: DecisionLog + Drop> System<R, L> {
         self.events.as_slice()
     }
 
-    /// Adds one event, where there is room, and leaves all parts where the history with it leaves them.
-    ///
-    /// A refused step leaves them as they were. One in which the log failed leaves the manager down, all lines broken, and
-    /// the log as it was or with the step's one change. So is a restart of the manager refused while its log is out, or
-    /// is of another incarnation than one that a restart may follow.
-    pub fn step(&mut self, step: Step) -> Reply
-        ensures full { EVENT_LIMIT ≤ length self.old.events →
-            (result ≡ Replies.Refused Refusals.Limit) × (self.new ≡ self.old) }
-        ensures adds { length self.old.events < EVENT_LIMIT →
-            self.new.events ≡ self.old.events ++ record { step = step; reply = result } ∷ [] }
-        ensures demanded { length self.old.events < EVENT_LIMIT →
-            Demanded (trace_in (looks R.held_of R.scan_of R.in_doubt_of) self.old)
-            (step_of step) (reply_of result) }
-        ensures parts { HoldsItsTrace (observes R.held_of R.scan_of R.in_doubt_of L.moment) self.new }
-        ensures refused { (n : Refusal) → result ≡ Replies.Refused n → n ≢ Refusals.LogFault →
-            IsAsBefore (observes R.held_of R.scan_of R.in_doubt_of L.moment) self.old self.new }
-        ensures nothing { (n : Refusal) → result ≡ Replies.Refused n → n ≢ Refusals.LogFault →
-            happened (step_of step) (reply_of result) ≡ Nothing }
-        ensures down { result ≡ Replies.Refused Refusals.LogFault →
-            up (trace_in (looks R.held_of R.scan_of R.in_doubt_of) self.new) ≡ Bool.false }
-        ensures failed { result ≡ Replies.Refused Refusals.LogFault →
-            (L.moment self.old.handed).is_in_order → (slot_moment L.moment self.new.log).is_honest →
-            MayHaveFailed (trace_in (looks R.held_of R.scan_of R.in_doubt_of) self.old) (log_failed (step_of step))
-            (slot_moment L.moment self.old.log).content (slot_moment L.moment self.new.log).content }
-        ensures handed { (self.new.handed ≡ self.old.handed) × (self.new.first ≡ self.old.first)
-            × (self.new.begun ≡ self.old.begun) }
-        ensures honest { (slot_moment L.moment self.new.log).is_honest → (slot_moment L.moment self.old.log).is_honest }
-        ensures near { (L.moment self.old.handed).is_in_order →
-            (slot_moment L.moment self.new.log).is_honest →
-            MayRestart (observes R.held_of R.scan_of R.in_doubt_of L.moment) self.old →
-            MayRestart (observes R.held_of R.scan_of R.in_doubt_of L.moment) self.new }
-        ensures faults { (L.moment self.old.handed).is_in_order →
-            (slot_moment L.moment self.new.log).is_honest →
-            MayRestart (observes R.held_of R.scan_of R.in_doubt_of L.moment) self.old →
-            FaultsHaveCauses (observes R.held_of R.scan_of R.in_doubt_of L.moment) self.old self.new }
-        ensures start { origin_in (looks R.held_of R.scan_of R.in_doubt_of) self.new
-            ≡ origin_in (looks R.held_of R.scan_of R.in_doubt_of) self.old }
-        ensures out { log_held self.old.log ≡ None → step ≡ Steps.Restart Sides.Manager →
-            length self.old.events < EVENT_LIMIT →
-            up (trace_in (looks R.held_of R.scan_of R.in_doubt_of) self.old) ≡ Bool.false →
-            IsFailed result }
-        ensures other_incarnation { (c : Content) → step ≡ Steps.Restart Sides.Manager →
-            length self.old.events < EVENT_LIMIT →
-            up (trace_in (looks R.held_of R.scan_of R.in_doubt_of) self.old) ≡ Bool.false →
-            (L.moment self.old.handed).is_in_order → (slot_moment L.moment self.new.log).is_honest →
-            (slot_moment L.moment self.old.log).content ≡ Some c →
-            (IsBeforeNext (trace_in (looks R.held_of R.scan_of R.in_doubt_of) self.old) c → ⊥) →
-            IsFailed result }
-        ensures headline { Headline (origin_in (looks R.held_of R.scan_of R.in_doubt_of) self.new) self.new.events }
-    {
-        if self.events.len() >= EVENT_LIMIT {
-            self.agree();
-            return Reply::Refused(Refusal::Limit);
-        }
-        has_xids(&step);
-        let (reply, copy) = self.parts.step(&step).split();
-        self.events.push_reserved(Event { step, reply: copy });
-        self.agree();
-        reply
-    }
-
-    /// What became of a branch; `Unstarted` where the identifier names no branch of this system.
-    pub fn fate(&self, xid: &Xid) -> Fate
-        ensures own { (b : Branch) → IsOwnIn self.now b → xid.now ≡ xid_of_branch b →
-            result ≡ fate (trace_in (looks R.held_of R.scan_of R.in_doubt_of) self.now) b }
-        ensures other { ((b : Branch) → IsOwnIn self.now b → xid.now ≡ xid_of_branch b → ⊥) → result ≡ Fates.Unstarted }
-    {
-        match xid.branch() {
-            Some(branch) if self.parts.has_line(branch.thread, branch.rm) => {
-                self.parts.sites[branch.rm as usize].rm.fate(xid)
-            }
-            _ => Fate::Unstarted,
-        }
-    }
-
-    /// All branches whose xa_start was accepted, in the order of their identifiers, each with what became of it.
-    pub fn report(&self, alloc: Global) -> Result<Vec<(Xid, Fate)>, Memory>
-        ensures in_order { IfOk result (λ list. IsStrictlySortedBy xid_cmp (keys_of list.items)) }
-        ensures listed { IfOk result (λ list. (x : _) (f : _) → Contains list.items (x, f)
-            ↔ IsReported (trace_in (looks R.held_of R.scan_of R.in_doubt_of) self.now) x f) }
-    {
-        let branches = self.parts.manager.started()?;
-        let mut list = Vec::with_capacity(alloc, branches.len())?;
-        for branch in &branches {
-            let xid = branch.xid();
-            let fate = self.fate(&xid);
-            list.push_reserved((xid, fate));
-        }
-        Ok(list)
-    }
-
     /// How many more events fit.
     pub fn room(&self) -> usize
         ensures { result + length self.now.events ≡ EVENT_LIMIT }
@@ -341,38 +212,5 @@ impl<R: ResourceManager + Drop, L: DecisionLog + Drop> System<R, L> {
     {
         let _ = &self.events;
         xa_model::headline_holds();
-    }
-
-    /// Does all steps in order, or none where the trace lacks room for them.
-    pub fn run(&mut self, steps: &[Step]) -> Result<(), Refusal>
-        ensures limit { EVENT_LIMIT < length self.old.events + length steps.now → result ≡ Err Refusals.Limit }
-        ensures room { length self.old.events + length steps.now ≤ EVENT_LIMIT → IsOk result }
-        ensures err { OnErr result (self.new ≡ self.old) }
-        ensures adds { OnOk result (AddsSteps steps.now self.old.events self.new.events) }
-        ensures handed { (self.new.handed ≡ self.old.handed) × (self.new.first ≡ self.old.first)
-            × (self.new.begun ≡ self.old.begun) }
-        ensures honest { (slot_moment L.moment self.new.log).is_honest → (slot_moment L.moment self.old.log).is_honest }
-        ensures near { (L.moment self.old.handed).is_in_order →
-            (slot_moment L.moment self.new.log).is_honest →
-            MayRestart (observes R.held_of R.scan_of R.in_doubt_of L.moment) self.old →
-            MayRestart (observes R.held_of R.scan_of R.in_doubt_of L.moment) self.new }
-        ensures faults { (L.moment self.old.handed).is_in_order →
-            (slot_moment L.moment self.new.log).is_honest →
-            MayRestart (observes R.held_of R.scan_of R.in_doubt_of L.moment) self.old →
-            FaultsHaveCauses (observes R.held_of R.scan_of R.in_doubt_of L.moment) self.old self.new }
-        ensures start { origin_in (looks R.held_of R.scan_of R.in_doubt_of) self.new
-            ≡ origin_in (looks R.held_of R.scan_of R.in_doubt_of) self.old }
-        ensures parts { HoldsItsTrace (observes R.held_of R.scan_of R.in_doubt_of L.moment) self.new }
-        ensures headline { Headline (origin_in (looks R.held_of R.scan_of R.in_doubt_of) self.new) self.new.events }
-    {
-        if self.room() < steps.len() {
-            self.agree();
-            return Err(Refusal::Limit);
-        }
-        for step in steps {
-            let _reply = self.step(step.copy());
-        }
-        self.agree();
-        Ok(())
     }
 }

@@ -1,0 +1,139 @@
+//! Steps are done, one after the other.
+ghost use Rattle.std.specs.Prelude.{◌≡◌, ◌≢◌, Bool, ◌<◌, ◌≤◌, ◌+◌, ◌++◌, ◌∷◌, [], length, Some, None, Err, IsOk, OnErr, OnOk, ℕ};
+ghost use Rattle.xa_base.specs.declared.refusal.Refusal.{Refusal};
+ghost use Rattle.xa_base.specs.declared.refusal.Refusal.TheVariants as Refusals;
+ghost use Rattle.xa_base.specs.declared.reply.Reply.TheVariants as Replies;
+ghost use Rattle.xa_base.specs.declared.step.Side.TheVariants as Sides;
+ghost use Rattle.xa_base.specs.declared.step.Step.TheVariants as Steps;
+ghost use Rattle.xa_log.specs.Content.{Content};
+ghost use Rattle.xa_model.specs.Facts.{up};
+ghost use Rattle.xa_model.specs.Promises.Headline.{Headline};
+ghost use Rattle.xa_model.specs.Replies.Demanded.{Demanded};
+ghost use Rattle.xa_model.specs.Replies.History.{reply_of, step_of};
+ghost use Rattle.xa_model.specs.Replies.ReadBack.{StepHasXids};
+ghost use Rattle.xa_model.specs.Replies.Steps.{happened, log_failed};
+ghost use Rattle.xa_model.specs.Trace.{Happening.Nothing};
+ghost use Rattle.xa_system.specs.Logged.{IsBeforeNext, MayHaveFailed};
+ghost use Rattle.xa_system.specs.Seen.{AddsSteps, FaultsHaveCauses, HoldsItsTrace, IsAsBefore, IsFailed, MayRestart, observes, origin_in, trace_in};
+ghost use Rattle.xa_system.specs.Sites.{looks};
+ghost use Rattle.xa_tm.specs.Slots.{log_held, slot_moment};
+
+use crate::system::{EVENT_LIMIT, System};
+use xa_base::{Event, Refusal, Reply, Step};
+use xa_log::DecisionLog;
+use xa_rm::ResourceManager;
+
+/// The identifiers in a step are such. Nothing is done.
+fn has_xids(step: &Step)
+    ensures { StepHasXids step.now }
+{
+    match step {
+        Step::Issue { call, .. } => {
+            if let Some(xid) = call.xid() {
+                let _ = xid.format();
+            }
+        }
+        Step::Vote { xid, .. } | Step::Busy { xid, .. } | Step::Heuristic { xid, .. } => {
+            let _ = xid.format();
+        }
+        _ => {}
+    }
+}
+
+impl<R: ResourceManager + Drop, L: DecisionLog + Drop> System<R, L> {
+    ghost use Rattle.xa_system.specs.declared.system.TheConstants.{EVENT_LIMIT};
+
+    /// Adds one event, where there is room, and leaves all parts where the history with it leaves them.
+    ///
+    /// A refused step leaves them as they were. One in which the log failed leaves the manager down, all lines broken, and
+    /// the log as it was or with the step's one change. A restart of the manager is refused in the same way while its log
+    /// is out, and over a log of another incarnation than one that it may follow.
+    pub fn step(&mut self, step: Step) -> Reply
+        ensures full { EVENT_LIMIT ≤ length self.old.events →
+            (result ≡ Replies.Refused Refusals.Limit) × (self.new ≡ self.old) }
+        ensures adds { length self.old.events < EVENT_LIMIT →
+            self.new.events ≡ self.old.events ++ record { step = step; reply = result } ∷ [] }
+        ensures demanded { length self.old.events < EVENT_LIMIT →
+            Demanded (trace_in (looks R.held_of R.scan_of R.in_doubt_of) self.old)
+            (step_of step) (reply_of result) }
+        ensures parts { HoldsItsTrace (observes R.held_of R.scan_of R.in_doubt_of L.moment) self.new }
+        ensures refused { (n : Refusal) → result ≡ Replies.Refused n → n ≢ Refusals.LogFault →
+            IsAsBefore (observes R.held_of R.scan_of R.in_doubt_of L.moment) self.old self.new }
+        ensures nothing { (n : Refusal) → result ≡ Replies.Refused n → n ≢ Refusals.LogFault →
+            happened (step_of step) (reply_of result) ≡ Nothing }
+        ensures down { result ≡ Replies.Refused Refusals.LogFault →
+            up (trace_in (looks R.held_of R.scan_of R.in_doubt_of) self.new) ≡ Bool.false }
+        ensures failed { result ≡ Replies.Refused Refusals.LogFault →
+            (L.moment self.old.handed).is_in_order → (slot_moment L.moment self.new.log).is_honest →
+            MayHaveFailed (trace_in (looks R.held_of R.scan_of R.in_doubt_of) self.old) (log_failed (step_of step))
+            (slot_moment L.moment self.old.log).content (slot_moment L.moment self.new.log).content }
+        ensures handed { (self.new.handed ≡ self.old.handed) × (self.new.first ≡ self.old.first)
+            × (self.new.begun ≡ self.old.begun) }
+        ensures honest { (slot_moment L.moment self.new.log).is_honest → (slot_moment L.moment self.old.log).is_honest }
+        ensures near { (L.moment self.old.handed).is_in_order →
+            (slot_moment L.moment self.new.log).is_honest →
+            MayRestart (observes R.held_of R.scan_of R.in_doubt_of L.moment) self.old →
+            MayRestart (observes R.held_of R.scan_of R.in_doubt_of L.moment) self.new }
+        ensures faults { (L.moment self.old.handed).is_in_order →
+            (slot_moment L.moment self.new.log).is_honest →
+            MayRestart (observes R.held_of R.scan_of R.in_doubt_of L.moment) self.old →
+            FaultsHaveCauses (observes R.held_of R.scan_of R.in_doubt_of L.moment) self.old self.new }
+        ensures start { origin_in (looks R.held_of R.scan_of R.in_doubt_of) self.new
+            ≡ origin_in (looks R.held_of R.scan_of R.in_doubt_of) self.old }
+        ensures out { log_held self.old.log ≡ None → step ≡ Steps.Restart Sides.Manager →
+            length self.old.events < EVENT_LIMIT →
+            up (trace_in (looks R.held_of R.scan_of R.in_doubt_of) self.old) ≡ Bool.false →
+            IsFailed result }
+        ensures other_incarnation { (c : Content) → step ≡ Steps.Restart Sides.Manager →
+            length self.old.events < EVENT_LIMIT →
+            up (trace_in (looks R.held_of R.scan_of R.in_doubt_of) self.old) ≡ Bool.false →
+            (L.moment self.old.handed).is_in_order → (slot_moment L.moment self.new.log).is_honest →
+            (slot_moment L.moment self.old.log).content ≡ Some c →
+            (IsBeforeNext (trace_in (looks R.held_of R.scan_of R.in_doubt_of) self.old) c → ⊥) →
+            IsFailed result }
+        ensures headline { Headline (origin_in (looks R.held_of R.scan_of R.in_doubt_of) self.new) self.new.events }
+    {
+        if self.events.len() >= EVENT_LIMIT {
+            self.agree();
+            return Reply::Refused(Refusal::Limit);
+        }
+        has_xids(&step);
+        let (reply, copy) = self.parts.step(&step).split();
+        self.events.push_reserved(Event { step, reply: copy });
+        self.agree();
+        reply
+    }
+
+    /// Does all steps in order, or none where the trace lacks room for them.
+    pub fn run(&mut self, steps: &[Step]) -> Result<(), Refusal>
+        ensures limit { EVENT_LIMIT < length self.old.events + length steps.now → result ≡ Err Refusals.Limit }
+        ensures room { length self.old.events + length steps.now ≤ EVENT_LIMIT → IsOk result }
+        ensures err { OnErr result (self.new ≡ self.old) }
+        ensures adds { OnOk result (AddsSteps steps.now self.old.events self.new.events) }
+        ensures handed { (self.new.handed ≡ self.old.handed) × (self.new.first ≡ self.old.first)
+            × (self.new.begun ≡ self.old.begun) }
+        ensures honest { (slot_moment L.moment self.new.log).is_honest → (slot_moment L.moment self.old.log).is_honest }
+        ensures near { (L.moment self.old.handed).is_in_order →
+            (slot_moment L.moment self.new.log).is_honest →
+            MayRestart (observes R.held_of R.scan_of R.in_doubt_of L.moment) self.old →
+            MayRestart (observes R.held_of R.scan_of R.in_doubt_of L.moment) self.new }
+        ensures faults { (L.moment self.old.handed).is_in_order →
+            (slot_moment L.moment self.new.log).is_honest →
+            MayRestart (observes R.held_of R.scan_of R.in_doubt_of L.moment) self.old →
+            FaultsHaveCauses (observes R.held_of R.scan_of R.in_doubt_of L.moment) self.old self.new }
+        ensures start { origin_in (looks R.held_of R.scan_of R.in_doubt_of) self.new
+            ≡ origin_in (looks R.held_of R.scan_of R.in_doubt_of) self.old }
+        ensures parts { HoldsItsTrace (observes R.held_of R.scan_of R.in_doubt_of L.moment) self.new }
+        ensures headline { Headline (origin_in (looks R.held_of R.scan_of R.in_doubt_of) self.new) self.new.events }
+    {
+        if self.room() < steps.len() {
+            self.agree();
+            return Err(Refusal::Limit);
+        }
+        for step in steps {
+            let _reply = self.step(step.copy());
+        }
+        self.agree();
+        Ok(())
+    }
+}
