@@ -106,7 +106,7 @@ module _ {R L : Type 0} (see : Sees R L) where
       → reply ≡ Replies.Crashed → (nat_lt t parts.lines.threads && nat_lt r parts.lines.rms) ≡ true
       → (book_in parts.manager).up ≡ true → site.is_up ≡ true → x ≡ no_traffic → Breaks see.look t site.rm rm
       → book_in manager ≡ after (book_in parts.manager) (Crashed (KnownParts.Line t r))
-      → ((tr : Trace) → LogFollows see.logs tr (Crashed (KnownParts.Line t r)) parts.manager manager)
+      → ((tr : Trace) → LogFollows see.moment tr (Crashed (KnownParts.Line t r)) parts.manager manager)
       → (tr : Trace) → Stands see tr parts → slice_get parts.sites.items r ≡ Some site
       → OneMore see (Steps.Crash (KnownParts.Line t r)) reply tr parts
       (record { alloc = parts.alloc; start = parts.start; began = parts.began; sites = with_item parts.sites r (record { rm = rm; is_up = site.is_up }); lines = with_line parts.lines t r x; manager = manager })
@@ -188,7 +188,7 @@ module _ {R L : Type 0} (see : Sees R L) where
   pub crash_rm_leads : (parts : Parts R L) (r : ℕ) (site : Site R) (rm : R) (lines : Grid) (manager : Manager L) (reply : Reply Xid)
       → reply ≡ Replies.Crashed → r < parts.lines.rms → site.is_up ≡ true → Crashes see.look site.rm rm → RenewsRm parts.lines lines r
       → book_in manager ≡ after (book_in parts.manager) (Crashed (KnownParts.Rm r))
-      → ((tr : Trace) → LogFollows see.logs tr (Crashed (KnownParts.Rm r)) parts.manager manager) → (tr : Trace)
+      → ((tr : Trace) → LogFollows see.moment tr (Crashed (KnownParts.Rm r)) parts.manager manager) → (tr : Trace)
       → Stands see tr parts → slice_get parts.sites.items r ≡ Some site
       → OneMore see (Steps.Crash (KnownParts.Rm r)) reply tr parts
       (record { alloc = parts.alloc; start = parts.start; began = parts.began; sites = with_item parts.sites r (record { rm = rm; is_up = false }); lines = lines; manager = manager })
@@ -257,7 +257,7 @@ module _ {R L : Type 0} (see : Sees R L) where
             stands.sites;
         lines = λ t s has. line_stays tr e (line t s) (line_at parts.lines t s) refl refl refl refl (stands.lines t s has);
         book = stands.book;
-        log = log_stays see.logs e parts.manager (λ n. refl);
+        log = log_stays see.moment e parts.manager (λ n. refl);
         unchanged = λ q. absurd (subst IsEvent q tt);
       })
 
@@ -289,7 +289,7 @@ module _ {R L : Type 0} (see : Sees R L) where
   pub crash_manager_leads : (parts : Parts R L) (sites : Vec (Site R) Global) (lines : Grid) (manager : Manager L) (reply : Reply Xid)
       → reply ≡ Replies.Crashed → (book_in parts.manager).up ≡ true → AllCrash see.look parts.sites.items sites.items
       → lines ≡ new_grid parts.lines.threads parts.lines.rms → book_in manager ≡ after (book_in parts.manager) (Crashed KnownParts.Manager)
-      → ((tr : Trace) → LogFollows see.logs tr (Crashed KnownParts.Manager) parts.manager manager) → (tr : Trace) → Stands see tr parts
+      → ((tr : Trace) → LogFollows see.moment tr (Crashed KnownParts.Manager) parts.manager manager) → (tr : Trace) → Stands see tr parts
       → OneMore see (Steps.Crash KnownParts.Manager) reply tr parts
       (record { alloc = parts.alloc; start = parts.start; began = parts.began; sites = sites; lines = lines; manager = manager })
   crash_manager_leads parts sites lines manager reply is up did renewed book log tr stands =

@@ -53,7 +53,7 @@ module _ {R L : Type 0} (see : Sees R L) where
       → (n ≡ Refusals.LogFault → AllCrash see.look parts.sites.items sites.items)
       → (n ≡ Refusals.LogFault → lines ≡ new_grid parts.lines.threads parts.lines.rms)
       → (n ≢ Refusals.LogFault → sites ≡ parts.sites) → (n ≢ Refusals.LogFault → lines ≡ parts.lines)
-      → ((tr : Trace) (c : Content) → book_in parts.manager ≡ book_of tr → change c ≡ change_in tr f c) → LogUndone see.logs A n change parts.manager manager
+      → ((tr : Trace) (c : Content) → book_in parts.manager ≡ book_of tr → change c ≡ change_in tr f c) → LogUndone see.moment A n change parts.manager manager
       → GoesOn see step reply parts (record { alloc = parts.alloc; start = parts.start; began = parts.began; sites = sites; lines = lines; manager = manager })
   manager_undone {A = A} step f asked change parts n sites lines manager reply has looked same may fault up asks uses is refused fails crash broken sites_stay lines_stay changes undone tr stands few = by_rule (refusal_in (book_in parts.manager) (step_of step)) refl
     where
@@ -78,8 +78,8 @@ module _ {R L : Type 0} (see : Sees R L) where
           fail_goes see tr step f reply parts sites lines manager stands has (is ∙ ap (λ m. Replies.Refused m) w.0) none
           (uses tr stands.book free w.0) fault (up tr none) (crash w.0) (broken w.0)
           (w.1 ∙ ap (λ d. book_after (book_in parts.manager) d (Failed f)) (asks tr stands.book))
-          (log_failing see.logs f n parts.manager manager w.0
-          (subst (λ (d : Content → Content). LogUndone see.logs A n d parts.manager manager) (λ i c. changes tr c stands.book i) undone))
+          (log_failing see.moment f n parts.manager manager w.0
+          (subst (λ (d : Content → Content). LogUndone see.moment A n d parts.manager manager) (λ i c. changes tr c stands.book i) undone))
 
       by_rule : (o : Option Refusal) → refusal_in (book_in parts.manager) (step_of step) ≡ o
           → OneMore see step reply tr parts (record { alloc = parts.alloc; start = parts.start; began = parts.began; sites = sites; lines = lines; manager = manager })

@@ -121,3 +121,22 @@ causes_more old new event n m k all rises same = by (says_log_fault event.reply)
     by t (inl most) e = inl (subst (λ c. greatest_count ≤ c) (sym same) most)
     by true (inr more) e = inr (omega (arith, more, e, same))
     by false (inr more) e = inr (omega (arith, more, e, same))
+
+-- causes of the events so far, and of one more, are causes of all
+pub causes_chain : (first old new : List Event) (event : Event) (n m k : ℕ) → new ≡ old ++ event ∷ []
+    → (greatest_count ≤ m) ⊎ (log_faults old + n ≤ log_faults first + m) → (greatest_count ≤ k) ⊎ (log_faults new + m ≤ log_faults old + k)
+    → (greatest_count ≤ k) ⊎ (log_faults new + n ≤ log_faults first + k)
+causes_chain first old new event n m k all so_far one = by so_far one (ap log_faults all ∙ faults_push old event)
+  where
+    more : (t : Bool) → log_faults old ≤ (if t then log_faults old + 1 else log_faults old)
+    more true = omega arith
+    more false = omega arith
+
+    by : (greatest_count ≤ m) ⊎ (log_faults old + n ≤ log_faults first + m) → (greatest_count ≤ k) ⊎ (log_faults new + m ≤ log_faults old + k)
+        → log_faults new ≡ (if says_log_fault event.reply then log_faults old + 1 else log_faults old)
+        → (greatest_count ≤ k) ⊎ (log_faults new + n ≤ log_faults first + k)
+    by before (inl most) e = inl most
+    by (inl most) (inr step) e =
+        let grown : log_faults old ≤ log_faults new = subst (λ x. log_faults old ≤ x) (sym e) (more (says_log_fault event.reply)) in
+        inl (let a : greatest_count ≤ k = omega (arith, most, step, grown) in a)
+    by (inr before) (inr step) e = inr (let a : log_faults new + n ≤ log_faults first + k = omega (arith, before, step) in a)

@@ -134,7 +134,7 @@ module _ {R L : Type 0} (see : Sees R L) where
       → must_refuse tr (step_of step) ≡ None → UsesLog tr (step_of step) → log_failed (step_of step) ≡ Failed f → facts.up tr ≡ true
       → AllCrash see.look parts.sites.items sites.items → lines ≡ new_grid parts.lines.threads parts.lines.rms
       → book_in manager ≡ book_after (book_in parts.manager) (asked_in tr (Failed f)) (Failed f)
-      → LogFollows see.logs tr (Failed f) parts.manager manager
+      → LogFollows see.moment tr (Failed f) parts.manager manager
       → OneMore see step reply tr parts (record { alloc = parts.alloc; start = parts.start; began = parts.began; sites = sites; lines = lines; manager = manager })
   fail_goes tr step f reply parts sites lines manager stands has is none uses fault up did renewed book log =
       let demanded : Demanded tr (step_of step) (Replies.Refused Refusals.LogFault) = For_log none uses refl in
@@ -224,7 +224,7 @@ module _ {R L : Type 0} (see : Sees R L) where
         → Some (call, a) ≡ slice_get (line_at parts.lines t r).answers.waiting 0 → reply ≡ Replies.Heard call a
         → ((c : Call) → accepted (map_call name_of call) ≡ Some c → book_in manager ≡ after (book_in parts.manager) (Heard (line t r) c (map_answer name_of a)))
         → PassesOn (line_at parts.lines t r).answers (call, a) x.answers → x.calls ≡ (line_at parts.lines t r).calls
-        → LogCalled see.logs (let y : Result (Unit {0}) Refusal = Ok tt in y) parts.manager manager
+        → LogCalled see.moment (let y : Result (Unit {0}) Refusal = Ok tt in y) parts.manager manager
         → OneMore see (Steps.Hear t r) reply tr parts
         (record { alloc = parts.alloc; start = parts.start; began = parts.began; sites = parts.sites; lines = with_line parts.lines t r x; manager = manager })
     hear_did call a x manager reply first is book passes same called =
@@ -254,7 +254,7 @@ module _ {R L : Type 0} (see : Sees R L) where
           book = book_then see tr e parts manager stands
               (subst (Right tr) happens (demanded_right tr (Steps.Hear t r) (Replies.Heard (map_call Ours k.0) (map_answer name_of a)) demanded))
               (book k.0 k.1);
-          log = log_done see.logs e tt parts.manager manager (λ n. refl) called;
+          log = log_done see.moment e tt parts.manager manager (λ n. refl) called;
           unchanged = λ q. absurd (subst IsEvent q tt);
         }))
 
@@ -265,7 +265,7 @@ module _ {R L : Type 0} (see : Sees R L) where
         → lines ≡ new_grid parts.lines.threads parts.lines.rms
         → ((c : Call) → accepted (map_call name_of call) ≡ Some c
         → book_in manager ≡ book_after (book_in parts.manager) (doubt_of (facts.record_of c (map_answer name_of a))) (Failed (InHear (line t r))))
-        → LogFollows see.logs tr (Failed (InHear (line t r))) parts.manager manager
+        → LogFollows see.moment tr (Failed (InHear (line t r))) parts.manager manager
         → OneMore see (Steps.Hear t r) reply tr parts
         (record { alloc = parts.alloc; start = parts.start; began = parts.began; sites = sites; lines = lines; manager = manager })
     hear_failed call a how sites lines manager reply first is code up did renewed book log =
@@ -284,7 +284,7 @@ module _ {R L : Type 0} (see : Sees R L) where
         → (n ≡ Refusals.LogFault → lines ≡ new_grid parts.lines.threads parts.lines.rms)
         → (n ≢ Refusals.LogFault → sites ≡ parts.sites) → (n ≢ Refusals.LogFault → lines ≡ parts.lines)
         → ((c : Call) → accepted (map_call name_of call) ≡ Some c
-        → LogUndone see.logs (Unit {0}) n (made (doubt_of (facts.record_of c (map_answer name_of a)))) parts.manager manager)
+        → LogUndone see.moment (Unit {0}) n (made (doubt_of (facts.record_of c (map_answer name_of a)))) parts.manager manager)
         → OneMore see (Steps.Hear t r) reply tr parts
         (record { alloc = parts.alloc; start = parts.start; began = parts.began; sites = sites; lines = lines; manager = manager })
     hear_undone call a n sites lines manager reply first is up fails uses crash broken sites_stay lines_stay called =
@@ -305,7 +305,7 @@ module _ {R L : Type 0} (see : Sees R L) where
         by_cause (inr w) =
             hear_failed call a (uses w.0).0 sites lines manager reply first (is ∙ ap (λ m. Replies.Refused m) w.0) (uses w.0).1 up (crash w.0) (broken w.0)
             (λ c e. subst (λ d. book_in manager ≡ book_after (book_in parts.manager) (doubt_of (facts.record_of d (map_answer name_of a))) (Failed (InHear (line t r)))) (let two : Some (heard_known call a first).0 ≡ Some c = sym (heard_known call a first).1 ∙ e in some_is _ _ two) w.1)
-            (log_failing see.logs (InHear (line t r)) n parts.manager manager w.0
-            (subst (λ (d : Content → Content). LogUndone see.logs (Unit {0}) n d parts.manager manager)
+            (log_failing see.moment (InHear (line t r)) n parts.manager manager w.0
+            (subst (λ (d : Content → Content). LogUndone see.moment (Unit {0}) n d parts.manager manager)
             (λ i d. (made_is (facts.record_of (heard_known call a first).0 (map_answer name_of a)) d ∙ ap (λ e. changed e d) (sym (ap facts.record_of_next (heard_known call a first).2))) i)
             (called (heard_known call a first).0 (heard_known call a first).1)))

@@ -255,8 +255,8 @@ module _ {R L : Type 0} (see : Sees R L) where
             (λ u q has_u apart. line_stays tr e (line u q) (line_at parts.lines u q) refl (rw apart refl) refl refl (stands.lines u q has_u));
         book = book_then see tr e parts manager stands
             (subst (Right tr) happens (demanded_right tr (Steps.Issue t r (map_call name_of call)) Replies.Issued demanded)) (book c known_so.1);
-        log = log_kept see.logs e parts.manager manager (λ n. refl) same
-            (λ held h. subst (λ k. IsTied k held) (sym (book c known_so.1)) (tied_issued (book_in parts.manager) (line t r) c held h));
+        log = log_kept see.moment e parts.manager manager (λ n. refl) same
+            (λ near held h. subst (λ k. IsTied near k held) (sym (book c known_so.1)) (tied_issued near (book_in parts.manager) (line t r) c held h));
         unchanged = λ q. absurd (subst IsEvent q tt);
       }))
 

@@ -30,3 +30,5 @@ pub mod ScriptLeads
 pub mod Recovering
 pub mod Within
 pub mod Reporting
+pub mod Restarting
+pub mod Running

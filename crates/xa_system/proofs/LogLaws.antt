@@ -1,8 +1,9 @@
 -- The log of a system stands where its history leaves it.
-use Rattle.std.proofs.Common.{◌≡◌, ◌⊎◌, inl, inr, ℕ, List, [], ◌∷◌, Bool, true, false, refl, sym, ap, subst, ◌∙◌}
+use Rattle.std.proofs.Common.{◌≡◌, ◌≤◌, ◌+◌, ◌⊎◌, inl, inr, ℕ, List, [], ◌∷◌, Bool, true, false, refl, sym, ap, subst, ◌∙◌, arith}
 use Rattle.std.specs.Prelude.{◌||◌, if◌then◌else◌, Option, Some, None, IsSomeAnd}
 use Rattle.xa_base.specs.Branch.{gtrid_eq}
 use Rattle.xa_model.specs.Facts as facts
+use Rattle.xa_model.specs.Replies.Demanded.{failed_restarts}
 use Rattle.xa_model.specs.Facts.{Change, Change.AddRecord, Change.AddRow, Change.DropRow, Change.NoChange, lists_row, participants_in}
 use Rattle.xa_model.specs.Trace.{Origin, Row, Trace, Trace.From}
 use Rattle.xa_base.specs.declared.branch.Gtrid.{Gtrid}
@@ -11,8 +12,8 @@ use Rattle.xa_log.specs.Contract.{Makes}
 use Rattle.xa_log.specs.KeySet.{from_list}
 use Rattle.xa_tm.specs.Book.{Book, book_of, doubt_of, row_in}
 use Rattle.xa_tm.specs.Starting.{book_at_start}
-use Rattle.xa_tm.specs.Tied.{HoldsBook, IsTied, MayHold, SameRows, TiedBy, made}
-use Rattle.xa_system.specs.Logged.{HoldsRows, LogStands, LogStandsBy, MayHoldRows, StartsOver, changed}
+use Rattle.xa_tm.specs.Tied.{HoldsBook, IsTied, IsTiedUp, MayHold, SameRows, TiedBy, made}
+use Rattle.xa_system.specs.Logged.{HoldsRows, IsBeforeNext, LogStands, LogStandsBy, MayHoldRows, MayRestartOver, StartsOver, changed}
 
 -- ** rows
 
@@ -48,17 +49,36 @@ may_hold_rows tr c holds = (holds.0, holds_rows tr holds.0 holds.1, by holds.2)
     by (inr same) = inr (subst (SameRows c) (made_is (facts.doubt tr) holds.0) same)
 
 -- what is tied to the book of a history is where the history leaves it
-pub tied_stands : (tr : Trace) (held : Option Content) → IsTied (book_of tr) held → LogStands tr held
+pub tied_stands : (tr : Trace) (held : Option Content) → IsTied false (book_of tr) held → LogStands tr held
 tied_stands tr held tied = by (facts.up tr) held tied
   where
-    by : (u : Bool) (held : Option Content) → TiedBy u (book_of tr) held → LogStandsBy u tr held
+    by : (u : Bool) (held : Option Content) → TiedBy u false (book_of tr) held → LogStandsBy u tr held
     by true None tied = absurd tied
     by true (Some c) tied = record { rows = holds_rows tr c tied.holds; incarnation_is = tied.incarnation }
-    by false held tied = λ c is. record {
-      rows = may_hold_rows tr c (tied c is).holds;
-      least = (tied c is).incarnation.least;
-      most = (tied c is).incarnation.most;
-    }
+    by false held tied = λ c is. may_hold_rows tr c (tied c is).holds
+
+-- a log that is tied and near is of an incarnation that a restart may follow, and the other way round
+pub near_restarts : (tr : Trace) (held : Option Content) → IsTied true (book_of tr) held → MayRestartOver tr held
+near_restarts tr held tied = by (facts.up tr) held tied
+  where
+    at_once : (d c : Content) → d ≡ c → IsTiedUp (book_of tr) d → IsBeforeNext tr c
+    at_once d c same tied = subst (IsBeforeNext tr) same (record {
+      least = let a : facts.incarnation tr ≤ d.incarnation = omega (arith, tied.incarnation) in a;
+      most = let a : d.incarnation ≤ facts.incarnation tr + failed_restarts tr = omega (arith, tied.incarnation) in a;
+    })
+
+    by : (u : Bool) (held : Option Content) → TiedBy u true (book_of tr) held → MayRestartOver tr held
+    by true None tied c is = absurd tied
+    by true (Some d) tied c is = at_once d c (let same : d ≡ c = cc in same) tied
+    by false held tied c is =
+        let reached = (tied c is).incarnation refl in record { least = reached.least; most = reached.most }
+
+pub restarts_near : (tr : Trace) (held : Option Content) → IsTied false (book_of tr) held → MayRestartOver tr held → IsTied true (book_of tr) held
+restarts_near tr held tied may = by (facts.up tr) tied
+  where
+    by : (u : Bool) → TiedBy u false (book_of tr) held → TiedBy u true (book_of tr) held
+    by true tied = tied
+    by false tied = λ c is. record { holds = (tied c is).holds; incarnation = λ near. let next = may c is in record { least = next.least; most = next.most } }
 
 -- ** the start
 

@@ -92,7 +92,7 @@ module _ {R L : Type 0} (see : Sees R L) where
 
   pub own_follows : (tr : Trace) (e : Happening) (parts : Parts R L) (manager : Manager L) → IsOwn tr e → Stands see tr parts
       → book_in manager ≡ book_of (Then tr e)
-      → LogFollows see.logs tr e parts.manager manager → Follows see tr e parts (with_manager parts manager)
+      → LogFollows see.moment tr e parts.manager manager → Follows see tr e parts (with_manager parts manager)
   own_follows tr e parts manager own stands book log = record {
     start = refl;
     began = refl;
@@ -119,7 +119,7 @@ module _ {R L : Type 0} (see : Sees R L) where
       → refusal_in (book_in parts.manager) (step_of step) ≡ None → IsValue tr (step_of step) seen
       → IsOwn tr (happened (step_of step) seen) → asked_in tr (happened (step_of step) seen) ≡ Doubt.Settled
       → book_in manager ≡ after (book_in parts.manager) (happened (step_of step) seen)
-      → LogFollows see.logs tr (happened (step_of step) seen) parts.manager manager
+      → LogFollows see.moment tr (happened (step_of step) seen) parts.manager manager
       → OneMore see step reply tr parts (with_manager parts manager)
   did_goes tr step reply seen parts manager stands has looked is same none value own asked book log =
       let demanded = As_value (sym same ∙ sym (judged tr parts (step_of step) looked stands) ∙ none) value in
@@ -178,8 +178,8 @@ module _ {R L : Type 0} (see : Sees R L) where
       did_goes tr (Steps.Begin t) reply (Replies.Begun g) parts manager stands tt tt (ap reply_of is) refl none
       (ap (λ h. Replies.Begun h) (next ∙ ap (λ (k : Book). record { incarnation = k.incarnation; sequence = k.sequence + 1 }) stands.book))
       (own_begun tr g) refl book
-      (log_kept see.logs (Begun g) parts.manager manager (λ k. refl) log
-      (λ held h. subst (λ k. IsTied k held) (sym book) (tied_begun (book_in parts.manager) g held h)))
+      (log_kept see.moment (Begun g) parts.manager manager (λ k. refl) log
+      (λ near held h. subst (λ k. IsTied near k held) (sym book) (tied_begun near (book_in parts.manager) g held h)))
 
   -- a refusal of the manager, or want of memory
   pub manager_refused : {A : Type 0} (step : Step Xid) (parts : Parts R L) (manager : Manager L) (n : Refusal) (reply : Reply Xid)
@@ -201,41 +201,41 @@ module _ {R L : Type 0} (see : Sees R L) where
       → GoesOn see (Steps.Claim g) reply parts (with_manager parts manager)
   claim_did parts manager g reply is none book log tr stands few =
       did_goes tr (Steps.Claim g) reply Replies.Claimed parts manager stands tt tt (ap reply_of is) refl none refl (own_claimed tr g) refl book
-      (log_kept see.logs (Claimed g) parts.manager manager (λ k. refl) log
-      (λ held h. subst (λ k. IsTied k held) (sym book) (tied_claimed (book_in parts.manager) g held h)))
+      (log_kept see.moment (Claimed g) parts.manager manager (λ k. refl) log
+      (λ near held h. subst (λ k. IsTied near k held) (sym book) (tied_claimed near (book_in parts.manager) g held h)))
 
   pub abandon_did : (parts : Parts R L) (manager : Manager L) (g : Gtrid) (reply : Reply Xid) → reply ≡ Replies.Decided
       → refusal_in (book_in parts.manager) (Steps.Abandon g) ≡ None
       → book_in manager ≡ after (book_in parts.manager) (Decided g Outcomes.Rollback)
-      → LogCalled see.logs (let x : Result (Unit {0}) Refusal = Ok tt in x) parts.manager manager
+      → LogCalled see.moment (let x : Result (Unit {0}) Refusal = Ok tt in x) parts.manager manager
       → GoesOn see (Steps.Abandon g) reply parts (with_manager parts manager)
   abandon_did parts manager g reply is none book did tr stands few =
       did_goes tr (Steps.Abandon g) reply Replies.Decided parts manager stands tt tt (ap reply_of is) refl none refl
       (own_decided tr g Outcomes.Rollback) refl book
-      (log_done see.logs (Decided g Outcomes.Rollback) tt parts.manager manager (λ k. refl) did)
+      (log_done see.moment (Decided g Outcomes.Rollback) tt parts.manager manager (λ k. refl) did)
 
   pub decide_did : (parts : Parts R L) (manager : Manager L) (g : Gtrid) (o : Outcome) (reply : Reply Xid)
       → reply ≡ Replies.Decided → refusal_in (book_in parts.manager) (Steps.Decide g o) ≡ None
       → book_in manager ≡ after (book_in parts.manager) (Decided g o)
-      → LogCalled see.logs (let x : Result (Unit {0}) Refusal = Ok tt in x) parts.manager manager
+      → LogCalled see.moment (let x : Result (Unit {0}) Refusal = Ok tt in x) parts.manager manager
       → GoesOn see (Steps.Decide g o) reply parts (with_manager parts manager)
   decide_did parts manager g o reply is none book did tr stands few =
       did_goes tr (Steps.Decide g o) reply Replies.Decided parts manager stands tt tt (ap reply_of is) refl none refl (own_decided tr g o) refl book
-      (log_done see.logs (Decided g o) tt parts.manager manager (λ k. refl) did)
+      (log_done see.moment (Decided g o) tt parts.manager manager (λ k. refl) did)
 
   pub settle_did : (parts : Parts R L) (manager : Manager L) (g : Gtrid) (reply : Reply Xid) → reply ≡ Replies.Decided
       → refusal_in (book_in parts.manager) (Steps.Settle g) ≡ None
       → book_in manager ≡ after (book_in parts.manager) (Decided g Outcomes.Commit)
-      → LogCalled see.logs (let x : Result (Unit {0}) Refusal = Ok tt in x) parts.manager manager
+      → LogCalled see.moment (let x : Result (Unit {0}) Refusal = Ok tt in x) parts.manager manager
       → GoesOn see (Steps.Settle g) reply parts (with_manager parts manager)
   settle_did parts manager g reply is none book did tr stands few =
       did_goes tr (Steps.Settle g) reply Replies.Decided parts manager stands tt tt (ap reply_of is) refl none refl (own_decided tr g Outcomes.Commit) refl book
-      (log_done see.logs (Decided g Outcomes.Commit) tt parts.manager manager (λ k. refl) did)
+      (log_done see.moment (Decided g Outcomes.Commit) tt parts.manager manager (λ k. refl) did)
 
   pub done_did : (parts : Parts R L) (manager : Manager L) (g : Gtrid) (reply : Reply Xid) → reply ≡ Replies.Noted
       → refusal_in (book_in parts.manager) (Steps.Done g) ≡ None
-      → book_in manager ≡ after (book_in parts.manager) (Done g) → LogCalled see.logs (let x : Result (Unit {0}) Refusal = Ok tt in x) parts.manager manager
+      → book_in manager ≡ after (book_in parts.manager) (Done g) → LogCalled see.moment (let x : Result (Unit {0}) Refusal = Ok tt in x) parts.manager manager
       → GoesOn see (Steps.Done g) reply parts (with_manager parts manager)
   done_did parts manager g reply is none book did tr stands few =
       did_goes tr (Steps.Done g) reply Replies.Noted parts manager stands tt tt (ap reply_of is) refl none refl (own_done tr g) refl book
-      (log_done see.logs (Done g) tt parts.manager manager (λ k. refl) did)
+      (log_done see.moment (Done g) tt parts.manager manager (λ k. refl) did)

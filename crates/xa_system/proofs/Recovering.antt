@@ -50,6 +50,7 @@ recover_goes see r count start end reply old new goes tr stands few =
     record {
       demanded = same_demanded tr r count start end (reply_of reply) there one.demanded;
       stands = subst (λ e. Stands see (Then tr e) new) (same_happening tr r count start end (reply_of reply) one.demanded) one.stands;
-      log = subst (λ e. LogFollows see.logs tr e old.manager new.manager) (same_happening tr r count start end (reply_of reply) one.demanded) one.log;
+      began = one.began;
+      log = subst (λ e. LogFollows see.moment tr e old.manager new.manager) (same_happening tr r count start end (reply_of reply) one.demanded) one.log;
       unchanged = one.unchanged;
     }

@@ -19,6 +19,8 @@ use Rattle.xa_base.proofs.BytesOrder.{branch_order}
 use Rattle.xa_log.specs.KeySet.{contains-from_list, contains-items, from_list, items}
 use Rattle.xa_system.specs.Parts.{Sees}
 use Rattle.xa_system.specs.Report.{IsReported}
+use Rattle.xa_log.specs.Contract.{Moment}
+use Rattle.xa_tm.specs.declared.slot.Slot.{Slot}
 use Rattle.xa_system.specs.Seen.{IsOwnIn, IsSound, Seen, seen, start_of, trace_in}
 use Rattle.xa_system.specs.Trace.{Each}
 use Rattle.xa_system.specs.declared.system.System.TheInside.{Inside}
@@ -141,20 +143,20 @@ fits_at tr (b ∷ bs) all q is = by (eq_by_cmp branch_cmp q b) refl is (fits_at 
     by true same s rest = subst IsBranch (sym (same_branch q b same)) all.0
     by false apart s rest = rest s
 
-module _ {R L : Type 0} (see : Sees R L) where
+module _ {R L : Type 0} (see : Sees R (Slot L)) (moment : L → Moment) where
   abbrev trace_of : Inside R L → Trace
-  trace_of a = history (start_of see a.parts) a.events.items
+  trace_of a = history (start_of see moment a.parts) a.events.items
 
   -- the branches that the manager lists are those that were started
-  pub is_listed : (a : Inside R L) → IsSound see a → (bs : List Branch) → bs ≡ items (book_in a.parts.manager).known
+  pub is_listed : (a : Inside R L) → IsSound see moment a → (bs : List Branch) → bs ≡ items (book_in a.parts.manager).known
       → (q : Branch) → is_among q bs ≡ started (trace_of a) q
   is_listed a sound bs is q =
       ap (is_among q) (is ∙ ap (λ (k : Book). items k.known) sound.stands.book)
       ∙ sym (contains-items (from_list (branches (trace_of a))) q) ∙ contains-from_list branches_total (branches (trace_of a)) q ∙ among_branches (trace_of a) q
 
-  pub own : (a : Inside R L) → IsSound see a → (q : Branch) → started (trace_of a) q ≡ true → IsOwnIn (seen a) q
+  pub own : (a : Inside R L) → IsSound see moment a → (q : Branch) → started (trace_of a) q ≡ true → IsOwnIn (seen a) q
   own a sound q is =
-      let o = start_of see a.parts in
+      let o = start_of see moment a.parts in
       let within = all_within (From o) (map read a.events.items) sound.demanded (none_started o) q is in
       let at = origin_is o a.events.items in
       record {
@@ -162,13 +164,13 @@ module _ {R L : Type 0} (see : Sees R L) where
         there = (subst (λ p. q.thread < p.threads) at within.0, subst (λ n. q.rm < n) (sym sound.stands.rms) within.1);
       }
 
-  pub all_own : (a : Inside R L) → IsSound see a → (bs : List Branch) → bs ≡ items (book_in a.parts.manager).known → AllByRecursion (IsOwnIn (seen a)) bs
+  pub all_own : (a : Inside R L) → IsSound see moment a → (bs : List Branch) → bs ≡ items (book_in a.parts.manager).known → AllByRecursion (IsOwnIn (seen a)) bs
   all_own a sound bs is = each_from (IsOwnIn (seen a)) bs (λ q among. own a sound q (sym (is_listed a sound bs is q) ∙ among))
 
-  pub all_fit : (a : Inside R L) → IsSound see a → (bs : List Branch) → bs ≡ items (book_in a.parts.manager).known → AllByRecursion IsBranch bs
+  pub all_fit : (a : Inside R L) → IsSound see moment a → (bs : List Branch) → bs ≡ items (book_in a.parts.manager).known → AllByRecursion IsBranch bs
   all_fit a sound bs is = each_from IsBranch bs (λ q among. (own a sound q (sym (is_listed a sound bs is q) ∙ among)).fits)
 
-  pub reports : (a : Inside R L) → IsSound see a → (bs : List Branch) → bs ≡ items (book_in a.parts.manager).known → (x : Xid) (f : Fate)
+  pub reports : (a : Inside R L) → IsSound see moment a → (bs : List Branch) → bs ≡ items (book_in a.parts.manager).known → (x : Xid) (f : Fate)
       → Contains (map (reported (trace_of a)) bs) (x, f) → IsReported (trace_of a) x f
   reports a sound bs is x f at =
       let c = comes (reported (trace_of a)) bs (x, f) at.0 at.1 at.2 in
@@ -179,7 +181,7 @@ module _ {R L : Type 0} (see : Sees R L) where
         ends = ap (λ (p : Xid × Fate). p.1) c.is;
       }
 
-  pub is_reported : (a : Inside R L) → IsSound see a → (bs : List Branch) → bs ≡ items (book_in a.parts.manager).known → (x : Xid) (f : Fate)
+  pub is_reported : (a : Inside R L) → IsSound see moment a → (bs : List Branch) → bs ≡ items (book_in a.parts.manager).known → (x : Xid) (f : Fate)
       → IsReported (trace_of a) x f → Contains (map (reported (trace_of a)) bs) (x, f)
   is_reported a sound bs is x f told =
       subst (Contains (map (reported (trace_of a)) bs)) (λ i. (sym told.names i, sym told.ends i))
@@ -194,17 +196,17 @@ module _ {R L : Type 0} (see : Sees R L) where
   whole a s view xs bs i list same all =
       all.1 ∙ ap (map (reported (trace_in see.look s))) (take_all xs i all.0 ∙ same) ∙ ap (λ v. map (reported (trace_in see.look v)) bs) (sym view)
 
-  pub own_at : (a : Inside R L) → IsSound see a → (s : Seen R L) → seen a ≡ s → (xs bs : List Branch) (i : ℕ) (d : Branch) → xs ≡ bs
+  pub own_at : (a : Inside R L) → IsSound see moment a → (s : Seen R L) → seen a ≡ s → (xs bs : List Branch) (i : ℕ) (d : Branch) → xs ≡ bs
       → bs ≡ items (book_in a.parts.manager).known → i < length xs → IsOwnIn s (slice_index_or xs i d)
   own_at a sound s view xs bs i d same is low =
       subst (λ v. IsOwnIn v (slice_index_or xs i d)) view (at_place (IsOwnIn (seen a)) xs i d (all_own a sound xs (same ∙ is)) low)
 
-  pub told_in_order : (a : Inside R L) → IsSound see a → (s : Seen R L) → seen a ≡ s → (xs bs : List Branch) (i : ℕ) (list : List (Xid × Fate)) → xs ≡ bs
+  pub told_in_order : (a : Inside R L) → IsSound see moment a → (s : Seen R L) → seen a ≡ s → (xs bs : List Branch) (i : ℕ) (list : List (Xid × Fate)) → xs ≡ bs
       → bs ≡ items (book_in a.parts.manager).known → IsStrictlySortedBy branch_cmp bs → IsWhole s xs i list → IsStrictlySortedBy xid_cmp (keys_of list)
   told_in_order a sound s view xs bs i list same is up all =
       subst (λ l. IsStrictlySortedBy xid_cmp (keys_of l)) (sym (whole a s view xs bs i list same all)) (in_order (trace_of a) bs (all_fit a sound bs is) up)
 
-  pub told : (a : Inside R L) → IsSound see a → (s : Seen R L) → seen a ≡ s → (xs bs : List Branch) (i : ℕ) (list : List (Xid × Fate)) → xs ≡ bs
+  pub told : (a : Inside R L) → IsSound see moment a → (s : Seen R L) → seen a ≡ s → (xs bs : List Branch) (i : ℕ) (list : List (Xid × Fate)) → xs ≡ bs
       → bs ≡ items (book_in a.parts.manager).known → IsWhole s xs i list → (x : Xid) (f : Fate) → Contains list (x, f) ↔ IsReported (trace_in see.look s) x f
   told a sound s view xs bs i list same is all x f =
       let are = whole a s view xs bs i list same all in (

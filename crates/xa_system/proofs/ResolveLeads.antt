@@ -213,7 +213,7 @@ module _ {R L : Type 0} (see : Sees R L) where
       → happened (step_of step) (Replies.Resolved n) ≡ e → IsRecovery tr e r ks → has_rm tr r ≡ true
       → map known_call calls ≡ map Some ks
       → x ≡ record (line_at parts.lines 0 r) { calls = with_more (line_at parts.lines 0 r).calls calls } → book_in manager ≡ book_of (Then tr e)
-      → LogFollows see.logs tr e parts.manager manager
+      → LogFollows see.moment tr e parts.manager manager
       → OneMore see step reply tr parts (record { alloc = parts.alloc; start = parts.start; began = parts.began; sites = parts.sites; lines = with_line parts.lines 0 r x; manager = manager })
   recovery_goes tr step e r n ks calls parts x manager reply stands has_xids is demanded happens recovery there are put book log =
       let has = has_first tr parts r stands there in
@@ -270,7 +270,7 @@ module _ {R L : Type 0} (see : Sees R L) where
   pub restart_did : (parts : Parts R L) (manager : Manager L) (i d h : ℕ) (reply : Reply Xid) → reply ≡ Replies.Restarted i d h
       → (book_in parts.manager).up ≡ false
       → book_in manager ≡ after (book_in parts.manager) (Restarted i d h) → IsFound (book_in parts.manager) i d h → i ≤ last_number
-      → ((tr : Trace) → LogFollows see.logs tr (Restarted i d h) parts.manager manager)
+      → ((tr : Trace) → LogFollows see.moment tr (Restarted i d h) parts.manager manager)
       → (tr : Trace) → Stands see tr parts → OneMore see (Steps.Restart Sides.Manager) reply tr parts (with_manager see parts manager)
   restart_did parts manager i d h reply is down book found most log tr stands =
       let e = Restarted i d h in
@@ -284,7 +284,7 @@ module _ {R L : Type 0} (see : Sees R L) where
   pub restart_undone : (parts : Parts R L) (manager : Manager L) (n : Refusal) (reply : Reply Xid) → reply ≡ Replies.Refused n
       → ((book_in parts.manager).up ≡ true → (n ≡ Refusals.Busy) × (book_in manager ≡ book_in parts.manager))
       → ((book_in parts.manager).up ≡ false → FailsBy Settled InRestart (book_in parts.manager) (book_in manager) n)
-      → LogUndone see.logs Found n bumped parts.manager manager
+      → LogUndone see.moment Found n bumped parts.manager manager
       → (tr : Trace) → Stands see tr parts → OneMore see (Steps.Restart Sides.Manager) reply tr parts (with_manager see parts manager)
   restart_undone parts manager n reply is busy fails undone tr stands = by_up (book_in parts.manager).up refl
     where
@@ -300,7 +300,7 @@ module _ {R L : Type 0} (see : Sees R L) where
           (own_follows see tr (Failed InRestart) parts manager (own_failed tr down) stands
           (book_then see tr (Failed InRestart) parts manager stands
           (demanded_right tr (Steps.Restart Sides.Manager) (Replies.Refused Refusals.LogFault) demanded) w.1)
-          (log_failing see.logs InRestart n parts.manager manager w.0 undone))
+          (log_failing see.moment InRestart n parts.manager manager w.0 undone))
 
       by_up : (u : Bool) → (book_in parts.manager).up ≡ u → OneMore see (Steps.Restart Sides.Manager) reply tr parts (with_manager see parts manager)
       by_up true e =
@@ -404,7 +404,7 @@ module _ {R L : Type 0} (see : Sees R L) where
       recovery_goes tr (Steps.Resolve r) e r n
       (facts.resolving_calls tr (facts.page tr r)) calls parts x parts.manager reply stands tt is demanded refl (resolved_so tr r) free.0
       (are ∙ ap (map Some) same) put (book_then see tr e parts parts.manager stands (demanded_right tr (Steps.Resolve r) (Replies.Resolved n) demanded) refl)
-      (log_stays see.logs e parts.manager (λ k. refl))
+      (log_stays see.moment e parts.manager (λ k. refl))
 
   -- ** ResolveOpen
 
@@ -435,7 +435,7 @@ module _ {R L : Type 0} (see : Sees R L) where
       → map known_call calls ≡ map Some (resolved_open_in (book_in parts.manager) r)
       → x ≡ record (line_at parts.lines 0 r) { calls = with_more (line_at parts.lines 0 r).calls calls }
       → book_in manager ≡ after (book_in parts.manager) (ResolvedOpen r)
-      → ((tr : Trace) → LogFollows see.logs tr (ResolvedOpen r) parts.manager manager)
+      → ((tr : Trace) → LogFollows see.moment tr (ResolvedOpen r) parts.manager manager)
       → GoesOn see (Steps.ResolveOpen r) reply parts
       (record { alloc = parts.alloc; start = parts.start; began = parts.began; sites = parts.sites; lines = with_line parts.lines 0 r x; manager = manager })
   open_did parts r n calls x manager reply is many hinders are put book log tr stands few =

@@ -273,7 +273,7 @@ module _ {R L : Type 0} (see : Sees R L) where
             λ t q has_q. line_stays tr e (line t q) (line_at parts.lines t q) (unbroken (line t q)) (calls (line t q)) (taken (line t q))
             (heard (line t q)) (stands.lines t q has_q);
         book = book;
-        log = log_stays see.logs e parts.manager quiet.uncounted;
+        log = log_stays see.moment e parts.manager quiet.uncounted;
         unchanged = λ q. absurd (subst IsEvent q quiet.event);
       }))
 
@@ -299,7 +299,7 @@ module _ {R L : Type 0} (see : Sees R L) where
             (λ s apart. nothing_to see tr s) stands.sites;
         lines = λ t q has_q. line_stays tr Nothing (line t q) (line_at parts.lines t q) refl refl refl refl (stands.lines t q has_q);
         book = stands.book;
-        log = log_stays see.logs Nothing parts.manager (λ n. refl);
+        log = log_stays see.moment Nothing parts.manager (λ n. refl);
         unchanged = λ q. record {
           sites = site_same see parts.sites r site (record { rm = rm; is_up = site.is_up }) at refl (record { held = held; scans = scans });
           lines = λ t q has_q. refl;

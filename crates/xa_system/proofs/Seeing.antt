@@ -1,5 +1,5 @@
 -- What is seen of a sound system.
-use Rattle.std.proofs.Common.{◌≡◌, ◌≢◌, false, ◌<◌, ◌+◌, ℕ, List, [], ◌∷◌, ◌++◌, map, refl, sym, ap, subst, ◌∙◌, arith, Global, Vec, Option, Some, None}
+use Rattle.std.proofs.Common.{◌≡◌, ◌≢◌, true, false, ◌<◌, ◌+◌, ℕ, List, [], ◌∷◌, ◌++◌, map, refl, sym, ap, subst, ◌∙◌, arith, Global, Vec, Option, Some, None}
 use Rattle.std.specs.Prelude.{IsSomeAnd, vec_len, slice_get}
 use Rattle.std.specs.Vec.{vec_capacity}
 use Rattle.std.specs.Option.{option_map}
@@ -24,16 +24,18 @@ use Rattle.xa_system.specs.declared.system.TheConstants.{EVENT_LIMIT}
 use Rattle.xa_base.specs.declared.refusal.Refusal.{Refusal}
 use Rattle.xa_base.specs.declared.refusal.Refusal.TheVariants as Refusals
 use Rattle.xa_base.specs.declared.reply.Reply.TheVariants as Replies
-use Rattle.xa_system.specs.Logged.{MayHaveFailed, StartsOver}
+use Rattle.xa_system.specs.Logged.{MayHaveFailed, MayRestartOver, StartsOver}
 use Rattle.xa_system.specs.Steps.{IsSame}
-use Rattle.xa_system.specs.Seen.{FaultsHaveCauses, HoldsItsTrace, IsAsBefore, IsSound, KeepsLog, seen, start_of}
+use Rattle.xa_system.specs.Seen.{FaultsHaveCauses, HoldsItsTrace, IsAsBefore, IsSound, KeepsLog, MayRestart, observed, seen, start_of}
 use Rattle.xa_system.specs.Sites.{RmStands}
 use Rattle.xa_system.specs.declared.parts.Parts.{Parts}
 use Rattle.xa_system.specs.declared.site.Site.{Site}
 use Rattle.xa_system.specs.declared.system.System.TheInside.{Inside}
 use Rattle.xa_system.proofs.FaultCounts.{causes_more, falls, rises}
-use Rattle.xa_system.proofs.LogLaws.{tied_stands}
-use Rattle.xa_tm.specs.Kept.{log_in}
+use Rattle.xa_system.proofs.LogLaws.{near_restarts, restarts_near, tied_stands}
+use Rattle.xa_log.specs.Contract.{Moment}
+use Rattle.xa_tm.specs.Kept.{book_in, log_in}
+use Rattle.xa_tm.specs.declared.slot.Slot.{Slot}
 use Rattle.xa_tm.specs.Limits.{happenings}
 use Rattle.xa_tm.specs.Tied.{IsTied}
 
@@ -54,53 +56,62 @@ mapped_at f xs k y e = from_option (slice_get xs k) refl (sym (slice_get-map f x
     from_option None at is = absurd cc
     from_option (Some x) at is = (x, at, cc)
 
-module _ {R L : Type 0} (see : Sees R L) where
-  pub holds : (a : Inside R L) → IsSound see a → HoldsItsTrace see (seen a)
+module _ {R L : Type 0} (see : Sees R (Slot L)) (moment : L → Moment) where
+  pub holds : (a : Inside R L) → IsSound see moment a → HoldsItsTrace (observed see moment) (seen a)
   holds a sound = record {
     demanded = sound.demanded;
     rms = λ r rm at.
         let from = mapped_at (λ (site : Site R). site.rm) a.parts.sites.items r rm at in
-        subst (RmStands see.look (history (start_of see a.parts) a.events.items) r) from.2 (sound.stands.sites r from.0 from.1).rm;
+        subst (RmStands see.look (history (start_of see moment a.parts) a.events.items) r) from.2 (sound.stands.sites r from.0 from.1).rm;
     lines = sound.stands.lines;
-    log = λ order honest. record {
-      start = sound.log.start order honest;
-      stands = tied_stands (history (start_of see a.parts) a.events.items) (see.logs.moment (log_in a.parts.manager)).content
-          (subst (λ k. IsTied k (see.logs.moment (log_in a.parts.manager)).content) sound.stands.book (sound.log.tied order honest));
+    log = record {
+      start = sound.log.start;
+      stands = λ order honest. tied_stands (history (start_of see moment a.parts) a.events.items) (see.moment (log_in a.parts.manager)).content
+          (subst (λ k. IsTied false k (see.moment (log_in a.parts.manager)).content) sound.stands.book (sound.log.tied order honest));
     };
   }
 
+  -- where a restart may follow, the log is tied with its incarnation
+  near_tied : (a : Inside R L) → IsSound see moment a → (moment a.handed.value).is_in_order → (see.moment (log_in a.parts.manager)).is_honest
+      → MayRestart (observed see moment) (seen a) → IsTied true (book_in a.parts.manager) (see.moment (log_in a.parts.manager)).content
+  near_tied a sound order honest may =
+      let held = (see.moment (log_in a.parts.manager)).content in
+      subst (λ k. IsTied true k held) (sym sound.stands.book)
+      (restarts_near (history (start_of see moment a.parts) a.events.items) held
+      (subst (λ k. IsTied false k held) sound.stands.book (sound.log.tied order honest)) may)
+
   -- the parts stand, and there is room
-  pub somewhere : (a : Inside R L) → IsSound see a → vec_len a.events < EVENT_LIMIT → StandsSomewhere see a.parts
+  pub somewhere : (a : Inside R L) → IsSound see moment a → vec_len a.events < EVENT_LIMIT → StandsSomewhere see a.parts
   somewhere a sound few = (
-    history (start_of see a.parts) a.events.items,
+    history (start_of see moment a.parts) a.events.items,
     sound.stands,
     subst (λ n. n < EVENT_LIMIT)
-        (a.events.ok.0 ∙ sym (events_happen (start_of see a.parts) a.events.items)) few,
+        (a.events.ok.0 ∙ sym (events_happen (start_of see moment a.parts) a.events.items)) few,
   )
 
   -- a system began where it began
-  pub start_stays : (old new : Parts R L) (tr : Trace) (step : Step Xid) (reply : Reply Xid) → Stands see tr old
-      → happenings tr < EVENT_LIMIT → GoesOn see step reply old new → start_of see new ≡ start_of see old
+  pub start_stays : (old new : Parts R (Slot L)) (tr : Trace) (step : Step Xid) (reply : Reply Xid) → Stands see tr old
+      → happenings tr < EVENT_LIMIT → GoesOn see step reply old new → start_of see moment new ≡ start_of see moment old
   start_stays old new tr step reply stands few goes = sym (goes tr stands few).stands.origin ∙ stands.origin
 
   -- the history after one event more
-  trace_then : (old : Inside R L) (new : Parts R L) (events : Vec Event Global) (step : Step Xid) (reply copy : Reply Xid)
-      → IsSound see old → GoesOn see step reply old.parts new → copy ≡ reply
+  trace_then : (old : Inside R L) (new : Parts R (Slot L)) (events : Vec Event Global) (step : Step Xid) (reply copy : Reply Xid)
+      → IsSound see moment old → GoesOn see step reply old.parts new → copy ≡ reply
       → vec_len old.events < EVENT_LIMIT → events.items ≡ old.events.items ++ record { step = step; reply = copy } ∷ []
-      → history (start_of see new) events.items ≡ Then (history (start_of see old.parts) old.events.items) (happened (step_of step) (reply_of reply))
+      → history (start_of see moment new) events.items ≡ Then (history (start_of see moment old.parts) old.events.items) (happened (step_of step) (reply_of reply))
   unfolding somewhere
   trace_then old new events step reply copy sound goes same few items =
       let here = somewhere old sound few in
       let event : Event = record { step = step; reply = reply } in
       let all = items ∙ ap (λ (r : Reply Xid). old.events.items ++ record { step = step; reply = r } ∷ []) same in
       ap (λ s. history s events.items) (start_stays old.parts new here.0 step reply here.1 here.2 goes)
-      ∙ ap (history (start_of see old.parts)) all ∙ history_push (start_of see old.parts) old.events.items event
+      ∙ ap (history (start_of see moment old.parts)) all ∙ history_push (start_of see moment old.parts) old.events.items event
 
   -- a refused step leaves all as it is
-  pub as_before : (old : Inside R L) (new : Parts R L) (events : Vec Event Global) (step : Step Xid) (reply : Reply Xid)
-      → IsSound see old → GoesOn see step reply old.parts new → vec_len old.events < EVENT_LIMIT
+  pub as_before : (old : Inside R L) (new : Parts R (Slot L)) (events : Vec Event Global) (step : Step Xid) (reply : Reply Xid)
+      → IsSound see moment old → GoesOn see step reply old.parts new → vec_len old.events < EVENT_LIMIT
       → (n : Refusal) → reply ≡ Replies.Refused n → n ≢ Refusals.LogFault
-      → IsAsBefore see (seen old) (seen (record { handed = old.handed; parts = new; events = events }))
+      → IsAsBefore (observed see moment) (seen old) (seen (record { first = old.first; handed = old.handed; parts = new; events = events }))
   unfolding somewhere
   as_before old new events step reply sound goes few n is other =
       let here = somewhere old sound few in
@@ -119,10 +130,10 @@ module _ {R L : Type 0} (see : Sees R L) where
       }
 
   -- after a failure of the log the manager is down
-  pub down_after : (old : Inside R L) (new : Parts R L) (events : Vec Event Global) (step : Step Xid) (reply copy : Reply Xid)
-      → IsSound see old → GoesOn see step reply old.parts new → copy ≡ reply
+  pub down_after : (old : Inside R L) (new : Parts R (Slot L)) (events : Vec Event Global) (step : Step Xid) (reply copy : Reply Xid)
+      → IsSound see moment old → GoesOn see step reply old.parts new → copy ≡ reply
       → vec_len old.events < EVENT_LIMIT → events.items ≡ old.events.items ++ record { step = step; reply = copy } ∷ []
-      → reply ≡ Replies.Refused Refusals.LogFault → up (history (start_of see new) events.items) ≡ false
+      → reply ≡ Replies.Refused Refusals.LogFault → up (history (start_of see moment new) events.items) ≡ false
   unfolding somewhere
   down_after old new events step reply copy sound goes same few items is =
       let here = somewhere old sound few in
@@ -131,68 +142,86 @@ module _ {R L : Type 0} (see : Sees R L) where
       ∙ falls here.0 (step_of step) demanded
 
   -- and the log may have made the step's change
-  pub failed_so : (old : Inside R L) (new : Parts R L) (step : Step Xid) (reply : Reply Xid) → IsSound see old
+  pub failed_so : (old : Inside R L) (new : Parts R (Slot L)) (step : Step Xid) (reply : Reply Xid) → IsSound see moment old
       → GoesOn see step reply old.parts new → vec_len old.events < EVENT_LIMIT
-      → reply ≡ Replies.Refused Refusals.LogFault → (see.logs.moment old.handed.value).is_in_order → (see.logs.moment (log_in new.manager)).is_honest
-      → MayHaveFailed (history (start_of see old.parts) old.events.items) (log_failed (step_of step))
-      (see.logs.moment (log_in old.parts.manager)).content (see.logs.moment (log_in new.manager)).content
+      → reply ≡ Replies.Refused Refusals.LogFault → (moment old.handed.value).is_in_order → (see.moment (log_in new.manager)).is_honest
+      → MayHaveFailed (history (start_of see moment old.parts) old.events.items) (log_failed (step_of step))
+      (see.moment (log_in old.parts.manager)).content (see.moment (log_in new.manager)).content
   unfolding somewhere
   failed_so old new step reply sound goes few is order honest =
       let here = somewhere old sound few in
-      subst (λ r. MayHaveFailed here.0 (happened (step_of step) (reply_of r)) (see.logs.moment (log_in old.parts.manager)).content (see.logs.moment (log_in new.manager)).content) is
+      subst (λ r. MayHaveFailed here.0 (happened (step_of step) (reply_of r)) (see.moment (log_in old.parts.manager)).content (see.moment (log_in new.manager)).content) is
       ((goes here.0 here.1 here.2).log.failed (sound.log.order order) honest)
 
   -- the log after one event more
-  log_then : (old : Inside R L) (new : Parts R L) (events : Vec Event Global) (step : Step Xid) (reply : Reply Xid)
-      → IsSound see old → GoesOn see step reply old.parts new → vec_len old.events < EVENT_LIMIT
-      → KeepsLog see (record { handed = old.handed; parts = new; events = events })
+  log_then : (old : Inside R L) (new : Parts R (Slot L)) (events : Vec Event Global) (step : Step Xid) (reply : Reply Xid)
+      → IsSound see moment old → GoesOn see step reply old.parts new → vec_len old.events < EVENT_LIMIT
+      → KeepsLog (observed see moment) (start_of see moment new) (record { first = old.first; handed = old.handed; parts = new; events = events })
   unfolding somewhere
   log_then old new events step reply sound goes few =
       let here = somewhere old sound few in
       let log = (goes here.0 here.1 here.2).log in
       let start = start_stays old.parts new here.0 step reply here.1 here.2 goes in
+      let began : new.began.value ≡ old.parts.began.value = λ i. ((goes here.0 here.1 here.2).began i).value in
       record {
         order = λ h. log.order (sound.log.order h);
         honest = λ h. sound.log.honest (log.honest h);
         start =
-            λ order honest. subst (λ o. IsSomeAnd (see.logs.moment old.handed.value).content (StartsOver o)) (sym start)
-            (sound.log.start order (log.honest honest));
-        tied = λ order honest. log.tied (sound.log.order order) honest (sound.log.tied order (log.honest honest));
+            λ order honest. subst (λ o. IsSomeAnd (moment old.first.value).content (StartsOver o)) (sym start)
+            (sound.log.start order (subst (λ m. (see.moment (log_in m)).is_honest) began honest));
+        tied = λ order honest. log.tied false (sound.log.order order) honest (sound.log.tied order (log.honest honest));
       }
 
   -- what was honest since
-  pub honest_before : (old : Inside R L) (new : Parts R L) (step : Step Xid) (reply : Reply Xid) → IsSound see old
+  pub honest_before : (old : Inside R L) (new : Parts R (Slot L)) (step : Step Xid) (reply : Reply Xid) → IsSound see moment old
       → GoesOn see step reply old.parts new → vec_len old.events < EVENT_LIMIT
-      → (see.logs.moment (log_in new.manager)).is_honest → (see.logs.moment (log_in old.parts.manager)).is_honest
+      → (see.moment (log_in new.manager)).is_honest → (see.moment (log_in old.parts.manager)).is_honest
   unfolding somewhere
   honest_before old new step reply sound goes few h = let here = somewhere old sound few in (goes here.0 here.1 here.2).log.honest h
 
   -- an event that was answered that the log failed has raised its count
-  pub fault_has_cause : (old : Inside R L) (new : Parts R L) (events : Vec Event Global) (step : Step Xid) (reply copy : Reply Xid)
-      → IsSound see old → GoesOn see step reply old.parts new → copy ≡ reply
+  pub fault_has_cause : (old : Inside R L) (new : Parts R (Slot L)) (events : Vec Event Global) (step : Step Xid) (reply copy : Reply Xid)
+      → IsSound see moment old → GoesOn see step reply old.parts new → copy ≡ reply
       → vec_len old.events < EVENT_LIMIT → events.items ≡ old.events.items ++ record { step = step; reply = copy } ∷ []
-      → (see.logs.moment old.handed.value).is_in_order → (see.logs.moment (log_in new.manager)).is_honest
-      → FaultsHaveCauses see (seen old) (seen (record { handed = old.handed; parts = new; events = events }))
+      → (moment old.handed.value).is_in_order → (see.moment (log_in new.manager)).is_honest
+      → MayRestart (observed see moment) (seen old)
+      → FaultsHaveCauses (observed see moment) (seen old) (seen (record { first = old.first; handed = old.handed; parts = new; events = events }))
   unfolding somewhere
-  fault_has_cause old new events step reply copy sound goes same few items order honest =
+  fault_has_cause old new events step reply copy sound goes same few items order honest may =
       let here = somewhere old sound few in
       let more = goes here.0 here.1 here.2 in
-      let counted = more.log.counted (sound.log.order order) honest (sound.log.tied order (more.log.honest honest)) in
+      let counted = more.log.counted (sound.log.order order) honest (near_tied old sound order (more.log.honest honest) may) in
       let all = items ∙ ap (λ (r : Reply Xid). old.events.items ++ record { step = step; reply = r } ∷ []) same in
       causes_more old.events.items events.items (record { step = step; reply = reply })
-      (see.logs.moment (log_in old.parts.manager)).fault_count (see.logs.moment (log_in new.manager)).fault_count _ all
-      (rises here.0 (step_of step) reply (see.logs.moment (log_in old.parts.manager)).fault_count more.demanded) counted
+      (see.moment (log_in old.parts.manager)).fault_count (see.moment (log_in new.manager)).fault_count _ all
+      (rises here.0 (step_of step) reply (see.moment (log_in old.parts.manager)).fault_count more.demanded) counted
+
+  -- a restart may follow still
+  pub restart_may_follow : (old : Inside R L) (new : Parts R (Slot L)) (events : Vec Event Global) (step : Step Xid) (reply copy : Reply Xid)
+      → IsSound see moment old → GoesOn see step reply old.parts new → copy ≡ reply
+      → vec_len old.events < EVENT_LIMIT → events.items ≡ old.events.items ++ record { step = step; reply = copy } ∷ []
+      → (moment old.handed.value).is_in_order → (see.moment (log_in new.manager)).is_honest
+      → MayRestart (observed see moment) (seen old)
+      → MayRestart (observed see moment) (seen (record { first = old.first; handed = old.handed; parts = new; events = events }))
+  unfolding somewhere
+  restart_may_follow old new events step reply copy sound goes same few items order honest may =
+      let here = somewhere old sound few in
+      let more = goes here.0 here.1 here.2 in
+      let held = (see.moment (log_in new.manager)).content in
+      let tied = more.log.tied true (sound.log.order order) honest (near_tied old sound order (more.log.honest honest) may) in
+      subst (λ tr. MayRestartOver tr held) (sym (trace_then old new events step reply copy sound goes same few items))
+      (near_restarts (Then here.0 (happened (step_of step) (reply_of reply))) held (subst (λ k. IsTied true k held) more.stands.book tied))
 
   -- one event more
-  pub sound_then : (old : Inside R L) (new : Parts R L) (events : Vec Event Global) (step : Step Xid) (reply copy : Reply Xid)
-      → IsSound see old → GoesOn see step reply old.parts new → copy ≡ reply
+  pub sound_then : (old : Inside R L) (new : Parts R (Slot L)) (events : Vec Event Global) (step : Step Xid) (reply copy : Reply Xid)
+      → IsSound see moment old → GoesOn see step reply old.parts new → copy ≡ reply
       → vec_len old.events < EVENT_LIMIT → vec_len events ≡ vec_len old.events + 1
       → events.items ≡ old.events.items ++ record { step = step; reply = copy } ∷ [] → vec_capacity events ≡ vec_capacity old.events
-      → IsSound see (record { handed = old.handed; parts = new; events = events })
+      → IsSound see moment (record { first = old.first; handed = old.handed; parts = new; events = events })
   unfolding somewhere
   sound_then old new events step reply copy sound goes same few len items room =
       let event : Event = record { step = step; reply = reply } in
-      let o = start_of see old.parts in
+      let o = start_of see moment old.parts in
       let here = somewhere old sound few in
       let after = goes here.0 here.1 here.2 in
       let start = start_stays old.parts new here.0 step reply here.1 here.2 goes in
@@ -209,20 +238,27 @@ module _ {R L : Type 0} (see : Sees R L) where
       }
 
   -- what the step was answered
-  pub was_demanded : (old : Inside R L) (new : Parts R L) (step : Step Xid) (reply : Reply Xid) → IsSound see old
+  pub was_demanded : (old : Inside R L) (new : Parts R (Slot L)) (step : Step Xid) (reply : Reply Xid) → IsSound see moment old
       → GoesOn see step reply old.parts new → vec_len old.events < EVENT_LIMIT
-      → Demanded (history (start_of see old.parts) old.events.items) (step_of step) (reply_of reply)
+      → Demanded (history (start_of see moment old.parts) old.events.items) (step_of step) (reply_of reply)
   unfolding somewhere
   was_demanded old new step reply sound goes few = let here = somewhere old sound few in (goes here.0 here.1 here.2).demanded
 
-  pub start_kept : (old : Inside R L) (new : Parts R L) (step : Step Xid) (reply : Reply Xid) → IsSound see old
-      → GoesOn see step reply old.parts new → vec_len old.events < EVENT_LIMIT → start_of see new ≡ start_of see old.parts
+  pub start_kept : (old : Inside R L) (new : Parts R (Slot L)) (step : Step Xid) (reply : Reply Xid) → IsSound see moment old
+      → GoesOn see step reply old.parts new → vec_len old.events < EVENT_LIMIT → start_of see moment new ≡ start_of see moment old.parts
   start_kept old new step reply sound goes few = let here = somewhere old sound few in start_stays old.parts new here.0 step reply here.1 here.2 goes
 
+  pub began_kept : (old : Inside R L) (new : Parts R (Slot L)) (step : Step Xid) (reply : Reply Xid) → IsSound see moment old
+      → GoesOn see step reply old.parts new → vec_len old.events < EVENT_LIMIT → log_in new.began.value ≡ log_in old.parts.began.value
+  unfolding somewhere
+  began_kept old new step reply sound goes few =
+      let here = somewhere old sound few in
+      λ i. log_in ((goes here.0 here.1 here.2).began i).value
+
   -- what became of a branch, as its resource manager says
-  pub fate_is : (a : Inside R L) → IsSound see a → (x : Xid) (found b : Branch) (site : Site R) → Some found ≡ Some b → IsBranch b
+  pub fate_is : (a : Inside R L) → IsSound see moment a → (x : Xid) (found b : Branch) (site : Site R) → Some found ≡ Some b → IsBranch b
       → x ≡ xid_of_branch b → slice_get a.parts.sites.items found.rm ≡ Some site
-      → fate_of (see.look.held_of site.rm x).standing ≡ fate (history (start_of see a.parts) a.events.items) b
+      → fate_of (see.look.held_of site.rm x).standing ≡ fate (history (start_of see moment a.parts) a.events.items) b
   fate_is a sound x found b site same fits e at =
       let is : found ≡ b = cc in
       ap (λ y. fate_of (see.look.held_of site.rm y).standing) e

@@ -170,7 +170,7 @@ module _ {R L : Type 0} (see : Sees R L) where
     pub sites : (r : ℕ) (site : Site R) → slice_get new.sites.items r ≡ Some site → SiteStands see (Then tr e) r site
     pub lines : (t r : ℕ) → HasLine new.lines t r → LineStands (Then tr e) (line t r) (line_at new.lines t r)
     pub book : book_in new.manager ≡ book_of (Then tr e)
-    pub log : LogFollows see.logs tr e old.manager new.manager
+    pub log : LogFollows see.moment tr e old.manager new.manager
     pub unchanged : e ≡ Nothing → IsUnchanged see old new
 
   -- so one event more has happened
@@ -195,6 +195,7 @@ module _ {R L : Type 0} (see : Sees R L) where
       lines = follows.lines;
       book = follows.book;
     };
+    began = follows.began;
     log = follows.log;
     unchanged = λ n is other. follows.unchanged (ap (λ r. happened (step_of step) (reply_of r)) is ∙ refused_as_nothing n (step_of step) other);
   }
@@ -255,7 +256,7 @@ module _ {R L : Type 0} (see : Sees R L) where
     sites = λ r site at. site_stays tr Nothing r site (nothing_to tr r) (stands.sites r site at);
     lines = λ t r has. line_stays tr Nothing (line t r) (line_at parts.lines t r) refl refl refl refl (stands.lines t r has);
     book = same ∙ stands.book;
-    log = log_same_book see.logs Nothing parts.manager manager (λ k. refl) log same;
+    log = log_same_book see.moment Nothing parts.manager manager (λ k. refl) log same;
     unchanged = λ q. record { sites = λ r before at. (before, at, refl, stays_same see.look before.rm); lines = λ t r has. refl; book = same; log = log };
   }
 

@@ -208,7 +208,7 @@ module _ {R L : Type 0} (see : Sees R L) where
         (line_stays tr Nothing (line t r) (line_at parts.lines t r) refl refl refl refl (stands.lines t r has)))
         (λ u s has_u apart. line_stays tr Nothing (line u s) (line_at parts.lines u s) refl refl refl refl (stands.lines u s has_u));
     book = stands.book;
-    log = log_stays see.logs Nothing parts.manager (λ n. refl);
+    log = log_stays see.moment Nothing parts.manager (λ n. refl);
     unchanged = λ q. record {
       sites = site_same see parts.sites r site (record { rm = after; is_up = site.is_up }) at refl same;
       lines = lines_same parts.lines t r x stands.whole has same_line;
@@ -249,7 +249,7 @@ module _ {R L : Type 0} (see : Sees R L) where
             (took_line tr l k call a (line_at parts.lines t r) x here waits.1 took.taken took.answered)
             (λ u s has_u apart. line_stays tr e (line u s) (line_at parts.lines u s) refl refl (rw apart refl) refl (stands.lines u s has_u));
         book = stands.book;
-        log = log_stays see.logs e parts.manager (λ n. refl);
+        log = log_stays see.moment e parts.manager (λ n. refl);
         unchanged = λ q. absurd (subst IsEvent q tt);
       }))
 

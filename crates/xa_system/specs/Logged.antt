@@ -13,8 +13,7 @@ use Rattle.xa_base.specs.declared.reply.Event.{Event}
 use Rattle.xa_base.specs.declared.reply.Reply.{Reply}
 use Rattle.xa_base.specs.declared.reply.Reply.TheVariants as Replies
 use Rattle.xa_log.specs.Content.{Content, bumped, committed, recorded, without_decision}
-use Rattle.xa_log.specs.Contract.{Makes, MayMake, one_more_fault}
-use Rattle.xa_log.specs.declared.decision_log.DecisionLog as DecisionLog
+use Rattle.xa_log.specs.Contract.{Makes, MayMake, Moment, one_more_fault}
 use Rattle.xa_log.specs.KeySet.{KeySet, from_list}
 use Rattle.xa_tm.specs.Kept.{book_in, log_in}
 use Rattle.xa_tm.specs.Starting.{book_at_start}
@@ -56,19 +55,21 @@ pub record IsAsTold (tr : Trace) (c : Content) : Type 0 where
   pub rows : HoldsRows tr c
   pub incarnation_is : c.incarnation ≡ incarnation tr
 
--- restarts that failed may have raised the incarnation
-pub record MayBeAsTold (tr : Trace) (c : Content) : Type 0 where
-  pub rows : MayHoldRows tr c
-  pub least : incarnation tr ≤ c.incarnation
-  pub most : c.incarnation ≤ incarnation tr + failed_restarts tr
-
 abbrev pub LogStandsBy : (is_up : Bool) → Trace → Option Content → Type 0
 LogStandsBy true tr held = IsSomeAnd held (IsAsTold tr)
-LogStandsBy false tr held = (c : Content) → held ≡ Some c → MayBeAsTold tr c
+LogStandsBy false tr held = (c : Content) → held ≡ Some c → MayHoldRows tr c
 
 -- the log is where the history leaves it. One that a failure has shut holds nothing that is known
 abbrev pub LogStands : Trace → Option Content → Type 0
 LogStands tr held = LogStandsBy (up tr) tr held
+
+-- its incarnation is one that a restart may follow: restarts that failed may have raised it
+pub record IsBeforeNext (tr : Trace) (c : Content) : Type 0 where
+  pub least : incarnation tr ≤ c.incarnation
+  pub most : c.incarnation ≤ incarnation tr + failed_restarts tr
+
+abbrev pub MayRestartOver : Trace → Option Content → Type 0
+MayRestartOver tr held = (c : Content) → held ≡ Some c → IsBeforeNext tr c
 
 -- ** failures
 
@@ -103,27 +104,27 @@ log_faults events = length (filter (λ event. says_log_fault event.reply) events
 -- ** a manager that was just book_at_start
 
 -- over a log that was handed to it
-pub record IsStartedOver {L : Type 0} (logs : DecisionLog.Ghosts L) (threads rms : ℕ) (handed : L) (manager : Manager L) : Type 0 where
-  pub order : (logs.moment handed).is_in_order → (logs.moment (log_in manager)).is_in_order
-  pub honest : (logs.moment (log_in manager)).is_honest → (logs.moment handed).is_honest
-  pub tied : (logs.moment handed).is_in_order → (logs.moment (log_in manager)).is_honest
-      → IsTied (book_in manager) (logs.moment (log_in manager)).content
-  pub book : (logs.moment handed).is_in_order → (logs.moment (log_in manager)).is_honest
-      → IsSomeAnd (logs.moment (log_in manager)).content (λ c. book_in manager ≡ book_at_start threads rms c)
-  pub raised : (logs.moment handed).is_in_order → (logs.moment (log_in manager)).is_honest
-      → Makes bumped (logs.moment handed).content (logs.moment (log_in manager)).content
-  pub faults : (logs.moment (log_in manager)).fault_count ≡ (logs.moment handed).fault_count
+pub record IsStartedOver {L : Type 0} (moment : L → Moment) (threads rms : ℕ) (handed : L) (manager : Manager L) : Type 0 where
+  pub order : (moment handed).is_in_order → (moment (log_in manager)).is_in_order
+  pub honest : (moment (log_in manager)).is_honest → (moment handed).is_honest
+  pub tied : (near : Bool) → (moment handed).is_in_order → (moment (log_in manager)).is_honest
+      → IsTied near (book_in manager) (moment (log_in manager)).content
+  pub book : (moment handed).is_in_order → (moment (log_in manager)).is_honest
+      → IsSomeAnd (moment (log_in manager)).content (λ c. book_in manager ≡ book_at_start threads rms c)
+  pub raised : (moment handed).is_in_order → (moment (log_in manager)).is_honest
+      → Makes bumped (moment handed).content (moment (log_in manager)).content
+  pub faults : (moment (log_in manager)).fault_count ≡ (moment handed).fault_count
 
 -- ** one happening more
 
 -- what it does to the log of a manager. Its rows follow the book where they followed it before
-pub record LogFollows {L : Type 0} (logs : DecisionLog.Ghosts L) (tr : Trace) (e : Happening) (old new : Manager L) : Type 0 where
-  pub order : (logs.moment (log_in old)).is_in_order → (logs.moment (log_in new)).is_in_order
-  pub honest : (logs.moment (log_in new)).is_honest → (logs.moment (log_in old)).is_honest
-  pub tied : (logs.moment (log_in old)).is_in_order → (logs.moment (log_in new)).is_honest
-      → IsTied (book_in old) (logs.moment (log_in old)).content → IsTied (book_in new) (logs.moment (log_in new)).content
-  pub counted : (logs.moment (log_in old)).is_in_order → (logs.moment (log_in new)).is_honest
-      → IsTied (book_in old) (logs.moment (log_in old)).content
-      → (logs.moment (log_in new)).fault_count ≡ count_after e (logs.moment (log_in old)).fault_count
-  pub failed : (logs.moment (log_in old)).is_in_order → (logs.moment (log_in new)).is_honest
-      → MayHaveFailed tr e (logs.moment (log_in old)).content (logs.moment (log_in new)).content
+pub record LogFollows {L : Type 0} (moment : L → Moment) (tr : Trace) (e : Happening) (old new : Manager L) : Type 0 where
+  pub order : (moment (log_in old)).is_in_order → (moment (log_in new)).is_in_order
+  pub honest : (moment (log_in new)).is_honest → (moment (log_in old)).is_honest
+  pub tied : (near : Bool) → (moment (log_in old)).is_in_order → (moment (log_in new)).is_honest
+      → IsTied near (book_in old) (moment (log_in old)).content → IsTied near (book_in new) (moment (log_in new)).content
+  pub counted : (moment (log_in old)).is_in_order → (moment (log_in new)).is_honest
+      → IsTied true (book_in old) (moment (log_in old)).content
+      → (moment (log_in new)).fault_count ≡ count_after e (moment (log_in old)).fault_count
+  pub failed : (moment (log_in old)).is_in_order → (moment (log_in new)).is_honest
+      → MayHaveFailed tr e (moment (log_in old)).content (moment (log_in new)).content

@@ -21,7 +21,7 @@ use Rattle.xa_base.specs.declared.step.Step.{Step}
 use Rattle.xa_line.specs.Grid.{HasLine, IsWhole, line_at}
 use Rattle.xa_log.specs.Content.{last_number}
 use Rattle.xa_line.specs.Histories.{LineStands}
-use Rattle.xa_log.specs.declared.decision_log.DecisionLog as DecisionLog
+use Rattle.xa_log.specs.Contract.{Moment}
 use Rattle.xa_system.specs.Logged.{LogFollows}
 use Rattle.xa_system.specs.Sites.{BeginsClear, Looks, RmStands, looks, scan_by}
 use Rattle.xa_system.specs.Steps.{IsSame}
@@ -41,10 +41,10 @@ use Rattle.xa_tm.specs.declared.manager.Manager.{Manager}
 -- what contracts see of the resource managers and the log of a system
 pub record Sees (R L : Type 0) : Type 1 where
   pub look : Looks R
-  pub logs : DecisionLog.Ghosts L
+  pub moment : L → Moment
 
-abbrev pub sees : {R L : Type 0} → (R → Xid → HeldBranch) → (R → ℕ → Scan Xid) → (R → List Xid) → DecisionLog.Ghosts L → Sees R L
-sees held_of scan_of in_doubt_of log = record { look = looks held_of scan_of in_doubt_of; logs = log }
+abbrev pub sees : {R L : Type 0} → (R → Xid → HeldBranch) → (R → ℕ → Scan Xid) → (R → List Xid) → (L → Moment) → Sees R L
+sees held_of scan_of in_doubt_of moment = record { look = looks held_of scan_of in_doubt_of; moment = moment }
 
 -- ** the start
 
@@ -142,7 +142,8 @@ module _ {R L : Type 0} (see : Sees R L) where
   pub record OneMore (step : Step Xid) (reply : Reply Xid) (tr : Trace) (old new : Parts R L) : Type 0 where
     pub demanded : Demanded tr (step_of step) (reply_of reply)
     pub stands : Stands (Then tr (happened (step_of step) (reply_of reply))) new
-    pub log : LogFollows see.logs tr (happened (step_of step) (reply_of reply)) old.manager new.manager
+    pub began : new.began ≡ old.began
+    pub log : LogFollows see.moment tr (happened (step_of step) (reply_of reply)) old.manager new.manager
     pub unchanged : (n : Refusal) → reply ≡ Replies.Refused n → n ≢ Refusals.LogFault → IsUnchanged old new
 
   -- so it is wherever the parts stood

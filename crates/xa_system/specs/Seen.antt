@@ -1,5 +1,5 @@
 -- What is seen of a system: where it started, its events, and the parts that it holds.
-use Rattle.std.specs.Prelude.{◌≡◌, ◌≤◌, ◌<◌, ◌⊎◌, ◌+◌, ◌++◌, ℕ, true, Some, IsSomeAnd, List, map, vec_len, slice_get}
+use Rattle.std.specs.Prelude.{◌≡◌, ◌≤◌, ◌<◌, ◌⊎◌, ◌+◌, ◌++◌, ℕ, true, false, Some, IsSomeAnd, List, map, vec_len, slice_get}
 use Rattle.std.specs.Vec.{vec_capacity}
 use Rattle.xa_base.specs.Xid.{Xid}
 use Rattle.xa_model.specs.Facts.Distinct.{ApartRows}
@@ -10,14 +10,20 @@ use Rattle.xa_base.specs.Recover.{IsInDoubtList}
 use Rattle.xa_base.specs.declared.branch.Branch.{Branch}
 use Rattle.xa_rm.specs.ResourceManager.{HoldsFormat, HoldsNoFormat}
 use Rattle.xa_system.specs.declared.site.Site.{Site}
+use Rattle.xa_base.specs.HeldBranch.{HeldBranch}
+use Rattle.xa_base.specs.Scan.{Scan}
+use Rattle.xa_log.specs.Contract.{Moment}
+use Rattle.xa_base.specs.declared.refusal.Refusal.TheVariants as Refusals
 use Rattle.xa_base.specs.declared.reply.Event.{Event}
+use Rattle.xa_base.specs.declared.reply.Reply.{Reply}
+use Rattle.xa_base.specs.declared.reply.Reply.TheVariants as Replies
 use Rattle.xa_base.specs.declared.step.Step.{Step}
 use Rattle.xa_line.specs.Grid.{Grid, HasLine, line_at}
 use Rattle.xa_line.specs.Histories.{LineStands}
-use Rattle.xa_system.specs.Logged.{LogStands, StartsOver, greatest_count, log_faults}
+use Rattle.xa_system.specs.Logged.{LogStands, MayRestartOver, StartsOver, greatest_count, log_faults}
 use Rattle.xa_system.specs.Parts.{Sees, Stands, origin_from, origin_of}
 use Rattle.xa_system.specs.declared.system.TheConstants.{EVENT_LIMIT}
-use Rattle.xa_system.specs.Sites.{Looks, RmStands}
+use Rattle.xa_system.specs.Sites.{Looks, RmStands, looks}
 use Rattle.xa_system.specs.Steps.{IsSame}
 use Rattle.xa_system.specs.declared.parts.Parts.{Parts}
 use Rattle.xa_system.specs.declared.system.System.TheInside.{Inside}
@@ -27,32 +33,49 @@ use Rattle.xa_tm.specs.Held as books
 use Rattle.xa_tm.specs.Kept.{book_in, log_in}
 use Rattle.xa_tm.specs.Limits.{HasRoomForRun}
 use Rattle.xa_tm.specs.Starting.{IsOld}
+use Rattle.xa_tm.specs.Slots.{slot_moment}
 use Rattle.xa_tm.specs.Tied.{IsTied}
+use Rattle.xa_tm.specs.declared.slot.Slot.{Slot}
 use Rattle.xa_tm.specs.declared.manager.Manager.{Manager}
 
--- `start` has the resource managers and `handed` the log as they were handed in; `incarnation`, `rows` and `records` are what the manager
--- began with
+-- what contracts see of the resource managers, of a log, and of the place that a system has for one
+pub record Observes (R L : Type 0) : Type 1 where
+  pub look : Looks R
+  pub moment : L → Moment
+  pub place : Slot L → Moment
+
+abbrev pub observes : {R L : Type 0} → (R → Xid → HeldBranch) → (R → ℕ → Scan Xid) → (R → List Xid) → (L → Moment) → Observes R L
+observes held_of scan_of in_doubt_of moment =
+    record { look = looks held_of scan_of in_doubt_of; moment = moment; place = slot_moment moment }
+
+-- `start` has the resource managers and `first` the log as they were handed in; `begun` is the place of that log as the
+-- manager began over it, and `incarnation`, `rows` and `records` are what it began with; `handed` is the log as it was
+-- handed in last, and `log` its place
 pub record Seen (R L : Type 0) : Type 0 where
   pub start : List R
-  pub handed : L
+  pub first : L
+  pub begun : Slot L
   pub incarnation : ℕ
   pub rows : List Row
   pub records : List Recorded
   pub events : List Event
   pub rms : List R
   pub lines : Grid
-  pub log : L
+  pub handed : L
+  pub log : Slot L
 
 abbrev pub seen : {R L : Type 0} → Inside R L → Seen R L
 seen a = record {
   start = a.parts.start.value.items;
-  handed = a.handed.value;
+  first = a.first.value;
+  begun = log_in a.parts.began.value;
   incarnation = (book_in a.parts.began.value).incarnation;
   rows = rows_begun a.parts.began.value;
   records = records_begun a.parts.began.value;
   events = a.events.items;
   rms = map (λ site. site.rm) a.parts.sites.items;
   lines = a.parts.lines;
+  handed = a.handed.value;
   log = log_in a.parts.manager;
 }
 
@@ -64,39 +87,25 @@ origin_in look s = origin_from look s.lines.threads s.start s.incarnation s.rows
 abbrev pub trace_in : {R L : Type 0} → Looks R → Seen R L → Trace
 trace_in look s = history (origin_in look s) s.events
 
-module _ {R L : Type 0} (see : Sees R L) where
-  -- the log that was handed in has the rows and the record of the start, and the log is where the history leaves it
+module _ {R L : Type 0} (see : Observes R L) where
+  -- the log that was handed in first has the rows and the record of the start; and the log held is where the history
+  -- leaves it, where it was in order as it was handed in, and what it rests on has been honest
   pub record HoldsItsLog (s : Seen R L) : Type 0 where
-    pub start : IsSomeAnd (see.logs.moment s.handed).content (StartsOver (origin_in see.look s))
-    pub stands : LogStands (trace_in see.look s) (see.logs.moment s.log).content
+    pub start : (see.moment s.first).is_in_order → (see.place s.begun).is_honest
+        → IsSomeAnd (see.moment s.first).content (StartsOver (origin_in see.look s))
+    pub stands : (see.moment s.handed).is_in_order → (see.place s.log).is_honest
+        → LogStands (trace_in see.look s) (see.place s.log).content
 
-  -- each reply is the one that the history before it demands, and the parts are where the history leaves them: the log,
-  -- where the one that was handed in was in order, and what it rests on has been honest
+  -- each reply is the one that the history before it demands, and the parts are where the history leaves them
   pub record HoldsItsTrace (s : Seen R L) : Type 0 where
     pub demanded : AreDemanded (origin_in see.look s) s.events
     pub rms : (r : ℕ) (rm : R) → slice_get s.rms r ≡ Some rm → RmStands see.look (trace_in see.look s) r rm
     pub lines : (t r : ℕ) → HasLine s.lines t r → LineStands (trace_in see.look s) (line t r) (line_at s.lines t r)
-    pub log : (see.logs.moment s.handed).is_in_order → (see.logs.moment s.log).is_honest → HoldsItsLog s
+    pub log : HoldsItsLog s
 
-  -- where the parts started
-  abbrev pub start_of : Parts R L → Origin
-  start_of parts = origin_of see parts.lines.threads parts.start.value.items parts.began.value
-
-  -- what is known of the log that was handed in, and of what became of it
-  pub record KeepsLog (a : Inside R L) : Type 0 where
-    pub order : (see.logs.moment a.handed.value).is_in_order → (see.logs.moment (log_in a.parts.manager)).is_in_order
-    pub honest : (see.logs.moment (log_in a.parts.manager)).is_honest → (see.logs.moment a.handed.value).is_honest
-    pub start : (see.logs.moment a.handed.value).is_in_order → (see.logs.moment (log_in a.parts.manager)).is_honest
-        → IsSomeAnd (see.logs.moment a.handed.value).content (StartsOver (start_of a.parts))
-    pub tied : (see.logs.moment a.handed.value).is_in_order → (see.logs.moment (log_in a.parts.manager)).is_honest
-        → IsTied (book_in a.parts.manager) (see.logs.moment (log_in a.parts.manager)).content
-
-  pub record IsSound (a : Inside R L) : Type 0 where
-    pub few : vec_len a.events ≤ EVENT_LIMIT
-    pub room : EVENT_LIMIT ≤ vec_capacity a.events
-    pub stands : Stands see (history (start_of a.parts) a.events.items) a.parts
-    pub demanded : AreDemanded (start_of a.parts) a.events.items
-    pub log : KeepsLog a
+  -- a restart may follow: the log held is shut, or of an incarnation that the history's restarts may have left
+  abbrev pub MayRestart : Seen R L → Type 0
+  MayRestart s = MayRestartOver (trace_in see.look s) (see.place s.log).content
 
   -- the resource managers, the lines and the log are as before
   pub record IsAsBefore (old new : Seen R L) : Type 0 where
@@ -108,8 +117,39 @@ module _ {R L : Type 0} (see : Sees R L) where
   -- of the events since then, at most as many were answered that the log failed as its count rose by, unless the count
   -- has come to the greatest number
   abbrev pub FaultsHaveCauses : (old new : Seen R L) → Type 0
-  FaultsHaveCauses old new = (greatest_count ≤ (see.logs.moment new.log).fault_count)
-      ⊎ (log_faults new.events + (see.logs.moment old.log).fault_count ≤ log_faults old.events + (see.logs.moment new.log).fault_count)
+  FaultsHaveCauses old new = (greatest_count ≤ (see.place new.log).fault_count)
+      ⊎ (log_faults new.events + (see.place old.log).fault_count ≤ log_faults old.events + (see.place new.log).fault_count)
+
+  -- what is known of the log that was handed in first and of the one handed in last, and of what became of that
+  pub record KeepsLog (origin : Origin) (a : Inside R L) : Type 0 where
+    pub order : (see.moment a.handed.value).is_in_order → (see.place (log_in a.parts.manager)).is_in_order
+    pub honest : (see.place (log_in a.parts.manager)).is_honest → (see.moment a.handed.value).is_honest
+    pub start : (see.moment a.first.value).is_in_order → (see.place (log_in a.parts.began.value)).is_honest
+        → IsSomeAnd (see.moment a.first.value).content (StartsOver origin)
+    pub tied : (see.moment a.handed.value).is_in_order → (see.place (log_in a.parts.manager)).is_honest
+        → IsTied false (book_in a.parts.manager) (see.place (log_in a.parts.manager)).content
+
+module _ {R L : Type 0} (see : Sees R (Slot L)) (moment : L → Moment) where
+  -- what is observed of parts and of the logs that are handed in
+  abbrev pub observed : Observes R L
+  observed = record { look = see.look; moment = moment; place = see.moment }
+
+  -- where the parts started
+  abbrev pub start_of : Parts R (Slot L) → Origin
+  start_of parts = origin_of see parts.lines.threads parts.start.value.items parts.began.value
+
+  pub record IsSound (a : Inside R L) : Type 0 where
+    pub few : vec_len a.events ≤ EVENT_LIMIT
+    pub room : EVENT_LIMIT ≤ vec_capacity a.events
+    pub stands : Stands see (history (start_of a.parts) a.events.items) a.parts
+    pub demanded : AreDemanded (start_of a.parts) a.events.items
+    pub log : KeepsLog observed (start_of a.parts) a
+
+-- ** restarts
+
+-- the log failed, or memory was refused before it was asked
+abbrev pub IsFailed : Reply Xid → Type 0
+IsFailed reply = (reply ≡ Replies.Refused Refusals.LogFault) ⊎ (reply ≡ Replies.Refused Refusals.Memory)
 
 -- ** steps
 

@@ -1,5 +1,10 @@
 //! What a step reads and changes.
-ghost use Rattle.std.specs.Prelude.{◌≡◌, ◌&&◌, nat_lt};
+ghost use Rattle.std.specs.Prelude.{◌≡◌, ℕ, ◌&&◌, nat_lt};
+ghost use Rattle.xa_base.specs.declared.reply.Reply.TheVariants as Replies;
+ghost use Rattle.xa_base.specs.declared.step.Side.TheVariants as Sides;
+ghost use Rattle.xa_base.specs.declared.step.Step.TheVariants as Steps;
+ghost use Rattle.xa_tm.specs.Kept.{log_in};
+ghost use Rattle.xa_tm.specs.Tied.{IsReadFrom};
 ghost use Rattle.xa_model.specs.Replies.ReadBack.{StepHasXids};
 ghost use Rattle.xa_system.specs.Parts.{GoesOn, StandsSomewhere, sees};
 
@@ -40,10 +45,12 @@ impl<R: ResourceManager + Drop, L: DecisionLog + Drop> Parts<R, L> {
 
     /// Does a step, or refuses it.
     pub(crate) fn step(&mut self, step: &Step) -> Twin
-        requires stands { StandsSomewhere (sees R.held_of R.scan_of R.in_doubt_of L.DecisionLog) self.old }
+        requires stands { StandsSomewhere (sees R.held_of R.scan_of R.in_doubt_of L.moment) self.old }
         requires has_xids { StepHasXids step.now }
-        ensures { GoesOn (sees R.held_of R.scan_of R.in_doubt_of L.DecisionLog)
+        ensures goes { GoesOn (sees R.held_of R.scan_of R.in_doubt_of L.moment)
             step.now result self.old self.new }
+        ensures read { (i d h : ℕ) → step.now ≡ Steps.Restart Sides.Manager → result ≡ Replies.Restarted i d h →
+            IsReadFrom L.DecisionLog i d h (log_in self.old.manager) (log_in self.new.manager) }
     {
         match step {
             Step::Begin { thread } => self.begin(*thread),

@@ -1,5 +1,5 @@
 //! The system: its parts, with the events that left them where they stand.
-ghost use Rattle.std.specs.Prelude.{◌≡◌, ◌≢◌, Bool, ◌<◌, ◌≤◌, ◌+◌, ◌++◌, true, false, ◌∷◌, [], ◌⊎◌, ◌↔◌, All, Contains, length, map, Some, None, Err, IfErr, IfOk, IsOk, IsSomeAnd, OnErr, OnOk, vec_len, ℕ, List};
+ghost use Rattle.std.specs.Prelude.{◌≡◌, ◌≢◌, Bool, ◌<◌, ◌≤◌, ◌+◌, ◌++◌, true, false, ◌∷◌, [], ◌⊎◌, ◌↔◌, All, Contains, length, map, Some, None, Err, IfErr, IfOk, IsOk, IsSome, IsSomeAnd, OnErr, OnOk, vec_len, ℕ, List};
 ghost use Rattle.std.specs.List.Sorted.{IsStrictlySortedBy};
 ghost use Rattle.std.specs.Map.{keys_of};
 ghost use Rattle.xa_model.specs.Replies.ReadBack.{StepHasXids};
@@ -25,7 +25,7 @@ use xa_base::{Event, Fate, Memory, Refusal, Reply, Step, Xid};
 use xa_line::Lines;
 use xa_log::DecisionLog;
 use xa_rm::ResourceManager;
-use xa_tm::{Manager, StartFault};
+use xa_tm::{Manager, Slot, StartFault};
 
 /// The most events of a run.
 pub const EVENT_LIMIT: usize = 10_000;
@@ -33,21 +33,24 @@ pub const EVENT_LIMIT: usize = 10_000;
 /// All parts in one thread, with the events that leave them where they stand.
 #[derive(Drop)]
 pub struct System<R: ResourceManager + Drop, L: DecisionLog + Drop> {
-    /// The log as it was handed in, without a byte.
-    handed: Snapshot<L>,
-    parts: Parts<R, L>,
+    /// The log as it was handed in at the start, without a byte.
+    first: Snapshot<L>,
+    /// The log as it was handed in last.
+    pub(crate) handed: Snapshot<L>,
+    pub(crate) parts: Parts<R, Slot<L>>,
     events: Vec<Event>,
 }
 
 impl<R: ResourceManager + Drop, L: DecisionLog + Drop> Model for System<R, L> {
     ghost use Rattle.xa_system.specs.Parts.{sees};
     ghost use Rattle.xa_system.specs.Seen.{Seen, seen, IsSound};
+    ghost use Rattle.xa_tm.specs.Slots.{slot_moment};
 
     ghost Value = { Seen R L };
 
     ghost view = { seen };
 
-    ghost invariant = { IsSound (sees R.held_of R.scan_of R.in_doubt_of L.DecisionLog) };
+    ghost invariant = { IsSound (sees R.held_of R.scan_of R.in_doubt_of (slot_moment L.moment)) L.moment };
 }
 
 /// Why a system can't be made.
@@ -107,7 +110,7 @@ fn start_manager<L: DecisionLog + Drop>(
     log: L,
 ) -> Result<Manager<L>, NewFault>
     ensures manager { IfOk result (IsStarted threads rms) }
-    ensures log { IfOk result (IsStartedOver L.DecisionLog threads rms log) }
+    ensures log { IfOk result (IsStartedOver L.moment threads rms log) }
     ensures past { (L.moment log).is_in_order →
         IfOk result (λ manager. (L.moment (log_in manager)).is_honest →
         IsSomeAnd (L.moment log).content IsPast) }
@@ -151,7 +154,13 @@ impl<R: ResourceManager + Drop, L: DecisionLog + Drop> System<R, L> {
     ghost use Rattle.xa_base.specs.declared.state.Fate.TheVariants as Fates;
     ghost use Rattle.xa_base.specs.declared.branch.Branch.{Branch};
     ghost use Rattle.xa_system.specs.Report.{IsReported};
-    ghost use Rattle.xa_system.specs.Seen.{AddsSteps, FaultsHaveCauses, HasWrongSize, HoldsItsTrace, IsAsBefore, IsOwnIn, origin_in, trace_in};
+    ghost use Rattle.xa_base.specs.declared.step.Side.TheVariants as Sides;
+    ghost use Rattle.xa_base.specs.declared.step.Step.TheVariants as Steps;
+    ghost use Rattle.xa_log.specs.Content.{Content};
+    ghost use Rattle.xa_system.specs.Logged.{IsBeforeNext};
+    ghost use Rattle.xa_system.specs.Seen.{AddsSteps, FaultsHaveCauses, HasWrongSize, HoldsItsTrace, IsAsBefore, IsFailed, IsOwnIn, MayRestart, observes, origin_in, trace_in};
+    ghost use Rattle.xa_tm.specs.Slots.{LooksAt, TakesIn, last_out, log_held, slot_moment};
+    ghost use Rattle.xa_tm.specs.declared.swap_fault.SwapFault.TheVariants as SwapFault;
 
     /// A system with no events, of 1 to 8 threads and 1 to 8 resource managers that hold no branch of this manager's
     /// format, with a manager that starts over the log. Room for all events is made here, and all other room before the
@@ -166,18 +175,22 @@ impl<R: ResourceManager + Drop, L: DecisionLog + Drop> System<R, L> {
         ensures only_limit { result ≡ Err NewFault.Limit → HasWrongSize threads (vec_len rms) }
         ensures only_not_clear { result ≡ Err NewFault.NotClear →
             IsUnclear (looks R.held_of R.scan_of R.in_doubt_of) rms.items }
-        ensures handed { IfOk result (λ system. system.handed ≡ log) }
-        ensures honest { IfOk result (λ system. (L.moment system.log).is_honest →
+        ensures handed { IfOk result (λ system. (system.handed ≡ log) × (system.first ≡ log)) }
+        ensures held { IfOk result (λ system. (system.begun ≡ system.log) × IsSome (log_held system.log)) }
+        ensures honest { IfOk result (λ system. (slot_moment L.moment system.log).is_honest →
             (L.moment log).is_honest) }
-        ensures faults { IfOk result (λ system. (L.moment system.log).fault_count ≡
+        ensures faults { IfOk result (λ system. (slot_moment L.moment system.log).fault_count ≡
             (L.moment log).fault_count) }
         ensures past { (L.moment log).is_in_order →
-            IfOk result (λ system. (L.moment system.log).is_honest →
+            IfOk result (λ system. (slot_moment L.moment system.log).is_honest →
             IsSomeAnd (L.moment log).content IsPast) }
         ensures log_fault { result ≡ Err NewFault.Log → IsToBlame L.DecisionLog log }
         ensures ok { IfOk result (λ system. (system.events ≡ []) × (system.start ≡ rms.items) × (system.rms ≡ rms.items)
             × (system.lines.threads ≡ threads) × HoldsItsTrace
-            (sees R.held_of R.scan_of R.in_doubt_of L.DecisionLog) system) }
+            (observes R.held_of R.scan_of R.in_doubt_of L.moment) system) }
+        ensures near { (L.moment log).is_in_order →
+            IfOk result (λ system. (slot_moment L.moment system.log).is_honest →
+            MayRestart (observes R.held_of R.scan_of R.in_doubt_of L.moment) system) }
     {
         if threads == 0 || threads > 8 || rms.is_empty() || rms.len() > 8 {
             return Err(NewFault::Limit);
@@ -195,8 +208,10 @@ impl<R: ResourceManager + Drop, L: DecisionLog + Drop> System<R, L> {
         let Ok(sites) = sites_of(alloc, rms) else {
             return Err(NewFault::Memory);
         };
+        let first = Snapshot::of(&log);
         let handed = Snapshot::of(&log);
         let manager = start_manager(alloc, threads, lines.rms(), log)?;
+        let manager = manager.into_slot();
         let began = Snapshot::of(&manager);
         let parts = Parts {
             alloc,
@@ -207,6 +222,7 @@ impl<R: ResourceManager + Drop, L: DecisionLog + Drop> System<R, L> {
             manager,
         };
         Ok(System {
+            first,
             handed,
             parts,
             events,
@@ -223,7 +239,8 @@ impl<R: ResourceManager + Drop, L: DecisionLog + Drop> System<R, L> {
     /// Adds one event, where there is room, and leaves all parts where the history with it leaves them.
     ///
     /// A refused step leaves them as they were. One in which the log failed leaves the manager down, all lines broken, and
-    /// the log as it was or with the step's one change.
+    /// the log as it was or with the step's one change. So is a restart of the manager refused while its log is out, or
+    /// is of another incarnation than one that a restart may follow.
     pub fn step(&mut self, step: Step) -> Reply
         ensures full { EVENT_LIMIT ≤ length self.old.events →
             (result ≡ Replies.Refused Refusals.Limit) × (self.new ≡ self.old) }
@@ -232,24 +249,41 @@ impl<R: ResourceManager + Drop, L: DecisionLog + Drop> System<R, L> {
         ensures demanded { length self.old.events < EVENT_LIMIT →
             Demanded (trace_in (looks R.held_of R.scan_of R.in_doubt_of) self.old)
             (step_of step) (reply_of result) }
-        ensures parts { HoldsItsTrace (sees R.held_of R.scan_of R.in_doubt_of L.DecisionLog) self.new }
+        ensures parts { HoldsItsTrace (observes R.held_of R.scan_of R.in_doubt_of L.moment) self.new }
         ensures refused { (n : Refusal) → result ≡ Replies.Refused n → n ≢ Refusals.LogFault →
-            IsAsBefore (sees R.held_of R.scan_of R.in_doubt_of L.DecisionLog) self.old self.new }
+            IsAsBefore (observes R.held_of R.scan_of R.in_doubt_of L.moment) self.old self.new }
         ensures nothing { (n : Refusal) → result ≡ Replies.Refused n → n ≢ Refusals.LogFault →
             happened (step_of step) (reply_of result) ≡ Nothing }
         ensures down { result ≡ Replies.Refused Refusals.LogFault →
             up (trace_in (looks R.held_of R.scan_of R.in_doubt_of) self.new) ≡ Bool.false }
         ensures failed { result ≡ Replies.Refused Refusals.LogFault →
-            (L.moment self.old.handed).is_in_order → (L.moment self.new.log).is_honest →
+            (L.moment self.old.handed).is_in_order → (slot_moment L.moment self.new.log).is_honest →
             MayHaveFailed (trace_in (looks R.held_of R.scan_of R.in_doubt_of) self.old) (log_failed (step_of step))
-            (L.moment self.old.log).content (L.moment self.new.log).content }
-        ensures handed { self.new.handed ≡ self.old.handed }
-        ensures honest { (L.moment self.new.log).is_honest → (L.moment self.old.log).is_honest }
+            (slot_moment L.moment self.old.log).content (slot_moment L.moment self.new.log).content }
+        ensures handed { (self.new.handed ≡ self.old.handed) × (self.new.first ≡ self.old.first)
+            × (self.new.begun ≡ self.old.begun) }
+        ensures honest { (slot_moment L.moment self.new.log).is_honest → (slot_moment L.moment self.old.log).is_honest }
+        ensures near { (L.moment self.old.handed).is_in_order →
+            (slot_moment L.moment self.new.log).is_honest →
+            MayRestart (observes R.held_of R.scan_of R.in_doubt_of L.moment) self.old →
+            MayRestart (observes R.held_of R.scan_of R.in_doubt_of L.moment) self.new }
         ensures faults { (L.moment self.old.handed).is_in_order →
-            (L.moment self.new.log).is_honest →
-            FaultsHaveCauses (sees R.held_of R.scan_of R.in_doubt_of L.DecisionLog) self.old self.new }
+            (slot_moment L.moment self.new.log).is_honest →
+            MayRestart (observes R.held_of R.scan_of R.in_doubt_of L.moment) self.old →
+            FaultsHaveCauses (observes R.held_of R.scan_of R.in_doubt_of L.moment) self.old self.new }
         ensures start { origin_in (looks R.held_of R.scan_of R.in_doubt_of) self.new
             ≡ origin_in (looks R.held_of R.scan_of R.in_doubt_of) self.old }
+        ensures out { log_held self.old.log ≡ None → step ≡ Steps.Restart Sides.Manager →
+            length self.old.events < EVENT_LIMIT →
+            up (trace_in (looks R.held_of R.scan_of R.in_doubt_of) self.old) ≡ Bool.false →
+            IsFailed result }
+        ensures other_incarnation { (c : Content) → step ≡ Steps.Restart Sides.Manager →
+            length self.old.events < EVENT_LIMIT →
+            up (trace_in (looks R.held_of R.scan_of R.in_doubt_of) self.old) ≡ Bool.false →
+            (L.moment self.old.handed).is_in_order → (slot_moment L.moment self.new.log).is_honest →
+            (slot_moment L.moment self.old.log).content ≡ Some c →
+            (IsBeforeNext (trace_in (looks R.held_of R.scan_of R.in_doubt_of) self.old) c → ⊥) →
+            IsFailed result }
         ensures headline { Headline (origin_in (looks R.held_of R.scan_of R.in_doubt_of) self.new) self.new.events }
     {
         if self.events.len() >= EVENT_LIMIT {
@@ -302,7 +336,7 @@ impl<R: ResourceManager + Drop, L: DecisionLog + Drop> System<R, L> {
 
     /// What all that happened so far means, at every moment of it. Nothing is done.
     pub fn agree(&self)
-        ensures parts { HoldsItsTrace (sees R.held_of R.scan_of R.in_doubt_of L.DecisionLog) self.now }
+        ensures parts { HoldsItsTrace (observes R.held_of R.scan_of R.in_doubt_of L.moment) self.now }
         ensures headline { Headline (origin_in (looks R.held_of R.scan_of R.in_doubt_of) self.now) self.now.events }
     {
         let _ = &self.events;
@@ -315,14 +349,20 @@ impl<R: ResourceManager + Drop, L: DecisionLog + Drop> System<R, L> {
         ensures room { length self.old.events + length steps.now ≤ EVENT_LIMIT → IsOk result }
         ensures err { OnErr result (self.new ≡ self.old) }
         ensures adds { OnOk result (AddsSteps steps.now self.old.events self.new.events) }
-        ensures handed { self.new.handed ≡ self.old.handed }
-        ensures honest { (L.moment self.new.log).is_honest → (L.moment self.old.log).is_honest }
+        ensures handed { (self.new.handed ≡ self.old.handed) × (self.new.first ≡ self.old.first)
+            × (self.new.begun ≡ self.old.begun) }
+        ensures honest { (slot_moment L.moment self.new.log).is_honest → (slot_moment L.moment self.old.log).is_honest }
+        ensures near { (L.moment self.old.handed).is_in_order →
+            (slot_moment L.moment self.new.log).is_honest →
+            MayRestart (observes R.held_of R.scan_of R.in_doubt_of L.moment) self.old →
+            MayRestart (observes R.held_of R.scan_of R.in_doubt_of L.moment) self.new }
         ensures faults { (L.moment self.old.handed).is_in_order →
-            (L.moment self.new.log).is_honest →
-            FaultsHaveCauses (sees R.held_of R.scan_of R.in_doubt_of L.DecisionLog) self.old self.new }
+            (slot_moment L.moment self.new.log).is_honest →
+            MayRestart (observes R.held_of R.scan_of R.in_doubt_of L.moment) self.old →
+            FaultsHaveCauses (observes R.held_of R.scan_of R.in_doubt_of L.moment) self.old self.new }
         ensures start { origin_in (looks R.held_of R.scan_of R.in_doubt_of) self.new
             ≡ origin_in (looks R.held_of R.scan_of R.in_doubt_of) self.old }
-        ensures parts { HoldsItsTrace (sees R.held_of R.scan_of R.in_doubt_of L.DecisionLog) self.new }
+        ensures parts { HoldsItsTrace (observes R.held_of R.scan_of R.in_doubt_of L.moment) self.new }
         ensures headline { Headline (origin_in (looks R.held_of R.scan_of R.in_doubt_of) self.new) self.new.events }
     {
         if self.room() < steps.len() {

@@ -1,5 +1,5 @@
 -- What a crash of the log's store may leave.
-use Rattle.std.proofs.Common.{◌≡◌, ◌≤◌, ◌+◌, ◌⊎◌, inl, inr, true, false, Option, Some, None, IsSomeAnd, refl, sym, ap, subst, arith}
+use Rattle.std.proofs.Common.{◌≡◌, ◌≤◌, ◌+◌, ◌⊎◌, inl, inr, Bool, true, false, Option, Some, None, IsSomeAnd, refl, sym, ap, subst, arith}
 use Rattle.xa_base.specs.declared.step.Part.{Part}
 use Rattle.xa_model.specs.Trace.{Fault, Fault.InRestart, Happening.Crashed, Happening.Failed}
 use Rattle.xa_log.specs.Content.{Content, bumped}
@@ -10,49 +10,49 @@ use Rattle.xa_tm.specs.Tied.{IsTied, IsTiedDown, IsTiedUp, TiedBy, made}
 use Rattle.xa_tm.proofs.Restarts.{tied_no_restart}
 use Rattle.xa_tm.proofs.Ties.{tied_fault, up_content}
 
-pub left_while_up : (k : Book) (log : Option Content) (may : Content → Type 0) → k.up ≡ true → IsTied k log
-    → ((c d : Content) → log ≡ Some c → may d → d ≡ c) → IsLeft k may
-left_while_up k log may up tied holds d left = by log (up_content k log up tied) holds
+pub left_while_up : (near : Bool) (k : Book) (log : Option Content) (may : Content → Type 0) → k.up ≡ true → IsTied near k log
+    → ((c d : Content) → log ≡ Some c → may d → d ≡ c) → IsLeft near k may
+left_while_up near k log may up tied holds d left = by log (up_content near k log up tied) holds
   where
-    by : (log : Option Content) → IsSomeAnd log (IsTiedUp k) → ((c d : Content) → log ≡ Some c → may d → d ≡ c) → IsTiedDown k d
+    by : (log : Option Content) → IsSomeAnd log (IsTiedUp k) → ((c d : Content) → log ≡ Some c → may d → d ≡ c) → IsTiedDown near k d
     by None t holds = absurd t
-    by (Some c) t holds = subst (IsTiedDown k) (sym (holds c d refl left)) (record {
+    by (Some c) t holds = subst (IsTiedDown near k) (sym (holds c d refl left)) (record {
       holds = (c, t.holds, inl (record { decisions = refl; heuristics = refl }));
-      incarnation = record {
+      incarnation = λ h. record {
         least = let a : k.incarnation ≤ c.incarnation = omega (arith, t.incarnation) in a;
         most = let a : c.incarnation ≤ k.incarnation + k.failed_restarts = omega (arith, t.incarnation) in a;
       };
     })
 
-pub left_by_a_fault : (k : Book) (asked : Doubt) (f : Fault) (log : Option Content) (old new : Content → Type 0) → k.up ≡ true
-    → failed_restarts_after (Failed f) k.failed_restarts ≡ k.failed_restarts → IsTied k log → ((c d : Content) → log ≡ Some c → old d → d ≡ c)
-    → LeavesAlso (made asked) log old new → IsLeft (book_after k asked (Failed f)) new
-left_by_a_fault k asked f log old new up same tied holds leaves d left = by log tied holds (leaves d left)
+pub left_by_a_fault : (near : Bool) (k : Book) (asked : Doubt) (f : Fault) (log : Option Content) (old new : Content → Type 0) → k.up ≡ true
+    → failed_restarts_after (Failed f) k.failed_restarts ≡ k.failed_restarts → IsTied near k log → ((c d : Content) → log ≡ Some c → old d → d ≡ c)
+    → LeavesAlso (made asked) log old new → IsLeft near (book_after k asked (Failed f)) new
+left_by_a_fault near k asked f log old new up same tied holds leaves d left = by log tied holds (leaves d left)
   where
-    by : (log : Option Content) → IsTied k log → ((c d : Content) → log ≡ Some c → old d → d ≡ c)
-        → old d ⊎ IsSomeAnd log (λ b. d ≡ made asked b) → IsTiedDown (book_after k asked (Failed f)) d
-    by None tied holds r = absurd (up_content k None up tied)
-    by (Some c) tied holds (inl o) = tied_fault k asked f (Some c) (Some d) up same (inr (inl (ap (λ x. Some x) (holds c d refl o)))) tied d refl
-    by (Some c) tied holds (inr e) = tied_fault k asked f (Some c) (Some d) up same (inr (inr (ap (λ x. Some x) e))) tied d refl
+    by : (log : Option Content) → IsTied near k log → ((c d : Content) → log ≡ Some c → old d → d ≡ c)
+        → old d ⊎ IsSomeAnd log (λ b. d ≡ made asked b) → IsTiedDown near (book_after k asked (Failed f)) d
+    by None tied holds r = absurd (up_content near k None up tied)
+    by (Some c) tied holds (inl o) = tied_fault near k asked f (Some c) (Some d) up same (inr (inl (ap (λ x. Some x) (holds c d refl o)))) tied d refl
+    by (Some c) tied holds (inr e) = tied_fault near k asked f (Some c) (Some d) up same (inr (inr (ap (λ x. Some x) e))) tied d refl
 
 same_some : (c d : Content) → Some c ≡ Some d → c ≡ d
 same_some c d e = cc
 
-pub left_by_a_restart : (k : Book) (log : Option Content) (old new : Content → Type 0) → k.up ≡ false → IsTied k log → IsLeft k old
-    → LeavesAlso bumped log old new → IsLeft (book_after k Settled (Failed InRestart)) new
-left_by_a_restart k log old new down tied was leaves d left = by log tied (leaves d left)
+pub left_by_a_restart : (near : Bool) (k : Book) (log : Option Content) (old new : Content → Type 0) → k.up ≡ false → IsTied near k log → IsLeft near k old
+    → LeavesAlso bumped log old new → IsLeft near (book_after k Settled (Failed InRestart)) new
+left_by_a_restart near k log old new down tied was leaves d left = by log tied (leaves d left)
   where
-    by : (log : Option Content) → IsTied k log → old d ⊎ IsSomeAnd log (λ b. d ≡ bumped b) → IsTiedDown (book_after k Settled (Failed InRestart)) d
-    by log tied (inl o) = tied_no_restart k (Some d) (Some d) down (inr (inl refl))
-        (subst (λ u. TiedBy u k (Some d)) (sym down) (λ c is. subst (IsTiedDown k) (same_some d c is) (was d o))) d refl
+    by : (log : Option Content) → IsTied near k log → old d ⊎ IsSomeAnd log (λ b. d ≡ bumped b) → IsTiedDown near (book_after k Settled (Failed InRestart)) d
+    by log tied (inl o) = tied_no_restart near k (Some d) (Some d) down (inr (inl refl))
+        (subst (λ u. TiedBy u near k (Some d)) (sym down) (λ c is. subst (IsTiedDown near k) (same_some d c is) (was d o))) d refl
     by None tied (inr e) = absurd e
-    by (Some c) tied (inr e) = tied_no_restart k (Some c) (Some d) down (inr (inr (ap (λ x. Some x) e))) tied d refl
+    by (Some c) tied (inr e) = tied_no_restart near k (Some c) (Some d) down (inr (inr (ap (λ x. Some x) e))) tied d refl
 
-pub left_by_a_crash : (k : Book) (p : Part) (may : Content → Type 0) → IsLeft k may → IsLeft (after k (Crashed p)) may
-left_by_a_crash k p may was d left =
+pub left_by_a_crash : (near : Bool) (k : Book) (p : Part) (may : Content → Type 0) → IsLeft near k may → IsLeft near (after k (Crashed p)) may
+left_by_a_crash near k p may was d left =
     let t = was d left in
     record {
       holds =
           (t.holds.0, record { rows = t.holds.1.rows; row_number = t.holds.1.row_number; records = t.holds.1.records; record_number = t.holds.1.record_number }, t.holds.2);
-      incarnation = record { least = t.incarnation.least; most = t.incarnation.most };
+      incarnation = λ h. record { least = (t.incarnation h).least; most = (t.incarnation h).most };
     }

@@ -175,14 +175,14 @@ module _ (c : Content) (recs : Branch → Option How) (m : ℕ) (at : (b : Branc
 
 -- ** the log is tied to the book again
 
-pub tied_restart : (k : Book) (i d h : ℕ) (old new : Option Content) → k.up ≡ false → IsSomeAnd old (FoundIn i d h)
-    → Makes bumped old new → IsTied k old → IsTied (after k (Restarted i d h)) new
-tied_restart k i d h old new down found makes tied = go old found makes (subst (λ u. TiedBy u k old) down tied)
+pub tied_restart : (near : Bool) (k : Book) (i d h : ℕ) (old new : Option Content) → k.up ≡ false → IsSomeAnd old (FoundIn i d h)
+    → Makes bumped old new → IsTied near k old → IsTied near (after k (Restarted i d h)) new
+tied_restart near k i d h old new down found makes tied = go old found makes (subst (λ u. TiedBy u near k old) down tied)
   where
     n : Book
     n = after k (Restarted i d h)
 
-    up_again : (c : Content) → FoundIn i d h c → IsTiedDown k c → IsTiedUp n (bumped c)
+    up_again : (c : Content) → FoundIn i d h c → IsTiedDown near k c → IsTiedUp n (bumped c)
     up_again c f t = record { holds = by t.holds.2; incarnation = sym f.incarnation }
       where
         b : Content
@@ -208,14 +208,14 @@ tied_restart k i d h old new down found makes tied = go old found makes (subst (
         }
 
     go : (old : Option Content) → IsSomeAnd old (FoundIn i d h) → Makes bumped old new
-        → ((c : Content) → old ≡ Some c → IsTiedDown k c) → IsSomeAnd new (IsTiedUp n)
+        → ((c : Content) → old ≡ Some c → IsTiedDown near k c) → IsSomeAnd new (IsTiedUp n)
     go None f makes t = absurd makes
     go (Some c) f makes t = subst (λ x. IsSomeAnd x (IsTiedUp n)) (sym makes) (up_again c f (t c refl))
 
 -- a restart that fails leaves what may be held, one incarnation higher perhaps
-pub tied_no_restart : (k : Book) (old new : Option Content) → k.up ≡ false → MayMake bumped old new → IsTied k old
-    → IsTied (book_after k Settled (Failed InRestart)) new
-tied_no_restart k old new down may tied = go may (subst (λ u. TiedBy u k old) down tied)
+pub tied_no_restart : (near : Bool) (k : Book) (old new : Option Content) → k.up ≡ false → MayMake bumped old new → IsTied near k old
+    → IsTied near (book_after k Settled (Failed InRestart)) new
+tied_no_restart near k old new down may tied = go may (subst (λ u. TiedBy u near k old) down tied)
   where
     n : Book
     n = book_after k Settled (Failed InRestart)
@@ -227,12 +227,14 @@ tied_no_restart k old new down may tied = go may (subst (λ u. TiedBy u k old) d
     hold c before (inl s) = inl s
     hold c before (inr s) = inr (subst (λ x. SameRows c (made x before)) (sym stays_in_doubt) s)
 
-    as_it_was : (c : Content) → IsTiedDown k c → IsTiedDown n c
+    as_it_was : (c : Content) → IsTiedDown near k c → IsTiedDown near n c
     as_it_was c t = record {
       holds =
           (t.holds.0, record { rows = t.holds.1.rows; row_number = t.holds.1.row_number; records = t.holds.1.records; record_number = t.holds.1.record_number }, hold c t.holds.0 t.holds.2);
-      incarnation =
-          record { least = t.incarnation.least; most = let a : c.incarnation ≤ k.incarnation + (k.failed_restarts + 1) = omega (arith, t.incarnation.most) in a };
+      incarnation = λ h. record {
+        least = (t.incarnation h).least;
+        most = let a : c.incarnation ≤ k.incarnation + (k.failed_restarts + 1) = omega (arith, (t.incarnation h).most) in a;
+      };
     }
 
     hold_bumped : (c before : Content) → SameRows c before ⊎ SameRows c (made k.doubt before)
@@ -241,27 +243,27 @@ tied_no_restart k old new down may tied = go may (subst (λ u. TiedBy u k old) d
     hold_bumped c before (inr s) =
         inr (subst (λ x. SameRows (bumped c) (made x before)) (sym stays_in_doubt) (record { decisions = s.decisions; heuristics = s.heuristics }))
 
-    raised : (c : Content) → IsTiedDown k c → IsTiedDown n (bumped c)
+    raised : (c : Content) → IsTiedDown near k c → IsTiedDown near n (bumped c)
     raised c t = record {
       holds =
           (t.holds.0, record { rows = t.holds.1.rows; row_number = t.holds.1.row_number; records = t.holds.1.records; record_number = t.holds.1.record_number }, hold_bumped c t.holds.0 t.holds.2);
-      incarnation = record {
-        least = let a : k.incarnation ≤ c.incarnation + 1 = omega (arith, t.incarnation.least) in a;
-        most = let a : c.incarnation + 1 ≤ k.incarnation + (k.failed_restarts + 1) = omega (arith, t.incarnation.most) in a;
+      incarnation = λ h. record {
+        least = let a : k.incarnation ≤ c.incarnation + 1 = omega (arith, (t.incarnation h).least) in a;
+        most = let a : c.incarnation + 1 ≤ k.incarnation + (k.failed_restarts + 1) = omega (arith, (t.incarnation h).most) in a;
       };
     }
 
     same_some : (x y : Content) → Some x ≡ Some y → x ≡ y
     same_some x y e = cc
 
-    go : MayMake bumped old new → ((c : Content) → old ≡ Some c → IsTiedDown k c) → (c : Content) → new ≡ Some c → IsTiedDown n c
+    go : MayMake bumped old new → ((c : Content) → old ≡ Some c → IsTiedDown near k c) → (c : Content) → new ≡ Some c → IsTiedDown near n c
     go (inl none) t c is = absurd (let no : None ≡ Some c = sym none ∙ is in cc)
     go (inr (inl same)) t c is = as_it_was c (t c (sym same ∙ is))
     go (inr (inr makes)) t c is = made_of old refl makes t
       where
-        made_of : (o : Option Content) → old ≡ o → Makes bumped o new → ((x : Content) → old ≡ Some x → IsTiedDown k x) → IsTiedDown n c
+        made_of : (o : Option Content) → old ≡ o → Makes bumped o new → ((x : Content) → old ≡ Some x → IsTiedDown near k x) → IsTiedDown near n c
         made_of None e m t = absurd m
-        made_of (Some x) e m t = subst (IsTiedDown n) (same_some (bumped x) c (sym m ∙ is)) (raised x (t x e))
+        made_of (Some x) e m t = subst (IsTiedDown near n) (same_some (bumped x) c (sym m ∙ is)) (raised x (t x e))
 
 -- ** what is found
 
@@ -313,13 +315,13 @@ numbers_records k b (Records c how) d at number is = by (contains_key b.heuristi
         inr (e ∙ len-insert branches_total b.heuristics c how ∙ ap (λ t. cond t (len b.heuristics) (len b.heuristics + 1)) has ∙ ap (λ n. n + 1) number
         ∙ sym (ap (λ (t : Bool). if t then k.records else k.records + 1) (ap is_some (sym (at c)) ∙ has)))
 
-pub is_found : (k : Book) (i d h : ℕ) (old : Option Content) → k.up ≡ false → IsSomeAnd old (FoundIn i d h) → IsTied k old → IsFound k i d h
-is_found k i d h old down f tied = go old f (subst (λ u. TiedBy u k old) down tied)
+pub is_found : (k : Book) (i d h : ℕ) (old : Option Content) → k.up ≡ false → IsSomeAnd old (FoundIn i d h) → IsTied true k old → IsFound k i d h
+is_found k i d h old down f tied = go old f (subst (λ u. TiedBy u true k old) down tied)
   where
-    by : (c : Content) → FoundIn i d h c → IsTiedDown k c → IsFound k i d h
+    by : (c : Content) → FoundIn i d h c → IsTiedDown true k c → IsFound k i d h
     by c f t = record {
-      greater = let a : k.incarnation < i = omega (arith, f.incarnation, t.incarnation.least) in a;
-      most = let a : i ≤ k.incarnation + 1 + k.failed_restarts = omega (arith, f.incarnation, t.incarnation.most) in a;
+      greater = let a : k.incarnation < i = omega (arith, f.incarnation, (t.incarnation refl).least) in a;
+      most = let a : i ≤ k.incarnation + 1 + k.failed_restarts = omega (arith, f.incarnation, (t.incarnation refl).most) in a;
       rows = rows_by t.holds.2;
       records = records_by t.holds.2;
     }
@@ -335,7 +337,7 @@ is_found k i d h old down f tied = go old f (subst (λ u. TiedBy u k old) down t
         records_by (inl s) = inl (f.records ∙ ap len s.heuristics ∙ t.holds.1.record_number)
         records_by (inr s) = numbers_records k b k.doubt h t.holds.1.records t.holds.1.record_number (f.records ∙ ap len s.heuristics)
 
-    go : (old : Option Content) → IsSomeAnd old (FoundIn i d h) → ((c : Content) → old ≡ Some c → IsTiedDown k c) → IsFound k i d h
+    go : (old : Option Content) → IsSomeAnd old (FoundIn i d h) → ((c : Content) → old ≡ Some c → IsTiedDown true k c) → IsFound k i d h
     go None f t = absurd f
     go (Some c) f t = by c f (t c refl)
 

@@ -345,9 +345,9 @@ module _ (t r i : ℕ) (gs : List Gtrid) (bs : List Branch) (hs : List (Branch �
         records = λ b h. before_incarnation i b.gtrid (ended_old i hs b parts.1 h);
       }
 
-pub start_tied : (t r : ℕ) (k : Book) (new : Option Content) → IsSomeAnd new (λ c. k ≡ book_at_start t r c) → IsTied k new
-start_tied t r k None is = absurd is
-start_tied t r k (Some c) is = subst (λ b. IsTied b (Some c)) (sym is) (record {
+pub start_tied : (near : Bool) (t r : ℕ) (k : Book) (new : Option Content) → IsSomeAnd new (λ c. k ≡ book_at_start t r c) → IsTied near k new
+start_tied near t r k None is = absurd is
+start_tied near t r k (Some c) is = subst (λ b. IsTied near b (Some c)) (sym is) (record {
   holds = record { rows = λ g. refl; row_number = refl; records = λ b. refl; record_number = refl };
   incarnation = refl;
 })

@@ -55,30 +55,30 @@ may_hold_same k l c s h = (h.0, holds_same k l h.0 s h.1, by h.2)
     by (inl same) = inl same
     by (inr same) = inr (subst (λ d. SameRows c (made d h.0)) (sym s.doubt) same)
 
-down_same : (k l : Book) (c : Content) → SameOfLog k l → IsTiedDown k c → IsTiedDown l c
-down_same k l c s t = record {
+down_same : (near : Bool) (k l : Book) (c : Content) → SameOfLog k l → IsTiedDown near k c → IsTiedDown near l c
+down_same near k l c s t = record {
   holds = may_hold_same k l c s t.holds;
-  incarnation = record {
-    least = subst (λ i. i ≤ c.incarnation) (sym s.incarnation) t.incarnation.least;
+  incarnation = λ h. record {
+    least = subst (λ i. i ≤ c.incarnation) (sym s.incarnation) (t.incarnation h).least;
     most = subst (λ i. c.incarnation ≤ i + l.failed_restarts) (sym s.incarnation)
-        (subst (λ n. c.incarnation ≤ k.incarnation + n) (sym s.failed_restarts) t.incarnation.most);
+        (subst (λ n. c.incarnation ≤ k.incarnation + n) (sym s.failed_restarts) (t.incarnation h).most);
   };
 }
 
 up_same : (k l : Book) (c : Content) → SameOfLog k l → IsTiedUp k c → IsTiedUp l c
 up_same k l c s t = record { holds = holds_same k l c s t.holds; incarnation = t.incarnation ∙ sym s.incarnation }
 
-pub tied_same : (k l : Book) (log : Option Content) → SameOfLog k l → IsTied k log → IsTied l log
-tied_same k l log s tied = subst (λ u. TiedBy u l log) (sym s.up) (by k.up log tied)
+pub tied_same : (near : Bool) (k l : Book) (log : Option Content) → SameOfLog k l → IsTied near k log → IsTied near l log
+tied_same near k l log s tied = subst (λ u. TiedBy u near l log) (sym s.up) (by k.up log tied)
   where
-    by : (u : Bool) (log : Option Content) → TiedBy u k log → TiedBy u l log
+    by : (u : Bool) (log : Option Content) → TiedBy u near k log → TiedBy u near l log
     by true None tied = absurd tied
     by true (Some c) tied = up_same k l c s tied
-    by false log tied = λ c is. down_same k l c s (tied c is)
+    by false log tied = λ c is. down_same near k l c s (tied c is)
 
 -- while the manager is up, the log holds something
-pub up_content : (k : Book) (log : Option Content) → k.up ≡ true → IsTied k log → IsSomeAnd log (IsTiedUp k)
-up_content k log up tied = subst (λ u. TiedBy u k log) up tied
+pub up_content : (near : Bool) (k : Book) (log : Option Content) → k.up ≡ true → IsTied near k log → IsSomeAnd log (IsTiedUp k)
+up_content near k log up tied = subst (λ u. TiedBy u near k log) up tied
 
 -- ** changes
 
@@ -100,10 +100,10 @@ made_incarnation (Records b how) c = by (contains_key c.heuristics b)
 made_incarnation Settled c = refl
 
 -- a failure leaves the change in doubt
-pub tied_fault : (k : Book) (asked : Doubt) (f : Fault) (old new : Option Content) → k.up ≡ true
+pub tied_fault : (near : Bool) (k : Book) (asked : Doubt) (f : Fault) (old new : Option Content) → k.up ≡ true
     → failed_restarts_after (Failed f) k.failed_restarts ≡ k.failed_restarts
-    → MayMake (made asked) old new → IsTied k old → IsTied (book_after k asked (Failed f)) new
-tied_fault k asked f old new up same may tied = go old (up_content k old up tied) may
+    → MayMake (made asked) old new → IsTied near k old → IsTied near (book_after k asked (Failed f)) new
+tied_fault near k asked f old new up same may tied = go old (up_content near k old up tied) may
   where
     n : Book
     n = book_after k asked (Failed f)
@@ -120,27 +120,27 @@ tied_fault k asked f old new up same may tied = go old (up_content k old up tied
       most = subst (λ r. c.incarnation ≤ k.incarnation + r) (sym same) (let a : c.incarnation ≤ k.incarnation + k.failed_restarts = omega arith in a);
     }
 
-    as_before : (d c : Content) → d ≡ c → IsTiedUp k d → IsTiedDown n c
+    as_before : (d c : Content) → d ≡ c → IsTiedUp k d → IsTiedDown near n c
     as_before d c is t =
-        subst (IsTiedDown n) is (record { holds = (d, held_still d t.holds, inl (record { decisions = refl; heuristics = refl })); incarnation = reached d t.incarnation })
+        subst (IsTiedDown near n) is (record { holds = (d, held_still d t.holds, inl (record { decisions = refl; heuristics = refl })); incarnation = λ h. reached d t.incarnation })
 
-    changed : (d c : Content) → made asked d ≡ c → IsTiedUp k d → IsTiedDown n c
-    changed d c is t = subst (IsTiedDown n) is (record {
+    changed : (d c : Content) → made asked d ≡ c → IsTiedUp k d → IsTiedDown near n c
+    changed d c is t = subst (IsTiedDown near n) is (record {
       holds = (d, held_still d t.holds, inr (subst (λ x. SameRows (made asked d) (made x d)) (sym fresh) (record { decisions = refl; heuristics = refl })));
-      incarnation = reached (made asked d) (made_incarnation asked d ∙ t.incarnation);
+      incarnation = λ h. reached (made asked d) (made_incarnation asked d ∙ t.incarnation);
     })
 
-    go : (old : Option Content) → IsSomeAnd old (IsTiedUp k) → MayMake (made asked) old new → (c : Content) → new ≡ Some c → IsTiedDown n c
+    go : (old : Option Content) → IsSomeAnd old (IsTiedUp k) → MayMake (made asked) old new → (c : Content) → new ≡ Some c → IsTiedDown near n c
     go None t may c is = absurd t
     go (Some d) t (inl none) c is = absurd (let no : None ≡ Some c = sym none ∙ is in cc)
     go (Some d) t (inr (inl stays)) c is = as_before d c (same_some d c (sym stays ∙ is)) t
     go (Some d) t (inr (inr done)) c is = changed d c (same_some (made asked d) c (sym done ∙ is)) t
 
 -- the change is made
-module _ (k l : Book) (up : k.up ≡ true) (still_up : l.up ≡ true) (same : l.incarnation ≡ k.incarnation) where
+module _ (near : Bool) (k l : Book) (up : k.up ≡ true) (still_up : l.up ≡ true) (same : l.incarnation ≡ k.incarnation) where
   pub tied_made : (asked : Doubt) (old new : Option Content) → ((c : Content) → HoldsBook k c → HoldsBook l (made asked c))
-      → Makes (made asked) old new → IsTied k old → IsTied l new
-  tied_made asked old new holds makes tied = subst (λ u. TiedBy u l new) (sym still_up) (go old (up_content k old up tied) makes)
+      → Makes (made asked) old new → IsTied near k old → IsTied near l new
+  tied_made asked old new holds makes tied = subst (λ u. TiedBy u near l new) (sym still_up) (go old (up_content near k old up tied) makes)
     where
       go : (old : Option Content) → IsSomeAnd old (IsTiedUp k) → Makes (made asked) old new → IsSomeAnd new (IsTiedUp l)
       go None t makes = absurd t
@@ -234,10 +234,10 @@ holds_record k l b how row rows recs number c h = by (contains_key c.heuristics 
 
 -- ** decisions
 
-pub tied_commit : (k : Book) (g : Gtrid) (set : Waiting) (old new : Option Content) → k.up ≡ true → k.row g ≡ None
+pub tied_commit : (near : Bool) (k : Book) (g : Gtrid) (set : Waiting) (old new : Option Content) → k.up ≡ true → k.row g ≡ None
     → (k.deal g).has_yes ≡ true → set ≡ voted_yes k g
-    → Makes (committed g set) old new → IsTied k old → IsTied (after k (Decided g Outcomes.Commit)) new
-tied_commit k g set old new up none agreed voters makes tied = tied_made k n up up refl (Adds g (voted_yes k g)) old new
+    → Makes (committed g set) old new → IsTied near k old → IsTied near (after k (Decided g Outcomes.Commit)) new
+tied_commit near k g set old new up none agreed voters makes tied = tied_made near k n up up refl (Adds g (voted_yes k g)) old new
     (holds_row k n g (voted_yes k g) none (λ q. ap (λ (t : Bool). if t then (if gtrid_eq g q then Some (voted_yes k g) else k.row q) else k.row q) agreed)
     (ap (λ (t : Bool). if t then k.rows + 1 else k.rows) agreed) (λ b. refl) refl)
     (subst (λ s. Makes (committed g s) old new) voters makes) tied
@@ -246,11 +246,11 @@ tied_commit k g set old new up none agreed voters makes tied = tied_made k n up 
     n = after k (Decided g Outcomes.Commit)
 
 -- where no row is written, the log stays as it is
-pub tied_plain : (k : Book) (g : Gtrid) (o : Outcome) (log : Option Content) → (is_commit (Some o) && (k.deal g).has_yes) ≡ false
-    → IsTied k log → IsTied (after k (Decided g o)) log
-tied_plain k g Outcomes.Rollback log none tied = tied_same k (after k (Decided g Outcomes.Rollback)) log
+pub tied_plain : (near : Bool) (k : Book) (g : Gtrid) (o : Outcome) (log : Option Content) → (is_commit (Some o) && (k.deal g).has_yes) ≡ false
+    → IsTied near k log → IsTied near (after k (Decided g o)) log
+tied_plain near k g Outcomes.Rollback log none tied = tied_same near k (after k (Decided g Outcomes.Rollback)) log
     (record { up = refl; incarnation = refl; failed_restarts = refl; row = λ q. refl; rows = refl; recorded = λ b. refl; records = refl; doubt = refl }) tied
-tied_plain k g Outcomes.Commit log none tied = tied_same k (after k (Decided g Outcomes.Commit)) log
+tied_plain near k g Outcomes.Commit log none tied = tied_same near k (after k (Decided g Outcomes.Commit)) log
     (record {
       up = refl;
       incarnation = refl;
@@ -265,10 +265,10 @@ tied_plain k g Outcomes.Commit log none tied = tied_same k (after k (Decided g O
 -- ** crashes
 
 -- the manager falls by itself: nothing is in doubt
-pub tied_fall : (k l : Book) (log : Option Content) → l.up ≡ false → l.incarnation ≡ k.incarnation → l.failed_restarts ≡ k.failed_restarts
+pub tied_fall : (near : Bool) (k l : Book) (log : Option Content) → l.up ≡ false → l.incarnation ≡ k.incarnation → l.failed_restarts ≡ k.failed_restarts
     → ((g : Gtrid) → l.row g ≡ k.row g) → l.rows ≡ k.rows → ((b : Branch) → l.recorded b ≡ k.recorded b) → l.records ≡ k.records
-    → l.doubt ≡ k.doubt → IsTied k log → IsTied l log
-tied_fall k l log down inc failed row rows recs number doubt tied = subst (λ u. TiedBy u l log) (sym down) (by k.up log refl tied)
+    → l.doubt ≡ k.doubt → IsTied near k log → IsTied near l log
+tied_fall near k l log down inc failed row rows recs number doubt tied = subst (λ u. TiedBy u near l log) (sym down) (by k.up log refl tied)
   where
     held_still : (c : Content) → HoldsBook k c → HoldsBook l c
     held_still c h =
@@ -288,22 +288,23 @@ tied_fall k l log down inc failed row rows recs number doubt tied = subst (λ u.
     may c before (inl s) = inl s
     may c before (inr s) = inr (subst (λ d. SameRows c (made d before)) (sym doubt) s)
 
-    fallen : (d c : Content) → d ≡ c → IsTiedUp k d → IsTiedDown l c
+    fallen : (d c : Content) → d ≡ c → IsTiedUp k d → IsTiedDown near l c
     fallen d c is t =
-        subst (IsTiedDown l) is (record { holds = (d, held_still d t.holds, inl (record { decisions = refl; heuristics = refl })); incarnation = reached d (at_once d t.incarnation) })
+        subst (IsTiedDown near l) is
+        (record { holds = (d, held_still d t.holds, inl (record { decisions = refl; heuristics = refl })); incarnation = λ h. reached d (at_once d t.incarnation) })
 
-    by : (u : Bool) (log : Option Content) → k.up ≡ u → TiedBy u k log → (c : Content) → log ≡ Some c → IsTiedDown l c
+    by : (u : Bool) (log : Option Content) → k.up ≡ u → TiedBy u near k log → (c : Content) → log ≡ Some c → IsTiedDown near l c
     by true None e tied c is = absurd tied
     by true (Some d) e tied c is = fallen d c (same_some d c is) tied
     by false log e tied c is =
-        let t = tied c is in record { holds = (t.holds.0, held_still t.holds.0 t.holds.1, may c t.holds.0 t.holds.2); incarnation = reached c t.incarnation }
+        let t = tied c is in record { holds = (t.holds.0, held_still t.holds.0 t.holds.1, may c t.holds.0 t.holds.2); incarnation = λ h. reached c (t.incarnation h) }
 
-pub tied_crash : (k : Book) (p : Part) (log : Option Content) → IsTied k log → IsTied (after k (Crashed p)) log
-tied_crash k (Parts.Line t r) log tied = tied_same k (after k (Crashed (Parts.Line t r))) log
+pub tied_crash : (near : Bool) (k : Book) (p : Part) (log : Option Content) → IsTied near k log → IsTied near (after k (Crashed p)) log
+tied_crash near k (Parts.Line t r) log tied = tied_same near k (after k (Crashed (Parts.Line t r))) log
     (record { up = refl; incarnation = refl; failed_restarts = refl; row = λ q. refl; rows = refl; recorded = λ b. refl; records = refl; doubt = refl }) tied
-tied_crash k (Parts.Rm r) log tied = tied_same k (after k (Crashed (Parts.Rm r))) log
+tied_crash near k (Parts.Rm r) log tied = tied_same near k (after k (Crashed (Parts.Rm r))) log
     (record { up = refl; incarnation = refl; failed_restarts = refl; row = λ q. refl; rows = refl; recorded = λ b. refl; records = refl; doubt = refl }) tied
-tied_crash k Parts.Manager log tied = tied_fall k (after k (Crashed Parts.Manager)) log refl refl refl (λ q. refl) refl (λ b. refl) refl refl tied
+tied_crash near k Parts.Manager log tied = tied_fall near k (after k (Crashed Parts.Manager)) log refl refl refl (λ q. refl) refl (λ b. refl) refl refl tied
 
 -- ** a row leaves
 
@@ -323,16 +324,16 @@ done_row k g e = go k.up ((k.deal g).begun || outlived_in k g) (has_row_in k g) 
     go true true false s e = absurd (cc)
     go true true true s e = refl
 
-pub tied_done : (k : Book) (g : Gtrid) (old new : Option Content) → k.up ≡ true → is_some (k.row g) ≡ true
-    → Makes (without_decision g) old new → IsTied k old → IsTied (after k (Done g)) new
-tied_done k g old new up some makes tied = tied_made k (after k (Done g)) up up refl (Drops g) old new
+pub tied_done : (near : Bool) (k : Book) (g : Gtrid) (old new : Option Content) → k.up ≡ true → is_some (k.row g) ≡ true
+    → Makes (without_decision g) old new → IsTied near k old → IsTied near (after k (Done g)) new
+tied_done near k g old new up some makes tied = tied_made near k (after k (Done g)) up up refl (Drops g) old new
     (holds_drop k (after k (Done g)) g some (λ q. refl) refl (λ b. refl) refl) makes tied
 
 -- ** answers
 
-pub tied_heard : (k : Book) (l : Line) (c : Call) (a : Answer) (b : Branch) (how : Option How) (old new : Option Content) → k.up ≡ true
-    → doubt_of (record_of c a) ≡ recording b how → MakesOf (recording b how) old new → IsTied k old → IsTied (after k (Heard l c a)) new
-tied_heard k l c a b None old new up is same tied = subst (IsTied (after k (Heard l c a))) (sym same) (tied_same k (after k (Heard l c a)) old
+pub tied_heard : (near : Bool) (k : Book) (l : Line) (c : Call) (a : Answer) (b : Branch) (how : Option How) (old new : Option Content) → k.up ≡ true
+    → doubt_of (record_of c a) ≡ recording b how → MakesOf (recording b how) old new → IsTied near k old → IsTied near (after k (Heard l c a)) new
+tied_heard near k l c a b None old new up is same tied = subst (IsTied near (after k (Heard l c a))) (sym same) (tied_same near k (after k (Heard l c a)) old
     (record {
       up = refl;
       incarnation = refl;
@@ -343,12 +344,12 @@ tied_heard k l c a b None old new up is same tied = subst (IsTied (after k (Hear
       records = ap (λ d. records_with k d k.records) is;
       doubt = refl;
     }) tied)
-tied_heard k l c a b (Some how) old new up is makes tied = tied_made k (after k (Heard l c a)) up up refl (Records b how) old new
+tied_heard near k l c a b (Some how) old new up is makes tied = tied_made near k (after k (Heard l c a)) up up refl (Records b how) old new
     (holds_record k (after k (Heard l c a)) b how (λ g. refl) refl (λ q. ap (λ d. recorded_with d q (k.recorded q)) is)
     (ap (λ d. records_with k d k.records) is)) makes tied
 
 -- ** recovery
 
-pub tied_opened : (k : Book) (r : ℕ) (log : Option Content) → IsTied k log → IsTied (after k (ResolvedOpen r)) log
-tied_opened k r log tied = tied_same k (after k (ResolvedOpen r)) log
+pub tied_opened : (near : Bool) (k : Book) (r : ℕ) (log : Option Content) → IsTied near k log → IsTied near (after k (ResolvedOpen r)) log
+tied_opened near k r log tied = tied_same near k (after k (ResolvedOpen r)) log
     (record { up = refl; incarnation = refl; failed_restarts = refl; row = λ q. refl; rows = refl; recorded = λ b. refl; records = refl; doubt = refl }) tied

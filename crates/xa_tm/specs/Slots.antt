@@ -28,14 +28,19 @@ module _ {L : Type 0} where
   leaves_in leaves was (Some log) c = leaves log c
   leaves_in leaves was None c = leaves was c
 
-  -- a slot with a log in it is as the log; an empty one holds nothing. Failures are the slot's own
+  -- an empty slot counts by itself
+  abbrev pub faults_in : (L → ℕ) → Option L → (own : ℕ) → ℕ
+  faults_in faults (Some log) own = faults log
+  faults_in faults None own = own
+
+  -- a slot with a log in it is as the log; an empty one holds nothing
   abbrev pub moment_in : (L → Moment) → L → Option L → (faults : ℕ) → Moment
   moment_in moment was log faults = record {
     content = content_in (λ l. (moment l).content) log;
     is_in_order = order_in (λ l. (moment l).is_in_order) log;
     is_honest = honest_in (λ l. (moment l).is_honest) was log;
     may_leave = leaves_in (λ l. (moment l).may_leave) was log;
-    fault_count = faults;
+    fault_count = faults_in (λ l. (moment l).fault_count) log faults;
   }
 
   -- the log in the slot says what it says, and an empty slot fails and stays empty
@@ -62,6 +67,13 @@ module _ {L : Type 0} where
       → (it : Option L) (c : Content) → order_in order it → content_in content it ≡ Some c → AllFit c
   fits_in content order law (Some log) c is holds = law log c is holds
   fits_in content order law None c is holds = absurd (cc)
+
+-- the log in a slot, and the one that was last taken out of it
+abbrev pub log_held : {L : Type 0} → Slot L → Option L
+log_held slot = slot.log
+
+abbrev pub last_out : {L : Type 0} → Slot L → L
+last_out slot = slot.was.value
 
 -- a slot as a log
 abbrev pub slot_moment : {L : Type 0} → (L → Moment) → Slot L → Moment

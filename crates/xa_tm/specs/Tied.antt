@@ -1,10 +1,12 @@
 -- How the log that a manager holds is tied to its book.
-use Rattle.std.specs.Prelude.{ℕ, ◌+◌, ◌-◌, ◌<◌, ◌≡◌, ◌≤◌, ◌⊎◌, Bool, true, false, ◌&&◌, ◌||◌, nat_eq, nat_le, nat_lt, Option, Some, IsSomeAnd}
+use Rattle.std.specs.Prelude.{ℕ, ◌+◌, ◌-◌, ◌<◌, ◌≡◌, ◌≤◌, ◌⊎◌, Bool, true, false, ◌&&◌, ◌||◌, nat_eq, nat_le, nat_lt, Option, Some, None, IsSomeAnd}
 use Rattle.std.specs.FinMap.{get, len}
 use Rattle.xa_base.specs.declared.branch.Branch.{Branch}
 use Rattle.xa_base.specs.declared.branch.Gtrid.{Gtrid}
-use Rattle.xa_log.specs.Content.{Content, committed, without_decision, recorded}
+use Rattle.xa_log.specs.Content.{Content, bumped, committed, without_decision, recorded, unchanged}
 use Rattle.xa_log.specs.Contract.{Makes}
+use Rattle.xa_log.specs.declared.decision_log.DecisionLog as DecisionLog
+use Rattle.xa_log.specs.declared.fail_plan.LogCall.TheVariants.{Bump, Rows}
 use Rattle.xa_tm.specs.Book.{Book, Doubt, Doubt.Adds, Doubt.Drops, Doubt.Records, Doubt.Settled, records_with}
 
 -- the content has the book's rows, with their participants, and its record
@@ -40,18 +42,19 @@ pub record IsTiedUp (k : Book) (c : Content) : Type 0 where
   pub holds : HoldsBook k c
   pub incarnation : c.incarnation ≡ k.incarnation
 
--- the log, where it isn't shut, has what the book says with or without the change in doubt
-pub record IsTiedDown (k : Book) (c : Content) : Type 0 where
+-- the log, where it isn't shut, has what the book says with or without the change in doubt; a near one is of an
+-- incarnation that a restart may follow, where one that was put in may be of any
+pub record IsTiedDown (near : Bool) (k : Book) (c : Content) : Type 0 where
   pub holds : MayHold k c
-  pub incarnation : IsReached k c
+  pub incarnation : near ≡ true → IsReached k c
 
-abbrev pub TiedBy : Bool → Book → Option Content → Type 0
-TiedBy true k log = IsSomeAnd log (IsTiedUp k)
-TiedBy false k log = (c : Content) → log ≡ Some c → IsTiedDown k c
+abbrev pub TiedBy : (up near : Bool) → Book → Option Content → Type 0
+TiedBy true near k log = IsSomeAnd log (IsTiedUp k)
+TiedBy false near k log = (c : Content) → log ≡ Some c → IsTiedDown near k c
 
 -- the book and what its log holds agree: exactly while the manager is up, but for the change in doubt while it is down
-abbrev pub IsTied : Book → Option Content → Type 0
-IsTied k log = TiedBy k.up k log
+abbrev pub IsTied : (near : Bool) → Book → Option Content → Type 0
+IsTied near k log = TiedBy k.up near k log
 
 -- the log was there and has the change, or there was none to make
 abbrev pub MakesOf : Doubt → Option Content → Option Content → Type 0
@@ -63,6 +66,13 @@ pub record FoundIn (i d h : ℕ) (c : Content) : Type 0 where
   pub incarnation : i ≡ c.incarnation + 1
   pub rows : d ≡ len c.decisions
   pub records : h ≡ len c.heuristics
+
+-- a log's rows were read and its incarnation raised, in this order, and these numbers are those that it had
+pub record IsReadFrom {L : Type 0} (logs : DecisionLog.Ghosts L) (i d h : ℕ) (old new : L) : Type 0 where
+  pub between : L
+  pub rows : logs.says Rows unchanged old between None
+  pub raised : logs.says Bump bumped between new None
+  pub found : (logs.moment old).is_in_order → (logs.moment new).is_honest → IsSomeAnd (logs.moment old).content (FoundIn i d h)
 
 -- the numbers that a restart may find: the next incarnation after one that the failures since may have reached, and
 -- those of the book, or of the book with the change in doubt. A record of a branch that has one adds none

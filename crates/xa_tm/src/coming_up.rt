@@ -6,7 +6,7 @@ ghost use Rattle.xa_base.specs.declared.refusal.Refusal.TheVariants as Refusals;
 ghost use Rattle.xa_log.specs.Content.{bumped, last_number};
 ghost use Rattle.xa_tm.specs.Book.{Doubt.Settled, after};
 ghost use Rattle.xa_log.specs.Contract.{LeavesAlso, Makes, MayMake, faults_after};
-ghost use Rattle.xa_tm.specs.Tied.{FoundIn, IsFound};
+ghost use Rattle.xa_tm.specs.Tied.{FoundIn, IsFound, IsReadFrom};
 ghost use Rattle.xa_tm.specs.Held.{IsSound};
 ghost use Rattle.xa_tm.specs.Kept.{FailsBy, book_in, faults_by, log_in};
 ghost use Rattle.xa_tm.specs.Tied.{IsTied};
@@ -37,10 +37,12 @@ impl<L: DecisionLog + Drop> Manager<L> {
         ensures most { IfOk result (λ found. found.incarnation ≤ last_number) }
         ensures found { IfOk result (λ found.
             IsFound (book_in self.old) found.incarnation found.decisions found.heuristics) }
-        ensures tied { (L.moment (log_in self.old)).is_in_order →
+        ensures read { IfOk result (λ found. IsReadFrom L.DecisionLog found.incarnation
+            found.decisions found.heuristics (log_in self.old) (log_in self.new)) }
+        ensures tied { (near : Bool) → (L.moment (log_in self.old)).is_in_order →
             (L.moment (log_in self.new)).is_honest →
-            IsTied (book_in self.old) (L.moment (log_in self.old)).content →
-            IsTied (book_in self.new) (L.moment (log_in self.new)).content }
+            IsTied near (book_in self.old) (L.moment (log_in self.old)).content →
+            IsTied near (book_in self.new) (L.moment (log_in self.new)).content }
         ensures kept { IfErr result (λ n. n ≢ Refusals.LogFault → log_in self.new ≡ log_in self.old) }
         ensures fault { (L.moment (log_in self.old)).is_in_order →
             (L.moment (log_in self.new)).is_honest → result ≡ Err Refusals.LogFault →
@@ -56,7 +58,7 @@ impl<L: DecisionLog + Drop> Manager<L> {
             (L.moment (log_in self.old)).is_honest }
         ensures faults { (L.moment (log_in self.old)).is_in_order →
             (L.moment (log_in self.new)).is_honest →
-            IsTied (book_in self.old) (L.moment (log_in self.old)).content →
+            IsTied Bool.true (book_in self.old) (L.moment (log_in self.old)).content →
             (L.moment (log_in self.new)).fault_count ≡
             faults_by result (L.moment (log_in self.old)).fault_count }
         ensures counted { ((L.moment (log_in self.new)).fault_count ≡
@@ -95,6 +97,8 @@ fn find_and_raise<L: DecisionLog>(log: &mut L) -> Result<Found, LogFault>
     ensures found { (L.moment log.old).is_in_order → (L.moment log.new).is_honest →
         IfOk result (λ found.
         IsSomeAnd (L.moment log.old).content (FoundIn found.incarnation found.decisions found.heuristics)) }
+    ensures read { IfOk result (λ found. IsReadFrom L.DecisionLog found.incarnation
+        found.decisions found.heuristics log.old log.new) }
     ensures most { IfOk result (λ found. found.incarnation ≤ last_number) }
     ensures ok { (L.moment log.old).is_in_order → (L.moment log.new).is_honest →
         OnOk result (Makes bumped (L.moment log.old).content (L.moment log.new).content) }

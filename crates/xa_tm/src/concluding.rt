@@ -31,10 +31,10 @@ impl<L: DecisionLog + Drop> Manager<L> {
             IfErr result (FailsBy (Adds g (voted_yes (book_in self.old) g)) (InDecide g) (book_in self.old) (book_in self.new)) }
         ensures asked { refusal_in (book_in self.old) (Steps.Decide g outcome) ≡ None → result ≡ Err Refusals.LogFault →
             AddsRow outcome ((book_in self.old).deal g) }
-        ensures tied { (L.moment (log_in self.old)).is_in_order →
+        ensures tied { (near : Bool) → (L.moment (log_in self.old)).is_in_order →
             (L.moment (log_in self.new)).is_honest →
-            IsTied (book_in self.old) (L.moment (log_in self.old)).content →
-            IsTied (book_in self.new) (L.moment (log_in self.new)).content }
+            IsTied near (book_in self.old) (L.moment (log_in self.old)).content →
+            IsTied near (book_in self.new) (L.moment (log_in self.new)).content }
         ensures kept { IfErr result (λ n. n ≢ Refusals.LogFault → log_in self.new ≡ log_in self.old) }
         ensures asks { AsksFor (made (Adds g (voted_yes (book_in self.old) g)))
             (L.moment (log_in self.old)) (L.moment (log_in self.new)) result }
@@ -56,10 +56,10 @@ impl<L: DecisionLog + Drop> Manager<L> {
             IfErr result (FailsBy (Adds g (voted_yes (book_in self.old) g)) (InDecide g) (book_in self.old) (book_in self.new)) }
         ensures asked { refusal_in (book_in self.old) (Steps.Settle g) ≡ None → result ≡ Err Refusals.LogFault →
             AddsRow Outcomes.Commit ((book_in self.old).deal g) }
-        ensures tied { (L.moment (log_in self.old)).is_in_order →
+        ensures tied { (near : Bool) → (L.moment (log_in self.old)).is_in_order →
             (L.moment (log_in self.new)).is_honest →
-            IsTied (book_in self.old) (L.moment (log_in self.old)).content →
-            IsTied (book_in self.new) (L.moment (log_in self.new)).content }
+            IsTied near (book_in self.old) (L.moment (log_in self.old)).content →
+            IsTied near (book_in self.new) (L.moment (log_in self.new)).content }
         ensures kept { IfErr result (λ n. n ≢ Refusals.LogFault → log_in self.new ≡ log_in self.old) }
         ensures asks { AsksFor (made (Adds g (voted_yes (book_in self.old) g)))
             (L.moment (log_in self.old)) (L.moment (log_in self.new)) result }
@@ -81,10 +81,10 @@ impl<L: DecisionLog + Drop> Manager<L> {
             IfErr result (FailsBy (Adds g (voted_yes (book_in self.old) g)) (InDecide g) (book_in self.old) (book_in self.new)) }
         ensures asked { refusal_in (book_in self.old) (Steps.Abandon g) ≡ None → result ≡ Err Refusals.LogFault →
             AddsRow Outcomes.Rollback ((book_in self.old).deal g) }
-        ensures tied { (L.moment (log_in self.old)).is_in_order →
+        ensures tied { (near : Bool) → (L.moment (log_in self.old)).is_in_order →
             (L.moment (log_in self.new)).is_honest →
-            IsTied (book_in self.old) (L.moment (log_in self.old)).content →
-            IsTied (book_in self.new) (L.moment (log_in self.new)).content }
+            IsTied near (book_in self.old) (L.moment (log_in self.old)).content →
+            IsTied near (book_in self.new) (L.moment (log_in self.new)).content }
         ensures kept { IfErr result (λ n. n ≢ Refusals.LogFault → log_in self.new ≡ log_in self.old) }
         ensures asks { AsksFor (made (Adds g (voted_yes (book_in self.old) g)))
             (L.moment (log_in self.old)) (L.moment (log_in self.new)) result }
@@ -104,10 +104,10 @@ impl<L: DecisionLog + Drop> Manager<L> {
         ensures ok { OnOk result (book_in self.new ≡ after (book_in self.old) (Done g)) }
         ensures err { refusal_in (book_in self.old) (Steps.Done g) ≡ None → IfErr result (λ n. (n ≡ Refusals.LogFault) ×
             (book_in self.new ≡ book_after (book_in self.old) (Drops g) (Failed (InDone g)))) }
-        ensures tied { (L.moment (log_in self.old)).is_in_order →
+        ensures tied { (near : Bool) → (L.moment (log_in self.old)).is_in_order →
             (L.moment (log_in self.new)).is_honest →
-            IsTied (book_in self.old) (L.moment (log_in self.old)).content →
-            IsTied (book_in self.new) (L.moment (log_in self.new)).content }
+            IsTied near (book_in self.old) (L.moment (log_in self.old)).content →
+            IsTied near (book_in self.new) (L.moment (log_in self.new)).content }
         ensures kept { IfErr result (λ n. n ≢ Refusals.LogFault → log_in self.new ≡ log_in self.old) }
         ensures asks { AsksFor (made (Drops g))
             (L.moment (log_in self.old)) (L.moment (log_in self.new)) result }
@@ -134,10 +134,10 @@ impl<L: DecisionLog + Drop> Manager<L> {
         ensures ok { OnOk result (book_in self.new ≡ after (book_in self.old) (Decided g outcome)) }
         ensures err { IfErr result (FailsBy (Adds g (voted_yes (book_in self.old) g)) (InDecide g) (book_in self.old) (book_in self.new)) }
         ensures asked { result ≡ Err Refusals.LogFault → AddsRow outcome ((book_in self.old).deal g) }
-        ensures tied { (L.moment (log_in self.old)).is_in_order →
+        ensures tied { (near : Bool) → (L.moment (log_in self.old)).is_in_order →
             (L.moment (log_in self.new)).is_honest →
-            IsTied (book_in self.old) (L.moment (log_in self.old)).content →
-            IsTied (book_in self.new) (L.moment (log_in self.new)).content }
+            IsTied near (book_in self.old) (L.moment (log_in self.old)).content →
+            IsTied near (book_in self.new) (L.moment (log_in self.new)).content }
         ensures kept { IfErr result (λ n. n ≢ Refusals.LogFault → log_in self.new ≡ log_in self.old) }
         ensures asks { AsksFor (made (Adds g (voted_yes (book_in self.old) g)))
             (L.moment (log_in self.old)) (L.moment (log_in self.new)) result }
@@ -161,10 +161,10 @@ impl<L: DecisionLog + Drop> Manager<L> {
         requires yes { ((book_in self.old).deal g).has_yes ≡ Bool.true }
         ensures ok { OnOk result (book_in self.new ≡ after (book_in self.old) (Decided g Outcomes.Commit)) }
         ensures err { IfErr result (FailsBy (Adds g (voted_yes (book_in self.old) g)) (InDecide g) (book_in self.old) (book_in self.new)) }
-        ensures tied { (L.moment (log_in self.old)).is_in_order →
+        ensures tied { (near : Bool) → (L.moment (log_in self.old)).is_in_order →
             (L.moment (log_in self.new)).is_honest →
-            IsTied (book_in self.old) (L.moment (log_in self.old)).content →
-            IsTied (book_in self.new) (L.moment (log_in self.new)).content }
+            IsTied near (book_in self.old) (L.moment (log_in self.old)).content →
+            IsTied near (book_in self.new) (L.moment (log_in self.new)).content }
         ensures kept { IfErr result (λ n. n ≢ Refusals.LogFault → log_in self.new ≡ log_in self.old) }
         ensures asks { AsksFor (made (Adds g (voted_yes (book_in self.old) g)))
             (L.moment (log_in self.old)) (L.moment (log_in self.new)) result }

@@ -46,10 +46,10 @@ impl<L: DecisionLog + Drop> Manager<L> {
         ensures err { (book_in self.old).up ≡ Bool.true → IfErr result (λ n. (c : KnownCall) → accepted (map_call name_of call.now) ≡ Some c →
             FailsBy (doubt_of (record_of c (map_answer name_of answer.now))) (InHear (line thread rm)) (book_in self.old) (book_in self.new) n) }
         ensures asked { result ≡ Err Refusals.LogFault → MakesRecord (map_call name_of call.now) (map_answer name_of answer.now) }
-        ensures tied { (L.moment (log_in self.old)).is_in_order →
+        ensures tied { (near : Bool) → (L.moment (log_in self.old)).is_in_order →
             (L.moment (log_in self.new)).is_honest →
-            IsTied (book_in self.old) (L.moment (log_in self.old)).content →
-            IsTied (book_in self.new) (L.moment (log_in self.new)).content }
+            IsTied near (book_in self.old) (L.moment (log_in self.old)).content →
+            IsTied near (book_in self.new) (L.moment (log_in self.new)).content }
         ensures kept { IfErr result (λ n. n ≢ Refusals.LogFault → log_in self.new ≡ log_in self.old) }
         ensures asks { (c : KnownCall) → accepted (map_call name_of call.now) ≡ Some c →
             AsksFor (made (doubt_of (record_of c (map_answer name_of answer.now))))
@@ -86,11 +86,11 @@ impl<L: DecisionLog + Drop> Manager<L> {
         ensures err { IfErr result (λ n. (l : Line) (kind : Kind) (code : Code) → news ≡ news_by kind code →
             FailsBy (doubt_of (record_of (on kind b) (Ret code))) (InHear l) (book_in self.old) (book_in self.new) n) }
         ensures asked { result ≡ Err Refusals.LogFault → IsSome news.how }
-        ensures tied { (L.moment (log_in self.old)).is_in_order →
+        ensures tied { (near : Bool) → (L.moment (log_in self.old)).is_in_order →
             (L.moment (log_in self.new)).is_honest → (l : Line) (kind : Kind) (code : Code) →
             news ≡ news_by kind code →
-            IsTied (book_in self.old) (L.moment (log_in self.old)).content →
-            IsTied (book_in self.new) (L.moment (log_in self.new)).content }
+            IsTied near (book_in self.old) (L.moment (log_in self.old)).content →
+            IsTied near (book_in self.new) (L.moment (log_in self.new)).content }
         ensures kept { IfErr result (λ n. n ≢ Refusals.LogFault → log_in self.new ≡ log_in self.old) }
         ensures asks { AsksFor (made (recording b news.how))
             (L.moment (log_in self.old)) (L.moment (log_in self.new)) result }

@@ -1,6 +1,6 @@
 //! What ties the manager's book to histories. These functions do nothing: each contract is a theorem.
 
-ghost use Rattle.std.specs.Prelude.{◌≡◌, true, false};
+ghost use Rattle.std.specs.Prelude.{◌≡◌, Bool, true, false};
 ghost use Rattle.xa_model.specs.Trace.{Fault, Fault.InRestart, Happening.Crashed, Happening.Failed};
 ghost use Rattle.xa_base.specs.declared.step.Part.{Part as Crashing};
 ghost use Rattle.xa_log.specs.Content.{bumped};
@@ -118,26 +118,29 @@ pub fn starts_are_histories()
 {}
 
 /// Each content that a crash of the log's store may leave has what the book says, with or without the change in doubt,
-/// and an incarnation not lower:
+/// and, of a near log, an incarnation that a restart may follow:
 ///
 /// - `up`: while the manager is up, of a log in order that is tied to the book;
 /// - `fault`: after a failure of the log in a call that asked it for one change;
 /// - `restart`: after a failed restart, if it was so before;
 /// - `crash`: after the crash of a part, if it was so before.
 pub fn crashes_leave_the_book<L: DecisionLog>()
-    ensures up { (k : Book) (log : L) → k.up ≡ true → (L.moment log).is_in_order →
-        IsTied k (L.moment log).content →
-        IsLeft k (L.moment log).may_leave }
-    ensures fault { (k : Book) (asked : Doubt) (f : Fault) (old new : L) → k.up ≡ true →
+    ensures up { (near : Bool) (k : Book) (log : L) → k.up ≡ true → (L.moment log).is_in_order →
+        IsTied near k (L.moment log).content →
+        IsLeft near k (L.moment log).may_leave }
+    ensures fault { (near : Bool) (k : Book) (asked : Doubt) (f : Fault) (old new : L) →
+        k.up ≡ true →
         failed_restarts_after (Failed f) k.failed_restarts ≡ k.failed_restarts →
-        (L.moment old).is_in_order → IsTied k (L.moment old).content →
+        (L.moment old).is_in_order → IsTied near k (L.moment old).content →
         LeavesAlso (made asked) (L.moment old).content (L.moment old).may_leave
         (L.moment new).may_leave →
-        IsLeft (book_after k asked (Failed f)) (L.moment new).may_leave }
-    ensures restart { (k : Book) (old new : L) → k.up ≡ false → IsTied k (L.moment old).content →
-        IsLeft k (L.moment old).may_leave →
+        IsLeft near (book_after k asked (Failed f)) (L.moment new).may_leave }
+    ensures restart { (near : Bool) (k : Book) (old new : L) → k.up ≡ false →
+        IsTied near k (L.moment old).content →
+        IsLeft near k (L.moment old).may_leave →
         LeavesAlso bumped (L.moment old).content (L.moment old).may_leave (L.moment new).may_leave →
-        IsLeft (book_after k Settled (Failed InRestart)) (L.moment new).may_leave }
-    ensures crash { (k : Book) (part : Crashing) (log : L) → IsLeft k (L.moment log).may_leave →
-        IsLeft (after k (Crashed part)) (L.moment log).may_leave }
+        IsLeft near (book_after k Settled (Failed InRestart)) (L.moment new).may_leave }
+    ensures crash { (near : Bool) (k : Book) (part : Crashing) (log : L) →
+        IsLeft near k (L.moment log).may_leave →
+        IsLeft near (after k (Crashed part)) (L.moment log).may_leave }
 {}

@@ -1,6 +1,6 @@
 //! The coordinator, with its log.
 
-ghost use Rattle.std.specs.Prelude.{◌≡◌, ◌+◌, map, length, Option, Some, None, Err, IfOk, IfErr, OnOk};
+ghost use Rattle.std.specs.Prelude.{◌≡◌, ◌+◌, Bool, map, length, Option, Some, None, Err, IfOk, IfErr, OnOk};
 ghost use Rattle.xa_base.specs.declared.step.Step.TheVariants as Steps;
 ghost use Rattle.xa_model.specs.Trace.{Call as KnownCall, line, Happening.Issued, Happening.Begun, Happening.Claimed};
 ghost use Rattle.xa_model.specs.Trace.{Happening.Crashed, Happening.ResolvedOpen};
@@ -85,7 +85,8 @@ impl<L: DecisionLog + Drop> Manager<L> {
     pub fn crash(&mut self, part: Part)
         ensures book { book_in self.new ≡ after (book_in self.old) (Crashed part) }
         ensures log { log_in self.new ≡ log_in self.old }
-        ensures tied { (log : Option Content) → IsTied (book_in self.old) log → IsTied (book_in self.new) log }
+        ensures tied { (near : Bool) (log : Option Content) →
+            IsTied near (book_in self.old) log → IsTied near (book_in self.new) log }
     {
         self.ledger.crash(part);
     }
@@ -139,7 +140,8 @@ impl<L: DecisionLog + Drop> Manager<L> {
         ensures ok { OnOk result (book_in self.new ≡ after (book_in self.old) (ResolvedOpen rm)) }
         ensures err { IfErr result (λ n. (n ≡ Refusals.Memory) × (book_in self.new ≡ book_in self.old)) }
         ensures log { log_in self.new ≡ log_in self.old }
-        ensures tied { (log : Option Content) → IsTied (book_in self.old) log → IsTied (book_in self.new) log }
+        ensures tied { (near : Bool) (log : Option Content) →
+            IsTied near (book_in self.old) log → IsTied near (book_in self.new) log }
     {
         match self.ledger.resolve_open(rm) {
             Ok(calls) => Ok(calls),

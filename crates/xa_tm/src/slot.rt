@@ -1,7 +1,7 @@
 //! A place for a decision log.
 
-ghost use Rattle.std.specs.Prelude.{◌≡◌, Some, None, is_some};
-ghost use Rattle.xa_log.specs.Contract.{faults_after};
+ghost use Rattle.std.specs.Prelude.{◌≡◌, Some, None, is_some, Err};
+ghost use Rattle.xa_log.specs.Contract.{one_more_fault};
 
 use std::snapshot::Snapshot;
 use xa_base::{Branch, Gtrid, How};
@@ -15,18 +15,17 @@ pub struct Slot<L: Drop> {
     pub(crate) log: Option<L>,
     /// The log that was last put in or taken out, without a byte.
     pub(crate) was: Snapshot<L>,
+    /// The calls that failed while it was empty.
     faults: u64,
 }
 
-/// Counts a call that failed.
-fn counted<T>(faults: &mut u64, answer: Result<T, LogFault>) -> Result<T, LogFault>
-    ensures same { result ≡ answer }
-    ensures count { faults.new ≡ faults_after result faults.old }
+/// Counts a call that failed for want of a log.
+fn without_log<T>(faults: &mut u64) -> Result<T, LogFault>
+    ensures fault { result ≡ Err LogFault.Store }
+    ensures count { faults.new ≡ one_more_fault faults.old }
 {
-    if answer.is_err() {
-        *faults = faults.saturating_add(1);
-    }
-    answer
+    *faults = faults.saturating_add(1);
+    Err(LogFault::Store)
 }
 
 impl<L: Drop> Slot<L> {
@@ -90,70 +89,65 @@ impl<L: DecisionLog + Drop> DecisionLog for Slot<L> {
         L.fits it.log c order is };
 
     fn commit(&mut self, g: Gtrid, participants: &[Branch]) -> Result<Logged, LogFault> {
-        let logged = match &mut self.log {
+        match &mut self.log {
             Some(log) => log.commit(g, participants),
-            None => Err(LogFault::Store),
-        };
-        counted(&mut self.faults, logged)
+            None => without_log(&mut self.faults),
+        }
     }
 
     fn contains(&mut self, g: Gtrid) -> Result<bool, LogFault> {
-        let found = match &mut self.log {
+        match &mut self.log {
             Some(log) => log.contains(g),
-            None => Err(LogFault::Store),
-        };
-        counted(&mut self.faults, found)
+            None => without_log(&mut self.faults),
+        }
     }
 
     fn participants(&mut self, g: Gtrid) -> Result<Vec<Branch>, LogFault> {
-        let list = match &mut self.log {
+        match &mut self.log {
             Some(log) => log.participants(g),
-            None => Err(LogFault::Store),
-        };
-        counted(&mut self.faults, list)
+            None => without_log(&mut self.faults),
+        }
     }
 
     fn done(&mut self, g: Gtrid) -> Result<bool, LogFault> {
-        let found = match &mut self.log {
+        match &mut self.log {
             Some(log) => log.done(g),
-            None => Err(LogFault::Store),
-        };
-        counted(&mut self.faults, found)
+            None => without_log(&mut self.faults),
+        }
     }
 
     fn note_heuristic(&mut self, b: Branch, how: How) -> Result<(), LogFault> {
-        let noted = match &mut self.log {
+        match &mut self.log {
             Some(log) => log.note_heuristic(b, how),
-            None => Err(LogFault::Store),
-        };
-        counted(&mut self.faults, noted)
+            None => without_log(&mut self.faults),
+        }
     }
 
     fn heuristic_of(&mut self, b: Branch) -> Result<Option<How>, LogFault> {
-        let how = match &mut self.log {
+        match &mut self.log {
             Some(log) => log.heuristic_of(b),
-            None => Err(LogFault::Store),
-        };
-        counted(&mut self.faults, how)
+            None => without_log(&mut self.faults),
+        }
     }
 
     fn bump(&mut self) -> Result<u64, LogFault> {
-        let raised = match &mut self.log {
+        match &mut self.log {
             Some(log) => log.bump(),
-            None => Err(LogFault::Store),
-        };
-        counted(&mut self.faults, raised)
+            None => without_log(&mut self.faults),
+        }
     }
 
     fn rows(&mut self) -> Result<LogRows, LogFault> {
-        let rows = match &mut self.log {
+        match &mut self.log {
             Some(log) => log.rows(),
-            None => Err(LogFault::Store),
-        };
-        counted(&mut self.faults, rows)
+            None => without_log(&mut self.faults),
+        }
     }
 
     fn faults(&self) -> u64 {
-        self.faults
+        match &self.log {
+            Some(log) => log.faults(),
+            None => self.faults,
+        }
     }
 }

@@ -1,6 +1,6 @@
 //! A manager starts over a log.
 
-ghost use Rattle.std.specs.Prelude.{◌≡◌, ◌⊎◌, ◌+◌, IsSomeAnd, Err, IfOk};
+ghost use Rattle.std.specs.Prelude.{◌≡◌, ◌⊎◌, ◌+◌, Bool, IsSomeAnd, Err, IfOk};
 ghost use Rattle.xa_log.specs.Content.{bumped, unchanged};
 ghost use Rattle.xa_log.specs.Contract.{Makes, one_more_fault};
 ghost use Rattle.xa_tm.specs.Held.{IsSound};
@@ -44,9 +44,9 @@ impl<L: DecisionLog + Drop> Manager<L> {
         ensures raised { (L.moment log).is_in_order →
             IfOk result (λ m. (L.moment (log_in m)).is_honest →
             Makes bumped (L.moment log).content (L.moment (log_in m)).content) }
-        ensures tied { (L.moment log).is_in_order →
+        ensures tied { (near : Bool) → (L.moment log).is_in_order →
             IfOk result (λ m. (L.moment (log_in m)).is_honest →
-            IsTied (book_in m) (L.moment (log_in m)).content) }
+            IsTied near (book_in m) (L.moment (log_in m)).content) }
         ensures sound { IfOk result (λ m. IsSound (book_in m)) }
         ensures old { IfOk result (λ m. IsOld (book_in m)) }
         ensures start { IfOk result (λ m. (o : Origin) → BeginsWith threads rms m o → book_in m ≡ book_of (From o)) }

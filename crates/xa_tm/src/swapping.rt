@@ -3,9 +3,10 @@
 ghost use Rattle.std.specs.Prelude.{◌≡◌, ◌≢◌, ◌⊎◌, Bool, Some, None, IsSome, IsSomeAnd, Err, IfErr, OnOk, OnErr};
 ghost use Rattle.xa_log.specs.Content.{unchanged};
 ghost use Rattle.xa_log.specs.Contract.{Makes, one_more_fault};
+ghost use Rattle.xa_tm.specs.Begins.{records_begun, rows_begun};
 ghost use Rattle.xa_tm.specs.Held.{held};
 ghost use Rattle.xa_tm.specs.Kept.{book_in, log_in};
-ghost use Rattle.xa_tm.specs.Slots.{LooksAt, TakesIn, slot_moment};
+ghost use Rattle.xa_tm.specs.Slots.{LooksAt, TakesIn, last_out, log_held, slot_moment};
 ghost use Rattle.xa_tm.specs.Tied.{MayHold};
 
 use crate::ledger::Ledger;
@@ -14,14 +15,30 @@ use crate::slot::Slot;
 use crate::swap_fault::SwapFault;
 use xa_log::{DecisionLog, LogFault};
 
+impl<L: Drop> Manager<L> {
+    /// The same manager, whose log may be taken out.
+    pub fn into_slot(self) -> Manager<Slot<L>>
+        ensures log { log_held (log_in result) ≡ Some (log_in self) }
+        ensures book { book_in result ≡ book_in self }
+        ensures rows { rows_begun result ≡ rows_begun self }
+        ensures records { records_begun result ≡ records_begun self }
+    {
+        Manager {
+            ledger: self.ledger,
+            log: Slot::new(self.log),
+            began: self.began,
+        }
+    }
+}
+
 impl<L: DecisionLog + Drop> Manager<Slot<L>> {
     /// Takes the log out, where the manager is down and holds one. Until another is put in, a restart is refused.
     pub fn take_log(&mut self) -> Option<L>
         ensures up { (book_in self.old).up ≡ Bool.true → (result ≡ None) × (self.new ≡ self.old) }
-        ensures empty { (log_in self.old).log ≡ None → (result ≡ None) × (self.new ≡ self.old) }
-        ensures taken { (book_in self.old).up ≡ Bool.false → result ≡ (log_in self.old).log }
-        ensures out { (book_in self.old).up ≡ Bool.false → (log_in self.new).log ≡ None }
-        ensures was { (log : L) → result ≡ Some log → (log_in self.new).was.value ≡ log }
+        ensures empty { log_held (log_in self.old) ≡ None → (result ≡ None) × (self.new ≡ self.old) }
+        ensures taken { (book_in self.old).up ≡ Bool.false → result ≡ log_held (log_in self.old) }
+        ensures out { (book_in self.old).up ≡ Bool.false → log_held (log_in self.new) ≡ None }
+        ensures was { (log : L) → result ≡ Some log → last_out (log_in self.new) ≡ log }
         ensures book { book_in self.new ≡ book_in self.old }
     {
         if self.ledger.is_up {
@@ -39,16 +56,16 @@ impl<L: DecisionLog + Drop> Manager<Slot<L>> {
     /// - [`SwapFault::OtherRows`]: its rows and records are others.
     pub fn give_log(&mut self, mut log: L) -> Result<(), (SwapFault, L)>
         ensures up { (book_in self.old).up ≡ Bool.true → (result ≡ Err (SwapFault.Up, log)) × (self.new ≡ self.old) }
-        ensures held { IsSome (log_in self.old).log → (result ≡ Err (SwapFault.Up, log)) × (self.new ≡ self.old) }
+        ensures held { IsSome (log_held (log_in self.old)) → (result ≡ Err (SwapFault.Up, log)) × (self.new ≡ self.old) }
         ensures only_up { IfErr result (λ e. e.0 ≡ SwapFault.Up →
-            ((book_in self.old).up ≡ Bool.true) ⊎ IsSome (log_in self.old).log) }
+            ((book_in self.old).up ≡ Bool.true) ⊎ IsSome (log_held (log_in self.old))) }
         ensures err { OnErr result (self.new ≡ self.old) }
         ensures back { IfErr result (λ e. LooksAt (L.moment log) (L.moment e.1)) }
         ensures log_fault { IfErr result (λ e. e.0 ≡ SwapFault.Log →
             (L.moment e.1).fault_count ≡ one_more_fault (L.moment log).fault_count) }
         ensures other_rows { IfErr result (λ e. e.0 ≡ SwapFault.OtherRows →
             (L.moment e.1).fault_count ≡ (L.moment log).fault_count) }
-        ensures ok { OnOk result (TakesIn L.DecisionLog log (log_in self.new).log) }
+        ensures ok { OnOk result (TakesIn L.DecisionLog log (log_held (log_in self.new))) }
         ensures may_hold { OnOk result ((L.moment log).is_in_order →
             (slot_moment L.moment (log_in self.new)).is_honest →
             IsSomeAnd (slot_moment L.moment (log_in self.new)).content (MayHold (book_in self.new))) }

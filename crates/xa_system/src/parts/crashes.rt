@@ -1,8 +1,12 @@
 //! Crashes and restarts.
+ghost use Rattle.std.specs.Prelude.{◌≡◌, ℕ};
+ghost use Rattle.xa_base.specs.declared.reply.Reply.TheVariants as Replies;
 ghost use Rattle.xa_base.specs.declared.step.Part.TheVariants as KnownParts;
 ghost use Rattle.xa_base.specs.declared.step.Side.TheVariants as Sides;
 ghost use Rattle.xa_base.specs.declared.step.Step.TheVariants as Steps;
 ghost use Rattle.xa_system.specs.Parts.{GoesOn, StandsSomewhere, sees};
+ghost use Rattle.xa_tm.specs.Kept.{log_in};
+ghost use Rattle.xa_tm.specs.Tied.{IsReadFrom};
 
 use super::Parts;
 use crate::site::crash_all;
@@ -15,8 +19,8 @@ use xa_tm::Found;
 impl<R: ResourceManager + Drop, L: DecisionLog + Drop> Parts<R, L> {
     /// A line crashes.
     pub(super) fn crash_line(&mut self, thread: u32, rm: u32) -> Twin
-        requires { StandsSomewhere (sees R.held_of R.scan_of R.in_doubt_of L.DecisionLog) self.old }
-        ensures { GoesOn (sees R.held_of R.scan_of R.in_doubt_of L.DecisionLog)
+        requires { StandsSomewhere (sees R.held_of R.scan_of R.in_doubt_of L.moment) self.old }
+        ensures { GoesOn (sees R.held_of R.scan_of R.in_doubt_of L.moment)
             (Steps.Crash (KnownParts.Line thread rm)) result self.old self.new }
     {
         if !self.has_line(thread, rm) {
@@ -36,8 +40,8 @@ impl<R: ResourceManager + Drop, L: DecisionLog + Drop> Parts<R, L> {
 
     /// A resource manager crashes, and with it all its lines.
     pub(super) fn crash_rm(&mut self, rm: u32) -> Twin
-        requires { StandsSomewhere (sees R.held_of R.scan_of R.in_doubt_of L.DecisionLog) self.old }
-        ensures { GoesOn (sees R.held_of R.scan_of R.in_doubt_of L.DecisionLog)
+        requires { StandsSomewhere (sees R.held_of R.scan_of R.in_doubt_of L.moment) self.old }
+        ensures { GoesOn (sees R.held_of R.scan_of R.in_doubt_of L.moment)
             (Steps.Crash (KnownParts.Rm rm)) result self.old self.new }
     {
         if rm >= self.lines.rms() {
@@ -56,8 +60,8 @@ impl<R: ResourceManager + Drop, L: DecisionLog + Drop> Parts<R, L> {
 
     /// The manager crashes, and with it all lines.
     pub(super) fn crash_manager(&mut self) -> Twin
-        requires { StandsSomewhere (sees R.held_of R.scan_of R.in_doubt_of L.DecisionLog) self.old }
-        ensures { GoesOn (sees R.held_of R.scan_of R.in_doubt_of L.DecisionLog)
+        requires { StandsSomewhere (sees R.held_of R.scan_of R.in_doubt_of L.moment) self.old }
+        ensures { GoesOn (sees R.held_of R.scan_of R.in_doubt_of L.moment)
             (Steps.Crash KnownParts.Manager) result self.old self.new }
     {
         if !self.manager.is_up() {
@@ -71,8 +75,8 @@ impl<R: ResourceManager + Drop, L: DecisionLog + Drop> Parts<R, L> {
 
     /// A resource manager that is down is started again.
     pub(super) fn restart_rm(&mut self, rm: u32) -> Twin
-        requires { StandsSomewhere (sees R.held_of R.scan_of R.in_doubt_of L.DecisionLog) self.old }
-        ensures { GoesOn (sees R.held_of R.scan_of R.in_doubt_of L.DecisionLog)
+        requires { StandsSomewhere (sees R.held_of R.scan_of R.in_doubt_of L.moment) self.old }
+        ensures { GoesOn (sees R.held_of R.scan_of R.in_doubt_of L.moment)
             (Steps.Restart (Sides.Rm rm)) result self.old self.new }
     {
         if rm >= self.lines.rms() {
@@ -87,9 +91,11 @@ impl<R: ResourceManager + Drop, L: DecisionLog + Drop> Parts<R, L> {
 
     /// A manager that is down is started again. A restart that fails leaves all else as it is.
     pub(super) fn restart_manager(&mut self) -> Twin
-        requires { StandsSomewhere (sees R.held_of R.scan_of R.in_doubt_of L.DecisionLog) self.old }
-        ensures { GoesOn (sees R.held_of R.scan_of R.in_doubt_of L.DecisionLog)
+        requires { StandsSomewhere (sees R.held_of R.scan_of R.in_doubt_of L.moment) self.old }
+        ensures goes { GoesOn (sees R.held_of R.scan_of R.in_doubt_of L.moment)
             (Steps.Restart Sides.Manager) result self.old self.new }
+        ensures read { (i d h : ℕ) → result ≡ Replies.Restarted i d h →
+            IsReadFrom L.DecisionLog i d h (log_in self.old.manager) (log_in self.new.manager) }
     {
         match self.manager.restart() {
             Ok(

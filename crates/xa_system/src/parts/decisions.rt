@@ -12,8 +12,8 @@ use xa_rm::ResourceManager;
 impl<R: ResourceManager + Drop, L: DecisionLog + Drop> Parts<R, L> {
     /// A thread begins a transaction.
     pub(super) fn begin(&mut self, thread: u32) -> Twin
-        requires { StandsSomewhere (sees R.held_of R.scan_of R.in_doubt_of L.DecisionLog) self.old }
-        ensures { GoesOn (sees R.held_of R.scan_of R.in_doubt_of L.DecisionLog)
+        requires { StandsSomewhere (sees R.held_of R.scan_of R.in_doubt_of L.moment) self.old }
+        ensures { GoesOn (sees R.held_of R.scan_of R.in_doubt_of L.moment)
             (Steps.Begin thread) result self.old self.new }
     {
         match self.manager.begin(thread) {
@@ -24,8 +24,8 @@ impl<R: ResourceManager + Drop, L: DecisionLog + Drop> Parts<R, L> {
 
     /// A transaction is claimed.
     pub(super) fn claim(&mut self, gtrid: Gtrid) -> Twin
-        requires { StandsSomewhere (sees R.held_of R.scan_of R.in_doubt_of L.DecisionLog) self.old }
-        ensures { GoesOn (sees R.held_of R.scan_of R.in_doubt_of L.DecisionLog)
+        requires { StandsSomewhere (sees R.held_of R.scan_of R.in_doubt_of L.moment) self.old }
+        ensures { GoesOn (sees R.held_of R.scan_of R.in_doubt_of L.moment)
             (Steps.Claim gtrid) result self.old self.new }
     {
         match self.manager.claim(gtrid) {
@@ -36,8 +36,8 @@ impl<R: ResourceManager + Drop, L: DecisionLog + Drop> Parts<R, L> {
 
     /// A transaction is decided.
     pub(super) fn decide(&mut self, gtrid: Gtrid, outcome: Outcome) -> Twin
-        requires { StandsSomewhere (sees R.held_of R.scan_of R.in_doubt_of L.DecisionLog) self.old }
-        ensures { GoesOn (sees R.held_of R.scan_of R.in_doubt_of L.DecisionLog)
+        requires { StandsSomewhere (sees R.held_of R.scan_of R.in_doubt_of L.moment) self.old }
+        ensures { GoesOn (sees R.held_of R.scan_of R.in_doubt_of L.moment)
             (Steps.Decide gtrid outcome) result self.old self.new }
     {
         match self.manager.decide(gtrid, outcome) {
@@ -48,8 +48,8 @@ impl<R: ResourceManager + Drop, L: DecisionLog + Drop> Parts<R, L> {
 
     /// A claimed transaction is committed.
     pub(super) fn settle(&mut self, gtrid: Gtrid) -> Twin
-        requires { StandsSomewhere (sees R.held_of R.scan_of R.in_doubt_of L.DecisionLog) self.old }
-        ensures { GoesOn (sees R.held_of R.scan_of R.in_doubt_of L.DecisionLog)
+        requires { StandsSomewhere (sees R.held_of R.scan_of R.in_doubt_of L.moment) self.old }
+        ensures { GoesOn (sees R.held_of R.scan_of R.in_doubt_of L.moment)
             (Steps.Settle gtrid) result self.old self.new }
     {
         match self.manager.settle(gtrid) {
@@ -60,8 +60,8 @@ impl<R: ResourceManager + Drop, L: DecisionLog + Drop> Parts<R, L> {
 
     /// The row of a transaction leaves the log.
     pub(super) fn done(&mut self, gtrid: Gtrid) -> Twin
-        requires { StandsSomewhere (sees R.held_of R.scan_of R.in_doubt_of L.DecisionLog) self.old }
-        ensures { GoesOn (sees R.held_of R.scan_of R.in_doubt_of L.DecisionLog)
+        requires { StandsSomewhere (sees R.held_of R.scan_of R.in_doubt_of L.moment) self.old }
+        ensures { GoesOn (sees R.held_of R.scan_of R.in_doubt_of L.moment)
             (Steps.Done gtrid) result self.old self.new }
     {
         match self.manager.done(gtrid) {
@@ -72,8 +72,8 @@ impl<R: ResourceManager + Drop, L: DecisionLog + Drop> Parts<R, L> {
 
     /// A claimed transaction is rolled back.
     pub(super) fn abandon(&mut self, gtrid: Gtrid) -> Twin
-        requires { StandsSomewhere (sees R.held_of R.scan_of R.in_doubt_of L.DecisionLog) self.old }
-        ensures { GoesOn (sees R.held_of R.scan_of R.in_doubt_of L.DecisionLog)
+        requires { StandsSomewhere (sees R.held_of R.scan_of R.in_doubt_of L.moment) self.old }
+        ensures { GoesOn (sees R.held_of R.scan_of R.in_doubt_of L.moment)
             (Steps.Abandon gtrid) result self.old self.new }
     {
         match self.manager.abandon(gtrid) {

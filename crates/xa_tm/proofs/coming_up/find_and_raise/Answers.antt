@@ -12,3 +12,11 @@ returns-clause-found g c = λ order honest.
     (c.in-Ok.ensures.decisions order still) (c.in-Ok.ensures.heuristics order still) (c.in-Ok.ensures.reads.ok order still)
     (c.in-Ok-bump.ensures.answer (c.in-Ok.ensures.reads.order order) honest)
     (c.len.ensures ∙ rows.decisions.ok.0) (c.len-in-Ok-bump.ensures ∙ rows.heuristics.ok.0)
+
+pub returns-clause-read : goal.returns-clause-read
+returns-clause-read g c = record {
+  between = c.rows.new.self;
+  rows = c.in-Ok.ensures.cause;
+  raised = c.in-Ok-bump.ensures.cause;
+  found = returns-clause-found g c;
+}

@@ -17,7 +17,7 @@ use Rattle.xa_system.proofs.parts.Parts.issue.Goals as goal
 
 pub note_issued-requires : goal.note_issued-requires
 note_issued-requires g c =
-    let see : Sees g.row.R.Denot g.row.L.Denot = sees g.R.ResourceManager.held_of g.R.ResourceManager.scan_of g.R.ResourceManager.in_doubt_of g.L.DecisionLog in
+    let see : Sees g.row.R.Denot g.row.L.Denot = sees g.R.ResourceManager.held_of g.R.ResourceManager.scan_of g.R.ResourceManager.in_doubt_of g.L.DecisionLog.moment in
     let p = c.args.self.now in
     let t = c.args.thread in
     let r = c.args.rm in
@@ -26,7 +26,7 @@ note_issued-requires g c =
 
 pub returns-then-not-has_line : goal.returns-then-not-has_line
 returns-then-not-has_line g c =
-    let see : Sees g.row.R.Denot g.row.L.Denot = sees g.R.ResourceManager.held_of g.R.ResourceManager.scan_of g.R.ResourceManager.in_doubt_of g.L.DecisionLog in
+    let see : Sees g.row.R.Denot g.row.L.Denot = sees g.R.ResourceManager.held_of g.R.ResourceManager.scan_of g.R.ResourceManager.in_doubt_of g.L.DecisionLog.moment in
     let p = c.args.self.now in
     let t = c.args.thread in
     let r = c.args.rm in
@@ -36,7 +36,7 @@ returns-then-not-has_line g c =
 
 pub returns-then-not-is_up : goal.returns-then-not-is_up
 returns-then-not-is_up g c =
-    let see : Sees g.row.R.Denot g.row.L.Denot = sees g.R.ResourceManager.held_of g.R.ResourceManager.scan_of g.R.ResourceManager.in_doubt_of g.L.DecisionLog in
+    let see : Sees g.row.R.Denot g.row.L.Denot = sees g.R.ResourceManager.held_of g.R.ResourceManager.scan_of g.R.ResourceManager.in_doubt_of g.L.DecisionLog.moment in
     let p = c.args.self.now in
     let t = c.args.thread in
     let r = c.args.rm in
@@ -47,7 +47,7 @@ returns-then-not-is_up g c =
 
 pub returns-then-not-index : goal.returns-then-not-index
 returns-then-not-index g c =
-    let see : Sees g.row.R.Denot g.row.L.Denot = sees g.R.ResourceManager.held_of g.R.ResourceManager.scan_of g.R.ResourceManager.in_doubt_of g.L.DecisionLog in
+    let see : Sees g.row.R.Denot g.row.L.Denot = sees g.R.ResourceManager.held_of g.R.ResourceManager.scan_of g.R.ResourceManager.in_doubt_of g.L.DecisionLog.moment in
     let p = c.args.self.now in
     let t = c.args.thread in
     let r = c.args.rm in
@@ -61,7 +61,7 @@ returns-then-not-index g c =
 
 pub returns-in-Some : goal.returns-in-Some
 returns-in-Some g c =
-    let see : Sees g.row.R.Denot g.row.L.Denot = sees g.R.ResourceManager.held_of g.R.ResourceManager.scan_of g.R.ResourceManager.in_doubt_of g.L.DecisionLog in
+    let see : Sees g.row.R.Denot g.row.L.Denot = sees g.R.ResourceManager.held_of g.R.ResourceManager.scan_of g.R.ResourceManager.in_doubt_of g.L.DecisionLog.moment in
     let p = c.args.self.now in
     let t = c.args.thread in
     let r = c.args.rm in
@@ -77,7 +77,7 @@ returns-in-Some g c =
 
 pub returns-in-Some-may_issue : goal.returns-in-Some-may_issue
 returns-in-Some-may_issue g c =
-    let see : Sees g.row.R.Denot g.row.L.Denot = sees g.R.ResourceManager.held_of g.R.ResourceManager.scan_of g.R.ResourceManager.in_doubt_of g.L.DecisionLog in
+    let see : Sees g.row.R.Denot g.row.L.Denot = sees g.R.ResourceManager.held_of g.R.ResourceManager.scan_of g.R.ResourceManager.in_doubt_of g.L.DecisionLog.moment in
     let p = c.args.self.now in
     let t = c.args.thread in
     let r = c.args.rm in
@@ -93,7 +93,7 @@ returns-in-Some-may_issue g c =
 
 pub returns-then-free_calls-eq0 : goal.returns-then-free_calls-eq0
 returns-then-free_calls-eq0 g c =
-    let see : Sees g.row.R.Denot g.row.L.Denot = sees g.R.ResourceManager.held_of g.R.ResourceManager.scan_of g.R.ResourceManager.in_doubt_of g.L.DecisionLog in
+    let see : Sees g.row.R.Denot g.row.L.Denot = sees g.R.ResourceManager.held_of g.R.ResourceManager.scan_of g.R.ResourceManager.in_doubt_of g.L.DecisionLog.moment in
     let p = c.args.self.now in
     let t = c.args.thread in
     let r = c.args.rm in
@@ -112,7 +112,7 @@ returns-then-free_calls-eq0 g c =
 
 pub returns-in-Err : goal.returns-in-Err
 returns-in-Err g c tr stands few =
-    let see : Sees g.row.R.Denot g.row.L.Denot = sees g.R.ResourceManager.held_of g.R.ResourceManager.scan_of g.R.ResourceManager.in_doubt_of g.L.DecisionLog in
+    let see : Sees g.row.R.Denot g.row.L.Denot = sees g.R.ResourceManager.held_of g.R.ResourceManager.scan_of g.R.ResourceManager.in_doubt_of g.L.DecisionLog.moment in
     let p = c.args.self.now in
     let t = c.args.thread in
     let r = c.args.rm in
@@ -132,7 +132,7 @@ returns-in-Err g c tr stands few =
 
 pub returns : goal.returns
 returns g c tr stands few =
-    let see : Sees g.row.R.Denot g.row.L.Denot = sees g.R.ResourceManager.held_of g.R.ResourceManager.scan_of g.R.ResourceManager.in_doubt_of g.L.DecisionLog in
+    let see : Sees g.row.R.Denot g.row.L.Denot = sees g.R.ResourceManager.held_of g.R.ResourceManager.scan_of g.R.ResourceManager.in_doubt_of g.L.DecisionLog.moment in
     let p = c.args.self.now in
     let t = c.args.thread in
     let r = c.args.rm in

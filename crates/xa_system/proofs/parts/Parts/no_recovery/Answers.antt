@@ -10,7 +10,7 @@ use Rattle.xa_system.proofs.parts.Parts.no_recovery.Goals as goal
 
 pub returns-then-not-index : goal.returns-then-not-index
 returns-then-not-index g c tr stands =
-    let see : Sees g.row.R.Denot g.row.L.Denot = sees g.R.ResourceManager.held_of g.R.ResourceManager.scan_of g.R.ResourceManager.in_doubt_of g.L.DecisionLog in
+    let see : Sees g.row.R.Denot g.row.L.Denot = sees g.R.ResourceManager.held_of g.R.ResourceManager.scan_of g.R.ResourceManager.in_doubt_of g.L.DecisionLog.moment in
     let p = c.args.self.now in
     let r = c.args.rm in
     let within : c.args.rm < p.lines.rms = omega (arith, c.if-rm-rms.false, c.rms.ensures.value) in
@@ -20,7 +20,7 @@ returns-then-not-index g c tr stands =
 
 pub returns-then-not-is_open : goal.returns-then-not-is_open
 returns-then-not-is_open g c tr stands =
-    let see : Sees g.row.R.Denot g.row.L.Denot = sees g.R.ResourceManager.held_of g.R.ResourceManager.scan_of g.R.ResourceManager.in_doubt_of g.L.DecisionLog in
+    let see : Sees g.row.R.Denot g.row.L.Denot = sees g.R.ResourceManager.held_of g.R.ResourceManager.scan_of g.R.ResourceManager.in_doubt_of g.L.DecisionLog.moment in
     let p = c.args.self.now in
     let r = c.args.rm in
     let within : c.args.rm < p.lines.rms = omega (arith, c.if-rm-rms.false, c.rms.ensures.value) in
@@ -31,7 +31,7 @@ returns-then-not-is_open g c tr stands =
 
 pub returns-then-is_closed : goal.returns-then-is_closed
 returns-then-is_closed g c tr stands =
-    let see : Sees g.row.R.Denot g.row.L.Denot = sees g.R.ResourceManager.held_of g.R.ResourceManager.scan_of g.R.ResourceManager.in_doubt_of g.L.DecisionLog in
+    let see : Sees g.row.R.Denot g.row.L.Denot = sees g.R.ResourceManager.held_of g.R.ResourceManager.scan_of g.R.ResourceManager.in_doubt_of g.L.DecisionLog.moment in
     let p = c.args.self.now in
     let r = c.args.rm in
     let within : c.args.rm < p.lines.rms = omega (arith, c.if-rm-rms.false, c.rms.ensures.value) in
@@ -43,7 +43,7 @@ returns-then-is_closed g c tr stands =
 
 pub returns-then-is_full_for : goal.returns-then-is_full_for
 returns-then-is_full_for g c tr stands =
-    let see : Sees g.row.R.Denot g.row.L.Denot = sees g.R.ResourceManager.held_of g.R.ResourceManager.scan_of g.R.ResourceManager.in_doubt_of g.L.DecisionLog in
+    let see : Sees g.row.R.Denot g.row.L.Denot = sees g.R.ResourceManager.held_of g.R.ResourceManager.scan_of g.R.ResourceManager.in_doubt_of g.L.DecisionLog.moment in
     let p = c.args.self.now in
     let r = c.args.rm in
     let within : c.args.rm < p.lines.rms = omega (arith, c.if-rm-rms.false, c.rms.ensures.value) in
@@ -57,7 +57,7 @@ returns-then-is_full_for g c tr stands =
 
 pub returns : goal.returns
 returns g c tr stands =
-    let see : Sees g.row.R.Denot g.row.L.Denot = sees g.R.ResourceManager.held_of g.R.ResourceManager.scan_of g.R.ResourceManager.in_doubt_of g.L.DecisionLog in
+    let see : Sees g.row.R.Denot g.row.L.Denot = sees g.R.ResourceManager.held_of g.R.ResourceManager.scan_of g.R.ResourceManager.in_doubt_of g.L.DecisionLog.moment in
     let p = c.args.self.now in
     let r = c.args.rm in
     let within : c.args.rm < p.lines.rms = omega (arith, c.if-rm-rms.false, c.rms.ensures.value) in

@@ -9,7 +9,7 @@ use Rattle.xa_system.proofs.parts.Parts.no_script.Goals as goal
 
 pub returns-then-rm-rms-clause-why : goal.returns-then-rm-rms-clause-why
 returns-then-rm-rms-clause-why g c tr stands =
-    let see : Sees g.row.R.Denot g.row.L.Denot = sees g.R.ResourceManager.held_of g.R.ResourceManager.scan_of g.R.ResourceManager.in_doubt_of g.L.DecisionLog in
+    let see : Sees g.row.R.Denot g.row.L.Denot = sees g.R.ResourceManager.held_of g.R.ResourceManager.scan_of g.R.ResourceManager.in_doubt_of g.L.DecisionLog.moment in
     let p = c.args.self.now in
     let r = c.args.rm in
     let x = c.args.xid.now in
@@ -17,7 +17,7 @@ returns-then-rm-rms-clause-why g c tr stands =
 
 pub returns-then-not-index-clause-why : goal.returns-then-not-index-clause-why
 returns-then-not-index-clause-why g c tr stands =
-    let see : Sees g.row.R.Denot g.row.L.Denot = sees g.R.ResourceManager.held_of g.R.ResourceManager.scan_of g.R.ResourceManager.in_doubt_of g.L.DecisionLog in
+    let see : Sees g.row.R.Denot g.row.L.Denot = sees g.R.ResourceManager.held_of g.R.ResourceManager.scan_of g.R.ResourceManager.in_doubt_of g.L.DecisionLog.moment in
     let p = c.args.self.now in
     let r = c.args.rm in
     let x = c.args.xid.now in
@@ -25,7 +25,7 @@ returns-then-not-index-clause-why g c tr stands =
 
 pub returns-then-not-is_at-clause-why : goal.returns-then-not-is_at-clause-why
 returns-then-not-is_at-clause-why g c tr stands =
-    let see : Sees g.row.R.Denot g.row.L.Denot = sees g.R.ResourceManager.held_of g.R.ResourceManager.scan_of g.R.ResourceManager.in_doubt_of g.L.DecisionLog in
+    let see : Sees g.row.R.Denot g.row.L.Denot = sees g.R.ResourceManager.held_of g.R.ResourceManager.scan_of g.R.ResourceManager.in_doubt_of g.L.DecisionLog.moment in
     let p = c.args.self.now in
     let r = c.args.rm in
     let x = c.args.xid.now in
@@ -33,7 +33,7 @@ returns-then-not-is_at-clause-why g c tr stands =
 
 pub returns-clause-why : goal.returns-clause-why
 returns-clause-why g c tr stands =
-    let see : Sees g.row.R.Denot g.row.L.Denot = sees g.R.ResourceManager.held_of g.R.ResourceManager.scan_of g.R.ResourceManager.in_doubt_of g.L.DecisionLog in
+    let see : Sees g.row.R.Denot g.row.L.Denot = sees g.R.ResourceManager.held_of g.R.ResourceManager.scan_of g.R.ResourceManager.in_doubt_of g.L.DecisionLog.moment in
     let p = c.args.self.now in
     let r = c.args.rm in
     let x = c.args.xid.now in

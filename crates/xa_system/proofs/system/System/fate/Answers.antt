@@ -1,17 +1,16 @@
 use Rattle.std.proofs.Common.{◌≡◌, sym, subst, ◌∙◌}
 use Rattle.xa_model.specs.Facts.{fate}
-use Rattle.xa_system.specs.Parts.{Sees, sees}
-use Rattle.xa_system.specs.Seen.{trace_in}
+use Rattle.xa_system.specs.Seen.{Observes, observes, trace_in}
 use Rattle.xa_system.proofs.Seeing.{fate_is}
 use Rattle.xa_system.proofs.Standing.{site_read}
 use Rattle.xa_system.proofs.system.System.fate.Goals as goal
 
 pub returns-in_Some-branch-clause-own : goal.returns-in_Some-branch-clause-own
 returns-in_Some-branch-clause-own g c b own e =
-    let see : Sees g.row.R.Denot g.row.L.Denot = sees g.R.ResourceManager.held_of g.R.ResourceManager.scan_of g.R.ResourceManager.in_doubt_of g.L.DecisionLog in
+    let see : Observes g.row.R.Denot g.row.L.Denot = observes g.R.ResourceManager.held_of g.R.ResourceManager.scan_of g.R.ResourceManager.in_doubt_of g.L.DecisionLog.moment in
     let there = sym c.has_line.ensures ∙ c.if-has_line.true in
     let found = c.in_Some-branch.branch in
-    let at = site_read see _ c.self.inside.parts found.thread found.rm c.index.result.now c.self.invariant.stands there c.index.ensures in
+    let at = site_read _ _ c.self.inside.parts found.thread found.rm c.index.result.now c.self.invariant.stands there c.index.ensures in
     subst (λ v. c.fate.result ≡ fate (trace_in see.look v) b) c.self.view_is
-    (c.fate.ensures ∙ fate_is see c.self.inside c.self.invariant c.args.xid.now found b c.index.result.now
+    (c.fate.ensures ∙ fate_is _ _ c.self.inside c.self.invariant c.args.xid.now found b c.index.result.now
     (c.in_Some-branch.ensures.inverse b own.fits e) own.fits e at)

@@ -1,8 +1,8 @@
 use Rattle.std.proofs.Common.{◌≡◌, ◌≤◌, ◌+◌, length, take}
 use Rattle.xa_system.specs.declared.system.TheConstants.{EVENT_LIMIT}
-use Rattle.xa_system.specs.Parts.{sees}
 use Rattle.xa_system.specs.Sites.{looks}
-use Rattle.xa_system.specs.Seen.{AddsSteps, FaultsHaveCauses, origin_in}
+use Rattle.xa_system.specs.Seen.{AddsSteps, FaultsHaveCauses, MayRestart, observes, origin_in}
+use Rattle.xa_tm.specs.Slots.{slot_moment}
 use Rattle.xa_system.proofs.system.System.run.Given as goal
 
 -- the steps so far are done, and the rest has room
@@ -12,8 +12,12 @@ invariant-loop-step g l = record {
   room : length l.self.events + length l.steps ≤ EVENT_LIMIT + l.step-index;
   start : origin_in (looks g.R.ResourceManager.held_of g.R.ResourceManager.scan_of g.R.ResourceManager.in_doubt_of) l.self
       ≡ origin_in (looks g.R.ResourceManager.held_of g.R.ResourceManager.scan_of g.R.ResourceManager.in_doubt_of) l.fn.self;
-  handed : l.self.handed ≡ l.fn.self.handed;
-  honest : (g.L.DecisionLog.moment l.self.log).is_honest → (g.L.DecisionLog.moment l.fn.self.log).is_honest;
-  faults : (g.L.DecisionLog.moment l.fn.self.handed).is_in_order → (g.L.DecisionLog.moment l.self.log).is_honest
-      → FaultsHaveCauses (sees g.R.ResourceManager.held_of g.R.ResourceManager.scan_of g.R.ResourceManager.in_doubt_of g.L.DecisionLog) l.fn.self l.self;
+  handed : (l.self.handed ≡ l.fn.self.handed) × (l.self.first ≡ l.fn.self.first) × (l.self.begun ≡ l.fn.self.begun);
+  honest : (slot_moment g.L.DecisionLog.moment l.self.log).is_honest → (slot_moment g.L.DecisionLog.moment l.fn.self.log).is_honest;
+  near : (g.L.DecisionLog.moment l.fn.self.handed).is_in_order → (slot_moment g.L.DecisionLog.moment l.self.log).is_honest
+      → MayRestart (observes g.R.ResourceManager.held_of g.R.ResourceManager.scan_of g.R.ResourceManager.in_doubt_of g.L.DecisionLog.moment) l.fn.self
+      → MayRestart (observes g.R.ResourceManager.held_of g.R.ResourceManager.scan_of g.R.ResourceManager.in_doubt_of g.L.DecisionLog.moment) l.self;
+  faults : (g.L.DecisionLog.moment l.fn.self.handed).is_in_order → (slot_moment g.L.DecisionLog.moment l.self.log).is_honest
+      → MayRestart (observes g.R.ResourceManager.held_of g.R.ResourceManager.scan_of g.R.ResourceManager.in_doubt_of g.L.DecisionLog.moment) l.fn.self
+      → FaultsHaveCauses (observes g.R.ResourceManager.held_of g.R.ResourceManager.scan_of g.R.ResourceManager.in_doubt_of g.L.DecisionLog.moment) l.fn.self l.self;
 }

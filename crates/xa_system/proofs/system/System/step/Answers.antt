@@ -1,77 +1,84 @@
-use Rattle.std.proofs.Common.{◌≡◌, inr, refl, subst, sym, ap, ◌∙◌, arith}
+use Rattle.std.proofs.Common.{◌≡◌, false, Some, None, inr, refl, subst, sym, ap, ◌∙◌, arith}
 use Rattle.xa_model.specs.Replies.Demanded.{Demanded}
 use Rattle.xa_model.specs.Replies.History.{reply_of, step_of}
 use Rattle.xa_model.specs.Replies.Steps.{happened, log_failed}
-use Rattle.xa_system.specs.Logged.{MayHaveFailed}
+use Rattle.xa_model.specs.Facts.{up}
+use Rattle.xa_system.specs.Logged.{IsBeforeNext, MayHaveFailed}
+use Rattle.xa_system.proofs.Restarting.{empty_fails, followed, found_in, not_restarted}
+use Rattle.xa_tm.specs.Slots.{log_held}
 use Rattle.xa_system.proofs.Standing.{refused_as_nothing, stays_same}
-use Rattle.xa_system.specs.Parts.{Sees, sees}
-use Rattle.xa_system.specs.Seen.{FaultsHaveCauses, HoldsItsTrace, IsAsBefore, origin_in, seen, start_of, trace_in}
-use Rattle.xa_system.proofs.Seeing.{as_before, down_after, failed_so, fault_has_cause, holds, honest_before, somewhere, sound_then, start_kept, was_demanded}
+use Rattle.xa_system.specs.Seen.{FaultsHaveCauses, HoldsItsTrace, IsAsBefore, IsFailed, MayRestart, Observes, observes, origin_in, seen, trace_in}
+use Rattle.xa_system.proofs.Seeing.{as_before, began_kept, down_after, failed_so, fault_has_cause, holds, honest_before, restart_may_follow, somewhere, sound_then, start_kept, was_demanded}
 use Rattle.xa_tm.specs.Kept.{log_in}
 use Rattle.xa_system.proofs.system.System.step.Goals as goal
 
 pub returns-then-len-ge-EVENT_LIMIT-clause-parts :
     goal.returns-then-len-ge-EVENT_LIMIT-clause-parts
 returns-then-len-ge-EVENT_LIMIT-clause-parts g c =
-    let see : Sees g.row.R.Denot g.row.L.Denot = sees g.R.ResourceManager.held_of g.R.ResourceManager.scan_of g.R.ResourceManager.in_doubt_of g.L.DecisionLog in
-    subst (λ v. HoldsItsTrace see v) c.self.view_is (holds see c.self.inside c.self.invariant)
+    let see : Observes g.row.R.Denot g.row.L.Denot = observes g.R.ResourceManager.held_of g.R.ResourceManager.scan_of g.R.ResourceManager.in_doubt_of g.L.DecisionLog.moment in
+    subst (λ v. HoldsItsTrace see v) c.self.view_is (holds _ _ c.self.inside c.self.invariant)
 
 pub step-requires-clause-stands : goal.step-requires-clause-stands
 step-requires-clause-stands g c =
-    let see : Sees g.row.R.Denot g.row.L.Denot = sees g.R.ResourceManager.held_of g.R.ResourceManager.scan_of g.R.ResourceManager.in_doubt_of g.L.DecisionLog in
-    somewhere see c.self.inside c.self.invariant (rw c.len.ensures at c.if-len-ge-EVENT_LIMIT.false)
+    let see : Observes g.row.R.Denot g.row.L.Denot = observes g.R.ResourceManager.held_of g.R.ResourceManager.scan_of g.R.ResourceManager.in_doubt_of g.L.DecisionLog.moment in
+    somewhere _ _ c.self.inside c.self.invariant (rw c.len.ensures at c.if-len-ge-EVENT_LIMIT.false)
 
 pub invariant_of-self : goal.invariant_of-self
 invariant_of-self g c =
-    let see : Sees g.row.R.Denot g.row.L.Denot = sees g.R.ResourceManager.held_of g.R.ResourceManager.scan_of g.R.ResourceManager.in_doubt_of g.L.DecisionLog in
-    sound_then see c.self.inside c.step.new.self c.push_reserved.new.self c.args.step c.step.result c.split-reply.result.1 c.self.invariant c.step.ensures
+    let see : Observes g.row.R.Denot g.row.L.Denot = observes g.R.ResourceManager.held_of g.R.ResourceManager.scan_of g.R.ResourceManager.in_doubt_of g.L.DecisionLog.moment in
+    sound_then _ _ c.self.inside c.step.new.self c.push_reserved.new.self c.args.step c.step.result c.split-reply.result.1 c.self.invariant c.step.ensures.goes
     (ap (λ p. p.1) c.split-reply.ensures)
     (rw c.len.ensures at c.if-len-ge-EVENT_LIMIT.false) c.push_reserved.ensures.len c.push_reserved.ensures.items c.push_reserved.ensures.capacity
 
 pub returns-clause-demanded : goal.returns-clause-demanded
 returns-clause-demanded g c few =
-    let see : Sees g.row.R.Denot g.row.L.Denot = sees g.R.ResourceManager.held_of g.R.ResourceManager.scan_of g.R.ResourceManager.in_doubt_of g.L.DecisionLog in
+    let see : Observes g.row.R.Denot g.row.L.Denot = observes g.R.ResourceManager.held_of g.R.ResourceManager.scan_of g.R.ResourceManager.in_doubt_of g.L.DecisionLog.moment in
     subst (λ r. Demanded (trace_in see.look c.args.self.now) (step_of c.args.step) (reply_of r)) (sym (ap (λ p. p.0) c.split-reply.ensures))
     (subst (λ v. Demanded (trace_in see.look v) (step_of c.args.step) (reply_of c.step.result)) c.self.view_is
-    (was_demanded see c.self.inside c.step.new.self c.args.step c.step.result c.self.invariant c.step.ensures
+    (was_demanded _ _ c.self.inside c.step.new.self c.args.step c.step.result c.self.invariant c.step.ensures.goes
     (rw c.len.ensures at c.if-len-ge-EVENT_LIMIT.false)))
 
 pub returns-clause-parts : goal.returns-clause-parts
 returns-clause-parts g c =
-    let see : Sees g.row.R.Denot g.row.L.Denot = sees g.R.ResourceManager.held_of g.R.ResourceManager.scan_of g.R.ResourceManager.in_doubt_of g.L.DecisionLog in
-    holds see _ (sound_then see c.self.inside c.step.new.self c.push_reserved.new.self c.args.step c.step.result c.split-reply.result.1 c.self.invariant c.step.ensures (ap (λ p. p.1) c.split-reply.ensures) (rw c.len.ensures at c.if-len-ge-EVENT_LIMIT.false) c.push_reserved.ensures.len c.push_reserved.ensures.items c.push_reserved.ensures.capacity)
+    let see : Observes g.row.R.Denot g.row.L.Denot = observes g.R.ResourceManager.held_of g.R.ResourceManager.scan_of g.R.ResourceManager.in_doubt_of g.L.DecisionLog.moment in
+    holds _ _ _ (sound_then _ _ c.self.inside c.step.new.self c.push_reserved.new.self c.args.step c.step.result c.split-reply.result.1 c.self.invariant c.step.ensures.goes (ap (λ p. p.1) c.split-reply.ensures) (rw c.len.ensures at c.if-len-ge-EVENT_LIMIT.false) c.push_reserved.ensures.len c.push_reserved.ensures.items c.push_reserved.ensures.capacity)
 
 pub returns-clause-start : goal.returns-clause-start
 returns-clause-start g c =
-    let see : Sees g.row.R.Denot g.row.L.Denot = sees g.R.ResourceManager.held_of g.R.ResourceManager.scan_of g.R.ResourceManager.in_doubt_of g.L.DecisionLog in
-    subst (λ v. start_of see c.step.new.self ≡ origin_in see.look v) c.self.view_is
-    (start_kept see c.self.inside c.step.new.self c.args.step c.step.result c.self.invariant c.step.ensures (rw c.len.ensures at c.if-len-ge-EVENT_LIMIT.false))
+    let see : Observes g.row.R.Denot g.row.L.Denot = observes g.R.ResourceManager.held_of g.R.ResourceManager.scan_of g.R.ResourceManager.in_doubt_of g.L.DecisionLog.moment in
+    subst (λ v. origin_in see.look (seen (record { first = c.self.inside.first; handed = c.self.inside.handed; parts = c.step.new.self; events = c.push_reserved.new.self })) ≡ origin_in see.look v) c.self.view_is
+    (start_kept _ _ c.self.inside c.step.new.self c.args.step c.step.result c.self.invariant c.step.ensures.goes (rw c.len.ensures at c.if-len-ge-EVENT_LIMIT.false))
 
 pub returns-clause-honest : goal.returns-clause-honest
 returns-clause-honest g c =
-    let see : Sees g.row.R.Denot g.row.L.Denot = sees g.R.ResourceManager.held_of g.R.ResourceManager.scan_of g.R.ResourceManager.in_doubt_of g.L.DecisionLog in
-    subst (λ v. (see.logs.moment (log_in c.step.new.self.manager)).is_honest → (see.logs.moment v.log).is_honest) c.self.view_is
-    (honest_before see c.self.inside c.step.new.self c.args.step c.step.result c.self.invariant c.step.ensures
+    let see : Observes g.row.R.Denot g.row.L.Denot = observes g.R.ResourceManager.held_of g.R.ResourceManager.scan_of g.R.ResourceManager.in_doubt_of g.L.DecisionLog.moment in
+    subst (λ v. (see.place (log_in c.step.new.self.manager)).is_honest → (see.place v.log).is_honest) c.self.view_is
+    (honest_before _ _ c.self.inside c.step.new.self c.args.step c.step.result c.self.invariant c.step.ensures.goes
     (rw c.len.ensures at c.if-len-ge-EVENT_LIMIT.false))
 
 pub returns-clause-faults : goal.returns-clause-faults
 returns-clause-faults g c =
-    let see : Sees g.row.R.Denot g.row.L.Denot = sees g.R.ResourceManager.held_of g.R.ResourceManager.scan_of g.R.ResourceManager.in_doubt_of g.L.DecisionLog in
-    subst (λ v. (see.logs.moment v.handed).is_in_order → (see.logs.moment (log_in c.step.new.self.manager)).is_honest
-    → FaultsHaveCauses see v (seen (record { handed = c.self.inside.handed; parts = c.step.new.self; events = c.push_reserved.new.self }))) c.self.view_is
-    (fault_has_cause see c.self.inside c.step.new.self c.push_reserved.new.self c.args.step c.step.result c.split-reply.result.1 c.self.invariant c.step.ensures (ap (λ p. p.1) c.split-reply.ensures) (rw c.len.ensures at c.if-len-ge-EVENT_LIMIT.false) c.push_reserved.ensures.items)
+    let see : Observes g.row.R.Denot g.row.L.Denot = observes g.R.ResourceManager.held_of g.R.ResourceManager.scan_of g.R.ResourceManager.in_doubt_of g.L.DecisionLog.moment in
+    subst (λ v. (see.moment v.handed).is_in_order → (see.place (log_in c.step.new.self.manager)).is_honest
+    → MayRestart see v → FaultsHaveCauses see v (seen (record { first = c.self.inside.first; handed = c.self.inside.handed; parts = c.step.new.self; events = c.push_reserved.new.self }))) c.self.view_is
+    (fault_has_cause _ _ c.self.inside c.step.new.self c.push_reserved.new.self c.args.step c.step.result c.split-reply.result.1 c.self.invariant c.step.ensures.goes (ap (λ p. p.1) c.split-reply.ensures) (rw c.len.ensures at c.if-len-ge-EVENT_LIMIT.false) c.push_reserved.ensures.items)
 
 pub returns-clause-handed : goal.returns-clause-handed
-returns-clause-handed g c = ap (λ v. v.handed) c.self.view_is
+returns-clause-handed g c = (
+  ap (λ v. v.handed) c.self.view_is,
+  ap (λ v. v.first) c.self.view_is,
+  let began : log_in c.step.new.self.began.value ≡ log_in c.self.inside.parts.began.value = began_kept _ _ c.self.inside c.step.new.self c.args.step c.step.result c.self.invariant c.step.ensures.goes (rw c.len.ensures at c.if-len-ge-EVENT_LIMIT.false) in
+      began ∙ ap (λ v. v.begun) c.self.view_is,
+)
 
 pub returns-then-len-ge-EVENT_LIMIT-clause-faults :
     goal.returns-then-len-ge-EVENT_LIMIT-clause-faults
-returns-then-len-ge-EVENT_LIMIT-clause-faults g c order honest = inr (omega arith)
+returns-then-len-ge-EVENT_LIMIT-clause-faults g c order honest may = inr (omega arith)
 
 pub returns-then-len-ge-EVENT_LIMIT-clause-refused :
     goal.returns-then-len-ge-EVENT_LIMIT-clause-refused
 returns-then-len-ge-EVENT_LIMIT-clause-refused g c n is other =
-    let see : Sees g.row.R.Denot g.row.L.Denot = sees g.R.ResourceManager.held_of g.R.ResourceManager.scan_of g.R.ResourceManager.in_doubt_of g.L.DecisionLog in
+    let see : Observes g.row.R.Denot g.row.L.Denot = observes g.R.ResourceManager.held_of g.R.ResourceManager.scan_of g.R.ResourceManager.in_doubt_of g.L.DecisionLog.moment in
     record { rms = λ r rm at. (rm, at, stays_same see.look rm); lines = λ t r has. refl; log = refl }
 
 pub returns-then-len-ge-EVENT_LIMIT-clause-nothing :
@@ -80,9 +87,9 @@ returns-then-len-ge-EVENT_LIMIT-clause-nothing g c n is other = refl
 
 pub returns-clause-refused : goal.returns-clause-refused
 returns-clause-refused g c n is other =
-    let see : Sees g.row.R.Denot g.row.L.Denot = sees g.R.ResourceManager.held_of g.R.ResourceManager.scan_of g.R.ResourceManager.in_doubt_of g.L.DecisionLog in
-    subst (λ v. IsAsBefore see v (seen (record { handed = c.self.inside.handed; parts = c.step.new.self; events = c.push_reserved.new.self }))) c.self.view_is
-    (as_before see c.self.inside c.step.new.self c.push_reserved.new.self c.args.step c.step.result c.self.invariant c.step.ensures
+    let see : Observes g.row.R.Denot g.row.L.Denot = observes g.R.ResourceManager.held_of g.R.ResourceManager.scan_of g.R.ResourceManager.in_doubt_of g.L.DecisionLog.moment in
+    subst (λ v. IsAsBefore see v (seen (record { first = c.self.inside.first; handed = c.self.inside.handed; parts = c.step.new.self; events = c.push_reserved.new.self }))) c.self.view_is
+    (as_before _ _ c.self.inside c.step.new.self c.push_reserved.new.self c.args.step c.step.result c.self.invariant c.step.ensures.goes
     (rw c.len.ensures at c.if-len-ge-EVENT_LIMIT.false) n (sym (ap (λ p. p.0) c.split-reply.ensures) ∙ is) other)
 
 pub returns-clause-nothing : goal.returns-clause-nothing
@@ -91,16 +98,50 @@ returns-clause-nothing g c n is other =
 
 pub returns-clause-down : goal.returns-clause-down
 returns-clause-down g c is =
-    let see : Sees g.row.R.Denot g.row.L.Denot = sees g.R.ResourceManager.held_of g.R.ResourceManager.scan_of g.R.ResourceManager.in_doubt_of g.L.DecisionLog in
-    down_after see c.self.inside c.step.new.self c.push_reserved.new.self c.args.step c.step.result c.split-reply.result.1 c.self.invariant c.step.ensures
+    let see : Observes g.row.R.Denot g.row.L.Denot = observes g.R.ResourceManager.held_of g.R.ResourceManager.scan_of g.R.ResourceManager.in_doubt_of g.L.DecisionLog.moment in
+    down_after _ _ c.self.inside c.step.new.self c.push_reserved.new.self c.args.step c.step.result c.split-reply.result.1 c.self.invariant c.step.ensures.goes
     (ap (λ p. p.1) c.split-reply.ensures) (rw c.len.ensures at c.if-len-ge-EVENT_LIMIT.false) c.push_reserved.ensures.items
     (sym (ap (λ p. p.0) c.split-reply.ensures) ∙ is)
 
 pub returns-clause-failed : goal.returns-clause-failed
 returns-clause-failed g c is =
-    let see : Sees g.row.R.Denot g.row.L.Denot = sees g.R.ResourceManager.held_of g.R.ResourceManager.scan_of g.R.ResourceManager.in_doubt_of g.L.DecisionLog in
-    subst (λ v. (see.logs.moment v.handed).is_in_order → (see.logs.moment (log_in c.step.new.self.manager)).is_honest
-    → MayHaveFailed (trace_in see.look v) (log_failed (step_of c.args.step)) (see.logs.moment v.log).content
-    (see.logs.moment (log_in c.step.new.self.manager)).content) c.self.view_is
-    (failed_so see c.self.inside c.step.new.self c.args.step c.step.result c.self.invariant c.step.ensures
+    let see : Observes g.row.R.Denot g.row.L.Denot = observes g.R.ResourceManager.held_of g.R.ResourceManager.scan_of g.R.ResourceManager.in_doubt_of g.L.DecisionLog.moment in
+    subst (λ v. (see.moment v.handed).is_in_order → (see.place (log_in c.step.new.self.manager)).is_honest
+    → MayHaveFailed (trace_in see.look v) (log_failed (step_of c.args.step)) (see.place v.log).content
+    (see.place (log_in c.step.new.self.manager)).content) c.self.view_is
+    (failed_so _ _ c.self.inside c.step.new.self c.args.step c.step.result c.self.invariant c.step.ensures.goes
     (rw c.len.ensures at c.if-len-ge-EVENT_LIMIT.false) (sym (ap (λ p. p.0) c.split-reply.ensures) ∙ is))
+
+pub returns-clause-near : goal.returns-clause-near
+returns-clause-near g c =
+    let see : Observes g.row.R.Denot g.row.L.Denot = observes g.R.ResourceManager.held_of g.R.ResourceManager.scan_of g.R.ResourceManager.in_doubt_of g.L.DecisionLog.moment in
+    subst (λ v. (see.moment v.handed).is_in_order → (see.place (log_in c.step.new.self.manager)).is_honest → MayRestart see v → MayRestart see (seen (record { first = c.self.inside.first; handed = c.self.inside.handed; parts = c.step.new.self; events = c.push_reserved.new.self }))) c.self.view_is
+    (restart_may_follow _ _ c.self.inside c.step.new.self c.push_reserved.new.self c.args.step c.step.result c.split-reply.result.1 c.self.invariant c.step.ensures.goes
+    (ap (λ p. p.1) c.split-reply.ensures) (rw c.len.ensures at c.if-len-ge-EVENT_LIMIT.false) c.push_reserved.ensures.items)
+
+pub returns-clause-out : goal.returns-clause-out
+returns-clause-out g c none is few down =
+    let see : Observes g.row.R.Denot g.row.L.Denot = observes g.R.ResourceManager.held_of g.R.ResourceManager.scan_of g.R.ResourceManager.in_doubt_of g.L.DecisionLog.moment in
+    let same = ap (λ p. p.0) c.split-reply.ensures in
+    let demanded = was_demanded _ _ c.self.inside c.step.new.self c.args.step c.step.result c.self.invariant c.step.ensures.goes (rw c.len.ensures at c.if-len-ge-EVENT_LIMIT.false) in
+    subst IsFailed (sym same)
+    (not_restarted (trace_in see.look (seen c.self.inside)) c.step.result
+    (subst (λ s. Demanded (trace_in see.look (seen c.self.inside)) (step_of s) (reply_of c.step.result)) is demanded)
+    (subst (λ v. up (trace_in see.look v) ≡ false) (sym c.self.view_is) down)
+    (λ i d h restarted. empty_fails g.L.DecisionLog.says _ _ (log_held (log_in c.self.inside.parts.manager)) _
+    (subst (λ v. log_held v.log ≡ None) (sym c.self.view_is) none) (c.step.ensures.read i d h is restarted).rows))
+
+pub returns-clause-other_incarnation : goal.returns-clause-other_incarnation
+returns-clause-other_incarnation g c content is few down order honest holds other =
+    let see : Observes g.row.R.Denot g.row.L.Denot = observes g.R.ResourceManager.held_of g.R.ResourceManager.scan_of g.R.ResourceManager.in_doubt_of g.L.DecisionLog.moment in
+    let same = ap (λ p. p.0) c.split-reply.ensures in
+    let demanded = was_demanded _ _ c.self.inside c.step.new.self c.args.step c.step.result c.self.invariant c.step.ensures.goes (rw c.len.ensures at c.if-len-ge-EVENT_LIMIT.false) in
+    let as_restart = subst (λ s. Demanded (trace_in see.look (seen c.self.inside)) (step_of s) (reply_of c.step.result)) is demanded in
+    let in_order = c.self.invariant.log.order (subst (λ v. (see.moment v.handed).is_in_order) (sym c.self.view_is) order) in
+    let held = subst (λ v. (see.place v.log).content ≡ Some content) (sym c.self.view_is) holds in
+    subst IsFailed (sym same)
+    (not_restarted (trace_in see.look (seen c.self.inside)) c.step.result as_restart
+    (subst (λ v. up (trace_in see.look v) ≡ false) (sym c.self.view_is) down)
+    (λ i d h restarted. subst (λ v. IsBeforeNext (trace_in see.look v) content → ⊥) (sym c.self.view_is) other
+    (followed (trace_in see.look (seen c.self.inside)) c.step.result as_restart i d h restarted content
+    (found_in (see.place (log_in c.self.inside.parts.manager)).content content i d h held ((c.step.ensures.read i d h is restarted).found in_order honest)))))

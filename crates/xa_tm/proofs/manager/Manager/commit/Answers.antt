@@ -31,12 +31,12 @@ pub returns-in-Ok-commit-clause-ok : goal.returns-in-Ok-commit-clause-ok
 returns-in-Ok-commit-clause-ok g c = c.commit-in-Ok-commit.ensures ∙ ap (λ b. after b (Decided c.args.g Outcomes.Commit)) c.prepare_row.ensures.book
 
 pub returns-in-Ok-commit-clause-tied : goal.returns-in-Ok-commit-clause-tied
-returns-in-Ok-commit-clause-tied g c = λ order honest tied.
+returns-in-Ok-commit-clause-tied g c = λ near order honest tied.
     let k = held c.args.self.now.ledger in
     let none = c.requires.sound.no_row c.args.g c.requires.open.begun c.requires.open.uncommitted in
     let new = (g.L.DecisionLog.moment c.commit.new.self).content in
-    subst (λ b. IsTied b new) (sym (c.commit-in-Ok-commit.ensures ∙ ap (λ b. after b (Decided c.args.g Outcomes.Commit)) c.prepare_row.ensures.book))
-    (tied_commit k c.args.g (from_list c.as_slice.result.now) (g.L.DecisionLog.moment c.args.self.now.log).content new c.requires.open.up none c.requires.yes
+    subst (λ b. IsTied near b new) (sym (c.commit-in-Ok-commit.ensures ∙ ap (λ b. after b (Decided c.args.g Outcomes.Commit)) c.prepare_row.ensures.book))
+    (tied_commit near k c.args.g (from_list c.as_slice.result.now) (g.L.DecisionLog.moment c.args.self.now.log).content new c.requires.open.up none c.requires.yes
     (ap from_list c.as_slice.ensures.value ∙ c.in-Ok.ensures.all) (c.in-Ok-commit.ensures.changes.ok order honest) tied)
 
 pub returns-in-Err-commit-clause-err : goal.returns-in-Err-commit-clause-err
@@ -49,15 +49,15 @@ returns-in-Err-commit-clause-err g c =
     )
 
 pub returns-in-Err-commit-clause-tied : goal.returns-in-Err-commit-clause-tied
-returns-in-Err-commit-clause-tied g c = λ order honest tied.
+returns-in-Err-commit-clause-tied g c = λ near order honest tied.
     let k = held c.args.self.now.ledger in
     let made = c.fail.ensures (InDecide c.args.g) refl
     ∙ ap (λ b. book_after b (Adds c.args.g (waiting_of c.in-Ok.participants)) (Failed (InDecide c.args.g))) c.prepare_row.ensures.book
     ∙ ap (λ w. book_after k (Adds c.args.g w) (Failed (InDecide c.args.g))) c.in-Ok.ensures.all in
     let old = (g.L.DecisionLog.moment c.args.self.now.log).content in
     let new = (g.L.DecisionLog.moment c.commit.new.self).content in
-    subst (λ b. IsTied b new) (sym made)
-    (tied_fault k (Adds c.args.g (voted_yes k c.args.g)) (InDecide c.args.g) old new c.requires.open.up refl
+    subst (λ b. IsTied near b new) (sym made)
+    (tied_fault near k (Adds c.args.g (voted_yes k c.args.g)) (InDecide c.args.g) old new c.requires.open.up refl
     (subst (λ s. MayMake (committed c.args.g s) old new) (ap from_list c.as_slice.ensures.value ∙ c.in-Ok.ensures.all)
     (c.in-Err-commit.ensures.changes.err order)) tied)
 

@@ -40,9 +40,9 @@ returns-in-Some-clause-err g c = λ up.
     (failed l on.kind c.in-Ret.code (c.of.ensures ∙ on.news c.in-Ret.code)))) c.hear_news.ensures.err
 
 pub returns-in-Some-clause-tied : goal.returns-in-Some-clause-tied
-returns-in-Some-clause-tied g c = λ order honest.
+returns-in-Some-clause-tied g c = λ near order honest.
     let how = call_kind (map_call name_of c.args.call.now) c.in-Some.b (sym c.in-Some.ensures) in
-    c.hear_news.ensures.tied order honest (line c.args.thread c.args.rm) how.0 c.in-Ret.code (c.of.ensures ∙ how.1 c.in-Ret.code)
+    c.hear_news.ensures.tied near order honest (line c.args.thread c.args.rm) how.0 c.in-Ret.code (c.of.ensures ∙ how.1 c.in-Ret.code)
 
 pub returns-in-None-clause-ok : goal.returns-in-None-clause-ok
 returns-in-None-clause-ok g c = λ call is.

@@ -35,8 +35,8 @@ returns-then-can_start-clause-book g c = λ order honest.
     (λ content is. g.met.L.DecisionLog.own c.args.log content order is))
 
 pub returns-then-can_start-clause-tied : goal.returns-then-can_start-clause-tied
-returns-then-can_start-clause-tied g c = λ order honest.
-    start_tied c.args.threads c.args.rms _ (g.L.DecisionLog.moment c.bump.new.self).content (returns-then-can_start-clause-book g c order honest)
+returns-then-can_start-clause-tied g c = λ near order honest.
+    start_tied near c.args.threads c.args.rms _ (g.L.DecisionLog.moment c.bump.new.self).content (returns-then-can_start-clause-book g c order honest)
 
 pub returns-then-can_start-clause-sound : goal.returns-then-can_start-clause-sound
 returns-then-can_start-clause-sound g c =

@@ -7,20 +7,20 @@ use Rattle.xa_tm.proofs.Restarts.{is_found, never_found, tied_restart, tied_no_r
 use Rattle.xa_tm.proofs.manager.Manager.restart.Goals as goal
 
 pub returns-then-try_restart-clause-tied : goal.returns-then-try_restart-clause-tied
-returns-then-try_restart-clause-tied g c = λ order honest tied.
+returns-then-try_restart-clause-tied g c = λ near order honest tied.
     let k = held c.args.self.now.ledger in
     let f = c.in-Ok-find_and_raise.found in
     let new = (g.L.DecisionLog.moment c.find_and_raise.new.log).content in
-    subst (λ b. IsTied b new) (sym (c.if-try_restart.ensures.up refl ∙ ap (λ b. after b (Restarted f.incarnation f.decisions f.heuristics)) c.prepare_restart.ensures.book))
-    (tied_restart k f.incarnation f.decisions f.heuristics (g.L.DecisionLog.moment c.args.self.now.log).content new c.if-self.false
+    subst (λ b. IsTied near b new) (sym (c.if-try_restart.ensures.up refl ∙ ap (λ b. after b (Restarted f.incarnation f.decisions f.heuristics)) c.prepare_restart.ensures.book))
+    (tied_restart near k f.incarnation f.decisions f.heuristics (g.L.DecisionLog.moment c.args.self.now.log).content new c.if-self.false
     (c.in-Ok-find_and_raise.ensures.found order honest) (c.in-Ok-find_and_raise.ensures.ok order honest) tied)
 
 pub returns-else-try_restart-clause-tied : goal.returns-else-try_restart-clause-tied
-returns-else-try_restart-clause-tied g c = λ order honest tied.
+returns-else-try_restart-clause-tied g c = λ near order honest tied.
     let k = held c.args.self.now.ledger in
     let new = (g.L.DecisionLog.moment c.find_and_raise.new.log).content in
-    subst (λ b. IsTied b new) (sym (c.if-try_restart.ensures.down refl Settled ∙ ap (λ b. book_after b Settled (Failed InRestart)) c.prepare_restart.ensures.book))
-    (tied_no_restart k (g.L.DecisionLog.moment c.args.self.now.log).content new c.if-self.false
+    subst (λ b. IsTied near b new) (sym (c.if-try_restart.ensures.down refl Settled ∙ ap (λ b. book_after b Settled (Failed InRestart)) c.prepare_restart.ensures.book))
+    (tied_no_restart near k (g.L.DecisionLog.moment c.args.self.now.log).content new c.if-self.false
     (inr (inr (c.in-Ok-find_and_raise.ensures.ok order honest))) tied)
 
 pub returns-else-try_restart-clause-faults : goal.returns-else-try_restart-clause-faults
@@ -33,11 +33,11 @@ returns-else-try_restart-clause-faults g c = λ order honest tied.
     (c.in-Ok-find_and_raise.ensures.found order honest) tied))
 
 pub returns-in-Err-find_and_raise-clause-tied : goal.returns-in-Err-find_and_raise-clause-tied
-returns-in-Err-find_and_raise-clause-tied g c = λ order honest tied.
+returns-in-Err-find_and_raise-clause-tied g c = λ near order honest tied.
     let k = held c.args.self.now.ledger in
     let new = (g.L.DecisionLog.moment c.find_and_raise.new.log).content in
-    subst (λ b. IsTied b new) (sym (c.fail_restart.ensures Settled ∙ ap (λ b. book_after b Settled (Failed InRestart)) c.prepare_restart.ensures.book))
-    (tied_no_restart k (g.L.DecisionLog.moment c.args.self.now.log).content new c.if-self.false (c.in-Err-find_and_raise.ensures.err order honest) tied)
+    subst (λ b. IsTied near b new) (sym (c.fail_restart.ensures Settled ∙ ap (λ b. book_after b Settled (Failed InRestart)) c.prepare_restart.ensures.book))
+    (tied_no_restart near k (g.L.DecisionLog.moment c.args.self.now.log).content new c.if-self.false (c.in-Err-find_and_raise.ensures.err order honest) tied)
 
 pub returns-else-try_restart-clause-fault : goal.returns-else-try_restart-clause-fault
 returns-else-try_restart-clause-fault g c = λ order honest failed. inr (inr (c.in-Ok-find_and_raise.ensures.ok order honest))
