@@ -1,11 +1,8 @@
 //! Rows on claims, and on a recovery while transactions are open.
 
-use crate::play::play_all;
+use crate::play::play_sound;
 use crate::ready::{PREPARED_1, READY_1, RECOVERED_AT_0};
-use std::alloc::Global;
-use std::process::Abort;
 use std::test::Fail;
-use xa_log::MemLog;
 
 /// A recovery rolls an open transaction back.
 const OPEN_ROLLED_BACK: &str = "\
@@ -60,16 +57,10 @@ fates -> 1.1.0.0 rolled-back
 of 1.1 settle -> refused 8
 ";
 
-/// Plays a row on one thread at one resource manager.
-fn play(rt: &impl Abort, alloc: Global, row: &[&str]) -> Result<(), Fail> {
-    play_all(rt, alloc, 1, 1, MemLog::new(alloc), row)?;
-    Ok(())
-}
-
 #[test]
 fn open_rolled_back(rt: HostRuntime) -> Result<(), Fail> {
     let row = [READY_1, PREPARED_1, RECOVERED_AT_0, OPEN_ROLLED_BACK];
-    play(&rt, rt.alloc(), &row)
+    play_sound(&rt, rt.alloc(), 1, &row)
 }
 
 #[test]
@@ -81,7 +72,7 @@ fn claimed_is_kept(rt: HostRuntime) -> Result<(), Fail> {
         RECOVERED_AT_0,
         CLAIMED_IS_KEPT,
     ];
-    play(&rt, rt.alloc(), &row)
+    play_sound(&rt, rt.alloc(), 1, &row)
 }
 
 #[test]
@@ -93,6 +84,6 @@ fn claim_ends_with_crash(rt: HostRuntime) -> Result<(), Fail> {
         RECOVERED_AT_0,
         ROLLED_BACK,
     ];
-    play(&rt, rt.alloc(), &row)?;
-    play(&rt, rt.alloc(), &[READY_1, CLAIMED_IN_TURN, ABANDONED])
+    play_sound(&rt, rt.alloc(), 1, &row)?;
+    play_sound(&rt, rt.alloc(), 1, &[READY_1, CLAIMED_IN_TURN, ABANDONED])
 }

@@ -1,13 +1,10 @@
 //! Rows in which a part crashes, and what is in doubt is recovered.
 
-use crate::play::play_all;
+use crate::play::play_sound;
 use crate::ready::{
     NO_ROW, PREPARED_1, PREPARED_2, READY_1, READY_2, RECOVERED_AT_0, RECOVERED_AT_1,
 };
-use std::alloc::Global;
-use std::process::Abort;
 use std::test::Fail;
-use xa_log::SqlLog;
 
 /// The line breaks behind a commit in one phase, whose answer is lost.
 const LOST_ANSWER: &str = "\
@@ -89,20 +86,14 @@ restart rm 1 -> restarted
 call 0 1 xa_open -> heard xa_open 0
 ";
 
-/// Plays a row on one thread over a log in a database in memory.
-fn play(rt: &impl Abort, alloc: Global, rms: u32, row: &[&str]) -> Result<(), Fail> {
-    play_all(rt, alloc, 1, rms, SqlLog::open_in_memory(alloc)?, row)?;
-    Ok(())
-}
-
 #[test]
 fn lost_answer(rt: HostRuntime) -> Result<(), Fail> {
-    play(&rt, rt.alloc(), 1, &[READY_1, LOST_ANSWER, NO_ROW])
+    play_sound(&rt, rt.alloc(), 1, &[READY_1, LOST_ANSWER, NO_ROW])
 }
 
 #[test]
 fn line_crash(rt: HostRuntime) -> Result<(), Fail> {
-    play(&rt, rt.alloc(), 1, &[LINE_CRASH, NO_ROW])
+    play_sound(&rt, rt.alloc(), 1, &[LINE_CRASH, NO_ROW])
 }
 
 #[test]
@@ -114,7 +105,7 @@ fn presumed_rollback(rt: HostRuntime) -> Result<(), Fail> {
         RECOVERED_AT_0,
         PRESUMED_ROLLBACK,
     ];
-    play(&rt, rt.alloc(), 1, &row)
+    play_sound(&rt, rt.alloc(), 1, &row)
 }
 
 #[test]
@@ -129,7 +120,7 @@ fn acknowledged_later(rt: HostRuntime) -> Result<(), Fail> {
         BOTH_ACKNOWLEDGED,
         NO_ROW_LATER,
     ];
-    play(&rt, rt.alloc(), 2, &row)
+    play_sound(&rt, rt.alloc(), 2, &row)
 }
 
 #[test]
@@ -142,5 +133,5 @@ fn resource_manager_crash(rt: HostRuntime) -> Result<(), Fail> {
         BOTH_ACKNOWLEDGED,
         NO_ROW,
     ];
-    play(&rt, rt.alloc(), 2, &row)
+    play_sound(&rt, rt.alloc(), 2, &row)
 }

@@ -1,11 +1,8 @@
 //! Rows in which nothing crashes before the end.
 
-use crate::play::play_all;
+use crate::play::{SOUND, play_all, play_sound};
 use crate::ready::{NO_ROW, PREPARED_1, PREPARED_2, READY_1, READY_2};
-use std::alloc::Global;
-use std::process::Abort;
 use std::test::Fail;
-use xa_log::MemLog;
 
 /// Both vote for commit.
 pub(crate) const TWO_PHASE_COMMIT: &str = "\
@@ -112,70 +109,65 @@ call 1 0 xa_rollback 1.1.0.0 -> heard xa_rollback 0
 fates -> 1.1.0.0 rolled-back
 ";
 
-/// Plays a row on one thread, and tells how many events it made.
-fn events_of(rt: &impl Abort, alloc: Global, rms: u32, row: &[&str]) -> Result<usize, Fail> {
-    play_all(rt, alloc, 1, rms, MemLog::new(alloc), row)
-}
-
 #[test]
 fn two_phase_commit(rt: HostRuntime) -> Result<(), Fail> {
     let row = [READY_2, PREPARED_2, TWO_PHASE_COMMIT];
-    assert_eq!(rt; events_of(&rt, rt.alloc(), 2, &row)?, 33);
-    events_of(
+    for log in SOUND {
+        assert_eq!(rt; play_all(&rt, rt.alloc(), 1, 2, log, &row)?, 33);
+    }
+    play_sound(
         &rt,
         rt.alloc(),
         2,
         &[READY_2, PREPARED_2, TWO_PHASE_COMMIT, NO_ROW],
-    )?;
-    Ok(())
+    )
 }
 
 #[test]
 fn one_no(rt: HostRuntime) -> Result<(), Fail> {
-    events_of(&rt, rt.alloc(), 2, &[READY_2, ONE_NO, NO_ROW])?;
-    Ok(())
+    play_sound(&rt, rt.alloc(), 2, &[READY_2, ONE_NO, NO_ROW])
 }
 
 #[test]
 fn all_read_only(rt: HostRuntime) -> Result<(), Fail> {
-    events_of(&rt, rt.alloc(), 2, &[READY_2, ALL_READ_ONLY, NO_ROW])?;
-    Ok(())
+    play_sound(&rt, rt.alloc(), 2, &[READY_2, ALL_READ_ONLY, NO_ROW])
 }
 
 #[test]
 fn closed_line(rt: HostRuntime) -> Result<(), Fail> {
-    events_of(&rt, rt.alloc(), 1, &[READY_1, CLOSED_LINE, NO_ROW])?;
-    Ok(())
+    play_sound(&rt, rt.alloc(), 1, &[READY_1, CLOSED_LINE, NO_ROW])
 }
 
 #[test]
 fn heuristic(rt: HostRuntime) -> Result<(), Fail> {
-    events_of(&rt, rt.alloc(), 2, &[READY_2, PREPARED_2, HEURISTIC])?;
-    Ok(())
+    play_sound(&rt, rt.alloc(), 2, &[READY_2, PREPARED_2, HEURISTIC])
 }
 
 #[test]
 fn retries(rt: HostRuntime) -> Result<(), Fail> {
-    events_of(&rt, rt.alloc(), 1, &[READY_1, PREPARED_1, RETRIES, NO_ROW])?;
-    Ok(())
+    play_sound(&rt, rt.alloc(), 1, &[READY_1, PREPARED_1, RETRIES, NO_ROW])
 }
 
 #[test]
 fn first_run(rt: HostRuntime) -> Result<(), Fail> {
-    assert_eq!(rt; events_of(&rt, rt.alloc(), 1, &[READY_1, FIRST_RUN])?, 13);
+    for log in SOUND {
+        assert_eq!(rt;
+            play_all(&rt, rt.alloc(), 1, 1, log, &[READY_1, FIRST_RUN])?,
+            13
+        );
+    }
     Ok(())
 }
 
 #[test]
 fn failed_end(rt: HostRuntime) -> Result<(), Fail> {
-    events_of(&rt, rt.alloc(), 1, &[FAILED_END, NO_ROW])?;
-    Ok(())
+    play_sound(&rt, rt.alloc(), 1, &[FAILED_END, NO_ROW])
 }
 
 #[test]
 fn rollback_elsewhere(rt: HostRuntime) -> Result<(), Fail> {
-    let alloc = rt.alloc();
-    let row = &[ROLLBACK_ELSEWHERE, NO_ROW];
-    play_all(&rt, alloc, 2, 1, MemLog::new(alloc), row)?;
+    for log in SOUND {
+        play_all(&rt, rt.alloc(), 2, 1, log, &[ROLLBACK_ELSEWHERE, NO_ROW])?;
+    }
     Ok(())
 }

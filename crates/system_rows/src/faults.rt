@@ -1,11 +1,11 @@
 //! Rows in which the log fails once, with its change made or not.
 
-use crate::play::play_all;
+use crate::play::{Kept, play_all};
 use crate::ready::{PREPARED_1, PREPARED_2, READY_1, READY_2, RECOVERED_AT_0, RECOVERED_AT_1};
 use std::alloc::Global;
 use std::process::Abort;
 use std::test::Fail;
-use xa_log::{FailLog, FailPlan, LogCall, MemLog};
+use xa_log::{FailPlan, LogCall};
 
 /// The log fails at the decision: the manager is down, and what waited is lost.
 const COMMIT_FAULT: &str = "\
@@ -77,7 +77,7 @@ fates -> 1.1.0.0 committed 1.1.0.1 heuristic-rb
 
 /// Plays a row over a log that fails at its first call of a kind.
 fn play(
-    rt: &impl Abort,
+    rt: &(impl Abort + Eprint),
     alloc: Global,
     rms: u32,
     kind: LogCall,
@@ -85,8 +85,7 @@ fn play(
     row: &[&str],
 ) -> Result<(), Fail> {
     let plan = FailPlan::Once { kind, at: 1, made };
-    let log = FailLog::new(MemLog::new(alloc), plan);
-    play_all(rt, alloc, 1, rms, log, row)?;
+    play_all(rt, alloc, 1, rms, Kept::Failing(plan), row)?;
     Ok(())
 }
 

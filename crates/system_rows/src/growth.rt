@@ -1,6 +1,6 @@
 //! A row in which a resource manager's table can't grow once.
 
-use crate::play::play;
+use crate::play::Run;
 use std::test::Fail;
 use xa_base::{Answer, BranchState, Call, Fate, How, Memory, Vote, Xid};
 use xa_log::MemLog;
@@ -89,6 +89,10 @@ fn refused_growth(rt: HostRuntime) -> Result<(), Fail> {
         rm: MemRm::new(alloc),
         is_full: true,
     })?;
-    let mut system = System::new(alloc, 1, rms, MemLog::new(alloc))?;
-    play(&rt, alloc, &mut system, REFUSED_GROWTH)
+    let mut run = Run {
+        alloc,
+        system: System::new(alloc, 1, rms, MemLog::new(alloc))?,
+        again: 0,
+    };
+    Ok(run.play(&rt, REFUSED_GROWTH)?)
 }

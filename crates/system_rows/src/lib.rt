@@ -12,13 +12,19 @@ mod faults;
 #[cfg(test)]
 mod growth;
 #[cfg(test)]
+mod limits;
+#[cfg(test)]
 mod logs;
 #[cfg(test)]
 mod play;
 #[cfg(test)]
 mod ready;
 #[cfg(test)]
+mod refused;
+#[cfg(test)]
 mod scans;
+#[cfg(test)]
+mod stop;
 #[cfg(test)]
 mod told;
 #[cfg(test)]

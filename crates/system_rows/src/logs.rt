@@ -3,7 +3,7 @@
 //! A proof of a call at the type of a log in files is long, so such calls stand in functions over any log.
 
 use crate::decisions::TWO_PHASE_COMMIT;
-use crate::play::play_all;
+use crate::play::play_over;
 use crate::ready::{PREPARED_2, READY_2};
 use sqlite::{Connection, FileStore};
 use sqlite_disk::Disk;
@@ -57,12 +57,12 @@ const VERSION_1: &str = "BEGIN; \
 
 /// Plays a row over a log in files.
 fn play_in_files<D: Disk + Drop>(
-    rt: &impl Abort,
+    rt: &(impl Abort + Eprint),
     alloc: Global,
     log: SqlLog<FileStore<D>>,
     row: &[&str],
 ) -> Result<(), Fail> {
-    play_all(rt, alloc, 1, 2, log, row)?;
+    play_over(rt, alloc, 1, 2, log, row)?;
     Ok(())
 }
 
@@ -89,7 +89,7 @@ fn migrated_log(rt: HostRuntime) -> Result<(), Fail> {
     let Ok(log) = SqlLog::adopt(conn) else {
         return Err(Fail::from("no log"));
     };
-    play_all(&rt, alloc, 1, 1, log, &[MIGRATED_LOG])?;
+    play_over(&rt, alloc, 1, 1, log, &[MIGRATED_LOG])?;
     Ok(())
 }
 

@@ -1,9 +1,8 @@
 //! Rows on pages and full lines.
 
-use crate::play::{play, play_all, system};
+use crate::play::play_sound;
 use crate::ready::NO_ROW;
 use std::test::Fail;
-use xa_log::MemLog;
 
 /// Five transactions, each with a prepared branch.
 const FIVE_PREPARED: &str = "\
@@ -94,36 +93,30 @@ hear 0 0 -> heard xa_recover 3 1.1.0.0 1.3.0.0 1.4.0.0
 fates -> 1.1.0.0 prepared 1.2.0.0 committed 1.3.0.0 prepared 1.4.0.0 prepared
 ";
 
+/// A line has 64 places.
+const OPENED: &str = "call 0 0 xa_open -> heard xa_open 0\n";
+
+const ISSUED: &str = "issue 0 0 xa_open -> issued\n";
+
+const FULL: &str = "issue 0 0 xa_open -> refused 12\n";
+
+const TAKEN: &str = "take 0 0 -> took xa_open 0\n";
+
 #[test]
 fn scan_pages(rt: HostRuntime) -> Result<(), Fail> {
-    let alloc = rt.alloc();
-    let row = &[FIVE_PREPARED, SCAN_PAGES, NO_ROW];
-    play_all(&rt, alloc, 1, 1, MemLog::new(alloc), row)?;
-    Ok(())
+    play_sound(&rt, rt.alloc(), 1, &[FIVE_PREPARED, SCAN_PAGES, NO_ROW])
 }
 
 #[test]
 fn index(rt: HostRuntime) -> Result<(), Fail> {
-    let alloc = rt.alloc();
-    let row = &[FOUR_READY, INDEX];
-    play_all(&rt, alloc, 1, 1, MemLog::new(alloc), row)?;
-    Ok(())
+    play_sound(&rt, rt.alloc(), 1, &[FOUR_READY, INDEX])
 }
 
 #[test]
 fn full_line(rt: HostRuntime) -> Result<(), Fail> {
-    let alloc = rt.alloc();
-    let mut system = system(alloc, 1, 1, MemLog::new(alloc))?;
-    play(
-        &rt,
-        alloc,
-        &mut system,
-        "call 0 0 xa_open -> heard xa_open 0",
-    )?;
-    for _ in 0..64 {
-        play(&rt, alloc, &mut system, "issue 0 0 xa_open -> issued")?;
-    }
-    play(&rt, alloc, &mut system, "issue 0 0 xa_open -> refused 12")?;
-    play(&rt, alloc, &mut system, "take 0 0 -> took xa_open 0")?;
-    play(&rt, alloc, &mut system, "issue 0 0 xa_open -> issued")
+    let mut row = [ISSUED; 68];
+    row[0] = OPENED;
+    row[65] = FULL;
+    row[66] = TAKEN;
+    play_sound(&rt, rt.alloc(), 1, &row)
 }

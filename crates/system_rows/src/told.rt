@@ -1,8 +1,8 @@
 //! Replies and fates in words.
 
-use std::alloc::{AllocError, Global};
+use crate::stop::Stop;
+use std::alloc::Global;
 use std::fmt::Write;
-use std::test::Fail;
 use xa_base::{Answer, Call, Fate, How, Reply, Xid};
 
 fn call(call: &Call) -> &'static str {
@@ -38,7 +38,7 @@ fn fate(fate: Fate) -> &'static str {
 }
 
 /// An identifier of this manager as a branch, and any other as its text.
-fn xid(text: &mut String, xid: &Xid) -> Result<(), Fail> {
+fn xid(text: &mut String, xid: &Xid) -> Result<(), Stop> {
     match xid.branch() {
         Some(b) => write!(
             text,
@@ -51,7 +51,7 @@ fn xid(text: &mut String, xid: &Xid) -> Result<(), Fail> {
 }
 
 /// An answer's number; behind that of a page what it lists.
-fn answer(text: &mut String, answer: &Answer) -> Result<(), Fail> {
+fn answer(text: &mut String, answer: &Answer) -> Result<(), Stop> {
     write!(text, "{}", answer.number())?;
     if let Answer::Page(page) = answer {
         for x in page.xids() {
@@ -62,7 +62,7 @@ fn answer(text: &mut String, answer: &Answer) -> Result<(), Fail> {
 }
 
 /// A reply in words.
-pub(crate) fn reply(alloc: Global, reply: &Reply) -> Result<String, Fail> {
+pub(crate) fn reply(alloc: Global, reply: &Reply) -> Result<String, Stop> {
     let mut text = String::new(alloc);
     match reply {
         Reply::Begun(g) => write!(text, "begun {}.{}", g.incarnation, g.sequence)?,
@@ -93,7 +93,7 @@ pub(crate) fn reply(alloc: Global, reply: &Reply) -> Result<String, Fail> {
 }
 
 /// The fates of branches in words.
-pub(crate) fn report(alloc: Global, fates: &[(Xid, Fate)]) -> Result<String, Fail> {
+pub(crate) fn report(alloc: Global, fates: &[(Xid, Fate)]) -> Result<String, Stop> {
     let mut text = String::new(alloc);
     for (x, end) in fates {
         xid(&mut text, x)?;

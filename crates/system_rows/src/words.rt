@@ -3,31 +3,31 @@
 //! A transaction is `INCARNATION.SEQUENCE`, and a branch of it `INCARNATION.SEQUENCE.THREAD.RM`. Calls and flags have
 //! XA's names.
 
+use crate::stop::Stop;
 use std::str::FromStr;
-use std::test::Fail;
 use xa_base::{Branch, Call, Gtrid, How, Outcome, Part, RbCode, Side, Step, Vote, Xid};
 
-fn number<T: FromStr>(word: &str) -> Result<T, Fail>
+fn number<T: FromStr>(word: &str) -> Result<T, Stop>
 where
     T::Err: Drop,
 {
     match word.parse() {
         Ok(number) => Ok(number),
-        Err(_) => Err(Fail::from("no number")),
+        Err(_) => Err(Stop::Words("no number")),
     }
 }
 
-fn gtrid(word: &str) -> Result<Gtrid, Fail> {
-    let (incarnation, sequence) = word.split_once('.').ok_or("no transaction")?;
+fn gtrid(word: &str) -> Result<Gtrid, Stop> {
+    let (incarnation, sequence) = word.split_once('.').ok_or(Stop::Words("no transaction"))?;
     Ok(Gtrid {
         incarnation: number(incarnation)?,
         sequence: number(sequence)?,
     })
 }
 
-fn branch(word: &str) -> Result<Branch, Fail> {
-    let (word, rm) = word.rsplit_once('.').ok_or("no branch")?;
-    let (word, thread) = word.rsplit_once('.').ok_or("no branch")?;
+fn branch(word: &str) -> Result<Branch, Stop> {
+    let (word, rm) = word.rsplit_once('.').ok_or(Stop::Words("no branch"))?;
+    let (word, thread) = word.rsplit_once('.').ok_or(Stop::Words("no branch"))?;
     Ok(Branch {
         gtrid: gtrid(word)?,
         thread: number(thread)?,
@@ -35,12 +35,12 @@ fn branch(word: &str) -> Result<Branch, Fail> {
     })
 }
 
-fn xid(word: &str) -> Result<Xid, Fail> {
+fn xid(word: &str) -> Result<Xid, Stop> {
     Ok(branch(word)?.xid())
 }
 
 /// A call in which no branch or one is named.
-fn call(words: &[&str]) -> Result<Call, Fail> {
+fn call(words: &[&str]) -> Result<Call, Stop> {
     match words {
         ["xa_open"] => Ok(Call::OpenRm),
         ["xa_close"] => Ok(Call::CloseRm),
@@ -63,12 +63,12 @@ fn call(words: &[&str]) -> Result<Call, Fail> {
         }),
         ["xa_rollback", x] => Ok(Call::Rollback { xid: xid(x)? }),
         ["xa_forget", x] => Ok(Call::Forget { xid: xid(x)? }),
-        _ => Err(Fail::from("no call")),
+        _ => Err(Stop::Words("no call")),
     }
 }
 
 /// A step on one branch, by its resource manager.
-fn script(branch: Branch, words: &[&str]) -> Result<Step, Fail> {
+fn script(branch: Branch, words: &[&str]) -> Result<Step, Stop> {
     let (rm, xid) = (branch.rm, branch.xid());
     match words {
         ["vote", "ro"] => Ok(Step::Vote {
@@ -91,12 +91,12 @@ fn script(branch: Branch, words: &[&str]) -> Result<Step, Fail> {
             xid,
             times: number(times)?,
         }),
-        _ => Err(Fail::from("no script")),
+        _ => Err(Stop::Words("no script")),
     }
 }
 
 /// A step that decides a transaction, or ends it.
-fn decision(gtrid: Gtrid, words: &[&str]) -> Result<Step, Fail> {
+fn decision(gtrid: Gtrid, words: &[&str]) -> Result<Step, Stop> {
     match words {
         ["decide", "commit"] => Ok(Step::Decide {
             gtrid,
@@ -110,12 +110,12 @@ fn decision(gtrid: Gtrid, words: &[&str]) -> Result<Step, Fail> {
         ["settle"] => Ok(Step::Settle { gtrid }),
         ["abandon"] => Ok(Step::Abandon { gtrid }),
         ["done"] => Ok(Step::Done { gtrid }),
-        _ => Err(Fail::from("no decision")),
+        _ => Err(Stop::Words("no decision")),
     }
 }
 
 /// A step that asks what is in doubt, or ends it; or a crash or a restart.
-fn recovery(words: &[&str]) -> Result<Step, Fail> {
+fn recovery(words: &[&str]) -> Result<Step, Stop> {
     match words {
         ["recover", rm, count, flags @ ..] => Ok(Step::Recover {
             rm: number(rm)?,
@@ -133,12 +133,12 @@ fn recovery(words: &[&str]) -> Result<Step, Fail> {
         ["crash", "manager"] => Ok(Step::Crash(Part::Manager)),
         ["restart", "rm", rm] => Ok(Step::Restart(Side::Rm { rm: number(rm)? })),
         ["restart", "manager"] => Ok(Step::Restart(Side::Manager)),
-        _ => Err(Fail::from("no step")),
+        _ => Err(Stop::Words("no step")),
     }
 }
 
 /// A call that is issued on a line.
-pub(crate) fn issue(thread: &str, rm: &str, words: &[&str]) -> Result<Step, Fail> {
+pub(crate) fn issue(thread: &str, rm: &str, words: &[&str]) -> Result<Step, Stop> {
     Ok(Step::Issue {
         thread: number(thread)?,
         rm: number(rm)?,
@@ -147,7 +147,7 @@ pub(crate) fn issue(thread: &str, rm: &str, words: &[&str]) -> Result<Step, Fail
 }
 
 /// The step that these words ask for.
-pub(crate) fn step(words: &[&str]) -> Result<Step, Fail> {
+pub(crate) fn step(words: &[&str]) -> Result<Step, Stop> {
     match words {
         ["begin", thread] => Ok(Step::Begin {
             thread: number(thread)?,

@@ -59,17 +59,26 @@ fn a_no_leaves_read_only_as_it_is(rt: HostRuntime) -> Result<(), Fail> {
 }
 
 /// A run that wants memory ends with a fault, with all its threads, and the same run again comes to its end. So this
-/// holds whichever one request for memory is refused.
+/// holds whichever one request for memory is refused, or any two in a row; the test says what it met.
 #[test]
 fn runs_again_after_want_of_memory(rt: HostRuntime) -> Result<(), Fail> {
     let alloc = rt.alloc();
-    let jobs = swept(four_jobs(alloc, 2)?);
-    let done = match run(&rt, alloc, &jobs, MemLog::new(alloc), &Counting::new()) {
-        Err(WorkFault::Memory | WorkFault::Log) => {
-            run(&rt, alloc, &jobs, MemLog::new(alloc), &Counting::new())?
+    let mut made = four_jobs(alloc, 2);
+    for _ in 0..2u32 {
+        if made.is_err() {
+            let _ = rt.eprintln("no jobs");
+            made = four_jobs(alloc, 2);
         }
-        done => done?,
-    };
+    }
+    let jobs = swept(made?);
+    let mut ran = run(&rt, alloc, &jobs, MemLog::new(alloc), &Counting::new());
+    for _ in 0..2u32 {
+        if let Err(fault @ (WorkFault::Memory | WorkFault::Log)) = &ran {
+            let _ = rt.eprintln(fault);
+            ran = run(&rt, alloc, &jobs, MemLog::new(alloc), &Counting::new());
+        }
+    }
+    let done = ran?;
     assert_eq!(rt; done.ends.len(), 4);
     assert_eq!(rt; done.ends.get(1), Some(&Outcome::Rollback));
     Ok(())
