@@ -13,4 +13,5 @@ use Rattle.xa_tm.specs.declared.slot.Slot.{Slot}
 pub start_right : {R L : Type 0} (see : Sees R (Slot L)) (moment : L → Moment) (a : Inside R L) → IsSound see moment a
     → RightOrigin (start_of see moment a.parts)
 start_right see moment a sound =
-    subst RightOrigin (origin_is (start_of see moment a.parts) a.events.items) (origin_right (history (start_of see moment a.parts) a.events.items) sound.stands.kept.right)
+    subst RightOrigin (origin_is (start_of see moment a.parts) a.events.items) (origin_right (history (start_of see moment a.parts) a.events.items)
+    sound.stands.kept.right)

@@ -109,7 +109,14 @@ module _ {R L : Type 0} (see : Sees R L) where
       → ((tr : Trace) → LogFollows see.moment tr (Crashed (KnownParts.Line t r)) parts.manager manager)
       → (tr : Trace) → Stands see tr parts → slice_get parts.sites.items r ≡ Some site
       → OneMore see (Steps.Crash (KnownParts.Line t r)) reply tr parts
-      (record { alloc = parts.alloc; start = parts.start; began = parts.began; sites = with_item parts.sites r (record { rm = rm; is_up = site.is_up }); lines = with_line parts.lines t r x; manager = manager })
+      (record {
+        alloc = parts.alloc;
+        start = parts.start;
+        began = parts.began;
+        sites = with_item parts.sites r (record { rm = rm; is_up = site.is_up });
+        lines = with_line parts.lines t r x;
+        manager = manager;
+      })
   crash_line_leads parts t r site rm x manager reply is there up site_up renewed broke book log tr stands at =
       let has_tr = sym (there_is see tr parts t r stands) ∙ there in
       let has = has_line see tr parts t r stands has_tr in
@@ -191,7 +198,14 @@ module _ {R L : Type 0} (see : Sees R L) where
       → ((tr : Trace) → LogFollows see.moment tr (Crashed (KnownParts.Rm r)) parts.manager manager) → (tr : Trace)
       → Stands see tr parts → slice_get parts.sites.items r ≡ Some site
       → OneMore see (Steps.Crash (KnownParts.Rm r)) reply tr parts
-      (record { alloc = parts.alloc; start = parts.start; began = parts.began; sites = with_item parts.sites r (record { rm = rm; is_up = false }); lines = lines; manager = manager })
+      (record {
+        alloc = parts.alloc;
+        start = parts.start;
+        began = parts.began;
+        sites = with_item parts.sites r (record { rm = rm; is_up = false });
+        lines = lines;
+        manager = manager;
+      })
   crash_rm_leads parts r site rm lines manager reply is within site_up did renews book log tr stands at =
       let e = Crashed (KnownParts.Rm r) in
       let here = stands.sites r site at in
@@ -237,7 +251,14 @@ module _ {R L : Type 0} (see : Sees R L) where
   pub restart_leads : (parts : Parts R L) (r : ℕ) (site : Site R) (reply : Reply Xid) → reply ≡ Replies.RmRestarted
       → r < parts.lines.rms → site.is_up ≡ false → (tr : Trace) → Stands see tr parts → slice_get parts.sites.items r ≡ Some site
       → OneMore see (Steps.Restart (Sides.Rm r)) reply tr parts
-      (record { alloc = parts.alloc; start = parts.start; began = parts.began; sites = with_item parts.sites r (record { rm = site.rm; is_up = true }); lines = parts.lines; manager = parts.manager })
+      (record {
+        alloc = parts.alloc;
+        start = parts.start;
+        began = parts.began;
+        sites = with_item parts.sites r (record { rm = site.rm; is_up = true });
+        lines = parts.lines;
+        manager = parts.manager;
+      })
   restart_leads parts r site reply is within down tr stands at =
       let e = RmRestarted r in
       let here = stands.sites r site at in
@@ -252,8 +273,24 @@ module _ {R L : Type 0} (see : Sees R L) where
         whole = stands.whole;
         count = refl;
         sites = sites_with see tr e parts.sites r site (record { rm = site.rm; is_up = true }) at
-            (record { is_up = rw (eq-eqb r r refl) refl; rm = rm_stays see.look tr e r site.rm (record { branches = record { standing = λ b at. refl; vote = λ b at. refl; retries = λ b at. refl }; scan_stays = refl }) here.rm })
-            (λ s apart. record { quiet = record { branches = record { standing = λ b at. refl; vote = λ b at. refl; retries = λ b at. refl }; scan_stays = refl }; is_up = rw (ne_eqb r s (λ q. apart (sym q))) refl })
+            (record {
+              is_up = rw (eq-eqb r r refl) refl;
+              rm = rm_stays see.look tr e r site.rm (record {
+                branches = record {
+                  standing = λ b at. refl;
+                  vote = λ b at. refl;
+                  retries = λ b at. refl;
+                };
+                scan_stays = refl;
+              }) here.rm;
+            })
+            (λ s apart. record {
+              quiet = record {
+                branches = record { standing = λ b at. refl; vote = λ b at. refl; retries = λ b at. refl };
+                scan_stays = refl;
+              };
+              is_up = rw (ne_eqb r s (λ q. apart (sym q))) refl;
+            })
             stands.sites;
         lines = λ t s has. line_stays tr e (line t s) (line_at parts.lines t s) refl refl refl refl (stands.lines t s has);
         book = stands.book;

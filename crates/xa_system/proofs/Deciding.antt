@@ -39,7 +39,8 @@ use Rattle.xa_tm.specs.Refusing.{managers_refusal, refusal_in}
 
 module _ {R L : Type 0} (see : Sees R L) where
   pub manager_undone : {A : Type 0} (step : Step Xid) (f : Fault) (asked : Doubt) (change : Content
-      → Content) (parts : Parts R L) (n : Refusal) (sites : Vec (Site R) Global) (lines : Grid) (manager : Manager L) (reply : Reply Xid) → StepHasXids step → IsLookedAt (step_of step)
+      → Content) (parts : Parts R L) (n : Refusal) (sites : Vec (Site R) Global) (lines : Grid) (manager : Manager L) (reply : Reply Xid) → StepHasXids step →
+      IsLookedAt (step_of step)
       → ((tr : Trace) → managers_refusal tr (step_of step) ≡ must_refuse tr (step_of step))
       → ((tr : Trace) → MayLackMemory tr (step_of step)) → log_failed (step_of step) ≡ Failed f
       → ((tr : Trace) → must_refuse tr (step_of step) ≡ None → facts.up tr ≡ true)
@@ -55,21 +56,57 @@ module _ {R L : Type 0} (see : Sees R L) where
       → (n ≢ Refusals.LogFault → sites ≡ parts.sites) → (n ≢ Refusals.LogFault → lines ≡ parts.lines)
       → ((tr : Trace) (c : Content) → book_in parts.manager ≡ book_of tr → change c ≡ change_in tr f c) → LogUndone see.moment A n change parts.manager manager
       → GoesOn see step reply parts (record { alloc = parts.alloc; start = parts.start; began = parts.began; sites = sites; lines = lines; manager = manager })
-  manager_undone {A = A} step f asked change parts n sites lines manager reply has looked same may fault up asks uses is refused fails crash broken sites_stay lines_stay changes undone tr stands few = by_rule (refusal_in (book_in parts.manager) (step_of step)) refl
+  manager_undone {A = A} step f asked change parts n sites lines manager reply has looked same may fault up asks uses is refused fails crash broken sites_stay
+      lines_stay changes undone tr stands few = by_rule (refusal_in (book_in parts.manager) (step_of step)) refl
     where
       why : (o : Option Refusal) → refusal_in (book_in parts.manager) (step_of step) ≡ o → must_refuse tr (step_of step) ≡ o
       why o e = sym (same tr) ∙ sym (judged see tr parts (step_of step) looked stands) ∙ e
 
       unbroken : n ≢ Refusals.LogFault
-          → OneMore see step reply tr parts (record { alloc = parts.alloc; start = parts.start; began = parts.began; sites = parts.sites; lines = parts.lines; manager = manager })
-          → OneMore see step reply tr parts (record { alloc = parts.alloc; start = parts.start; began = parts.began; sites = sites; lines = lines; manager = manager })
+          → OneMore see step reply tr parts (record {
+            alloc = parts.alloc;
+            start = parts.start;
+            began = parts.began;
+            sites = parts.sites;
+            lines = parts.lines;
+            manager = manager;
+          })
+          → OneMore see step reply tr parts (record {
+            alloc = parts.alloc;
+            start = parts.start;
+            began = parts.began;
+            sites = sites;
+            lines = lines;
+            manager = manager;
+          })
       unbroken no_fault h =
-          subst (λ q. OneMore see step reply tr parts (record { alloc = parts.alloc; start = parts.start; began = parts.began; sites = q; lines = lines; manager = manager })) (sym (sites_stay no_fault))
-          (subst (λ q. OneMore see step reply tr parts (record { alloc = parts.alloc; start = parts.start; began = parts.began; sites = parts.sites; lines = q; manager = manager })) (sym (lines_stay no_fault)) h)
+          subst (λ q. OneMore see step reply tr parts (record {
+            alloc = parts.alloc;
+            start = parts.start;
+            began = parts.began;
+            sites = q;
+            lines = lines;
+            manager = manager;
+          })) (sym (sites_stay no_fault))
+          (subst (λ q. OneMore see step reply tr parts (record {
+            alloc = parts.alloc;
+            start = parts.start;
+            began = parts.began;
+            sites = parts.sites;
+            lines = q;
+            manager = manager;
+          })) (sym (lines_stay no_fault)) h)
 
       by_cause : must_refuse tr (step_of step) ≡ None → refusal_in (book_in parts.manager) (step_of step) ≡ None
           → FailsBy asked f (book_in parts.manager) (book_in manager) n
-          → OneMore see step reply tr parts (record { alloc = parts.alloc; start = parts.start; began = parts.began; sites = sites; lines = lines; manager = manager })
+          → OneMore see step reply tr parts (record {
+            alloc = parts.alloc;
+            start = parts.start;
+            began = parts.began;
+            sites = sites;
+            lines = lines;
+            manager = manager;
+          })
       by_cause none free (inl w) =
           unbroken (λ e. absurd (let two : Refusals.Memory ≡ Refusals.LogFault = sym w.0 ∙ e in cc))
           (lacking_goes see tr step parts manager reply stands has (is ∙ ap (λ m. Replies.Refused m) w.0) none (may tr) w.1
@@ -82,7 +119,14 @@ module _ {R L : Type 0} (see : Sees R L) where
           (subst (λ (d : Content → Content). LogUndone see.moment A n d parts.manager manager) (λ i c. changes tr c stands.book i) undone))
 
       by_rule : (o : Option Refusal) → refusal_in (book_in parts.manager) (step_of step) ≡ o
-          → OneMore see step reply tr parts (record { alloc = parts.alloc; start = parts.start; began = parts.began; sites = sites; lines = lines; manager = manager })
+          → OneMore see step reply tr parts (record {
+            alloc = parts.alloc;
+            start = parts.start;
+            began = parts.began;
+            sites = sites;
+            lines = lines;
+            manager = manager;
+          })
       by_rule (Some m) e =
           let same_n = err_is n m (refused m e).0 in
           let forced_so = why (Some m) e in

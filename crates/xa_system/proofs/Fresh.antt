@@ -249,7 +249,8 @@ module _ {R L : Type 0} (see : Sees R (Slot L)) (moment : L → Moment) (threads
           (subst (λ l. IsSomeAnd (moment l).content (StartsOver here)) (sym same_first)
           (starts_over here threads (length rms) (moment log).content
           (moment (log_in started)).content (over.raised in_order now)
-          (subst (λ k. IsSomeAnd (moment (log_in started)).content (λ c. k ≡ book_at_start threads (length rms) c)) (sym slot.book ∙ same_book) (over.book in_order now))));
+          (subst (λ k. IsSomeAnd (moment (log_in started)).content (λ c. k ≡ book_at_start threads (length rms) c)) (sym slot.book ∙ same_book)
+          (over.book in_order now))));
       tied = tied_as false;
     };
   }
@@ -263,7 +264,8 @@ module _ {R L : Type 0} (see : Sees R (Slot L)) (moment : L → Moment) (threads
           let in_order = subst (λ l. (moment l).is_in_order) same_handed order in
           let now = slot.log.honest (subst (λ m. (see.moment (log_in m)).is_honest) same_manager honest) in
           subst (λ m. IsTied near (book_in m) (see.moment (log_in m)).content) (sym same_manager)
-          (subst (IsTied near (book_in manager)) (sym slot.log.content) (subst (λ k. IsTied near k (moment (log_in started)).content) (sym slot.book) (over.tied near in_order now)))
+          (subst (IsTied near (book_in manager)) (sym slot.log.content) (subst (λ k. IsTied near k (moment (log_in started)).content) (sym slot.book)
+          (over.tied near in_order now)))
 
   -- and a restart may follow
   pub new_may_restart : (a : Inside R L) → IsSound see moment a → a.parts.manager ≡ manager → (log : L)
@@ -274,7 +276,8 @@ module _ {R L : Type 0} (see : Sees R (Slot L)) (moment : L → Moment) (threads
       near_restarts (history (start_of see moment a.parts) a.events.items) (see.moment (log_in a.parts.manager)).content
       (subst (λ k. IsTied true k (see.moment (log_in a.parts.manager)).content) sound.stands.book
       (subst (λ m. IsTied true (book_in m) (see.moment (log_in m)).content) (sym same_manager)
-      (subst (IsTied true (book_in manager)) (sym slot.log.content) (subst (λ k. IsTied true k (moment (log_in started)).content) (sym slot.book) (over.tied true order now)))))
+      (subst (IsTied true (book_in manager)) (sym slot.log.content) (subst (λ k. IsTied true k (moment (log_in started)).content) (sym slot.book)
+      (over.tied true order now)))))
 
 -- ** the look at the resource managers
 

@@ -135,12 +135,26 @@ module _ {R L : Type 0} (see : Sees R L) where
       → AllCrash see.look parts.sites.items sites.items → lines ≡ new_grid parts.lines.threads parts.lines.rms
       → book_in manager ≡ book_after (book_in parts.manager) (asked_in tr (Failed f)) (Failed f)
       → LogFollows see.moment tr (Failed f) parts.manager manager
-      → OneMore see step reply tr parts (record { alloc = parts.alloc; start = parts.start; began = parts.began; sites = sites; lines = lines; manager = manager })
+      → OneMore see step reply tr parts (record {
+        alloc = parts.alloc;
+        start = parts.start;
+        began = parts.began;
+        sites = sites;
+        lines = lines;
+        manager = manager;
+      })
   fail_goes tr step f reply parts sites lines manager stands has is none uses fault up did renewed book log =
       let demanded : Demanded tr (step_of step) (Replies.Refused Refusals.LogFault) = For_log none uses refl in
       let e = Failed f in
       goes_as see tr step reply (Replies.Refused Refusals.LogFault) parts _ stands has (ap reply_of is) demanded
-      (subst (λ h. Follows see tr h parts (record { alloc = parts.alloc; start = parts.start; began = parts.began; sites = sites; lines = lines; manager = manager })) (sym fault) (record {
+      (subst (λ h. Follows see tr h parts (record {
+        alloc = parts.alloc;
+        start = parts.start;
+        began = parts.began;
+        sites = sites;
+        lines = lines;
+        manager = manager;
+      })) (sym fault) (record {
         start = refl;
         began = refl;
         threads = ap (λ (g : Grid). g.threads) renewed;
@@ -207,7 +221,8 @@ module _ {R L : Type 0} (see : Sees R L) where
         → None ≡ slice_get (line_at parts.lines t r).answers.waiting 0 → OneMore see (Steps.Hear t r) reply tr parts parts
     hear_nothing reply is first =
         goes_as see tr (Steps.Hear t r) reply Replies.Nothing parts parts stands tt (ap reply_of is)
-        (As_value none (Hears_none (no_waiting_answer tr (line t r) (line_at parts.lines t r) (stands.lines t r has) (none_first (line_at parts.lines t r).answers.waiting first))))
+        (As_value none (Hears_none (no_waiting_answer tr (line t r) (line_at parts.lines t r) (stands.lines t r has)
+        (none_first (line_at parts.lines t r).answers.waiting first))))
         (nothing_follows see tr parts parts.manager stands refl refl)
 
     pub hear_lacks : (call : Asking.Call Xid) (a : Given.Answer Xid) (manager : Manager L) (reply : Reply Xid)
@@ -236,7 +251,14 @@ module _ {R L : Type 0} (see : Sees R L) where
         As_value none (Hears_one k.0 (map_answer name_of a) k.2) in
         goes_as see tr (Steps.Hear t r) reply (Replies.Heard (map_call Ours k.0) (map_answer name_of a)) parts _ stands tt
         (ap reply_of is ∙ ap (λ c. Replies.Heard c (map_answer name_of a)) (ours_back (map_call name_of call) k.0 k.1)) demanded
-        (subst (λ h. Follows see tr h parts (record { alloc = parts.alloc; start = parts.start; began = parts.began; sites = parts.sites; lines = with_line parts.lines t r x; manager = manager })) (sym happens) (record {
+        (subst (λ h. Follows see tr h parts (record {
+          alloc = parts.alloc;
+          start = parts.start;
+          began = parts.began;
+          sites = parts.sites;
+          lines = with_line parts.lines t r x;
+          manager = manager;
+        })) (sym happens) (record {
           start = refl;
           began = refl;
           threads = refl;
@@ -246,7 +268,10 @@ module _ {R L : Type 0} (see : Sees R L) where
           count = refl;
           sites =
               λ q at_q there_q. site_stays see tr e q at_q
-              (record { quiet = record { branches = record { standing = λ b at. refl; vote = λ b at. refl; retries = λ b at. refl }; scan_stays = refl }; is_up = refl }) (stands.sites q at_q there_q);
+              (record {
+                quiet = record { branches = record { standing = λ b at. refl; vote = λ b at. refl; retries = λ b at. refl }; scan_stays = refl };
+                is_up = refl;
+              }) (stands.sites q at_q there_q);
           lines = lines_with (Then tr e) parts.lines t r x stands.whole has
               (heard_line tr (line t r) (call, a) k.0 (map_answer name_of a) (line_at parts.lines t r) x (stands.lines t r has)
               (ap (option_map (λ c. (c, map_answer name_of a))) k.1) passes same)
@@ -293,19 +318,36 @@ module _ {R L : Type 0} (see : Sees R L) where
       where
         by_cause : ((n ≡ Refusals.Memory) × (book_in manager ≡ book_in parts.manager))
             ⊎ ((n ≡ Refusals.LogFault)
-            × (book_in manager ≡ book_after (book_in parts.manager) (doubt_of (facts.record_of (heard_known call a first).0 (map_answer name_of a))) (Failed (InHear (line t r)))))
+            × (book_in manager ≡ book_after (book_in parts.manager) (doubt_of (facts.record_of (heard_known call a first).0 (map_answer name_of a)))
+            (Failed (InHear (line t r)))))
             → OneMore see (Steps.Hear t r) reply tr parts
             (record { alloc = parts.alloc; start = parts.start; began = parts.began; sites = sites; lines = lines; manager = manager })
         by_cause (inl w) =
             let no_fault : n ≢ Refusals.LogFault = λ e. absurd (let two : Refusals.Memory ≡ Refusals.LogFault = sym w.0 ∙ e in cc) in
-            subst (λ q. OneMore see (Steps.Hear t r) reply tr parts (record { alloc = parts.alloc; start = parts.start; began = parts.began; sites = q; lines = lines; manager = manager })) (sym (sites_stay no_fault))
-            (subst (λ q. OneMore see (Steps.Hear t r) reply tr parts (record { alloc = parts.alloc; start = parts.start; began = parts.began; sites = parts.sites; lines = q; manager = manager })) (sym (lines_stay no_fault))
+            subst (λ q. OneMore see (Steps.Hear t r) reply tr parts (record {
+              alloc = parts.alloc;
+              start = parts.start;
+              began = parts.began;
+              sites = q;
+              lines = lines;
+              manager = manager;
+            })) (sym (sites_stay no_fault))
+            (subst (λ q. OneMore see (Steps.Hear t r) reply tr parts (record {
+              alloc = parts.alloc;
+              start = parts.start;
+              began = parts.began;
+              sites = parts.sites;
+              lines = q;
+              manager = manager;
+            })) (sym (lines_stay no_fault))
             (hear_lacks call a manager reply first (is ∙ ap (λ m. Replies.Refused m) w.0) w.1
             ((called (heard_known call a first).0 (heard_known call a first).1).kept no_fault)))
         by_cause (inr w) =
             hear_failed call a (uses w.0).0 sites lines manager reply first (is ∙ ap (λ m. Replies.Refused m) w.0) (uses w.0).1 up (crash w.0) (broken w.0)
-            (λ c e. subst (λ d. book_in manager ≡ book_after (book_in parts.manager) (doubt_of (facts.record_of d (map_answer name_of a))) (Failed (InHear (line t r)))) (let two : Some (heard_known call a first).0 ≡ Some c = sym (heard_known call a first).1 ∙ e in some_is _ _ two) w.1)
+            (λ c e. subst (λ d. book_in manager ≡ book_after (book_in parts.manager) (doubt_of (facts.record_of d (map_answer name_of a)))
+            (Failed (InHear (line t r)))) (let two : Some (heard_known call a first).0 ≡ Some c = sym (heard_known call a first).1 ∙ e in some_is _ _ two) w.1)
             (log_failing see.moment (InHear (line t r)) n parts.manager manager w.0
             (subst (λ (d : Content → Content). LogUndone see.moment (Unit {0}) n d parts.manager manager)
-            (λ i d. (made_is (facts.record_of (heard_known call a first).0 (map_answer name_of a)) d ∙ ap (λ e. changed e d) (sym (ap facts.record_of_next (heard_known call a first).2))) i)
+            (λ i d. (made_is (facts.record_of (heard_known call a first).0 (map_answer name_of a)) d ∙ ap (λ e. changed e d)
+            (sym (ap facts.record_of_next (heard_known call a first).2))) i)
             (called (heard_known call a first).0 (heard_known call a first).1)))

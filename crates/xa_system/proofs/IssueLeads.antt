@@ -71,7 +71,8 @@ bar_of shut closed = if shut then Some Refusals.NotOpen else (if closed then Som
 
 abbrev pub issue_why : (there up rm_up : Bool) → (bar book : Option Refusal) → (full : Bool) → Option Refusal
 issue_why there up rm_up bar book full =
-    if there then (if not up then Some Refusals.ManagerDown else (if not rm_up then Some Refusals.RmDown else option_or bar (option_or book (if full then Some Refusals.Full else None)))) else Some Refusals.Limit
+    if there then (if not up then Some Refusals.ManagerDown else (if not rm_up then Some Refusals.RmDown else option_or bar
+    (option_or book (if full then Some Refusals.Full else None)))) else Some Refusals.Limit
 
 abbrev Asked : Type 0
 Asked = Asking.Call Name
@@ -82,13 +83,15 @@ module _ (tr : Trace) (t r : ℕ) (a : Asked) where
 
   abbrev tail : Option Refusal
   tail = first_of (applies tr (Steps.Issue t r a))
-      (Refusals.UnknownTransaction ∷ Refusals.WrongThread ∷ Refusals.AlreadyStarted ∷ Refusals.Decided ∷ Refusals.NotDecided ∷ Refusals.Votes ∷ Refusals.Busy ∷ Refusals.Full ∷ Refusals.Script ∷ Refusals.Limit ∷ [])
+      (Refusals.UnknownTransaction ∷ Refusals.WrongThread ∷ Refusals.AlreadyStarted ∷ Refusals.Decided ∷ Refusals.NotDecided ∷ Refusals.Votes ∷ Refusals.Busy
+      ∷ Refusals.Full ∷ Refusals.Script ∷ Refusals.Limit ∷ [])
 
   tail_is : tail ≡ option_or book_of_it (if nat_le 64 (waiting tr (line t r)) then Some Refusals.Full else None)
   unfolding book_of_it by_book
   tail_is =
       first_append (applies tr (Steps.Issue t r a))
-      (Refusals.UnknownTransaction ∷ Refusals.WrongThread ∷ Refusals.AlreadyStarted ∷ Refusals.Decided ∷ Refusals.NotDecided ∷ Refusals.Votes ∷ Refusals.Busy ∷ []) (Refusals.Full ∷ Refusals.Script ∷ Refusals.Limit ∷ [])
+      (Refusals.UnknownTransaction ∷ Refusals.WrongThread ∷ Refusals.AlreadyStarted ∷ Refusals.Decided ∷ Refusals.NotDecided ∷ Refusals.Votes ∷ Refusals.Busy
+      ∷ []) (Refusals.Full ∷ Refusals.Script ∷ Refusals.Limit ∷ [])
 
   pub issue_rule : must_refuse tr (Steps.Issue t r a)
       ≡ issue_why (has_thread tr t && has_rm tr r) (facts.up tr) (rm_up tr r)
@@ -97,7 +100,8 @@ module _ (tr : Trace) (t r : ℕ) (a : Asked) where
   issue_rule = by_tests (has_thread tr t && has_rm tr r) (facts.up tr) (rm_up tr r) (forces_not_open tr (Steps.Issue t r a)) (facts.is_closed tr (line t r))
     where
       by_tests : (there up up_rm shut closed : Bool)
-          → (if there then (if not up then Some Refusals.ManagerDown else (if not up_rm then Some Refusals.RmDown else (if shut then Some Refusals.NotOpen else (if closed then Some Refusals.Closed else tail)))) else Some Refusals.Limit)
+          → (if there then (if not up then Some Refusals.ManagerDown else (if not up_rm then Some Refusals.RmDown else
+          (if shut then Some Refusals.NotOpen else (if closed then Some Refusals.Closed else tail)))) else Some Refusals.Limit)
           ≡ issue_why there up up_rm (bar_of shut closed) book_of_it (nat_le 64 (waiting tr (line t r)))
       by_tests true true true true closed = refl
       by_tests true true true false true = refl
@@ -110,7 +114,8 @@ module _ (tr : Trace) (t r : ℕ) (a : Asked) where
   pub book_rule : (has_thread tr t && has_rm tr r) ≡ true → facts.up tr ≡ true → managers_refusal tr (Steps.Issue t r a) ≡ book_of_it
   unfolding book_of_it by_book
   book_rule there up =
-      rw (there, up) (first_append (applies tr (Steps.Issue t r a)) (Refusals.UnknownTransaction ∷ Refusals.WrongThread ∷ Refusals.AlreadyStarted ∷ Refusals.Decided ∷ Refusals.NotDecided ∷ Refusals.Votes ∷ Refusals.Busy ∷ []) (Refusals.Limit ∷ []) ∙ or_none _)
+      rw (there, up) (first_append (applies tr (Steps.Issue t r a)) (Refusals.UnknownTransaction ∷ Refusals.WrongThread ∷ Refusals.AlreadyStarted ∷
+      Refusals.Decided ∷ Refusals.NotDecided ∷ Refusals.Votes ∷ Refusals.Busy ∷ []) (Refusals.Limit ∷ []) ∙ or_none _)
 
 -- ** the call
 
@@ -239,7 +244,14 @@ module _ {R L : Type 0} (see : Sees R L) where
       let demanded : Demanded tr (Steps.Issue t r (map_call name_of call)) Replies.Issued = As_value why refl in
       let happens = call_is t r (map_call name_of call) c known_so.1 in
       goes_as see tr (Steps.Issue t r call) reply Replies.Issued parts _ stands has_xid (ap reply_of is) demanded
-      (subst (λ h. Follows see tr h parts (record { alloc = parts.alloc; start = parts.start; began = parts.began; sites = parts.sites; lines = with_line parts.lines t r x; manager = manager })) (sym happens) (record {
+      (subst (λ h. Follows see tr h parts (record {
+        alloc = parts.alloc;
+        start = parts.start;
+        began = parts.began;
+        sites = parts.sites;
+        lines = with_line parts.lines t r x;
+        manager = manager;
+      })) (sym happens) (record {
         start = refl;
         began = refl;
         threads = refl;
@@ -249,7 +261,10 @@ module _ {R L : Type 0} (see : Sees R L) where
         count = refl;
         sites =
             λ q at_q there_q. site_stays see tr e q at_q
-            (record { quiet = record { branches = record { standing = λ b at. refl; vote = λ b at. refl; retries = λ b at. refl }; scan_stays = refl }; is_up = refl }) (stands.sites q at_q there_q);
+            (record {
+              quiet = record { branches = record { standing = λ b at. refl; vote = λ b at. refl; retries = λ b at. refl }; scan_stays = refl };
+              is_up = refl;
+            }) (stands.sites q at_q there_q);
         lines = lines_with (Then tr e) parts.lines t r x stands.whole has
             (issued_line tr t r c call (line_at parts.lines t r) x known_so.1 (stands.lines t r has) put)
             (λ u q has_u apart. line_stays tr e (line u q) (line_at parts.lines u q) refl (rw apart refl) refl refl (stands.lines u q has_u));

@@ -154,19 +154,75 @@ module _ {R L : Type 0} (see : Sees R L) where
 
   pub own_begun : (tr : Trace) (g : Gtrid) → IsOwn tr (Begun g)
   own_begun tr g =
-      record { sites = λ r. record { quiet = record { branches = record { standing = λ b at. refl; vote = λ b at. refl; retries = λ b at. refl }; scan_stays = refl }; is_up = refl }; unbroken = λ t r. refl; calls = λ t r. refl; taken = λ t r. refl; heard = λ t r. refl; fits = λ h. h; event = tt }
+      record {
+        sites = λ r. record {
+          quiet = record {
+            branches = record { standing = λ b at. refl; vote = λ b at. refl; retries = λ b at. refl };
+            scan_stays = refl;
+          };
+          is_up = refl;
+        };
+        unbroken = λ t r. refl;
+        calls = λ t r. refl;
+        taken = λ t r. refl;
+        heard = λ t r. refl;
+        fits = λ h. h;
+        event = tt;
+      }
 
   pub own_claimed : (tr : Trace) (g : Gtrid) → IsOwn tr (Claimed g)
   own_claimed tr g =
-      record { sites = λ r. record { quiet = record { branches = record { standing = λ b at. refl; vote = λ b at. refl; retries = λ b at. refl }; scan_stays = refl }; is_up = refl }; unbroken = λ t r. refl; calls = λ t r. refl; taken = λ t r. refl; heard = λ t r. refl; fits = λ h. h; event = tt }
+      record {
+        sites = λ r. record {
+          quiet = record {
+            branches = record { standing = λ b at. refl; vote = λ b at. refl; retries = λ b at. refl };
+            scan_stays = refl;
+          };
+          is_up = refl;
+        };
+        unbroken = λ t r. refl;
+        calls = λ t r. refl;
+        taken = λ t r. refl;
+        heard = λ t r. refl;
+        fits = λ h. h;
+        event = tt;
+      }
 
   pub own_decided : (tr : Trace) (g : Gtrid) (o : Outcome) → IsOwn tr (Decided g o)
   own_decided tr g o =
-      record { sites = λ r. record { quiet = record { branches = record { standing = λ b at. refl; vote = λ b at. refl; retries = λ b at. refl }; scan_stays = refl }; is_up = refl }; unbroken = λ t r. refl; calls = λ t r. refl; taken = λ t r. refl; heard = λ t r. refl; fits = λ h. h; event = tt }
+      record {
+        sites = λ r. record {
+          quiet = record {
+            branches = record { standing = λ b at. refl; vote = λ b at. refl; retries = λ b at. refl };
+            scan_stays = refl;
+          };
+          is_up = refl;
+        };
+        unbroken = λ t r. refl;
+        calls = λ t r. refl;
+        taken = λ t r. refl;
+        heard = λ t r. refl;
+        fits = λ h. h;
+        event = tt;
+      }
 
   pub own_done : (tr : Trace) (g : Gtrid) → IsOwn tr (Done g)
   own_done tr g =
-      record { sites = λ r. record { quiet = record { branches = record { standing = λ b at. refl; vote = λ b at. refl; retries = λ b at. refl }; scan_stays = refl }; is_up = refl }; unbroken = λ t r. refl; calls = λ t r. refl; taken = λ t r. refl; heard = λ t r. refl; fits = λ h. h; event = tt }
+      record {
+        sites = λ r. record {
+          quiet = record {
+            branches = record { standing = λ b at. refl; vote = λ b at. refl; retries = λ b at. refl };
+            scan_stays = refl;
+          };
+          is_up = refl;
+        };
+        unbroken = λ t r. refl;
+        calls = λ t r. refl;
+        taken = λ t r. refl;
+        heard = λ t r. refl;
+        fits = λ h. h;
+        event = tt;
+      }
 
   -- a Begin
   pub begin_did : (parts : Parts R L) (manager : Manager L) (t : ℕ) (g : Gtrid) (reply : Reply Xid) → reply ≡ Replies.Begun g

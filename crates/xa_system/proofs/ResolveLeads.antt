@@ -178,7 +178,10 @@ module _ {R L : Type 0} (see : Sees R L) where
   pub resolved_so : (tr : Trace) (r : ℕ) → IsRecovery tr (Resolved r) r (facts.resolving_calls tr (facts.page tr r))
   resolved_so tr r = record {
     sites =
-        λ q. record { quiet = record { branches = record { standing = λ b at. refl; vote = λ b at. refl; retries = λ b at. refl }; scan_stays = refl }; is_up = refl };
+        λ q. record {
+          quiet = record { branches = record { standing = λ b at. refl; vote = λ b at. refl; retries = λ b at. refl }; scan_stays = refl };
+          is_up = refl;
+        };
     unbroken = λ l. refl;
     here = rw (line_eq-refl (line 0 r)) refl;
     elsewhere = λ l apart. rw apart refl;
@@ -191,7 +194,10 @@ module _ {R L : Type 0} (see : Sees R L) where
   pub open_so : (tr : Trace) (r : ℕ) → IsRecovery tr (ResolvedOpen r) r (facts.resolving_calls (Then tr (ResolvedOpen r)) (facts.page tr r))
   open_so tr r = record {
     sites =
-        λ q. record { quiet = record { branches = record { standing = λ b at. refl; vote = λ b at. refl; retries = λ b at. refl }; scan_stays = refl }; is_up = refl };
+        λ q. record {
+          quiet = record { branches = record { standing = λ b at. refl; vote = λ b at. refl; retries = λ b at. refl }; scan_stays = refl };
+          is_up = refl;
+        };
     unbroken = λ l. refl;
     here = rw (line_eq-refl (line 0 r)) refl;
     elsewhere = λ l apart. rw apart refl;
@@ -214,11 +220,25 @@ module _ {R L : Type 0} (see : Sees R L) where
       → map known_call calls ≡ map Some ks
       → x ≡ record (line_at parts.lines 0 r) { calls = with_more (line_at parts.lines 0 r).calls calls } → book_in manager ≡ book_of (Then tr e)
       → LogFollows see.moment tr e parts.manager manager
-      → OneMore see step reply tr parts (record { alloc = parts.alloc; start = parts.start; began = parts.began; sites = parts.sites; lines = with_line parts.lines 0 r x; manager = manager })
+      → OneMore see step reply tr parts (record {
+        alloc = parts.alloc;
+        start = parts.start;
+        began = parts.began;
+        sites = parts.sites;
+        lines = with_line parts.lines 0 r x;
+        manager = manager;
+      })
   recovery_goes tr step e r n ks calls parts x manager reply stands has_xids is demanded happens recovery there are put book log =
       let has = has_first tr parts r stands there in
       goes_as see tr step reply (Replies.Resolved n) parts _ stands has_xids (ap reply_of is) demanded
-      (subst (λ h. Follows see tr h parts (record { alloc = parts.alloc; start = parts.start; began = parts.began; sites = parts.sites; lines = with_line parts.lines 0 r x; manager = manager })) (sym happens) (record {
+      (subst (λ h. Follows see tr h parts (record {
+        alloc = parts.alloc;
+        start = parts.start;
+        began = parts.began;
+        sites = parts.sites;
+        lines = with_line parts.lines 0 r x;
+        manager = manager;
+      })) (sym happens) (record {
         start = refl;
         began = refl;
         threads = refl;
@@ -251,12 +271,40 @@ module _ {R L : Type 0} (see : Sees R L) where
 
   own_restarted : (tr : Trace) (i d h : ℕ) → i ≤ last_number → IsOwn see tr (Restarted i d h)
   own_restarted tr i d h most =
-      record { sites = λ r. record { quiet = record { branches = record { standing = λ b at. refl; vote = λ b at. refl; retries = λ b at. refl }; scan_stays = refl }; is_up = refl }; unbroken = λ t r. refl; calls = λ t r. refl; taken = λ t r. refl; heard = λ t r. refl; fits = λ fits. most; event = tt }
+      record {
+        sites = λ r. record {
+          quiet = record {
+            branches = record { standing = λ b at. refl; vote = λ b at. refl; retries = λ b at. refl };
+            scan_stays = refl;
+          };
+          is_up = refl;
+        };
+        unbroken = λ t r. refl;
+        calls = λ t r. refl;
+        taken = λ t r. refl;
+        heard = λ t r. refl;
+        fits = λ fits. most;
+        event = tt;
+      }
 
   -- a failed restart breaks nothing
   own_failed : (tr : Trace) → facts.up tr ≡ false → IsOwn see tr (Failed InRestart)
   own_failed tr down =
-      record { sites = λ r. record { quiet = record { branches = record { standing = λ b at. rw down refl; vote = λ b at. refl; retries = λ b at. refl }; scan_stays = rw down refl }; is_up = refl }; unbroken = λ t r. down; calls = λ t r. refl; taken = λ t r. refl; heard = λ t r. refl; fits = λ h. h; event = tt }
+      record {
+        sites = λ r. record {
+          quiet = record {
+            branches = record { standing = λ b at. rw down refl; vote = λ b at. refl; retries = λ b at. refl };
+            scan_stays = rw down refl;
+          };
+          is_up = refl;
+        };
+        unbroken = λ t r. down;
+        calls = λ t r. refl;
+        taken = λ t r. refl;
+        heard = λ t r. refl;
+        fits = λ h. h;
+        event = tt;
+      }
 
   up_is : (tr : Trace) (parts : Parts R L) → Stands see tr parts → (book_in parts.manager).up ≡ facts.up tr
   up_is tr parts stands = ap (λ (k : Book). k.up) stands.book
@@ -374,7 +422,8 @@ module _ {R L : Type 0} (see : Sees R L) where
   resolve_why tr parts r n o many hinders stands =
       let count = many ∙ ap length (calls_found tr parts r stands) in
       resolve_rule tr r
-      ∙ ap (λ m. recovery_why (has_rm tr r) (facts.up tr) (rm_up tr r) (not (facts.is_open tr (line 0 r))) (facts.is_closed tr (line 0 r)) (nat_lt 64 (waiting tr (line 0 r) + m))) (sym count)
+      ∙ ap (λ m. recovery_why (has_rm tr r) (facts.up tr) (rm_up tr r) (not (facts.is_open tr (line 0 r))) (facts.is_closed tr (line 0 r))
+      (nat_lt 64 (waiting tr (line 0 r) + m))) (sym count)
       ∙ sym (hinders tr stands)
 
   pub resolve_hindered : (parts : Parts R L) (r n : ℕ) (o : Refusal) (reply : Reply Xid) → reply ≡ Replies.Refused o
@@ -394,7 +443,14 @@ module _ {R L : Type 0} (see : Sees R L) where
       → map known_call calls ≡ map Some (resolved_in (book_in parts.manager) r)
       → x ≡ record (line_at parts.lines 0 r) { calls = with_more (line_at parts.lines 0 r).calls calls }
       → GoesOn see (Steps.Resolve r) reply parts
-      (record { alloc = parts.alloc; start = parts.start; began = parts.began; sites = parts.sites; lines = with_line parts.lines 0 r x; manager = parts.manager })
+      (record {
+        alloc = parts.alloc;
+        start = parts.start;
+        began = parts.began;
+        sites = parts.sites;
+        lines = with_line parts.lines 0 r x;
+        manager = parts.manager;
+      })
   resolve_did parts r n calls x reply is many hinders are put tr stands few =
       let e = Resolved r in
       let same = calls_found tr parts r stands in
@@ -414,7 +470,8 @@ module _ {R L : Type 0} (see : Sees R L) where
   open_why tr parts r n o many hinders stands =
       let count = many ∙ ap length (open_calls_found tr parts r stands) in
       open_rule tr r
-      ∙ ap (λ m. recovery_why (has_rm tr r) (facts.up tr) (rm_up tr r) (not (facts.is_open tr (line 0 r))) (facts.is_closed tr (line 0 r)) (nat_lt 64 (waiting tr (line 0 r) + m))) (sym count)
+      ∙ ap (λ m. recovery_why (has_rm tr r) (facts.up tr) (rm_up tr r) (not (facts.is_open tr (line 0 r))) (facts.is_closed tr (line 0 r))
+      (nat_lt 64 (waiting tr (line 0 r) + m))) (sym count)
       ∙ sym (hinders tr stands)
 
   pub open_hindered : (parts : Parts R L) (r n : ℕ) (o : Refusal) (reply : Reply Xid) → reply ≡ Replies.Refused o

@@ -66,8 +66,10 @@ followed tr reply (As_value e v) i d h is c next =
       least = let a : facts.incarnation tr ≤ c.incarnation = omega (arith, numbers.0, next) in a;
       most = let a : c.incarnation ≤ facts.incarnation tr + failed_restarts tr = omega (arith, numbers.1, next) in a;
     }
-followed tr reply (For_memory e m q) i d h is c next = absurd (let no : Replies.Restarted i d h ≡ Replies.Refused Refusals.Memory = sym (ap reply_of is) ∙ q in cc)
-followed tr reply (For_log e u q) i d h is c next = absurd (let no : Replies.Restarted i d h ≡ Replies.Refused Refusals.LogFault = sym (ap reply_of is) ∙ q in cc)
+followed tr reply (For_memory e m q) i d h is c next = absurd (let no : Replies.Restarted i d h ≡ Replies.Refused Refusals.Memory = sym (ap reply_of is) ∙
+    q in cc)
+followed tr reply (For_log e u q) i d h is c next = absurd (let no : Replies.Restarted i d h ≡ Replies.Refused Refusals.LogFault = sym (ap reply_of is) ∙ q in
+    cc)
 
 -- what is found in a log that holds this
 pub found_in : (held : Option Content) (c : Content) (i d h : ℕ) → held ≡ Some c → IsSomeAnd held (FoundIn i d h) → i ≡ c.incarnation + 1

@@ -75,7 +75,8 @@ script_stands look tr e c change old new fits scripts held scans stand = record 
   where
     by_test : (b : Branch) → IsBranch b → b.rm ≡ c.rm → (t : Bool) → branch_eq c b ≡ t → IsHeldAs (Then tr e) b (look.held_of new (xid_of_branch b))
     by_test b h at t is =
-        subst (IsHeldAs (Then tr e) b) (sym (held (xid_of_branch b) ∙ ap (λ u. if u then change (look.held_of old (xid_of_branch b)) else look.held_of old (xid_of_branch b)) (same_tests b c h fits ∙ is))) (by_case t is)
+        subst (IsHeldAs (Then tr e) b) (sym (held (xid_of_branch b) ∙ ap (λ u. if u then change (look.held_of old (xid_of_branch b)) else look.held_of old
+        (xid_of_branch b)) (same_tests b c h fits ∙ is))) (by_case t is)
       where
         by_case : (t : Bool) → branch_eq c b ≡ t
             → IsHeldAs (Then tr e) b (if t then change (look.held_of old (xid_of_branch b)) else look.held_of old (xid_of_branch b))
@@ -106,7 +107,12 @@ still_owned f how starter thread o = o
 
 pub ended_alone : (tr : Trace) (c : Branch) (how : How) → Scripts tr (CompletedAlone c how) c (completed_by how)
 ended_alone tr c how = record {
-  own = λ h a. record { standing = rw (branch_eq-refl c) (ap (λ f. completed f how) a.standing); vote = a.vote; retries = a.retries; starter = still_owned h.standing how h.starter c.thread a.starter };
+  own = λ h a. record {
+    standing = rw (branch_eq-refl c) (ap (λ f. completed f how) a.standing);
+    vote = a.vote;
+    retries = a.retries;
+    starter = still_owned h.standing how h.starter c.thread a.starter;
+  };
   others = λ b apart h a. record { standing = rw apart a.standing; vote = a.vote; retries = a.retries; starter = a.starter };
   scan_stays = refl;
 }
@@ -190,7 +196,10 @@ pub record IsScript (tr : Trace) (e : Happening) (c : Branch) : Type 0 where
 pub voted_script : (tr : Trace) (c : Branch) (v : Vote) → IsScript tr (Voted c v) c
 voted_script tr c v = record {
   quiet =
-      λ r apart. record { branches = record { standing = λ b at. refl; vote = λ b at. rw (elsewhere b c c.rm r apart refl at) refl; retries = λ b at. refl }; scan_stays = refl };
+      λ r apart. record {
+        branches = record { standing = λ b at. refl; vote = λ b at. rw (elsewhere b c c.rm r apart refl at) refl; retries = λ b at. refl };
+        scan_stays = refl;
+      };
   ups = λ r. refl;
   fits = λ h. h;
   uncounted = λ n. refl;
@@ -200,7 +209,10 @@ voted_script tr c v = record {
 pub put_off_script : (tr : Trace) (c : Branch) (n : ℕ) → IsScript tr (PutOff c n) c
 put_off_script tr c n = record {
   quiet =
-      λ r apart. record { branches = record { standing = λ b at. refl; vote = λ b at. refl; retries = λ b at. rw (elsewhere b c c.rm r apart refl at) refl }; scan_stays = refl };
+      λ r apart. record {
+        branches = record { standing = λ b at. refl; vote = λ b at. refl; retries = λ b at. rw (elsewhere b c c.rm r apart refl at) refl };
+        scan_stays = refl;
+      };
   ups = λ r. refl;
   fits = λ h. h;
   uncounted = λ n. refl;
@@ -210,7 +222,10 @@ put_off_script tr c n = record {
 pub alone_script : (tr : Trace) (c : Branch) (how : How) → IsScript tr (CompletedAlone c how) c
 alone_script tr c how = record {
   quiet =
-      λ r apart. record { branches = record { standing = λ b at. rw (elsewhere b c c.rm r apart refl at) refl; vote = λ b at. refl; retries = λ b at. refl }; scan_stays = refl };
+      λ r apart. record {
+        branches = record { standing = λ b at. rw (elsewhere b c c.rm r apart refl at) refl; vote = λ b at. refl; retries = λ b at. refl };
+        scan_stays = refl;
+      };
   ups = λ r. refl;
   fits = λ h. h;
   uncounted = λ n. refl;
@@ -221,7 +236,14 @@ module _ {R L : Type 0} (see : Sees R L) where
   -- the parts with another resource manager at a site
   abbrev pub with_rm : Parts R L → ℕ → Site R → R → Parts R L
   with_rm parts r site rm =
-      record { alloc = parts.alloc; start = parts.start; began = parts.began; sites = with_item parts.sites r (record { rm = rm; is_up = site.is_up }); lines = parts.lines; manager = parts.manager }
+      record {
+        alloc = parts.alloc;
+        start = parts.start;
+        began = parts.began;
+        sites = with_item parts.sites r (record { rm = rm; is_up = site.is_up });
+        lines = parts.lines;
+        manager = parts.manager;
+      }
 
   pub script_limit : (tr : Trace) (parts : Parts R L) (r : ℕ) (bad : Bool) → parts.lines.rms ≤ r → Stands see tr parts
       → script_why (has_rm tr r) (rm_up tr r) bad ≡ Some Refusals.Limit
@@ -250,7 +272,8 @@ module _ {R L : Type 0} (see : Sees R L) where
       → ((y : Xid) → see.look.held_of rm y ≡ changed_at x change y (see.look.held_of site.rm y))
       → ((t : ℕ) → see.look.scan_of rm t ≡ see.look.scan_of site.rm t)
       → OneMore see step reply tr parts (with_rm parts r site rm)
-  script_did tr step e parts r site rm reply x c change stands has at is none value happens xid is_name here scripts quiet unbroken calls taken heard book held scans =
+  script_did tr step e parts r site rm reply x c change stands has at is none value happens xid is_name here scripts quiet unbroken calls taken heard book
+      held scans =
       goes_as see tr step reply Replies.Noted parts _ stands has (ap reply_of is) (As_value none value)
       (subst (λ h. Follows see tr h parts (with_rm parts r site rm)) (sym happens) (record {
         start = refl;
@@ -295,7 +318,13 @@ module _ {R L : Type 0} (see : Sees R L) where
         count = refl;
         sites = sites_with see tr Nothing parts.sites r site (record { rm = rm; is_up = site.is_up }) at
             (site_stays see tr Nothing r (record { rm = rm; is_up = site.is_up }) (nothing_to see tr r)
-            (record { is_up = (stands.sites r site at).is_up; rm = same_rm see tr r site.rm rm (record { held = held; scans = scans }) (stands.sites r site at).rm }))
+            (record {
+              is_up = (stands.sites r site at).is_up;
+              rm = same_rm see tr r site.rm rm (record {
+                held = held;
+                scans = scans;
+              }) (stands.sites r site at).rm;
+            }))
             (λ s apart. nothing_to see tr s) stands.sites;
         lines = λ t q has_q. line_stays tr Nothing (line t q) (line_at parts.lines t q) refl refl refl refl (stands.lines t q has_q);
         book = stands.book;
@@ -336,7 +365,8 @@ module _ {R L : Type 0} (see : Sees R L) where
       → OnErr told ((y : Xid) → see.look.held_of rm y ≡ see.look.held_of site.rm y)
       → ((t : ℕ) → see.look.scan_of rm t ≡ see.look.scan_of site.rm t)
       → OneMore see step reply tr parts (with_rm parts r site rm)
-  script_told tr step e parts r site rm reply x change told stands has at is hinders rule bad fine value may happens xid scripts quiet unbroken calls taken heard book held same scans =
+  script_told tr step e parts r site rm reply x change told stands has at is hinders rule bad fine value may happens xid scripts quiet unbroken calls taken
+      heard book held same scans =
       by told (is) (bad b here.1 here.2) (fine b here.1 here.2) held same
     where
       free : (has_rm tr r ≡ true) × (rm_up tr r ≡ true) × (is_at r (name_of x) ≡ true)

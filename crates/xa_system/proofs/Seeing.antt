@@ -98,7 +98,8 @@ module _ {R L : Type 0} (see : Sees R (Slot L)) (moment : L → Moment) where
   trace_then : (old : Inside R L) (new : Parts R (Slot L)) (events : Vec Event Global) (step : Step Xid) (reply copy : Reply Xid)
       → IsSound see moment old → GoesOn see step reply old.parts new → copy ≡ reply
       → vec_len old.events < EVENT_LIMIT → events.items ≡ old.events.items ++ record { step = step; reply = copy } ∷ []
-      → history (start_of see moment new) events.items ≡ Then (history (start_of see moment old.parts) old.events.items) (happened (step_of step) (reply_of reply))
+      → history (start_of see moment new) events.items ≡ Then (history (start_of see moment old.parts) old.events.items)
+      (happened (step_of step) (reply_of reply))
   unfolding somewhere
   trace_then old new events step reply copy sound goes same few items =
       let here = somewhere old sound few in
@@ -150,7 +151,8 @@ module _ {R L : Type 0} (see : Sees R (Slot L)) (moment : L → Moment) where
   unfolding somewhere
   failed_so old new step reply sound goes few is order honest =
       let here = somewhere old sound few in
-      subst (λ r. MayHaveFailed here.0 (happened (step_of step) (reply_of r)) (see.moment (log_in old.parts.manager)).content (see.moment (log_in new.manager)).content) is
+      subst (λ r. MayHaveFailed here.0 (happened (step_of step) (reply_of r)) (see.moment (log_in old.parts.manager)).content
+      (see.moment (log_in new.manager)).content) is
       ((goes here.0 here.1 here.2).log.failed (sound.log.order order) honest)
 
   -- the log after one event more
@@ -230,7 +232,8 @@ module _ {R L : Type 0} (see : Sees R (Slot L)) (moment : L → Moment) where
         few = omega (arith, few, len);
         room = omega (arith, sound.room, room);
         stands =
-            subst (λ p. Stands see p new) (sym (ap (λ s. history s events.items) start ∙ ap (history o) all ∙ history_push o old.events.items event)) after.stands;
+            subst (λ p. Stands see p new) (sym (ap (λ s. history s events.items) start ∙ ap (history o) all ∙ history_push o old.events.items event))
+            after.stands;
         demanded =
             subst (λ s. AreDemanded s events.items) (sym start)
             (subst (AreDemanded o) (sym all) (demanded_push o old.events.items event sound.demanded after.demanded));

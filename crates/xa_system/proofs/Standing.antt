@@ -244,7 +244,14 @@ module _ {R L : Type 0} (see : Sees R L) where
   -- where nothing happens, what the book says stays
   pub nothing_follows : (tr : Trace) (parts : Parts R L) (manager : Manager L) → Stands see tr parts → book_in manager ≡ book_in parts.manager
       → log_in manager ≡ log_in parts.manager
-      → Follows tr Nothing parts (record { alloc = parts.alloc; start = parts.start; began = parts.began; sites = parts.sites; lines = parts.lines; manager = manager })
+      → Follows tr Nothing parts (record {
+        alloc = parts.alloc;
+        start = parts.start;
+        began = parts.began;
+        sites = parts.sites;
+        lines = parts.lines;
+        manager = manager;
+      })
   nothing_follows tr parts manager stands same log = record {
     start = refl;
     began = refl;
@@ -282,7 +289,14 @@ module _ {R L : Type 0} (see : Sees R L) where
       → Stands see tr parts → StepHasXids step → reply ≡ Replies.Refused Refusals.Memory → must_refuse tr (step_of step) ≡ None
       → MayLackMemory tr (step_of step)
       → book_in manager ≡ book_in parts.manager → log_in manager ≡ log_in parts.manager
-      → OneMore see step reply tr parts (record { alloc = parts.alloc; start = parts.start; began = parts.began; sites = parts.sites; lines = parts.lines; manager = manager })
+      → OneMore see step reply tr parts (record {
+        alloc = parts.alloc;
+        start = parts.start;
+        began = parts.began;
+        sites = parts.sites;
+        lines = parts.lines;
+        manager = manager;
+      })
   lacking_goes tr step parts manager reply stands has is none may same log =
       goes_as tr step reply (Replies.Refused Refusals.Memory) parts _ stands has (ap reply_of is) (For_memory none may refl)
       (nothing_follows tr parts manager stands same log)
@@ -300,7 +314,21 @@ module _ {R L : Type 0} (see : Sees R L) where
   pub rule_goes : (tr : Trace) (step : Step Xid) (reply : Reply Xid) (parts : Parts R L) (manager : Manager L) (n : Refusal)
       → Stands see tr parts → StepHasXids step → reply ≡ Replies.Refused n → must_refuse tr (step_of step) ≡ Some n
       → book_in manager ≡ book_in parts.manager → log_in manager ≡ log_in parts.manager
-      → OneMore see step reply tr parts (record { alloc = parts.alloc; start = parts.start; began = parts.began; sites = parts.sites; lines = parts.lines; manager = manager })
+      → OneMore see step reply tr parts (record {
+        alloc = parts.alloc;
+        start = parts.start;
+        began = parts.began;
+        sites = parts.sites;
+        lines = parts.lines;
+        manager = manager;
+      })
   rule_goes tr step reply parts manager n stands has is why same log =
       goes_as tr step reply (Replies.Refused n) parts _ stands has (ap reply_of is) (By_rule n why refl)
-      (subst (λ e. Follows tr e parts (record { alloc = parts.alloc; start = parts.start; began = parts.began; sites = parts.sites; lines = parts.lines; manager = manager })) (sym (comes_to_nothing n (step_of step) (forced tr (step_of step) n why))) (nothing_follows tr parts manager stands same log))
+      (subst (λ e. Follows tr e parts (record {
+        alloc = parts.alloc;
+        start = parts.start;
+        began = parts.began;
+        sites = parts.sites;
+        lines = parts.lines;
+        manager = manager;
+      })) (sym (comes_to_nothing n (step_of step) (forced tr (step_of step) n why))) (nothing_follows tr parts manager stands same log))

@@ -148,9 +148,15 @@ took_quiet tr l (Calls.Forget c) (Page ns) s home apart =
 took_quiet tr l Calls.OpenRm a s home apart =
     record { branches = record { standing = λ b at. standing_none tr l Calls.OpenRm a b refl; vote = λ b at. refl; retries = λ b at. refl }; scan_stays = refl }
 took_quiet tr l Calls.CloseRm a s home apart =
-    record { branches = record { standing = λ b at. standing_none tr l Calls.CloseRm a b refl; vote = λ b at. refl; retries = λ b at. refl }; scan_stays = refl }
+    record {
+      branches = record { standing = λ b at. standing_none tr l Calls.CloseRm a b refl; vote = λ b at. refl; retries = λ b at. refl };
+      scan_stays = refl;
+    }
 took_quiet tr l (Calls.Recover n x y) a s home apart =
-    record { branches = record { standing = λ b at. standing_none tr l (Calls.Recover n x y) a b refl; vote = λ b at. refl; retries = λ b at. refl }; scan_stays = rw (lines_apart_rm l.thread l.rm 0 s apart) refl }
+    record {
+      branches = record { standing = λ b at. standing_none tr l (Calls.Recover n x y) a b refl; vote = λ b at. refl; retries = λ b at. refl };
+      scan_stays = rw (lines_apart_rm l.thread l.rm 0 s apart) refl;
+    }
 
 -- ** the line
 
@@ -164,7 +170,8 @@ took_line tr l k call a before after stands is passes put =
     (ap all_of put ∙ sym (append_assoc (heard before) before.answers.waiting ((call, a) ∷ []))) (rw (is, line_eq-refl l) refl)
     (ap (λ (f : Flow (Asking.Call Xid × Given.Answer Xid)). f.gone) put ∙ sym (append-nil (heard before))) refl
     (passes.through ∙ ap (λ xs. xs ++ call ∷ []) stands.each_answered
-    ∙ sym (ap (map (λ p. p.0)) (ap all_of put ∙ sym (append_assoc (heard before) before.answers.waiting ((call, a) ∷ []))) ∙ map-append (λ p. p.0) (answered before) ((call, a) ∷ [])))
+    ∙ sym (ap (map (λ p. p.0)) (ap all_of put ∙ sym (append_assoc (heard before) before.answers.waiting ((call, a) ∷ []))) ∙ map-append (λ p. p.0)
+    (answered before) ((call, a) ∷ [])))
 
 -- ** the refusals of a Take
 

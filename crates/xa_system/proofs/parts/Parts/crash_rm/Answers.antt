@@ -11,14 +11,16 @@ use Rattle.xa_system.proofs.parts.Parts.crash_rm.Goals as goal
 
 pub returns-then-rm-rms : goal.returns-then-rm-rms
 returns-then-rm-rms g c =
-    let see : Sees g.row.R.Denot g.row.L.Denot = sees g.R.ResourceManager.held_of g.R.ResourceManager.scan_of g.R.ResourceManager.in_doubt_of g.L.DecisionLog.moment in
+    let see : Sees g.row.R.Denot g.row.L.Denot =
+    sees g.R.ResourceManager.held_of g.R.ResourceManager.scan_of g.R.ResourceManager.in_doubt_of g.L.DecisionLog.moment in
     let p = c.args.self.now in
     refused_goes see (Steps.Crash (KnownParts.Rm c.args.rm)) p c.refused.result Refusals.Limit tt c.refused.ensures
     (λ tr stands. crash_rm_limit see tr p c.args.rm (omega (arith, c.if-rm-rms.true, c.rms.ensures.value)) stands)
 
 pub returns-then-not-index : goal.returns-then-not-index
 returns-then-not-index g c =
-    let see : Sees g.row.R.Denot g.row.L.Denot = sees g.R.ResourceManager.held_of g.R.ResourceManager.scan_of g.R.ResourceManager.in_doubt_of g.L.DecisionLog.moment in
+    let see : Sees g.row.R.Denot g.row.L.Denot =
+    sees g.R.ResourceManager.held_of g.R.ResourceManager.scan_of g.R.ResourceManager.in_doubt_of g.L.DecisionLog.moment in
     let p = c.args.self.now in
     refused_goes see (Steps.Crash (KnownParts.Rm c.args.rm)) p c.refused-then-not-index.result Refusals.RmDown tt c.refused-then-not-index.ensures
     (λ tr stands. crash_rm_down see tr p c.args.rm c.index.result.now (omega (arith, c.if-rm-rms.false, c.rms.ensures.value))
@@ -27,12 +29,14 @@ returns-then-not-index g c =
 
 pub returns : goal.returns
 returns g c tr stands few =
-    let see : Sees g.row.R.Denot g.row.L.Denot = sees g.R.ResourceManager.held_of g.R.ResourceManager.scan_of g.R.ResourceManager.in_doubt_of g.L.DecisionLog.moment in
+    let see : Sees g.row.R.Denot g.row.L.Denot =
+    sees g.R.ResourceManager.held_of g.R.ResourceManager.scan_of g.R.ResourceManager.in_doubt_of g.L.DecisionLog.moment in
     let p = c.args.self.now in
     let at =
     rm_read see tr p c.args.rm c.index_mut-site.result.now stands (omega (arith, c.if-rm-rms.false, c.rms.ensures.value)) c.index_mut-site.ensures.value in
     let up =
-    same_up p.sites.items c.args.rm at (rm_read see tr p c.args.rm c.index.result.now stands (omega (arith, c.if-rm-rms.false, c.rms.ensures.value)) c.index.ensures) c.if-not-index.false in
+    same_up p.sites.items c.args.rm at (rm_read see tr p c.args.rm c.index.result.now stands (omega (arith, c.if-rm-rms.false, c.rms.ensures.value))
+    c.index.ensures) c.if-not-index.false in
     crash_rm_leads see p c.args.rm c.index_mut-site.result.now c.crash.new.self c.renew_rm.new.self c.crash-2.new.self c.new.result c.new.ensures
     (omega (arith, c.if-rm-rms.false, c.rms.ensures.value)) up
     (record { held = c.crash.ensures.held; scans = c.crash.ensures.scans }) c.renew_rm.ensures c.crash-2.ensures.book

@@ -17,7 +17,8 @@ use Rattle.xa_system.proofs.parts.Parts.hear.Goals as goal
 
 pub returns-then-not-has_line : goal.returns-then-not-has_line
 returns-then-not-has_line g c =
-    let see : Sees g.row.R.Denot g.row.L.Denot = sees g.R.ResourceManager.held_of g.R.ResourceManager.scan_of g.R.ResourceManager.in_doubt_of g.L.DecisionLog.moment in
+    let see : Sees g.row.R.Denot g.row.L.Denot =
+    sees g.R.ResourceManager.held_of g.R.ResourceManager.scan_of g.R.ResourceManager.in_doubt_of g.L.DecisionLog.moment in
     let p = c.args.self.now in
     let t = c.args.thread in
     let r = c.args.rm in
@@ -26,7 +27,8 @@ returns-then-not-has_line g c =
 
 pub returns-then-not-is_up : goal.returns-then-not-is_up
 returns-then-not-is_up g c =
-    let see : Sees g.row.R.Denot g.row.L.Denot = sees g.R.ResourceManager.held_of g.R.ResourceManager.scan_of g.R.ResourceManager.in_doubt_of g.L.DecisionLog.moment in
+    let see : Sees g.row.R.Denot g.row.L.Denot =
+    sees g.R.ResourceManager.held_of g.R.ResourceManager.scan_of g.R.ResourceManager.in_doubt_of g.L.DecisionLog.moment in
     let p = c.args.self.now in
     let t = c.args.thread in
     let r = c.args.rm in
@@ -36,7 +38,8 @@ returns-then-not-is_up g c =
 
 pub returns-then-not-index : goal.returns-then-not-index
 returns-then-not-index g c =
-    let see : Sees g.row.R.Denot g.row.L.Denot = sees g.R.ResourceManager.held_of g.R.ResourceManager.scan_of g.R.ResourceManager.in_doubt_of g.L.DecisionLog.moment in
+    let see : Sees g.row.R.Denot g.row.L.Denot =
+    sees g.R.ResourceManager.held_of g.R.ResourceManager.scan_of g.R.ResourceManager.in_doubt_of g.L.DecisionLog.moment in
     let p = c.args.self.now in
     let t = c.args.thread in
     let r = c.args.rm in
@@ -48,7 +51,8 @@ returns-then-not-index g c =
 
 pub returns-in_default : goal.returns-in_default
 returns-in_default g c tr stands few =
-    let see : Sees g.row.R.Denot g.row.L.Denot = sees g.R.ResourceManager.held_of g.R.ResourceManager.scan_of g.R.ResourceManager.in_doubt_of g.L.DecisionLog.moment in
+    let see : Sees g.row.R.Denot g.row.L.Denot =
+    sees g.R.ResourceManager.held_of g.R.ResourceManager.scan_of g.R.ResourceManager.in_doubt_of g.L.DecisionLog.moment in
     let p = c.args.self.now in
     let t = c.args.thread in
     let r = c.args.rm in
@@ -62,7 +66,8 @@ returns-in_default g c tr stands few =
 
 pub returns-in_default-copy : goal.returns-in_default-copy
 returns-in_default-copy g c tr stands few =
-    let see : Sees g.row.R.Denot g.row.L.Denot = sees g.R.ResourceManager.held_of g.R.ResourceManager.scan_of g.R.ResourceManager.in_doubt_of g.L.DecisionLog.moment in
+    let see : Sees g.row.R.Denot g.row.L.Denot =
+    sees g.R.ResourceManager.held_of g.R.ResourceManager.scan_of g.R.ResourceManager.in_doubt_of g.L.DecisionLog.moment in
     let p = c.args.self.now in
     let t = c.args.thread in
     let r = c.args.rm in
@@ -72,17 +77,20 @@ returns-in_default-copy g c tr stands few =
     hear_found see tr p t r true true there up
     (sym (stands.sites r c.index.result.now (site_read see tr p t r c.index.result.now stands there c.index.ensures)).is_up ∙ c.if-not-index.false) stands in
     let first = sym (ap option_copied c.in-Some.is) ∙ c.front_answer.ensures ∙ ap (λ (l : Traffic). slice_get l.answers.waiting 0) c.line.ensures.value in
-    hear_lacks see tr p t r stands there none c.in-Some.field-0.now.0 c.in-Some.field-0.now.1 p.manager c.refused-in_default-copy.result first c.refused-in_default-copy.ensures refl refl
+    hear_lacks see tr p t r stands there none c.in-Some.field-0.now.0 c.in-Some.field-0.now.1 p.manager c.refused-in_default-copy.result first
+    c.refused-in_default-copy.ensures refl refl
 
 pub hear-requires-clause-sound : goal.hear-requires-clause-sound
 hear-requires-clause-sound g c =
-    let see : Sees g.row.R.Denot g.row.L.Denot = sees g.R.ResourceManager.held_of g.R.ResourceManager.scan_of g.R.ResourceManager.in_doubt_of g.L.DecisionLog.moment in
+    let see : Sees g.row.R.Denot g.row.L.Denot =
+    sees g.R.ResourceManager.held_of g.R.ResourceManager.scan_of g.R.ResourceManager.in_doubt_of g.L.DecisionLog.moment in
     let p = c.args.self.now in
     sound_book see p c.requires
 
 pub hear-requires-clause-answers : goal.hear-requires-clause-answers
 hear-requires-clause-answers g c =
-    let see : Sees g.row.R.Denot g.row.L.Denot = sees g.R.ResourceManager.held_of g.R.ResourceManager.scan_of g.R.ResourceManager.in_doubt_of g.L.DecisionLog.moment in
+    let see : Sees g.row.R.Denot g.row.L.Denot =
+    sees g.R.ResourceManager.held_of g.R.ResourceManager.scan_of g.R.ResourceManager.in_doubt_of g.L.DecisionLog.moment in
     let p = c.args.self.now in
     let t = c.args.thread in
     let r = c.args.rm in
@@ -98,7 +106,8 @@ hear-requires-clause-answers g c =
 
 pub hear-requires-clause-fits : goal.hear-requires-clause-fits
 hear-requires-clause-fits g c =
-    let see : Sees g.row.R.Denot g.row.L.Denot = sees g.R.ResourceManager.held_of g.R.ResourceManager.scan_of g.R.ResourceManager.in_doubt_of g.L.DecisionLog.moment in
+    let see : Sees g.row.R.Denot g.row.L.Denot =
+    sees g.R.ResourceManager.held_of g.R.ResourceManager.scan_of g.R.ResourceManager.in_doubt_of g.L.DecisionLog.moment in
     let p = c.args.self.now in
     let t = c.args.thread in
     let r = c.args.rm in
@@ -114,7 +123,8 @@ hear-requires-clause-fits g c =
 
 pub returns-in-Ok-hear : goal.returns-in-Ok-hear
 returns-in-Ok-hear g c tr stands few =
-    let see : Sees g.row.R.Denot g.row.L.Denot = sees g.R.ResourceManager.held_of g.R.ResourceManager.scan_of g.R.ResourceManager.in_doubt_of g.L.DecisionLog.moment in
+    let see : Sees g.row.R.Denot g.row.L.Denot =
+    sees g.R.ResourceManager.held_of g.R.ResourceManager.scan_of g.R.ResourceManager.in_doubt_of g.L.DecisionLog.moment in
     let p = c.args.self.now in
     let t = c.args.thread in
     let r = c.args.rm in
@@ -128,12 +138,19 @@ returns-in-Ok-hear g c tr stands few =
     (some_and (λ pair. HearsOne pair c.line_mut.result.now c.heard.new.line c.heard.result)
     (slice_get c.line_mut.result.now.answers.waiting 0) c.in-Some.field-0.now
     (first ∙ ap (λ (l : Traffic). slice_get l.answers.waiting 0) (sym c.line_mut.ensures.value)) c.heard.ensures) in
-    hear_did see tr p t r stands there none c.in-Some.field-0.now.0 c.in-Some.field-0.now.1 c.heard.new.line c.hear.new.self c.heard.result first did.reply_is c.in-Ok-hear.ensures.ok did.heard did.calls
-    (record { order = c.in-Ok-hear.ensures.order; honest = c.in-Ok-hear.ensures.honest; tied = c.in-Ok-hear.ensures.tied; faults = λ o h t. c.in-Ok-hear.ensures.faults })
+    hear_did see tr p t r stands there none c.in-Some.field-0.now.0 c.in-Some.field-0.now.1 c.heard.new.line c.hear.new.self c.heard.result first did.reply_is
+    c.in-Ok-hear.ensures.ok did.heard did.calls
+    (record {
+      order = c.in-Ok-hear.ensures.order;
+      honest = c.in-Ok-hear.ensures.honest;
+      tied = c.in-Ok-hear.ensures.tied;
+      faults = λ o h t. c.in-Ok-hear.ensures.faults;
+    })
 
 pub returns-in-Err : goal.returns-in-Err
 returns-in-Err g c tr stands few =
-    let see : Sees g.row.R.Denot g.row.L.Denot = sees g.R.ResourceManager.held_of g.R.ResourceManager.scan_of g.R.ResourceManager.in_doubt_of g.L.DecisionLog.moment in
+    let see : Sees g.row.R.Denot g.row.L.Denot =
+    sees g.R.ResourceManager.held_of g.R.ResourceManager.scan_of g.R.ResourceManager.in_doubt_of g.L.DecisionLog.moment in
     let p = c.args.self.now in
     let t = c.args.thread in
     let r = c.args.rm in
@@ -143,9 +160,11 @@ returns-in-Err g c tr stands few =
     hear_found see tr p t r true true there up
     (sym (stands.sites r c.index.result.now (site_read see tr p t r c.index.result.now stands there c.index.ensures)).is_up ∙ c.if-not-index.false) stands in
     let first = sym (ap option_copied c.in-Some.is) ∙ c.front_answer.ensures ∙ ap (λ (l : Traffic). slice_get l.answers.waiting 0) c.line.ensures.value in
-    hear_undone see tr p t r stands there none c.in-Some.field-0.now.0 c.in-Some.field-0.now.1 c.in-Err.refusal c.undone.new.sites c.undone.new.lines c.hear.new.self c.undone.result first c.undone.ensures.reply
+    hear_undone see tr p t r stands there none c.in-Some.field-0.now.0 c.in-Some.field-0.now.1 c.in-Err.refusal c.undone.new.sites c.undone.new.lines
+    c.hear.new.self c.undone.result first c.undone.ensures.reply
     (sym (book_up see tr p stands) ∙ up) (c.in-Err.ensures.err up)
     (λ e. recorded_answer (map_call name_of c.in-Some.field-0.now.0) c.in-Some.field-0.now.1
-    (c.in-Err.ensures.asked (ap (λ (m : Refusal). let x : Result (Unit {0}) Refusal = Err m in x) e))) c.undone.ensures.failed c.undone.ensures.broken c.undone.ensures.sites_stay c.undone.ensures.lines_stay
+    (c.in-Err.ensures.asked (ap (λ (m : Refusal). let x : Result (Unit {0}) Refusal = Err m in x) e))) c.undone.ensures.failed c.undone.ensures.broken
+    c.undone.ensures.sites_stay c.undone.ensures.lines_stay
     (λ known is_known. log_undone see.moment c.in-Err.refusal _ p.manager c.hear.new.self
     (c.in-Err.ensures.asks known is_known) c.in-Err.ensures.tied c.in-Err.ensures.kept)

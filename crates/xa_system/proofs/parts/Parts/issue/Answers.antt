@@ -17,7 +17,8 @@ use Rattle.xa_system.proofs.parts.Parts.issue.Goals as goal
 
 pub note_issued-requires : goal.note_issued-requires
 note_issued-requires g c =
-    let see : Sees g.row.R.Denot g.row.L.Denot = sees g.R.ResourceManager.held_of g.R.ResourceManager.scan_of g.R.ResourceManager.in_doubt_of g.L.DecisionLog.moment in
+    let see : Sees g.row.R.Denot g.row.L.Denot =
+    sees g.R.ResourceManager.held_of g.R.ResourceManager.scan_of g.R.ResourceManager.in_doubt_of g.L.DecisionLog.moment in
     let p = c.args.self.now in
     let t = c.args.thread in
     let r = c.args.rm in
@@ -26,7 +27,8 @@ note_issued-requires g c =
 
 pub returns-then-not-has_line : goal.returns-then-not-has_line
 returns-then-not-has_line g c =
-    let see : Sees g.row.R.Denot g.row.L.Denot = sees g.R.ResourceManager.held_of g.R.ResourceManager.scan_of g.R.ResourceManager.in_doubt_of g.L.DecisionLog.moment in
+    let see : Sees g.row.R.Denot g.row.L.Denot =
+    sees g.R.ResourceManager.held_of g.R.ResourceManager.scan_of g.R.ResourceManager.in_doubt_of g.L.DecisionLog.moment in
     let p = c.args.self.now in
     let t = c.args.thread in
     let r = c.args.rm in
@@ -36,7 +38,8 @@ returns-then-not-has_line g c =
 
 pub returns-then-not-is_up : goal.returns-then-not-is_up
 returns-then-not-is_up g c =
-    let see : Sees g.row.R.Denot g.row.L.Denot = sees g.R.ResourceManager.held_of g.R.ResourceManager.scan_of g.R.ResourceManager.in_doubt_of g.L.DecisionLog.moment in
+    let see : Sees g.row.R.Denot g.row.L.Denot =
+    sees g.R.ResourceManager.held_of g.R.ResourceManager.scan_of g.R.ResourceManager.in_doubt_of g.L.DecisionLog.moment in
     let p = c.args.self.now in
     let t = c.args.thread in
     let r = c.args.rm in
@@ -47,7 +50,8 @@ returns-then-not-is_up g c =
 
 pub returns-then-not-index : goal.returns-then-not-index
 returns-then-not-index g c =
-    let see : Sees g.row.R.Denot g.row.L.Denot = sees g.R.ResourceManager.held_of g.R.ResourceManager.scan_of g.R.ResourceManager.in_doubt_of g.L.DecisionLog.moment in
+    let see : Sees g.row.R.Denot g.row.L.Denot =
+    sees g.R.ResourceManager.held_of g.R.ResourceManager.scan_of g.R.ResourceManager.in_doubt_of g.L.DecisionLog.moment in
     let p = c.args.self.now in
     let t = c.args.thread in
     let r = c.args.rm in
@@ -57,11 +61,13 @@ returns-then-not-index g c =
     refused_goes see (Steps.Issue t r call) p c.refused-then-not-index.result Refusals.RmDown c.requires.has_xid c.refused-then-not-index.ensures
     (λ tr stands. issue_found see tr p t r c.index.result.now call stands there up
     (site_read see tr p t r c.index.result.now stands there c.index.ensures)
-    ∙ ap (λ u. issue_why true true u (barred (issued (line_at p.lines t r)) call) (refusal_in (book_in p.manager) (Steps.Issue t r (map_call name_of call))) (nat_le 64 (length (line_at p.lines t r).calls.waiting))) c.if-not-index.true)
+    ∙ ap (λ u. issue_why true true u (barred (issued (line_at p.lines t r)) call) (refusal_in (book_in p.manager) (Steps.Issue t r (map_call name_of call)))
+    (nat_le 64 (length (line_at p.lines t r).calls.waiting))) c.if-not-index.true)
 
 pub returns-in-Some : goal.returns-in-Some
 returns-in-Some g c =
-    let see : Sees g.row.R.Denot g.row.L.Denot = sees g.R.ResourceManager.held_of g.R.ResourceManager.scan_of g.R.ResourceManager.in_doubt_of g.L.DecisionLog.moment in
+    let see : Sees g.row.R.Denot g.row.L.Denot =
+    sees g.R.ResourceManager.held_of g.R.ResourceManager.scan_of g.R.ResourceManager.in_doubt_of g.L.DecisionLog.moment in
     let p = c.args.self.now in
     let t = c.args.thread in
     let r = c.args.rm in
@@ -77,7 +83,8 @@ returns-in-Some g c =
 
 pub returns-in-Some-may_issue : goal.returns-in-Some-may_issue
 returns-in-Some-may_issue g c =
-    let see : Sees g.row.R.Denot g.row.L.Denot = sees g.R.ResourceManager.held_of g.R.ResourceManager.scan_of g.R.ResourceManager.in_doubt_of g.L.DecisionLog.moment in
+    let see : Sees g.row.R.Denot g.row.L.Denot =
+    sees g.R.ResourceManager.held_of g.R.ResourceManager.scan_of g.R.ResourceManager.in_doubt_of g.L.DecisionLog.moment in
     let p = c.args.self.now in
     let t = c.args.thread in
     let r = c.args.rm in
@@ -85,7 +92,8 @@ returns-in-Some-may_issue g c =
     let there = sym c.has_line.ensures ∙ c.if-not-has_line.false in
     let up = sym c.is_up.ensures ∙ c.if-not-is_up.false in
     let barred_so = sym (c.bar.ensures ∙ ap (λ l. barred (issued l) call) c.line.ensures.value) ∙ c.in_default.is in
-    refused_goes see (Steps.Issue t r call) p c.refused-in-Some-may_issue.result c.in-Some-may_issue.refusal c.requires.has_xid c.refused-in-Some-may_issue.ensures
+    refused_goes see (Steps.Issue t r call) p c.refused-in-Some-may_issue.result c.in-Some-may_issue.refusal c.requires.has_xid
+    c.refused-in-Some-may_issue.ensures
     (λ tr stands. issue_found see tr p t r c.index.result.now call stands there up
     (site_read see tr p t r c.index.result.now stands there c.index.ensures)
     ∙ λ i. issue_why true true (c.if-not-index.false i) (barred_so i) ((sym c.may_issue.ensures ∙ c.in-Some-may_issue.is) i)
@@ -93,7 +101,8 @@ returns-in-Some-may_issue g c =
 
 pub returns-then-free_calls-eq0 : goal.returns-then-free_calls-eq0
 returns-then-free_calls-eq0 g c =
-    let see : Sees g.row.R.Denot g.row.L.Denot = sees g.R.ResourceManager.held_of g.R.ResourceManager.scan_of g.R.ResourceManager.in_doubt_of g.L.DecisionLog.moment in
+    let see : Sees g.row.R.Denot g.row.L.Denot =
+    sees g.R.ResourceManager.held_of g.R.ResourceManager.scan_of g.R.ResourceManager.in_doubt_of g.L.DecisionLog.moment in
     let p = c.args.self.now in
     let t = c.args.thread in
     let r = c.args.rm in
@@ -112,7 +121,8 @@ returns-then-free_calls-eq0 g c =
 
 pub returns-in-Err : goal.returns-in-Err
 returns-in-Err g c tr stands few =
-    let see : Sees g.row.R.Denot g.row.L.Denot = sees g.R.ResourceManager.held_of g.R.ResourceManager.scan_of g.R.ResourceManager.in_doubt_of g.L.DecisionLog.moment in
+    let see : Sees g.row.R.Denot g.row.L.Denot =
+    sees g.R.ResourceManager.held_of g.R.ResourceManager.scan_of g.R.ResourceManager.in_doubt_of g.L.DecisionLog.moment in
     let p = c.args.self.now in
     let t = c.args.thread in
     let r = c.args.rm in
@@ -132,7 +142,8 @@ returns-in-Err g c tr stands few =
 
 pub returns : goal.returns
 returns g c tr stands few =
-    let see : Sees g.row.R.Denot g.row.L.Denot = sees g.R.ResourceManager.held_of g.R.ResourceManager.scan_of g.R.ResourceManager.in_doubt_of g.L.DecisionLog.moment in
+    let see : Sees g.row.R.Denot g.row.L.Denot =
+    sees g.R.ResourceManager.held_of g.R.ResourceManager.scan_of g.R.ResourceManager.in_doubt_of g.L.DecisionLog.moment in
     let p = c.args.self.now in
     let t = c.args.thread in
     let r = c.args.rm in
@@ -148,5 +159,7 @@ returns g c tr stands few =
     issue_found see tr p t r c.index.result.now call stands there up (site_read see tr p t r c.index.result.now stands there c.index.ensures)
     ∙ λ i. issue_why true true (c.if-not-index.false i) (barred_so i) (free i) (full i) in
     let put =
-    line_took (line_at p.lines t r) c.line_mut.result.now call c.copy.result c.issue.result c.issue.new.self c.line_mut.ensures.value c.copy.ensures c.issue.ensures.reason c.issue.ensures.accepted barred_so full in
-    issue_did see p t r call c.index.result.now c.issue.new.self c.note_issued.new.self c.new.result c.requires.has_xid c.new.ensures there up free c.in_default-note_issued.ensures.ok c.in_default-note_issued.ensures.log put tr stands none
+    line_took (line_at p.lines t r) c.line_mut.result.now call c.copy.result c.issue.result c.issue.new.self c.line_mut.ensures.value c.copy.ensures
+    c.issue.ensures.reason c.issue.ensures.accepted barred_so full in
+    issue_did see p t r call c.index.result.now c.issue.new.self c.note_issued.new.self c.new.result c.requires.has_xid c.new.ensures there up free
+    c.in_default-note_issued.ensures.ok c.in_default-note_issued.ensures.log put tr stands none

@@ -9,7 +9,8 @@ use Rattle.xa_system.proofs.parts.Parts.no_script.Goals as goal
 
 pub returns-then-rm-rms-clause-why : goal.returns-then-rm-rms-clause-why
 returns-then-rm-rms-clause-why g c tr stands =
-    let see : Sees g.row.R.Denot g.row.L.Denot = sees g.R.ResourceManager.held_of g.R.ResourceManager.scan_of g.R.ResourceManager.in_doubt_of g.L.DecisionLog.moment in
+    let see : Sees g.row.R.Denot g.row.L.Denot =
+    sees g.R.ResourceManager.held_of g.R.ResourceManager.scan_of g.R.ResourceManager.in_doubt_of g.L.DecisionLog.moment in
     let p = c.args.self.now in
     let r = c.args.rm in
     let x = c.args.xid.now in
@@ -17,24 +18,32 @@ returns-then-rm-rms-clause-why g c tr stands =
 
 pub returns-then-not-index-clause-why : goal.returns-then-not-index-clause-why
 returns-then-not-index-clause-why g c tr stands =
-    let see : Sees g.row.R.Denot g.row.L.Denot = sees g.R.ResourceManager.held_of g.R.ResourceManager.scan_of g.R.ResourceManager.in_doubt_of g.L.DecisionLog.moment in
+    let see : Sees g.row.R.Denot g.row.L.Denot =
+    sees g.R.ResourceManager.held_of g.R.ResourceManager.scan_of g.R.ResourceManager.in_doubt_of g.L.DecisionLog.moment in
     let p = c.args.self.now in
     let r = c.args.rm in
     let x = c.args.xid.now in
-    sym (script_found see tr p r c.index.result.now false (not (is_at r (name_of x))) (omega (arith, c.if-rm-rms.false, c.rms.ensures.value)) (rm_read see tr p r c.index.result.now stands (omega (arith, c.if-rm-rms.false, c.rms.ensures.value)) c.index.ensures) c.if-not-index.true stands)
+    sym (script_found see tr p r c.index.result.now false (not (is_at r (name_of x))) (omega (arith, c.if-rm-rms.false, c.rms.ensures.value))
+    (rm_read see tr p r c.index.result.now stands (omega (arith, c.if-rm-rms.false, c.rms.ensures.value)) c.index.ensures) c.if-not-index.true stands)
 
 pub returns-then-not-is_at-clause-why : goal.returns-then-not-is_at-clause-why
 returns-then-not-is_at-clause-why g c tr stands =
-    let see : Sees g.row.R.Denot g.row.L.Denot = sees g.R.ResourceManager.held_of g.R.ResourceManager.scan_of g.R.ResourceManager.in_doubt_of g.L.DecisionLog.moment in
+    let see : Sees g.row.R.Denot g.row.L.Denot =
+    sees g.R.ResourceManager.held_of g.R.ResourceManager.scan_of g.R.ResourceManager.in_doubt_of g.L.DecisionLog.moment in
     let p = c.args.self.now in
     let r = c.args.rm in
     let x = c.args.xid.now in
-    sym (script_found see tr p r c.index.result.now true (not (is_at r (name_of x))) (omega (arith, c.if-rm-rms.false, c.rms.ensures.value)) (rm_read see tr p r c.index.result.now stands (omega (arith, c.if-rm-rms.false, c.rms.ensures.value)) c.index.ensures) c.if-not-index.false stands ∙ ap (λ t. script_why true true (not t)) (sym c.is_at.ensures ∙ c.if-not-is_at.true))
+    sym (script_found see tr p r c.index.result.now true (not (is_at r (name_of x))) (omega (arith, c.if-rm-rms.false, c.rms.ensures.value))
+    (rm_read see tr p r c.index.result.now stands (omega (arith, c.if-rm-rms.false, c.rms.ensures.value)) c.index.ensures) c.if-not-index.false stands ∙ ap
+    (λ t. script_why true true (not t)) (sym c.is_at.ensures ∙ c.if-not-is_at.true))
 
 pub returns-clause-why : goal.returns-clause-why
 returns-clause-why g c tr stands =
-    let see : Sees g.row.R.Denot g.row.L.Denot = sees g.R.ResourceManager.held_of g.R.ResourceManager.scan_of g.R.ResourceManager.in_doubt_of g.L.DecisionLog.moment in
+    let see : Sees g.row.R.Denot g.row.L.Denot =
+    sees g.R.ResourceManager.held_of g.R.ResourceManager.scan_of g.R.ResourceManager.in_doubt_of g.L.DecisionLog.moment in
     let p = c.args.self.now in
     let r = c.args.rm in
     let x = c.args.xid.now in
-    sym (script_found see tr p r c.index.result.now true (not (is_at r (name_of x))) (omega (arith, c.if-rm-rms.false, c.rms.ensures.value)) (rm_read see tr p r c.index.result.now stands (omega (arith, c.if-rm-rms.false, c.rms.ensures.value)) c.index.ensures) c.if-not-index.false stands ∙ ap (λ t. script_why true true (not t)) (sym c.is_at.ensures ∙ c.if-not-is_at.false))
+    sym (script_found see tr p r c.index.result.now true (not (is_at r (name_of x))) (omega (arith, c.if-rm-rms.false, c.rms.ensures.value))
+    (rm_read see tr p r c.index.result.now stands (omega (arith, c.if-rm-rms.false, c.rms.ensures.value)) c.index.ensures) c.if-not-index.false stands ∙ ap
+    (λ t. script_why true true (not t)) (sym c.is_at.ensures ∙ c.if-not-is_at.false))

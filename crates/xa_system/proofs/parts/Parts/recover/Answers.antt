@@ -10,7 +10,8 @@ use Rattle.xa_system.proofs.parts.Parts.recover.Goals as goal
 
 pub returns : goal.returns
 returns g c =
-    let see : Sees g.row.R.Denot g.row.L.Denot = sees g.R.ResourceManager.held_of g.R.ResourceManager.scan_of g.R.ResourceManager.in_doubt_of g.L.DecisionLog.moment in
+    let see : Sees g.row.R.Denot g.row.L.Denot =
+    sees g.R.ResourceManager.held_of g.R.ResourceManager.scan_of g.R.ResourceManager.in_doubt_of g.L.DecisionLog.moment in
     recover_goes see c.args.rm c.args.count c.args.start_scan c.args.end_scan c.issue.result c.args.self.now c.issue.new.self
     (subst (λ n. GoesOn see (Steps.Issue 0 c.args.rm (Calls.Recover n c.args.start_scan c.args.end_scan)) c.issue.result c.args.self.now c.issue.new.self)
     (to_z-of_z w64 c.args.count c.ranges.count) c.issue.ensures)

@@ -9,7 +9,8 @@ use Rattle.xa_system.proofs.parts.Parts.resolve.Goals as goal
 
 pub returns-in-Some : goal.returns-in-Some
 returns-in-Some g c =
-    let see : Sees g.row.R.Denot g.row.L.Denot = sees g.R.ResourceManager.held_of g.R.ResourceManager.scan_of g.R.ResourceManager.in_doubt_of g.L.DecisionLog.moment in
+    let see : Sees g.row.R.Denot g.row.L.Denot =
+    sees g.R.ResourceManager.held_of g.R.ResourceManager.scan_of g.R.ResourceManager.in_doubt_of g.L.DecisionLog.moment in
     let p = c.args.self.now in
     let r = c.args.rm in
     resolve_hindered see p r c.resolve_len-count.result c.in-Some.refusal c.refused.result c.refused.ensures c.resolve_len-count.ensures
@@ -17,15 +18,18 @@ returns-in-Some g c =
 
 pub issue_all-requires-clause-room : goal.issue_all-requires-clause-room
 issue_all-requires-clause-room g c =
-    let see : Sees g.row.R.Denot g.row.L.Denot = sees g.R.ResourceManager.held_of g.R.ResourceManager.scan_of g.R.ResourceManager.in_doubt_of g.L.DecisionLog.moment in
+    let see : Sees g.row.R.Denot g.row.L.Denot =
+    sees g.R.ResourceManager.held_of g.R.ResourceManager.scan_of g.R.ResourceManager.in_doubt_of g.L.DecisionLog.moment in
     let p = c.args.self.now in
     let r = c.args.rm in
     recovery_room see p r c.resolve_len-count.result (resolved_in (book_in p.manager) r) c.in-Ok.calls.items
-    (λ tr stands. sym c.in_default.is ∙ c.no_recovery.ensures tr stands) c.in-Ok.ensures.ok c.line_mut.result.now _ c.in-Ok.calls.ok.0 c.resolve_len-count.ensures c.line_mut.ensures.value c.requires
+    (λ tr stands. sym c.in_default.is ∙ c.no_recovery.ensures tr stands) c.in-Ok.ensures.ok c.line_mut.result.now _ c.in-Ok.calls.ok.0
+    c.resolve_len-count.ensures c.line_mut.ensures.value c.requires
 
 pub issue_all-requires-clause-open : goal.issue_all-requires-clause-open
 issue_all-requires-clause-open g c =
-    let see : Sees g.row.R.Denot g.row.L.Denot = sees g.R.ResourceManager.held_of g.R.ResourceManager.scan_of g.R.ResourceManager.in_doubt_of g.L.DecisionLog.moment in
+    let see : Sees g.row.R.Denot g.row.L.Denot =
+    sees g.R.ResourceManager.held_of g.R.ResourceManager.scan_of g.R.ResourceManager.in_doubt_of g.L.DecisionLog.moment in
     let p = c.args.self.now in
     let r = c.args.rm in
     recovery_open see p r c.resolve_len-count.result (resolved_in (book_in p.manager) r) c.in-Ok.calls.items
@@ -33,7 +37,8 @@ issue_all-requires-clause-open g c =
 
 pub issue_all-requires-clause-unclosed : goal.issue_all-requires-clause-unclosed
 issue_all-requires-clause-unclosed g c =
-    let see : Sees g.row.R.Denot g.row.L.Denot = sees g.R.ResourceManager.held_of g.R.ResourceManager.scan_of g.R.ResourceManager.in_doubt_of g.L.DecisionLog.moment in
+    let see : Sees g.row.R.Denot g.row.L.Denot =
+    sees g.R.ResourceManager.held_of g.R.ResourceManager.scan_of g.R.ResourceManager.in_doubt_of g.L.DecisionLog.moment in
     let p = c.args.self.now in
     let r = c.args.rm in
     recovery_unclosed see p r c.resolve_len-count.result (resolved_in (book_in p.manager) r) c.in-Ok.calls.items
@@ -42,7 +47,8 @@ issue_all-requires-clause-unclosed g c =
 
 pub returns-in-Ok : goal.returns-in-Ok
 returns-in-Ok g c =
-    let see : Sees g.row.R.Denot g.row.L.Denot = sees g.R.ResourceManager.held_of g.R.ResourceManager.scan_of g.R.ResourceManager.in_doubt_of g.L.DecisionLog.moment in
+    let see : Sees g.row.R.Denot g.row.L.Denot =
+    sees g.R.ResourceManager.held_of g.R.ResourceManager.scan_of g.R.ResourceManager.in_doubt_of g.L.DecisionLog.moment in
     let p = c.args.self.now in
     let r = c.args.rm in
     let put = c.issue_all.ensures ∙ ap (λ (t : Traffic). record t { calls = with_more t.calls c.in-Ok.calls.items }) c.line_mut.ensures.value in
@@ -51,7 +57,9 @@ returns-in-Ok g c =
 
 pub returns-in-Err : goal.returns-in-Err
 returns-in-Err g c =
-    let see : Sees g.row.R.Denot g.row.L.Denot = sees g.R.ResourceManager.held_of g.R.ResourceManager.scan_of g.R.ResourceManager.in_doubt_of g.L.DecisionLog.moment in
+    let see : Sees g.row.R.Denot g.row.L.Denot =
+    sees g.R.ResourceManager.held_of g.R.ResourceManager.scan_of g.R.ResourceManager.in_doubt_of g.L.DecisionLog.moment in
     let p = c.args.self.now in
     let r = c.args.rm in
-    resolve_lacks see p r c.resolve_len-count.result c.in-Err.refusal c.refused-in-Err.result c.refused-in-Err.ensures c.in-Err.ensures.err c.resolve_len-count.ensures (λ tr stands. sym c.in_default.is ∙ c.no_recovery.ensures tr stands)
+    resolve_lacks see p r c.resolve_len-count.result c.in-Err.refusal c.refused-in-Err.result c.refused-in-Err.ensures c.in-Err.ensures.err
+    c.resolve_len-count.ensures (λ tr stands. sym c.in_default.is ∙ c.no_recovery.ensures tr stands)

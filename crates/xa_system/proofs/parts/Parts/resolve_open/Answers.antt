@@ -11,7 +11,8 @@ use Rattle.xa_system.proofs.parts.Parts.resolve_open.Goals as goal
 
 pub returns-in-Some : goal.returns-in-Some
 returns-in-Some g c =
-    let see : Sees g.row.R.Denot g.row.L.Denot = sees g.R.ResourceManager.held_of g.R.ResourceManager.scan_of g.R.ResourceManager.in_doubt_of g.L.DecisionLog.moment in
+    let see : Sees g.row.R.Denot g.row.L.Denot =
+    sees g.R.ResourceManager.held_of g.R.ResourceManager.scan_of g.R.ResourceManager.in_doubt_of g.L.DecisionLog.moment in
     let p = c.args.self.now in
     let r = c.args.rm in
     open_hindered see p r c.resolve_open_len-count.result c.in-Some.refusal c.refused.result c.refused.ensures c.resolve_open_len-count.ensures
@@ -19,15 +20,18 @@ returns-in-Some g c =
 
 pub issue_all-requires-clause-room : goal.issue_all-requires-clause-room
 issue_all-requires-clause-room g c =
-    let see : Sees g.row.R.Denot g.row.L.Denot = sees g.R.ResourceManager.held_of g.R.ResourceManager.scan_of g.R.ResourceManager.in_doubt_of g.L.DecisionLog.moment in
+    let see : Sees g.row.R.Denot g.row.L.Denot =
+    sees g.R.ResourceManager.held_of g.R.ResourceManager.scan_of g.R.ResourceManager.in_doubt_of g.L.DecisionLog.moment in
     let p = c.args.self.now in
     let r = c.args.rm in
     recovery_room see p r c.resolve_open_len-count.result (resolved_open_in (book_in p.manager) r) c.in-Ok.calls.items
-    (λ tr stands. sym c.in_default.is ∙ c.no_recovery.ensures tr stands) c.in-Ok.ensures.calls c.line_mut.result.now _ c.in-Ok.calls.ok.0 c.resolve_open_len-count.ensures c.line_mut.ensures.value c.requires
+    (λ tr stands. sym c.in_default.is ∙ c.no_recovery.ensures tr stands) c.in-Ok.ensures.calls c.line_mut.result.now _ c.in-Ok.calls.ok.0
+    c.resolve_open_len-count.ensures c.line_mut.ensures.value c.requires
 
 pub issue_all-requires-clause-open : goal.issue_all-requires-clause-open
 issue_all-requires-clause-open g c =
-    let see : Sees g.row.R.Denot g.row.L.Denot = sees g.R.ResourceManager.held_of g.R.ResourceManager.scan_of g.R.ResourceManager.in_doubt_of g.L.DecisionLog.moment in
+    let see : Sees g.row.R.Denot g.row.L.Denot =
+    sees g.R.ResourceManager.held_of g.R.ResourceManager.scan_of g.R.ResourceManager.in_doubt_of g.L.DecisionLog.moment in
     let p = c.args.self.now in
     let r = c.args.rm in
     recovery_open see p r c.resolve_open_len-count.result (resolved_open_in (book_in p.manager) r) c.in-Ok.calls.items
@@ -35,7 +39,8 @@ issue_all-requires-clause-open g c =
 
 pub issue_all-requires-clause-unclosed : goal.issue_all-requires-clause-unclosed
 issue_all-requires-clause-unclosed g c =
-    let see : Sees g.row.R.Denot g.row.L.Denot = sees g.R.ResourceManager.held_of g.R.ResourceManager.scan_of g.R.ResourceManager.in_doubt_of g.L.DecisionLog.moment in
+    let see : Sees g.row.R.Denot g.row.L.Denot =
+    sees g.R.ResourceManager.held_of g.R.ResourceManager.scan_of g.R.ResourceManager.in_doubt_of g.L.DecisionLog.moment in
     let p = c.args.self.now in
     let r = c.args.rm in
     recovery_unclosed see p r c.resolve_open_len-count.result (resolved_open_in (book_in p.manager) r) c.in-Ok.calls.items
@@ -44,16 +49,20 @@ issue_all-requires-clause-unclosed g c =
 
 pub returns-in-Ok : goal.returns-in-Ok
 returns-in-Ok g c =
-    let see : Sees g.row.R.Denot g.row.L.Denot = sees g.R.ResourceManager.held_of g.R.ResourceManager.scan_of g.R.ResourceManager.in_doubt_of g.L.DecisionLog.moment in
+    let see : Sees g.row.R.Denot g.row.L.Denot =
+    sees g.R.ResourceManager.held_of g.R.ResourceManager.scan_of g.R.ResourceManager.in_doubt_of g.L.DecisionLog.moment in
     let p = c.args.self.now in
     let r = c.args.rm in
     let put = c.issue_all.ensures ∙ ap (λ (t : Traffic). record t { calls = with_more t.calls c.in-Ok.calls.items }) c.line_mut.ensures.value in
-    open_did see p r c.resolve_open_len-count.result c.in-Ok.calls.items c.issue_all.new.line c.resolve_open.new.self c.new.result c.new.ensures c.resolve_open_len-count.ensures (λ tr stands. sym c.in_default.is ∙ c.no_recovery.ensures tr stands) c.in-Ok.ensures.calls put c.in-Ok.ensures.ok
+    open_did see p r c.resolve_open_len-count.result c.in-Ok.calls.items c.issue_all.new.line c.resolve_open.new.self c.new.result c.new.ensures
+    c.resolve_open_len-count.ensures (λ tr stands. sym c.in_default.is ∙ c.no_recovery.ensures tr stands) c.in-Ok.ensures.calls put c.in-Ok.ensures.ok
     (λ tr. log_kept see.moment (ResolvedOpen r) p.manager c.resolve_open.new.self (λ n. refl) c.in-Ok.ensures.log c.in-Ok.ensures.tied)
 
 pub returns-in-Err : goal.returns-in-Err
 returns-in-Err g c =
-    let see : Sees g.row.R.Denot g.row.L.Denot = sees g.R.ResourceManager.held_of g.R.ResourceManager.scan_of g.R.ResourceManager.in_doubt_of g.L.DecisionLog.moment in
+    let see : Sees g.row.R.Denot g.row.L.Denot =
+    sees g.R.ResourceManager.held_of g.R.ResourceManager.scan_of g.R.ResourceManager.in_doubt_of g.L.DecisionLog.moment in
     let p = c.args.self.now in
     let r = c.args.rm in
-    open_lacks see p c.resolve_open.new.self r c.resolve_open_len-count.result c.in-Err.refusal c.refused-in-Err.result c.refused-in-Err.ensures c.in-Err.ensures.err c.resolve_open_len-count.ensures (λ tr stands. sym c.in_default.is ∙ c.no_recovery.ensures tr stands) c.in-Err.ensures.log
+    open_lacks see p c.resolve_open.new.self r c.resolve_open_len-count.result c.in-Err.refusal c.refused-in-Err.result c.refused-in-Err.ensures
+    c.in-Err.ensures.err c.resolve_open_len-count.ensures (λ tr stands. sym c.in_default.is ∙ c.no_recovery.ensures tr stands) c.in-Err.ensures.log

@@ -14,26 +14,41 @@ use Rattle.xa_system.proofs.parts.Parts.restart_manager.Goals as goal
 
 pub restart-requires : goal.restart-requires
 restart-requires g c =
-    let see : Sees g.row.R.Denot g.row.L.Denot = sees g.R.ResourceManager.held_of g.R.ResourceManager.scan_of g.R.ResourceManager.in_doubt_of g.L.DecisionLog.moment in
+    let see : Sees g.row.R.Denot g.row.L.Denot =
+    sees g.R.ResourceManager.held_of g.R.ResourceManager.scan_of g.R.ResourceManager.in_doubt_of g.L.DecisionLog.moment in
     let p = c.args.self.now in
     sound_book see p c.requires
 
 pub returns-in-Ok-clause-goes : goal.returns-in-Ok-clause-goes
 returns-in-Ok-clause-goes g c tr stands few =
-    let see : Sees g.row.R.Denot g.row.L.Denot = sees g.R.ResourceManager.held_of g.R.ResourceManager.scan_of g.R.ResourceManager.in_doubt_of g.L.DecisionLog.moment in
+    let see : Sees g.row.R.Denot g.row.L.Denot =
+    sees g.R.ResourceManager.held_of g.R.ResourceManager.scan_of g.R.ResourceManager.in_doubt_of g.L.DecisionLog.moment in
     let p = c.args.self.now in
-    restart_did see p c.restart.new.self c.in-Ok.field-0.incarnation c.in-Ok.field-0.decisions c.in-Ok.field-0.heuristics c.new.result c.new.ensures c.in-Ok.ensures.down c.in-Ok.ensures.ok c.in-Ok.ensures.found c.in-Ok.ensures.most
+    restart_did see p c.restart.new.self c.in-Ok.field-0.incarnation c.in-Ok.field-0.decisions c.in-Ok.field-0.heuristics c.new.result c.new.ensures
+    c.in-Ok.ensures.down c.in-Ok.ensures.ok c.in-Ok.ensures.found c.in-Ok.ensures.most
     (λ tr. log_done see.moment {A = Found}
     (Restarted c.in-Ok.field-0.incarnation c.in-Ok.field-0.decisions c.in-Ok.field-0.heuristics) c.in-Ok.field-0 p.manager c.restart.new.self
-    (λ n. refl) (record { order = c.in-Ok.ensures.order; honest = c.in-Ok.ensures.honest; tied = c.in-Ok.ensures.tied; faults = c.in-Ok.ensures.faults })) tr stands
+    (λ n. refl) (record { order = c.in-Ok.ensures.order; honest = c.in-Ok.ensures.honest; tied = c.in-Ok.ensures.tied; faults = c.in-Ok.ensures.faults })) tr
+    stands
 
 pub returns-in-Err-clause-goes : goal.returns-in-Err-clause-goes
 returns-in-Err-clause-goes g c tr stands few =
-    let see : Sees g.row.R.Denot g.row.L.Denot = sees g.R.ResourceManager.held_of g.R.ResourceManager.scan_of g.R.ResourceManager.in_doubt_of g.L.DecisionLog.moment in
+    let see : Sees g.row.R.Denot g.row.L.Denot =
+    sees g.R.ResourceManager.held_of g.R.ResourceManager.scan_of g.R.ResourceManager.in_doubt_of g.L.DecisionLog.moment in
     let p = c.args.self.now in
     restart_undone see p c.restart.new.self c.in-Err.refusal c.refused.result c.refused.ensures
     (λ e. (err_is {A = Found} _ _ (c.in-Err.ensures.busy e).0, ap book_in (c.in-Err.ensures.busy e).1)) c.in-Err.ensures.err
-    (record { called = record { order = c.in-Err.ensures.order; honest = c.in-Err.ensures.honest; tied = c.in-Err.ensures.tied; faults = c.in-Err.ensures.faults }; kept = c.in-Err.ensures.kept; failed = λ is order honest. c.in-Err.ensures.fault order honest (ap (λ (m : Refusal). let x : Result Found Refusal = Err m in x) is) }) tr stands
+    (record {
+      called = record {
+        order = c.in-Err.ensures.order;
+        honest = c.in-Err.ensures.honest;
+        tied = c.in-Err.ensures.tied;
+        faults = c.in-Err.ensures.faults;
+      };
+      kept = c.in-Err.ensures.kept;
+      failed = λ is order honest. c.in-Err.ensures.fault order honest
+          (ap (λ (m : Refusal). let x : Result Found Refusal = Err m in x) is);
+    }) tr stands
 
 pub returns-in-Ok-clause-read : goal.returns-in-Ok-clause-read
 returns-in-Ok-clause-read g c i d h is =
@@ -44,7 +59,8 @@ returns-in-Ok-clause-read g c i d h is =
     let heuristics : f.heuristics ≡ h = cc in
     subst (λ n. IsReadFrom g.L.DecisionLog n d h (log_in c.args.self.now.manager) (log_in c.restart.new.self)) incarnation
     (subst (λ n. IsReadFrom g.L.DecisionLog f.incarnation n h (log_in c.args.self.now.manager) (log_in c.restart.new.self)) decisions
-    (subst (λ n. IsReadFrom g.L.DecisionLog f.incarnation f.decisions n (log_in c.args.self.now.manager) (log_in c.restart.new.self)) heuristics c.in-Ok.ensures.read))
+    (subst (λ n. IsReadFrom g.L.DecisionLog f.incarnation f.decisions n (log_in c.args.self.now.manager) (log_in c.restart.new.self)) heuristics
+    c.in-Ok.ensures.read))
 
 pub returns-in-Err-clause-read : goal.returns-in-Err-clause-read
 returns-in-Err-clause-read g c i d h is =

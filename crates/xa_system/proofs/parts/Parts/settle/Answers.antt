@@ -16,27 +16,32 @@ use Rattle.xa_system.proofs.parts.Parts.settle.Goals as goal
 
 pub settle-requires : goal.settle-requires
 settle-requires g c =
-    let see : Sees g.row.R.Denot g.row.L.Denot = sees g.R.ResourceManager.held_of g.R.ResourceManager.scan_of g.R.ResourceManager.in_doubt_of g.L.DecisionLog.moment in
+    let see : Sees g.row.R.Denot g.row.L.Denot =
+    sees g.R.ResourceManager.held_of g.R.ResourceManager.scan_of g.R.ResourceManager.in_doubt_of g.L.DecisionLog.moment in
     let p = c.args.self.now in
     sound_book see p c.requires
 
 pub returns-in-Ok : goal.returns-in-Ok
 returns-in-Ok g c =
-    let see : Sees g.row.R.Denot g.row.L.Denot = sees g.R.ResourceManager.held_of g.R.ResourceManager.scan_of g.R.ResourceManager.in_doubt_of g.L.DecisionLog.moment in
+    let see : Sees g.row.R.Denot g.row.L.Denot =
+    sees g.R.ResourceManager.held_of g.R.ResourceManager.scan_of g.R.ResourceManager.in_doubt_of g.L.DecisionLog.moment in
     let p = c.args.self.now in
     settle_did see p c.settle.new.self c.args.gtrid c.new.result c.new.ensures c.in-Ok.ensures.allowed c.in-Ok.ensures.ok
     (log_called see.moment _ _ p.manager c.settle.new.self c.in-Ok.ensures.asks c.in-Ok.ensures.tied)
 
 pub returns-in-Err : goal.returns-in-Err
 returns-in-Err g c =
-    let see : Sees g.row.R.Denot g.row.L.Denot = sees g.R.ResourceManager.held_of g.R.ResourceManager.scan_of g.R.ResourceManager.in_doubt_of g.L.DecisionLog.moment in
+    let see : Sees g.row.R.Denot g.row.L.Denot =
+    sees g.R.ResourceManager.held_of g.R.ResourceManager.scan_of g.R.ResourceManager.in_doubt_of g.L.DecisionLog.moment in
     let p = c.args.self.now in
     manager_undone see {A = Unit {0}} (Steps.Settle c.args.gtrid) (InDecide c.args.gtrid)
     (Adds c.args.gtrid (voted_yes (book_in p.manager) c.args.gtrid))
-    (made (Adds c.args.gtrid (voted_yes (book_in p.manager) c.args.gtrid))) p c.in-Err.refusal c.undone.new.sites c.undone.new.lines c.settle.new.self c.undone.result tt tt (λ tr. refl) (λ tr. tt) refl
+    (made (Adds c.args.gtrid (voted_yes (book_in p.manager) c.args.gtrid))) p c.in-Err.refusal c.undone.new.sites c.undone.new.lines c.settle.new.self
+    c.undone.result tt tt (λ tr. refl) (λ tr. tt) refl
     (λ tr. up_where tr (Steps.Settle c.args.gtrid) refl)
     (λ tr at. ap (λ (k : Book). Adds c.args.gtrid (voted_yes k c.args.gtrid)) at ∙ decision_asks tr c.args.gtrid)
     (λ tr at free e. row_is_asked tr c.args.gtrid Outcomes.Commit at
-    (c.in-Err.ensures.asked free (ap (λ (m : Refusal). let x : Result (Unit {0}) Refusal = Err m in x) e))) c.undone.ensures.reply c.in-Err.ensures.refused c.in-Err.ensures.err c.undone.ensures.failed c.undone.ensures.broken c.undone.ensures.sites_stay c.undone.ensures.lines_stay
+    (c.in-Err.ensures.asked free (ap (λ (m : Refusal). let x : Result (Unit {0}) Refusal = Err m in x) e))) c.undone.ensures.reply c.in-Err.ensures.refused
+    c.in-Err.ensures.err c.undone.ensures.failed c.undone.ensures.broken c.undone.ensures.sites_stay c.undone.ensures.lines_stay
     (λ tr d at. ap (λ (k : Book). made (Adds c.args.gtrid (voted_yes k c.args.gtrid)) d) at ∙ ap (λ e. made e d) (decision_asks tr c.args.gtrid))
     (log_undone see.moment c.in-Err.refusal _ p.manager c.settle.new.self c.in-Err.ensures.asks c.in-Err.ensures.tied c.in-Err.ensures.kept)

@@ -8,7 +8,8 @@ use Rattle.xa_system.proofs.system.System.give_log.Goals as goal
 
 pub returns-clause-only_other_rows : goal.returns-clause-only_other_rows
 returns-clause-only_other_rows g c =
-    let see : Observes g.row.R.Denot g.row.L.Denot = observes g.R.ResourceManager.held_of g.R.ResourceManager.scan_of g.R.ResourceManager.in_doubt_of g.L.DecisionLog.moment in
+    let see : Observes g.row.R.Denot g.row.L.Denot =
+    observes g.R.ResourceManager.held_of g.R.ResourceManager.scan_of g.R.ResourceManager.in_doubt_of g.L.DecisionLog.moment in
     let tr = trace_in see.look (seen c.self.inside) in
     if_err c.give_log-given.result _ _ (λ e only is order honest content held may.
     only is order honest content held

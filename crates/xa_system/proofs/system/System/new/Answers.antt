@@ -19,13 +19,30 @@ invariant_of-result g c =
     let lines : c.in-Ok-new.lines ≡ new_grid c.args.threads (length c.args.rms.items) =
     c.in-Ok-new.ensures ∙ ap (new_grid c.args.threads) (c.len-2.ensures ∙ c.args.rms.ok.0) in
     let rms = c.rms.ensures.value ∙ ap (λ (g : Grid). g.rms) lines in
-    let first : IsStarted c.args.threads (length c.args.rms.items) started = subst (λ n. IsStarted c.args.threads n started) rms c.in_ok-manager.ensures.manager in
+    let first : IsStarted c.args.threads (length c.args.rms.items) started =
+    subst (λ n. IsStarted c.args.threads n started) rms c.in_ok-manager.ensures.manager in
     let over : IsStartedOver moment c.args.threads (length c.args.rms.items) c.args.log started =
     subst (λ n. IsStartedOver moment c.args.threads n c.args.log started) rms c.in_ok-manager.ensures.log in
     let manager = c.into_slot-manager.result in
-    let slot : IsInSlot (slot_moment moment) moment started manager = in_slot moment started manager c.into_slot-manager.ensures.log c.into_slot-manager.ensures.book c.into_slot-manager.ensures.rows c.into_slot-manager.ensures.records in
+    let slot : IsInSlot (slot_moment moment) moment started manager =
+    in_slot moment started manager c.into_slot-manager.ensures.log c.into_slot-manager.ensures.book c.into_slot-manager.ensures.rows
+    c.into_slot-manager.ensures.records in
     new_sound _ moment c.args.threads c.args.rms.items started manager clear slot first
-    (record { first = c.of-first.result; handed = c.of-handed.result; parts = record { alloc = c.args.alloc; start = c.of-start.result; began = c.of-began.result; sites = c.in-Ok-sites_of.sites; lines = c.in-Ok-new.lines; manager = manager }; events = c.in-Ok.events }) some (ap (λ (v : Vec g.row.R.Denot Global). v.items) c.of-start.ensures) c.of-began.ensures refl c.in-Ok-sites_of.ensures lines c.in-Ok.ensures.items c.in-Ok.ensures.len c.in-Ok.ensures.exact c.args.log c.of-first.ensures c.of-handed.ensures over
+    (record {
+      first = c.of-first.result;
+      handed = c.of-handed.result;
+      parts = record {
+        alloc = c.args.alloc;
+        start = c.of-start.result;
+        began = c.of-began.result;
+        sites = c.in-Ok-sites_of.sites;
+        lines = c.in-Ok-new.lines;
+        manager = manager;
+      };
+      events = c.in-Ok.events;
+    }) some
+    (ap (λ (v : Vec g.row.R.Denot Global). v.items) c.of-start.ensures) c.of-began.ensures refl c.in-Ok-sites_of.ensures lines c.in-Ok.ensures.items
+    c.in-Ok.ensures.len c.in-Ok.ensures.exact c.args.log c.of-first.ensures c.of-handed.ensures over
 
 pub returns-clause-ok : goal.returns-clause-ok
 returns-clause-ok g c =
@@ -40,31 +57,36 @@ returns-clause-ok g c =
 
 pub returns-in_default-clause-not_clear : goal.returns-in_default-clause-not_clear
 returns-in_default-clause-not_clear g c size un =
-    let see : Observes g.row.R.Denot g.row.L.Denot = observes g.R.ResourceManager.held_of g.R.ResourceManager.scan_of g.R.ResourceManager.in_doubt_of g.L.DecisionLog.moment in
+    let see : Observes g.row.R.Denot g.row.L.Denot =
+    observes g.R.ResourceManager.held_of g.R.ResourceManager.scan_of g.R.ResourceManager.in_doubt_of g.L.DecisionLog.moment in
     let clear = rw c.as_slice.ensures.value at (c.if-not-are_clear.ensures.clear refl) in
     absurd (not_both see.look c.args.rms.items clear un)
 
 pub returns-in_default-new-clause-not_clear : goal.returns-in_default-new-clause-not_clear
 returns-in_default-new-clause-not_clear g c size un =
-    let see : Observes g.row.R.Denot g.row.L.Denot = observes g.R.ResourceManager.held_of g.R.ResourceManager.scan_of g.R.ResourceManager.in_doubt_of g.L.DecisionLog.moment in
+    let see : Observes g.row.R.Denot g.row.L.Denot =
+    observes g.R.ResourceManager.held_of g.R.ResourceManager.scan_of g.R.ResourceManager.in_doubt_of g.L.DecisionLog.moment in
     let clear = rw c.as_slice.ensures.value at (c.if-not-are_clear.ensures.clear refl) in
     absurd (not_both see.look c.args.rms.items clear un)
 
 pub returns-in_default-sites_of-clause-not_clear : goal.returns-in_default-sites_of-clause-not_clear
 returns-in_default-sites_of-clause-not_clear g c size un =
-    let see : Observes g.row.R.Denot g.row.L.Denot = observes g.R.ResourceManager.held_of g.R.ResourceManager.scan_of g.R.ResourceManager.in_doubt_of g.L.DecisionLog.moment in
+    let see : Observes g.row.R.Denot g.row.L.Denot =
+    observes g.R.ResourceManager.held_of g.R.ResourceManager.scan_of g.R.ResourceManager.in_doubt_of g.L.DecisionLog.moment in
     let clear = rw c.as_slice.ensures.value at (c.if-not-are_clear.ensures.clear refl) in
     absurd (not_both see.look c.args.rms.items clear un)
 
 pub returns-clause-not_clear : goal.returns-clause-not_clear
 returns-clause-not_clear g c size un =
-    let see : Observes g.row.R.Denot g.row.L.Denot = observes g.R.ResourceManager.held_of g.R.ResourceManager.scan_of g.R.ResourceManager.in_doubt_of g.L.DecisionLog.moment in
+    let see : Observes g.row.R.Denot g.row.L.Denot =
+    observes g.R.ResourceManager.held_of g.R.ResourceManager.scan_of g.R.ResourceManager.in_doubt_of g.L.DecisionLog.moment in
     let clear = rw c.as_slice.ensures.value at (c.if-not-are_clear.ensures.clear refl) in
     absurd (not_both see.look c.args.rms.items clear un)
 
 pub returns-in_err-manager-clause-not_clear : goal.returns-in_err-manager-clause-not_clear
 returns-in_err-manager-clause-not_clear g c size un =
-    let see : Observes g.row.R.Denot g.row.L.Denot = observes g.R.ResourceManager.held_of g.R.ResourceManager.scan_of g.R.ResourceManager.in_doubt_of g.L.DecisionLog.moment in
+    let see : Observes g.row.R.Denot g.row.L.Denot =
+    observes g.R.ResourceManager.held_of g.R.ResourceManager.scan_of g.R.ResourceManager.in_doubt_of g.L.DecisionLog.moment in
     let clear = rw c.as_slice.ensures.value at (c.if-not-are_clear.ensures.clear refl) in
     absurd (not_both see.look c.args.rms.items clear un)
 
@@ -100,9 +122,12 @@ returns-clause-near g c order h =
     let lines : c.in-Ok-new.lines ≡ new_grid c.args.threads (length c.args.rms.items) =
     c.in-Ok-new.ensures ∙ ap (new_grid c.args.threads) (c.len-2.ensures ∙ c.args.rms.ok.0) in
     let rms = c.rms.ensures.value ∙ ap (λ (g : Grid). g.rms) lines in
-    let first : IsStarted c.args.threads (length c.args.rms.items) started = subst (λ n. IsStarted c.args.threads n started) rms c.in_ok-manager.ensures.manager in
+    let first : IsStarted c.args.threads (length c.args.rms.items) started =
+    subst (λ n. IsStarted c.args.threads n started) rms c.in_ok-manager.ensures.manager in
     let over : IsStartedOver moment c.args.threads (length c.args.rms.items) c.args.log started =
     subst (λ n. IsStartedOver moment c.args.threads n c.args.log started) rms c.in_ok-manager.ensures.log in
     let manager = c.into_slot-manager.result in
-    let slot : IsInSlot (slot_moment moment) moment started manager = in_slot moment started manager c.into_slot-manager.ensures.log c.into_slot-manager.ensures.book c.into_slot-manager.ensures.rows c.into_slot-manager.ensures.records in
+    let slot : IsInSlot (slot_moment moment) moment started manager =
+    in_slot moment started manager c.into_slot-manager.ensures.log c.into_slot-manager.ensures.book c.into_slot-manager.ensures.rows
+    c.into_slot-manager.ensures.records in
     new_may_restart _ moment c.args.threads c.args.rms.items started manager clear slot first _ (invariant_of-result g c) refl c.args.log over order h

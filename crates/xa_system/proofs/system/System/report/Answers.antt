@@ -5,12 +5,14 @@ use Rattle.xa_system.proofs.system.System.report.Goals as goal
 
 pub loop-branch-preserved : goal.loop-branch-preserved
 loop-branch-preserved g c =
-    let see : Observes g.row.R.Denot g.row.L.Denot = observes g.R.ResourceManager.held_of g.R.ResourceManager.scan_of g.R.ResourceManager.in_doubt_of g.L.DecisionLog.moment in
+    let see : Observes g.row.R.Denot g.row.L.Denot =
+    observes g.R.ResourceManager.held_of g.R.ResourceManager.scan_of g.R.ResourceManager.in_doubt_of g.L.DecisionLog.moment in
     let xs = c.deref-branch-items.result.now in
     let i = c.loop-branch.branch-index in
     let low : i < length xs = omega (arith, c.loop-branch-test.true) in
     let own =
-    own_at _ _ c.self.inside c.self.invariant c.args.self.now c.self.view_is xs c.in_ok-branches.branches.items i _ c.deref-branch-items.ensures.value c.in_ok-branches.ensures.all low in
+    own_at _ _ c.self.inside c.self.invariant c.args.self.now c.self.view_is xs c.in_ok-branches.branches.items i _ c.deref-branch-items.ensures.value
+    c.in_ok-branches.ensures.all low in
     record {
       listed =
           one_more (trace_in see.look c.args.self.now) xs i _ c.loop-branch.list.items _ c.xid-xid.result c.fate-fate.result low c.loop-branch.invariant.listed
@@ -21,7 +23,8 @@ loop-branch-preserved g c =
 
 pub returns-clause-in_order : goal.returns-clause-in_order
 returns-clause-in_order g c =
-    let see : Observes g.row.R.Denot g.row.L.Denot = observes g.R.ResourceManager.held_of g.R.ResourceManager.scan_of g.R.ResourceManager.in_doubt_of g.L.DecisionLog.moment in
+    let see : Observes g.row.R.Denot g.row.L.Denot =
+    observes g.R.ResourceManager.held_of g.R.ResourceManager.scan_of g.R.ResourceManager.in_doubt_of g.L.DecisionLog.moment in
     let xs = c.deref-branch-items.result.now in
     let i = c.loop-branch.branch-index in
     let past : length xs ≤ i = omega (arith, c.loop-branch-test.false) in
@@ -30,7 +33,8 @@ returns-clause-in_order g c =
 
 pub returns-clause-listed : goal.returns-clause-listed
 returns-clause-listed g c =
-    let see : Observes g.row.R.Denot g.row.L.Denot = observes g.R.ResourceManager.held_of g.R.ResourceManager.scan_of g.R.ResourceManager.in_doubt_of g.L.DecisionLog.moment in
+    let see : Observes g.row.R.Denot g.row.L.Denot =
+    observes g.R.ResourceManager.held_of g.R.ResourceManager.scan_of g.R.ResourceManager.in_doubt_of g.L.DecisionLog.moment in
     let xs = c.deref-branch-items.result.now in
     let i = c.loop-branch.branch-index in
     let past : length xs ≤ i = omega (arith, c.loop-branch-test.false) in

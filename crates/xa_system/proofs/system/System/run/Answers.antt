@@ -22,7 +22,8 @@ loop-step-preserved g c =
       start = step.start ∙ so_far.start;
       handed = (step.handed.0 ∙ so_far.handed.0, step.handed.1 ∙ so_far.handed.1, step.handed.2 ∙ so_far.handed.2);
       honest = λ h. so_far.honest (step.honest h);
-      near = λ order honest may. step.near (subst (λ l. (moment l).is_in_order) (sym so_far.handed.0) order) honest (so_far.near order (step.honest honest) may);
+      near = λ order honest may. step.near (subst (λ l. (moment l).is_in_order) (sym so_far.handed.0) order) honest
+          (so_far.near order (step.honest honest) may);
       faults = λ order honest may.
           causes_chain c.args.self.now.events c.loop-step.self.events c.step-reply.new.self.events _
           (slot_moment moment c.args.self.now.log).fault_count (slot_moment moment c.loop-step.self.log).fault_count

@@ -19,5 +19,6 @@ invariant-loop-step g l = record {
       → MayRestart (observes g.R.ResourceManager.held_of g.R.ResourceManager.scan_of g.R.ResourceManager.in_doubt_of g.L.DecisionLog.moment) l.self;
   faults : (g.L.DecisionLog.moment l.fn.self.handed).is_in_order → (slot_moment g.L.DecisionLog.moment l.self.log).is_honest
       → MayRestart (observes g.R.ResourceManager.held_of g.R.ResourceManager.scan_of g.R.ResourceManager.in_doubt_of g.L.DecisionLog.moment) l.fn.self
-      → FaultsHaveCauses (observes g.R.ResourceManager.held_of g.R.ResourceManager.scan_of g.R.ResourceManager.in_doubt_of g.L.DecisionLog.moment) l.fn.self l.self;
+      → FaultsHaveCauses (observes g.R.ResourceManager.held_of g.R.ResourceManager.scan_of g.R.ResourceManager.in_doubt_of g.L.DecisionLog.moment) l.fn.self
+      l.self;
 }

@@ -15,24 +15,28 @@ use Rattle.xa_system.proofs.system.System.step.Goals as goal
 pub returns-then-len-ge-EVENT_LIMIT-clause-parts :
     goal.returns-then-len-ge-EVENT_LIMIT-clause-parts
 returns-then-len-ge-EVENT_LIMIT-clause-parts g c =
-    let see : Observes g.row.R.Denot g.row.L.Denot = observes g.R.ResourceManager.held_of g.R.ResourceManager.scan_of g.R.ResourceManager.in_doubt_of g.L.DecisionLog.moment in
+    let see : Observes g.row.R.Denot g.row.L.Denot =
+    observes g.R.ResourceManager.held_of g.R.ResourceManager.scan_of g.R.ResourceManager.in_doubt_of g.L.DecisionLog.moment in
     subst (λ v. HoldsItsTrace see v) c.self.view_is (holds _ _ c.self.inside c.self.invariant)
 
 pub step-requires-clause-stands : goal.step-requires-clause-stands
 step-requires-clause-stands g c =
-    let see : Observes g.row.R.Denot g.row.L.Denot = observes g.R.ResourceManager.held_of g.R.ResourceManager.scan_of g.R.ResourceManager.in_doubt_of g.L.DecisionLog.moment in
+    let see : Observes g.row.R.Denot g.row.L.Denot =
+    observes g.R.ResourceManager.held_of g.R.ResourceManager.scan_of g.R.ResourceManager.in_doubt_of g.L.DecisionLog.moment in
     somewhere _ _ c.self.inside c.self.invariant (rw c.len.ensures at c.if-len-ge-EVENT_LIMIT.false)
 
 pub invariant_of-self : goal.invariant_of-self
 invariant_of-self g c =
-    let see : Observes g.row.R.Denot g.row.L.Denot = observes g.R.ResourceManager.held_of g.R.ResourceManager.scan_of g.R.ResourceManager.in_doubt_of g.L.DecisionLog.moment in
+    let see : Observes g.row.R.Denot g.row.L.Denot =
+    observes g.R.ResourceManager.held_of g.R.ResourceManager.scan_of g.R.ResourceManager.in_doubt_of g.L.DecisionLog.moment in
     sound_then _ _ c.self.inside c.step.new.self c.push_reserved.new.self c.args.step c.step.result c.split-reply.result.1 c.self.invariant c.step.ensures.goes
     (ap (λ p. p.1) c.split-reply.ensures)
     (rw c.len.ensures at c.if-len-ge-EVENT_LIMIT.false) c.push_reserved.ensures.len c.push_reserved.ensures.items c.push_reserved.ensures.capacity
 
 pub returns-clause-demanded : goal.returns-clause-demanded
 returns-clause-demanded g c few =
-    let see : Observes g.row.R.Denot g.row.L.Denot = observes g.R.ResourceManager.held_of g.R.ResourceManager.scan_of g.R.ResourceManager.in_doubt_of g.L.DecisionLog.moment in
+    let see : Observes g.row.R.Denot g.row.L.Denot =
+    observes g.R.ResourceManager.held_of g.R.ResourceManager.scan_of g.R.ResourceManager.in_doubt_of g.L.DecisionLog.moment in
     subst (λ r. Demanded (trace_in see.look c.args.self.now) (step_of c.args.step) (reply_of r)) (sym (ap (λ p. p.0) c.split-reply.ensures))
     (subst (λ v. Demanded (trace_in see.look v) (step_of c.args.step) (reply_of c.step.result)) c.self.view_is
     (was_demanded _ _ c.self.inside c.step.new.self c.args.step c.step.result c.self.invariant c.step.ensures.goes
@@ -40,34 +44,54 @@ returns-clause-demanded g c few =
 
 pub returns-clause-parts : goal.returns-clause-parts
 returns-clause-parts g c =
-    let see : Observes g.row.R.Denot g.row.L.Denot = observes g.R.ResourceManager.held_of g.R.ResourceManager.scan_of g.R.ResourceManager.in_doubt_of g.L.DecisionLog.moment in
-    holds _ _ _ (sound_then _ _ c.self.inside c.step.new.self c.push_reserved.new.self c.args.step c.step.result c.split-reply.result.1 c.self.invariant c.step.ensures.goes (ap (λ p. p.1) c.split-reply.ensures) (rw c.len.ensures at c.if-len-ge-EVENT_LIMIT.false) c.push_reserved.ensures.len c.push_reserved.ensures.items c.push_reserved.ensures.capacity)
+    let see : Observes g.row.R.Denot g.row.L.Denot =
+    observes g.R.ResourceManager.held_of g.R.ResourceManager.scan_of g.R.ResourceManager.in_doubt_of g.L.DecisionLog.moment in
+    holds _ _ _ (sound_then _ _ c.self.inside c.step.new.self c.push_reserved.new.self c.args.step c.step.result c.split-reply.result.1 c.self.invariant
+    c.step.ensures.goes (ap (λ p. p.1) c.split-reply.ensures) (rw c.len.ensures at c.if-len-ge-EVENT_LIMIT.false) c.push_reserved.ensures.len
+    c.push_reserved.ensures.items c.push_reserved.ensures.capacity)
 
 pub returns-clause-start : goal.returns-clause-start
 returns-clause-start g c =
-    let see : Observes g.row.R.Denot g.row.L.Denot = observes g.R.ResourceManager.held_of g.R.ResourceManager.scan_of g.R.ResourceManager.in_doubt_of g.L.DecisionLog.moment in
-    subst (λ v. origin_in see.look (seen (record { first = c.self.inside.first; handed = c.self.inside.handed; parts = c.step.new.self; events = c.push_reserved.new.self })) ≡ origin_in see.look v) c.self.view_is
-    (start_kept _ _ c.self.inside c.step.new.self c.args.step c.step.result c.self.invariant c.step.ensures.goes (rw c.len.ensures at c.if-len-ge-EVENT_LIMIT.false))
+    let see : Observes g.row.R.Denot g.row.L.Denot =
+    observes g.R.ResourceManager.held_of g.R.ResourceManager.scan_of g.R.ResourceManager.in_doubt_of g.L.DecisionLog.moment in
+    subst (λ v. origin_in see.look (seen (record {
+      first = c.self.inside.first;
+      handed = c.self.inside.handed;
+      parts = c.step.new.self;
+      events = c.push_reserved.new.self;
+    })) ≡ origin_in see.look v) c.self.view_is
+    (start_kept _ _ c.self.inside c.step.new.self c.args.step c.step.result c.self.invariant c.step.ensures.goes
+    (rw c.len.ensures at c.if-len-ge-EVENT_LIMIT.false))
 
 pub returns-clause-honest : goal.returns-clause-honest
 returns-clause-honest g c =
-    let see : Observes g.row.R.Denot g.row.L.Denot = observes g.R.ResourceManager.held_of g.R.ResourceManager.scan_of g.R.ResourceManager.in_doubt_of g.L.DecisionLog.moment in
+    let see : Observes g.row.R.Denot g.row.L.Denot =
+    observes g.R.ResourceManager.held_of g.R.ResourceManager.scan_of g.R.ResourceManager.in_doubt_of g.L.DecisionLog.moment in
     subst (λ v. (see.place (log_in c.step.new.self.manager)).is_honest → (see.place v.log).is_honest) c.self.view_is
     (honest_before _ _ c.self.inside c.step.new.self c.args.step c.step.result c.self.invariant c.step.ensures.goes
     (rw c.len.ensures at c.if-len-ge-EVENT_LIMIT.false))
 
 pub returns-clause-faults : goal.returns-clause-faults
 returns-clause-faults g c =
-    let see : Observes g.row.R.Denot g.row.L.Denot = observes g.R.ResourceManager.held_of g.R.ResourceManager.scan_of g.R.ResourceManager.in_doubt_of g.L.DecisionLog.moment in
+    let see : Observes g.row.R.Denot g.row.L.Denot =
+    observes g.R.ResourceManager.held_of g.R.ResourceManager.scan_of g.R.ResourceManager.in_doubt_of g.L.DecisionLog.moment in
     subst (λ v. (see.moment v.handed).is_in_order → (see.place (log_in c.step.new.self.manager)).is_honest
-    → MayRestart see v → FaultsHaveCauses see v (seen (record { first = c.self.inside.first; handed = c.self.inside.handed; parts = c.step.new.self; events = c.push_reserved.new.self }))) c.self.view_is
-    (fault_has_cause _ _ c.self.inside c.step.new.self c.push_reserved.new.self c.args.step c.step.result c.split-reply.result.1 c.self.invariant c.step.ensures.goes (ap (λ p. p.1) c.split-reply.ensures) (rw c.len.ensures at c.if-len-ge-EVENT_LIMIT.false) c.push_reserved.ensures.items)
+    → MayRestart see v → FaultsHaveCauses see v (seen (record {
+      first = c.self.inside.first;
+      handed = c.self.inside.handed;
+      parts = c.step.new.self;
+      events = c.push_reserved.new.self;
+    }))) c.self.view_is
+    (fault_has_cause _ _ c.self.inside c.step.new.self c.push_reserved.new.self c.args.step c.step.result c.split-reply.result.1 c.self.invariant
+    c.step.ensures.goes (ap (λ p. p.1) c.split-reply.ensures) (rw c.len.ensures at c.if-len-ge-EVENT_LIMIT.false) c.push_reserved.ensures.items)
 
 pub returns-clause-handed : goal.returns-clause-handed
 returns-clause-handed g c = (
   ap (λ v. v.handed) c.self.view_is,
   ap (λ v. v.first) c.self.view_is,
-  let began : log_in c.step.new.self.began.value ≡ log_in c.self.inside.parts.began.value = began_kept _ _ c.self.inside c.step.new.self c.args.step c.step.result c.self.invariant c.step.ensures.goes (rw c.len.ensures at c.if-len-ge-EVENT_LIMIT.false) in
+  let began : log_in c.step.new.self.began.value ≡ log_in c.self.inside.parts.began.value =
+      began_kept _ _ c.self.inside c.step.new.self c.args.step c.step.result c.self.invariant c.step.ensures.goes
+      (rw c.len.ensures at c.if-len-ge-EVENT_LIMIT.false) in
       began ∙ ap (λ v. v.begun) c.self.view_is,
 )
 
@@ -78,7 +102,8 @@ returns-then-len-ge-EVENT_LIMIT-clause-faults g c order honest may = inr (omega 
 pub returns-then-len-ge-EVENT_LIMIT-clause-refused :
     goal.returns-then-len-ge-EVENT_LIMIT-clause-refused
 returns-then-len-ge-EVENT_LIMIT-clause-refused g c n is other =
-    let see : Observes g.row.R.Denot g.row.L.Denot = observes g.R.ResourceManager.held_of g.R.ResourceManager.scan_of g.R.ResourceManager.in_doubt_of g.L.DecisionLog.moment in
+    let see : Observes g.row.R.Denot g.row.L.Denot =
+    observes g.R.ResourceManager.held_of g.R.ResourceManager.scan_of g.R.ResourceManager.in_doubt_of g.L.DecisionLog.moment in
     record { rms = λ r rm at. (rm, at, stays_same see.look rm); lines = λ t r has. refl; log = refl }
 
 pub returns-then-len-ge-EVENT_LIMIT-clause-nothing :
@@ -87,8 +112,14 @@ returns-then-len-ge-EVENT_LIMIT-clause-nothing g c n is other = refl
 
 pub returns-clause-refused : goal.returns-clause-refused
 returns-clause-refused g c n is other =
-    let see : Observes g.row.R.Denot g.row.L.Denot = observes g.R.ResourceManager.held_of g.R.ResourceManager.scan_of g.R.ResourceManager.in_doubt_of g.L.DecisionLog.moment in
-    subst (λ v. IsAsBefore see v (seen (record { first = c.self.inside.first; handed = c.self.inside.handed; parts = c.step.new.self; events = c.push_reserved.new.self }))) c.self.view_is
+    let see : Observes g.row.R.Denot g.row.L.Denot =
+    observes g.R.ResourceManager.held_of g.R.ResourceManager.scan_of g.R.ResourceManager.in_doubt_of g.L.DecisionLog.moment in
+    subst (λ v. IsAsBefore see v (seen (record {
+      first = c.self.inside.first;
+      handed = c.self.inside.handed;
+      parts = c.step.new.self;
+      events = c.push_reserved.new.self;
+    }))) c.self.view_is
     (as_before _ _ c.self.inside c.step.new.self c.push_reserved.new.self c.args.step c.step.result c.self.invariant c.step.ensures.goes
     (rw c.len.ensures at c.if-len-ge-EVENT_LIMIT.false) n (sym (ap (λ p. p.0) c.split-reply.ensures) ∙ is) other)
 
@@ -98,14 +129,16 @@ returns-clause-nothing g c n is other =
 
 pub returns-clause-down : goal.returns-clause-down
 returns-clause-down g c is =
-    let see : Observes g.row.R.Denot g.row.L.Denot = observes g.R.ResourceManager.held_of g.R.ResourceManager.scan_of g.R.ResourceManager.in_doubt_of g.L.DecisionLog.moment in
+    let see : Observes g.row.R.Denot g.row.L.Denot =
+    observes g.R.ResourceManager.held_of g.R.ResourceManager.scan_of g.R.ResourceManager.in_doubt_of g.L.DecisionLog.moment in
     down_after _ _ c.self.inside c.step.new.self c.push_reserved.new.self c.args.step c.step.result c.split-reply.result.1 c.self.invariant c.step.ensures.goes
     (ap (λ p. p.1) c.split-reply.ensures) (rw c.len.ensures at c.if-len-ge-EVENT_LIMIT.false) c.push_reserved.ensures.items
     (sym (ap (λ p. p.0) c.split-reply.ensures) ∙ is)
 
 pub returns-clause-failed : goal.returns-clause-failed
 returns-clause-failed g c is =
-    let see : Observes g.row.R.Denot g.row.L.Denot = observes g.R.ResourceManager.held_of g.R.ResourceManager.scan_of g.R.ResourceManager.in_doubt_of g.L.DecisionLog.moment in
+    let see : Observes g.row.R.Denot g.row.L.Denot =
+    observes g.R.ResourceManager.held_of g.R.ResourceManager.scan_of g.R.ResourceManager.in_doubt_of g.L.DecisionLog.moment in
     subst (λ v. (see.moment v.handed).is_in_order → (see.place (log_in c.step.new.self.manager)).is_honest
     → MayHaveFailed (trace_in see.look v) (log_failed (step_of c.args.step)) (see.place v.log).content
     (see.place (log_in c.step.new.self.manager)).content) c.self.view_is
@@ -114,16 +147,21 @@ returns-clause-failed g c is =
 
 pub returns-clause-near : goal.returns-clause-near
 returns-clause-near g c =
-    let see : Observes g.row.R.Denot g.row.L.Denot = observes g.R.ResourceManager.held_of g.R.ResourceManager.scan_of g.R.ResourceManager.in_doubt_of g.L.DecisionLog.moment in
-    subst (λ v. (see.moment v.handed).is_in_order → (see.place (log_in c.step.new.self.manager)).is_honest → MayRestart see v → MayRestart see (seen (record { first = c.self.inside.first; handed = c.self.inside.handed; parts = c.step.new.self; events = c.push_reserved.new.self }))) c.self.view_is
-    (restart_may_follow _ _ c.self.inside c.step.new.self c.push_reserved.new.self c.args.step c.step.result c.split-reply.result.1 c.self.invariant c.step.ensures.goes
+    let see : Observes g.row.R.Denot g.row.L.Denot =
+    observes g.R.ResourceManager.held_of g.R.ResourceManager.scan_of g.R.ResourceManager.in_doubt_of g.L.DecisionLog.moment in
+    subst (λ v. (see.moment v.handed).is_in_order → (see.place (log_in c.step.new.self.manager)).is_honest → MayRestart see v → MayRestart see
+    (seen (record { first = c.self.inside.first; handed = c.self.inside.handed; parts = c.step.new.self; events = c.push_reserved.new.self }))) c.self.view_is
+    (restart_may_follow _ _ c.self.inside c.step.new.self c.push_reserved.new.self c.args.step c.step.result c.split-reply.result.1 c.self.invariant
+    c.step.ensures.goes
     (ap (λ p. p.1) c.split-reply.ensures) (rw c.len.ensures at c.if-len-ge-EVENT_LIMIT.false) c.push_reserved.ensures.items)
 
 pub returns-clause-out : goal.returns-clause-out
 returns-clause-out g c none is few down =
-    let see : Observes g.row.R.Denot g.row.L.Denot = observes g.R.ResourceManager.held_of g.R.ResourceManager.scan_of g.R.ResourceManager.in_doubt_of g.L.DecisionLog.moment in
+    let see : Observes g.row.R.Denot g.row.L.Denot =
+    observes g.R.ResourceManager.held_of g.R.ResourceManager.scan_of g.R.ResourceManager.in_doubt_of g.L.DecisionLog.moment in
     let same = ap (λ p. p.0) c.split-reply.ensures in
-    let demanded = was_demanded _ _ c.self.inside c.step.new.self c.args.step c.step.result c.self.invariant c.step.ensures.goes (rw c.len.ensures at c.if-len-ge-EVENT_LIMIT.false) in
+    let demanded = was_demanded _ _ c.self.inside c.step.new.self c.args.step c.step.result c.self.invariant c.step.ensures.goes
+    (rw c.len.ensures at c.if-len-ge-EVENT_LIMIT.false) in
     subst IsFailed (sym same)
     (not_restarted (trace_in see.look (seen c.self.inside)) c.step.result
     (subst (λ s. Demanded (trace_in see.look (seen c.self.inside)) (step_of s) (reply_of c.step.result)) is demanded)
@@ -133,9 +171,11 @@ returns-clause-out g c none is few down =
 
 pub returns-clause-other_incarnation : goal.returns-clause-other_incarnation
 returns-clause-other_incarnation g c content is few down order honest holds other =
-    let see : Observes g.row.R.Denot g.row.L.Denot = observes g.R.ResourceManager.held_of g.R.ResourceManager.scan_of g.R.ResourceManager.in_doubt_of g.L.DecisionLog.moment in
+    let see : Observes g.row.R.Denot g.row.L.Denot =
+    observes g.R.ResourceManager.held_of g.R.ResourceManager.scan_of g.R.ResourceManager.in_doubt_of g.L.DecisionLog.moment in
     let same = ap (λ p. p.0) c.split-reply.ensures in
-    let demanded = was_demanded _ _ c.self.inside c.step.new.self c.args.step c.step.result c.self.invariant c.step.ensures.goes (rw c.len.ensures at c.if-len-ge-EVENT_LIMIT.false) in
+    let demanded = was_demanded _ _ c.self.inside c.step.new.self c.args.step c.step.result c.self.invariant c.step.ensures.goes
+    (rw c.len.ensures at c.if-len-ge-EVENT_LIMIT.false) in
     let as_restart = subst (λ s. Demanded (trace_in see.look (seen c.self.inside)) (step_of s) (reply_of c.step.result)) is demanded in
     let in_order = c.self.invariant.log.order (subst (λ v. (see.moment v.handed).is_in_order) (sym c.self.view_is) order) in
     let held = subst (λ v. (see.place v.log).content ≡ Some content) (sym c.self.view_is) holds in
