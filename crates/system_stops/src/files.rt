@@ -7,11 +7,11 @@ use sqlite_disk::{Crash, Disk, Fuse, Memory};
 use std::alloc::Global;
 use xa_log::{DecisionLog, SqlLog};
 
-/// With little memory for pages, so that a run is short.
+/// With little memory for pages, so that a run is short, and little room in the journal, so that the database is written too.
 const OPTIONS: Options = Options {
     cache_pages: 16,
     spill_pages: 16,
-    checkpoint_frames: 1000,
+    checkpoint_frames: 4,
     seed: 7,
 };
 
