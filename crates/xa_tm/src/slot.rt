@@ -5,7 +5,7 @@ ghost use Rattle.xa_log.specs.Contract.{one_more_fault};
 
 use std::snapshot::Snapshot;
 use xa_base::{Branch, Gtrid, How};
-use xa_log::{DecisionLog, LogFault, LogRows, Logged};
+use xa_log::{DecisionLog, LogFault, LogRows, Logged, counted};
 
 /// A place for a decision log, which may be taken out and another put in.
 ///
@@ -24,8 +24,7 @@ fn without_log<T>(faults: &mut u64) -> Result<T, LogFault>
     ensures fault { result ≡ Err LogFault.Store }
     ensures count { faults.new ≡ one_more_fault faults.old }
 {
-    *faults = faults.saturating_add(1);
-    Err(LogFault::Store)
+    counted(faults, Err(LogFault::Store))
 }
 
 impl<L: Drop> Slot<L> {
