@@ -4,7 +4,7 @@ jars=/usr/share/java
 classes=$jars/btm.jar:$jars/slf4j-api.jar:$jars/slf4j-nop.jar:$jars/geronimo-jta-1.2-spec.jar:$jars/geronimo-jms_1.1_spec.jar
 
 # Compiles its program where all is there that it needs.
-if has "a Java development kit" default-jdk javac -version &&
+if has "a Java development kit" default-jdk command -v javac &&
     has "$jars/btm.jar" libbtm-java test -e "$jars/btm.jar" &&
     has "$jars/geronimo-jta-1.2-spec.jar" libgeronimo-jta-1.2-spec-java test -e "$jars/geronimo-jta-1.2-spec.jar" &&
     has "$jars/geronimo-jms_1.1_spec.jar" libgeronimo-jms-1.1-spec-java test -e "$jars/geronimo-jms_1.1_spec.jar" &&
