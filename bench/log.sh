@@ -1,4 +1,4 @@
-# Commits a second of the decision log, in memory and in a file, beside the C library sqlite3 with the same rows and calls.
+# Commits a second of the decision log, in memory and in a file, beside the C library sqlite3 with the same rows.
 
 # by_place WHO FILE: the figures of a program that tells its commits a second, and where.
 by_place() {
