@@ -21,11 +21,26 @@ has() {
     fi
 }
 
+# sources CRATE: the folders with what the program of a crate is built from, its own and those of the crates it rests on.
+sources() {
+    awk -F: -v crate="$1" '
+        function visit(name,   uses, count, i) {
+            if ((name in seen) || !(name in all)) return
+            seen[name] = 1
+            count = split(all[name], uses, " ")
+            for (i = 1; i <= count; i++) visit(uses[i])
+            print "crates/" name
+        }
+        !/^#/ { split($1, words, " "); all[words[1]] = $2 }
+        END { visit(crate) }
+    ' crates.txt
+}
+
 # build CRATE: proves and builds its program, where there is none or a source is newer.
 build() {
     program=crates/$1/out/$1
-    if [ -x "$program" ] && [ -z "$(find crates -name out -prune -o -type f \( -name '*.rt' -o -name '*.antt' \) \
-        -newer "$program" -print -quit)" ]; then
+    if [ -x "$program" ] && [ -z "$(sources "$1" | xargs -I '{}' find '{}' \( -name out -o -name tests \) -prune \
+        -o -type f \( -name '*.rt' -o -name '*.antt' \) -newer "$program" -print)" ]; then
         return 0
     fi
     command -v rt > /dev/null || stop "the command rt of the Rattle toolchain isn't on the PATH"
