@@ -3,7 +3,7 @@
 //! In a system of one thread and two resource managers, all in memory, 10, 100 or 900 transactions are begun and have a
 //! started branch at each resource manager. Beside them 100 more are begun, committed in two phases and done. Prints how
 //! many events there are in the end, and how many branches are committed. With the argument `time` it also prints how
-//! many steps a second the 100 took, which should not fall with the number of those beside them.
+//! many steps a second the 100 took, over many such systems, which should not fall with the number of those beside them.
 #![tactic(auto)]
 
 use anyhow::anyhow;
@@ -18,6 +18,9 @@ use xa_system::System;
 /// How many transactions are measured.
 const MEASURED: u32 = 100;
 
+/// How many systems do the same where they are timed.
+const ROUNDS: u32 = 30;
+
 /// How many resource managers there are.
 const RMS: u32 = 2;
 
@@ -25,8 +28,9 @@ type MemSystem = System<MemRm, MemLog>;
 
 fn main(rt: HostRuntime) -> anyhow::Result<()> {
     let timed = env::args(&rt)?.any(|arg| arg.as_str() == "time");
+    let rounds = if timed { ROUNDS } else { 1 };
     for beside in [10, 100, 900] {
-        let run = measured(&rt, beside)?;
+        let run = measured_in_rounds(&rt, beside, rounds)?;
         println!(rt;
             "{} events and {} committed branches beside {beside} transactions",
             run.events, run.committed
@@ -46,6 +50,17 @@ struct Run {
     committed: usize,
     steps: usize,
     micros: u128,
+}
+
+/// A run that is made so often, with the steps and the time of all of them.
+fn measured_in_rounds(rt: &HostRuntime, beside: u32, rounds: u32) -> anyhow::Result<Run> {
+    let mut all = measured(rt, beside)?;
+    for _ in 1..rounds {
+        let round = measured(rt, beside)?;
+        all.steps = all.steps.saturating_add(round.steps);
+        all.micros = all.micros.saturating_add(round.micros);
+    }
+    Ok(all)
 }
 
 /// Commits transactions in a new system, beside so many that are started.
