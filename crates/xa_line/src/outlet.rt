@@ -2,6 +2,7 @@
 ghost use Rattle.std.specs.Prelude.{◌≤◌, length};
 ghost use Rattle.rtrb.specs.Ring.{received};
 
+use crate::inlet::Inlet;
 use rtrb::Consumer;
 use std::snapshot::Snapshot;
 
@@ -16,9 +17,11 @@ pub struct Outlet<T> {
 impl<T> Outlet<T> {
     ghost use Rattle.std.specs.Prelude.{◌≡◌, ◌<◌, ◌∷◌, ◌++◌, [], length, IsSome, IfSome, IfNone};
     ghost use mathlib.Core.List.{IsPrefix};
-    ghost use Rattle.xa_line.specs.Queue.{SameOutlet, popped, seen};
+    ghost use Rattle.rtrb.specs.Ring.{received, sent};
+    ghost use Rattle.xa_line.specs.Queue.{AreEnds, SameInlet, SameOutlet, SeesAll, popped, seen};
 
     /// Takes the oldest item out, if one was seen.
+    #[inline]
     pub fn pop(&mut self) -> Option<T>
         ensures same { SameOutlet self.old self.new }
         ensures some { IfSome result (λ x. popped self.new ≡ popped self.old ++ x ∷ []) }
@@ -26,6 +29,21 @@ impl<T> Outlet<T> {
         ensures none { IfNone result ((popped self.new ≡ popped self.old) × (seen self.new ≡ [])) }
         ensures succeeds { 0 < length (seen self.old) → IsSome result }
     {
-        self.consumer.pop().ok()
+        if self.consumer.is_empty() {
+            return None;
+        }
+        Some(self.consumer.pop_known())
+    }
+
+    /// Sees all that went in. That takes both ends in one thread.
+    pub fn look(&mut self, inlet: &mut Inlet<T>)
+        requires { AreEnds inlet.old self.old }
+        ensures inlet { SameInlet inlet.old inlet.new ×
+            (sent inlet.new.producer ≡ sent inlet.old.producer) }
+        ensures outlet { SameOutlet self.old self.new ×
+            (received self.new.consumer ≡ received self.old.consumer) }
+        ensures seen { SeesAll inlet.new self.new }
+    {
+        self.consumer.slots_beside(&mut inlet.producer);
     }
 }
