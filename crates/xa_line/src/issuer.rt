@@ -28,7 +28,7 @@ impl Issuer {
     /// Lets a call wait, or says why it is refused, as [`Line::issue`](crate::Line::issue) does. Here `Full` says
     /// that no free place was seen: the other end may have taken a call meanwhile, so the same call may be
     /// accepted later.
-    #[inline]
+    #[inline(always)]
     pub fn issue(&mut self, call: Call) -> Result<(), Refusal>
         ensures same { SameIssuer self.old self.new }
         ensures reason { MatchOption (barred (issued_by self.old) call)
@@ -65,6 +65,10 @@ impl Issuer {
         ensures free { free_calls_of self.new ≡ free_calls_of self.old }
         ensures succeeds { 0 < length (seen_answers_of self.old) → IsSome result }
     {
-        self.answers.pop()
+        let answers = &mut self.answers.consumer;
+        if answers.is_empty() {
+            return None;
+        }
+        Some(answers.pop_known())
     }
 }

@@ -60,7 +60,7 @@ impl Line {
     /// - [`Refusal::NotOpen`]: no xa_open was issued since the line was new or renewed, and the call isn't one;
     /// - [`Refusal::Closed`]: xa_close was issued;
     /// - [`Refusal::Full`]: 64 calls wait.
-    #[inline]
+    #[inline(always)]
     pub fn issue(&mut self, call: Call) -> Result<(), Refusal>
         ensures reason { result_err result ≡ refusal self.old call }
         ensures accepted { OnOk result (self.new ≡

@@ -15,25 +15,9 @@ pub struct Outlet<T> {
 }
 
 impl<T> Outlet<T> {
-    ghost use Rattle.std.specs.Prelude.{◌≡◌, ◌<◌, ◌∷◌, ◌++◌, [], length, IsSome, IfSome, IfNone};
-    ghost use mathlib.Core.List.{IsPrefix};
+    ghost use Rattle.std.specs.Prelude.{◌≡◌};
     ghost use Rattle.rtrb.specs.Ring.{received, sent};
-    ghost use Rattle.xa_line.specs.Queue.{AreEnds, SameInlet, SameOutlet, SeesAll, popped, seen};
-
-    /// Takes the oldest item out, if one was seen.
-    #[inline]
-    pub fn pop(&mut self) -> Option<T>
-        ensures same { SameOutlet self.old self.new }
-        ensures some { IfSome result (λ x. popped self.new ≡ popped self.old ++ x ∷ []) }
-        ensures seen { IfSome result (λ x. IsPrefix (seen self.old) (x ∷ seen self.new)) }
-        ensures none { IfNone result ((popped self.new ≡ popped self.old) × (seen self.new ≡ [])) }
-        ensures succeeds { 0 < length (seen self.old) → IsSome result }
-    {
-        if self.consumer.is_empty() {
-            return None;
-        }
-        Some(self.consumer.pop_known())
-    }
+    ghost use Rattle.xa_line.specs.Queue.{AreEnds, SameInlet, SameOutlet, SeesAll};
 
     /// Sees all that went in. That takes both ends in one thread.
     pub fn look(&mut self, inlet: &mut Inlet<T>)

@@ -31,7 +31,11 @@ impl Taker {
         ensures free { free_answers_of self.new ≡ free_answers_of self.old }
         ensures succeeds { 0 < length (seen_calls_of self.old) → IsSome result }
     {
-        self.calls.pop()
+        let calls = &mut self.calls.consumer;
+        if calls.is_empty() {
+            return None;
+        }
+        Some(calls.pop_known())
     }
 
     /// Lets an answer wait, or gives it back with its call where no free place was seen. The same answer may be
