@@ -11,28 +11,30 @@ const TRIES: u32 = 1_000_000;
 /// Makes the hops one after another over a line that is open, each with the call that came back from the hop before.
 /// Says how many came back.
 pub fn hops_in_one_thread(line: &mut Line, call: Call, hops: u32) -> u32 {
-    let mut call = call;
+    if line.issue(call).is_err() {
+        return 0;
+    }
     for hop in 0..hops {
-        let Some(heard) = makes_hop(line, call) else {
+        if !makes_hop(line, hop + 1 < hops) {
             return hop;
-        };
-        call = heard;
+        }
     }
     hops
 }
 
-/// The call, once it went over the line and its answer came back.
+/// Whether the call that waits is taken, and its answer comes back. Where the call goes `on`, it is issued again.
 #[inline]
-fn makes_hop(line: &mut Line, call: Call) -> Option<Call> {
-    if line.issue(call).is_err() {
-        return None;
-    }
-    let taken = line.take()?;
+fn makes_hop(line: &mut Line, on: bool) -> bool {
+    let Some(taken) = line.take() else {
+        return false;
+    };
     if line.answer(taken, Answer::Ret(Code::Success)).is_err() {
-        return None;
+        return false;
     }
-    let (heard, _answer) = line.hear()?;
-    Some(heard)
+    let Some((heard, _answer)) = line.hear() else {
+        return false;
+    };
+    !on || line.issue(heard).is_ok()
 }
 
 /// Makes the hops over a line that is open, with its ends in two threads, and says how many came back. As many calls
@@ -62,49 +64,43 @@ fn hear_all(issuer: &mut Issuer, call: &Call, hops: u32) -> u32 {
         }
     }
     for heard in 0..hops {
-        let Some(again) = hears_one(issuer) else {
-            return heard;
-        };
-        if heard < hops - first && issuer.issue(again).is_err() {
+        if !hears_one(issuer, heard < hops - first) {
             return heard;
         }
     }
     hops
 }
 
-/// The call of the oldest answer, once there is one.
+/// Whether an answer is heard at last. Where its call goes `on`, it is issued again.
 #[inline]
-fn hears_one(issuer: &mut Issuer) -> Option<Call> {
+fn hears_one(issuer: &mut Issuer, on: bool) -> bool {
     for _ in 0..TRIES {
-        if let Some((call, _answer)) = issuer.hear() {
-            return Some(call);
+        if let Some((heard, _answer)) = issuer.hear() {
+            return !on || issuer.issue(heard).is_ok();
         }
         thread::yield_now();
     }
-    None
+    false
 }
 
 /// Takes the calls and answers them, and says how many were answered.
 fn answer_all(taker: &mut Taker, hops: u32) -> u32 {
     for answered in 0..hops {
-        let Some(call) = takes_one(taker) else {
-            return answered;
-        };
-        if taker.answer(call, Answer::Ret(Code::Success)).is_err() {
+        if !answers_one(taker) {
             return answered;
         }
     }
     hops
 }
 
-/// The oldest waiting call, once there is one.
+/// Whether a call is taken at last, and answered.
 #[inline]
-fn takes_one(taker: &mut Taker) -> Option<Call> {
+fn answers_one(taker: &mut Taker) -> bool {
     for _ in 0..TRIES {
         if let Some(call) = taker.take() {
-            return Some(call);
+            return taker.answer(call, Answer::Ret(Code::Success)).is_ok();
         }
         thread::yield_now();
     }
-    None
+    false
 }
