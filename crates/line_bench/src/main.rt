@@ -2,7 +2,7 @@
 //! heard.
 //!
 //! Prints how many hops were made in one thread, and how many between two. With the argument `time` it also prints how
-//! many they are a second.
+//! many they are a second, and makes more of them, so that the figures are steady.
 #![tactic(auto)]
 
 mod hops;
@@ -13,27 +13,22 @@ use std::time::Instant;
 use xa_base::{Branch, Call, Gtrid};
 use xa_line::Line;
 
+/// How many hops are made, and how many where they are timed.
+const HOPS: u32 = 200_000;
+
+const TIMED_HOPS: u32 = 3_000_000;
+
 fn main(rt: HostRuntime) -> anyhow::Result<()> {
     let timed = env::args(&rt)?.any(|arg| arg.as_str() == "time");
-    let call = Call::Prepare {
-        xid: Branch {
-            gtrid: Gtrid {
-                incarnation: 1,
-                sequence: 1,
-            },
-            thread: 0,
-            rm: 0,
-        }
-        .xid(),
-    };
+    let hops = if timed { TIMED_HOPS } else { HOPS };
     let mut line = Line::new(rt.alloc())?;
     line.issue(Call::OpenRm)?;
     let _open = line.take();
     let start = Instant::now(&rt)?;
-    let alone = hops_in_one_thread(&mut line, &call);
+    let alone = hops_in_one_thread(&mut line, prepare(), hops);
     let alone_micros = start.elapsed(&rt)?.as_micros();
     let start = Instant::now(&rt)?;
-    let between = hops_between_threads(&rt, line, &call);
+    let between = hops_between_threads(&rt, line, prepare(), hops);
     let between_micros = start.elapsed(&rt)?.as_micros();
     println!(rt; "{alone} hops in one thread")?;
     if timed {
@@ -44,6 +39,19 @@ fn main(rt: HostRuntime) -> anyhow::Result<()> {
         println!(rt; "{} a second", a_second(between, between_micros))?;
     }
     Ok(())
+}
+
+/// The call that is made: an xa_prepare.
+fn prepare() -> Call {
+    let branch = Branch {
+        gtrid: Gtrid {
+            incarnation: 1,
+            sequence: 1,
+        },
+        thread: 0,
+        rm: 0,
+    };
+    Call::Prepare { xid: branch.xid() }
 }
 
 /// How many hops a second these are.

@@ -36,8 +36,7 @@ module _ {T : Type 0} where
     pub capacity : producer_capacity e.producer ≡ places
     pub same_start : length (sent e.start.value) ≡ length (received x.start.value)
 
-  -- the two are in one thread, and each has seen all that the other did
-  pub record SeeEachOther (e : Inlet T) (x : Outlet T) : Type 0 where
+  -- the two are in one thread, and all that went in was seen where it comes out
+  pub record SeesAll (e : Inlet T) (x : Outlet T) : Type 0 where
     pub ends : AreEnds e x
     pub all_seen : received x.consumer ++ seen x ≡ sent e.producer
-    pub room : places ≤ free e + length (seen x)

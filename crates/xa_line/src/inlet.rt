@@ -3,7 +3,7 @@ ghost use Rattle.std.specs.Prelude.{◌≤◌, length};
 ghost use Rattle.rtrb.specs.Ring.{sent};
 
 use crate::outlet::Outlet;
-use rtrb::{Producer, PushError};
+use rtrb::Producer;
 use std::snapshot::Snapshot;
 
 /// The end of a queue that items go into. `start` remembers it as it was when the queue was new or renewed.
@@ -15,11 +15,14 @@ pub struct Inlet<T> {
 }
 
 impl<T> Inlet<T> {
-    ghost use Rattle.std.specs.Prelude.{◌≡◌, ◌<◌, ◌≤◌, ◌+◌, ◌∷◌, ◌++◌, [], IsOk, OnErr, OnOk, IfErr};
+    ghost use Rattle.std.specs.Prelude.{◌≡◌, ◌<◌, ◌≤◌, ◌↔◌, ◌+◌, ◌∷◌, ◌++◌, [], length};
+    ghost use Rattle.std.specs.Prelude.{IsOk, IsTrue, OnErr, OnOk, IfErr};
     ghost use Rattle.rtrb.specs.Ring.{received, sent};
-    ghost use Rattle.xa_line.specs.Queue.{AreEnds, SameInlet, SameOutlet, SeeEachOther, free, pushed};
+    ghost use Rattle.xa_line.specs.Queue.{AreEnds, SameInlet, SameOutlet, SeesAll, free, pushed, seen};
+    ghost use Rattle.xa_line.specs.Traffic.{places};
 
     /// Puts an item in, or gives it back where no free place was seen.
+    #[inline]
     pub fn push(&mut self, item: T) -> Result<(), T>
         ensures same { SameInlet self.old self.new }
         ensures ok { OnOk result (pushed self.new ≡ pushed self.old ++ item ∷ []) }
@@ -28,10 +31,33 @@ impl<T> Inlet<T> {
         ensures full { OnErr result ((pushed self.new ≡ pushed self.old) × (free self.new ≡ 0)) }
         ensures succeeds { 0 < free self.old → IsOk result }
     {
-        match self.producer.push(item) {
-            Ok(()) => Ok(()),
-            Err(PushError::Full(back)) => Err(back),
+        if self.is_full() {
+            return Err(item);
         }
+        self.put(item);
+        Ok(())
+    }
+
+    /// Whether no free place was seen, after a look at the other end where none was known.
+    pub fn is_full(&mut self) -> bool
+        ensures same { SameInlet self.old self.new }
+        ensures pushed { pushed self.new ≡ pushed self.old }
+        ensures free { free self.old ≤ free self.new }
+        ensures value { IsTrue result ↔ (free self.new ≡ 0) }
+    {
+        self.producer.is_full()
+    }
+
+    /// Puts an item in, where a free place was seen.
+    #[inline]
+    pub fn put(&mut self, item: T)
+        requires { 0 < free self.old }
+        ensures same { SameInlet self.old self.new }
+        ensures sent { sent self.new.producer ≡ sent self.old.producer ++ item ∷ [] }
+        ensures pushed { pushed self.new ≡ pushed self.old ++ item ∷ [] }
+        ensures free { free self.old ≡ free self.new + 1 }
+    {
+        self.producer.push_reserved(item);
     }
 
     /// Lets each end see all that the other did. That takes both ends in one thread.
@@ -41,11 +67,28 @@ impl<T> Inlet<T> {
             (sent self.new.producer ≡ sent self.old.producer) }
         ensures outlet { SameOutlet outlet.old outlet.new ×
             (received outlet.new.consumer ≡ received outlet.old.consumer) }
-        ensures seen { SeeEachOther self.new outlet.new }
+        ensures seen { SeesAll self.new outlet.new }
+        ensures room { places ≤ free self.new + length (seen outlet.new) }
     {
         let producer = &mut self.producer;
         let consumer = &mut outlet.consumer;
         producer.slots_beside(consumer);
         consumer.slots_beside(producer);
+    }
+
+    /// Sees a free place where there is one. That takes both ends in one thread.
+    pub fn find_room(&mut self, outlet: &mut Outlet<T>)
+        requires sees { SeesAll self.old outlet.old }
+        requires room { length (seen outlet.old) < places }
+        ensures inlet { SameInlet self.old self.new ×
+            (sent self.new.producer ≡ sent self.old.producer) }
+        ensures outlet { SameOutlet outlet.old outlet.new ×
+            (received outlet.new.consumer ≡ received outlet.old.consumer) }
+        ensures seen { SeesAll self.new outlet.new }
+        ensures found { 0 < free self.new }
+    {
+        if self.producer.cached_slots() == 0 {
+            self.look(outlet);
+        }
     }
 }

@@ -28,6 +28,7 @@ impl Issuer {
     /// Lets a call wait, or says why it is refused, as [`Line::issue`](crate::Line::issue) does. Here `Full` says
     /// that no free place was seen: the other end may have taken a call meanwhile, so the same call may be
     /// accepted later.
+    #[inline(always)]
     pub fn issue(&mut self, call: Call) -> Result<(), Refusal>
         ensures same { SameIssuer self.old self.new }
         ensures reason { MatchOption (barred (issued_by self.old) call)
@@ -43,15 +44,16 @@ impl Issuer {
             0 < free_calls_of self.old → IsOk result }
     {
         self.latch.check(&call)?;
-        let latch = self.latch.after(&call);
-        if self.calls.push(call).is_err() {
+        if self.calls.is_full() {
             return Err(Refusal::Full);
         }
-        self.latch = latch;
+        self.latch = self.latch.after(&call);
+        self.calls.put(call);
         Ok(())
     }
 
     /// Hears the oldest waiting answer, with its call. None says that no answer was seen: one may come later.
+    #[inline]
     pub fn hear(&mut self) -> Option<(Call, Answer)>
         ensures same { SameIssuer self.old self.new }
         ensures some { IfSome result (λ pair. heard_by self.new ≡ heard_by self.old ++ pair ∷ []) }
@@ -63,6 +65,10 @@ impl Issuer {
         ensures free { free_calls_of self.new ≡ free_calls_of self.old }
         ensures succeeds { 0 < length (seen_answers_of self.old) → IsSome result }
     {
-        self.answers.pop()
+        let answers = &mut self.answers.consumer;
+        if answers.is_empty() {
+            return None;
+        }
+        Some(answers.pop_known())
     }
 }

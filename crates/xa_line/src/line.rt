@@ -60,6 +60,7 @@ impl Line {
     /// - [`Refusal::NotOpen`]: no xa_open was issued since the line was new or renewed, and the call isn't one;
     /// - [`Refusal::Closed`]: xa_close was issued;
     /// - [`Refusal::Full`]: 64 calls wait.
+    #[inline(always)]
     pub fn issue(&mut self, call: Call) -> Result<(), Refusal>
         ensures reason { result_err result ≡ refusal self.old call }
         ensures accepted { OnOk result (self.new ≡
@@ -77,6 +78,7 @@ impl Line {
     }
 
     /// Takes the oldest waiting call; None where none waits.
+    #[inline]
     pub fn take(&mut self) -> Option<Call>
         ensures some { IfSome result (λ call. PassesOn self.old.calls call self.new.calls) }
         ensures none { IfNone result ((self.old.calls.waiting ≡ []) × (self.new ≡ self.old)) }
@@ -88,6 +90,7 @@ impl Line {
     }
 
     /// Lets an answer wait with its call, or gives both back where 64 answers wait.
+    #[inline]
     pub fn answer(&mut self, call: Call, answer: Answer) -> Result<(), (Call, Answer)>
         ensures full { IsErr result ↔ (length self.old.answers.waiting ≡ places) }
         ensures accepted { OnOk result (self.new ≡
@@ -105,6 +108,7 @@ impl Line {
     }
 
     /// Hears the oldest waiting answer, with its call; None where none waits.
+    #[inline]
     pub fn hear(&mut self) -> Option<(Call, Answer)>
         ensures some { IfSome result (λ pair. PassesOn self.old.answers pair self.new.answers) }
         ensures none { IfNone result ((self.old.answers.waiting ≡ []) × (self.new ≡ self.old)) }

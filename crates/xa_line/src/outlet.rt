@@ -2,6 +2,7 @@
 ghost use Rattle.std.specs.Prelude.{◌≤◌, length};
 ghost use Rattle.rtrb.specs.Ring.{received};
 
+use crate::inlet::Inlet;
 use rtrb::Consumer;
 use std::snapshot::Snapshot;
 
@@ -14,18 +15,19 @@ pub struct Outlet<T> {
 }
 
 impl<T> Outlet<T> {
-    ghost use Rattle.std.specs.Prelude.{◌≡◌, ◌<◌, ◌∷◌, ◌++◌, [], length, IsSome, IfSome, IfNone};
-    ghost use mathlib.Core.List.{IsPrefix};
-    ghost use Rattle.xa_line.specs.Queue.{SameOutlet, popped, seen};
+    ghost use Rattle.std.specs.Prelude.{◌≡◌};
+    ghost use Rattle.rtrb.specs.Ring.{received, sent};
+    ghost use Rattle.xa_line.specs.Queue.{AreEnds, SameInlet, SameOutlet, SeesAll};
 
-    /// Takes the oldest item out, if one was seen.
-    pub fn pop(&mut self) -> Option<T>
-        ensures same { SameOutlet self.old self.new }
-        ensures some { IfSome result (λ x. popped self.new ≡ popped self.old ++ x ∷ []) }
-        ensures seen { IfSome result (λ x. IsPrefix (seen self.old) (x ∷ seen self.new)) }
-        ensures none { IfNone result ((popped self.new ≡ popped self.old) × (seen self.new ≡ [])) }
-        ensures succeeds { 0 < length (seen self.old) → IsSome result }
+    /// Sees all that went in. That takes both ends in one thread.
+    pub fn look(&mut self, inlet: &mut Inlet<T>)
+        requires { AreEnds inlet.old self.old }
+        ensures inlet { SameInlet inlet.old inlet.new ×
+            (sent inlet.new.producer ≡ sent inlet.old.producer) }
+        ensures outlet { SameOutlet self.old self.new ×
+            (received self.new.consumer ≡ received self.old.consumer) }
+        ensures seen { SeesAll inlet.new self.new }
     {
-        self.consumer.pop().ok()
+        self.consumer.slots_beside(&mut inlet.producer);
     }
 }

@@ -8,7 +8,7 @@ use std::marker::Model;
 use std::snapshot::Snapshot;
 use xa_base::{LINE_LIMIT, Memory};
 
-/// A queue of at most 64 items. One thread holds both ends, and each has seen all that the other did.
+/// A queue of at most 64 items. One thread holds both ends, and the outlet has seen all that went in.
 #[derive(Drop)]
 pub struct Queue<T> {
     inlet: Inlet<T>,
@@ -20,11 +20,11 @@ impl<T> Model for Queue<T> {
 
     ghost Value = { Flow T };
 
-    ghost use Rattle.xa_line.specs.Queue.{SeeEachOther, popped, seen};
+    ghost use Rattle.xa_line.specs.Queue.{SeesAll, popped, seen};
 
     ghost view = { λ q. record { gone = popped q.outlet; waiting = seen q.outlet } };
 
-    ghost invariant = { λ q. SeeEachOther q.inlet q.outlet };
+    ghost invariant = { λ q. SeesAll q.inlet q.outlet };
 }
 
 impl<T: Drop> Queue<T> {
@@ -71,15 +71,18 @@ impl<T: Drop> Queue<T> {
     }
 
     /// Lets an item wait, last.
+    #[inline]
     pub fn push(&mut self, item: T)
         requires { length self.old.waiting < places }
         ensures { self.new ≡ with_one_more self.old item }
     {
-        self.inlet.producer.push_reserved(item);
-        self.inlet.look(&mut self.outlet);
+        self.inlet.find_room(&mut self.outlet);
+        self.inlet.put(item);
+        self.outlet.look(&mut self.inlet);
     }
 
     /// Takes the oldest waiting item out.
+    #[inline]
     pub fn pop(&mut self) -> Option<T>
         ensures some { IfSome result (λ x. PassesOn self.old x self.new) }
         ensures none { IfNone result ((self.old.waiting ≡ []) × (self.new ≡ self.old)) }
@@ -88,9 +91,7 @@ impl<T: Drop> Queue<T> {
         if self.outlet.consumer.cached_slots() == 0 {
             return None;
         }
-        let item = self.outlet.consumer.pop_known();
-        self.inlet.look(&mut self.outlet);
-        Some(item)
+        Some(self.outlet.consumer.pop_known())
     }
 
     /// Drops all that waits.
@@ -117,7 +118,11 @@ impl<T: Drop> Queue<T> {
         ensures seen { seen result.1 ≡ self.waiting }
         ensures room { places ≤ free result.0 + length self.waiting }
     {
-        let Queue { inlet, outlet } = self;
+        let Queue {
+            mut inlet,
+            mut outlet,
+        } = self;
+        inlet.look(&mut outlet);
         (inlet, outlet)
     }
 

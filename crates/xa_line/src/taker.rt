@@ -19,6 +19,7 @@ impl Taker {
     ghost use Rattle.xa_line.specs.Ends.{SameTaker, answered_by, free_answers_of, seen_calls_of, taken_by};
 
     /// Takes the oldest waiting call. None says that no call was seen: one may come later.
+    #[inline]
     pub fn take(&mut self) -> Option<Call>
         ensures same { SameTaker self.old self.new }
         ensures some { IfSome result (λ call. taken_by self.new ≡ taken_by self.old ++ call ∷ []) }
@@ -30,11 +31,16 @@ impl Taker {
         ensures free { free_answers_of self.new ≡ free_answers_of self.old }
         ensures succeeds { 0 < length (seen_calls_of self.old) → IsSome result }
     {
-        self.calls.pop()
+        let calls = &mut self.calls.consumer;
+        if calls.is_empty() {
+            return None;
+        }
+        Some(calls.pop_known())
     }
 
     /// Lets an answer wait, or gives it back with its call where no free place was seen. The same answer may be
     /// accepted later.
+    #[inline]
     pub fn answer(&mut self, call: Call, answer: Answer) -> Result<(), (Call, Answer)>
         ensures same { SameTaker self.old self.new }
         ensures accepted { OnOk result (
