@@ -5,6 +5,7 @@ use std::alloc::Global;
 use std::sync::Wait;
 use std::test::Fail;
 use std::thread::Threads;
+use std::time::Clock;
 use xa_files::RunFault;
 use xa_jobs::run_job_file;
 use xa_log::{FailLog, FailPlan, LogCall, MemLog};
@@ -19,7 +20,7 @@ pub(crate) const FOUR_JOBS: &str = "rms = 2
 const FOUR_ENDS: &str = "job 1 committed\njob 2 rolled-back\njob 3 committed\njob 4 committed\n";
 
 /// What a run of a text prints, or its fault.
-pub(crate) fn run_of<R: Threads + Wait + Sync>(
+pub(crate) fn run_of<R: Threads + Wait + Clock + Sync>(
     rt: &R,
     alloc: Global,
     text: &str,

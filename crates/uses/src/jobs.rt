@@ -6,12 +6,13 @@ ghost use Rattle.xa_jobs.specs.JobRuns.{Prints};
 use std::alloc::Global;
 use std::sync::Wait;
 use std::thread::Threads;
+use std::time::Clock;
 use xa_files::RunFault;
 use xa_jobs::run_job_file;
 use xa_log::MemLog;
 
 /// What a run of a jobs file over a new log prints.
-pub(crate) fn printed<R: Threads + Wait + Sync>(
+pub(crate) fn printed<R: Threads + Wait + Clock + Sync>(
     rt: &R,
     alloc: Global,
     text: &[u8],

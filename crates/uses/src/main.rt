@@ -18,6 +18,7 @@ mod workers;
 use std::alloc::Global;
 use std::sync::Wait;
 use std::thread::Threads;
+use std::time::Clock;
 use xa_base::{Branch, Fate, Gtrid};
 use xa_log::MemLog;
 use xa_rm::MemRm;
@@ -79,7 +80,10 @@ fn events_and_fate(alloc: Global) -> anyhow::Result<(usize, Fate)> {
 }
 
 /// What jobs come to, by their votes and as a file.
-fn show_jobs<T: Threads + Wait + Sync>(rt: &HostRuntime, threads: &T) -> anyhow::Result<()> {
+fn show_jobs<T: Threads + Wait + Clock + Sync>(
+    rt: &HostRuntime,
+    threads: &T,
+) -> anyhow::Result<()> {
     let alloc = rt.alloc();
     let jobs = workers::two_jobs(alloc)?;
     if jobs.is_runnable() {

@@ -6,6 +6,7 @@ ghost use Rattle.xa_workers.specs.Jobs.{IsRunnable, ends_of};
 use std::alloc::{AllocError, Global};
 use std::sync::Wait;
 use std::thread::Threads;
+use std::time::Clock;
 use xa_base::{Outcome, RbCode, Vote};
 use xa_log::MemLog;
 use xa_workers::{Gate, Jobs, Point, WorkFault, run_jobs};
@@ -20,7 +21,7 @@ impl Gate for Open {
 }
 
 /// Runs jobs over a new log. Without a recovery that sweeps them each ends as its votes say, whatever the threads do.
-pub(crate) fn ends<R: Threads + Wait + Sync>(
+pub(crate) fn ends<R: Threads + Wait + Clock + Sync>(
     rt: &R,
     alloc: Global,
     jobs: &Jobs,

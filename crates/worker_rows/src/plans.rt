@@ -4,6 +4,7 @@ use std::alloc::{AllocError, Global};
 use std::process::Abort;
 use std::sync::Wait;
 use std::thread::Threads;
+use std::time::Clock;
 use xa_base::{Branch, Fate, Gtrid, RbCode, Vote};
 use xa_log::DecisionLog;
 use xa_workers::{Gate, Jobs, Outcomes, WorkFault, run_jobs};
@@ -39,7 +40,7 @@ pub(crate) fn swept(jobs: Jobs) -> Jobs {
     }
 }
 
-pub(crate) fn run<R: Threads + Wait + Sync + Abort, L: DecisionLog + Drop, G: Gate + Sync>(
+pub(crate) fn run<R: Threads + Wait + Clock + Sync + Abort, L: DecisionLog + Drop, G: Gate + Sync>(
     rt: &R,
     alloc: Global,
     jobs: &Jobs,

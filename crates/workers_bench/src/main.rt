@@ -15,7 +15,7 @@ use std::alloc::{AllocError, Global};
 use std::env;
 use std::sync::Wait;
 use std::thread::Threads;
-use std::time::Instant;
+use std::time::{Clock, Instant};
 use xa_base::{Outcome, Vote};
 use xa_log::MemLog;
 use xa_workers::{Gate, Jobs, Point, WorkFault, run_jobs};
@@ -52,7 +52,7 @@ fn jobs(alloc: Global, threads: u32) -> Result<Jobs, AllocError> {
 }
 
 /// How many of the jobs a run commits.
-fn committed<T: Threads + Wait + Sync>(
+fn committed<T: Threads + Wait + Clock + Sync>(
     rt: &T,
     alloc: Global,
     jobs: &Jobs,
@@ -70,7 +70,7 @@ fn committed<T: Threads + Wait + Sync>(
 }
 
 /// Times a run, and prints how many jobs it committed a second.
-fn measure<T: Threads + Wait + Sync>(
+fn measure<T: Threads + Wait + Clock + Sync>(
     rt: &HostRuntime,
     threads: &T,
     jobs: &Jobs,

@@ -5,6 +5,7 @@ use anyhow::bail;
 use std::alloc::{AllocError, Global};
 use std::sync::Wait;
 use std::thread::Threads;
+use std::time::Clock;
 use xa_base::{Outcome, RbCode, Vote};
 use xa_log::MemLog;
 use xa_workers::{Jobs, run_jobs};
@@ -60,7 +61,7 @@ fn plain(alloc: Global, jobs: &Jobs) -> Result<Vec<Outcome>, AllocError> {
 }
 
 /// Runs jobs of mixed votes so often, and prints how they ended in all.
-pub(crate) fn stress<T: Threads + Wait + Sync>(
+pub(crate) fn stress<T: Threads + Wait + Clock + Sync>(
     rt: &HostRuntime,
     threads: &T,
     runs: u32,

@@ -16,6 +16,7 @@ use std::alloc::Global;
 use std::io::Write;
 use std::sync::Wait;
 use std::thread::Threads;
+use std::time::Clock;
 use xa_base::Outcome;
 use xa_files::RunFault;
 use xa_log::DecisionLog;
@@ -42,7 +43,7 @@ fn run_fault_of(fault: WorkFault) -> RunFault
 }
 
 /// Runs jobs over a log, and gives how each ended.
-fn ends_of_run<R: Threads + Wait + Sync, L: DecisionLog + Drop>(
+fn ends_of_run<R: Threads + Wait + Clock + Sync, L: DecisionLog + Drop>(
     rt: &R,
     alloc: Global,
     jobs: &Jobs,
@@ -59,7 +60,7 @@ fn ends_of_run<R: Threads + Wait + Sync, L: DecisionLog + Drop>(
 }
 
 /// Runs jobs over a log, and prints how each ended.
-fn run_and_print<R: Threads + Wait + Sync, L: DecisionLog + Drop, W: Write>(
+fn run_and_print<R: Threads + Wait + Clock + Sync, L: DecisionLog + Drop, W: Write>(
     rt: &R,
     alloc: Global,
     jobs: &Jobs,
@@ -85,7 +86,7 @@ fn run_and_print<R: Threads + Wait + Sync, L: DecisionLog + Drop, W: Write>(
 /// where a request for memory or for a thread was refused, Log where the log failed or can't begin a run, Work where
 /// the workers stood still or don't agree; nothing is written then. Output comes where a write failed: what was
 /// written before it is left, and is a beginning of what is printed otherwise. After a fault nothing is said of the log.
-pub fn run_job_file<R: Threads + Wait + Sync, L: DecisionLog + Drop, W: Write>(
+pub fn run_job_file<R: Threads + Wait + Clock + Sync, L: DecisionLog + Drop, W: Write>(
     rt: &R,
     alloc: Global,
     text: &[u8],

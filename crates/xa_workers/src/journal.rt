@@ -4,15 +4,16 @@ ghost use Rattle.xa_log.specs.Content.{last_number};
 ghost use Rattle.xa_workers.specs.Rows.{HasRowsOf, Logs, no_rows};
 
 use crate::crew::Crew;
-use crate::docket::Task;
 use crate::fault::Halt;
 use crate::jobs::gtrid;
 use crate::limits::JOB_LIMIT;
+use crate::patience::Idle;
 use crate::roll::Run;
 use crate::{Gate, Jobs, WorkFault};
 use std::alloc::{AllocError, Global};
 use std::snapshot::Snapshot;
 use std::sync::Wait;
+use std::time::Clock;
 use xa_log::DecisionLog;
 
 /// A run's log, and for each job whether the run wrote its row. `first` remembers the log as it was before the run.
@@ -76,9 +77,34 @@ impl<L: DecisionLog> Journal<L> {
     }
 }
 
+/// Writes the rows that threads of control ask for, and says whether there was one.
+fn write_asked<J: Run, G: Gate, L: DecisionLog>(
+    alloc: Global,
+    crew: &Crew<'_, J, G>,
+    journal: &mut Journal<L>,
+) -> Result<bool, WorkFault>
+    requires few { vec_len journal.old.written ≤ JOB_LIMIT }
+    requires kept { HasRowsOf L.DecisionLog crew.now.jobs.now crew.now.incarnation journal.old }
+    ensures first { journal.new.first ≡ journal.old.first }
+    ensures len { vec_len journal.new.written ≡ vec_len journal.old.written }
+    ensures kept { OnOk result (HasRowsOf L.DecisionLog crew.now.jobs.now
+        crew.now.incarnation journal.new) }
+{
+    let mut wrote = false;
+    for thread in 0..crew.jobs.threads {
+        if let Some(job) = crew.docket.take(thread) {
+            journal.write(alloc, crew.jobs, crew.incarnation, job)?;
+            crew.docket.reply(thread);
+            crew.signals.wake_thread(thread);
+            wrote = true;
+        }
+    }
+    Ok(wrote)
+}
+
 /// The log's worker: writes rows until all threads of control have ended.
-pub(crate) fn write_rows<J: Run, G: Gate, L: DecisionLog>(
-    rt: &impl Wait,
+pub(crate) fn write_rows<R: Wait + Clock, J: Run, G: Gate, L: DecisionLog>(
+    rt: &R,
     alloc: Global,
     crew: &Crew<'_, J, G>,
     journal: &mut Journal<L>,
@@ -89,18 +115,17 @@ pub(crate) fn write_rows<J: Run, G: Gate, L: DecisionLog>(
     ensures kept { OnOk result (HasRowsOf L.DecisionLog crew.now.jobs.now
         crew.now.incarnation journal.new) }
 {
+    let mut idle = Idle::NEW;
     for _ in rt.forever() {
-        let task = crew.docket.lock(rt).next();
-        match task {
-            Task::Write { thread, job } => {
-                let reply = journal.write(alloc, crew.jobs, crew.incarnation, job);
-                crew.docket.lock(rt).reply(thread, reply);
-                crew.signals.wake_thread(thread);
-                reply?;
-            }
-            Task::Sleep if crew.signals.is_stopped() => return Err(Halt::Stopped),
-            Task::Sleep => crew.signals.sleep_log(rt),
-            Task::End => return Ok(()),
+        let left = crew.docket.is_left();
+        if write_asked(alloc, crew, journal)? {
+            idle = Idle::NEW;
+        } else if left {
+            return Ok(());
+        } else if crew.signals.is_stopped() {
+            return Err(Halt::Stopped);
+        } else {
+            crew.signals.rest_log(rt, &mut idle);
         }
     }
     unreachable!()

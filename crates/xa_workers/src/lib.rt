@@ -23,6 +23,7 @@ mod limits;
 mod meet;
 mod numbered;
 mod outcomes;
+mod patience;
 mod roll;
 mod rule;
 mod run;

@@ -20,9 +20,10 @@ use crate::start::{Hands, Joined, Team, start_all};
 use crate::{Board, Gate, Jobs, Outcomes, WorkFault};
 use std::alloc::Global;
 use std::marker::{Brand, PhantomData};
-use std::sync::{Mutex, Wait};
+use std::sync::Wait;
 use std::thread;
 use std::thread::{Scope, Threads};
+use std::time::Clock;
 use xa_line::{Issuer, Taker};
 use xa_log::DecisionLog;
 
@@ -50,7 +51,7 @@ fn run_crew<
     's,
     E,
     J: Run + Send + Sync + 's,
-    R: Threads + Wait + Sync,
+    R: Threads + Wait + Clock + Sync,
     G: Gate + Sync,
     L: DecisionLog + Drop,
 >(
@@ -106,7 +107,12 @@ fn run_crew<
 }
 
 /// Runs all workers, and returns once all have ended.
-fn run_all<J: Run + Send + Sync, R: Threads + Wait + Sync, G: Gate + Sync, L: DecisionLog + Drop>(
+fn run_all<
+    J: Run + Send + Sync,
+    R: Threads + Wait + Clock + Sync,
+    G: Gate + Sync,
+    L: DecisionLog + Drop,
+>(
     rt: &R,
     alloc: Global,
     crew: &Crew<'_, J, G>,
@@ -136,7 +142,12 @@ fn run_all<J: Run + Send + Sync, R: Threads + Wait + Sync, G: Gate + Sync, L: De
 }
 
 /// Runs the jobs over a log that has begun, and over the two ends of each line.
-fn run_named<J: Run + Send + Sync, R: Threads + Wait + Sync, L: DecisionLog + Drop, G: Gate + Sync>(
+fn run_named<
+    J: Run + Send + Sync,
+    R: Threads + Wait + Clock + Sync,
+    L: DecisionLog + Drop,
+    G: Gate + Sync,
+>(
     rt: &R,
     alloc: Global,
     jobs: &Jobs,
@@ -166,8 +177,8 @@ fn run_named<J: Run + Send + Sync, R: Threads + Wait + Sync, L: DecisionLog + Dr
         first,
         log,
     } = begun;
-    let signals = Signals::new(alloc, jobs.threads, jobs.rms)?;
-    let docket = Mutex::new(Docket::new(alloc, jobs.threads)?);
+    let signals = Signals::new(rt, alloc, jobs)?;
+    let docket = Docket::new(alloc, jobs.threads)?;
     let (board, seat) = Board::new(alloc, jobs.votes.len())?;
     let crew = Crew::<J, G> {
         jobs,
@@ -210,7 +221,7 @@ fn run_named<J: Run + Send + Sync, R: Threads + Wait + Sync, L: DecisionLog + Dr
 /// - [`WorkFault::Mixed`]: what the workers gave back doesn't agree.
 ///
 /// Of several faults the first in this order is the answer.
-pub fn run_jobs<R: Threads + Wait + Sync, L: DecisionLog + Drop, G: Gate + Sync>(
+pub fn run_jobs<R: Threads + Wait + Clock + Sync, L: DecisionLog + Drop, G: Gate + Sync>(
     rt: &R,
     alloc: Global,
     jobs: &Jobs,

@@ -14,6 +14,7 @@ use std::io::Write;
 use std::process::ExitCode;
 use std::sync::Wait;
 use std::thread::Threads;
+use std::time::Clock;
 use std::{env, fs, io};
 use xa_files::RunFault;
 use xa_jobs::run_job_file;
@@ -34,7 +35,7 @@ fn main(rt: HostRuntime) -> ExitCode {
 
 /// Reads the command line and does what it asks. `threads` is the runtime too, which starts threads and waits for
 /// them.
-fn work<T: Threads + Wait + Sync>(rt: &HostRuntime, threads: &T) -> Result<(), Failure> {
+fn work<T: Threads + Wait + Clock + Sync>(rt: &HostRuntime, threads: &T) -> Result<(), Failure> {
     let alloc = rt.alloc();
     let words: Vec<String> = env::args(rt)
         .map_err(|error| Failure::Words.caused_by(&error))?
@@ -50,7 +51,7 @@ fn work<T: Threads + Wait + Sync>(rt: &HostRuntime, threads: &T) -> Result<(), F
 }
 
 /// Does what a command asks.
-fn perform<T: Threads + Wait + Sync>(
+fn perform<T: Threads + Wait + Clock + Sync>(
     rt: &HostRuntime,
     threads: &T,
     command: Command,
@@ -99,7 +100,7 @@ fn run<W: Write>(
 
 /// Runs the jobs of a file over the log at a path, or over one in memory. The log is opened before the text is read
 /// as a jobs file.
-fn run_threads<T: Threads + Wait + Sync, W: Write>(
+fn run_threads<T: Threads + Wait + Clock + Sync, W: Write>(
     rt: &HostRuntime,
     threads: &T,
     text: &[u8],
