@@ -1,21 +1,20 @@
-//! The rows of decisions and of their participants.
-ghost use Rattle.std.specs.Prelude.{map, ◌≡◌, ◌⊎◌, true, false, if◌then◌else◌, None, Some, IsSomeAnd, IsTrue, IfOk, OnErr, OnOk, IfErr, ◌≢◌};
+//! The rows of decisions, with their participants: how they are written and taken away.
+ghost use Rattle.std.specs.Prelude.{◌≡◌, ◌⊎◌, true, false, if◌then◌else◌, None, Some, IsSomeAnd, IsTrue, IfOk, OnErr, OnOk, IfErr, ◌≢◌};
 ghost use Rattle.std.specs.List.{AllByRecursion};
 ghost use Rattle.std.specs.FinMap.{contains_key, get};
-ghost use Rattle.xa_log.specs.KeySet.{empty, insert, from_list, items, KeySet};
+ghost use Rattle.xa_log.specs.KeySet.{empty, insert, from_list, KeySet};
 ghost use Rattle.sqlite.specs.State.{HasCleanDisk, KeepsCommit, Survives};
 ghost use Rattle.sqlite.specs.Held.{state};
 ghost use Rattle.xa_base.specs.Branch.{branch_cmp};
 ghost use Rattle.xa_log.specs.Contract.{Makes, FitsRow};
-ghost use Rattle.xa_log.specs.Content.{Content, with_commit, participants_of, without_decision};
-ghost use Rattle.xa_log.specs.Rows.{IsLog, content_of, participant_from};
+ghost use Rattle.xa_log.specs.Content.{Content, with_commit, without_decision};
+ghost use Rattle.xa_log.specs.Rows.{IsLog, content_of};
 ghost use Rattle.xa_log.specs.Sql.{IsOrderly, content_in, OnlyReads, MayChange, HasWritten, MayInsert};
 ghost use Rattle.xa_log.specs.declared.log_fault.LogFault.{LogFault};
 
 use crate::statements::{ask, run, stored};
-use crate::{LogFault, Logged, fields};
-use sqlite::{Alter, Connection, Row, Transaction, params};
-use std::collections::BTreeSet;
+use crate::{LogFault, Logged};
+use sqlite::{Alter, Connection, Transaction, params};
 use xa_base::{Branch, Gtrid};
 
 /// Whether a transaction has a decision's row.
@@ -227,39 +226,4 @@ pub(crate) fn done<S: Alter>(conn: &mut Connection<S>, g: Gtrid) -> Result<bool,
     }
     delete_decision(conn, g)?;
     Ok(true)
-}
-
-/// The branches of a transaction that rows name, in the order of their identifiers.
-fn listed(g: Gtrid, rows: Vec<Row>) -> Result<Vec<Branch>, LogFault>
-    ensures ok { IfOk result (λ list.
-        list.items ≡ items (from_list {R = branch_cmp} (map (participant_from g) rows.items))) }
-    ensures unspent { IfErr result (λ fault. fault ≢ LogFault.Spent) }
-{
-    let alloc = *rows.allocator();
-    let mut branches = BTreeSet::new(alloc);
-    for row in &rows {
-        branches.insert(fields::participant(g, row)?)?;
-    }
-    Ok(branches.into_iter().collect(alloc)?)
-}
-
-/// The branches whose xa_commit a transaction waits for, in the order of their identifiers.
-pub(crate) fn participants<S: Alter>(
-    conn: &mut Connection<S>,
-    g: Gtrid,
-) -> Result<Vec<Branch>, LogFault>
-    requires { FitsRow g }
-    ensures reads { OnlyReads (state S.Store conn.old) (state S.Store conn.new) }
-    ensures ok { IsOrderly (state S.Store conn.old) → HasCleanDisk (state S.Store conn.new) →
-        IfOk result (λ list. IsSomeAnd (content_in (state S.Store conn.old)) (λ c.
-        (content_in (state S.Store conn.new) ≡ Some c)
-        × (list.items ≡ items (participants_of c g)))) }
-    ensures unspent { IfErr result (λ fault. fault ≢ LogFault.Spent) }
-{
-    let rows = ask(
-        conn,
-        "SELECT thread, rm FROM participant WHERE inc = ?1 AND seq = ?2",
-        params![stored(g.incarnation), stored(g.sequence)],
-    )?;
-    listed(g, rows)
 }
