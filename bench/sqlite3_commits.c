@@ -1,11 +1,11 @@
-/* How many decisions a second the C library sqlite3 takes, with the tables and the statements of the decision log:
-   a look, then one transaction of three rows. */
+/* How many decisions a second the C library sqlite3 takes, with the tables and the statements of the decision log: one
+   transaction of three rows, which the key of a decision would refuse if it were there. */
 #include <sqlite3.h>
 #include <stdio.h>
 #include <stdlib.h>
 #include <time.h>
 
-enum { COMMITS = 1000 };
+enum { COMMITS = 20000 };
 
 static sqlite3 *db;
 
@@ -37,7 +37,6 @@ static void measure(const char *place, const char *path) {
         "CREATE TABLE participant (inc INTEGER NOT NULL, seq INTEGER NOT NULL, thread INTEGER NOT NULL,"
         " rm INTEGER NOT NULL, PRIMARY KEY (inc, seq, thread, rm),"
         " FOREIGN KEY (inc, seq) REFERENCES decision (inc, seq) ON DELETE CASCADE);");
-    sqlite3_stmt *find = prepared("SELECT 1 FROM decision WHERE inc = ?1 AND seq = ?2");
     sqlite3_stmt *decide = prepared("INSERT INTO decision (inc, seq) VALUES (?1, ?2)");
     sqlite3_stmt *join = prepared("INSERT INTO participant (inc, seq, thread, rm) VALUES (?1, ?2, ?3, ?4)");
     sqlite3_stmt *begin = prepared("BEGIN"), *commit = prepared("COMMIT");
@@ -45,7 +44,6 @@ static void measure(const char *place, const char *path) {
     clock_gettime(CLOCK_MONOTONIC, &from);
     for (sqlite3_int64 sequence = 1; sequence <= COMMITS; sequence++) {
         sqlite3_int64 first[] = {1, sequence, 0, 0}, second[] = {1, sequence, 0, 1};
-        step(find, 2, first);
         step(begin, 0, NULL);
         step(decide, 2, first);
         step(join, 4, first);
@@ -55,7 +53,6 @@ static void measure(const char *place, const char *path) {
     clock_gettime(CLOCK_MONOTONIC, &to);
     double seconds = (to.tv_sec - from.tv_sec) + (to.tv_nsec - from.tv_nsec) / 1e9;
     printf("%.0f commits a second %s\n", COMMITS / seconds, place);
-    sqlite3_finalize(find);
     sqlite3_finalize(decide);
     sqlite3_finalize(join);
     sqlite3_finalize(begin);

@@ -17,6 +17,9 @@ use xa_log::{DecisionLog, LogFault, SqlLog};
 /// How many transactions are committed.
 const COMMITS: u64 = 1_000;
 
+/// How many are where the time is taken.
+const TIMED: u64 = 20_000;
+
 fn main(rt: HostRuntime) -> anyhow::Result<()> {
     let words: Vec<String> = env::args(&rt)?.collect(rt.alloc())?;
     let command = words.get(1).map(|word| word.as_str());
@@ -33,7 +36,7 @@ fn main(rt: HostRuntime) -> anyhow::Result<()> {
         }
         _ => {
             let mut log = SqlLog::open_in_memory(rt.alloc())?;
-            commit_all(&mut log)?;
+            commit_all(&mut log, COMMITS)?;
             println!(rt;
                 "{} rows after {COMMITS} commits",
                 log.rows()?.decisions.len()
@@ -47,7 +50,7 @@ fn main(rt: HostRuntime) -> anyhow::Result<()> {
 
 /// A transaction of the first incarnation.
 fn gtrid(sequence: u64) -> Gtrid
-    requires { sequence ≤ 1000 }
+    requires { sequence ≤ 20000 }
     ensures { FitsRow result }
 {
     Gtrid {
@@ -68,8 +71,10 @@ fn branch(gtrid: Gtrid, rm: u32) -> Branch
 }
 
 /// Commits each transaction with its participants.
-fn commit_all<L: DecisionLog>(log: &mut L) -> Result<(), LogFault> {
-    for sequence in 1..=COMMITS {
+fn commit_all<L: DecisionLog>(log: &mut L, count: u64) -> Result<(), LogFault>
+    requires { count ≤ 20000 }
+{
+    for sequence in 1..=count {
         let g = gtrid(sequence);
         log.commit(g, &[branch(g, 0), branch(g, 1)])?;
     }
@@ -87,9 +92,9 @@ fn settle_all<L: DecisionLog>(log: &mut L) -> Result<(), LogFault> {
 /// Prints how many commits a second a log takes.
 fn measure<L: DecisionLog>(rt: &HostRuntime, place: &str, log: &mut L) -> anyhow::Result<()> {
     let start = Instant::now(rt)?;
-    commit_all(log)?;
+    commit_all(log, TIMED)?;
     let micros = start.elapsed(rt)?.as_micros();
-    let commits = u128::from(COMMITS).saturating_mul(1_000_000) / micros.max(1);
+    let commits = u128::from(TIMED).saturating_mul(1_000_000) / micros.max(1);
     println!(rt; "{commits} commits a second {place}")?;
     Ok(())
 }

@@ -18,7 +18,7 @@ use Rattle.xa_base.specs.declared.branch.Branch.{Branch}
 use Rattle.xa_base.specs.Branch.{gtrid_cmp, branch_cmp}
 use Rattle.xa_base.proofs.BranchOrder.{gtrids_total, exact_gtrids, branches_total, exact_branches}
 use Rattle.xa_log.specs.Content.{Content, with_decision, without_decision, with_commit}
-use Rattle.xa_log.specs.Contract.{Makes}
+use Rattle.xa_log.specs.Contract.{Makes, MayMake}
 use Rattle.xa_log.specs.Rows.{IsLog, content_of}
 use Rattle.xa_log.specs.Sql.{AreLogTrees, HasLogTables, IsOrderly, content_in, OnlyReads, MayChange, HasWritten, MayInsert, Lacks, IsShutOrAsBefore}
 use Rattle.xa_log.proofs.States.{Did, did_makes, changes_then}
@@ -72,6 +72,9 @@ module _ (a e : State) (opened : IsTrue e.is_open → HasCleanDisk e) where
       let now = (u.undone h).0 ∙ (order (u.was_open h)).committed in
       rw (is, was) (ap (λ (d : Database). Some (content_of d.trees)) now)
 
+  pub undone_content : IsShutOrAsBefore a e → IsOrderly a → (content_in e ≡ None) ⊎ (content_in e ≡ content_in a)
+  undone_content u order = elim (cases_Bool e.is_open) [ inl is_open ↦ inr (undone_same u order is_open) | inr shut ↦ inl (rw shut refl) ]
+
   pub tried : (P : Trees → Type 0) → Survives a e P → (change : Content → Content) → (IsOrderly a → HasCleanDisk e → IsShutOrAsBefore a e ⊎ Did change a e)
       → (IsOrderly a → HasCleanDisk e → (db : Trees) → P db → IsTrue a.is_open × (content_of db ≡ change (content_of a.now.trees)) × AreLogTrees db)
       → MayChange change a e
@@ -109,15 +112,18 @@ pub record IsWritten (x : Gtrid) (set : KeySet branch_cmp) (a m : State) : Type 
 
 module _ (x : Gtrid) (set : KeySet branch_cmp) (a m e : State) where
   pub written_all : (first : State) → (HasCleanDisk m → HasCleanDisk first) → (HasCleanDisk first → IsTrue a.is_open)
+      → (IsLog a.now → HasCleanDisk first → get (content_of a.now.trees).decisions x ≡ None)
       → (MayInsert x (begun a) → HasCleanDisk first → HasWritten x empty (content_of a.now.trees) first)
       → (HasCleanDisk m → (before : Content) → HasWritten x empty before first → HasWritten x set before m)
-      → Lacks x a → IsOrderly a → HasCleanDisk m → IsWritten x set a m
-  written_all first early live one rest lacks order clean =
+      → IsOrderly a → HasCleanDisk m → IsWritten x set a m
+  written_all first early live absent one rest order clean =
       let is_open = live (early clean) in
-      let was : a.is_open ≡ true = is_open in
-      let none = lacks (content_of a.now.trees) (rw was refl) in
+      let none = absent (order is_open).now (early clean) in
       let begins : MayInsert x (begun a) = record { inside = refl; now = (order is_open).now; none = none } in
       record { was_open = is_open; none = none; has = rest clean (content_of a.now.trees) (one begins (early clean)) }
+
+  pub none_before : IsWritten x set a m → IsSomeAnd (content_in a) (λ c. false ≡ contains_key c.decisions x)
+  none_before it = let was : a.is_open ≡ true = it.was_open in rw was (sym (ap is_some it.none))
 
   pub committed_all : IsWritten x set a m → Shows m e m.now m.now false → Did (with_commit x set) a e
   committed_all it shown = record {
@@ -174,6 +180,25 @@ told Q a b opened found order c is = go (content_in a) (found order (opened (is_
 pub looked : (x : Gtrid) (a b : State) → (IsTrue b.is_open → HasCleanDisk b)
     → (IsOrderly a → HasCleanDisk b → IsSomeAnd (content_in a) (λ c. (content_in b ≡ Some c) × (false ≡ contains_key c.decisions x))) → IsOrderly a → Lacks x b
 looked x a b opened found order c is = no_some _ (told (λ c. false ≡ contains_key c.decisions x) a b opened found order c is)
+
+-- a change that was not made, and then a look
+pub then_looked : (change : Content → Content) (a b c : State) → MayChange change a b → OnlyReads b c → MayChange change a c
+then_looked change a b c p q = record {
+  honest = λ clean. p.honest (q.honest clean);
+  order = λ order. q.order (p.order order);
+  kept = λ order. elim (q.kept (p.order order)) [
+    | inl shut ↦ inl shut
+    | inr same ↦ subst (λ o. MayMake change (content_in a) o) (sym same) (p.kept order)
+  ];
+  crash = λ order clean x h. p.crash order (q.honest clean) x (q.crash (p.order order) clean x h);
+  logs = λ order clean db h. elim (q.logs (p.order order) clean db h) [ inl was ↦ p.logs order (q.honest clean) db was | inr is ↦ inr is ];
+}
+
+-- the look found that it was there before
+pub there_before : (P : Content → Type 0) (a b c : Option Content) → (b ≡ None) ⊎ (b ≡ a)
+    → IsSomeAnd b (λ y. (c ≡ Some y) × P y) → IsSomeAnd a (λ y. (c ≡ Some y) × P y)
+there_before P a b c (inl none) h = absurd (subst (λ o. IsSomeAnd o (λ y. (c ≡ Some y) × P y)) none h)
+there_before P a b c (inr same) h = subst (λ o. IsSomeAnd o (λ y. (c ≡ Some y) × P y)) same h
 
 -- and what follows from it
 pub found_none : (x : Gtrid) (set : KeySet branch_cmp) (a b c : Option Content)

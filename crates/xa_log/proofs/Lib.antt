@@ -1,4 +1,5 @@
 pub mod AllRows
+pub mod Apart
 pub mod Cascade
 pub mod Contents
 pub mod DecisionReads

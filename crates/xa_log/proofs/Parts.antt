@@ -41,3 +41,7 @@ some_and None P Q gives h = h
 pub both3 : {A : Type 0} (o : Option A) (P Q R : A → Type 0) → IsSomeAnd o P → IsSomeAnd o Q → IsSomeAnd o R → IsSomeAnd o (λ x. P x × Q x × R x)
 both3 (Some x) P Q R p q r = (p, q, r)
 both3 None P Q R p q r = p
+
+pub on_found : {A E : Type 0} (r : Result A E) (P : A → Type 0) (Q R : Type 0) → (Q → R) → IfOk r (λ x. P x × Q) → OnOk r R
+on_found (Ok x) P Q R gives h = gives h.1
+on_found (Err e) P Q R gives h = tt

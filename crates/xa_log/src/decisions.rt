@@ -1,21 +1,20 @@
-//! The rows of decisions and of their participants.
-ghost use Rattle.std.specs.Prelude.{map, ◌≡◌, true, false, if◌then◌else◌, Some, IsSomeAnd, IsTrue, IfOk, OnOk, IfErr, ◌≢◌};
+//! The rows of decisions, with their participants: how they are written and taken away.
+ghost use Rattle.std.specs.Prelude.{◌≡◌, ◌⊎◌, true, false, if◌then◌else◌, None, Some, IsSomeAnd, IsTrue, IfOk, OnErr, OnOk, IfErr, ◌≢◌};
 ghost use Rattle.std.specs.List.{AllByRecursion};
-ghost use Rattle.std.specs.FinMap.{contains_key};
-ghost use Rattle.xa_log.specs.KeySet.{empty, insert, from_list, items, KeySet};
+ghost use Rattle.std.specs.FinMap.{contains_key, get};
+ghost use Rattle.xa_log.specs.KeySet.{empty, insert, from_list, KeySet};
 ghost use Rattle.sqlite.specs.State.{HasCleanDisk, KeepsCommit, Survives};
 ghost use Rattle.sqlite.specs.Held.{state};
 ghost use Rattle.xa_base.specs.Branch.{branch_cmp};
 ghost use Rattle.xa_log.specs.Contract.{Makes, FitsRow};
-ghost use Rattle.xa_log.specs.Content.{Content, with_commit, participants_of, without_decision};
-ghost use Rattle.xa_log.specs.Rows.{content_of, participant_from};
-ghost use Rattle.xa_log.specs.Sql.{IsOrderly, content_in, OnlyReads, MayChange, HasWritten, MayInsert, Lacks};
+ghost use Rattle.xa_log.specs.Content.{Content, with_commit, without_decision};
+ghost use Rattle.xa_log.specs.Rows.{IsLog, content_of};
+ghost use Rattle.xa_log.specs.Sql.{IsOrderly, content_in, OnlyReads, MayChange, HasWritten, MayInsert};
 ghost use Rattle.xa_log.specs.declared.log_fault.LogFault.{LogFault};
 
 use crate::statements::{ask, run, stored};
-use crate::{LogFault, Logged, fields};
-use sqlite::{Alter, Connection, Row, Transaction, params};
-use std::collections::BTreeSet;
+use crate::{LogFault, Logged};
+use sqlite::{Alter, Connection, Transaction, params};
 use xa_base::{Branch, Gtrid};
 
 /// Whether a transaction has a decision's row.
@@ -64,6 +63,10 @@ fn insert_decision<S: Alter>(tx: &mut Transaction<'_, S>, g: Gtrid) -> Result<()
         (state S.Store tx.new.conn.now)) }
     ensures live { HasCleanDisk (state S.Store tx.new.conn.now)
         → OnOk result (IsTrue (state S.Store tx.old.conn.now).is_open) }
+    ensures absent { IsLog (state S.Store tx.old.conn.now).now
+        → IsTrue (state S.Store tx.old.conn.now).in_transaction
+        → HasCleanDisk (state S.Store tx.new.conn.now) → OnOk result
+        (get (content_of (state S.Store tx.old.conn.now).now.trees).decisions g ≡ None) }
     ensures kept { HasCleanDisk (state S.Store tx.new.conn.now)
         → KeepsCommit (state S.Store tx.old.conn.now) (state S.Store tx.new.conn.now) }
     ensures survives { Survives (state S.Store tx.old.conn.now)
@@ -137,14 +140,17 @@ fn insert_all<S: Alter>(
 ) -> Result<(), LogFault>
     requires fits { FitsRow g }
     requires own { AllByRecursion (λ b. b.gtrid ≡ g) participants.now }
-    ensures honest { HasCleanDisk (state S.Store conn.new) → HasCleanDisk (state S.Store conn.old) }
-    ensures changes { Lacks g (state S.Store conn.old)
-        → MayChange (with_commit g (from_list participants.now)) (state S.Store conn.old)
+    ensures changes { MayChange (with_commit g (from_list participants.now)) (state S.Store conn.old)
         (state S.Store conn.new) }
-    ensures ok { Lacks g (state S.Store conn.old) → IsOrderly (state S.Store conn.old)
-        → HasCleanDisk (state S.Store conn.new)
+    ensures ok { IsOrderly (state S.Store conn.old) → HasCleanDisk (state S.Store conn.new)
         → OnOk result (Makes (with_commit g (from_list participants.now))
         (content_in (state S.Store conn.old)) (content_in (state S.Store conn.new))) }
+    ensures absent { IsOrderly (state S.Store conn.old) → HasCleanDisk (state S.Store conn.new)
+        → OnOk result (IsSomeAnd (content_in (state S.Store conn.old))
+        (λ c. false ≡ contains_key c.decisions g)) }
+    ensures kept { IsOrderly (state S.Store conn.old) → HasCleanDisk (state S.Store conn.new)
+        → OnErr result ((content_in (state S.Store conn.new) ≡ None)
+        ⊎ (content_in (state S.Store conn.new) ≡ content_in (state S.Store conn.old))) }
     ensures unspent { IfErr result (λ fault. fault ≢ LogFault.Spent) }
 {
     if !conn.is_autocommit() {
@@ -157,7 +163,26 @@ fn insert_all<S: Alter>(
     Ok(())
 }
 
-/// Decides that a transaction commits. A row that is there keeps its own participants.
+/// Why a decision was not written: it was there, or else the store failed.
+fn find_cause<S: Alter>(conn: &mut Connection<S>, g: Gtrid) -> Result<Logged, LogFault>
+    requires { FitsRow g }
+    ensures reads { OnlyReads (state S.Store conn.old) (state S.Store conn.new) }
+    ensures ok { IsOrderly (state S.Store conn.old) → HasCleanDisk (state S.Store conn.new)
+        → IfOk result (λ logged. (logged ≡ Logged.Already)
+        × IsSomeAnd (content_in (state S.Store conn.old))
+        (λ c. (content_in (state S.Store conn.new) ≡ Some c)
+        × (true ≡ contains_key c.decisions g))) }
+    ensures unspent { IfErr result (λ fault. fault ≢ LogFault.Spent) }
+{
+    if find_decision(conn, g)? {
+        Ok(Logged::Already)
+    } else {
+        Err(LogFault::Store)
+    }
+}
+
+/// Decides that a transaction commits. A row that is there keeps its own participants: it is the key of its table, so
+/// that no look comes before the rows are written.
 pub(crate) fn commit<S: Alter>(
     conn: &mut Connection<S>,
     g: Gtrid,
@@ -176,11 +201,11 @@ pub(crate) fn commit<S: Alter>(
         ≡ (if contains_key c.decisions g then Logged.Already else Logged.New))) }
     ensures unspent { IfErr result (λ fault. fault ≢ LogFault.Spent) }
 {
-    if find_decision(conn, g)? {
-        return Ok(Logged::Already);
+    match insert_all(conn, g, participants) {
+        Ok(()) => Ok(Logged::New),
+        Err(LogFault::Store) => find_cause(conn, g),
+        Err(fault) => Err(fault),
     }
-    insert_all(conn, g, participants)?;
-    Ok(Logged::New)
 }
 
 /// Takes a decision away with its participants, and answers whether it was there.
@@ -201,39 +226,4 @@ pub(crate) fn done<S: Alter>(conn: &mut Connection<S>, g: Gtrid) -> Result<bool,
     }
     delete_decision(conn, g)?;
     Ok(true)
-}
-
-/// The branches of a transaction that rows name, in the order of their identifiers.
-fn listed(g: Gtrid, rows: Vec<Row>) -> Result<Vec<Branch>, LogFault>
-    ensures ok { IfOk result (λ list.
-        list.items ≡ items (from_list {R = branch_cmp} (map (participant_from g) rows.items))) }
-    ensures unspent { IfErr result (λ fault. fault ≢ LogFault.Spent) }
-{
-    let alloc = *rows.allocator();
-    let mut branches = BTreeSet::new(alloc);
-    for row in &rows {
-        branches.insert(fields::participant(g, row)?)?;
-    }
-    Ok(branches.into_iter().collect(alloc)?)
-}
-
-/// The branches whose xa_commit a transaction waits for, in the order of their identifiers.
-pub(crate) fn participants<S: Alter>(
-    conn: &mut Connection<S>,
-    g: Gtrid,
-) -> Result<Vec<Branch>, LogFault>
-    requires { FitsRow g }
-    ensures reads { OnlyReads (state S.Store conn.old) (state S.Store conn.new) }
-    ensures ok { IsOrderly (state S.Store conn.old) → HasCleanDisk (state S.Store conn.new) →
-        IfOk result (λ list. IsSomeAnd (content_in (state S.Store conn.old)) (λ c.
-        (content_in (state S.Store conn.new) ≡ Some c)
-        × (list.items ≡ items (participants_of c g)))) }
-    ensures unspent { IfErr result (λ fault. fault ≢ LogFault.Spent) }
-{
-    let rows = ask(
-        conn,
-        "SELECT thread, rm FROM participant WHERE inc = ?1 AND seq = ?2",
-        params![stored(g.incarnation), stored(g.sequence)],
-    )?;
-    listed(g, rows)
 }

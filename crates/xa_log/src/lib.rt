@@ -24,6 +24,7 @@ mod sql_log;
 mod statements;
 mod tables;
 mod version;
+mod waiting;
 
 pub use commands::{Command, Told, run_commands};
 pub use decision_log::{DecisionLog, Logged};

@@ -14,7 +14,7 @@ mod opening;
 use crate::decision_log::{DecisionLog, Logged};
 use crate::log_fault::{LogFault, counted};
 use crate::log_rows::LogRows;
-use crate::{decisions, heuristics, incarnation, rows, tables};
+use crate::{decisions, heuristics, incarnation, rows, tables, waiting};
 use sqlite::{Alter, Connection};
 use xa_base::{Branch, Gtrid, How};
 
@@ -139,7 +139,7 @@ impl<S: Alter> DecisionLog for SqlLog<S> {
     }
 
     fn participants(&mut self, g: Gtrid) -> Result<Vec<Branch>, LogFault> {
-        let list = decisions::participants(&mut self.conn, g);
+        let list = waiting::participants(&mut self.conn, g);
         counted(&mut self.faults, list)
     }
 

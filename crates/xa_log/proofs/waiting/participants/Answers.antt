@@ -6,7 +6,7 @@ use Rattle.xa_log.proofs.Texts.{find_participants_plain}
 use Rattle.xa_log.proofs.Parts.{if_ok}
 use Rattle.xa_log.proofs.Contents.{gtrid_params, two_params}
 use Rattle.xa_log.proofs.Listed.{told_participants}
-use Rattle.xa_log.proofs.decisions.participants.Goals as goal
+use Rattle.xa_log.proofs.waiting.participants.Goals as goal
 
 pub ask-requires : goal.ask-requires
 ask-requires g c = find_participants_plain

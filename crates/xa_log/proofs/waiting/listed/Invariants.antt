@@ -3,7 +3,7 @@ use Rattle.std.specs.BTreeSet.{IsOrdered}
 use Rattle.xa_base.specs.Branch.{branch_cmp}
 use Rattle.xa_log.specs.Rows.{participant_from}
 use Rattle.xa_log.specs.KeySet.{from_list}
-use Rattle.xa_log.proofs.decisions.listed.Given as goal
+use Rattle.xa_log.proofs.waiting.listed.Given as goal
 
 abbrev pub invariant-loop-row : goal.invariant-loop-row
 invariant-loop-row l =

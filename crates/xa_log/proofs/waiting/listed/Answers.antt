@@ -5,7 +5,7 @@ use Rattle.xa_base.specs.Branch.{branch_cmp}
 use Rattle.xa_log.specs.Rows.{participant_from}
 use Rattle.xa_log.specs.KeySet.{from_list}
 use Rattle.xa_log.proofs.Keyed.{set_more, set_listed}
-use Rattle.xa_log.proofs.decisions.listed.Goals as goal
+use Rattle.xa_log.proofs.waiting.listed.Goals as goal
 
 pub loop-row-preserved : goal.loop-row-preserved
 loop-row-preserved c =
