@@ -23,12 +23,16 @@ module _ {T : Type 0} where
       rw (← e, from, same, w)
 
   -- the oldest item came out
-  pub pop-flow : (n : ℕ) (r r' k k' : List T) (x : T) (f : Flow T)
-      → flow (drop n r) k ≡ f → n ≤ length r → r' ≡ r ++ x ∷ [] → k ≡ x ∷ k' → PassesOn f x (flow (drop n r') k')
-  pop-flow n r r' k k' x f e within came first =
+  pub pop-flow : (n n' : ℕ) (r r' r'' k k' k'' s : List T) (x : T) (f : Flow T)
+      → n' ≡ n → flow (drop n r) k ≡ f → n ≤ length r → r ++ k ≡ s → r' ≡ r ++ x ∷ [] → k ≡ x ∷ k' → r'' ≡ r' → r'' ++ k'' ≡ s
+      → PassesOn f x (flow (drop n' r'') k'')
+  pop-flow n n' r r' r'' k k' k'' s x f from e within all came first same seen =
+      let a : r ++ x ∷ [] ++ k' ≡ r ++ (x ∷ k') = append_assoc r (x ∷ []) k' in
+      let b : r ++ x ∷ [] ++ k'' ≡ r ++ x ∷ [] ++ k' = cc in
+      let w : k'' ≡ k' = append_cancel_left (r ++ x ∷ []) k'' k' b in
       rw (← e) (record {
-        oldest = first;
-        through = rw came (drop-append-le n r (x ∷ []) within);
+        oldest = cc;
+        through = rw (from, same, came) (drop-append-le n r (x ∷ []) within);
       })
 
   -- what waits is still seen after a look

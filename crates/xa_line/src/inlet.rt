@@ -18,7 +18,7 @@ impl<T> Inlet<T> {
     ghost use Rattle.std.specs.Prelude.{◌≡◌, ◌<◌, ◌≤◌, ◌↔◌, ◌+◌, ◌∷◌, ◌++◌, [], length};
     ghost use Rattle.std.specs.Prelude.{IsOk, IsTrue, OnErr, OnOk, IfErr};
     ghost use Rattle.rtrb.specs.Ring.{received, sent};
-    ghost use Rattle.xa_line.specs.Queue.{AreEnds, SameInlet, SameOutlet, SeesAll, free, pushed, seen};
+    ghost use Rattle.xa_line.specs.Queue.{AreEnds, IsReady, SameInlet, SameOutlet, SeesAll, free, pushed, seen};
     ghost use Rattle.xa_line.specs.Traffic.{places};
 
     /// Puts an item in, or gives it back where no free place was seen.
@@ -67,7 +67,7 @@ impl<T> Inlet<T> {
             (sent self.new.producer ≡ sent self.old.producer) }
         ensures outlet { SameOutlet outlet.old outlet.new ×
             (received outlet.new.consumer ≡ received outlet.old.consumer) }
-        ensures seen { SeesAll self.new outlet.new }
+        ensures ready { IsReady self.new outlet.new }
         ensures room { places ≤ free self.new + length (seen outlet.new) }
     {
         let producer = &mut self.producer;
@@ -78,14 +78,12 @@ impl<T> Inlet<T> {
 
     /// Sees a free place where there is one. That takes both ends in one thread.
     pub fn find_room(&mut self, outlet: &mut Outlet<T>)
-        requires sees { SeesAll self.old outlet.old }
-        requires room { length (seen outlet.old) < places }
+        requires { SeesAll self.old outlet.old }
         ensures inlet { SameInlet self.old self.new ×
             (sent self.new.producer ≡ sent self.old.producer) }
         ensures outlet { SameOutlet outlet.old outlet.new ×
             (received outlet.new.consumer ≡ received outlet.old.consumer) }
-        ensures seen { SeesAll self.new outlet.new }
-        ensures found { 0 < free self.new }
+        ensures ready { IsReady self.new outlet.new }
     {
         if self.producer.cached_slots() == 0 {
             self.look(outlet);

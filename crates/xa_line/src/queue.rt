@@ -8,7 +8,8 @@ use std::marker::Model;
 use std::snapshot::Snapshot;
 use xa_base::{LINE_LIMIT, Memory};
 
-/// A queue of at most 64 items. One thread holds both ends, and the outlet has seen all that went in.
+/// A queue of at most 64 items. One thread holds both ends, the outlet has seen all that went in, and the inlet a free
+/// place, where there is one.
 #[derive(Drop)]
 pub struct Queue<T> {
     inlet: Inlet<T>,
@@ -20,11 +21,11 @@ impl<T> Model for Queue<T> {
 
     ghost Value = { Flow T };
 
-    ghost use Rattle.xa_line.specs.Queue.{SeesAll, popped, seen};
+    ghost use Rattle.xa_line.specs.Queue.{IsReady, popped, seen};
 
     ghost view = { λ q. record { gone = popped q.outlet; waiting = seen q.outlet } };
 
-    ghost invariant = { λ q. SeesAll q.inlet q.outlet };
+    ghost invariant = { λ q. IsReady q.inlet q.outlet };
 }
 
 impl<T: Drop> Queue<T> {
@@ -76,9 +77,9 @@ impl<T: Drop> Queue<T> {
         requires { length self.old.waiting < places }
         ensures { self.new ≡ with_one_more self.old item }
     {
-        self.inlet.find_room(&mut self.outlet);
         self.inlet.put(item);
         self.outlet.look(&mut self.inlet);
+        self.inlet.find_room(&mut self.outlet);
     }
 
     /// Takes the oldest waiting item out.
@@ -91,7 +92,9 @@ impl<T: Drop> Queue<T> {
         if self.outlet.consumer.cached_slots() == 0 {
             return None;
         }
-        Some(self.outlet.consumer.pop_known())
+        let item = self.outlet.consumer.pop_known();
+        self.inlet.find_room(&mut self.outlet);
+        Some(item)
     }
 
     /// Drops all that waits.
