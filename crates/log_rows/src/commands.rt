@@ -45,7 +45,7 @@ pub(crate) const SECOND_A: Branch = Branch {
 };
 
 /// Whether memory was refused, which is counted.
-fn was_refused<T>(answer: &Result<T, LogFault>, refused: &mut u64) -> bool {
+pub(crate) fn was_refused<T>(answer: &Result<T, LogFault>, refused: &mut u64) -> bool {
     let refused_now = matches!(answer, Err(LogFault::Memory));
     if refused_now {
         *refused = refused.saturating_add(1);
@@ -148,7 +148,7 @@ pub(crate) fn bump<L: DecisionLog>(log: &mut L, refused: &mut u64) -> Result<u64
     log.bump()
 }
 
-fn rows<L: DecisionLog>(log: &mut L, refused: &mut u64) -> Result<LogRows, LogFault> {
+pub(crate) fn rows<L: DecisionLog>(log: &mut L, refused: &mut u64) -> Result<LogRows, LogFault> {
     let answer = log.rows();
     if !was_refused(&answer, refused) {
         return answer;

@@ -7,6 +7,8 @@ mod commands;
 #[cfg(test)]
 mod failing;
 #[cfg(test)]
+mod lists;
+#[cfg(test)]
 mod memory;
 #[cfg(test)]
 mod tables;

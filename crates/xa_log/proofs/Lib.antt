@@ -5,6 +5,7 @@ pub mod Contents
 pub mod DecisionReads
 pub mod DecisionRows
 pub mod Deletes
+pub mod GroupedRows
 pub mod HeldRows
 pub mod HeuristicReads
 pub mod HeuristicRows
@@ -27,5 +28,6 @@ pub mod Parts
 pub mod Plain
 pub mod States
 pub mod Texts
+pub mod Together
 pub mod Values
 pub mod Versions

@@ -1,13 +1,14 @@
 -- What a decision log holds, and what each call changes. Only decisions to commit are kept: no row means rollback (presumed rollback:
 -- XA, section 2.3, Transaction Completion and Recovery).
-use Rattle.std.specs.Prelude.{◌≡◌, ℕ, ◌+◌, ◌-◌, ◌^◌, if◌then◌else◌, List, ◌++◌, [], ◌∷◌, true, Some, unwrap_or}
+use Rattle.std.specs.Prelude.{◌≡◌, ℕ, ◌+◌, ◌-◌, ◌^◌, if◌then◌else◌, List, ◌++◌, [], ◌∷◌, Bool, true, false, Some, unwrap_or}
 use Rattle.std.specs.FinMap.{FinMap, get, contains_key, insert, remove, empty}
-use Rattle.xa_log.specs.KeySet.{KeySet, contains, items}
+use Rattle.xa_log.specs.KeySet.{KeySet, contains, from_list, items}
 use Rattle.xa_log.specs.KeySet.{empty as nobody}
 use Rattle.xa_base.specs.declared.branch.Gtrid.{Gtrid}
 use Rattle.xa_base.specs.declared.branch.Branch.{Branch}
 use Rattle.xa_base.specs.declared.code.How.{How}
 use Rattle.xa_base.specs.Branch.{gtrid_cmp, branch_cmp}
+use Rattle.xa_log.specs.declared.decision.Decision.{Decision}
 use Rattle.xa_log.specs.declared.decision_log.Logged.{Logged}
 use Rattle.xa_log.specs.declared.decision_log.Logged.TheVariants.{New, Already}
 
@@ -41,6 +42,10 @@ all_listed (row ∷ rows) = items row.1 ++ all_listed rows
 abbrev pub logged_as : Content → Gtrid → Logged
 logged_as c g = if contains_key c.decisions g then Already else New
 
+abbrev pub is_new : Logged → Bool
+is_new New = true
+is_new Already = false
+
 -- the participants of a transaction are branches of it
 abbrev pub AreOwn : Content → Type 0
 AreOwn c = (g : Gtrid) (set : KeySet branch_cmp) (b : Branch) → get c.decisions g ≡ Some set → contains set b ≡ true → b.gtrid ≡ g
@@ -53,6 +58,16 @@ with_decision g participants c = record c { decisions = insert c.decisions g par
 -- the first row of a transaction stays, with its own participants
 abbrev pub with_commit : Gtrid → KeySet branch_cmp → Content → Content
 with_commit g participants c = if contains_key c.decisions g then c else with_decision g participants c
+
+-- the rows of a list, each in its turn: of a transaction that is named twice, the first
+abbrev pub with_commits : List Decision → Content → Content
+with_commits [] c = c
+with_commits (d ∷ ds) c = with_commits ds (with_commit d.gtrid (from_list d.participants.items) c)
+
+-- whether each row of a list is new at its turn
+abbrev pub logged_each : List Decision → Content → List Logged
+logged_each [] c = []
+logged_each (d ∷ ds) c = logged_as c d.gtrid ∷ logged_each ds (with_commit d.gtrid (from_list d.participants.items) c)
 
 abbrev pub without_decision : Gtrid → Content → Content
 without_decision g c = record c { decisions = remove c.decisions g }

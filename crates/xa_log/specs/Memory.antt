@@ -1,5 +1,5 @@
 -- What a log in memory holds, and what its failures say.
-use Rattle.std.specs.Prelude.{◌≡◌, ℕ, map, Option, Some, None}
+use Rattle.std.specs.Prelude.{◌≡◌, ℕ, List, map, take, Option, Some, None}
 use Rattle.std.specs.BTreeMap.{BTreeMap}
 use Rattle.std.specs.BTreeSet.{BTreeSet}
 use Rattle.std.specs.FinMap.{FinMap, from_entries}
@@ -8,9 +8,11 @@ use Rattle.xa_base.specs.declared.branch.Gtrid.{Gtrid}
 use Rattle.xa_base.specs.declared.branch.Branch.{Branch}
 use Rattle.xa_base.specs.declared.code.How.{How}
 use Rattle.xa_base.specs.Branch.{gtrid_cmp, branch_cmp}
-use Rattle.xa_log.specs.Content.{AreOwn, Content}
+use Rattle.xa_log.specs.Content.{AreOwn, Content, logged_each, with_commits}
 use Rattle.xa_log.specs.Contract.{AllFit, Moment, one_more_fault}
 use Rattle.xa_log.specs.FailPlan.{calls_after, turn_of}
+use Rattle.xa_log.specs.declared.decision.Decision.{Decision}
+use Rattle.xa_log.specs.declared.decision_log.Logged.{Logged}
 use Rattle.xa_log.specs.declared.fail_log.FailLog.{FailLog}
 use Rattle.xa_log.specs.declared.fail_plan.LogCall.{LogCall}
 use Rattle.xa_log.specs.declared.fail_plan.LogCall.TheVariants.{Commit, Contains, Participants, Done, NoteHeuristic, HeuristicOf, Bump, Rows}
@@ -37,6 +39,11 @@ content_held log = record {
   heuristics = heuristics_in log.heuristics;
   incarnation = log.incarnation;
 }
+
+-- the first n of these decisions have made their rows, and the answers say which were new
+pub record MadeUpTo (ds : List Decision) (n : ℕ) (answers : List Logged) (before now : Content) : Type 0 where
+  pub made : now ≡ with_commits (take n ds) before
+  pub told : answers ≡ logged_each (take n ds) before
 
 -- it is as calls leave it
 pub record IsInOrder (c : Content) : Type 0 where

@@ -10,7 +10,9 @@ use Rattle.xa_log.specs.KeySet.{KeySet}
 use Rattle.xa_base.specs.declared.branch.Gtrid.{Gtrid}
 use Rattle.xa_base.specs.declared.branch.Branch.{Branch}
 use Rattle.xa_base.specs.Branch.{branch_cmp}
-use Rattle.xa_log.specs.Content.{Content, with_decision}
+use Rattle.xa_log.specs.Content.{Content, logged_each, with_commits, with_decision}
+use Rattle.xa_log.specs.declared.decision.Decision.{Decision}
+use Rattle.xa_log.specs.declared.decision_log.Logged.{Logged}
 use Rattle.xa_log.specs.Tables.{log_schema}
 use Rattle.xa_log.specs.Contract.{MayMake, Moment, LeavesAlso, LeavesNoMore}
 use Rattle.sqlite.specs.Effect.{Database}
@@ -109,6 +111,25 @@ pub record MayInsert (g : Gtrid) (s : State) : Type 0 where
   pub inside : IsTrue s.in_transaction
   pub now : IsLog s.now
   pub none : get (content_of s.now.trees).decisions g ≡ None
+
+-- a transaction that began over a log, if that is open, of which the answers say whose rows are new
+pub record MayInsertAll (ds : List Decision) (answers : List Logged) (s : State) : Type 0 where
+  pub inside : IsTrue s.in_transaction
+  pub now : IsTrue s.is_open → IsLog s.now
+  pub told : IsTrue s.is_open → answers ≡ logged_each ds (content_of s.now.trees)
+
+-- in a transaction that began over a log, these decisions have been written
+pub record HasWrittenAll (ds : List Decision) (begun s : State) : Type 0 where
+  pub was_open : IsTrue begun.is_open
+  pub is_open : IsTrue s.is_open
+  pub inside : IsTrue s.in_transaction
+  pub now : IsLog s.now
+  pub sound : IsDatabase s.now
+  pub content : content_of s.now.trees ≡ with_commits ds (content_of begun.now.trees)
+
+-- the answers say whose rows are new in it, if it is open
+abbrev pub AreLoggedIn : List Decision → List Logged → State → Type 0
+AreLoggedIn ds answers s = (c : Content) → content_in s ≡ Some c → answers ≡ logged_each ds c
 
 -- it holds no such decision, if it is open
 abbrev pub Lacks : Gtrid → State → Type 0

@@ -9,7 +9,7 @@ use crate::{DecisionLog, LogFault, LogRows, Logged};
 use std::alloc::Global;
 use xa_base::{Branch, Gtrid, How};
 
-/// A call of a decision log, with what it is given.
+/// A call of a decision log, with what it is given: each but `commit_all`, which leaves what its commits leave in turn.
 #[derive(Debug, Drop)]
 pub enum Command {
     Commit(Gtrid, Vec<Branch>),

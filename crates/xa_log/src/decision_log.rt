@@ -3,11 +3,13 @@ ghost use Rattle.std.specs.Prelude.{◌≡◌, ◌≤◌, ◌+◌, Err, Option, 
 ghost use Rattle.std.specs.FinMap.{contains_key, entries, get, keys};
 ghost use Rattle.xa_log.specs.KeySet.{from_list, items};
 ghost use Rattle.std.specs.List.{AllByRecursion};
-ghost use Rattle.xa_log.specs.Content.{AreOwn, Content, all_listed, with_bump, with_commit, last_number, logged_as, participants_of, with_record, unchanged, without_decision};
+ghost use Rattle.xa_log.specs.Content.{AreOwn, Content, all_listed, with_bump, with_commit, with_commits, last_number, logged_as, logged_each, participants_of, with_record, unchanged, without_decision};
 ghost use Rattle.xa_log.specs.Contract.{AllFit, Changes, FitsRow, Moment, Reads, fault_of};
 
+use crate::decision::Decision;
 use crate::log_fault::LogFault;
 use crate::log_rows::LogRows;
+use std::alloc::Global;
 use xa_base::{Branch, Gtrid, How};
 
 /// The greatest number that a row can have, and so the last incarnation.
@@ -66,6 +68,21 @@ pub trait DecisionLog {
         ensures changes { Changes (with_commit g (from_list participants.now))
             (moment self.old) (moment self.new) result }
         ensures cause { says LogCall.Commit (with_commit g (from_list participants.now))
+            self.old self.new (fault_of result) };
+
+    /// Decides that these transactions commit, as [`commit`](DecisionLog::commit) of each in turn, and answers for each
+    /// whether its row is new. All rows are written at once: a crash, or a call that fails, leaves all of them or none.
+    /// One that is named twice has one row, with the participants that come first.
+    fn commit_all(&mut self, alloc: Global, decisions: &[Decision]) -> Result<Vec<Logged>, LogFault>
+        requires fits { AllByRecursion (λ d. FitsRow d.gtrid) decisions.now }
+        requires own { AllByRecursion (λ d.
+            AllByRecursion (λ b. b.gtrid ≡ d.gtrid) d.participants.items) decisions.now }
+        ensures answer { (moment self.old).is_in_order → (moment self.new).is_honest →
+            IfOk result (λ list. IsSomeAnd (moment self.old).content (λ c.
+            list.items ≡ logged_each decisions.now c)) }
+        ensures changes { Changes (with_commits decisions.now)
+            (moment self.old) (moment self.new) result }
+        ensures cause { says LogCall.Commit (with_commits decisions.now)
             self.old self.new (fault_of result) };
 
     /// Whether a transaction is decided to commit.

@@ -54,7 +54,10 @@ fn delete_decision<S: Alter>(conn: &mut Connection<S>, g: Gtrid) -> Result<(), L
 }
 
 /// Writes the first row of a transaction, its decision.
-fn insert_decision<S: Alter>(tx: &mut Transaction<'_, S>, g: Gtrid) -> Result<(), LogFault>
+pub(crate) fn insert_decision<S: Alter>(
+    tx: &mut Transaction<'_, S>,
+    g: Gtrid,
+) -> Result<(), LogFault>
     requires { FitsRow g }
     ensures same_reference { tx.new.conn.ghost_name ≡ tx.old.conn.ghost_name }
     ensures written { MayInsert g (state S.Store tx.old.conn.now)
@@ -108,7 +111,7 @@ fn insert_participant<S: Alter>(tx: &mut Transaction<'_, S>, branch: Branch) -> 
 }
 
 /// Writes the rows of all participants.
-fn insert_participants<S: Alter>(
+pub(crate) fn insert_participants<S: Alter>(
     tx: &mut Transaction<'_, S>,
     g: Gtrid,
     participants: &[Branch],

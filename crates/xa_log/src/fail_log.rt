@@ -4,11 +4,13 @@ ghost use Rattle.std.specs.Prelude.{◌≡◌, Err};
 ghost use Rattle.xa_log.specs.declared.fail_plan.Turn.TheVariants.{FailsAfter, Runs};
 ghost use Rattle.xa_log.specs.declared.log_fault.LogFault.TheVariants.{Store};
 
+use crate::decision::Decision;
 use crate::decision_log::{DecisionLog, Logged};
 use crate::fail_plan::{FailPlan, LogCall, Turn};
 use crate::log_fault::{LogFault, counted};
 use crate::log_rows::LogRows;
 use crate::mem_log::MemLog;
+use std::alloc::Global;
 use xa_base::{Branch, Gtrid, How};
 
 /// A log in memory some of whose calls answer [`LogFault::Store`], as a plan says. The others answer what a [`MemLog`]
@@ -90,6 +92,18 @@ impl DecisionLog for FailLog {
             turn => answer_at(turn, self.log.commit(g, participants)),
         };
         counted(&mut self.faults, logged)
+    }
+
+    fn commit_all(
+        &mut self,
+        alloc: Global,
+        decisions: &[Decision],
+    ) -> Result<Vec<Logged>, LogFault> {
+        let answers = match self.turn(LogCall::Commit) {
+            Turn::FailsBefore => Err(LogFault::Store),
+            turn => answer_at(turn, self.log.commit_all(alloc, decisions)),
+        };
+        counted(&mut self.faults, answers)
     }
 
     fn contains(&mut self, g: Gtrid) -> Result<bool, LogFault> {

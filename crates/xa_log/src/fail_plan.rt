@@ -4,6 +4,7 @@ ghost use Rattle.std.specs.Prelude.{◌≡◌};
 /// The kinds of a log's calls that can fail.
 #[derive(Clone, Copy, Debug, PartialEq, Eq)]
 pub enum LogCall {
+    /// `commit`, and `commit_all`, which counts as one.
     Commit,
     Contains,
     Participants,

@@ -13,7 +13,7 @@ use crate::fields::number;
 use crate::statements::{ask, run, stored};
 use sqlite::{Alter, Connection, params};
 
-fn find_incarnation<S: Alter>(conn: &mut Connection<S>) -> Result<u64, LogFault>
+pub(crate) fn find_incarnation<S: Alter>(conn: &mut Connection<S>) -> Result<u64, LogFault>
     ensures reads { OnlyReads (state S.Store conn.old) (state S.Store conn.new) }
     ensures ok { IsOrderly (state S.Store conn.old) → HasCleanDisk (state S.Store conn.new) →
         IfOk result (λ n. IsSomeAnd (content_in (state S.Store conn.old)) (λ c.

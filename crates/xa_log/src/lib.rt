@@ -9,11 +9,13 @@
 #![tactic(auto)]
 
 mod commands;
+mod decision;
 mod decision_log;
 mod decisions;
 mod fail_log;
 mod fail_plan;
 mod fields;
+mod grouped;
 mod heuristics;
 mod incarnation;
 mod log_fault;
@@ -27,6 +29,7 @@ mod version;
 mod waiting;
 
 pub use commands::{Command, Told, run_commands};
+pub use decision::Decision;
 pub use decision_log::{DecisionLog, Logged};
 pub use fail_log::FailLog;
 pub use fail_plan::{FailPlan, LogCall};

@@ -4,6 +4,9 @@ ghost use Rattle.std.specs.Prelude.{◌≡◌, IfOk};
 ghost use Rattle.xa_log.specs.KeySet.{from_list};
 ghost use Rattle.xa_base.specs.Branch.{branch_cmp};
 
+mod grouped;
+
+use crate::decision::Decision;
 use crate::decision_log::{DecisionLog, LAST_NUMBER, Logged};
 use crate::log_fault::{LogFault, counted};
 use crate::log_rows::LogRows;
@@ -194,6 +197,15 @@ impl DecisionLog for MemLog {
     fn commit(&mut self, g: Gtrid, participants: &[Branch]) -> Result<Logged, LogFault> {
         let logged = self.put_decision(g, participants);
         counted(&mut self.faults, logged)
+    }
+
+    fn commit_all(
+        &mut self,
+        alloc: Global,
+        decisions: &[Decision],
+    ) -> Result<Vec<Logged>, LogFault> {
+        let answers = self.put_all(alloc, decisions);
+        counted(&mut self.faults, answers)
     }
 
     fn contains(&mut self, g: Gtrid) -> Result<bool, LogFault> {

@@ -11,11 +11,13 @@ ghost use Rattle.xa_log.specs.Opened.{IsBlank, IsFoundLog, IsTakeable, IsKnownDa
 
 mod opening;
 
+use crate::decision::Decision;
 use crate::decision_log::{DecisionLog, Logged};
 use crate::log_fault::{LogFault, counted};
 use crate::log_rows::LogRows;
-use crate::{decisions, heuristics, incarnation, rows, tables, waiting};
+use crate::{decisions, grouped, heuristics, incarnation, rows, tables, waiting};
 use sqlite::{Alter, Connection};
+use std::alloc::Global;
 use xa_base::{Branch, Gtrid, How};
 
 /// A decision log in four tables of a database, in a file or in memory. While the log has it, no other connection
@@ -131,6 +133,15 @@ impl<S: Alter> DecisionLog for SqlLog<S> {
     fn commit(&mut self, g: Gtrid, participants: &[Branch]) -> Result<Logged, LogFault> {
         let logged = decisions::commit(&mut self.conn, g, participants);
         counted(&mut self.faults, logged)
+    }
+
+    fn commit_all(
+        &mut self,
+        alloc: Global,
+        decisions: &[Decision],
+    ) -> Result<Vec<Logged>, LogFault> {
+        let answers = grouped::commit_all(&mut self.conn, alloc, decisions);
+        counted(&mut self.faults, answers)
     }
 
     fn contains(&mut self, g: Gtrid) -> Result<bool, LogFault> {

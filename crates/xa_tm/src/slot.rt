@@ -3,9 +3,10 @@
 ghost use Rattle.std.specs.Prelude.{◌≡◌, Some, None, is_some, Err};
 ghost use Rattle.xa_log.specs.Contract.{one_more_fault};
 
+use std::alloc::Global;
 use std::snapshot::Snapshot;
 use xa_base::{Branch, Gtrid, How};
-use xa_log::{DecisionLog, LogFault, LogRows, Logged, counted};
+use xa_log::{Decision, DecisionLog, LogFault, LogRows, Logged, counted};
 
 /// A place for a decision log, which may be taken out and another put in.
 ///
@@ -90,6 +91,17 @@ impl<L: DecisionLog + Drop> DecisionLog for Slot<L> {
     fn commit(&mut self, g: Gtrid, participants: &[Branch]) -> Result<Logged, LogFault> {
         match &mut self.log {
             Some(log) => log.commit(g, participants),
+            None => without_log(&mut self.faults),
+        }
+    }
+
+    fn commit_all(
+        &mut self,
+        alloc: Global,
+        decisions: &[Decision],
+    ) -> Result<Vec<Logged>, LogFault> {
+        match &mut self.log {
+            Some(log) => log.commit_all(alloc, decisions),
             None => without_log(&mut self.faults),
         }
     }

@@ -1,0 +1,131 @@
+//! Lists of decisions, which each log writes alike.
+
+ghost use Rattle.std.specs.Prelude.{◌≡◌, IfOk};
+ghost use Rattle.std.specs.List.{AllByRecursion};
+ghost use Rattle.xa_log.specs.Contract.{FitsRow};
+
+use crate::commands::{
+    FIRST, FIRST_A, FIRST_B, SECOND, SECOND_A, THIRD, commit, contains, rows, was_refused,
+};
+use std::alloc::Global;
+use std::process::Abort;
+use std::test::Fail;
+use xa_base::{Branch, Gtrid};
+use xa_log::{Decision, DecisionLog, FailLog, FailPlan, LogCall, LogFault, Logged, MemLog, SqlLog};
+
+/// A decision with these participants. It is made again where memory is refused.
+fn decision(alloc: Global, g: Gtrid, participants: &[Branch]) -> Result<Decision, LogFault>
+    requires fits { FitsRow g }
+    requires own { AllByRecursion (λ b. b.gtrid ≡ g) participants.now }
+    ensures fits { IfOk result (λ d. FitsRow d.gtrid) }
+    ensures own { IfOk result (λ d.
+        AllByRecursion (λ b. b.gtrid ≡ d.gtrid) d.participants.items) }
+{
+    let participants = Vec::from_slice(alloc, participants).or_else(|_| Vec::from_slice(
+        alloc,
+        participants,
+    ))?;
+    Ok(Decision {
+        gtrid: g,
+        participants,
+    })
+}
+
+fn commit_all<L: DecisionLog>(
+    log: &mut L,
+    refused: &mut u64,
+    alloc: Global,
+    decisions: &[Decision],
+) -> Result<Vec<Logged>, LogFault>
+    requires fits { AllByRecursion (λ d. FitsRow d.gtrid) decisions.now }
+    requires own { AllByRecursion (λ d.
+        AllByRecursion (λ b. b.gtrid ≡ d.gtrid) d.participants.items) decisions.now }
+{
+    let answer = log.commit_all(alloc, decisions);
+    if !was_refused(&answer, refused) {
+        return answer;
+    }
+    log.commit_all(alloc, decisions)
+}
+
+/// Writes a list at a log that has SECOND: FIRST, which is named twice, SECOND again, and THIRD.
+fn write_four<L: DecisionLog>(
+    log: &mut L,
+    refused: &mut u64,
+    alloc: Global,
+) -> Result<Vec<Logged>, LogFault> {
+    let decisions = [
+        decision(alloc, FIRST, &[FIRST_A])?,
+        decision(alloc, SECOND, &[])?,
+        decision(alloc, FIRST, &[FIRST_B])?,
+        decision(alloc, THIRD, &[])?,
+    ];
+    commit_all(log, refused, alloc, &decisions)
+}
+
+/// Writes lists at an empty log.
+fn write_lists<L: DecisionLog>(rt: &impl Abort, log: &mut L, alloc: Global) -> Result<(), Fail> {
+    let refused = &mut 0;
+    assert_eq!(rt; commit(log, refused, SECOND, &[SECOND_A])?, Logged::New);
+    let answers = write_four(log, refused, alloc)?;
+    let expected = [Logged::New, Logged::Already, Logged::Already, Logged::New];
+    assert!(rt; answers.as_slice() == expected.as_slice());
+    let rows = rows(log, refused)?;
+    assert!(rt; rows.decisions.as_slice() == [FIRST, SECOND, THIRD].as_slice());
+    assert!(rt; rows.participants.as_slice() == [FIRST_A, SECOND_A].as_slice());
+    let answers = write_four(log, refused, alloc)?;
+    assert!(rt; answers.as_slice() == [Logged::Already; 4].as_slice());
+    let answers = commit_all(log, refused, alloc, &[])?;
+    assert!(rt; answers.is_empty());
+    assert_eq!(rt; log.faults(), *refused);
+    Ok(())
+}
+
+#[test]
+fn a_log_in_memory_writes_lists(rt: HostRuntime) -> Result<(), Fail> {
+    write_lists(&rt, &mut MemLog::new(rt.alloc()), rt.alloc())
+}
+
+#[test]
+fn a_log_in_tables_writes_lists(rt: HostRuntime) -> Result<(), Fail> {
+    let alloc = rt.alloc();
+    let log = SqlLog::open_in_memory(alloc).or_else(|_| SqlLog::open_in_memory(alloc));
+    write_lists(&rt, &mut log?, alloc)
+}
+
+#[test]
+fn a_log_that_fails_by_a_plan_writes_lists(rt: HostRuntime) -> Result<(), Fail> {
+    let plan = FailPlan::Every {
+        kind: LogCall::Bump,
+    };
+    let mut log = FailLog::new(MemLog::new(rt.alloc()), plan);
+    write_lists(&rt, &mut log, rt.alloc())
+}
+
+/// Whether FIRST and THIRD are there after a list whose call fails, by the plan, with its change made or not.
+fn left_of_list(alloc: Global, made: bool) -> Result<[bool; 2], LogFault> {
+    let plan = FailPlan::Once {
+        kind: LogCall::Commit,
+        at: 1,
+        made,
+    };
+    let mut log = FailLog::new(MemLog::new(alloc), plan);
+    match write_four(&mut log, &mut 0, alloc) {
+        Err(LogFault::Store) => {}
+        _ => return Err(LogFault::Version),
+    }
+    Ok([
+        contains(&mut log, &mut 0, FIRST)?,
+        contains(&mut log, &mut 0, THIRD)?,
+    ])
+}
+
+#[test]
+fn a_list_is_one_commit_of_a_plan(rt: HostRuntime) -> Result<(), Fail> {
+    assert!(rt; left_of_list(rt.alloc(), false)? == [false; 2]);
+    // a list that is refused memory has changed nothing, and its second run isn't refused any
+    let made = left_of_list(rt.alloc(), true)?;
+    assert!(rt; made == [true; 2] || made == [false; 2]);
+    assert!(rt; made == [true; 2] || left_of_list(rt.alloc(), true)? == [true; 2]);
+    Ok(())
+}
