@@ -119,7 +119,7 @@ pub(crate) fn write_rows<R: Wait + Clock, J: Run, G: Gate, L: DecisionLog>(
     for _ in rt.forever() {
         let left = crew.docket.is_left();
         if write_asked(alloc, crew, journal)? {
-            idle = Idle::NEW;
+            idle.found();
         } else if left {
             return Ok(());
         } else if crew.signals.is_stopped() {
