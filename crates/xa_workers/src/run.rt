@@ -208,6 +208,9 @@ fn run_named<
 /// the board, has its row written and settles the claim, and then sends xa_commit to the branches that voted yes. A job
 /// with a no, and one whose claim isn't won, gets xa_rollback.
 ///
+/// A worker with nothing to do looks again for a while, yields, and then sleeps until it is woken. The clock tells it only
+/// whether a yield went to another program, and then it sleeps at once.
+///
 /// The clauses say what the jobs came to, for some incarnation that the log gave: `ends`, that each job ended as its
 /// votes say, or was rolled back by the recovery; `plain`, that without a recovery each ended as its votes say;
 /// `outcome`, the fates of all branches, that the resource managers have these and no other branch, and that the log has
