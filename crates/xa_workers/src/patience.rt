@@ -8,14 +8,15 @@ use std::{hint, thread};
 /// How often an idle worker looks before it yields, where each worker has a processor of its own.
 const MOST_LOOKS: u32 = 200;
 
-/// How often it then yields before it sleeps.
-const MOST_YIELDS: u32 = 50;
+/// How often it then yields before it sleeps: for longer than it takes to wake a processor that has nothing to do, so
+/// that one worker that fell asleep isn't followed by all.
+const MOST_YIELDS: u32 = 1_000;
 
 /// A yield that took more microseconds went to another program.
 const LONG_YIELD: u128 = 500;
 
-/// How often a worker sleeps at once after its first long yield. Each later one doubles it.
-const FIRST_SLEEPS: u32 = 128;
+/// How often a worker sleeps at once after its first long yield. Each later one makes it eight times as often.
+const FIRST_SLEEPS: u32 = 16;
 
 /// How often it does so at most after one long yield.
 const MOST_SLEEPS: u32 = 4_096;
@@ -110,7 +111,7 @@ impl Idle {
         };
         if took.as_micros() > LONG_YIELD {
             self.sleeps = self.penalty;
-            self.penalty = self.penalty.saturating_mul(2).min(MOST_SLEEPS);
+            self.penalty = self.penalty.saturating_mul(8).min(MOST_SLEEPS);
         }
     }
 }
