@@ -5,15 +5,14 @@ use Rattle.std.proofs.lemmas.List.{take_all, take_more}
 use Rattle.std.specs.List.{list_any}
 use Rattle.std.specs.FinMap.{get, contains_key, get-insert}
 use Rattle.sqlite.specs.Tree.{Trees}
-use Rattle.sqlite.specs.Effect.{Database, IsDatabase}
+use Rattle.sqlite.specs.Effect.{Database}
 use Rattle.sqlite.specs.declared.error.Error.{Error}
 use Rattle.sqlite.specs.State.{State, HasCleanDisk, Shows, KeepsCommit}
 use Rattle.sqlite.specs.Steps.{FailsToCommit}
 use Rattle.xa_base.specs.declared.branch.Gtrid.{Gtrid}
-use Rattle.xa_base.specs.Branch.{gtrid_cmp, branch_cmp, gtrid_eq}
+use Rattle.xa_base.specs.Branch.{gtrid_eq}
 use Rattle.xa_base.proofs.BranchOrder.{gtrids_total, exact_gtrids}
-use Rattle.xa_log.specs.KeySet.{KeySet}
-use Rattle.xa_log.specs.Content.{Content, is_new, logged_as, logged_each, with_commit, with_commits, with_decision}
+use Rattle.xa_log.specs.Content.{Content, is_new, logged_as, logged_each, with_commits, with_decision}
 use Rattle.xa_log.specs.Contract.{Makes}
 use Rattle.xa_log.specs.Rows.{IsLog, content_of}
 use Rattle.xa_log.specs.Sql.{AreLogTrees, AreLoggedIn, HasWritten, HasWrittenAll, IsOrderly, IsShutOrAsBefore, MayInsert, MayInsertAll, OnlyReads, content_in}
