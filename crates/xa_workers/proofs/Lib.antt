@@ -1,5 +1,6 @@
 pub mod Crossing
 pub mod FateOrder
+pub mod Grouped
 pub mod Keeps
 pub mod OwnBranches
 pub mod Places

@@ -7,8 +7,9 @@ use Rattle.xa_base.specs.Branch.{branch_cmp}
 use Rattle.xa_base.specs.declared.branch.Gtrid.{Gtrid}
 use Rattle.xa_base.specs.declared.step.Outcome.{Outcome}
 use Rattle.xa_base.specs.declared.step.Outcome.TheVariants.{Commit}
-use Rattle.xa_log.specs.Content.{Content, with_bump}
+use Rattle.xa_log.specs.Content.{Content, with_bump, with_commits}
 use Rattle.xa_log.specs.KeySet.{KeySet, from_list}
+use Rattle.xa_log.specs.declared.decision.Decision.{Decision}
 use Rattle.xa_log.specs.declared.decision_log.DecisionLog as DecisionLog
 use Rattle.xa_workers.specs.Jobs.{gtrid_of, is_yes, votes_of, yes_branches}
 use Rattle.xa_workers.specs.declared.jobs.Jobs.{Jobs}
@@ -49,6 +50,12 @@ pub record HasRows (incarnation : ℕ) (rows : ℕ → Option (KeySet branch_cmp
   pub others : (g : Gtrid) → ((i : ℕ) → g ≢ gtrid_of incarnation i) → get after.decisions g ≡ get before.decisions g
   pub heuristics : after.heuristics ≡ before.heuristics
   pub same_incarnation : after.incarnation ≡ before.incarnation
+
+-- where a log has the rows of the jobs that are noted in one list, these decisions make it have those that are noted in another
+abbrev pub Adds : Jobs → (incarnation : ℕ) → (noted : List Bool) → List Decision → (now_noted : List Bool) → Type 0
+Adds jobs incarnation noted decisions now_noted = (before c : Content)
+    → HasRows incarnation (written_rows (participants_of_job jobs incarnation) noted) before c
+    → HasRows incarnation (written_rows (participants_of_job jobs incarnation) now_noted) before (with_commits decisions c)
 
 -- no job has a row
 abbrev pub no_rows : (i : ℕ) → Option (KeySet branch_cmp)

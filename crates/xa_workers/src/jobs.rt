@@ -7,6 +7,7 @@ ghost use Rattle.xa_workers.specs.Jobs.{votes_of, yes_branch, yes_branches};
 use crate::limits::JOB_LIMIT;
 use std::alloc::{AllocError, Global};
 use xa_base::{Branch, Gtrid, Vote, Xid};
+use xa_log::Decision;
 
 /// Global transactions to be run at once. Job `i`, from 0, belongs to thread `i` modulo `threads`, and has a branch at
 /// each resource manager whose vote isn't `None`. Its gtrid is the incarnation that the log gives the run, and the
@@ -176,5 +177,24 @@ impl Jobs {
         (0..self.rms)
             .filter_map(|rm| self.yes_branch(incarnation, job, rm))
             .collect(alloc)
+    }
+
+    /// The decision to commit a job, which waits for its branches that vote yes.
+    pub(crate) fn decision(
+        &self,
+        alloc: Global,
+        incarnation: u64,
+        job: usize,
+    ) -> Result<Decision, AllocError>
+        requires job { job < 2 ^ 32 }
+        requires threads { 0 < self.now.threads }
+        ensures gtrid { IfOk result (λ d. d.gtrid ≡ gtrid_of incarnation job) }
+        ensures participants { IfOk result (λ d. d.participants.items
+            ≡ yes_branches self.now incarnation job) }
+    {
+        Ok(Decision {
+            gtrid: gtrid(incarnation, job),
+            participants: self.yes_branches(alloc, incarnation, job)?,
+        })
     }
 }

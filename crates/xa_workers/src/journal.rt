@@ -1,9 +1,12 @@
 //! The log's worker.
 ghost use Rattle.std.specs.Prelude.{◌≡◌, ◌≤◌, ◌<◌, IfOk, OnOk, vec_len};
 ghost use Rattle.xa_log.specs.Content.{last_number};
-ghost use Rattle.xa_workers.specs.Rows.{HasRowsOf, Logs, no_rows};
+ghost use Rattle.xa_log.specs.Contract.{FitsRow};
+ghost use Rattle.std.specs.List.{AllByRecursion};
+ghost use Rattle.xa_workers.specs.Rows.{Adds, HasRowsOf, Logs, no_rows};
 
 use crate::crew::Crew;
+use crate::docket::Asked;
 use crate::fault::Halt;
 use crate::jobs::gtrid;
 use crate::limits::JOB_LIMIT;
@@ -14,7 +17,7 @@ use std::alloc::{AllocError, Global};
 use std::snapshot::Snapshot;
 use std::sync::Wait;
 use std::time::Clock;
-use xa_log::DecisionLog;
+use xa_log::{Decision, DecisionLog};
 
 /// A run's log, and for each job whether the run wrote its row. `first` remembers the log as it was before the run.
 #[derive(Drop)]
@@ -75,9 +78,64 @@ impl<L: DecisionLog> Journal<L> {
         self.written[job] = true;
         Ok(())
     }
+
+    /// The decisions on the jobs that threads ask for, which are noted as written.
+    #[tactic(auto, using(crate::proofs::Grouped::adds_none, crate::proofs::Grouped::adds_more, crate::proofs::Grouped::all_more))]
+    fn gather(
+        &mut self,
+        alloc: Global,
+        jobs: &Jobs,
+        incarnation: u64,
+        asked: &[Asked],
+    ) -> Result<Vec<Decision>, WorkFault>
+        requires few { vec_len self.old.written ≤ JOB_LIMIT }
+        requires some { 0 < jobs.now.threads }
+        requires fits { incarnation ≤ last_number }
+        ensures log { self.new.log ≡ self.old.log }
+        ensures first { self.new.first ≡ self.old.first }
+        ensures len { vec_len self.new.written ≡ vec_len self.old.written }
+        ensures adds { IfOk result (λ decisions. Adds jobs.now incarnation
+            self.old.written.items decisions.items self.new.written.items) }
+        ensures fit { IfOk result (λ decisions.
+            AllByRecursion (λ d. FitsRow d.gtrid) decisions.items) }
+        ensures own { IfOk result (λ decisions. AllByRecursion (λ d.
+            AllByRecursion (λ b. b.gtrid ≡ d.gtrid) d.participants.items) decisions.items) }
+    {
+        let mut decisions = Vec::new(alloc);
+        for Asked { job, .. } in asked {
+            if *job >= self.written.len() {
+                return Err(WorkFault::Mixed);
+            }
+            decisions.push(jobs.decision(alloc, incarnation, *job)?)?;
+            self.written[*job] = true;
+        }
+        Ok(decisions)
+    }
+
+    /// Writes the rows of the jobs that threads ask for, all at once.
+    fn write_all(
+        &mut self,
+        alloc: Global,
+        jobs: &Jobs,
+        incarnation: u64,
+        asked: &[Asked],
+    ) -> Result<(), WorkFault>
+        requires few { vec_len self.old.written ≤ JOB_LIMIT }
+        requires some { 0 < jobs.now.threads }
+        requires fits { incarnation ≤ last_number }
+        requires kept { HasRowsOf L.DecisionLog jobs.now incarnation self.old }
+        ensures first { self.new.first ≡ self.old.first }
+        ensures len { vec_len self.new.written ≡ vec_len self.old.written }
+        ensures kept { OnOk result (HasRowsOf L.DecisionLog jobs.now incarnation self.new) }
+    {
+        let decisions = self.gather(alloc, jobs, incarnation, asked)?;
+        self.log.commit_all(alloc, decisions.as_slice())?;
+        Ok(())
+    }
 }
 
-/// Writes the rows that threads of control ask for, and says whether there was one.
+/// Writes the rows that threads of control ask for, those that are asked for at the same time at once, and says whether
+/// there was one.
 fn write_asked<J: Run, G: Gate, L: DecisionLog>(
     alloc: Global,
     crew: &Crew<'_, J, G>,
@@ -90,16 +148,17 @@ fn write_asked<J: Run, G: Gate, L: DecisionLog>(
     ensures kept { OnOk result (HasRowsOf L.DecisionLog crew.now.jobs.now
         crew.now.incarnation journal.new) }
 {
-    let mut wrote = false;
-    for thread in 0..crew.jobs.threads {
-        if let Some(job) = crew.docket.take(thread) {
-            journal.write(alloc, crew.jobs, crew.incarnation, job)?;
-            crew.docket.reply(thread);
-            crew.signals.wake_thread(thread);
-            wrote = true;
-        }
+    let asked = crew.docket.take_all(alloc)?;
+    match asked.as_slice() {
+        [] => return Ok(false),
+        [Asked { job, .. }] => journal.write(alloc, crew.jobs, crew.incarnation, *job)?,
+        several => journal.write_all(alloc, crew.jobs, crew.incarnation, several)?,
     }
-    Ok(wrote)
+    for Asked { thread, .. } in &asked {
+        crew.docket.reply(*thread);
+        crew.signals.wake_thread(*thread);
+    }
+    Ok(true)
 }
 
 /// The log's worker: writes rows until all threads of control have ended.
