@@ -206,7 +206,8 @@ fn run_named<
 /// A thread of control opens its lines, and sends the branches of each of its jobs xa_start, xa_end and xa_prepare,
 /// each to all its resource managers before it awaits the first answer. Once all votes are heard it claims the job at
 /// the board, has its row written and settles the claim, and then sends xa_commit to the branches that voted yes. A job
-/// with a no, and one whose claim isn't won, gets xa_rollback.
+/// with a no, and one whose claim isn't won, gets xa_rollback. Rows that threads ask for at the same time are written at
+/// once.
 ///
 /// A worker with nothing to do looks again for a while, yields, and then sleeps until it is woken. The clock tells it only
 /// whether a yield went to another program, and then it sleeps at once.
