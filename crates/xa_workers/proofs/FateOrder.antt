@@ -27,7 +27,7 @@ all_of : {X : Type 0} (P Q : X → Type 0) → ((x : X) → P x → Q x) → (xs
 all_of P Q step [] all = tt
 all_of P Q step (x ∷ xs) all = (step x all.0, all_of P Q step xs all.1)
 
-all_append : {X : Type 0} (P : X → Type 0) (xs ys : List X) → AllByRecursion P xs → AllByRecursion P ys → AllByRecursion P (xs ++ ys)
+pub all_append : {X : Type 0} (P : X → Type 0) (xs ys : List X) → AllByRecursion P xs → AllByRecursion P ys → AllByRecursion P (xs ++ ys)
 all_append P [] ys all more = more
 all_append P (x ∷ xs) ys all more = (all.0, all_append P xs ys all.1 more)
 

@@ -1,7 +1,6 @@
 -- How the rows of several jobs are added to a log at once.
-use Rattle.std.proofs.Common.{◌≡◌, ◌<◌, ℕ, List, [], ◌∷◌, ◌++◌, length, Bool, true, Option, Some, None, Result, Ok, refl, sym, ap, subst, ◌∙◌}
-use Rattle.std.specs.Prelude.{IsSomeAnd, slice_set}
-use Rattle.std.specs.List.{AllByRecursion}
+use Rattle.std.proofs.Common.{◌≡◌, ◌<◌, ℕ, List, [], ◌∷◌, ◌++◌, length, Bool, true, Result, Ok, refl, sym, subst, ◌∙◌}
+use Rattle.std.specs.Prelude.{slice_set}
 use Rattle.xa_log.specs.Content.{Content, with_commit, with_commits}
 use Rattle.xa_log.specs.Contract.{Changes}
 use Rattle.xa_log.specs.KeySet.{from_list}
@@ -34,10 +33,6 @@ adds_more jobs n noted ds so_far j d in' named voted adds b c had =
     same : with_commit d.gtrid (from_list d.participants.items) (with_commits ds c)
         ≡ with_commit (gtrid_of n j) (participants_of_job jobs n j) (with_commits ds c)
     same = rw (named, voted) refl
-
-pub all_more : {X : Type 0} (P : X → Type 0) (xs : List X) (x : X) → AllByRecursion P xs → P x → AllByRecursion P (xs ++ x ∷ [])
-all_more P [] x all one = (one, tt)
-all_more P (y ∷ xs) x all one = (all.0, all_more P xs x all.1 one)
 
 -- a log that has the rows of the jobs that were noted comes to have those of the jobs that are
 pub logs_all : {L : Type 0} (g : DecisionLog.Ghosts L) (jobs : Jobs) (n : ℕ) (noted now_noted : List Bool) (ds : List Decision) (first old new : L)

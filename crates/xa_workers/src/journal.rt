@@ -80,7 +80,7 @@ impl<L: DecisionLog> Journal<L> {
     }
 
     /// The decisions on the jobs that threads ask for, which are noted as written.
-    #[tactic(auto, using(crate::proofs::Grouped::adds_none, crate::proofs::Grouped::adds_more, crate::proofs::Grouped::all_more))]
+    #[tactic(auto, using(crate::proofs::Grouped::adds_none))]
     fn gather(
         &mut self,
         alloc: Global,

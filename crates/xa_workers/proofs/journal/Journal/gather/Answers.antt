@@ -1,5 +1,6 @@
-use Rattle.std.proofs.Common.{◌≡◌, ◌<◌, arith, rules, length}
-use Rattle.xa_workers.proofs.Grouped.{adds_more, all_more}
+use Rattle.std.proofs.Common.{rules, [], ◌∷◌}
+use Rattle.xa_workers.proofs.FateOrder.{all_append}
+use Rattle.xa_workers.proofs.Grouped.{adds_more}
 use Rattle.xa_workers.proofs.RowLaws.{own_branches}
 use Rattle.xa_workers.proofs.journal.Journal.gather.Goals as goal
 
@@ -15,9 +16,9 @@ loop-job-preserved g c =
           rw c.in_ok-push.ensures.items
           (adds_more c.args.jobs.now c.args.incarnation c.args.self.now.written.items c.loop-job.decisions.items c.loop-job.self.written.items _ d
           (search rules) c.in_ok-decision.ensures.gtrid c.in_ok-decision.ensures.participants before.adds);
-      fit = rw c.in_ok-push.ensures.items (all_more _ c.loop-job.decisions.items d before.fit (search rules));
+      fit = rw c.in_ok-push.ensures.items (all_append _ c.loop-job.decisions.items (d ∷ []) before.fit (search rules, tt));
       own =
           rw c.in_ok-push.ensures.items
-          (all_more _ c.loop-job.decisions.items d before.own
-          (rw (c.in_ok-decision.ensures.participants, c.in_ok-decision.ensures.gtrid) (own_branches c.args.jobs.now c.args.incarnation _)));
+          (all_append _ c.loop-job.decisions.items (d ∷ []) before.own
+          (rw (c.in_ok-decision.ensures.participants, c.in_ok-decision.ensures.gtrid) (own_branches c.args.jobs.now c.args.incarnation _), tt));
     }
