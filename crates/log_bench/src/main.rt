@@ -12,7 +12,8 @@ ghost use Rattle.xa_log.specs.Contract.{FitsRow};
 use std::env;
 use std::time::Instant;
 use xa_base::{Branch, Gtrid, How};
-use xa_log::{DecisionLog, LogFault, SqlLog};
+use xa_log::{DecisionLog, LogFault};
+use xa_sql_log::SqlLog;
 
 /// How many transactions are committed.
 const COMMITS: u64 = 1_000;

@@ -11,7 +11,8 @@ use std::alloc::Global;
 use std::process::Abort;
 use std::test::Fail;
 use xa_base::{Branch, Gtrid};
-use xa_log::{Decision, DecisionLog, FailLog, FailPlan, LogCall, LogFault, Logged, MemLog, SqlLog};
+use xa_log::{Decision, DecisionLog, FailLog, FailPlan, LogCall, LogFault, Logged, MemLog};
+use xa_sql_log::SqlLog;
 
 /// A decision with these participants. It is made again where memory is refused.
 fn decision(alloc: Global, g: Gtrid, participants: &[Branch]) -> Result<Decision, LogFault>

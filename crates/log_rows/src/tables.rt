@@ -4,7 +4,8 @@ use crate::commands::{FIRST, FIRST_A, run_each_call};
 use sqlite::{Connection, Error, MemStore};
 use std::alloc::Global;
 use std::test::Fail;
-use xa_log::{DecisionLog, LogFault, SqlLog};
+use xa_log::{DecisionLog, LogFault};
+use xa_sql_log::SqlLog;
 
 /// A log of no incarnation in memory. It is made again where that is refused.
 fn new_log(alloc: Global) -> Result<SqlLog<MemStore>, LogFault> {

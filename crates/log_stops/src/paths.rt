@@ -7,7 +7,8 @@ use sqlite::{Alter, Connection, FileStore};
 use sqlite_disk::Disk;
 use std::fs;
 use std::test::Fail;
-use xa_log::{DecisionLog, LogFault, SqlLog};
+use xa_log::{DecisionLog, LogFault};
+use xa_sql_log::SqlLog;
 
 /// Raises the incarnation and drops the log.
 fn bump_and_drop<S: Alter + Drop>(mut log: SqlLog<S>) -> Result<u64, LogFault> {

@@ -10,7 +10,8 @@ use sqlite_disk::{Crash, Disk};
 use std::alloc::Global;
 use std::test::Fail;
 use xa_base::{Branch, Gtrid, How};
-use xa_log::{DecisionLog, LogFault, SqlLog};
+use xa_log::{DecisionLog, LogFault};
+use xa_sql_log::SqlLog;
 
 /// A call that changes the log.
 #[derive(Clone, Copy, Debug, PartialEq, Eq)]

@@ -8,7 +8,8 @@ use sqlite_disk::{Disk, Memory};
 use std::alloc::Global;
 use std::process::Abort;
 use std::test::Fail;
-use xa_log::{LogFault, SqlLog};
+use xa_log::LogFault;
+use xa_sql_log::SqlLog;
 
 /// A log takes files in which these statements have run, with a stop after so many calls of the one file. Answers
 /// how far it came, what a crash leaves and what the next log makes of that.

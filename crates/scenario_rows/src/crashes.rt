@@ -3,7 +3,7 @@
 use crate::files::{READY, READY_REPLIES, file, prints, run_over};
 use std::fs;
 use std::test::Fail;
-use xa_log::SqlLog;
+use xa_sql_log::SqlLog;
 
 /// A page with the branch at resource manager 0 alone, as it is printed.
 pub(crate) const PAGE: &str =

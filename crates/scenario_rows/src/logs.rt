@@ -12,7 +12,8 @@ use std::test::Fail;
 use xa_base::{Branch, Gtrid, How};
 use xa_files::RunFault;
 use xa_listing::list_log;
-use xa_log::{DecisionLog, FailLog, FailPlan, LogCall, LogFault, MemLog, SqlLog};
+use xa_log::{DecisionLog, FailLog, FailPlan, LogCall, LogFault, MemLog};
+use xa_sql_log::SqlLog;
 
 /// What is listed of a log with two decisions and an end of each kind.
 const LISTED: &str = "\

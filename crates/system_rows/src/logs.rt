@@ -12,8 +12,9 @@ use std::fs;
 use std::process::Abort;
 use std::test::Fail;
 use xa_base::{Branch, Gtrid};
-use xa_log::{DecisionLog, MemLog, SqlLog};
+use xa_log::{DecisionLog, MemLog};
 use xa_rm::MemRm;
+use xa_sql_log::SqlLog;
 use xa_system::{NewFault, System};
 
 /// The same as in the first incarnation, in the next.

@@ -10,8 +10,9 @@ use std::alloc::Global;
 use std::process::Abort;
 use std::test::Fail;
 use xa_base::{Part, Refusal, Reply, Side, Step};
-use xa_log::{DecisionLog, FailLog, FailPlan, MemLog, SqlLog};
+use xa_log::{DecisionLog, FailLog, FailPlan, MemLog};
 use xa_rm::{MemRm, ResourceManager};
+use xa_sql_log::SqlLog;
 use xa_system::System;
 
 /// The log that a row is played over.

@@ -5,7 +5,8 @@
 use sqlite::{Connection, FileStore, Files, Options};
 use sqlite_disk::{Crash, Disk, Fuse, Memory};
 use std::alloc::Global;
-use xa_log::{DecisionLog, SqlLog};
+use xa_log::DecisionLog;
+use xa_sql_log::SqlLog;
 
 /// With little memory for pages, so that a run is short, and little room in the journal, so that the database is written too.
 const OPTIONS: Options = Options {

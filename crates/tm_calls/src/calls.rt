@@ -3,7 +3,8 @@
 use crate::run::{Run, branch, transaction};
 use std::alloc::Global;
 use xa_base::{Call, Code, How, Outcome, Part, Refusal, Reply, Side, Step};
-use xa_log::{DecisionLog, FailLog, FailPlan, LogCall, MemLog, SqlLog};
+use xa_log::{DecisionLog, FailLog, FailPlan, LogCall, MemLog};
+use xa_sql_log::SqlLog;
 
 fn commit(sequence: u64, one_phase: bool) -> Call {
     Call::Commit {

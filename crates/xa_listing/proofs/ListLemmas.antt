@@ -20,11 +20,11 @@ use Rattle.xa_files.specs.declared.fault.RunFault.{RunFault}
 use Rattle.xa_files.specs.declared.fault.RunFault.TheVariants.{Output}
 use Rattle.xa_listing.specs.Lines.{decision_lines, heuristic_lines, is_of, own_count, rows_text}
 use Rattle.xa_listing.specs.Texts.{BeginsLog, PrintsLog, count_line, decision_line, log_text}
-use Rattle.xa_log.proofs.Keyed.{all_entries, less}
 use Rattle.xa_log.specs.Content.{AreOwn, Content, all_listed}
 use Rattle.xa_log.specs.KeySet.{KeySet, contains-items, items}
 use Rattle.xa_log.specs.declared.log_fault.LogFault.{LogFault}
 use Rattle.xa_log.specs.declared.log_rows.LogRows.{LogRows}
+use Rattle.xa_log.proofs.Rising.{all_entries, less}
 
 abbrev Row : Type 0
 Row = Gtrid × KeySet branch_cmp

@@ -1,5 +1,6 @@
 -- What is told of an answer, by whether it gave a value.
-use Rattle.std.proofs.Common.{◌≡◌, ◌⊎◌, inl, inr, Ok, Err, Result, Some, None, Option, IfOk, OnOk, OnErr, IsSomeAnd}
+use Rattle.std.proofs.Common.{◌≡◌, ◌⊎◌, inl, inr, false, Ok, Err, Result, Some, None, Option, is_some, IfOk, OnOk, OnErr, IsSomeAnd, refl, sym}
+use Rattle.std.proofs.lemmas.Bool.{true≢false}
 
 -- a part that gave a value did not stop on the way
 pub went : {B E R : Type 0} {b : B} {Stops : E → Type 0} → ((stop : E) × Stops stop × (Ok b ≡ Err stop)) ⊎ R → R
@@ -45,3 +46,7 @@ both3 None P Q R p q r = p
 pub on_found : {A E : Type 0} (r : Result A E) (P : A → Type 0) (Q R : Type 0) → (Q → R) → IfOk r (λ x. P x × Q) → OnOk r R
 on_found (Ok x) P Q R gives h = gives h.1
 on_found (Err e) P Q R gives h = tt
+
+pub no_some : {X : Type 0} (o : Option X) → false ≡ is_some o → o ≡ None
+no_some None h = refl
+no_some (Some x) h = absurd (true≢false (sym h))

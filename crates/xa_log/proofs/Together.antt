@@ -22,10 +22,10 @@ use Rattle.xa_log.specs.declared.fail_plan.Turn.TheVariants.{Runs, FailsAfter, F
 use Rattle.xa_log.specs.declared.log_fault.LogFault.{LogFault}
 use Rattle.xa_log.specs.declared.log_fault.LogFault.TheVariants.{Store}
 use Rattle.xa_log.specs.declared.mem_log.MemLog.{MemLog}
-use Rattle.xa_log.proofs.Contents.{equal_is}
-use Rattle.xa_log.proofs.DecisionRows.{same_content}
-use Rattle.xa_log.proofs.Inside.{no_some}
 use Rattle.xa_log.proofs.OwnBranches.{order_after_commit}
+use Rattle.xa_log.proofs.Rising.{equal_is}
+use Rattle.xa_log.proofs.Alike.{same_content}
+use Rattle.xa_log.proofs.Parts.{no_some}
 
 abbrev pub waiting : Decision → KeySet branch_cmp
 waiting d = from_list d.participants.items

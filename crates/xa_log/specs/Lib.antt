@@ -5,8 +5,3 @@ pub mod FailPlan
 pub mod KeySet
 pub mod Memory
 pub mod MemoryLaws
-pub mod Opened
-pub mod Rows
-pub mod Sql
-pub mod SqlLaws
-pub mod Tables

@@ -2,7 +2,8 @@
 //! of them waits for, which branches their resource managers ended by themselves, and how often the manager has started.
 //! Only decisions to commit are kept: what has no row is rolled back (presumed rollback: XA, section 2.3).
 //!
-//! [`MemLog`] keeps it in memory, [`SqlLog`] in the tables of a database, and [`FailLog`] fails by a plan, for tests.
+//! [`DecisionLog`] is what every log promises. [`MemLog`] keeps it in memory, and [`FailLog`] fails by a plan, for tests.
+//! The log in the tables of a database is `SqlLog` of the crate `xa_sql_log`.
 //!
 //! "XA" in these pages is X/Open CAE Specification C193, "Distributed Transaction Processing: The XA Specification"
 //! (1991).
@@ -11,29 +12,17 @@
 mod commands;
 mod decision;
 mod decision_log;
-mod decisions;
 mod fail_log;
 mod fail_plan;
-mod fields;
-mod grouped;
-mod heuristics;
-mod incarnation;
 mod log_fault;
 mod log_rows;
 mod mem_log;
-mod rows;
-mod sql_log;
-mod statements;
-mod tables;
-mod version;
-mod waiting;
 
 pub use commands::{Command, Told, run_commands};
 pub use decision::Decision;
-pub use decision_log::{DecisionLog, Logged};
+pub use decision_log::{DecisionLog, LAST_NUMBER, Logged};
 pub use fail_log::FailLog;
 pub use fail_plan::{FailPlan, LogCall};
 pub use log_fault::{LogFault, counted};
 pub use log_rows::LogRows;
 pub use mem_log::MemLog;
-pub use sql_log::SqlLog;

@@ -6,7 +6,6 @@ use Rattle.std.specs.List.{list_all}
 use Rattle.std.specs.Option.{option_map}
 use Rattle.std.specs.Ordering.{eq_by_cmp}
 use Rattle.std.specs.Cmp.{IsTotalOrder}
-use Rattle.xa_log.proofs.Contents.{equal_is}
 use Rattle.std.specs.FinMap.{FinMap, contains_key, entries, get, insert, keys, len, remove, get-insert, get-remove, len-insert, len-remove}
 use Rattle.std.proofs.lemmas.Bool.{and_from, eq-eqb, or_left, or_right, true≢false}
 use Rattle.xa_base.specs.Branch.{branch_eq, gtrid_eq}
@@ -29,6 +28,7 @@ use Rattle.xa_tm.specs.declared.ledger.Ledger.{Ledger}
 use Rattle.xa_tm.proofs.BranchSets.{sets_back}
 use Rattle.xa_tm.proofs.HeldAgain.{Reads, as_read, is_gone, put_back}
 use Rattle.xa_tm.proofs.Restarts.{swap_branch, swap_gtrid}
+use Rattle.xa_log.proofs.Rising.{equal_is}
 
 -- ** of one transaction, and of one branch
 

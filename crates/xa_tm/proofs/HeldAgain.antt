@@ -22,7 +22,6 @@ use Rattle.xa_base.proofs.BranchKeys.{gtrid_eq-refl, branch_eq-refl}
 use Rattle.xa_log.specs.Content.{AreOwn, Content, all_listed, with_decision, with_heuristic, unchanged}
 use Rattle.xa_log.specs.Contract.{Makes}
 use Rattle.xa_log.specs.KeySet.{from_list}
-use Rattle.xa_log.proofs.Contents.{equal_is}
 use Rattle.xa_log.specs.declared.log_rows.LogRows.{LogRows}
 use Rattle.xa_tm.specs.Book.{Book, Waiting}
 use Rattle.xa_tm.specs.Held.{notes_at, doubt_held, held, row_at, waiting_of}
@@ -35,6 +34,7 @@ use Rattle.xa_tm.specs.declared.notes.BranchNotes.{BranchNotes}
 use Rattle.xa_tm.proofs.Restarts.{swap_branch, swap_gtrid}
 use Rattle.xa_tm.proofs.BranchSets.{sets_are}
 use Rattle.xa_tm.proofs.Starts.{started_as}
+use Rattle.xa_log.proofs.Rising.{equal_is}
 
 -- ** what agrees
 

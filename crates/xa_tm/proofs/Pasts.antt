@@ -14,10 +14,10 @@ use Rattle.xa_base.specs.declared.branch.Gtrid.{Gtrid}
 use Rattle.xa_base.specs.declared.code.How.{How}
 use Rattle.xa_log.specs.Content.{Content, with_bump, last_number, unchanged}
 use Rattle.xa_log.specs.Contract.{AllFit, Makes}
-use Rattle.xa_log.proofs.Keyed.{risen}
 use Rattle.xa_tm.specs.Ascending.{ascends, ascends_behind}
 use Rattle.xa_tm.specs.Book.{Book}
 use Rattle.xa_tm.specs.Starting.{IsOld, IsPast, fits_before, book_at_start}
+use Rattle.xa_log.proofs.Rising.{risen}
 
 -- ** lists
 
@@ -71,9 +71,9 @@ can_start_over c fits past =
     (each_entry branch_cmp (λ (b : Branch). fits_before (c.incarnation + 1) b.gtrid) (entries c.heuristics) (eq_by_cmp_equiv branches_total).refl
     (λ b has. let there = contains_key-keys c.heuristics b ∙ has in fits_next c.incarnation b.gtrid (past.records b there) (fits.heuristics b there).1)))
     (and_from _ _
-    (all_ascend gtrid_cmp (keys c.decisions) (risen gtrids_total exact_gtrids (entries c.decisions) (entries_sorted c.decisions)))
+    (all_ascend gtrid_cmp (keys c.decisions) (risen gtrid_cmp (entries c.decisions) (entries_sorted c.decisions)))
     (all_ascend branch_cmp (map (λ (e : Branch × How). e.0) (entries c.heuristics))
-    (risen branches_total exact_branches (entries c.heuristics) (entries_sorted c.heuristics))))
+    (risen branch_cmp (entries c.heuristics) (entries_sorted c.heuristics))))
 
 module _ (i : ℕ) (gs : List Gtrid) (hs : List (Branch × How)) where
   -- a manager that can't start has found a row or a record of a later incarnation

@@ -11,10 +11,10 @@ use Rattle.xa_model.specs.Trace.{Row}
 use Rattle.xa_base.proofs.BranchOrder.{exact_gtrids, gtrids_total}
 use Rattle.xa_log.specs.Content.{Content}
 use Rattle.xa_log.specs.KeySet.{items}
-use Rattle.xa_log.proofs.Keyed.{risen}
 use Rattle.xa_tm.specs.Book.{Waiting}
 use Rattle.xa_tm.specs.Starting.{rows_from}
 use Rattle.xa_tm.proofs.Starts.{less_differs}
+use Rattle.xa_log.proofs.Rising.{risen}
 
 abbrev row_of : Gtrid × Waiting → Row
 row_of e = record { gtrid = e.0; participants = items e.1 }
@@ -32,4 +32,4 @@ all_apart [] up = tt
 all_apart (e ∷ es) up = (none_listed e.0 es up.0, all_apart es up.1)
 
 pub start_rows_apart : (c : Content) → ApartRows (rows_from c)
-start_rows_apart c = all_apart (entries c.decisions) (risen gtrids_total exact_gtrids (entries c.decisions) (entries_sorted c.decisions))
+start_rows_apart c = all_apart (entries c.decisions) (risen gtrid_cmp (entries c.decisions) (entries_sorted c.decisions))

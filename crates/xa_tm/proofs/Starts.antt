@@ -20,8 +20,6 @@ use Rattle.xa_base.specs.declared.code.How.{How}
 use Rattle.xa_log.specs.Content.{AreOwn, Content, all_listed, with_bump, last_number, unchanged}
 use Rattle.xa_log.specs.Contract.{FitsRow, Makes}
 use Rattle.xa_log.specs.KeySet.{KeySet, contains, contains-from_list, contains-items, from_list, items, same_set}
-use Rattle.xa_log.proofs.Keyed.{risen}
-use Rattle.xa_log.proofs.Contents.{equal_is}
 use Rattle.xa_model.specs.Facts.{how_in}
 use Rattle.xa_tm.specs.Book.{Book, Waiting, row_in}
 use Rattle.xa_tm.specs.Held.{IsSound, begun_by, held, no_branch, transaction_at}
@@ -32,6 +30,7 @@ use Rattle.xa_tm.specs.Starting.{IsOld, StartsAreHistories, StartsHaveContent, e
 use Rattle.xa_tm.specs.Tied.{IsTied}
 use Rattle.xa_tm.proofs.Restarts.{swap_branch, swap_gtrid}
 use Rattle.xa_tm.proofs.OneMore.{book_is}
+use Rattle.xa_log.proofs.Rising.{equal_is, risen}
 
 -- of three the first that is there
 three : {X : Type 0} (x : Option X) (e : Bool) (w r : Option X) (v : X) → w ≡ Some v
@@ -297,11 +296,11 @@ module _ (t r i : ℕ) (gs : List Gtrid) (bs : List Branch) (hs : List (Branch �
       (λ g. (λ j. loaded (rows j) (parts j) g) ∙ loaded_is (entries c.decisions) sorted all g ∙ sym (get-entries c.decisions g))
       (ap length rows ∙ length-map (entries c.decisions) (λ (e : Gtrid × KeySet branch_cmp). e.0) ∙ sym (len-entries c.decisions))
       (λ b. ap (λ xs. ended_among xs b) ends ∙ ended_is (entries c.heuristics)
-      (risen branches_total exact_branches (entries c.heuristics) (entries_sorted c.heuristics)) b ∙ sym (get-entries c.heuristics b))
+      (risen branch_cmp (entries c.heuristics) (entries_sorted c.heuristics)) b ∙ sym (get-entries c.heuristics b))
       (ap length ends ∙ sym (len-entries c.heuristics)) refl
     where
       sorted : IsStrictlySortedBy gtrid_cmp (map (λ (e : Gtrid × KeySet branch_cmp). e.0) (entries c.decisions))
-      sorted = risen gtrids_total exact_gtrids (entries c.decisions) (entries_sorted c.decisions)
+      sorted = risen gtrid_cmp (entries c.decisions) (entries_sorted c.decisions)
 
       all : OwnAll (entries c.decisions)
       all = own_all (entries c.decisions) sorted (λ g set b is has. own g set b (get-entries c.decisions g ∙ is) has)

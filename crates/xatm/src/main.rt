@@ -19,8 +19,8 @@ use std::{env, fs, io};
 use xa_files::RunFault;
 use xa_jobs::run_job_file;
 use xa_listing::list_log;
-use xa_log::SqlLog;
 use xa_scenario::{check_scenario, run_scenario};
+use xa_sql_log::SqlLog;
 
 fn main(rt: HostRuntime) -> ExitCode {
     match work(&rt, &rt) {

@@ -1,0 +1,66 @@
+-- What a crash may leave of a log is a log, and a log is what an open then finds.
+use Rattle.std.proofs.Common.{◌≡◌, inl, inr, sym, subst, ◌∙◌, ℕ, OnOk, Result}
+use Rattle.sqlite.specs.Effect.{Database, IsDatabase}
+use Rattle.sqlite.specs.State.{HasCleanDisk, State}
+use Rattle.sqlite_catalog.specs.Listing.{IsSound}
+use Rattle.sqlite_catalog.proofs.ReadLemmas.{lists_once}
+use Rattle.sqlite_trees.specs.Objects.{catalog_tree}
+use Rattle.xa_log.specs.Content.{Content, unchanged}
+use Rattle.xa_log.specs.Contract.{Changes, Makes, Reads, faults_after}
+use Rattle.xa_log.specs.declared.log_fault.LogFault.{LogFault}
+use Rattle.xa_sql_log.specs.Opened.{IsFoundLog}
+use Rattle.xa_sql_log.specs.Rows.{IsLog}
+use Rattle.xa_sql_log.specs.Sql.{AreLogTrees, IsLasting, IsOrderly, HasLogTables, MayChange, OnlyReads, content_in, sql_moment}
+use Rattle.xa_sql_log.specs.Tables.{log_schema}
+use Rattle.xa_log.proofs.Parts.{on_err}
+
+-- a database of a log is its trees
+pub as_log : (db : Database) → IsLog db → IsDatabase db → AreLogTrees db.trees
+as_log db is sound =
+    let same : db ≡ record { schema = log_schema; trees = db.trees } = λ i. record { schema = is.schema i; trees = db.trees } in
+    record { sound = subst (λ s. IsSound s db.trees) is.schema sound; log = subst IsLog same is }
+
+lasts_reading : (old new : State) → OnlyReads old new → IsLasting old → IsLasting new
+lasts_reading old new reads lasts = record {
+  order = reads.order lasts.order;
+  leaves = λ clean db h. elim (reads.logs lasts.order clean db h) [ inl was ↦ lasts.leaves (reads.honest clean) db was | inr is ↦ is ];
+}
+
+lasts_changing : (change : Content → Content) (old new : State) → MayChange change old new → IsLasting old → IsLasting new
+lasts_changing change old new may lasts = record {
+  order = may.order lasts.order;
+  leaves = λ clean db h. elim (may.logs lasts.order clean db h) [ inl was ↦ lasts.leaves (may.honest clean) db was | inr is ↦ is ];
+}
+
+-- ** what a log says of a call on its connection
+
+pub log_reads : {A : Type 0} (old new : State) (n m : ℕ) (r : Result A LogFault) → OnlyReads old new
+    → (IsOrderly old → HasCleanDisk new → OnOk r (Makes unchanged (content_in old) (content_in new)))
+    → m ≡ faults_after r n → Reads (sql_moment old n) (sql_moment new m) r
+log_reads old new n m r reads ok faults = record {
+  ok = λ lasts. ok lasts.order;
+  err = λ lasts. on_err r _ (reads.kept lasts.order);
+  crash = λ lasts. reads.crash lasts.order;
+  order = lasts_reading old new reads;
+  honest = reads.honest;
+  faults = faults;
+}
+
+pub log_changes : {A : Type 0} (change : Content → Content) (old new : State) (n m : ℕ) (r : Result A LogFault) → MayChange change old new
+    → (IsOrderly old → HasCleanDisk new → OnOk r (Makes change (content_in old) (content_in new)))
+    → m ≡ faults_after r n → Changes change (sql_moment old n) (sql_moment new m) r
+log_changes change old new n m r may ok faults = record {
+  ok = λ lasts. ok lasts.order;
+  err = λ lasts. on_err r _ (may.kept lasts.order);
+  crash = λ lasts. may.crash lasts.order;
+  order = lasts_changing change old new may;
+  honest = may.honest;
+  faults = faults;
+}
+
+-- the trees tell their tables, so an open finds those of the log
+pub found_ready : (s : State) → IsFoundLog s → HasLogTables s
+found_ready s is =
+    let tables = lists_once (s.now.trees catalog_tree) s.now.schema log_schema (is.live is.opens.is_open).0.lists is.log.sound.lists in
+    let same : record { schema = log_schema; trees = s.now.trees } ≡ s.now = λ i. record { schema = sym tables i; trees = s.now.trees } in
+    record { autocommit = is.opens.autocommit; now = subst IsLog same is.log.log; committed = sym is.opens.clean }

@@ -1,0 +1,190 @@
+-- What the two statements that migrate a log of version 1 do.
+use Rattle.std.proofs.Common.{◌≡◌, ℕ, List, [], ◌∷◌, map, length, arith, Option, None, Ok, refl, codes, pos, true, false, sym, ap, subst, ◌∙◌}
+use Rattle.std.proofs.lemmas.Bool.{eqb-false}
+use Rattle.std.specs.List.{AllByRecursion}
+use Rattle.std.specs.List.Sorted.{IsPermutation}
+use Rattle.sqlite.specs.Order.{Row}
+use Rattle.sqlite.specs.Tree.{Trees, IsTable}
+use Rattle.sqlite.specs.Schema.{Schema}
+use Rattle.sqlite.specs.Change.{created, next_tree, KeepsRows}
+use Rattle.sqlite.specs.Compile.{table_defined_by}
+use Rattle.sqlite.specs.Edit.{edit_of, edited, taken_by}
+use Rattle.sqlite.specs.Rowids.TheVariants.{Given}
+use Rattle.sqlite.specs.Effect.{Database}
+use Rattle.sqlite.specs.Rows.{Written}
+use Rattle.sqlite.specs.Does.{Tally, Does, lacks_sequence}
+use Rattle.sqlite.specs.State.{State, Writes, Executes}
+use Rattle.sqlite.proofs.Callers.{command_of, statement_of, IsPlain, runs_as, one_step, one_permutation}
+use Rattle.sqlite.specs.Listing.{understood}
+use Rattle.sqlite.specs.declared.types.Value.TheVariants.{Null, Int}
+use Rattle.sqlite.specs.Command.TheVariants.{CreateTable, Update}
+use Rattle.sqlite.specs.Term.{Term, lit, col}
+use Rattle.sqlite_schema.specs.declared.schema.Keys.TheVariants.{Enforced}
+use Rattle.sqlite_rules.specs.Calls.{ids_of}
+use Rattle.sqlite_rules.specs.Action.{works}
+use Rattle.sqlite_tied.specs.Compute.{everything}
+use Rattle.xa_sql_log.proofs.Texts.{over}
+use Rattle.xa_log.proofs.Parts.{went, same_value}
+use Rattle.xa_sql_log.proofs.Plain.{chosen, shown, plain_rows}
+use Rattle.xa_sql_log.proofs.Values.{cast_int, cast_null, same_id}
+use Rattle.xa_sql_log.proofs.Inserts.{at_once}
+use Rattle.xa_sql_log.proofs.Maps.{booked}
+use Rattle.sqlite_schema.specs.Rules.{is_key_of}
+use Rattle.xa_sql_log.specs.Tables.{old_schema, log_schema, participant_text, participant, meta, of_decision}
+use Rattle.xa_sql_log.specs.Rows.{IsOldLog, IsDecisionRow, AreHeuristicRows, IsParticipantRow, HasDecision, participants_of_rows, meta_row, old_meta_row, content_of, old_content_of}
+use Rattle.xa_sql_log.specs.Sql.{IsNewLog}
+use Rattle.xa_log.proofs.Alike.{same_content}
+
+pub makes_participant : (command_of (understood old_schema participant_text) ≡ CreateTable)
+    × (statement_of participant_text (understood old_schema participant_text) ≡ participant_text)
+    × (table_defined_by participant_text ≡ Ok (record participant { tree = 0 }))
+    × (lacks_sequence (created old_schema (record participant { tree = 0 })) ≡ false)
+unfolding understood everything
+makes_participant = (refl, refl, refl, refl)
+
+pub migrated_schema : created old_schema (record participant { tree = 0 }) ≡ log_schema
+unfolding everything
+migrated_schema = refl
+
+abbrev pub set_version : List ℕ
+set_version = codes "UPDATE tm_meta SET version = 2"
+
+pub set_version_is : command_of (understood log_schema set_version)
+    ≡ Update 0 (record { lets = []; body = over 0 [] (col 1 0 ∷ col 1 0 ∷ lit Null ∷ lit (Int (pos 2)) ∷ col 1 3 ∷ []) })
+unfolding understood everything
+set_version_is = refl
+
+pub set_version_plain : IsPlain (understood log_schema set_version)
+unfolding understood everything
+set_version_plain = (refl, refl)
+
+-- ---- CREATE TABLE
+
+pub makes_plain : IsPlain (understood old_schema participant_text)
+unfolding understood everything
+makes_plain = (refl, refl)
+
+next_is : next_tree old_schema ≡ 5
+unfolding everything
+next_is = refl
+
+-- the table is made and empty, and the rows of the others are as they were
+pub record Adds (db after : Database) : Type 0 where
+  pub schema : after.schema ≡ log_schema
+  pub participants : after.trees 5 ≡ []
+  pub meta : after.trees 0 ≡ db.trees 0
+  pub decisions : after.trees 1 ≡ db.trees 1
+  pub heuristics : after.trees 3 ≡ db.trees 3
+
+pub adds : (old new : State) (count : ℕ) → old.now.schema ≡ old_schema → Writes old new None CreateTable participant_text [] count → Adds old.now new.now
+adds old new count has w =
+    let table = record participant { tree = 0 } in
+    let all = went w.changed in
+    let first = went all.1 in
+    let made = first.1 in
+    let both : Ok made.table ≡ Ok table = sym made.defined ∙ makes_participant.2 in
+    let same : made.table ≡ table = cc in
+    let is : first.0.schema ≡ created old_schema table = made.is ∙ ap (λ s. created s made.table) has ∙ ap (created old_schema) same in
+    let now : new.now ≡ first.0 =
+    ap (λ (p : Tally × Database). p.1) (same_value all.2) ∙ same_value (rw (ap lacks_sequence is ∙ makes_participant.3) at first.2) in
+    let others = subst (λ (s : Schema). KeepsRows s.tables old.now.trees first.0.trees) has made.others in
+    let as_now = λ (at : ℕ). ap (λ (d : Database). d.trees at) now in
+    record {
+      schema = ap (λ (d : Database). d.schema) now ∙ is ∙ migrated_schema;
+      participants = as_now 5 ∙ subst (λ t. first.0.trees t ≡ []) (ap next_tree has ∙ next_is) made.empty;
+      meta = as_now 0 ∙ others.0;
+      decisions = as_now 1 ∙ others.1.0;
+      heuristics = as_now 3 ∙ others.1.1.0;
+    }
+
+-- ---- UPDATE
+
+abbrev project : List Term
+project = col 1 0 ∷ col 1 0 ∷ lit Null ∷ lit (Int (pos 2)) ∷ col 1 3 ∷ []
+
+-- to write the one row of tm_meta is work for no key
+pub no_work : (olds news : List Row) → length news ≡ 1 → works log_schema Enforced 0 0 olds news ≡ []
+unfolding everything
+no_work olds [] one = absurd (omega (arith, one))
+no_work olds (new ∷ []) one = refl
+no_work olds (new ∷ next ∷ more) one = absurd (omega (arith, one))
+
+record Sets (incarnation : ℕ) (db after : Database) : Type 0 where
+  schema : after.schema ≡ log_schema
+  meta : after.trees 0 ≡ meta_row incarnation ∷ []
+  decisions : after.trees 1 ≡ db.trees 1
+  heuristics : after.trees 3 ≡ db.trees 3
+  participants : after.trees 5 ≡ db.trees 5
+
+sets : (limit : Option ℕ) (incarnation : ℕ) (db after : Database) (text : List ℕ) (tally : Tally) → db.schema ≡ log_schema
+    → db.trees 0 ≡ old_meta_row incarnation ∷ []
+    → Does limit at_once [] db text None (Update 0 (record { lets = []; body = over 0 [] project })) (Ok (tally, after)) → Sets incarnation db after
+sets limit incarnation db after text tally has one h =
+    let command = Update 0 (record { lets = []; body = over 0 [] project }) in
+    let done = went (subst (λ s. Does limit at_once [] (record db { schema = s }) text None command (Ok (tally, after))) has h) in
+    let now = ap (λ (p : Tally × Database). p.1) (same_value (went (went done.2).2).2) in
+    let found = went done.1 in
+    let written = went found.2 in
+    let trees : done.0.trees ≡ written.0 = ap (λ (it : Written). it.trees) (same_value written.2) in
+    let row : Row = Int (pos 1) ∷ Int (pos 1) ∷ Null ∷ Int (pos 2) ∷ Int (pos incarnation) ∷ [] in
+    let rows : found.0 ≡ row ∷ [] =
+    one_permutation row found.0 (subst (λ all. IsPermutation (map (shown project []) (chosen [] [] all)) found.0) one
+    (plain_rows 0 [] project db.trees [] found.0 found.1.answer)) in
+    let none : works log_schema Enforced 0 0 (taken_by db.trees (edit_of db.trees meta (ids_of found.0) Given 1 found.0))
+    (edit_of db.trees meta (ids_of found.0) Given 1 found.0).news ≡ [] =
+    no_work _ _ (ap (λ all. length (edit_of db.trees meta (ids_of all) Given 1 all).news) rows) in
+    let applied = one_step log_schema Enforced db.trees written.0 (edit_of db.trees meta (ids_of found.0) Given 1 found.0) none written.1 in
+    let as_after = λ (at : ℕ). ap (λ (t : Trees). t at) (ap (λ (d : Database). d.trees) now ∙ trees) in
+    let edit : edited db.trees (edit_of db.trees meta (ids_of found.0) Given 1 found.0) ≡ meta_row incarnation ∷ [] =
+    ap (λ all. edited db.trees (edit_of db.trees meta (ids_of all) Given 1 all)) rows
+    ∙ rw (one, same_id (pos 1), cast_int (pos 1), cast_null, cast_int (pos 2), cast_int (pos incarnation)) refl in
+    record {
+      schema = ap (λ (d : Database). d.schema) now;
+      meta = as_after 0 ∙ applied.rows ∙ edit;
+      decisions = as_after 1 ∙ applied.tables.1.0 (eqb-false 1 0 refl);
+      heuristics = as_after 3 ∙ applied.tables.1.1.0 (eqb-false 3 0 refl);
+      participants = as_after 5 ∙ applied.tables.1.1.1.0 (eqb-false 5 0 refl);
+    }
+
+-- ---- both
+
+new_log : (db mid after : Database) → IsOldLog db → Adds db mid → Sets (old_content_of db.trees).incarnation mid after
+    → IsNewLog (old_content_of db.trees) after
+new_log db mid after is added set =
+    let none : after.trees 5 ≡ [] = set.participants ∙ added.participants in
+    let decisions = set.decisions ∙ added.decisions in
+    let heuristics = set.heuristics ∙ added.heuristics in (
+      record {
+        schema = set.schema;
+        meta = subst (λ t. t ≡ meta_row (content_of (λ _. t)).incarnation ∷ []) (sym set.meta) refl;
+        decisions = subst (AllByRecursion IsDecisionRow) (sym decisions) is.decisions;
+        heuristics = subst AreHeuristicRows (sym heuristics) is.heuristics;
+        participants = subst (AllByRecursion IsParticipantRow) (sym none) tt;
+        decisions_apart = subst IsTable (sym decisions) is.decisions_apart;
+        participants_apart = subst IsTable (sym none) tt;
+        parents = subst (AllByRecursion (HasDecision (after.trees 1))) (sym none) tt;
+      },
+      same_content _ _
+          (ap (λ t. booked (participants_of_rows t) (after.trees 1)) none ∙ ap (booked (participants_of_rows [])) decisions)
+          (ap (λ t. (content_of (λ _. t)).heuristics) heuristics)
+          (ap (λ t. (content_of (λ _. t)).incarnation) set.meta),
+    )
+
+pub migrates : (old mid new : State) (a b : ℕ) → IsOldLog old.now → Executes participant_text [] old mid (Ok a)
+    → Executes set_version [] mid new (Ok b) → IsNewLog (old_content_of old.now.trees) new.now
+migrates old mid new a b is first second =
+    let made = runs_as participant_text [] old mid old_schema is.schema CreateTable makes_participant.0 makes_plain a first in
+    let added = adds old mid a is.schema (subst (λ t. Writes old mid None CreateTable t [] a) makes_participant.1 made) in
+    let w =
+    runs_as set_version [] mid new log_schema added.schema
+    (Update 0 (record { lets = []; body = over 0 [] project })) set_version_is set_version_plain b second in
+    new_log old.now mid.now new.now is added
+    (sets mid.step_limit (old_content_of old.now.trees).incarnation mid.now new.now
+    (statement_of set_version (understood log_schema set_version)) w.tally added.schema (added.meta ∙ is.meta) w.changed)
+
+-- ---- in a transaction that is committed
+
+-- The key refers to a unique index, so that a write is not refused for it.
+pub key_fits : is_key_of log_schema of_decision ≡ true
+unfolding everything
+key_fits = refl

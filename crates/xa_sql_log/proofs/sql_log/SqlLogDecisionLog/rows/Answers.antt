@@ -1,0 +1,8 @@
+use Rattle.std.proofs.Common.{rules}
+use Rattle.sqlite.specs.Held.{state}
+use Rattle.xa_sql_log.proofs.Lasting.{log_reads}
+use Rattle.xa_sql_log.proofs.sql_log.SqlLogDecisionLog.rows.Goals as goal
+
+pub returns-clause-reads : goal.returns-clause-reads
+returns-clause-reads g c =
+    log_reads (state g.S.Store c.args.self.now.conn) (state g.S.Store c.rows-all.new.conn) _ _ _ c.rows-all.ensures.reads (search rules) (search rules)

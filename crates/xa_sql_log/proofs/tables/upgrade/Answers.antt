@@ -1,0 +1,25 @@
+use Rattle.std.proofs.Common.{inl, inr, subst}
+use Rattle.sqlite.specs.Held.{state}
+use Rattle.sqlite.specs.Effect.{Database}
+use Rattle.xa_sql_log.specs.Sql.{AreNewTrees}
+use Rattle.xa_sql_log.specs.Rows.{old_content_of}
+use Rattle.xa_sql_log.proofs.Layouts.{old_ready_after}
+use Rattle.xa_log.proofs.Parts.{on_ok}
+use Rattle.xa_sql_log.proofs.tables.upgrade.Goals as goal
+
+pub returns-clause-version : goal.returns-clause-version
+returns-clause-version g c has clean = on_ok _ _ (c.in_ok-check_version.ensures.version has (c.migrate.ensures.honest clean))
+
+pub returns-clause-unknown : goal.returns-clause-unknown
+returns-clause-unknown g c has unknown clean = absurd (unknown (inl (c.in_ok-check_version.ensures.version has (c.migrate.ensures.honest clean))))
+
+pub returns-clause-crash : goal.returns-clause-crash
+returns-clause-crash g c is clean db left =
+    let old = state g.S.Store c.args.conn.now in
+    let mid = state g.S.Store c.check_version.new.conn in
+    let early = c.migrate.ensures.honest clean in
+    let same = c.in_ok-check_version.ensures.same (inl is.now.schema) early in
+    elim ((c.migrate.ensures.crash (old_ready_after old mid same is)).crash clean db left) [
+      | inl was ↦ elim ((c.check_version.ensures.survives (inl is.now.schema)).crash early db was) [ inl first ↦ inl first | inr none ↦ absurd none ]
+      | inr made ↦ inr (subst (λ (d : Database). AreNewTrees (old_content_of d.trees) db) same.0.now_is made)
+    ]

@@ -1,0 +1,67 @@
+use Rattle.std.proofs.Common.{rules, inl, inr, [], ap, subst, ◌∙◌, pos}
+use Rattle.std.specs.List.{Contains}
+use Rattle.sqlite.specs.declared.types.Value.TheVariants.{Int}
+use Rattle.sqlite.specs.Held.{state}
+use Rattle.xa_log.specs.Contract.{IsStoreFault}
+use Rattle.xa_log.proofs.Parts.{on_err}
+use Rattle.xa_sql_log.proofs.States.{rests_query}
+use Rattle.xa_sql_log.proofs.Versions.{read_meta, looks, looks_at, number_of_one, names, look_survives}
+use Rattle.xa_sql_log.proofs.version.check_version.Goals as goal
+
+pub returns-in_err-rows-clause-rests : goal.returns-in_err-rows-clause-rests
+returns-in_err-rows-clause-rests g c has clean =
+    on_err _ _ (rests_query read_meta [] (state g.S.Store c.args.conn.now) (state g.S.Store c.query_all.new.self) c.in_err-rows.ensures.err.1.0
+    (rw c.in_err-rows.ensures.err.1.1 at (c.query_all.ensures.err clean)))
+
+pub returns-in_err-rows-clause-survives : goal.returns-in_err-rows-clause-survives
+returns-in_err-rows-clause-survives g c has =
+    look_survives (state g.S.Store c.args.conn.now) (state g.S.Store c.query_all.new.self) has c.query_all.ensures.survives
+
+pub returns-in_err-version_in-clause-rests : goal.returns-in_err-version_in-clause-rests
+returns-in_err-version_in-clause-rests g c has clean =
+    on_err _ _ (inl (looks (state g.S.Store c.args.conn.now) (state g.S.Store c.query_all.new.self) c.in_ok-rows.rows.items has
+    (rw c.in_ok-rows.ensures.ok at (c.query_all.ensures.ok clean))))
+
+pub returns-in_err-version_in-clause-survives : goal.returns-in_err-version_in-clause-survives
+returns-in_err-version_in-clause-survives g c has =
+    look_survives (state g.S.Store c.args.conn.now) (state g.S.Store c.query_all.new.self) has c.query_all.ensures.survives
+
+pub returns-then-branch-version-clause-same : goal.returns-then-branch-version-clause-same
+returns-then-branch-version-clause-same g c has clean =
+    looks (state g.S.Store c.args.conn.now) (state g.S.Store c.query_all.new.self) c.in_ok-rows.rows.items has (rw c.in_ok-rows.ensures.ok at (c.query_all.ensures.ok clean))
+
+pub returns-then-branch-version-clause-survives : goal.returns-then-branch-version-clause-survives
+returns-then-branch-version-clause-survives g c has =
+    look_survives (state g.S.Store c.args.conn.now) (state g.S.Store c.query_all.new.self) has c.query_all.ensures.survives
+
+pub returns-then-branch-version-clause-version : goal.returns-then-branch-version-clause-version
+returns-then-branch-version-clause-version g c has clean =
+    let found = c.in_ok-version_in.ensures.ok in
+    names c.args.version (state g.S.Store c.args.conn.now) (state g.S.Store c.query_all.new.self) c.in_ok-rows.rows.items found.0 has
+    (rw c.in_ok-rows.ensures.ok at (c.query_all.ensures.ok clean))
+    (subst (λ rows. Contains rows found.0) c.as_slice.ensures.value found.1)
+    (found.2 ∙ ap (λ n. Int (pos n)) c.if-branch-version.true)
+    found.3
+
+pub returns-in_err-version_in-clause-known : goal.returns-in_err-version_in-clause-known
+returns-in_err-version_in-clause-known g c i row clean =
+    let is =
+    looks_at c.args.version i (state g.S.Store c.args.conn.now) (state g.S.Store c.query_all.new.self) c.in_ok-rows.rows.items row
+    (rw c.in_ok-rows.ensures.ok at (c.query_all.ensures.ok clean)) in
+    let fault : IsStoreFault c.in_err-version_in.field-0.0 = inr (c.in_err-version_in.ensures.err c.args.version i (c.as_slice.ensures.value ∙ is)) in
+    search rules
+
+pub returns-clause-known : goal.returns-clause-known
+returns-clause-known g c i row clean =
+    let is =
+    looks_at c.args.version i (state g.S.Store c.args.conn.now) (state g.S.Store c.query_all.new.self) c.in_ok-rows.rows.items row
+    (rw c.in_ok-rows.ensures.ok at (c.query_all.ensures.ok clean)) in
+    let found = c.in_ok-version_in.ensures.ok in
+    absurd (c.if-branch-version.false (number_of_one c.args.version i c.in_ok-version_in.field-0 _ found.0 (c.as_slice.ensures.value ∙ is) found.1 found.2))
+
+pub returns-clause-rests : goal.returns-clause-rests
+returns-clause-rests g c has clean =
+    inl (looks (state g.S.Store c.args.conn.now) (state g.S.Store c.query_all.new.self) c.in_ok-rows.rows.items has (rw c.in_ok-rows.ensures.ok at (c.query_all.ensures.ok clean)))
+
+pub returns-clause-survives : goal.returns-clause-survives
+returns-clause-survives g c has = look_survives (state g.S.Store c.args.conn.now) (state g.S.Store c.query_all.new.self) has c.query_all.ensures.survives

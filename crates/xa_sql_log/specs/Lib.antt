@@ -1,0 +1,5 @@
+pub mod Opened
+pub mod Rows
+pub mod Sql
+pub mod SqlLaws
+pub mod Tables

@@ -1,0 +1,17 @@
+//! A decision log in the tables of a database, in a file or in memory: the log of an XA transaction manager that outlives
+//! its process. What a decision log promises stands in `xa_log`, with a log in memory and one that fails by a plan.
+#![tactic(auto)]
+
+mod decisions;
+mod fields;
+mod grouped;
+mod heuristics;
+mod incarnation;
+mod rows;
+mod sql_log;
+mod statements;
+mod tables;
+mod version;
+mod waiting;
+
+pub use sql_log::SqlLog;

@@ -1,0 +1,182 @@
+//! A decision log in a database.
+ghost use Rattle.std.specs.Prelude.{◌≡◌, false, Err, IsTrue, IfOk, IfErr};
+ghost use Rattle.sqlite.specs.State.{HasCleanDisk};
+ghost use Rattle.sqlite.specs.Held.{state};
+ghost use Rattle.xa_log.specs.Content.{nothing};
+ghost use Rattle.xa_log.specs.Contract.{IsStoreFault};
+ghost use Rattle.xa_sql_log.specs.Rows.{content_of, old_content_of};
+ghost use Rattle.xa_sql_log.specs.Tables.{log_schema};
+ghost use Rattle.xa_sql_log.specs.Sql.{IsOrderly, IsReadyWith, IsShutOrAsBefore, IsOldReady};
+ghost use Rattle.xa_sql_log.specs.Opened.{IsBlank, IsFoundLog, IsTakeable, IsKnownDatabase, HasTables, NamesKnown, LeavesTables, LeavesSame, IsUntouched};
+
+mod opening;
+
+use crate::{decisions, grouped, heuristics, incarnation, rows, tables, waiting};
+use sqlite::{Alter, Connection};
+use std::alloc::Global;
+use xa_base::{Branch, Gtrid, How};
+use xa_log::{Decision, DecisionLog, LogFault, LogRows, Logged, counted};
+
+/// A decision log in four tables of a database, in a file or in memory. While the log has it, no other connection
+/// may write the database.
+#[derive(Drop)]
+pub struct SqlLog<S: Alter> {
+    conn: Connection<S>,
+    faults: u64,
+}
+
+impl<S: Alter + Drop> SqlLog<S> {
+    /// Takes a connection: makes the tables of an empty log where the database has none, migrates those of version
+    /// 1 with all their rows, and keeps those of version 2. A migration and the making of tables are one
+    /// transaction each. A failure gives the connection back.
+    ///
+    /// - [`LogFault::Version`]: the tables name another version, or lack a number or have one that doesn't fit its
+    ///   type. Nothing has changed.
+    /// - [`LogFault::Store`]: the store failed, a transaction is open, or other tables have these names.
+    /// - [`LogFault::Memory`]: a request for memory was refused.
+    ///
+    /// In the contract:
+    ///
+    /// - `made`, `migrated`, `kept`: what the log then holds, by what the database was;
+    /// - `found`, `found_err`: what a crash may have left of a log in order, also of one that a failure had shut, is a log
+    ///   when it is opened again: it is taken with its content, and never refused as unknown;
+    /// - `version`: no log is made of the tables of one where no row of `tm_meta` names version 1 or 2 and a natural
+    ///   incarnation;
+    /// - `known`: a database without tables, or one that a log has left, is refused by the store or for want of memory
+    ///   alone;
+    /// - `undone`, `unknown`, `refused`: after a failure the database is as it was, or shut;
+    /// - `crash`, `crash_kept` and the same for a failure: a crash leaves what it might have left before, or all
+    ///   that one transaction made; over version 2 nothing else.
+    pub fn adopt(mut conn: Connection<S>) -> Result<SqlLog<S>, (LogFault, Connection<S>)>
+        ensures faults { IfOk result (λ log. log.faults ≡ 0) }
+        ensures busy { IsTrue conn.in_transaction → result ≡ Err (LogFault.Store, conn) }
+        ensures honest { IfOk result (λ log.
+            HasCleanDisk (state S.Store log.conn) → HasCleanDisk (state S.Store conn)) }
+        ensures honest_err { IfErr result (λ e.
+            HasCleanDisk (state S.Store e.1) → HasCleanDisk (state S.Store conn)) }
+        ensures made { IfOk result (λ log. IsBlank (state S.Store conn) →
+            HasCleanDisk (state S.Store log.conn) →
+            IsReadyWith nothing (state S.Store log.conn)) }
+        ensures migrated { IfOk result (λ log. IsOldReady (state S.Store conn) →
+            HasCleanDisk (state S.Store log.conn) →
+            IsReadyWith (old_content_of (state S.Store conn).now.trees) (state S.Store log.conn)) }
+        ensures kept { IfOk result (λ log. (state S.Store conn).now.schema ≡ log_schema →
+            IsOrderly (state S.Store conn) → HasCleanDisk (state S.Store log.conn) →
+            IsReadyWith (content_of (state S.Store conn).now.trees) (state S.Store log.conn)) }
+        ensures undone { IfErr result (λ e. conn.in_transaction ≡ false →
+            IsTakeable (state S.Store conn) → HasCleanDisk (state S.Store e.1) →
+            IsShutOrAsBefore (state S.Store conn) (state S.Store e.1)) }
+        ensures found { IfOk result (λ log. IsFoundLog (state S.Store conn) →
+            HasCleanDisk (state S.Store log.conn) →
+            IsReadyWith (content_of (state S.Store conn).now.trees) (state S.Store log.conn)) }
+        ensures found_err { IfErr result (λ e. IsFoundLog (state S.Store conn) →
+            HasCleanDisk (state S.Store e.1) → IsStoreFault e.0) }
+        ensures version { IfOk result (λ log. HasTables (state S.Store conn) →
+            HasCleanDisk (state S.Store log.conn) → NamesKnown (state S.Store conn)) }
+        ensures known { IfErr result (λ e. IsKnownDatabase (state S.Store conn) →
+            HasCleanDisk (state S.Store e.1) → IsStoreFault e.0) }
+        ensures unknown { IfErr result (λ e. conn.in_transaction ≡ false →
+            HasTables (state S.Store conn) → ¬ NamesKnown (state S.Store conn) →
+            HasCleanDisk (state S.Store e.1) →
+            IsUntouched (state S.Store conn) (state S.Store e.1)) }
+        ensures refused { IfErr result (λ e. e.0 ≡ LogFault.Version →
+            HasTables (state S.Store conn) → HasCleanDisk (state S.Store e.1) →
+            IsUntouched (state S.Store conn) (state S.Store e.1)) }
+        ensures crash { IfOk result (λ log. IsTakeable (state S.Store conn) →
+            HasCleanDisk (state S.Store log.conn) →
+            LeavesTables (state S.Store conn) (state S.Store log.conn)) }
+        ensures crash_err { IfErr result (λ e. IsTakeable (state S.Store conn) →
+            HasCleanDisk (state S.Store e.1) →
+            LeavesTables (state S.Store conn) (state S.Store e.1)) }
+        ensures crash_kept { IfOk result (λ log. (state S.Store conn).now.schema ≡ log_schema →
+            HasCleanDisk (state S.Store log.conn) →
+            LeavesSame (state S.Store conn) (state S.Store log.conn)) }
+        ensures crash_kept_err { IfErr result (λ e. (state S.Store conn).now.schema ≡ log_schema →
+            HasCleanDisk (state S.Store e.1) →
+            LeavesSame (state S.Store conn) (state S.Store e.1)) }
+    {
+        match tables::prepare(&mut conn) {
+            Ok(()) => Ok(SqlLog { conn, faults: 0 }),
+            Err(fault) => Err((fault, conn)),
+        }
+    }
+
+    /// The connection as it stands.
+    pub fn into_connection(self) -> Connection<S>
+        ensures { result ≡ self.conn }
+    {
+        let SqlLog { conn, faults: _ } = self;
+        conn
+    }
+}
+
+impl<S: Alter> DecisionLog for SqlLog<S> {
+    ghost use Rattle.sqlite.specs.Held.{state as shown};
+    ghost use Rattle.xa_log.specs.Contract.{MayEnd};
+    ghost use Rattle.xa_sql_log.specs.SqlLaws.{fits_content, own_content, durable_content};
+    ghost use Rattle.xa_sql_log.specs.Sql.{sql_moment};
+
+    ghost moment = { λ log. sql_moment (shown S.Store log.conn) log.faults };
+
+    ghost says = { λ call _ _ _ fault. MayEnd call fault };
+
+    ghost durable = { λ log c d order is left.
+        durable_content _ (λ db. S.Store.settled log.conn.store db) c d order.order is left };
+
+    ghost own = { λ log c order is. own_content _ c order.order is };
+
+    ghost fits = { λ log c order is. fits_content _ c order.order is };
+
+    fn commit(&mut self, g: Gtrid, participants: &[Branch]) -> Result<Logged, LogFault> {
+        let logged = decisions::commit(&mut self.conn, g, participants);
+        counted(&mut self.faults, logged)
+    }
+
+    fn commit_all(
+        &mut self,
+        alloc: Global,
+        decisions: &[Decision],
+    ) -> Result<Vec<Logged>, LogFault> {
+        let answers = grouped::commit_all(&mut self.conn, alloc, decisions);
+        counted(&mut self.faults, answers)
+    }
+
+    fn contains(&mut self, g: Gtrid) -> Result<bool, LogFault> {
+        let found = decisions::find_decision(&mut self.conn, g);
+        counted(&mut self.faults, found)
+    }
+
+    fn participants(&mut self, g: Gtrid) -> Result<Vec<Branch>, LogFault> {
+        let list = waiting::participants(&mut self.conn, g);
+        counted(&mut self.faults, list)
+    }
+
+    fn done(&mut self, g: Gtrid) -> Result<bool, LogFault> {
+        let found = decisions::done(&mut self.conn, g);
+        counted(&mut self.faults, found)
+    }
+
+    fn note_heuristic(&mut self, b: Branch, how: How) -> Result<(), LogFault> {
+        let noted = heuristics::note_heuristic(&mut self.conn, b, how);
+        counted(&mut self.faults, noted)
+    }
+
+    fn heuristic_of(&mut self, b: Branch) -> Result<Option<How>, LogFault> {
+        let how = heuristics::find_heuristic(&mut self.conn, b);
+        counted(&mut self.faults, how)
+    }
+
+    fn bump(&mut self) -> Result<u64, LogFault> {
+        let bumped = incarnation::bump(&mut self.conn);
+        counted(&mut self.faults, bumped)
+    }
+
+    fn rows(&mut self) -> Result<LogRows, LogFault> {
+        let all = rows::rows(&mut self.conn);
+        counted(&mut self.faults, all)
+    }
+
+    fn faults(&self) -> u64 {
+        self.faults
+    }
+}

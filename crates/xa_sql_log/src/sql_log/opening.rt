@@ -1,0 +1,118 @@
+//! A log that is opened: in memory, and in the file at a path.
+ghost use Rattle.std.specs.Prelude.{◌≡◌, false, codes, Err, IfOk, IsErrAnd};
+ghost use Rattle.sqlite.specs.State.{HasCleanDisk};
+ghost use Rattle.sqlite.specs.Held.{state};
+ghost use Rattle.sqlite.specs.Steps.{over_memory};
+ghost use Rattle.sqlite.specs.Files.{file_state, over_files, IsBlankAs, IsOpened};
+ghost use Rattle.sqlite.specs.Start.{FindsIn};
+ghost use Rattle.sqlite_wal.specs.Files.{image_at};
+ghost use Rattle.xa_log.specs.Content.{nothing};
+ghost use Rattle.xa_log.specs.Contract.{IsStoreFault};
+ghost use Rattle.xa_sql_log.specs.Sql.{IsReadyWith};
+ghost use Rattle.xa_sql_log.specs.Opened.{IsTaken, IsOver};
+
+use super::SqlLog;
+use crate::statements::fault_of;
+use sqlite::{Alter, Connection, FileFrom, FileStore, MemStore, Start, Unknown};
+use sqlite_disk::Disk;
+use std::alloc::Global;
+use xa_log::LogFault;
+
+impl<S: Alter + Drop> SqlLog<S> {
+    /// Does what `adopt` does, and closes the connection where that fails.
+    fn adopt_or_close(conn: Connection<S>) -> Result<SqlLog<S>, LogFault>
+        ensures faults { IfOk result (λ log. log.faults ≡ 0) }
+        ensures honest { IfOk result (λ log.
+            HasCleanDisk (state S.Store log.conn) → HasCleanDisk (state S.Store conn)) }
+        ensures taken { IfOk result (λ log. HasCleanDisk (state S.Store log.conn) →
+            IsTaken (state S.Store conn) (state S.Store log.conn)) }
+    {
+        match SqlLog::adopt(conn) {
+            Ok(log) => Ok(log),
+            Err((fault, _)) => Err(fault),
+        }
+    }
+}
+
+impl SqlLog<MemStore> {
+    /// An empty log in memory.
+    pub fn open_in_memory(alloc: Global) -> Result<SqlLog<MemStore>, LogFault>
+        ensures faults { IfOk result (λ log. log.faults ≡ 0) }
+        ensures empty { IfOk result (λ log. IsReadyWith nothing (state over_memory log.conn)) }
+        ensures honest { IfOk result (λ log. HasCleanDisk (state over_memory log.conn)) }
+    {
+        let conn = Connection::open_in_memory(alloc)?;
+        SqlLog::adopt_or_close(conn)
+    }
+}
+
+impl<D: Disk + Drop> SqlLog<FileStore<D>> {
+    /// The same over files. A proof that goes from any store to the host's files by way of this one is far smaller.
+    fn adopt_files(conn: Connection<FileStore<D>>) -> Result<SqlLog<FileStore<D>>, LogFault>
+        ensures faults { IfOk result (λ log. log.faults ≡ 0) }
+        ensures honest { IfOk result (λ log.
+            HasCleanDisk (file_state log.conn) → HasCleanDisk (file_state conn)) }
+        ensures taken { IfOk result (λ log. HasCleanDisk (file_state log.conn) →
+            IsTaken (file_state conn) (file_state log.conn)) }
+    {
+        SqlLog::adopt_or_close(conn)
+    }
+}
+
+/// Opens the file at a path with a journal beside it.
+fn connection_to<S: Start>(
+    rt: &HostRuntime,
+    path: &str,
+    start: S,
+) -> Result<Connection<FileStore<FileFrom<S>>>, LogFault>
+    ensures memory { path.now ≡ codes ":memory:" → IsErrAnd result IsStoreFault }
+    ensures opened { IfOk result (λ conn. HasCleanDisk (file_state conn) → IsOpened conn) }
+    ensures found { IfOk result (λ conn. HasCleanDisk (file_state conn) →
+        FindsIn (image_at S.Start) (file_state conn)) }
+    ensures plain { IfOk result (λ conn. HasCleanDisk (file_state conn) →
+        IsBlankAs false (image_at S.Start) → (over_files.view conn.store).has_sums ≡ false) }
+{
+    match Connection::open_from(rt, path, false, start) {
+        Ok(conn) => Ok(conn),
+        Err((error, _)) => Err(fault_of(error)),
+    }
+}
+
+impl<S: Start> SqlLog<FileStore<FileFrom<S>>> {
+    /// Opens the log in the file at a path, or makes it, as `adopt` does. The file's journal lies beside it; both
+    /// are of this log alone. [`LogFault::Store`] comes also where the files can't be opened or hold no database, and
+    /// for the path `:memory:`, which names no file.
+    ///
+    /// `start` stands for what the files held, which the contract names. A program passes [`sqlite::Unknown`], or
+    /// [`sqlite::Wary`], which syncs twice for each commit and so supposes less of a write that a crash tears.
+    pub fn open_from(
+        rt: &HostRuntime,
+        path: &str,
+        start: S,
+    ) -> Result<SqlLog<FileStore<FileFrom<S>>>, LogFault>
+        ensures faults { IfOk result (λ log. log.faults ≡ 0) }
+        ensures opened { IfOk result (λ log. HasCleanDisk (file_state log.conn) →
+            IsOver (image_at S.Start) log.conn) }
+        ensures memory { path.now ≡ codes ":memory:" → IsErrAnd result IsStoreFault }
+    {
+        let conn = connection_to(rt, path, start)?;
+        SqlLog::adopt_files(conn)
+    }
+}
+
+impl SqlLog<FileStore<FileFrom<Unknown>>> {
+    /// Opens the log in the file at a path, or makes it, as `open_from` does with [`sqlite::Unknown`]. Over files that
+    /// aren't empty, no proof shows that the clause `opened` says anything: a program that states a theorem over such
+    /// files calls `open_from`.
+    pub fn open(
+        rt: &HostRuntime,
+        path: &str,
+    ) -> Result<SqlLog<FileStore<FileFrom<Unknown>>>, LogFault>
+        ensures faults { IfOk result (λ log. log.faults ≡ 0) }
+        ensures opened { IfOk result (λ log. HasCleanDisk (file_state log.conn) →
+            IsOver (image_at ⟦<Unknown as Start>⟧) log.conn) }
+        ensures memory { path.now ≡ codes ":memory:" → IsErrAnd result IsStoreFault }
+    {
+        SqlLog::open_from(rt, path, Unknown)
+    }
+}
