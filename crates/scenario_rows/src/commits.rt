@@ -1,13 +1,8 @@
 //! Transactions that are decided.
 
+use crate::crashes::{DECIDE, PREPARE, PREPARE_TOO};
 use crate::files::{READY, READY_REPLIES, READY_TOO, READY_TOO_REPLIES, file, prints};
 use std::test::Fail;
-
-const PREPARE: &str = "do = 'call', thread = 0, rm = 0, xa = 'xa_prepare', tx = 'a'";
-
-const PREPARE_TOO: &str = "do = 'call', thread = 0, rm = 1, xa = 'xa_prepare', tx = 'a'";
-
-const DECIDE: &str = "do = 'decide', tx = 'a', outcome = 'commit'";
 
 const ROLL_BACK: &str = "do = 'decide', tx = 'a', outcome = 'rollback'";
 

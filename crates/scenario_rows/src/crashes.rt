@@ -1,9 +1,7 @@
 //! Crashes, and recoveries after them.
 
-use crate::files::{READY, READY_REPLIES, file, prints, run_over};
-use std::fs;
+use crate::files::{READY, READY_REPLIES, file, prints};
 use std::test::Fail;
-use xa_sql_log::SqlLog;
 
 /// A page with the branch at resource manager 0 alone, as it is printed.
 pub(crate) const PAGE: &str =
@@ -111,24 +109,4 @@ fn line_crash(rt: HostRuntime) -> Result<(), Fail> {
         ]],
         &["7:00000000000000010000000000000001:0000000000000000 lost"],
     )
-}
-
-/// Two runs over one log in a file: the second is of the second incarnation.
-#[test]
-fn second_incarnation(rt: HostRuntime) -> Result<(), Fail> {
-    let alloc = rt.alloc();
-    let path = "second_incarnation.db";
-    let _missing = fs::remove_file(&rt, path);
-    let text = file(alloc, 1, 1, &[&READY])?;
-    let first = run_over(alloc, text.as_str(), SqlLog::open(&rt, path)?, false)?;
-    assert_eq!(rt;
-        first.as_str(),
-        "7:00000000000000010000000000000001:0000000000000000 idle\n"
-    );
-    let second = run_over(alloc, text.as_str(), SqlLog::open(&rt, path)?, false)?;
-    assert_eq!(rt;
-        second.as_str(),
-        "7:00000000000000020000000000000001:0000000000000000 idle\n"
-    );
-    Ok(())
 }

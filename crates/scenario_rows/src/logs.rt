@@ -2,18 +2,13 @@
 
 ghost use Rattle.std.specs.Prelude.{◌≡◌};
 
-use crate::crashes::{DECIDE, PREPARE, PREPARE_TOO};
 use crate::failing::Failing;
-use crate::files::{READY, READY_TOO, file, run_over};
-use crate::recoveries::RECOVERIES;
 use std::alloc::Global;
-use std::fs;
 use std::test::Fail;
 use xa_base::{Branch, Gtrid, How};
 use xa_files::RunFault;
 use xa_listing::list_log;
 use xa_log::{DecisionLog, FailLog, FailPlan, LogCall, LogFault, MemLog};
-use xa_sql_log::SqlLog;
 
 /// What is listed of a log with two decisions and an end of each kind.
 const LISTED: &str = "\
@@ -123,44 +118,5 @@ fn writer_of_a_list_fails(rt: HostRuntime) -> Result<(), Fail> {
     };
     list_log(&mut log, &mut out)?;
     assert_eq!(rt; out.held.as_slice(), whole);
-    Ok(())
-}
-
-/// The list of the log that a run leaves in the file at a path, over which it starts anew.
-fn list_after(rt: &HostRuntime, path: &str, entries: &[&[&str]]) -> Result<String, Fail> {
-    let alloc = rt.alloc();
-    let _missing = fs::remove_file(rt, path);
-    let text = file(alloc, 1, 2, entries)?;
-    run_over(alloc, text.as_str(), SqlLog::open(rt, path)?, false)?;
-    Ok(list_of(alloc, &mut SqlLog::open(rt, path)?)?)
-}
-
-/// The row of a decision waits for both branches behind the crash, also once one has answered, and
-/// leaves after the other.
-#[test]
-fn decided_before_crash(rt: HostRuntime) -> Result<(), Fail> {
-    let path = "decided_before_crash.db";
-    let waits = "00000000000000010000000000000001 2\n";
-    let crashed = [
-        PREPARE,
-        PREPARE_TOO,
-        DECIDE,
-        "do = 'crash', part = 'manager'",
-    ];
-    let restarted = ["do = 'restart', part = 'manager'"];
-    let one_answered = ["do = 'drain', thread = 0, rm = 0", "do = 'done', tx = 'a'"];
-    let both_answered = ["do = 'drain', thread = 0, rm = 1", "do = 'done', tx = 'a'"];
-    let groups: [&[&str]; 7] = [
-        &READY,
-        &READY_TOO,
-        &crashed,
-        &restarted,
-        &RECOVERIES,
-        &one_answered,
-        &both_answered,
-    ];
-    assert_eq!(rt; list_after(&rt, path, &groups[..3])?.as_str(), waits);
-    assert_eq!(rt; list_after(&rt, path, &groups[..6])?.as_str(), waits);
-    assert_eq!(rt; list_after(&rt, path, &groups)?.as_str(), "");
     Ok(())
 }

@@ -31,7 +31,7 @@ const DECIDED_REPLIES: [&str; 5] = [
 ];
 
 /// The calls of a recovery at both resource managers: the lines are opened, scanned and resolved.
-pub(crate) const RECOVERIES: [&str; 8] = [
+const RECOVERIES: [&str; 8] = [
     "do = 'call', thread = 0, rm = 0, xa = 'xa_open'",
     "do = 'recover', rm = 0, count = 8, flags = ['TMSTARTRSCAN', 'TMENDRSCAN']",
     "do = 'drain', thread = 0, rm = 0",

@@ -1,10 +1,9 @@
-//! Each call of the manager that takes memory, over each log.
+//! Each call of the manager that takes memory, over logs in memory.
 
 use crate::run::{Run, branch, transaction};
 use std::alloc::Global;
 use xa_base::{Call, Code, How, Outcome, Part, Refusal, Reply, Side, Step};
 use xa_log::{DecisionLog, FailLog, FailPlan, LogCall, MemLog};
-use xa_sql_log::SqlLog;
 
 fn commit(sequence: u64, one_phase: bool) -> Call {
     Call::Commit {
@@ -138,13 +137,6 @@ fn is_right_in_memory(alloc: Global, row: Row) -> bool {
     is_right(alloc, MemLog::new(alloc), row)
 }
 
-fn is_right_in_sql(alloc: Global, row: Row) -> bool {
-    match SqlLog::open_in_memory(alloc) {
-        Ok(log) => is_right(alloc, log, row),
-        Err(_) => false,
-    }
-}
-
 /// Over a log that fails at a commit.
 fn is_right_failing(alloc: Global, at: u64, made: bool, row: Row) -> bool {
     let plan = FailPlan::Once {
@@ -159,14 +151,6 @@ fn is_right_failing(alloc: Global, at: u64, made: bool, row: Row) -> bool {
 fn calls_succeed_over_a_log_in_memory(rt: HostRuntime) {
     for row in ROWS {
         let is_right = is_right_in_memory(rt.alloc(), row) || is_right_in_memory(rt.alloc(), row);
-        assert!(rt; is_right, "{row:?}");
-    }
-}
-
-#[test]
-fn calls_succeed_over_a_log_in_sql(rt: HostRuntime) {
-    for row in ROWS {
-        let is_right = is_right_in_sql(rt.alloc(), row) || is_right_in_sql(rt.alloc(), row);
         assert!(rt; is_right, "{row:?}");
     }
 }

@@ -1,4 +1,4 @@
-//! Tests of the coordinator over each log, of what no clause says: its calls succeed where there is memory, and again
+//! Tests of the coordinator over logs in memory, of what no clause says: its calls succeed where there is memory, and again
 //! after a request for memory was refused.
 //!
 //! They pass where any one request is refused, as `rt try --test --fail-alloc N` does it: a step that is refused memory is

@@ -1,5 +1,5 @@
 -- Whether a decision has a row.
-use Rattle.std.proofs.Common.{◌≡◌, pos, ◌==◌, List, [], ◌∷◌, length, map, filter, Bool, true, false, not, ◌||◌, cond, Some, None, IsTrue, IsSomeAnd, arith, refl, sym, ap, subst, ◌∙◌}
+use Rattle.std.proofs.Common.{◌≡◌, pos, ◌==◌, List, [], ◌∷◌, length, filter, Bool, true, false, not, ◌||◌, cond, Some, None, IsTrue, IsSomeAnd, arith, refl, sym, ap, subst, ◌∙◌}
 use Rattle.std.specs.List.{list_any}
 use Rattle.std.specs.FinMap.{contains_key}
 use Rattle.xa_log.specs.KeySet.{empty}

@@ -1,10 +1,10 @@
 -- Maps and sets of lists that have the same entries, and the lists that maps and sets give.
-use Rattle.std.proofs.Common.{◌≡◌, ◌⊎◌, inl, inr, ℕ, ◌+◌, ◌<◌, List, [], ◌∷◌, ◌++◌, map, reverse, length, take, get_or, ◌||◌, Bool, true, false, ◌&&◌, T, cond, Some, None, is_eq, is_lt, refl, sym, ap, subst, ◌∙◌, Ordering, Less, Equal, Greater}
+use Rattle.std.proofs.Common.{◌≡◌, ◌⊎◌, inl, inr, ℕ, ◌+◌, ◌<◌, List, [], ◌∷◌, ◌++◌, map, reverse, length, take, get_or, ◌||◌, Bool, true, false, ◌&&◌, cond, Some, None, is_eq, refl, sym, ap, subst, ◌∙◌, Ordering, Less}
 use Rattle.std.specs.Ordering.{eq_by_cmp}
 use Rattle.std.specs.Cmp.{IsTotalOrder, both_ways, tied_itself}
 use Rattle.std.specs.List.{AllByRecursion, list_any}
 use Rattle.std.specs.List.Sorted.{IsStrictlySortedBy}
-use Rattle.std.specs.FinMap.{insert as put_in, IsAntisymmetric, entries, entries_sorted, find, is_sorted, from_entries, get-from_entries, get-insert, same_map}
+use Rattle.std.specs.FinMap.{insert as put_in, IsAntisymmetric, entries, entries_sorted, find, from_entries, get-from_entries, get-insert, same_map}
 use Rattle.xa_log.specs.KeySet.{KeySet, insert, from_list, from_list_push, items, same_set, contains-from_list, contains-insert}
 use Rattle.std.specs.BTreeSet.{BTreeSet, Updates}
 use Rattle.std.specs.BTreeMap.{BTreeMap, get as get_tree, is_at}

@@ -174,7 +174,8 @@ returns-clause-absent g c order =
     (λ clean. rw begins at (c.in_ok-insert_decision.ensures.live clean))
     (λ log clean. rw begins at (c.in_ok-insert_decision.ensures.absent (rw begins log) (rw begins refl) clean))
     (λ may clean. rw begins at (c.in_ok-insert_decision.ensures.written (rw begins may) clean)) c.in_ok-insert_participants.ensures.written in
-    subst (λ h. HasCleanDisk (state g.S.Store h) → IsSomeAnd (content_in (state g.S.Store old)) (λ (x : Content). false ≡ contains_key x.decisions c.args.g)) same
+    subst (λ h. HasCleanDisk (state g.S.Store h) → IsSomeAnd (content_in (state g.S.Store old))
+    (λ (x : Content). false ≡ contains_key x.decisions c.args.g)) same
     (λ clean. none_before c.args.g set (state g.S.Store old) (state g.S.Store mid) (state g.S.Store end) (written order (early clean)))
 
 pub returns-in_err-insert_decision-clause-kept : goal.returns-in_err-insert_decision-clause-kept
@@ -207,7 +208,8 @@ returns-in_err-insert_participants-clause-kept g c order =
     λ (clean : HasCleanDisk (state g.S.Store mid)). keeps_then (begun (state g.S.Store old)) (state g.S.Store first)
     (state g.S.Store mid) (rw begins at (c.insert_decision.ensures.kept (back clean))) (c.insert_participants.ensures.kept clean) in
     subst (λ h. HasCleanDisk (state g.S.Store h)
-    → OnErr c.from_residual-in_err-insert_participants.result ((content_in (state g.S.Store h) ≡ None) ⊎ (content_in (state g.S.Store h) ≡ content_in (state g.S.Store old)))) same
+    → OnErr c.from_residual-in_err-insert_participants.result ((content_in (state g.S.Store h) ≡ None)
+    ⊎ (content_in (state g.S.Store h) ≡ content_in (state g.S.Store old)))) same
     (λ clean. on_err _ _ (undone_content (state g.S.Store old) (state g.S.Store end) (opened_clean _ _ (g.met.S.Store.shut_if_dirty end.store))
     (undone_after (state g.S.Store old) (state g.S.Store mid) (state g.S.Store end) (keeps (early clean))
     (c.drop-tx-in_err-insert_participants.ensures.undone clean)) order))
@@ -233,7 +235,8 @@ returns-in_err-of_store-clause-kept g c order =
     (λ log clean. rw begins at (c.in_ok-insert_decision.ensures.absent (rw begins log) (rw begins refl) clean))
     (λ may clean. rw begins at (c.in_ok-insert_decision.ensures.written (rw begins may) clean)) c.in_ok-insert_participants.ensures.written in
     subst (λ h. HasCleanDisk (state g.S.Store h)
-    → OnErr c.from_residual-in_err-of_store.result ((content_in (state g.S.Store h) ≡ None) ⊎ (content_in (state g.S.Store h) ≡ content_in (state g.S.Store old)))) same
+    → OnErr c.from_residual-in_err-of_store.result ((content_in (state g.S.Store h) ≡ None)
+    ⊎ (content_in (state g.S.Store h) ≡ content_in (state g.S.Store old)))) same
     (λ clean. on_err _ _ (undone_content (state g.S.Store old) (state g.S.Store end) (opened_clean _ _ (g.met.S.Store.shut_if_dirty end.store))
     (failed_all c.args.g set (state g.S.Store old) (state g.S.Store mid) (state g.S.Store end) c.in_err-of_store.ensures.err.1.0
     (keeps (early clean)) (written order (early clean)) (rw c.in_err-of_store.ensures.err.1.1 at (c.commit.ensures.err clean))) order))

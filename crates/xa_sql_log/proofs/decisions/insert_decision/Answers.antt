@@ -12,7 +12,8 @@ returns-clause-written g c begins clean =
     let given : bound_value (owned c.params-to_sql.result) ∷ bound_value (owned c.params-to_sql-2.result) ∷ [] ≡ gtrid_params c.args.g =
     rw (c.params-to_sql.ensures, c.params-to_sql-2.ensures, c.stored.ensures, c.stored-2.ensures) (two_params c.args.g c.requires) in
     writes_decision c.args.g c.requires _ given (state g.S.Store c.args.tx.now.conn.now)
-    (state g.S.Store c.execute.new.self.conn.now) c.in_ok-of_store.field-0 begins (rw c.in_ok-of_store.ensures.ok at (c.execute.ensures.runs clean begins.inside))
+    (state g.S.Store c.execute.new.self.conn.now) c.in_ok-of_store.field-0 begins
+    (rw c.in_ok-of_store.ensures.ok at (c.execute.ensures.runs clean begins.inside))
 
 pub returns-clause-absent : goal.returns-clause-absent
 returns-clause-absent g c log inside clean =

@@ -21,4 +21,5 @@ returns-clause-written g c clean set before has =
       c.from-2.ensures,
     ) (four_params b c.requires (omega arith) (omega arith)) in
     writes_participant b _ given (state g.S.Store c.args.tx.now.conn.now)
-    (state g.S.Store c.execute.new.self.conn.now) c.in_ok-of_store.field-0 set before has (rw c.in_ok-of_store.ensures.ok at (c.execute.ensures.runs clean has.inside))
+    (state g.S.Store c.execute.new.self.conn.now) c.in_ok-of_store.field-0 set before has
+    (rw c.in_ok-of_store.ensures.ok at (c.execute.ensures.runs clean has.inside))

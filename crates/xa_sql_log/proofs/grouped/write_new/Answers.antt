@@ -51,7 +51,8 @@ returns-in_err-of_store-clause-changes g c told =
     (tried (state g.S.Store old) (state g.S.Store end) (opened_clean _ _ (g.met.S.Store.shut_if_dirty end.store))
     (λ db. db ≡ (state g.S.Store mid).now.trees) whole change
     (λ order clean. inl (failed_list ds (state g.S.Store old) (state g.S.Store mid) (state g.S.Store end) c.in_err-of_store.ensures.err.1.0
-    (rw begins at (c.insert_new.ensures.kept (early clean))) (written order (early clean)) (rw c.in_err-of_store.ensures.err.1.1 at (c.commit.ensures.err clean))))
+    (rw begins at (c.insert_new.ensures.kept (early clean))) (written order (early clean))
+    (rw c.in_err-of_store.ensures.err.1.1 at (c.commit.ensures.err clean))))
     (λ order clean. commits_list ds (state g.S.Store old) (state g.S.Store mid) (state g.S.Store end) (written order (early clean))))
 
 pub returns-clause-changes : goal.returns-clause-changes
@@ -95,4 +96,5 @@ returns-clause-ok g c told order =
     (rw begins (may_begin ds (state g.S.Store old) (state g.S.Store mid) (state g.S.Store end) c.args.answers.now told order))) in
     subst (λ h. HasCleanDisk (state g.S.Store h) → Makes change (content_in (state g.S.Store old)) (content_in (state g.S.Store h))) same
     (λ clean. did_makes change (state g.S.Store old) (state g.S.Store end)
-    (committed_list ds (state g.S.Store old) (state g.S.Store mid) (state g.S.Store end) (written (early clean)) (rw c.in_ok-of_store.ensures.ok at (c.commit.ensures.ok clean)).1))
+    (committed_list ds (state g.S.Store old) (state g.S.Store mid) (state g.S.Store end) (written (early clean))
+    (rw c.in_ok-of_store.ensures.ok at (c.commit.ensures.ok clean)).1))

@@ -28,7 +28,8 @@ returns-in_err-version_in-clause-survives g c has =
 
 pub returns-then-branch-version-clause-same : goal.returns-then-branch-version-clause-same
 returns-then-branch-version-clause-same g c has clean =
-    looks (state g.S.Store c.args.conn.now) (state g.S.Store c.query_all.new.self) c.in_ok-rows.rows.items has (rw c.in_ok-rows.ensures.ok at (c.query_all.ensures.ok clean))
+    looks (state g.S.Store c.args.conn.now) (state g.S.Store c.query_all.new.self) c.in_ok-rows.rows.items has
+    (rw c.in_ok-rows.ensures.ok at (c.query_all.ensures.ok clean))
 
 pub returns-then-branch-version-clause-survives : goal.returns-then-branch-version-clause-survives
 returns-then-branch-version-clause-survives g c has =
@@ -61,7 +62,8 @@ returns-clause-known g c i row clean =
 
 pub returns-clause-rests : goal.returns-clause-rests
 returns-clause-rests g c has clean =
-    inl (looks (state g.S.Store c.args.conn.now) (state g.S.Store c.query_all.new.self) c.in_ok-rows.rows.items has (rw c.in_ok-rows.ensures.ok at (c.query_all.ensures.ok clean)))
+    inl (looks (state g.S.Store c.args.conn.now) (state g.S.Store c.query_all.new.self) c.in_ok-rows.rows.items has
+    (rw c.in_ok-rows.ensures.ok at (c.query_all.ensures.ok clean)))
 
 pub returns-clause-survives : goal.returns-clause-survives
 returns-clause-survives g c has = look_survives (state g.S.Store c.args.conn.now) (state g.S.Store c.query_all.new.self) has c.query_all.ensures.survives
