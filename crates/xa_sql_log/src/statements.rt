@@ -16,7 +16,7 @@ use sqlite_value::value::ValueRef;
 use xa_log::LogFault;
 
 /// The fault of a store that failed. Its cause is not told, but for a growth that was refused.
-pub(crate) fn fault_of(error: Error) -> LogFault
+pub(crate) fn store_fault(error: Error) -> LogFault
     ensures { IsStoreFault result }
 {
     match error {
@@ -28,11 +28,12 @@ pub(crate) fn fault_of(error: Error) -> LogFault
 /// What the store answered, with its failure as a log tells it.
 pub(crate) fn of_store<T>(answer: Result<T, Error>) -> Result<T, LogFault>
     ensures ok { IfOk result (λ value. answer ≡ Ok value) }
-    ensures err { IfErr result (λ fault. IsStoreFault fault × ((error : Error) × (answer ≡ Err error))) }
+    ensures err { IfErr result (λ fault.
+        IsStoreFault fault × ((error : Error) × (answer ≡ Err error))) }
 {
     match answer {
         Ok(value) => Ok(value),
-        Err(error) => Err(fault_of(error)),
+        Err(error) => Err(store_fault(error)),
     }
 }
 

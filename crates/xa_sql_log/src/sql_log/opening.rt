@@ -12,7 +12,7 @@ ghost use Rattle.xa_sql_log.specs.Sql.{IsReadyWith};
 ghost use Rattle.xa_sql_log.specs.Opened.{IsTaken, IsOver};
 
 use super::SqlLog;
-use crate::statements::fault_of;
+use crate::statements::store_fault;
 use sqlite::{Alter, Connection, FileFrom, FileStore, MemStore, Start, Unknown};
 use sqlite_disk::Disk;
 use std::alloc::Global;
@@ -74,7 +74,7 @@ fn connection_to<S: Start>(
 {
     match Connection::open_from(rt, path, false, start) {
         Ok(conn) => Ok(conn),
-        Err((error, _)) => Err(fault_of(error)),
+        Err((error, _)) => Err(store_fault(error)),
     }
 }
 
