@@ -7,7 +7,7 @@ by_place() {
 }
 
 figures() {
-    crates/line_bench/out/line_bench time > "$work/ours"
+    crates/benches/out/benches line time > "$work/ours"
     by_place ours "$work/ours"
     if [ "$sides" = 2 ]; then
         "$work/ring" > "$work/rings"
@@ -15,7 +15,7 @@ figures() {
     fi
 }
 
-build line_bench
+build benches
 if has "the C compiler cc" gcc command -v cc; then
     cc -O2 -o "$work/ring" bench/ring.c -lpthread
     sides=2

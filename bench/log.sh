@@ -8,7 +8,7 @@ by_place() {
 
 figures() {
     mkdir "$work/logs"
-    crates/log_bench/out/log_bench time "$work/logs/ours.db" > "$work/ours"
+    crates/benches/out/benches log time "$work/logs/ours.db" > "$work/ours"
     by_place ours "$work/ours"
     if [ "$sides" = 2 ]; then
         "$work/sqlite3_commits" "$work/logs/library.db" > "$work/library"
@@ -18,7 +18,7 @@ figures() {
 }
 
 on_disk
-build log_bench
+build benches
 if has "the C compiler cc" gcc command -v cc &&
     has "the header sqlite3.h" libsqlite3-dev sh -c 'echo "#include <sqlite3.h>" | cc -E -'; then
     cc -O2 -o "$work/sqlite3_commits" bench/sqlite3_commits.c -lsqlite3

@@ -1,4 +1,4 @@
 # Runs many jobs of mixed votes, and ends at the first run that doesn't end as its votes say.
 
-build workers_bench
-crates/workers_bench/out/workers_bench stress
+build benches
+crates/benches/out/benches stress

@@ -1,6 +1,6 @@
 //! Rows on claims, and on a recovery while transactions are open.
 
-use crate::play::play_sound;
+use crate::play::play_in_memory;
 use crate::ready::{PREPARED_1, READY_1, RECOVERED_AT_0};
 use std::test::Fail;
 
@@ -60,7 +60,7 @@ of 1.1 settle -> refused 8
 #[test]
 fn open_rolled_back(rt: HostRuntime) -> Result<(), Fail> {
     let row = [READY_1, PREPARED_1, RECOVERED_AT_0, OPEN_ROLLED_BACK];
-    play_sound(&rt, rt.alloc(), 1, &row)
+    play_in_memory(&rt, rt.alloc(), 1, &row)
 }
 
 #[test]
@@ -72,7 +72,7 @@ fn claimed_is_kept(rt: HostRuntime) -> Result<(), Fail> {
         RECOVERED_AT_0,
         CLAIMED_IS_KEPT,
     ];
-    play_sound(&rt, rt.alloc(), 1, &row)
+    play_in_memory(&rt, rt.alloc(), 1, &row)
 }
 
 #[test]
@@ -84,6 +84,6 @@ fn claim_ends_with_crash(rt: HostRuntime) -> Result<(), Fail> {
         RECOVERED_AT_0,
         ROLLED_BACK,
     ];
-    play_sound(&rt, rt.alloc(), 1, &row)?;
-    play_sound(&rt, rt.alloc(), 1, &[READY_1, CLAIMED_IN_TURN, ABANDONED])
+    play_in_memory(&rt, rt.alloc(), 1, &row)?;
+    play_in_memory(&rt, rt.alloc(), 1, &[READY_1, CLAIMED_IN_TURN, ABANDONED])
 }

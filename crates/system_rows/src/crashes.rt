@@ -1,6 +1,6 @@
 //! Rows in which a part crashes, and what is in doubt is recovered.
 
-use crate::play::play_sound;
+use crate::play::play_in_memory;
 use crate::ready::{
     NO_ROW, PREPARED_1, PREPARED_2, READY_1, READY_2, RECOVERED_AT_0, RECOVERED_AT_1,
 };
@@ -88,12 +88,12 @@ call 0 1 xa_open -> heard xa_open 0
 
 #[test]
 fn lost_answer(rt: HostRuntime) -> Result<(), Fail> {
-    play_sound(&rt, rt.alloc(), 1, &[READY_1, LOST_ANSWER, NO_ROW])
+    play_in_memory(&rt, rt.alloc(), 1, &[READY_1, LOST_ANSWER, NO_ROW])
 }
 
 #[test]
 fn line_crash(rt: HostRuntime) -> Result<(), Fail> {
-    play_sound(&rt, rt.alloc(), 1, &[LINE_CRASH, NO_ROW])
+    play_in_memory(&rt, rt.alloc(), 1, &[LINE_CRASH, NO_ROW])
 }
 
 #[test]
@@ -105,7 +105,7 @@ fn presumed_rollback(rt: HostRuntime) -> Result<(), Fail> {
         RECOVERED_AT_0,
         PRESUMED_ROLLBACK,
     ];
-    play_sound(&rt, rt.alloc(), 1, &row)
+    play_in_memory(&rt, rt.alloc(), 1, &row)
 }
 
 #[test]
@@ -120,7 +120,7 @@ fn acknowledged_later(rt: HostRuntime) -> Result<(), Fail> {
         BOTH_ACKNOWLEDGED,
         NO_ROW_LATER,
     ];
-    play_sound(&rt, rt.alloc(), 2, &row)
+    play_in_memory(&rt, rt.alloc(), 2, &row)
 }
 
 #[test]
@@ -133,5 +133,5 @@ fn resource_manager_crash(rt: HostRuntime) -> Result<(), Fail> {
         BOTH_ACKNOWLEDGED,
         NO_ROW,
     ];
-    play_sound(&rt, rt.alloc(), 2, &row)
+    play_in_memory(&rt, rt.alloc(), 2, &row)
 }

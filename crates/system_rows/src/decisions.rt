@@ -1,11 +1,11 @@
 //! Rows in which nothing crashes before the end.
 
-use crate::play::{SOUND, play_all, play_sound};
+use crate::play::{Kept, play_all, play_in_memory};
 use crate::ready::{NO_ROW, PREPARED_1, PREPARED_2, READY_1, READY_2};
 use std::test::Fail;
 
 /// Both vote for commit.
-pub(crate) const TWO_PHASE_COMMIT: &str = "\
+const TWO_PHASE_COMMIT: &str = "\
 of 1.1 decide commit -> decided
 call 0 0 xa_commit 1.1.0.0 -> heard xa_commit 0
 call 0 1 xa_commit 1.1.0.1 -> heard xa_commit 0
@@ -112,10 +112,8 @@ fates -> 1.1.0.0 rolled-back
 #[test]
 fn two_phase_commit(rt: HostRuntime) -> Result<(), Fail> {
     let row = [READY_2, PREPARED_2, TWO_PHASE_COMMIT];
-    for log in SOUND {
-        assert_eq!(rt; play_all(&rt, rt.alloc(), 1, 2, log, &row)?, 33);
-    }
-    play_sound(
+    assert_eq!(rt; play_all(&rt, rt.alloc(), 1, 2, Kept::InMemory, &row)?, 33);
+    play_in_memory(
         &rt,
         rt.alloc(),
         2,
@@ -125,49 +123,46 @@ fn two_phase_commit(rt: HostRuntime) -> Result<(), Fail> {
 
 #[test]
 fn one_no(rt: HostRuntime) -> Result<(), Fail> {
-    play_sound(&rt, rt.alloc(), 2, &[READY_2, ONE_NO, NO_ROW])
+    play_in_memory(&rt, rt.alloc(), 2, &[READY_2, ONE_NO, NO_ROW])
 }
 
 #[test]
 fn all_read_only(rt: HostRuntime) -> Result<(), Fail> {
-    play_sound(&rt, rt.alloc(), 2, &[READY_2, ALL_READ_ONLY, NO_ROW])
+    play_in_memory(&rt, rt.alloc(), 2, &[READY_2, ALL_READ_ONLY, NO_ROW])
 }
 
 #[test]
 fn closed_line(rt: HostRuntime) -> Result<(), Fail> {
-    play_sound(&rt, rt.alloc(), 1, &[READY_1, CLOSED_LINE, NO_ROW])
+    play_in_memory(&rt, rt.alloc(), 1, &[READY_1, CLOSED_LINE, NO_ROW])
 }
 
 #[test]
 fn heuristic(rt: HostRuntime) -> Result<(), Fail> {
-    play_sound(&rt, rt.alloc(), 2, &[READY_2, PREPARED_2, HEURISTIC])
+    play_in_memory(&rt, rt.alloc(), 2, &[READY_2, PREPARED_2, HEURISTIC])
 }
 
 #[test]
 fn retries(rt: HostRuntime) -> Result<(), Fail> {
-    play_sound(&rt, rt.alloc(), 1, &[READY_1, PREPARED_1, RETRIES, NO_ROW])
+    play_in_memory(&rt, rt.alloc(), 1, &[READY_1, PREPARED_1, RETRIES, NO_ROW])
 }
 
 #[test]
 fn first_run(rt: HostRuntime) -> Result<(), Fail> {
-    for log in SOUND {
-        assert_eq!(rt;
-            play_all(&rt, rt.alloc(), 1, 1, log, &[READY_1, FIRST_RUN])?,
-            13
-        );
-    }
+    assert_eq!(rt;
+        play_all(&rt, rt.alloc(), 1, 1, Kept::InMemory, &[READY_1, FIRST_RUN])?,
+        13
+    );
     Ok(())
 }
 
 #[test]
 fn failed_end(rt: HostRuntime) -> Result<(), Fail> {
-    play_sound(&rt, rt.alloc(), 1, &[FAILED_END, NO_ROW])
+    play_in_memory(&rt, rt.alloc(), 1, &[FAILED_END, NO_ROW])
 }
 
 #[test]
 fn rollback_elsewhere(rt: HostRuntime) -> Result<(), Fail> {
-    for log in SOUND {
-        play_all(&rt, rt.alloc(), 2, 1, log, &[ROLLBACK_ELSEWHERE, NO_ROW])?;
-    }
+    let row = [ROLLBACK_ELSEWHERE, NO_ROW];
+    play_all(&rt, rt.alloc(), 2, 1, Kept::InMemory, &row)?;
     Ok(())
 }

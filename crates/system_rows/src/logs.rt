@@ -1,20 +1,11 @@
 //! Rows over logs that hold something at the start.
-//!
-//! A proof of a call at the type of a log in files is long, so such calls stand in functions over any log.
 
-use crate::decisions::TWO_PHASE_COMMIT;
 use crate::play::play_over;
-use crate::ready::{PREPARED_2, READY_2};
-use sqlite::{Connection, FileStore};
-use sqlite_disk::Disk;
 use std::alloc::Global;
-use std::fs;
-use std::process::Abort;
 use std::test::Fail;
 use xa_base::{Branch, Gtrid};
 use xa_log::{DecisionLog, MemLog};
 use xa_rm::MemRm;
-use xa_sql_log::SqlLog;
 use xa_system::{NewFault, System};
 
 /// The same as in the first incarnation, in the next.
@@ -44,52 +35,28 @@ crash manager -> crashed
 restart manager -> restarted 3 1 0
 ";
 
-/// A log of version 1 in its first incarnation, with the transaction (1, 1).
-const VERSION_1: &str = "BEGIN; \
-    CREATE TABLE tm_meta (k INTEGER PRIMARY KEY CHECK (k = 1), version INTEGER NOT NULL, \
-    incarnation INTEGER NOT NULL); \
-    CREATE TABLE decision (inc INTEGER NOT NULL, seq INTEGER NOT NULL, PRIMARY KEY (inc, seq)); \
-    CREATE TABLE heuristic (inc INTEGER NOT NULL, seq INTEGER NOT NULL, thread INTEGER NOT NULL, \
-    rm INTEGER NOT NULL, how INTEGER NOT NULL, PRIMARY KEY (inc, seq, thread, rm), \
-    CHECK (how >= 5 AND how <= 8)); \
-    INSERT INTO tm_meta (k, version, incarnation) VALUES (1, 1, 1); \
-    INSERT INTO decision (inc, seq) VALUES (1, 1); \
-    COMMIT";
-
-/// Plays a row over a log in files.
-fn play_in_files<D: Disk + Drop>(
-    rt: &(impl Abort + Eprint),
-    alloc: Global,
-    log: SqlLog<FileStore<D>>,
-    row: &[&str],
-) -> Result<(), Fail> {
-    play_over(rt, alloc, 1, 2, log, row)?;
-    Ok(())
-}
+/// The first transaction of the first incarnation.
+const FIRST: Gtrid = Gtrid {
+    incarnation: 1,
+    sequence: 1,
+};
 
 #[test]
 fn second_incarnation(rt: HostRuntime) -> Result<(), Fail> {
-    let _ = fs::remove_dir_all(&rt, "second_incarnation");
-    fs::create_dir(&rt, "second_incarnation")?;
-    for row in [
-        [READY_2, PREPARED_2, TWO_PHASE_COMMIT].as_slice(),
-        &[SECOND_INCARNATION],
-    ] {
-        let log = SqlLog::open(&rt, "second_incarnation/log.db")?;
-        play_in_files(&rt, rt.alloc(), log, row)?;
-    }
-    fs::remove_dir_all(&rt, "second_incarnation")?;
+    let alloc = rt.alloc();
+    let mut log = MemLog::new(alloc);
+    log.bump()?;
+    play_over(&rt, alloc, 1, 2, log, &[SECOND_INCARNATION])?;
     Ok(())
 }
 
+/// What a migration leaves of a row of version 1 is one that waits for no branch.
 #[test]
 fn migrated_log(rt: HostRuntime) -> Result<(), Fail> {
     let alloc = rt.alloc();
-    let mut conn = Connection::open_in_memory(alloc)?;
-    conn.execute_batch(VERSION_1)?;
-    let Ok(log) = SqlLog::adopt(conn) else {
-        return Err(Fail::from("no log"));
-    };
+    let mut log = MemLog::new(alloc);
+    log.bump()?;
+    log.commit(FIRST, &[])?;
     play_over(&rt, alloc, 1, 1, log, &[MIGRATED_LOG])?;
     Ok(())
 }
@@ -122,13 +89,5 @@ fn refused_logs(rt: HostRuntime) -> Result<(), Fail> {
         }],
     )?;
     assert_eq!(rt; fault_over(alloc, ahead)?, Some(NewFault::Log));
-
-    let mut conn = Connection::open_in_memory(alloc)?;
-    conn.execute_batch(VERSION_1)?;
-    conn.execute_batch("UPDATE tm_meta SET incarnation = 9223372036854775807")?;
-    let Ok(spent) = SqlLog::adopt(conn) else {
-        return Err(Fail::from("no log"));
-    };
-    assert_eq!(rt; fault_over(alloc, spent)?, Some(NewFault::Log));
     Ok(())
 }

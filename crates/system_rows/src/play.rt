@@ -12,19 +12,14 @@ use std::test::Fail;
 use xa_base::{Part, Refusal, Reply, Side, Step};
 use xa_log::{DecisionLog, FailLog, FailPlan, MemLog};
 use xa_rm::{MemRm, ResourceManager};
-use xa_sql_log::SqlLog;
 use xa_system::System;
 
 /// The log that a row is played over.
 #[derive(Clone, Copy, Debug)]
 pub(crate) enum Kept {
     InMemory,
-    InSql,
     Failing(FailPlan),
 }
-
-/// The logs that never fail but for want of memory.
-pub(crate) const SOUND: [Kept; 2] = [Kept::InMemory, Kept::InSql];
 
 /// How many requests for memory a run may be refused.
 pub(crate) const REFUSALS: u32 = 2;
@@ -153,7 +148,6 @@ fn play_once(
 ) -> Result<usize, Stop> {
     match log {
         Kept::InMemory => play_over(rt, alloc, threads, rms, MemLog::new(alloc), row),
-        Kept::InSql => play_over(rt, alloc, threads, rms, SqlLog::open_in_memory(alloc)?, row),
         Kept::Failing(plan) => {
             let log = FailLog::new(MemLog::new(alloc), plan);
             play_over(rt, alloc, threads, rms, log, row)
@@ -181,15 +175,13 @@ pub(crate) fn play_all(
     Ok(played?)
 }
 
-/// Plays a row on one thread over each log that never fails by plan.
-pub(crate) fn play_sound(
+/// Plays a row on one thread over a log in memory.
+pub(crate) fn play_in_memory(
     rt: &(impl Abort + Eprint),
     alloc: Global,
     rms: u32,
     row: &[&str],
 ) -> Result<(), Fail> {
-    for log in SOUND {
-        play_all(rt, alloc, 1, rms, log, row)?;
-    }
+    play_all(rt, alloc, 1, rms, Kept::InMemory, row)?;
     Ok(())
 }

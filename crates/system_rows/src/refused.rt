@@ -1,6 +1,6 @@
 //! Calls outside of steps that are refused memory, each made again.
 
-use crate::play::{REFUSALS, play_sound};
+use crate::play::{REFUSALS, play_in_memory};
 use crate::ready::READY_1;
 use std::alloc::Global;
 use std::process::Abort;
@@ -32,7 +32,7 @@ crash manager -> crashed
 
 #[test]
 fn quiet_steps(rt: HostRuntime) -> Result<(), Fail> {
-    play_sound(&rt, rt.alloc(), 1, &[READY_1, QUIET])
+    play_in_memory(&rt, rt.alloc(), 1, &[READY_1, QUIET])
 }
 
 #[test]

@@ -1,6 +1,6 @@
 //! Rows on pages and full lines.
 
-use crate::play::play_sound;
+use crate::play::play_in_memory;
 use crate::ready::NO_ROW;
 use std::test::Fail;
 
@@ -104,12 +104,12 @@ const TAKEN: &str = "take 0 0 -> took xa_open 0\n";
 
 #[test]
 fn scan_pages(rt: HostRuntime) -> Result<(), Fail> {
-    play_sound(&rt, rt.alloc(), 1, &[FIVE_PREPARED, SCAN_PAGES, NO_ROW])
+    play_in_memory(&rt, rt.alloc(), 1, &[FIVE_PREPARED, SCAN_PAGES, NO_ROW])
 }
 
 #[test]
 fn index(rt: HostRuntime) -> Result<(), Fail> {
-    play_sound(&rt, rt.alloc(), 1, &[FOUR_READY, INDEX])
+    play_in_memory(&rt, rt.alloc(), 1, &[FOUR_READY, INDEX])
 }
 
 #[test]
@@ -118,5 +118,5 @@ fn full_line(rt: HostRuntime) -> Result<(), Fail> {
     row[0] = OPENED;
     row[65] = FULL;
     row[66] = TAKEN;
-    play_sound(&rt, rt.alloc(), 1, &row)
+    play_in_memory(&rt, rt.alloc(), 1, &row)
 }

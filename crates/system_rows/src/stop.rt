@@ -3,7 +3,6 @@
 use std::alloc::AllocError;
 use thiserror::Error;
 use xa_base::Memory;
-use xa_log::LogFault;
 use xa_system::NewFault;
 
 /// Why a run of a row ends before the row does.
@@ -15,9 +14,6 @@ pub(crate) enum Stop {
     /// What the run itself keeps was refused memory.
     #[error("refused memory")]
     Memory,
-    /// No log is opened.
-    #[error("refused log")]
-    Log(LogFault),
     /// No system is made.
     #[error("refused start")]
     Start(NewFault),
@@ -35,12 +31,6 @@ impl From<AllocError> for Stop {
 impl From<Memory> for Stop {
     fn from(_error: Memory) -> Stop {
         Stop::Memory
-    }
-}
-
-impl From<LogFault> for Stop {
-    fn from(fault: LogFault) -> Stop {
-        Stop::Log(fault)
     }
 }
 

@@ -1,6 +1,6 @@
 //! Runs of many jobs of mixed votes.
 
-use crate::{JOBS, Open};
+use crate::workers::{JOBS, Open};
 use anyhow::bail;
 use std::alloc::{AllocError, Global};
 use std::sync::Wait;
@@ -60,8 +60,9 @@ fn plain(alloc: Global, jobs: &Jobs) -> Result<Vec<Outcome>, AllocError> {
     Ok(ends)
 }
 
-/// Runs jobs of mixed votes so often, and prints how they ended in all.
-pub(crate) fn stress<T: Threads + Wait + Clock + Sync>(
+/// Runs jobs of mixed votes so often, and prints how they ended in all. It ends at the first run that ends with a fault or not as
+/// the votes say.
+pub(crate) fn run<T: Threads + Wait + Clock + Sync>(
     rt: &HostRuntime,
     threads: &T,
     runs: u32,

@@ -10,7 +10,7 @@ const TRIES: u32 = 1_000_000;
 
 /// Makes the hops one after another over a line that is open, each with the call that came back from the hop before.
 /// Says how many came back.
-pub fn hops_in_one_thread(line: &mut Line, call: Call, hops: u32) -> u32 {
+pub(crate) fn hops_in_one_thread(line: &mut Line, call: Call, hops: u32) -> u32 {
     if line.issue(call).is_err() {
         return 0;
     }
@@ -39,7 +39,7 @@ fn makes_hop(line: &mut Line, on: bool) -> bool {
 
 /// Makes the hops over a line that is open, with its ends in two threads, and says how many came back. As many calls
 /// are on the way at the same time as a line has places.
-pub fn hops_between_threads<R: Threads>(rt: &R, line: Line, call: Call, hops: u32) -> u32 {
+pub(crate) fn hops_between_threads<R: Threads>(rt: &R, line: Line, call: Call, hops: u32) -> u32 {
     let (issuer, taker) = line.split();
     let (heard, answered) = thread::join(
         rt,

@@ -1,11 +1,6 @@
 //! How long recovery pages take at a resource manager with few branches, and at one with many of which few are in doubt.
-//!
-//! Prints how many identifiers the pages list at either. With the argument `time` it also prints the microseconds that
-//! they take, and how many times as long the second takes as the first.
-#![tactic(auto)]
 
 use std::alloc::Global;
-use std::env;
 use std::time::Instant;
 use xa_base::{Answer, Branch, Call, Gtrid, Memory, TMENDRSCAN, TMSTARTRSCAN};
 use xa_rm::{MemRm, ResourceManager};
@@ -20,10 +15,11 @@ const FEW: u32 = 10;
 
 const MANY: u32 = 10_000;
 
-fn main(rt: HostRuntime) -> anyhow::Result<()> {
-    let timed = env::args(&rt)?.any(|arg| arg.as_str() == "time");
-    let few = measured(&rt, FEW)?;
-    let many = measured(&rt, MANY)?;
+/// Prints how many identifiers the pages list at either. Where they are timed it also prints the microseconds that they take,
+/// and how many times as long the second takes as the first.
+pub(crate) fn show(rt: &HostRuntime, timed: bool) -> anyhow::Result<()> {
+    let few = measured(rt, FEW)?;
+    let many = measured(rt, MANY)?;
     for run in [few, many] {
         println!(rt;
             "{} identifiers listed at {} branches",

@@ -1,18 +1,6 @@
-//! How many jobs a second worker threads commit.
-//!
-//! - without arguments: prints how many of 1,000 jobs with two yes votes are committed by 1, 2, 4 and 8 threads of
-//!   control at two resource managers;
-//! - `time`: the same, and how many they are a second, over a log in memory;
-//! - `stress [RUNS]`: runs 1,000 jobs of mixed votes on 8 threads at 8 resource managers, 200 times or as often as it
-//!   says, each second time with a recovery that sweeps them. It ends at the first run that ends with a fault or not as
-//!   the votes say.
-#![tactic(auto)]
+//! How many jobs a second worker threads commit, over a log in memory.
 
-mod stress;
-
-use crate::stress::stress;
 use std::alloc::{AllocError, Global};
-use std::env;
 use std::sync::Wait;
 use std::thread::Threads;
 use std::time::{Clock, Instant};
@@ -23,13 +11,10 @@ use xa_workers::{Gate, Jobs, Point, WorkFault, run_jobs};
 const YES: Option<Vote> = Some(Vote::Yes);
 
 /// How many jobs each run has.
-const JOBS: usize = 1000;
-
-/// How often jobs of mixed votes are run where the words don't say.
-const RUNS: u32 = 200;
+pub(crate) const JOBS: usize = 1000;
 
 /// A gate that holds nobody back.
-struct Open;
+pub(crate) struct Open;
 
 impl Gate for Open {
     fn at(&self, _point: Point) -> bool {
@@ -86,25 +71,20 @@ fn measure<T: Threads + Wait + Clock + Sync>(
     Ok(())
 }
 
-fn main(rt: HostRuntime) -> anyhow::Result<()> {
-    let alloc = rt.alloc();
-    let words: Vec<String> = env::args(&rt)?.collect(alloc)?;
-    let command = words.get(1).map(|word| word.as_str());
-    let word = words.get(2).map(|word| word.as_str());
-    if command == Some("stress") {
-        let runs = match word {
-            Some(word) => word.parse::<u32>()?,
-            None => RUNS,
-        };
-        return stress(&rt, &rt, runs);
-    }
-    for threads in [1, 2, 4, 8] {
-        let jobs = jobs(alloc, threads)?;
-        if command == Some("time") {
-            measure(&rt, &rt, &jobs)?;
+/// Prints how many of 1,000 jobs with two yes votes are committed by 1, 2, 4 and 8 threads of control at two resource managers,
+/// or, where they are timed, how many they are a second.
+pub(crate) fn show<T: Threads + Wait + Clock + Sync>(
+    rt: &HostRuntime,
+    threads: &T,
+    timed: bool,
+) -> anyhow::Result<()> {
+    for count in [1, 2, 4, 8] {
+        let jobs = jobs(rt.alloc(), count)?;
+        if timed {
+            measure(rt, threads, &jobs)?;
         } else {
-            let count = committed(&rt, alloc, &jobs)?;
-            println!(rt; "{threads} threads: {count} committed")?;
+            let ended = committed(threads, rt.alloc(), &jobs)?;
+            println!(rt; "{count} threads: {ended} committed")?;
         }
     }
     Ok(())

@@ -1,14 +1,10 @@
 //! How many steps a second a system takes beside few transactions, and beside many.
 //!
 //! In a system of one thread and two resource managers, all in memory, 10, 100 or 900 transactions are begun and have a
-//! started branch at each resource manager. Beside them 100 more are begun, committed in two phases and done. Prints how
-//! many events there are in the end, and how many branches are committed. With the argument `time` it also prints how
-//! many steps a second the 100 took, over many such systems, which should not fall with the number of those beside them.
-#![tactic(auto)]
+//! started branch at each resource manager. Beside them 100 more are begun, committed in two phases and done.
 
 use anyhow::anyhow;
 use std::alloc::Global;
-use std::env;
 use std::time::Instant;
 use xa_base::{Branch, Call, Fate, Gtrid, Outcome, Reply, Step, Xid};
 use xa_log::MemLog;
@@ -26,11 +22,12 @@ const RMS: u32 = 2;
 
 type MemSystem = System<MemRm, MemLog>;
 
-fn main(rt: HostRuntime) -> anyhow::Result<()> {
-    let timed = env::args(&rt)?.any(|arg| arg.as_str() == "time");
+/// Prints how many events there are in the end, and how many branches are committed. Where they are timed it also prints how
+/// many steps a second the 100 took, over many such systems, which should not fall with the number of those beside them.
+pub(crate) fn show(rt: &HostRuntime, timed: bool) -> anyhow::Result<()> {
     let rounds = if timed { ROUNDS } else { 1 };
     for beside in [10, 100, 900] {
-        let run = measured_in_rounds(&rt, beside, rounds)?;
+        let run = measured_in_rounds(rt, beside, rounds)?;
         println!(rt;
             "{} events and {} committed branches beside {beside} transactions",
             run.events, run.committed

@@ -1,14 +1,8 @@
 //! How many hops a second a line carries. A hop is a call that is issued and taken, and its answer that is let wait and
 //! heard.
-//!
-//! Prints how many hops were made in one thread, and how many between two. With the argument `time` it also prints how
-//! many they are a second, and makes more of them, so that the figures are steady.
-#![tactic(auto)]
-
-mod hops;
 
 use crate::hops::{hops_between_threads, hops_in_one_thread};
-use std::env;
+use std::thread::Threads;
 use std::time::Instant;
 use xa_base::{Branch, Call, Gtrid};
 use xa_line::Line;
@@ -18,18 +12,19 @@ const HOPS: u32 = 200_000;
 
 const TIMED_HOPS: u32 = 3_000_000;
 
-fn main(rt: HostRuntime) -> anyhow::Result<()> {
-    let timed = env::args(&rt)?.any(|arg| arg.as_str() == "time");
+/// Prints how many hops were made in one thread, and how many between two. Where they are timed it also prints how many they
+/// are a second, and makes more of them, so that the figures are steady.
+pub(crate) fn show<T: Threads>(rt: &HostRuntime, threads: &T, timed: bool) -> anyhow::Result<()> {
     let hops = if timed { TIMED_HOPS } else { HOPS };
     let mut line = Line::new(rt.alloc())?;
     line.issue(Call::OpenRm)?;
     let _open = line.take();
-    let start = Instant::now(&rt)?;
+    let start = Instant::now(rt)?;
     let alone = hops_in_one_thread(&mut line, prepare(), hops);
-    let alone_micros = start.elapsed(&rt)?.as_micros();
-    let start = Instant::now(&rt)?;
-    let between = hops_between_threads(&rt, line, prepare(), hops);
-    let between_micros = start.elapsed(&rt)?.as_micros();
+    let alone_micros = start.elapsed(rt)?.as_micros();
+    let start = Instant::now(rt)?;
+    let between = hops_between_threads(threads, line, prepare(), hops);
+    let between_micros = start.elapsed(rt)?.as_micros();
     println!(rt; "{alone} hops in one thread")?;
     if timed {
         println!(rt; "{} a second", a_second(alone, alone_micros))?;

@@ -1,15 +1,8 @@
 //! How many decisions a second the log takes, in memory and in a file; and its rows in a file, for another program to read.
-//!
-//! - without arguments: commits and settles transactions in memory, and prints how many rows are left;
-//! - `time [PATH]`: the same, and how many commits a second were made, in memory and in the new file at PATH;
-//! - `write PATH`: makes a log at PATH with a few rows of each kind;
-//! - `read PATH`: prints the rows of the log at PATH, whose incarnation it raises by one.
-#![tactic(auto)]
 
 ghost use Rattle.std.specs.Prelude.{◌≡◌, ◌≤◌};
 ghost use Rattle.xa_log.specs.Contract.{FitsRow};
 
-use std::env;
 use std::time::Instant;
 use xa_base::{Branch, Gtrid, How};
 use xa_log::{DecisionLog, LogFault};
@@ -21,17 +14,19 @@ const COMMITS: u64 = 1_000;
 /// How many are where the time is taken.
 const TIMED: u64 = 20_000;
 
-fn main(rt: HostRuntime) -> anyhow::Result<()> {
-    let words: Vec<String> = env::args(&rt)?.collect(rt.alloc())?;
-    let command = words.get(1).map(|word| word.as_str());
-    let path = words.get(2).map(|word| word.as_str());
+/// Runs a command, with a path where it needs one.
+pub(crate) fn run(
+    rt: &HostRuntime,
+    command: Option<&str>,
+    path: Option<&str>,
+) -> anyhow::Result<()> {
     match (command, path) {
-        (Some("write"), Some(path)) => Ok(write(&mut SqlLog::open(&rt, path)?)?),
-        (Some("read"), Some(path)) => read(&rt, &mut SqlLog::open(&rt, path)?),
+        (Some("write"), Some(path)) => Ok(write(&mut SqlLog::open(rt, path)?)?),
+        (Some("read"), Some(path)) => read(rt, &mut SqlLog::open(rt, path)?),
         (Some("time"), path) => {
-            measure(&rt, "in memory", &mut SqlLog::open_in_memory(rt.alloc())?)?;
+            measure(rt, "in memory", &mut SqlLog::open_in_memory(rt.alloc())?)?;
             if let Some(path) = path {
-                measure(&rt, "in a file", &mut SqlLog::open(&rt, path)?)?;
+                measure(rt, "in a file", &mut SqlLog::open(rt, path)?)?;
             }
             Ok(())
         }

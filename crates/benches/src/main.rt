@@ -1,0 +1,56 @@
+//! The benchmarks, each by its name: `benches NAME [time]`. With `time` they print their figures, of which nothing is claimed.
+//! Without a name all of them run without times, and print what they counted.
+//!
+//! - `line`: calls that go over a line and come back answered;
+//! - `log`: commits of the decision log. `log time [PATH]` measures in memory and in the new file at PATH; `log write PATH`
+//!   makes a log at PATH with a few rows of each kind; `log read PATH` prints the rows of the log at PATH, whose incarnation it
+//!   raises by one;
+//! - `scan`: recovery pages of a resource manager with few branches and with many;
+//! - `steps`: steps of a system with few transactions and with many;
+//! - `workers`: jobs that worker threads commit;
+//! - `stress [RUNS]`: 1,000 jobs of mixed votes on 8 threads at 8 resource managers, 200 times or as often as it says, each
+//!   second time with a recovery that sweeps them.
+#![tactic(auto)]
+
+mod hops;
+mod line;
+mod log;
+mod scan;
+mod steps;
+mod stress;
+mod workers;
+
+use anyhow::bail;
+use std::env;
+
+/// How often jobs of mixed votes are run where the words don't say.
+const RUNS: u32 = 200;
+
+fn main(rt: HostRuntime) -> anyhow::Result<()> {
+    let words: Vec<String> = env::args(&rt)?.collect(rt.alloc())?;
+    let command = words.get(2).map(|word| word.as_str());
+    let path = words.get(3).map(|word| word.as_str());
+    let timed = command == Some("time");
+    match words.get(1).map(|word| word.as_str()) {
+        Some("line") => line::show(&rt, &rt, timed),
+        Some("log") => log::run(&rt, command, path),
+        Some("scan") => scan::show(&rt, timed),
+        Some("steps") => steps::show(&rt, timed),
+        Some("workers") => workers::show(&rt, &rt, timed),
+        Some("stress") => {
+            let runs = match command {
+                Some(word) => word.parse::<u32>()?,
+                None => RUNS,
+            };
+            stress::run(&rt, &rt, runs)
+        }
+        Some(name) => bail!("there is no benchmark {name}"),
+        None => {
+            line::show(&rt, &rt, false)?;
+            log::run(&rt, None, None)?;
+            scan::show(&rt, false)?;
+            steps::show(&rt, false)?;
+            workers::show(&rt, &rt, false)
+        }
+    }
+}
