@@ -8,7 +8,7 @@ use Rattle.std.specs.Ordering.{eq_by_cmp}
 use Rattle.std.proofs.lemmas.Bool.{and_from, le-leb, lt-ltb, true≢false}
 use Rattle.std.proofs.lemmas.Cmp.{eq_by_cmp_equiv}
 use Rattle.xa_base.specs.Branch.{branch_cmp, gtrid_cmp}
-use Rattle.xa_base.proofs.BranchOrder.{branches_total, exact_branches, exact_gtrids, gtrids_total}
+use Rattle.xa_base.proofs.BranchOrder.{branches_total, gtrids_total}
 use Rattle.xa_base.specs.declared.branch.Branch.{Branch}
 use Rattle.xa_base.specs.declared.branch.Gtrid.{Gtrid}
 use Rattle.xa_base.specs.declared.code.How.{How}

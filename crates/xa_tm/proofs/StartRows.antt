@@ -8,7 +8,6 @@ use Rattle.xa_base.specs.Branch.{gtrid_cmp}
 use Rattle.xa_model.specs.Facts.Distinct.{ApartRows}
 use Rattle.xa_model.specs.Facts.{lists_row}
 use Rattle.xa_model.specs.Trace.{Row}
-use Rattle.xa_base.proofs.BranchOrder.{exact_gtrids, gtrids_total}
 use Rattle.xa_log.specs.Content.{Content}
 use Rattle.xa_log.specs.KeySet.{items}
 use Rattle.xa_tm.specs.Book.{Waiting}
