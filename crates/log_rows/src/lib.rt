@@ -1,14 +1,29 @@
-//! Rows of the three decision logs, of what no clause says. A call that is refused memory once is made again, so they also
-//! pass where any one request for memory is refused, as `rt try --test --fail-alloc N` does it.
+//! Tests of the decision logs, of what no clause says: rows of each of them, in which a call that is refused memory once is
+//! made again; and of the one in files over disks in memory that stop, alone and under a whole system: at each call of either
+//! file a crash leaves what was there before or all that the one change makes.
 #![tactic(auto)]
 
+#[cfg(test)]
+mod changes;
 #[cfg(test)]
 mod commands;
 #[cfg(test)]
 mod failing;
 #[cfg(test)]
+mod files;
+#[cfg(test)]
 mod lists;
 #[cfg(test)]
 mod memory;
 #[cfg(test)]
+mod paths;
+#[cfg(test)]
+mod runs;
+#[cfg(test)]
+mod seen;
+#[cfg(test)]
+mod system;
+#[cfg(test)]
 mod tables;
+#[cfg(test)]
+mod versions;

@@ -1,8 +1,8 @@
 //! A commit in two phases whose log fails at a change, over logs that fail by plan; and logs that a manager doesn't take.
 
-use crate::act::{FIRST, meets_stop};
-use crate::recovery::end_as_the_log_says;
-use crate::rows::TWO_PHASE_COMMIT;
+use crate::system::act::{FIRST, meets_stop};
+use crate::system::recovery::end_as_the_log_says;
+use crate::system::rows::TWO_PHASE_COMMIT;
 use std::alloc::Global;
 use std::process::Abort;
 use std::test::Fail;

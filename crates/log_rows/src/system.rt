@@ -1,17 +1,9 @@
 //! Rows through a whole system over a log in files that stop: at each call of either file. Where a step met the stop the
 //! log is taken out, its files are opened again as a crash left them, and the log is given back; after the restart all
 //! branches end as the log says.
-#![tactic(auto)]
 
-#[cfg(test)]
 mod act;
-#[cfg(test)]
-mod files;
-#[cfg(test)]
 mod recovery;
-#[cfg(test)]
 mod rows;
-#[cfg(test)]
 mod stops;
-#[cfg(test)]
 mod swaps;

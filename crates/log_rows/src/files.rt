@@ -9,6 +9,8 @@ use sqlite::{Connection, Error, FileStore, Files, Options};
 use sqlite_disk::{Crash, Disk, Fuse, Memory};
 use std::alloc::Global;
 use std::test::Fail;
+use xa_log::DecisionLog;
+use xa_sql_log::SqlLog;
 
 /// A log of version 1 in its first incarnation, with the transaction (1, 1) and a branch of (1, 2).
 pub(crate) const VERSION_1: &str = "BEGIN; \
@@ -24,7 +26,7 @@ pub(crate) const VERSION_1: &str = "BEGIN; \
     COMMIT";
 
 /// With little memory for pages, so that a run is short.
-pub(crate) fn options(seed: u64) -> Options {
+fn options(seed: u64) -> Options {
     Options {
         cache_pages: 16,
         spill_pages: 16,
@@ -34,18 +36,44 @@ pub(crate) fn options(seed: u64) -> Options {
 }
 
 /// A connection to the files, or the files again.
+fn open_with<D: Disk + Drop>(
+    alloc: Global,
+    files: Files<D>,
+    options: Options,
+) -> Result<Connection<FileStore<D>>, Files<D>> {
+    if !files.may_be_used() {
+        return Err(files);
+    }
+    match Connection::open_files(alloc, files, options) {
+        Ok(conn) => Ok(conn),
+        Err((_, left)) => Err(left.into_files()),
+    }
+}
+
+/// The same, where the journal has room for all that a run writes.
 pub(crate) fn open<D: Disk + Drop>(
     alloc: Global,
     files: Files<D>,
     seed: u64,
 ) -> Result<Connection<FileStore<D>>, Files<D>> {
-    if !files.may_be_used() {
-        return Err(files);
-    }
-    match Connection::open_files(alloc, files, options(seed)) {
-        Ok(conn) => Ok(conn),
-        Err((_, left)) => Err(left.into_files()),
-    }
+    open_with(alloc, files, options(seed))
+}
+
+/// A log over the files, where they open and it can make its tables. With little room in the journal, so that the database
+/// is written too.
+pub(crate) fn log_over<D: Disk + Drop>(
+    alloc: Global,
+    files: Files<D>,
+) -> Option<SqlLog<FileStore<D>>> {
+    let conn = open_with(
+        alloc,
+        files,
+        Options {
+            checkpoint_frames: 4,
+            ..options(7)
+        },
+    );
+    SqlLog::adopt(conn.ok()?).ok()
 }
 
 /// The files, with no copy of the journal into the database file.
@@ -53,7 +81,8 @@ pub(crate) fn closed<D: Disk + Drop>(conn: Connection<FileStore<D>>) -> Files<D>
     conn.into_store().close()
 }
 
-fn blank(alloc: Global) -> Files<Memory> {
+/// Empty files.
+pub(crate) fn blank(alloc: Global) -> Files<Memory> {
     Files {
         log: Memory::new(alloc),
         db: Memory::new(alloc),
@@ -112,6 +141,19 @@ pub(crate) fn crashed<D: Crash + Drop>(mut files: Files<D>) -> Files<D> {
     files.log.crash();
     files.db.crash();
     files
+}
+
+/// A log whose files can crash.
+pub(crate) trait Crashes: DecisionLog + Drop + Sized {
+    /// A log over the same files, which are closed, and opened as a crash left them.
+    fn reopened(self, alloc: Global) -> Option<Self>;
+}
+
+impl<D: Crash + Drop> Crashes for SqlLog<FileStore<D>> {
+    fn reopened(self, alloc: Global) -> Option<SqlLog<FileStore<D>>> {
+        let files = closed(self.into_connection());
+        log_over(alloc, crashed(files))
+    }
 }
 
 /// Which of the two files stops.

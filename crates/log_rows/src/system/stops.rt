@@ -1,9 +1,9 @@
 //! Each row, with a stop at each call of either file.
 
-use crate::act::{Act, meets_stop, perform};
-use crate::files::{Crashes, Stops, log_over, stopping};
-use crate::recovery::{count_of, end_as_the_log_says};
-use crate::rows::{
+use crate::files::{Crashes, Stops, blank, log_over, stopping};
+use crate::system::act::{Act, meets_stop, perform};
+use crate::system::recovery::{count_of, end_as_the_log_says};
+use crate::system::rows::{
     ABANDONED, ACKNOWLEDGED_LATER, CLAIM_ENDS_WITH_CRASH, CLAIMED_IS_KEPT, DECIDED_BEFORE_CRASH,
     HEURISTIC, OPEN_ROLLED_BACK, RESOURCE_MANAGER_CRASH, RETRIES, Row, TWO_PHASE_COMMIT,
 };
@@ -144,7 +144,7 @@ fn stop_at_each_call(
 ) -> Result<(usize, usize), Fail> {
     let (mut before, mut stopped) = (0usize, 0usize);
     for calls in 0..2000u64 {
-        match run(rt, alloc, stopping(alloc, which, calls), row)? {
+        match run(rt, alloc, stopping(blank(alloc), which, calls), row)? {
             Ended::NotBegun => before = before.saturating_add(1),
             Ended::Stopped => stopped = stopped.saturating_add(1),
             Ended::Whole => {
