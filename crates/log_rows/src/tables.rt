@@ -1,7 +1,7 @@
 //! A log in the tables of a database in memory.
 
 use crate::commands::{FIRST, FIRST_A, run_each_call};
-use sqlite::{Connection, Error, MemStore};
+use sqlite::{Error, MemStore};
 use std::alloc::Global;
 use std::test::Fail;
 use xa_log::{DecisionLog, LogFault};

@@ -6,4 +6,5 @@ pub mod KeySets
 pub mod OwnBranches
 pub mod Parts
 pub mod Rising
+pub mod RowsInTurn
 pub mod Together

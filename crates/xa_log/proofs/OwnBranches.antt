@@ -164,9 +164,11 @@ held_changes change old new n m (Err e) ok err order faults = record {
 pub bump_held : (old new : MemLog) (n m : ℕ) (answer r : Result ℕ LogFault) → r ≡ answer
     → OnOk answer (new ≡ record old { incarnation = old.incarnation + 1 }) → OnErr answer (new ≡ old)
     → m ≡ faults_after r n → Changes with_bump (memory_moment (content_held old) n) (memory_moment (content_held new) m) r
-bump_held old new n m (Ok x) r same ok err faults = subst (Changes with_bump (memory_moment (content_held old) n) (memory_moment (content_held new) m)) (sym same)
+bump_held old new n m (Ok x) r same ok err faults = subst (Changes with_bump (memory_moment (content_held old) n) (memory_moment (content_held new) m))
+    (sym same)
     (held_changes with_bump (content_held old) (content_held new) n m (Ok x) (ap content_held ok) tt
     (order_after_raise {A = ℕ} {E = LogFault} (Ok x) old new ok tt) (faults ∙ ap (λ a. faults_after a n) same))
-bump_held old new n m (Err e) r same ok err faults = subst (Changes with_bump (memory_moment (content_held old) n) (memory_moment (content_held new) m)) (sym same)
+bump_held old new n m (Err e) r same ok err faults = subst (Changes with_bump (memory_moment (content_held old) n) (memory_moment (content_held new) m))
+    (sym same)
     (held_changes with_bump (content_held old) (content_held new) n m (Err e) tt (ap content_held err)
     (order_after_raise {A = ℕ} {E = LogFault} (Err e) old new tt err) (faults ∙ ap (λ a. faults_after a n) same))

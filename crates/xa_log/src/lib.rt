@@ -3,7 +3,8 @@
 //! Only decisions to commit are kept: what has no row is rolled back (presumed rollback: XA, section 2.3).
 //!
 //! [`DecisionLog`] is what every log promises. [`MemLog`] keeps it in memory, and [`FailLog`] fails by a plan, for tests.
-//! The log in the tables of a database is `SqlLog` of the crate `xa_sql_log`.
+//! The log in the tables of a database is `SqlLog` of the crate `xa_sql_log`. [`decisions_in_turn`] does nothing: its clauses
+//! are laws.
 //!
 //! "XA" in these pages is X/Open CAE Specification C193, "Distributed Transaction Processing: The XA Specification"
 //! (1991).
@@ -17,6 +18,7 @@ mod fail_plan;
 mod log_fault;
 mod log_rows;
 mod mem_log;
+mod turns;
 
 pub use commands::{Command, Told, run_commands};
 pub use decision::Decision;
@@ -26,3 +28,4 @@ pub use fail_plan::{FailPlan, LogCall};
 pub use log_fault::{LogFault, counted};
 pub use log_rows::LogRows;
 pub use mem_log::MemLog;
+pub use turns::decisions_in_turn;

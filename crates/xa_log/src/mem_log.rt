@@ -81,7 +81,8 @@ impl MemLog {
 
     /// Puts how a branch was ended, where it has no record.
     pub(crate) fn put_heuristic(&mut self, b: Branch, how: How) -> Result<(), LogFault>
-        ensures ok { OnOk result (content_held self.new ≡ with_record b how (content_held self.old)) }
+        ensures ok { OnOk result
+            (content_held self.new ≡ with_record b how (content_held self.old)) }
         ensures err { OnErr result (content_held self.new ≡ content_held self.old) }
         ensures memory { IfErr result (λ e. e ≡ Memory) }
         ensures faults { self.new.faults ≡ self.old.faults }

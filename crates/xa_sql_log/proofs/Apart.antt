@@ -1,5 +1,5 @@
 -- No two rows are decisions of one transaction, so one that went in was not there.
-use Rattle.std.proofs.Common.{◌≡◌, inl, inr, ℕ, ℤ, pos, List, Bool, true, false, not, ◌&&◌, cond, Some, None, Ok, refl, sym, ap, subst, ◌∙◌, is_eq, int_cmp, Ordering, Less, Equal, Greater}
+use Rattle.std.proofs.Common.{◌≡◌, inl, inr, ℕ, ℤ, pos, List, Bool, true, false, ◌&&◌, cond, Some, None, Ok, refl, sym, ap, subst, ◌∙◌, is_eq, int_cmp, Ordering, Less, Equal, Greater}
 use Rattle.std.specs.FinMap.{get, int_cmp-IsAntisymmetric}
 use Rattle.std.specs.List.{list_any}
 use Rattle.std.specs.Ordering.{is_ne}

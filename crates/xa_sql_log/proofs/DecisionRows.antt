@@ -45,7 +45,6 @@ use Rattle.xa_sql_log.proofs.Texts.{insert_participant, insert_participant_is, i
 use Rattle.xa_sql_log.specs.Rows.{IsLog, IsDecisionRow, AreHeuristicRows, IsParticipantRow, gtrid_of_row, branch_of_row, participants_of_rows, content_of, meta_row}
 use Rattle.xa_sql_log.specs.Sql.{HasLogTables}
 use Rattle.xa_sql_log.proofs.Texts.{over, insert_decision, insert_decision_is, insert_decision_plain, delete_decision, delete_decision_is, delete_decision_plain}
-use Rattle.xa_sql_log.proofs.Plain.{shown}
 use Rattle.sqlite_rules.specs.Calls.{ids_of}
 use Rattle.xa_sql_log.proofs.Deletes.{Takes, takes_decision}
 use Rattle.xa_sql_log.proofs.Inserts.{Puts, puts_decision}

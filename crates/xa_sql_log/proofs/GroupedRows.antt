@@ -1,9 +1,9 @@
 -- What is found of several decisions, and what a transaction leaves that writes them: all of them, or nothing.
-use Rattle.std.proofs.Common.{◌≡◌, ◌⊎◌, inl, inr, ℕ, zero, suc, ◌+◌, ◌<◌, ◌≤◌, ◌==◌, List, [], ◌∷◌, ◌++◌, length, take, get_or, Bool, true, false, ◌||◌, cond, Option, Some, None, is_some, IsTrue, IsSomeAnd, refl, sym, ap, subst, ◌∙◌, arith}
+use Rattle.std.proofs.Common.{◌≡◌, ◌⊎◌, inl, inr, ℕ, zero, suc, ◌+◌, ◌<◌, ◌≤◌, ◌==◌, List, [], ◌∷◌, ◌++◌, length, take, get_or, Bool, true, false, ◌||◌, cond, Option, Some, None, IsTrue, IsSomeAnd, refl, sym, ap, subst, ◌∙◌, arith}
 use Rattle.std.proofs.lemmas.Bool.{cases_Bool, true≢false}
 use Rattle.std.proofs.lemmas.List.{take_all, take_more}
 use Rattle.std.specs.List.{list_any}
-use Rattle.std.specs.FinMap.{get, contains_key, get-insert}
+use Rattle.std.specs.FinMap.{get, contains_key}
 use Rattle.sqlite.specs.Tree.{Trees}
 use Rattle.sqlite.specs.Effect.{Database}
 use Rattle.sqlite.specs.declared.error.Error.{Error}
@@ -11,19 +11,18 @@ use Rattle.sqlite.specs.State.{State, HasCleanDisk, Shows, KeepsCommit}
 use Rattle.sqlite.specs.Steps.{FailsToCommit}
 use Rattle.xa_base.specs.declared.branch.Gtrid.{Gtrid}
 use Rattle.xa_base.specs.Branch.{gtrid_eq}
-use Rattle.xa_base.proofs.BranchOrder.{gtrids_total, exact_gtrids}
-use Rattle.xa_log.specs.Content.{Content, is_new, logged_as, logged_each, with_commits, with_decision}
+use Rattle.xa_log.specs.Content.{Content, is_new, logged_as, logged_each, with_commits}
 use Rattle.xa_log.specs.Contract.{Makes}
 use Rattle.xa_sql_log.specs.Rows.{IsLog, content_of}
 use Rattle.xa_sql_log.specs.Sql.{AreLogTrees, AreLoggedIn, HasWritten, HasWrittenAll, IsOrderly, IsShutOrAsBefore, MayInsert, MayInsertAll, OnlyReads, content_in}
 use Rattle.xa_log.specs.declared.decision.Decision.{Decision}
 use Rattle.xa_log.specs.declared.decision_log.Logged.{Logged}
 use Rattle.xa_log.specs.declared.decision_log.Logged.TheVariants.{New, Already}
+use Rattle.xa_log.proofs.RowsInTurn.{answer_at, has_after}
 use Rattle.xa_log.proofs.Together.{already_stays, commits_more, logged_more, waiting, with_one}
 use Rattle.xa_sql_log.proofs.Inside.{begun, fresh, undone_after}
 use Rattle.xa_sql_log.proofs.Lasting.{as_log}
 use Rattle.xa_sql_log.proofs.States.{Did, reads_then}
-use Rattle.xa_log.proofs.Rising.{equal_is}
 use Rattle.xa_log.proofs.Parts.{no_some}
 
 -- ** whose rows are there, where some have been written
@@ -36,41 +35,11 @@ or_three : (a b c : Bool) → ((a || b) || c) ≡ (a || (b || c))
 or_three true b c = refl
 or_three false b c = refl
 
-put_there : {X : Type 0} (b : Bool) (w : X) (o : Option X) → is_some (cond b (Some w) o) ≡ (is_some o || b)
-put_there true w None = refl
-put_there true w (Some x) = refl
-put_there false w None = refl
-put_there false w (Some x) = refl
-
-row_of_itself : (c : Content) (g h : Gtrid) → contains_key c.decisions h ≡ true → contains_key c.decisions g ≡ (contains_key c.decisions g || gtrid_eq g h)
-row_of_itself c g h there = elim (cases_Bool (gtrid_eq g h)) [
-  | inl same ↦ (
-      let has : contains_key c.decisions g ≡ true = ap (λ q. contains_key c.decisions q) (exact_gtrids g h (equal_is _ same)) ∙ there in
-      has ∙ sym (ap (λ b. b || gtrid_eq g h) has))
-  | inr apart ↦ sym (ap (λ b. contains_key c.decisions g || b) apart ∙ or_false _)
-]
-
-has_after_one : (d : Decision) (c : Content) (g : Gtrid)
-    → contains_key (with_one d c).decisions g ≡ (contains_key c.decisions g || gtrid_eq g d.gtrid)
-has_after_one d c g = elim (cases_Bool (contains_key c.decisions d.gtrid)) [
-  | inl there ↦
-      ap (λ t. contains_key (cond t c (with_decision d.gtrid (waiting d) c)).decisions g) there ∙ row_of_itself c g d.gtrid there
-  | inr none ↦ ap (λ t. contains_key (cond t c (with_decision d.gtrid (waiting d) c)).decisions g) none
-      ∙ ap is_some (get-insert gtrids_total c.decisions d.gtrid (waiting d) g) ∙ put_there (gtrid_eq g d.gtrid) (waiting d) (get c.decisions g)
-]
-
-has_after_all : (ds : List Decision) (c : Content) (g : Gtrid)
-    → contains_key (with_commits ds c).decisions g ≡ (contains_key c.decisions g || list_any (λ (d : Decision). gtrid_eq g d.gtrid) ds)
-has_after_all [] c g = sym (or_false _)
-has_after_all (d ∷ ds) c g =
-    let later = list_any (λ (e : Decision). gtrid_eq g e.gtrid) ds in
-    has_after_all ds (with_one d c) g ∙ ap (λ b. b || later) (has_after_one d c g) ∙ or_three (contains_key c.decisions g) (gtrid_eq g d.gtrid) later
-
 logged_after : (ds : List Decision) (c : Content) (g : Gtrid) (found among : Bool) → found ≡ contains_key c.decisions g
     → among ≡ list_any (λ (d : Decision). gtrid_eq g d.gtrid) ds → cond (found || among) Already New ≡ logged_as (with_commits ds c) g
 logged_after ds c g found among is named =
     ap (λ b. cond (b || among) Already New) is ∙ ap (λ b. cond (contains_key c.decisions g || b) Already New) named
-    ∙ ap (λ b. cond b Already New) (sym (has_after_all ds c g))
+    ∙ ap (λ b. cond b Already New) (sym (has_after ds c g))
 
 pub found_there : (ds : List Decision) (g : Gtrid) (found among : Bool) (logged : Logged) (old new : Option Content)
     → cond (found || among) Already New ≡ logged → among ≡ list_any (λ (d : Decision). gtrid_eq g d.gtrid) ds
@@ -164,12 +133,6 @@ take_logged zero ds c = refl
 take_logged (suc n) [] c = refl
 take_logged (suc n) (d ∷ ds) c = ap (λ l. logged_as c d.gtrid ∷ l) (take_logged n ds (with_one d c))
 
-logged_at : (ds : List Decision) (n : ℕ) (d : Decision) (l : Logged) (c : Content) → n < length ds
-    → get_or (logged_each ds c) n l ≡ logged_as (with_commits (take n ds) c) (get_or ds n d).gtrid
-logged_at [] n d l c low = absurd (omega (arith, low))
-logged_at (x ∷ ds) zero d l c low = refl
-logged_at (x ∷ ds) (suc n) d l c low = logged_at ds n d l (with_one x c) (omega (arith, low))
-
 any_push : (xs : List Logged) (x : Logged) → list_any is_new (xs ++ x ∷ []) ≡ (list_any is_new xs || is_new x)
 any_push [] x = or_false (is_new x)
 any_push (y ∷ xs) x = ap (λ b. is_new y || b) (any_push xs x) ∙ sym (or_three (is_new y) (list_any is_new xs) (is_new x))
@@ -218,7 +181,7 @@ module _ (ds : List Decision) (answers : List Logged) (n : ℕ) (d : Decision) (
   told_here : IsTrue a.is_open → logged ≡ logged_as (with_commits (take n ds) (content_of a.now.trees)) d.gtrid
   told_here is_open =
       let c = content_of a.now.trees in
-      is ∙ ap (λ l. get_or l n x) (may.told is_open) ∙ logged_at ds n d x c low
+      is ∙ ap (λ l. get_or l n x) (may.told is_open) ∙ answer_at ds c n d x low
       ∙ ap (λ (e : Decision). logged_as (with_commits (take n ds) c) e.gtrid) (sym at)
 
   pub may_insert : (m : State) → New ≡ logged → WritesFirst ds answers n a m → IsTrue m.is_open → MayInsert d.gtrid m
@@ -227,7 +190,8 @@ module _ (ds : List Decision) (answers : List Logged) (n : ℕ) (d : Decision) (
       record {
         inside = here.inside;
         now = here.now;
-        none = ap (λ (c : Content). get c.decisions d.gtrid) here.content ∙ new_is_none d.gtrid (with_commits (take n ds) (content_of a.now.trees)) (new ∙ told_here here.was_open);
+        none = ap (λ (c : Content). get c.decisions d.gtrid) here.content
+            ∙ new_is_none d.gtrid (with_commits (take n ds) (content_of a.now.trees)) (new ∙ told_here here.was_open);
       }
 
   pub inserts_one : (m m′ : State) → New ≡ logged → WritesFirst ds answers n a m → IsTrue m.is_open

@@ -37,13 +37,12 @@ use Rattle.xa_sql_log.specs.Rows.{IsLog, IsDecisionRow, IsHeuristicRow, AreHeuri
 use Rattle.xa_sql_log.specs.Sql.{AreLogTrees, HasLogTables}
 use Rattle.xa_sql_log.proofs.Lasting.{as_log}
 use Rattle.xa_sql_log.proofs.Texts.{is, insert_heuristic, insert_heuristic_is, insert_heuristic_plain}
-use Rattle.xa_sql_log.proofs.Plain.{shown}
 use Rattle.xa_sql_log.proofs.Contents.{bound_number, put_keeps}
 use Rattle.xa_sql_log.proofs.Inserts.{Puts, at_once, puts_heuristic}
 use Rattle.xa_sql_log.proofs.DecisionRows.{booked_as, meta_stays}
 use Rattle.xa_sql_log.proofs.Keyed.{has_find, same_entries_in}
 use Rattle.xa_sql_log.proofs.States.{Did, wrote, commits_as}
-use Rattle.xa_sql_log.proofs.HeuristicReads.{entry_in, how_read, differ, apart, entries_once}
+use Rattle.xa_sql_log.proofs.HeuristicReads.{entry_in, how_read, differ, entries_once}
 use Rattle.xa_log.proofs.Rising.{equal_is}
 use Rattle.xa_log.proofs.Alike.{same_content}
 

@@ -1,5 +1,5 @@
 -- Maps and sets of lists that have the same entries, and the lists that maps and sets give.
-use Rattle.std.proofs.Common.{◌≡◌, ◌⊎◌, inl, inr, ℕ, ◌+◌, ◌<◌, List, [], ◌∷◌, ◌++◌, map, reverse, length, take, get_or, ◌||◌, Bool, true, false, ◌&&◌, cond, Some, None, is_eq, refl, sym, ap, subst, ◌∙◌, Ordering, Less}
+use Rattle.std.proofs.Common.{◌≡◌, ◌⊎◌, inl, inr, ℕ, ◌+◌, ◌<◌, List, [], ◌∷◌, ◌++◌, map, reverse, length, take, get_or, ◌||◌, Bool, true, false, cond, Some, None, is_eq, refl, sym, ap, subst, ◌∙◌, Ordering, Less}
 use Rattle.std.specs.Ordering.{eq_by_cmp}
 use Rattle.std.specs.Cmp.{IsTotalOrder, both_ways, tied_itself}
 use Rattle.std.specs.List.{AllByRecursion, list_any}

@@ -1,5 +1,5 @@
 -- What a crash may leave of a log is a log, and a log is what an open then finds.
-use Rattle.std.proofs.Common.{◌≡◌, inl, inr, sym, subst, ◌∙◌, ℕ, OnOk, Result}
+use Rattle.std.proofs.Common.{◌≡◌, inl, inr, sym, subst, ℕ, OnOk, Result}
 use Rattle.sqlite.specs.Effect.{Database, IsDatabase}
 use Rattle.sqlite.specs.State.{HasCleanDisk, State}
 use Rattle.sqlite_catalog.specs.Listing.{IsSound}

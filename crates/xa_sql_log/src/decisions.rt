@@ -143,7 +143,8 @@ fn insert_all<S: Alter>(
 ) -> Result<(), LogFault>
     requires fits { FitsRow g }
     requires own { AllByRecursion (λ b. b.gtrid ≡ g) participants.now }
-    ensures changes { MayChange (with_commit g (from_list participants.now)) (state S.Store conn.old)
+    ensures changes { MayChange (with_commit g (from_list participants.now))
+        (state S.Store conn.old)
         (state S.Store conn.new) }
     ensures ok { IsOrderly (state S.Store conn.old) → HasCleanDisk (state S.Store conn.new)
         → OnOk result (Makes (with_commit g (from_list participants.now))
@@ -193,7 +194,8 @@ pub(crate) fn commit<S: Alter>(
 ) -> Result<Logged, LogFault>
     requires fits { FitsRow g }
     requires own { AllByRecursion (λ b. b.gtrid ≡ g) participants.now }
-    ensures changes { MayChange (with_commit g (from_list participants.now)) (state S.Store conn.old)
+    ensures changes { MayChange (with_commit g (from_list participants.now))
+        (state S.Store conn.old)
         (state S.Store conn.new) }
     ensures ok { IsOrderly (state S.Store conn.old) → HasCleanDisk (state S.Store conn.new)
         → OnOk result (Makes (with_commit g (from_list participants.now))

@@ -73,7 +73,8 @@ pub(crate) fn note_heuristic<S: Alter>(
     how: How,
 ) -> Result<(), LogFault>
     requires { FitsRow b.gtrid }
-    ensures changes { MayChange (with_record b how) (state S.Store conn.old) (state S.Store conn.new) }
+    ensures changes { MayChange (with_record b how) (state S.Store conn.old)
+        (state S.Store conn.new) }
     ensures ok { IsOrderly (state S.Store conn.old) → HasCleanDisk (state S.Store conn.new) →
         OnOk result (Makes (with_record b how)
         (content_in (state S.Store conn.old)) (content_in (state S.Store conn.new))) }

@@ -42,8 +42,8 @@ use Rattle.xa_line.proofs.TrafficLaws.{as_many_calls, line_goes_on}
 use Rattle.xa_system.proofs.LineLaws.{line_stays}
 use Rattle.xa_system.proofs.Logging.{log_kept, tied_issued}
 use Rattle.xa_system.proofs.Managing.{book_then, judged}
-use Rattle.xa_system.proofs.Standing.{Follows, IsEvent, goes_as, has_line, lines_with, site_stays, there_is}
-use Rattle.xa_tm.specs.Book.{Book, after}
+use Rattle.xa_system.proofs.Standing.{Follows, IsEvent, goes_as, has_line, lines_with, site_stays, there_is, up_is}
+use Rattle.xa_tm.specs.Book.{after}
 use Rattle.xa_tm.specs.Refusing.{managers_refusal, refusal_in}
 
 -- ** the refusals, by who finds them
@@ -186,9 +186,6 @@ module _ {R L : Type 0} (see : Sees R L) where
   same_book tr parts t r call stands there up =
       sym (book_rule tr t r (map_call name_of call) there up) ∙ sym (judged see tr parts (Steps.Issue t r (map_call name_of call)) tt stands)
 
-  up_is : (tr : Trace) (parts : Parts R L) → Stands see tr parts → (book_in parts.manager).up ≡ facts.up tr
-  up_is tr parts stands = ap (λ (k : Book). k.up) stands.book
-
   -- the refusal, as it is found
   pub issue_found : (tr : Trace) (parts : Parts R L) (t r : ℕ) (site : Site R) (call : Asking.Call Xid) → Stands see tr parts
       → (nat_lt t parts.lines.threads && nat_lt r parts.lines.rms) ≡ true → (book_in parts.manager).up ≡ true
@@ -199,7 +196,7 @@ module _ {R L : Type 0} (see : Sees R L) where
   issue_found tr parts t r site call stands there up at =
       let has_tr = sym (there_is see tr parts t r stands) ∙ there in
       let has = has_line see tr parts t r stands has_tr in
-      let up_tr = sym (up_is tr parts stands) ∙ up in
+      let up_tr = sym (up_is see tr parts stands) ∙ up in
       let many = as_many_calls tr (line t r) (line_at parts.lines t r) (stands.lines t r has) in
       issue_rule tr t r (map_call name_of call)
       ∙ λ i. issue_why (has_tr i) (up_tr i) (sym (stands.sites r site at).is_up i) (same_bar tr parts t r call stands has i)
@@ -219,7 +216,7 @@ module _ {R L : Type 0} (see : Sees R L) where
       → Stands see tr parts → must_refuse tr (Steps.Issue t r (map_call name_of call)) ≡ Some Refusals.ManagerDown
   issue_manager_down tr parts t r call e down stands =
       issue_rule tr t r (map_call name_of call)
-      ∙ λ i. issue_why ((sym (there_is see tr parts t r stands) ∙ e) i) ((sym (up_is tr parts stands) ∙ down) i) (rm_up tr r)
+      ∙ λ i. issue_why ((sym (there_is see tr parts t r stands) ∙ e) i) ((sym (up_is see tr parts stands) ∙ down) i) (rm_up tr r)
       (bar_of (forces_not_open tr (Steps.Issue t r (map_call name_of call))) (facts.is_closed tr (line t r)))
       (book_of_it tr t r (map_call name_of call)) (nat_le 64 (waiting tr (line t r)))
 
@@ -238,7 +235,7 @@ module _ {R L : Type 0} (see : Sees R L) where
       let has = has_line see tr parts t r stands has_tr in
       let known_so =
       known_asked tr t r (map_call name_of call)
-      (not_unknown tr t r (map_call name_of call) (same_book tr parts t r call stands has_tr (sym (up_is tr parts stands) ∙ up) ∙ free)) in
+      (not_unknown tr t r (map_call name_of call) (same_book tr parts t r call stands has_tr (sym (up_is see tr parts stands) ∙ up) ∙ free)) in
       let c = known_so.0 in
       let e = Issued (line t r) c in
       let demanded : Demanded tr (Steps.Issue t r (map_call name_of call)) Replies.Issued = As_value why refl in

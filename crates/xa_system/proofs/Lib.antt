@@ -20,6 +20,7 @@ pub mod HearLeads
 pub mod IssueLeads
 pub mod Kept
 pub mod ResolveLeads
+pub mod RestartLeads
 pub mod Standing
 pub mod TakeLeads
 pub mod Seeing

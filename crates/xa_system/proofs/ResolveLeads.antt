@@ -1,5 +1,5 @@
--- Recoveries, and the restart of the manager.
-use Rattle.std.proofs.Common.{◌≡◌, ◌≤◌, ◌<◌, inl, inr, ℕ, suc, Bool, true, false, List, [], ◌∷◌, ◌++◌, length, map, refl, sym, ap, ◌∙◌, subst, arith, append_assoc, length-append}
+-- Recoveries: Resolve and ResolveOpen.
+use Rattle.std.proofs.Common.{◌≡◌, ◌≤◌, ◌<◌, ℕ, suc, Bool, true, false, List, [], ◌∷◌, ◌++◌, length, map, refl, sym, ap, ◌∙◌, subst, arith, append_assoc, length-append}
 use Rattle.std.specs.Prelude.{◌&&◌, ◌||◌, ◌+◌, not, if◌then◌else◌, Option, Some, None, nat_le, nat_lt, slice_get, Result, OnOk}
 use Rattle.std.specs.Result.{result_err}
 use Rattle.std.proofs.lemmas.Bool.Decides.{nat_tests}
@@ -9,7 +9,7 @@ use Rattle.std.specs.List.{list_any}
 use Rattle.std.proofs.lemmas.List.Folds.{list_any-append}
 use Rattle.xa_base.specs.StateTable.{on}
 use Rattle.xa_base.specs.Xid.{Xid}
-use Rattle.xa_model.specs.Replies.Demanded.{Demanded, Demanded.As_value, Demanded.For_log}
+use Rattle.xa_model.specs.Replies.Demanded.{Demanded, Demanded.As_value}
 use Rattle.xa_model.specs.Facts as facts
 use Rattle.xa_model.specs.Replies.History.{reply_of, step_of}
 use Rattle.xa_base.specs.Opening.{closes, has_closed, has_opened, opens}
@@ -17,13 +17,12 @@ use Rattle.xa_model.specs.Facts.{rm_up, waiting}
 use Rattle.xa_model.specs.Replies.ReadBack.{StepHasXids}
 use Rattle.xa_model.specs.Replies.Rules.{has_rm, must_refuse}
 use Rattle.xa_model.specs.Replies.Steps.{happened}
-use Rattle.xa_model.specs.Trace.{Call, Fault.InRestart, Happening, Happening.Failed, Happening.Resolved, Happening.ResolvedOpen, Happening.Restarted, Line, Name, Name.Foreign, Name.Ours, Trace, Trace.Then, line, line_eq}
+use Rattle.xa_model.specs.Trace.{Call, Happening, Happening.Resolved, Happening.ResolvedOpen, Line, Name, Name.Foreign, Name.Ours, Trace, Trace.Then, line, line_eq}
 use Rattle.xa_base.specs.declared.call.Call as Asking
 use Rattle.xa_base.specs.declared.refusal.Refusal.{Refusal}
 use Rattle.xa_base.specs.declared.refusal.Refusal.TheVariants as Refusals
 use Rattle.xa_base.specs.declared.reply.Reply.{Reply}
 use Rattle.xa_base.specs.declared.reply.Reply.TheVariants as Replies
-use Rattle.xa_base.specs.declared.step.Side.TheVariants as Sides
 use Rattle.xa_base.specs.declared.step.Step.{Step}
 use Rattle.xa_base.specs.declared.step.Step.TheVariants as Steps
 use Rattle.xa_model.proofs.Keys.{line_eq-refl}
@@ -31,12 +30,11 @@ use Rattle.xa_model.proofs.Replies.Replies.{demanded_right}
 use Rattle.xa_line.specs.Grid.{HasLine, line_at, with_line}
 use Rattle.xa_line.specs.Traffic.{Traffic, answered, barred, refusal, with_one_more, heard, issued, taken}
 use Rattle.xa_line.proofs.GridLaws.{whole-with_line}
-use Rattle.xa_log.specs.Content.{last_number, with_bump}
+use Rattle.xa_log.specs.Content.{last_number}
 use Rattle.xa_tm.specs.declared.manager.Manager.{Manager}
 use Rattle.xa_system.specs.Logged.{LogFollows}
-use Rattle.xa_system.proofs.Logging.{LogUndone, log_failing, log_stays}
-use Rattle.xa_tm.specs.declared.coming_up.Found.{Found}
-use Rattle.xa_tm.specs.Kept.{book_in, log_in, FailsBy}
+use Rattle.xa_system.proofs.Logging.{log_stays}
+use Rattle.xa_tm.specs.Kept.{book_in, log_in}
 use Rattle.xa_line.specs.Histories.{LineStands, known as known_call}
 use Rattle.xa_system.specs.Lines.{with_more}
 use Rattle.xa_system.specs.Parts.{GoesOn, HindersRecovery, OneMore, Sees, Stands, StandsSomewhere, recovery_why}
@@ -46,13 +44,11 @@ use Rattle.xa_system.proofs.CrashLeads.{rm_there}
 use Rattle.xa_system.proofs.IssueLeads.{line_took}
 use Rattle.xa_line.proofs.TrafficLaws.{as_many_calls, line_goes_on, same_length}
 use Rattle.xa_system.proofs.LineLaws.{line_stays}
-use Rattle.xa_system.proofs.Managing.{IsOwn, book_then, own_follows, with_manager}
+use Rattle.xa_system.proofs.Managing.{book_then, with_manager}
 use Rattle.xa_system.proofs.OnBranch.{closed_alike, closes_on, opened_alike}
-use Rattle.xa_system.proofs.Standing.{Follows, IsEvent, IsNothingTo, goes_as, has_line, lacking_goes, lines_with, refused_goes, rule_goes, site_stays}
-use Rattle.xa_tm.specs.Book.{Book, Doubt.Settled, after, book_of}
+use Rattle.xa_system.proofs.Standing.{Follows, IsEvent, IsNothingTo, goes_as, has_line, lacking_goes, lines_with, refused_goes, site_stays, up_is}
+use Rattle.xa_tm.specs.Book.{Book, after, book_of}
 use Rattle.xa_tm.specs.Refusing.{live_in, resolved_in, resolved_open_in, resolving_calls_in, resolving_kind_in}
-use Rattle.xa_tm.specs.Tied.{IsFound}
-use Rattle.xa_tm.proofs.Finds.{found_is_demanded}
 use Rattle.xa_tm.proofs.Recovering.{resolved_is, resolved_open_is}
 
 -- ** the calls of a recovery
@@ -267,98 +263,6 @@ module _ {R L : Type 0} (see : Sees R L) where
       → resolved_open_in (book_in parts.manager) r ≡ facts.resolving_calls (Then tr (ResolvedOpen r)) (facts.page tr r)
   open_calls_found tr parts r stands = ap (λ k. resolved_open_in k r) stands.book ∙ resolved_open_is tr r
 
-  -- ** the restart
-
-  own_restarted : (tr : Trace) (i d h : ℕ) → i ≤ last_number → IsOwn see tr (Restarted i d h)
-  own_restarted tr i d h most =
-      record {
-        sites = λ r. record {
-          quiet = record {
-            branches = record { standing = λ b at. refl; vote = λ b at. refl; retries = λ b at. refl };
-            scan_stays = refl;
-          };
-          is_up = refl;
-        };
-        unbroken = λ t r. refl;
-        calls = λ t r. refl;
-        taken = λ t r. refl;
-        heard = λ t r. refl;
-        fits = λ fits. most;
-        event = tt;
-      }
-
-  -- a failed restart breaks nothing
-  own_failed : (tr : Trace) → facts.up tr ≡ false → IsOwn see tr (Failed InRestart)
-  own_failed tr down =
-      record {
-        sites = λ r. record {
-          quiet = record {
-            branches = record { standing = λ b at. rw down refl; vote = λ b at. refl; retries = λ b at. refl };
-            scan_stays = rw down refl;
-          };
-          is_up = refl;
-        };
-        unbroken = λ t r. down;
-        calls = λ t r. refl;
-        taken = λ t r. refl;
-        heard = λ t r. refl;
-        fits = λ h. h;
-        event = tt;
-      }
-
-  up_is : (tr : Trace) (parts : Parts R L) → Stands see tr parts → (book_in parts.manager).up ≡ facts.up tr
-  up_is tr parts stands = ap (λ (k : Book). k.up) stands.book
-
-  abbrev restart_why : (up : Bool) → Option Refusal
-  restart_why up = if up then Some Refusals.Busy else None
-
-  restart_free : (tr : Trace) → facts.up tr ≡ false → must_refuse tr (Steps.Restart Sides.Manager) ≡ None
-  restart_free tr down = λ i. restart_why (down i)
-
-  pub restart_did : (parts : Parts R L) (manager : Manager L) (i d h : ℕ) (reply : Reply Xid) → reply ≡ Replies.Restarted i d h
-      → (book_in parts.manager).up ≡ false
-      → book_in manager ≡ after (book_in parts.manager) (Restarted i d h) → IsFound (book_in parts.manager) i d h → i ≤ last_number
-      → ((tr : Trace) → LogFollows see.moment tr (Restarted i d h) parts.manager manager)
-      → (tr : Trace) → Stands see tr parts → OneMore see (Steps.Restart Sides.Manager) reply tr parts (with_manager see parts manager)
-  restart_did parts manager i d h reply is down book found most log tr stands =
-      let e = Restarted i d h in
-      let at : IsFound (book_of tr) i d h = subst (λ k. IsFound k i d h) stands.book found in
-      let demanded : Demanded tr (Steps.Restart Sides.Manager) (Replies.Restarted i d h) =
-      As_value (restart_free tr (sym (up_is tr parts stands) ∙ down)) (found_is_demanded tr i d h stands.kept.right stands.apart at) in
-      goes_as see tr (Steps.Restart Sides.Manager) reply (Replies.Restarted i d h) parts (with_manager see parts manager) stands tt (ap reply_of is) demanded
-      (own_follows see tr e parts manager (own_restarted tr i d h most) stands
-      (book_then see tr e parts manager stands (demanded_right tr (Steps.Restart Sides.Manager) (Replies.Restarted i d h) demanded) book) (log tr))
-
-  pub restart_undone : (parts : Parts R L) (manager : Manager L) (n : Refusal) (reply : Reply Xid) → reply ≡ Replies.Refused n
-      → ((book_in parts.manager).up ≡ true → (n ≡ Refusals.Busy) × (book_in manager ≡ book_in parts.manager))
-      → ((book_in parts.manager).up ≡ false → FailsBy Settled InRestart (book_in parts.manager) (book_in manager) n)
-      → LogUndone see.moment Found n with_bump parts.manager manager
-      → (tr : Trace) → Stands see tr parts → OneMore see (Steps.Restart Sides.Manager) reply tr parts (with_manager see parts manager)
-  restart_undone parts manager n reply is busy fails undone tr stands = by_up (book_in parts.manager).up refl
-    where
-      by_cause : facts.up tr ≡ false → FailsBy Settled InRestart (book_in parts.manager) (book_in manager) n
-          → OneMore see (Steps.Restart Sides.Manager) reply tr parts (with_manager see parts manager)
-      by_cause down (inl w) =
-          lacking_goes see tr (Steps.Restart Sides.Manager) parts manager reply stands tt (is ∙ ap (λ m. Replies.Refused m) w.0) (restart_free tr down) tt w.1
-          (undone.kept (λ q. absurd (let two : Refusals.Memory ≡ Refusals.LogFault = sym w.0 ∙ q in cc)))
-      by_cause down (inr w) =
-          let demanded : Demanded tr (Steps.Restart Sides.Manager) (Replies.Refused Refusals.LogFault) = For_log (restart_free tr down) tt refl in
-          goes_as see tr (Steps.Restart Sides.Manager) reply (Replies.Refused Refusals.LogFault) parts
-          (with_manager see parts manager) stands tt (ap reply_of (is ∙ ap (λ m. Replies.Refused m) w.0)) demanded
-          (own_follows see tr (Failed InRestart) parts manager (own_failed tr down) stands
-          (book_then see tr (Failed InRestart) parts manager stands
-          (demanded_right tr (Steps.Restart Sides.Manager) (Replies.Refused Refusals.LogFault) demanded) w.1)
-          (log_failing see.moment InRestart n parts.manager manager w.0 undone))
-
-      by_up : (u : Bool) → (book_in parts.manager).up ≡ u → OneMore see (Steps.Restart Sides.Manager) reply tr parts (with_manager see parts manager)
-      by_up true e =
-          let w = busy e in
-          let up : facts.up tr ≡ true = sym (up_is tr parts stands) ∙ e in
-          rule_goes see tr (Steps.Restart Sides.Manager) reply parts manager Refusals.Busy stands tt (is ∙ ap (λ m. Replies.Refused m) w.0)
-          (λ i. restart_why (up i)) w.1
-          (undone.kept (λ q. absurd (let two : Refusals.Busy ≡ Refusals.LogFault = sym w.0 ∙ q in cc)))
-      by_up false e = by_cause (sym (up_is tr parts stands) ∙ e) (fails e)
-
   -- ** what hinders a recovery
 
   same_open : (tr : Trace) (parts : Parts R L) (r : ℕ) → Stands see tr parts → HasLine parts.lines 0 r
@@ -380,7 +284,7 @@ module _ {R L : Type 0} (see : Sees R L) where
       let there = rm_there see tr parts r stands within in
       let has = has_first tr parts r stands there in
       let many = as_many_calls tr (line 0 r) (line_at parts.lines 0 r) (stands.lines 0 r has) in
-      λ i. recovery_why (there i) (sym (up_is tr parts stands) i) (sym (stands.sites r site at).is_up i)
+      λ i. recovery_why (there i) (sym (up_is see tr parts stands) i) (sym (stands.sites r site at).is_up i)
       (not (sym (same_open tr parts r stands has) i)) (sym (same_closed tr parts r stands has) i) (nat_lt 64 (sym many i + n))
 
   -- ** a recovery that nothing hinders

@@ -37,7 +37,7 @@ use Rattle.xa_system.specs.declared.parts.Parts.{Parts}
 use Rattle.xa_system.specs.declared.site.Site.{Site}
 use Rattle.xa_system.proofs.Kept.{kept_then}
 use Rattle.xa_system.proofs.Quiet.{IsQuiet, rm_stays, same_held}
-use Rattle.xa_tm.specs.Book.{book_of}
+use Rattle.xa_tm.specs.Book.{Book, book_of}
 
 -- ** lists
 
@@ -225,6 +225,9 @@ module _ {R L : Type 0} (see : Sees R L) where
   has_line tr parts t r stands e =
       let both = and_parts (has_thread tr t) (has_rm tr r) e in
       (subst (λ n. t < n) (ap (λ o. o.threads) stands.origin) (ltb-true t _ both.0), subst (λ n. r < n) (sym stands.rms) (ltb-true r _ both.1))
+
+  pub up_is : (tr : Trace) (parts : Parts R L) → Stands see tr parts → (book_in parts.manager).up ≡ facts.up tr
+  up_is tr parts stands = ap (λ (k : Book). k.up) stands.book
 
   pub nothing_to : (tr : Trace) (r : ℕ) → IsNothingTo tr Nothing r
   nothing_to tr r =

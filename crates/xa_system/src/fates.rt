@@ -23,7 +23,8 @@ impl<R: ResourceManager + Drop, L: DecisionLog + Drop> System<R, L> {
     pub fn fate(&self, xid: &Xid) -> Fate
         ensures own { (b : Branch) → IsOwnIn self.now b → xid.now ≡ xid_of_branch b →
             result ≡ fate (trace_in (looks R.held_of R.scan_of R.in_doubt_of) self.now) b }
-        ensures other { ((b : Branch) → IsOwnIn self.now b → xid.now ≡ xid_of_branch b → ⊥) → result ≡ Fates.Unstarted }
+        ensures other { ((b : Branch) → IsOwnIn self.now b → xid.now ≡ xid_of_branch b → ⊥) →
+            result ≡ Fates.Unstarted }
     {
         match xid.branch() {
             Some(branch) if self.parts.has_line(branch.thread, branch.rm) => {

@@ -1,5 +1,5 @@
 //! A resource manager of the system.
-ghost use Rattle.std.specs.Prelude.{◌≡◌, ◌≢◌, ◌≤◌, ◌<◌, ◌+◌, ◌++◌, ℕ, true, false, length, vec_len, slice_get, IsSomeAnd, OnErr, IfOk};
+ghost use Rattle.std.specs.Prelude.{◌≡◌, ◌≢◌, ◌≤◌, ◌<◌, ◌+◌, ◌++◌, true, false, length, vec_len, slice_get, IsSomeAnd, OnErr, IfOk};
 ghost use Rattle.xa_model.specs.Replies.History.{name_of};
 ghost use Rattle.xa_base.specs.Opening.{has_closed, has_opened};
 ghost use Rattle.xa_model.specs.Replies.ReadBack.{CallHasXid};
@@ -66,7 +66,8 @@ pub(crate) fn take<R: ResourceManager>(
     thread: u32,
 ) -> Twin
     requires { length line.old.answers.waiting < places }
-    ensures { Takes (looks R.held_of R.scan_of R.in_doubt_of) thread rm.old rm.new line.old line.new result }
+    ensures { Takes (looks R.held_of R.scan_of R.in_doubt_of) thread rm.old rm.new line.old line.new
+        result }
 {
     let Some(call) = line.front() else {
         return Twin::new(Reply::Nothing, Reply::Nothing);
@@ -108,7 +109,8 @@ pub(crate) fn bar(line: &Line, call: &Call) -> Option<Refusal>
 /// The line's oldest answer, which is heard; `copy` is that answer too.
 pub(crate) fn heard(line: &mut Line, copy: Answer) -> Twin
     requires { IsSomeAnd (slice_get line.old.answers.waiting 0) (λ pair. pair.1 ≡ copy) }
-    ensures { IsSomeAnd (slice_get line.old.answers.waiting 0) (λ pair. HearsOne pair line.old line.new result) }
+    ensures { IsSomeAnd (slice_get line.old.answers.waiting 0)
+        (λ pair. HearsOne pair line.old line.new result) }
 {
     match line.hear() {
         Some((call, answer)) => {
@@ -127,7 +129,8 @@ pub(crate) fn undone<R: ResourceManager + Drop>(
     ensures reply { result ≡ Replies.Refused refusal }
     ensures failed { refusal ≡ Refusals.LogFault →
         AllCrash (looks R.held_of R.scan_of R.in_doubt_of) sites.old.items sites.new.items }
-    ensures broken { refusal ≡ Refusals.LogFault → lines.new ≡ new_grid lines.old.threads lines.old.rms }
+    ensures broken { refusal ≡ Refusals.LogFault →
+        lines.new ≡ new_grid lines.old.threads lines.old.rms }
     ensures sites_stay { refusal ≢ Refusals.LogFault → sites.new ≡ sites.old }
     ensures lines_stay { refusal ≢ Refusals.LogFault → lines.new ≡ lines.old }
 {

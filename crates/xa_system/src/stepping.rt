@@ -56,7 +56,8 @@ impl<R: ResourceManager + Drop, L: DecisionLog + Drop> System<R, L> {
         ensures demanded { length self.old.events < EVENT_LIMIT →
             Demanded (trace_in (looks R.held_of R.scan_of R.in_doubt_of) self.old)
             (step_of step) (reply_of result) }
-        ensures parts { HoldsItsTrace (observes R.held_of R.scan_of R.in_doubt_of L.moment) self.new }
+        ensures parts { HoldsItsTrace
+            (observes R.held_of R.scan_of R.in_doubt_of L.moment) self.new }
         ensures refused { (n : Refusal) → result ≡ Replies.Refused n → n ≢ Refusals.LogFault →
             IsAsBefore (observes R.held_of R.scan_of R.in_doubt_of L.moment) self.old self.new }
         ensures nothing { (n : Refusal) → result ≡ Replies.Refused n → n ≢ Refusals.LogFault →
@@ -65,11 +66,14 @@ impl<R: ResourceManager + Drop, L: DecisionLog + Drop> System<R, L> {
             up (trace_in (looks R.held_of R.scan_of R.in_doubt_of) self.new) ≡ Bool.false }
         ensures failed { result ≡ Replies.Refused Refusals.LogFault →
             (L.moment self.old.handed).is_in_order → (slot_moment L.moment self.new.log).is_honest →
-            MayHaveFailed (trace_in (looks R.held_of R.scan_of R.in_doubt_of) self.old) (log_failed (step_of step))
-            (slot_moment L.moment self.old.log).content (slot_moment L.moment self.new.log).content }
+            MayHaveFailed (trace_in (looks R.held_of R.scan_of R.in_doubt_of) self.old)
+            (log_failed (step_of step))
+            (slot_moment L.moment self.old.log).content
+            (slot_moment L.moment self.new.log).content }
         ensures handed { (self.new.handed ≡ self.old.handed) × (self.new.first ≡ self.old.first)
             × (self.new.begun ≡ self.old.begun) }
-        ensures honest { (slot_moment L.moment self.new.log).is_honest → (slot_moment L.moment self.old.log).is_honest }
+        ensures honest { (slot_moment L.moment self.new.log).is_honest →
+            (slot_moment L.moment self.old.log).is_honest }
         ensures near { (L.moment self.old.handed).is_in_order →
             (slot_moment L.moment self.new.log).is_honest →
             MayRestart (observes R.held_of R.scan_of R.in_doubt_of L.moment) self.old →
@@ -77,7 +81,8 @@ impl<R: ResourceManager + Drop, L: DecisionLog + Drop> System<R, L> {
         ensures faults { (L.moment self.old.handed).is_in_order →
             (slot_moment L.moment self.new.log).is_honest →
             MayRestart (observes R.held_of R.scan_of R.in_doubt_of L.moment) self.old →
-            FaultsHaveCauses (observes R.held_of R.scan_of R.in_doubt_of L.moment) self.old self.new }
+            FaultsHaveCauses (observes R.held_of R.scan_of R.in_doubt_of L.moment) self.old
+            self.new }
         ensures start { origin_in (looks R.held_of R.scan_of R.in_doubt_of) self.new
             ≡ origin_in (looks R.held_of R.scan_of R.in_doubt_of) self.old }
         ensures out { log_held self.old.log ≡ None → step ≡ Steps.Restart Sides.Manager →
@@ -91,7 +96,8 @@ impl<R: ResourceManager + Drop, L: DecisionLog + Drop> System<R, L> {
             (slot_moment L.moment self.old.log).content ≡ Some c →
             (IsBeforeNext (trace_in (looks R.held_of R.scan_of R.in_doubt_of) self.old) c → ⊥) →
             IsFailed result }
-        ensures headline { Headline (origin_in (looks R.held_of R.scan_of R.in_doubt_of) self.new) self.new.events }
+        ensures headline { Headline
+            (origin_in (looks R.held_of R.scan_of R.in_doubt_of) self.new) self.new.events }
     {
         if self.events.len() >= EVENT_LIMIT {
             self.agree();
@@ -106,13 +112,15 @@ impl<R: ResourceManager + Drop, L: DecisionLog + Drop> System<R, L> {
 
     /// Does all steps in order, or none where the trace lacks room for them.
     pub fn run(&mut self, steps: &[Step]) -> Result<(), Refusal>
-        ensures limit { EVENT_LIMIT < length self.old.events + length steps.now → result ≡ Err Refusals.Limit }
+        ensures limit { EVENT_LIMIT < length self.old.events + length steps.now →
+            result ≡ Err Refusals.Limit }
         ensures room { length self.old.events + length steps.now ≤ EVENT_LIMIT → IsOk result }
         ensures err { OnErr result (self.new ≡ self.old) }
         ensures adds { OnOk result (AddsSteps steps.now self.old.events self.new.events) }
         ensures handed { (self.new.handed ≡ self.old.handed) × (self.new.first ≡ self.old.first)
             × (self.new.begun ≡ self.old.begun) }
-        ensures honest { (slot_moment L.moment self.new.log).is_honest → (slot_moment L.moment self.old.log).is_honest }
+        ensures honest { (slot_moment L.moment self.new.log).is_honest →
+            (slot_moment L.moment self.old.log).is_honest }
         ensures near { (L.moment self.old.handed).is_in_order →
             (slot_moment L.moment self.new.log).is_honest →
             MayRestart (observes R.held_of R.scan_of R.in_doubt_of L.moment) self.old →
@@ -120,11 +128,14 @@ impl<R: ResourceManager + Drop, L: DecisionLog + Drop> System<R, L> {
         ensures faults { (L.moment self.old.handed).is_in_order →
             (slot_moment L.moment self.new.log).is_honest →
             MayRestart (observes R.held_of R.scan_of R.in_doubt_of L.moment) self.old →
-            FaultsHaveCauses (observes R.held_of R.scan_of R.in_doubt_of L.moment) self.old self.new }
+            FaultsHaveCauses (observes R.held_of R.scan_of R.in_doubt_of L.moment) self.old
+            self.new }
         ensures start { origin_in (looks R.held_of R.scan_of R.in_doubt_of) self.new
             ≡ origin_in (looks R.held_of R.scan_of R.in_doubt_of) self.old }
-        ensures parts { HoldsItsTrace (observes R.held_of R.scan_of R.in_doubt_of L.moment) self.new }
-        ensures headline { Headline (origin_in (looks R.held_of R.scan_of R.in_doubt_of) self.new) self.new.events }
+        ensures parts { HoldsItsTrace
+            (observes R.held_of R.scan_of R.in_doubt_of L.moment) self.new }
+        ensures headline { Headline
+            (origin_in (looks R.held_of R.scan_of R.in_doubt_of) self.new) self.new.events }
     {
         if self.room() < steps.len() {
             self.agree();

@@ -23,14 +23,18 @@ impl<R: ResourceManager + Drop, L: DecisionLog + Drop> System<R, L> {
         ensures up { up (trace_in (looks R.held_of R.scan_of R.in_doubt_of) self.old) ≡ Bool.true →
             (result ≡ None) × (self.new ≡ self.old) }
         ensures empty { log_held self.old.log ≡ None → (result ≡ None) × (self.new ≡ self.old) }
-        ensures taken { up (trace_in (looks R.held_of R.scan_of R.in_doubt_of) self.old) ≡ Bool.false →
+        ensures taken { up (trace_in (looks R.held_of R.scan_of R.in_doubt_of) self.old)
+            ≡ Bool.false →
             result ≡ log_held self.old.log }
-        ensures out { up (trace_in (looks R.held_of R.scan_of R.in_doubt_of) self.old) ≡ Bool.false →
+        ensures out { up (trace_in (looks R.held_of R.scan_of R.in_doubt_of) self.old)
+            ≡ Bool.false →
             log_held self.new.log ≡ None }
         ensures was { (log : L) → result ≡ Some log → last_out self.new.log ≡ log }
         ensures others { self.new ≡ record self.old { log = self.new.log } }
-        ensures parts { HoldsItsTrace (observes R.held_of R.scan_of R.in_doubt_of L.moment) self.new }
-        ensures headline { Headline (origin_in (looks R.held_of R.scan_of R.in_doubt_of) self.new) self.new.events }
+        ensures parts { HoldsItsTrace
+            (observes R.held_of R.scan_of R.in_doubt_of L.moment) self.new }
+        ensures headline { Headline
+            (origin_in (looks R.held_of R.scan_of R.in_doubt_of) self.new) self.new.events }
     {
         let log = self.parts.manager.take_log();
         self.agree();
@@ -64,9 +68,12 @@ impl<R: ResourceManager + Drop, L: DecisionLog + Drop> System<R, L> {
             (L.moment log).content ≡ Some c →
             MayHoldRows (trace_in (looks R.held_of R.scan_of R.in_doubt_of) self.old) c → ⊥) }
         ensures ok { OnOk result (TakesIn L.DecisionLog log (log_held self.new.log)) }
-        ensures others { OnOk result (self.new ≡ record self.old { handed = log; log = self.new.log }) }
-        ensures parts { HoldsItsTrace (observes R.held_of R.scan_of R.in_doubt_of L.moment) self.new }
-        ensures headline { Headline (origin_in (looks R.held_of R.scan_of R.in_doubt_of) self.new) self.new.events }
+        ensures others { OnOk result
+            (self.new ≡ record self.old { handed = log; log = self.new.log }) }
+        ensures parts { HoldsItsTrace
+            (observes R.held_of R.scan_of R.in_doubt_of L.moment) self.new }
+        ensures headline { Headline
+            (origin_in (looks R.held_of R.scan_of R.in_doubt_of) self.new) self.new.events }
     {
         let handed = Snapshot::of(&log);
         let given = self.parts.manager.give_log(log);

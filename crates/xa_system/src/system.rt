@@ -44,7 +44,8 @@ impl<R: ResourceManager + Drop, L: DecisionLog + Drop> Model for System<R, L> {
 
     ghost view = { seen };
 
-    ghost invariant = { IsSound (sees R.held_of R.scan_of R.in_doubt_of (slot_moment L.moment)) L.moment };
+    ghost invariant = { IsSound
+        (sees R.held_of R.scan_of R.in_doubt_of (slot_moment L.moment)) L.moment };
 }
 
 /// Why a system can't be made.
@@ -133,12 +134,14 @@ impl<R: ResourceManager + Drop, L: DecisionLog + Drop> System<R, L> {
     pub fn new(alloc: Global, threads: u32, rms: Vec<R>, log: L) -> Result<System<R, L>, NewFault>
         ensures limit { HasWrongSize threads (vec_len rms) → result ≡ Err NewFault.Limit }
         ensures not_clear { (HasWrongSize threads (vec_len rms) → ⊥) →
-            IsUnclear (looks R.held_of R.scan_of R.in_doubt_of) rms.items → result ≡ Err NewFault.NotClear }
+            IsUnclear (looks R.held_of R.scan_of R.in_doubt_of) rms.items →
+            result ≡ Err NewFault.NotClear }
         ensures only_limit { result ≡ Err NewFault.Limit → HasWrongSize threads (vec_len rms) }
         ensures only_not_clear { result ≡ Err NewFault.NotClear →
             IsUnclear (looks R.held_of R.scan_of R.in_doubt_of) rms.items }
         ensures handed { IfOk result (λ system. (system.handed ≡ log) × (system.first ≡ log)) }
-        ensures held { IfOk result (λ system. (system.begun ≡ system.log) × IsSome (log_held system.log)) }
+        ensures held { IfOk result
+            (λ system. (system.begun ≡ system.log) × IsSome (log_held system.log)) }
         ensures honest { IfOk result (λ system. (slot_moment L.moment system.log).is_honest →
             (L.moment log).is_honest) }
         ensures faults { IfOk result (λ system. (slot_moment L.moment system.log).fault_count ≡
@@ -147,7 +150,8 @@ impl<R: ResourceManager + Drop, L: DecisionLog + Drop> System<R, L> {
             IfOk result (λ system. (slot_moment L.moment system.log).is_honest →
             IsSomeAnd (L.moment log).content IsPast) }
         ensures log_fault { result ≡ Err NewFault.Log → IsToBlame L.DecisionLog log }
-        ensures ok { IfOk result (λ system. (system.events ≡ []) × (system.start ≡ rms.items) × (system.rms ≡ rms.items)
+        ensures ok { IfOk result
+            (λ system. (system.events ≡ []) × (system.start ≡ rms.items) × (system.rms ≡ rms.items)
             × (system.lines.threads ≡ threads) × HoldsItsTrace
             (observes R.held_of R.scan_of R.in_doubt_of L.moment) system) }
         ensures near { (L.moment log).is_in_order →
@@ -207,8 +211,10 @@ impl<R: ResourceManager + Drop, L: DecisionLog + Drop> System<R, L> {
 
     /// What all that happened so far means, at every moment of it. Nothing is done.
     pub fn agree(&self)
-        ensures parts { HoldsItsTrace (observes R.held_of R.scan_of R.in_doubt_of L.moment) self.now }
-        ensures headline { Headline (origin_in (looks R.held_of R.scan_of R.in_doubt_of) self.now) self.now.events }
+        ensures parts { HoldsItsTrace
+            (observes R.held_of R.scan_of R.in_doubt_of L.moment) self.now }
+        ensures headline { Headline
+            (origin_in (looks R.held_of R.scan_of R.in_doubt_of) self.now) self.now.events }
     {
         let _ = &self.events;
         xa_model::headline_holds();

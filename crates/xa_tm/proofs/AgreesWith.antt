@@ -152,7 +152,8 @@ module _ (k n : Ledger) (c : Content) (reads : Reads n c) where
   }
     where
       at : (q : Gtrid) → get c.decisions q ≡ cond (gtrid_eq g q) (Some (waiting_of v)) (get b.decisions q)
-      at q = ap (λ m. get m q) ds ∙ get-insert gtrids_total b.decisions g (waiting_of v) q ∙ ap (λ t. cond t (Some (waiting_of v)) (get b.decisions q)) (swap_gtrid g q)
+      at q = ap (λ m. get m q) ds ∙ get-insert gtrids_total b.decisions g (waiting_of v) q
+          ∙ ap (λ t. cond t (Some (waiting_of v)) (get b.decisions q)) (swap_gtrid g q)
 
       no_row : (o : Option Waiting) → is_some o ≡ false → o ≡ None
       no_row None e = refl
@@ -162,14 +163,17 @@ module _ (k n : Ledger) (c : Content) (reads : Reads n c) where
       row q = by (gtrid_eq g q) refl
         where
           by : (t : Bool) → gtrid_eq g q ≡ t
-              → (if gtrid_eq g q then names_just (kept_row n.rows q) v.items && not (is_some (kept_row k.rows q)) else same_row (kept_row k.rows q) (kept_row n.rows q)) ≡ true
+              → (if gtrid_eq g q then names_just (kept_row n.rows q) v.items && not (is_some (kept_row k.rows q))
+              else same_row (kept_row k.rows q) (kept_row n.rows q)) ≡ true
           by true e =
               let here : g ≡ q = gtrid_eq-true g q e in
-              ap (λ (t : Bool). if t then names_just (kept_row n.rows q) v.items && not (is_some (kept_row k.rows q)) else same_row (kept_row k.rows q) (kept_row n.rows q)) e
+              ap (λ (t : Bool). if t then names_just (kept_row n.rows q) v.items && not (is_some (kept_row k.rows q))
+              else same_row (kept_row k.rows q) (kept_row n.rows q)) e
               ∙ and_from _ _ (names_back (kept_row n.rows q) v.items (sym (reads.row q) ∙ at q ∙ ap (λ t. cond t (Some (waiting_of v)) (get b.decisions q)) e))
               (none_back (kept_row k.rows q) (sym (h.rows q) ∙ no_row _ (ap (contains_key b.decisions) (sym here) ∙ lacks)))
           by false e =
-              ap (λ (t : Bool). if t then names_just (kept_row n.rows q) v.items && not (is_some (kept_row k.rows q)) else same_row (kept_row k.rows q) (kept_row n.rows q)) e
+              ap (λ (t : Bool). if t then names_just (kept_row n.rows q) v.items && not (is_some (kept_row k.rows q))
+              else same_row (kept_row k.rows q) (kept_row n.rows q)) e
               ∙ row_same q (at q ∙ ap (λ t. cond t (Some (waiting_of v)) (get b.decisions q)) e ∙ h.rows q)
 
   -- a row was taken away, which was there
@@ -197,15 +201,18 @@ module _ (k n : Ledger) (c : Content) (reads : Reads n c) where
       row q = by (gtrid_eq g q) refl
         where
           by : (t : Bool) → gtrid_eq g q ≡ t
-              → (if gtrid_eq g q then not (is_some (kept_row n.rows q)) && is_some (kept_row k.rows q) else same_row (kept_row k.rows q) (kept_row n.rows q)) ≡ true
+              → (if gtrid_eq g q then not (is_some (kept_row n.rows q)) && is_some (kept_row k.rows q) else same_row (kept_row k.rows q) (kept_row n.rows q))
+              ≡ true
           by true e =
               let here : g ≡ q = gtrid_eq-true g q e in
               let own = some_row (get b.decisions q) (ap (contains_key b.decisions) (sym here) ∙ has) in
-              ap (λ (t : Bool). if t then not (is_some (kept_row n.rows q)) && is_some (kept_row k.rows q) else same_row (kept_row k.rows q) (kept_row n.rows q)) e
+              ap (λ (t : Bool). if t then not (is_some (kept_row n.rows q)) && is_some (kept_row k.rows q)
+              else same_row (kept_row k.rows q) (kept_row n.rows q)) e
               ∙ and_from _ _ (none_back (kept_row n.rows q) (sym (reads.row q) ∙ at q ∙ ap (λ t. cond t None (get b.decisions q)) e))
               (some_back (kept_row k.rows q) own.0 (sym (h.rows q) ∙ own.1))
           by false e =
-              ap (λ (t : Bool). if t then not (is_some (kept_row n.rows q)) && is_some (kept_row k.rows q) else same_row (kept_row k.rows q) (kept_row n.rows q)) e
+              ap (λ (t : Bool). if t then not (is_some (kept_row n.rows q)) && is_some (kept_row k.rows q)
+              else same_row (kept_row k.rows q) (kept_row n.rows q)) e
               ∙ row_same q (at q ∙ ap (λ t. cond t None (get b.decisions q)) e ∙ h.rows q)
 
   -- a record was made, where there was none
@@ -230,22 +237,28 @@ module _ (k n : Ledger) (c : Content) (reads : Reads n c) where
       end : (q : Branch) → end_agrees_with (AddRecord b how) (notes_at k.branches q).recorded (notes_at n.branches q).recorded q ≡ true
       end q = by (branch_eq b q) refl
         where
-          by : (t : Bool) → branch_eq b q ≡ t → (if branch_eq b q then is_how (notes_at n.branches q).recorded how && not (is_some (notes_at k.branches q).recorded) else same_how (notes_at k.branches q).recorded (notes_at n.branches q).recorded) ≡ true
+          by : (t : Bool) → branch_eq b q ≡ t
+              → (if branch_eq b q then is_how (notes_at n.branches q).recorded how && not (is_some (notes_at k.branches q).recorded)
+              else same_how (notes_at k.branches q).recorded (notes_at n.branches q).recorded) ≡ true
           by true e =
               let here : b ≡ q = branch_eq-true b q e in
-              ap (λ (t : Bool). if t then is_how (notes_at n.branches q).recorded how && not (is_some (notes_at k.branches q).recorded) else same_how (notes_at k.branches q).recorded (notes_at n.branches q).recorded) e
+              ap (λ (t : Bool). if t then is_how (notes_at n.branches q).recorded how && not (is_some (notes_at k.branches q).recorded)
+              else same_how (notes_at k.branches q).recorded (notes_at n.branches q).recorded) e
               ∙ and_from _ _ (is_back _ how (sym (reads.end q) ∙ at q ∙ ap (λ t. cond t (Some how) (get d.heuristics q)) e))
               (unrecorded _ (sym (h.records q) ∙ no_end _ (ap (contains_key d.heuristics) (sym here) ∙ lacks)))
           by false e =
-              ap (λ (t : Bool). if t then is_how (notes_at n.branches q).recorded how && not (is_some (notes_at k.branches q).recorded) else same_how (notes_at k.branches q).recorded (notes_at n.branches q).recorded) e
+              ap (λ (t : Bool). if t then is_how (notes_at n.branches q).recorded how && not (is_some (notes_at k.branches q).recorded)
+              else same_how (notes_at k.branches q).recorded (notes_at n.branches q).recorded) e
               ∙ end_same q (at q ∙ ap (λ t. cond t (Some how) (get d.heuristics q)) e ∙ h.records q)
 
   -- each change
-  made_agrees : (d : Change) → k.doubt ≡ d → (b : Content) → HoldsBook (held k) b → SameRows c (made (doubt_held d) b) → (agrees false k n || agrees true k n) ≡ true
+  made_agrees : (d : Change) → k.doubt ≡ d → (b : Content) → HoldsBook (held k) b → SameRows c (made (doubt_held d) b) → (agrees false k n || agrees true k n)
+      ≡ true
   made_agrees Nothing is b h s = or_left _ _ (as_before (held_as b s h))
   made_agrees (AddRow g v) is b h s = by (contains_key b.decisions g) refl s
     where
-      by : (t : Bool) → contains_key b.decisions g ≡ t → SameRows c (if t then b else with_decision g (waiting_of v) b) → (agrees false k n || agrees true k n) ≡ true
+      by : (t : Bool) → contains_key b.decisions g ≡ t → SameRows c (if t then b else with_decision g (waiting_of v) b) → (agrees false k n || agrees true k n)
+          ≡ true
       by true has s = or_left _ _ (as_before (held_as b s h))
       by false lacks s = or_right _ _ (with_change (AddRow g v) is (added g v b is h lacks s.decisions s.heuristics))
   made_agrees (DropRow g) is b h s = by (contains_key b.decisions g) refl

@@ -69,7 +69,8 @@ rows_loaded (g ∷ gs) bs up q =
         → (if t then Some (from_list {R = branch_cmp} (run_of g bs)) else loaded gs (drop (length (run_of g bs)) bs) q)
         ≡ option_or (loaded gs (drop (length (run_of g bs)) bs) q) (if t then Some (from_list {R = branch_cmp} (run_of g bs)) else None)
     by true same =
-        sym (ap (λ o. option_or o (Some (from_list {R = branch_cmp} (run_of g bs)))) (ap (loaded gs (drop (length (run_of g bs)) bs)) (sym (gtrid_eq-true g q same)) ∙ none_loaded g gs (drop (length (run_of g bs)) bs) up.0))
+        sym (ap (λ o. option_or o (Some (from_list {R = branch_cmp} (run_of g bs))))
+        (ap (loaded gs (drop (length (run_of g bs)) bs)) (sym (gtrid_eq-true g q same)) ∙ none_loaded g gs (drop (length (run_of g bs)) bs) up.0))
     by false other = or_none (loaded gs (drop (length (run_of g bs)) bs) q)
       where
         or_none : (o : Option Waiting) → o ≡ option_or o None

@@ -69,7 +69,17 @@ reserved m n g none h q = ap (λ o. unwrap_or o no_transaction) (h q) ∙ by (is
 pub deal_is : (c d : Deal) → c.begun ≡ d.begun → c.committed ≡ d.committed → c.rolled_back ≡ d.rolled_back → c.handed_over ≡ d.handed_over
     → c.claimed ≡ d.claimed → c.has_yes ≡ d.has_yes → c.branches ≡ d.branches → c.unvoted ≡ d.unvoted → c.unsettled ≡ d.unsettled → c ≡ d
 deal_is c d b m r h l y n u s =
-    λ i. record { begun = b i; committed = m i; rolled_back = r i; handed_over = h i; claimed = l i; has_yes = y i; branches = n i; unvoted = u i; unsettled = s i }
+    λ i. record {
+      begun = b i;
+      committed = m i;
+      rolled_back = r i;
+      handed_over = h i;
+      claimed = l i;
+      has_yes = y i;
+      branches = n i;
+      unvoted = u i;
+      unsettled = s i;
+    }
 
 -- what this makes of it, and that the others stay
 pub one_deal : (after : Gtrid → Deal → Deal) (was now : Gtrid → Bool) (old mid new : Gtrid → Transaction) (g : Gtrid) (t : Transaction)

@@ -252,9 +252,11 @@ module _ (k n : Ledger) (c : Content) (reads : Reads n c) where
         },
         inr (subst (λ d. SameRows c (made d before)) (sym (ap doubt_held is)) (record {
           decisions = sym (put_back gtrids_total exact_gtrids c.decisions g (waiting_of v) has)
-              ∙ sym (ap (λ t. (if t then before else with_decision g (waiting_of v) before).decisions) (ap is_some (is_gone gtrids_total exact_gtrids c.decisions g (waiting_of v))));
+              ∙ sym (ap (λ t. (if t then before else with_decision g (waiting_of v) before).decisions)
+              (ap is_some (is_gone gtrids_total exact_gtrids c.decisions g (waiting_of v))));
           heuristics =
-              sym (ap (λ t. (if t then before else with_decision g (waiting_of v) before).heuristics) (ap is_some (is_gone gtrids_total exact_gtrids c.decisions g (waiting_of v))));
+              sym (ap (λ t. (if t then before else with_decision g (waiting_of v) before).heuristics)
+              (ap is_some (is_gone gtrids_total exact_gtrids c.decisions g (waiting_of v))));
         })),
       )
     where
@@ -314,9 +316,11 @@ module _ (k n : Ledger) (c : Content) (reads : Reads n c) where
         },
         inr (subst (λ d. SameRows c (made d before)) (sym (ap doubt_held is)) (record {
           decisions =
-              sym (ap (λ t. (if t then before else with_heuristic b how before).decisions) (ap is_some (is_gone branches_total exact_branches c.heuristics b how)));
+              sym (ap (λ t. (if t then before else with_heuristic b how before).decisions)
+              (ap is_some (is_gone branches_total exact_branches c.heuristics b how)));
           heuristics = sym (put_back branches_total exact_branches c.heuristics b how has)
-              ∙ sym (ap (λ t. (if t then before else with_heuristic b how before).heuristics) (ap is_some (is_gone branches_total exact_branches c.heuristics b how)));
+              ∙ sym (ap (λ t. (if t then before else with_heuristic b how before).heuristics)
+              (ap is_some (is_gone branches_total exact_branches c.heuristics b how)));
         })),
       )
     where
@@ -338,20 +342,24 @@ module _ (k n : Ledger) (c : Content) (reads : Reads n c) where
       at : gtrid_eq g g ≡ true → row_agrees_with (AddRow g v) k.rows n.rows g ≡ true
           → (names_just (kept_row n.rows g) v.items && not (is_some (kept_row k.rows g))) ≡ true
       at same e =
-          sym (ap (λ t. if t then (names_just (kept_row n.rows g) v.items && not (is_some (kept_row k.rows g))) else same_row (kept_row k.rows g) (kept_row n.rows g)) same) ∙ e
+          sym (ap (λ t. if t then (names_just (kept_row n.rows g) v.items && not (is_some (kept_row k.rows g)))
+          else same_row (kept_row k.rows g) (kept_row n.rows g)) same) ∙ e
   changed (DropRow g) is a =
       dropped g is (at (gtrid_eq-refl g) (subst (λ d. row_agrees_with d k.rows n.rows g ≡ true) is a.change)) a
     where
       at : gtrid_eq g g ≡ true → row_agrees_with (DropRow g) k.rows n.rows g ≡ true → (not (is_some (kept_row n.rows g)) && is_some (kept_row k.rows g)) ≡ true
       at same e =
-          sym (ap (λ t. if t then (not (is_some (kept_row n.rows g)) && is_some (kept_row k.rows g)) else same_row (kept_row k.rows g) (kept_row n.rows g)) same) ∙ e
+          sym (ap (λ t. if t then (not (is_some (kept_row n.rows g)) && is_some (kept_row k.rows g)) else same_row (kept_row k.rows g) (kept_row n.rows g))
+          same) ∙ e
   changed (AddRecord b how) is a =
-      noted b how is (at (branch_eq-refl b) (subst (λ d. end_agrees_with d (notes_at k.branches b).recorded (notes_at n.branches b).recorded b ≡ true) is a.change)) a
+      noted b how is (at (branch_eq-refl b)
+      (subst (λ d. end_agrees_with d (notes_at k.branches b).recorded (notes_at n.branches b).recorded b ≡ true) is a.change)) a
     where
       at : branch_eq b b ≡ true → end_agrees_with (AddRecord b how) (notes_at k.branches b).recorded (notes_at n.branches b).recorded b ≡ true
           → (is_how (notes_at n.branches b).recorded how && not (is_some (notes_at k.branches b).recorded)) ≡ true
       at same e =
-          sym (ap (λ t. if t then (is_how (notes_at n.branches b).recorded how && not (is_some (notes_at k.branches b).recorded)) else same_how (notes_at k.branches b).recorded (notes_at n.branches b).recorded) same) ∙ e
+          sym (ap (λ t. if t then (is_how (notes_at n.branches b).recorded how && not (is_some (notes_at k.branches b).recorded))
+          else same_how (notes_at k.branches b).recorded (notes_at n.branches b).recorded) same) ∙ e
   changed Nothing is a = absurd (true≢false (sym a.change))
 
   made_too : agrees true k n ≡ true → MayHold (held k) c
@@ -360,7 +368,13 @@ module _ (k n : Ledger) (c : Content) (reads : Reads n c) where
       let numbers = and_parts (rows_agree_with k.doubt k.row_count n.row_count) (records_agree_with k.doubt k.records n.records) counts.0 in
       let change = and_parts (change_agrees true k n) (rows_agree true k n && ends_agree true k n) counts.1 in
       let all = and_parts (rows_agree true k n) (ends_agree true k n) change.1 in
-      changed k.doubt refl (record { change = change.0; row = numbers.0; record_ = numbers.1; rows = row_at_all k n true all.0; ends = end_at_all k n true all.1 })
+      changed k.doubt refl (record {
+        change = change.0;
+        row = numbers.0;
+        record_ = numbers.1;
+        rows = row_at_all k n true all.0;
+        ends = end_at_all k n true all.1;
+      })
 
   may_hold : (agrees false k n || agrees true k n) ≡ true → MayHold (held k) c
   may_hold e = by (agrees false k n) refl e

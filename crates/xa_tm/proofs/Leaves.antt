@@ -52,7 +52,10 @@ pub left_by_a_crash : (near : Bool) (k : Book) (p : Part) (may : Content → Typ
 left_by_a_crash near k p may was d left =
     let t = was d left in
     record {
-      holds =
-          (t.holds.0, record { rows = t.holds.1.rows; row_number = t.holds.1.row_number; records = t.holds.1.records; record_number = t.holds.1.record_number }, t.holds.2);
+      holds = (
+        t.holds.0,
+        record { rows = t.holds.1.rows; row_number = t.holds.1.row_number; records = t.holds.1.records; record_number = t.holds.1.record_number },
+        t.holds.2,
+      );
       incarnation = λ h. record { least = (t.incarnation h).least; most = (t.incarnation h).most };
     }

@@ -60,7 +60,8 @@ fits_next i g low fits = and_from (nat_lt g.incarnation (i + 1)) (nat_le g.seque
 
 -- over such a log a manager can start
 can_start_over : (c : Content) → AllFit c → IsPast c
-    → ((list_all (fits_before (c.incarnation + 1)) (keys c.decisions) && list_all (λ (e : Branch × How). fits_before (c.incarnation + 1) e.0.gtrid) (entries c.heuristics))
+    → ((list_all (fits_before (c.incarnation + 1)) (keys c.decisions)
+    && list_all (λ (e : Branch × How). fits_before (c.incarnation + 1) e.0.gtrid) (entries c.heuristics))
     && (ascends gtrid_cmp (keys c.decisions) && ascends branch_cmp (map (λ (e : Branch × How). e.0) (entries c.heuristics)))) ≡ true
 can_start_over c fits past =
     and_from _ _

@@ -116,7 +116,8 @@ module _ (c : Content) (row : Gtrid → Option Waiting) (m : ℕ) (at : (g : Gtr
           let more = e ∙ len-insert gtrids_total c.decisions h set ∙ ap (λ t. cond t (len c.decisions) (len c.decisions + 1)) has ∙ ap (λ n. n + 1) number in
           get-insert gtrids_total c.decisions h set g ∙ ap (λ t. cond t (Some set) (get c.decisions g)) (swap_gtrid h g)
           ∙ ap (cond (gtrid_eq h g) (Some set)) (at g)
-          ∙ sym (ap (λ (t : Bool). if t then row g else (if gtrid_eq h g then Some set else row g)) (other_number d m (λ same. let no : ⊥ = absurd (omega (arith, more, same)) in no)))
+          ∙ sym (ap (λ (t : Bool). if t then row g else (if gtrid_eq h g then Some set else row g))
+          (other_number d m (λ same. let no : ⊥ = absurd (omega (arith, more, same)) in no)))
   rows_found (Drops h) d is g = by (contains_key c.decisions h) refl
     where
       removed : get (remove c.decisions h) g ≡ (if gtrid_eq h g then None else row g)
@@ -171,7 +172,8 @@ module _ (c : Content) (recs : Branch → Option How) (m : ℕ) (at : (b : Branc
           get-insert branches_total c.heuristics b how q ∙ ap (λ t. cond t (Some how) (get c.heuristics q)) (swap_branch b q)
           ∙ ap (cond (branch_eq b q) (Some how)) (at q)
           ∙ put (recs q) (branch_eq b q) refl refl (ap is_some (sym (at b)) ∙ has)
-          ∙ sym (ap (λ (t : Bool). if t then recs q else recorded_with (Records b how) q (recs q)) (other_number d m (λ same. let no : ⊥ = absurd (omega (arith, more, same)) in no)))
+          ∙ sym (ap (λ (t : Bool). if t then recs q else recorded_with (Records b how) q (recs q))
+          (other_number d m (λ same. let no : ⊥ = absurd (omega (arith, more, same)) in no)))
 
 -- ** the log is tied to the book again
 
@@ -229,8 +231,11 @@ tied_no_restart near k old new down may tied = go may (subst (λ u. TiedBy u nea
 
     as_it_was : (c : Content) → IsTiedDown near k c → IsTiedDown near n c
     as_it_was c t = record {
-      holds =
-          (t.holds.0, record { rows = t.holds.1.rows; row_number = t.holds.1.row_number; records = t.holds.1.records; record_number = t.holds.1.record_number }, hold c t.holds.0 t.holds.2);
+      holds = (
+        t.holds.0,
+        record { rows = t.holds.1.rows; row_number = t.holds.1.row_number; records = t.holds.1.records; record_number = t.holds.1.record_number },
+        hold c t.holds.0 t.holds.2,
+      );
       incarnation = λ h. record {
         least = (t.incarnation h).least;
         most = let a : c.incarnation ≤ k.incarnation + (k.failed_restarts + 1) = omega (arith, (t.incarnation h).most) in a;
@@ -245,8 +250,11 @@ tied_no_restart near k old new down may tied = go may (subst (λ u. TiedBy u nea
 
     raised : (c : Content) → IsTiedDown near k c → IsTiedDown near n (with_bump c)
     raised c t = record {
-      holds =
-          (t.holds.0, record { rows = t.holds.1.rows; row_number = t.holds.1.row_number; records = t.holds.1.records; record_number = t.holds.1.record_number }, hold_bumped c t.holds.0 t.holds.2);
+      holds = (
+        t.holds.0,
+        record { rows = t.holds.1.rows; row_number = t.holds.1.row_number; records = t.holds.1.records; record_number = t.holds.1.record_number },
+        hold_bumped c t.holds.0 t.holds.2,
+      );
       incarnation = λ h. record {
         least = let a : k.incarnation ≤ c.incarnation + 1 = omega (arith, (t.incarnation h).least) in a;
         most = let a : c.incarnation + 1 ≤ k.incarnation + (k.failed_restarts + 1) = omega (arith, (t.incarnation h).most) in a;

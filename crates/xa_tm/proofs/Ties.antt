@@ -122,7 +122,10 @@ tied_fault near k asked f old new up same may tied = go old (up_content near k o
 
     as_before : (d c : Content) → d ≡ c → IsTiedUp k d → IsTiedDown near n c
     as_before d c is t =
-        subst (IsTiedDown near n) is (record { holds = (d, held_still d t.holds, inl (record { decisions = refl; heuristics = refl })); incarnation = λ h. reached d t.incarnation })
+        subst (IsTiedDown near n) is (record {
+          holds = (d, held_still d t.holds, inl (record { decisions = refl; heuristics = refl }));
+          incarnation = λ h. reached d t.incarnation;
+        })
 
     changed : (d c : Content) → made asked d ≡ c → IsTiedUp k d → IsTiedDown near n c
     changed d c is t = subst (IsTiedDown near n) is (record {
@@ -272,7 +275,12 @@ tied_fall near k l log down inc failed row rows recs number doubt tied = subst (
   where
     held_still : (c : Content) → HoldsBook k c → HoldsBook l c
     held_still c h =
-        record { rows = λ g. h.rows g ∙ sym (row g); row_number = h.row_number ∙ sym rows; records = λ b. h.records b ∙ sym (recs b); record_number = h.record_number ∙ sym number }
+        record {
+          rows = λ g. h.rows g ∙ sym (row g);
+          row_number = h.row_number ∙ sym rows;
+          records = λ b. h.records b ∙ sym (recs b);
+          record_number = h.record_number ∙ sym number;
+        }
 
     reached : (c : Content) → IsReached k c → IsReached l c
     reached c r = record {
@@ -282,7 +290,10 @@ tied_fall near k l log down inc failed row rows recs number doubt tied = subst (
 
     at_once : (c : Content) → c.incarnation ≡ k.incarnation → IsReached k c
     at_once c e =
-        record { least = let a : k.incarnation ≤ c.incarnation = omega arith in a; most = let a : c.incarnation ≤ k.incarnation + k.failed_restarts = omega arith in a }
+        record {
+          least = let a : k.incarnation ≤ c.incarnation = omega arith in a;
+          most = let a : c.incarnation ≤ k.incarnation + k.failed_restarts = omega arith in a;
+        }
 
     may : (c before : Content) → SameRows c before ⊎ SameRows c (made k.doubt before) → SameRows c before ⊎ SameRows c (made l.doubt before)
     may c before (inl s) = inl s
@@ -291,13 +302,19 @@ tied_fall near k l log down inc failed row rows recs number doubt tied = subst (
     fallen : (d c : Content) → d ≡ c → IsTiedUp k d → IsTiedDown near l c
     fallen d c is t =
         subst (IsTiedDown near l) is
-        (record { holds = (d, held_still d t.holds, inl (record { decisions = refl; heuristics = refl })); incarnation = λ h. reached d (at_once d t.incarnation) })
+        (record {
+          holds = (d, held_still d t.holds, inl (record { decisions = refl; heuristics = refl }));
+          incarnation = λ h. reached d (at_once d t.incarnation);
+        })
 
     by : (u : Bool) (log : Option Content) → k.up ≡ u → TiedBy u near k log → (c : Content) → log ≡ Some c → IsTiedDown near l c
     by true None e tied c is = absurd tied
     by true (Some d) e tied c is = fallen d c (same_some d c is) tied
     by false log e tied c is =
-        let t = tied c is in record { holds = (t.holds.0, held_still t.holds.0 t.holds.1, may c t.holds.0 t.holds.2); incarnation = λ h. reached c (t.incarnation h) }
+        let t = tied c is in record {
+          holds = (t.holds.0, held_still t.holds.0 t.holds.1, may c t.holds.0 t.holds.2);
+          incarnation = λ h. reached c (t.incarnation h);
+        }
 
 pub tied_crash : (near : Bool) (k : Book) (p : Part) (log : Option Content) → IsTied near k log → IsTied near (after k (Crashed p)) log
 tied_crash near k (Parts.Line t r) log tied = tied_same near k (after k (Crashed (Parts.Line t r))) log
@@ -311,14 +328,18 @@ tied_crash near k Parts.Manager log tied = tied_fall near k (after k (Crashed Pa
 pub done_up : (k : Book) (g : Gtrid) → refusal_in k (Steps.Done g) ≡ None → k.up ≡ true
 done_up k g e = go k.up ((k.deal g).begun || outlived_in k g) (has_row_in k g) (row_settled_in k g) e
   where
-    go : (u b r s : Bool) → (if not u then Some Refusals.ManagerDown else (if not b then Some Refusals.UnknownTransaction else (if not r then Some Refusals.NotDecided else (if not s then Some Refusals.Busy else None)))) ≡ None → u ≡ true
+    go : (u b r s : Bool) → (if not u then Some Refusals.ManagerDown
+        else (if not b then Some Refusals.UnknownTransaction else (if not r then Some Refusals.NotDecided else (if not s then Some Refusals.Busy else None))))
+        ≡ None → u ≡ true
     go true b r s e = refl
     go false b r s e = absurd (cc)
 
 pub done_row : (k : Book) (g : Gtrid) → refusal_in k (Steps.Done g) ≡ None → is_some (k.row g) ≡ true
 done_row k g e = go k.up ((k.deal g).begun || outlived_in k g) (has_row_in k g) (row_settled_in k g) e
   where
-    go : (u b r s : Bool) → (if not u then Some Refusals.ManagerDown else (if not b then Some Refusals.UnknownTransaction else (if not r then Some Refusals.NotDecided else (if not s then Some Refusals.Busy else None)))) ≡ None → r ≡ true
+    go : (u b r s : Bool) → (if not u then Some Refusals.ManagerDown
+        else (if not b then Some Refusals.UnknownTransaction else (if not r then Some Refusals.NotDecided else (if not s then Some Refusals.Busy else None))))
+        ≡ None → r ≡ true
     go false b r s e = absurd (cc)
     go true false r s e = absurd (cc)
     go true true false s e = absurd (cc)

@@ -64,8 +64,11 @@ impl Ledger {
         call: &Call,
         page: &Page,
     ) -> Result<(), Memory>
-        ensures ok { OnOk result ((c : KnownCall) → accepted (map_call name_of call.now) ≡ Some c → IsAnswerTo (map_call name_of call.now) (Listed (map name_of page.now)) →
-            held self.new ≡ after (held self.old) (Heard (line thread rm) c (Listed (map name_of page.now)))) }
+        ensures ok { OnOk result
+            ((c : KnownCall) → accepted (map_call name_of call.now) ≡ Some c →
+            IsAnswerTo (map_call name_of call.now) (Listed (map name_of page.now)) →
+            held self.new ≡ after (held self.old)
+            (Heard (line thread rm) c (Listed (map name_of page.now)))) }
         ensures err { OnErr result (held self.new ≡ held self.old) }
         ensures others { self.new ≡ record self.old { pages = self.new.pages } }
     {
@@ -79,8 +82,10 @@ impl Ledger {
     fn turn_page(&mut self, thread: u32, rm: u32, page: &Page) -> Result<(), Memory>
         ensures others { self.new ≡ record self.old { pages = self.new.pages } }
         ensures ok { OnOk result ((r : ℕ) → names_at self.new.pages r ≡
-            (if line_eq (line thread rm) (line 0 r) then map name_of page.now else names_at self.old.pages r)) }
-        ensures err { OnErr result ((r : ℕ) → names_at self.new.pages r ≡ names_at self.old.pages r) }
+            (if line_eq (line thread rm) (line 0 r) then map name_of page.now
+            else names_at self.old.pages r)) }
+        ensures err { OnErr result
+            ((r : ℕ) → names_at self.new.pages r ≡ names_at self.old.pages r) }
     {
         if thread == 0 {
             let copy = page.copy(self.alloc)?;

@@ -73,7 +73,8 @@ fn are_ascending(rows: &LogRows) -> bool
 /// numbers fit, and they stand in ascending order, none twice.
 pub(crate) fn can_start(rows: &LogRows, incarnation: u64) -> bool
     ensures { result ≡ ((list_all (fits_before incarnation) rows.now.decisions.items &&
-        list_all (λ (e : Named × End). fits_before incarnation e.0.gtrid) rows.now.heuristics.items) &&
+        list_all (λ (e : Named × End). fits_before incarnation e.0.gtrid)
+        rows.now.heuristics.items) &&
         (ascends gtrid_cmp rows.now.decisions.items &&
         ascends branch_cmp (map (λ (e : Named × End). e.0) rows.now.heuristics.items))) }
 {

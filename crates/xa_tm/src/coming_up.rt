@@ -29,11 +29,14 @@ impl<L: DecisionLog + Drop> Manager<L> {
     /// The rows are read before the incarnation is raised, and all room is made before the log is asked for either.
     pub fn restart(&mut self) -> Result<Found, Refusal>
         requires { IsSound (book_in self.old) }
-        ensures busy { (book_in self.old).up ≡ Bool.true → (result ≡ Err Refusals.Busy) × (self.new ≡ self.old) }
+        ensures busy { (book_in self.old).up ≡ Bool.true → (result ≡ Err Refusals.Busy) ×
+            (self.new ≡ self.old) }
         ensures down { OnOk result ((book_in self.old).up ≡ Bool.false) }
         ensures ok { IfOk result (λ found. book_in self.new ≡
-            after (book_in self.old) (Restarted found.incarnation found.decisions found.heuristics)) }
-        ensures err { (book_in self.old).up ≡ Bool.false → IfErr result (FailsBy Settled InRestart (book_in self.old) (book_in self.new)) }
+            after (book_in self.old)
+            (Restarted found.incarnation found.decisions found.heuristics)) }
+        ensures err { (book_in self.old).up ≡ Bool.false →
+            IfErr result (FailsBy Settled InRestart (book_in self.old) (book_in self.new)) }
         ensures most { IfOk result (λ found. found.incarnation ≤ last_number) }
         ensures found { IfOk result (λ found.
             IsFound (book_in self.old) found.incarnation found.decisions found.heuristics) }
@@ -43,7 +46,8 @@ impl<L: DecisionLog + Drop> Manager<L> {
             (L.moment (log_in self.new)).is_honest →
             IsTied near (book_in self.old) (L.moment (log_in self.old)).content →
             IsTied near (book_in self.new) (L.moment (log_in self.new)).content }
-        ensures kept { IfErr result (λ n. n ≢ Refusals.LogFault → log_in self.new ≡ log_in self.old) }
+        ensures kept { IfErr result
+            (λ n. n ≢ Refusals.LogFault → log_in self.new ≡ log_in self.old) }
         ensures fault { (L.moment (log_in self.old)).is_in_order →
             (L.moment (log_in self.new)).is_honest → result ≡ Err Refusals.LogFault →
             MayMake with_bump (L.moment (log_in self.old)).content
@@ -96,7 +100,8 @@ impl<L: DecisionLog + Drop> Manager<L> {
 fn find_and_raise<L: DecisionLog>(log: &mut L) -> Result<Found, LogFault>
     ensures found { (L.moment log.old).is_in_order → (L.moment log.new).is_honest →
         IfOk result (λ found.
-        IsSomeAnd (L.moment log.old).content (FoundIn found.incarnation found.decisions found.heuristics)) }
+        IsSomeAnd (L.moment log.old).content
+        (FoundIn found.incarnation found.decisions found.heuristics)) }
     ensures read { IfOk result (λ found. IsReadFrom L.DecisionLog found.incarnation
         found.decisions found.heuristics log.old log.new) }
     ensures most { IfOk result (λ found. found.incarnation ≤ last_number) }

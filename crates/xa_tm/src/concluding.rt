@@ -23,19 +23,24 @@ impl<L: DecisionLog + Drop> Manager<L> {
     /// Decides a transaction. A commit writes its row where some branch voted XA_OK.
     pub fn decide(&mut self, g: Gtrid, outcome: Outcome) -> Result<(), Refusal>
         requires { IsSound (book_in self.old) }
-        ensures refused { (n : Refusal) → refusal_in (book_in self.old) (Steps.Decide g outcome) ≡ Some n →
+        ensures refused { (n : Refusal) →
+            refusal_in (book_in self.old) (Steps.Decide g outcome) ≡ Some n →
             (result ≡ Err n) × (self.new ≡ self.old) }
-        ensures allowed { OnOk result (refusal_in (book_in self.old) (Steps.Decide g outcome) ≡ None) }
+        ensures allowed { OnOk result
+            (refusal_in (book_in self.old) (Steps.Decide g outcome) ≡ None) }
         ensures ok { OnOk result (book_in self.new ≡ after (book_in self.old) (Decided g outcome)) }
         ensures err { refusal_in (book_in self.old) (Steps.Decide g outcome) ≡ None →
-            IfErr result (FailsBy (Adds g (voted_yes (book_in self.old) g)) (InDecide g) (book_in self.old) (book_in self.new)) }
-        ensures asked { refusal_in (book_in self.old) (Steps.Decide g outcome) ≡ None → result ≡ Err Refusals.LogFault →
+            IfErr result (FailsBy (Adds g (voted_yes (book_in self.old) g)) (InDecide g)
+            (book_in self.old) (book_in self.new)) }
+        ensures asked { refusal_in (book_in self.old) (Steps.Decide g outcome) ≡ None →
+            result ≡ Err Refusals.LogFault →
             AddsRow outcome ((book_in self.old).deal g) }
         ensures tied { (near : Bool) → (L.moment (log_in self.old)).is_in_order →
             (L.moment (log_in self.new)).is_honest →
             IsTied near (book_in self.old) (L.moment (log_in self.old)).content →
             IsTied near (book_in self.new) (L.moment (log_in self.new)).content }
-        ensures kept { IfErr result (λ n. n ≢ Refusals.LogFault → log_in self.new ≡ log_in self.old) }
+        ensures kept { IfErr result
+            (λ n. n ≢ Refusals.LogFault → log_in self.new ≡ log_in self.old) }
         ensures asks { AsksFor (made (Adds g (voted_yes (book_in self.old) g)))
             (L.moment (log_in self.old)) (L.moment (log_in self.new)) result }
     {
@@ -51,16 +56,20 @@ impl<L: DecisionLog + Drop> Manager<L> {
         ensures refused { (n : Refusal) → refusal_in (book_in self.old) (Steps.Settle g) ≡ Some n →
             (result ≡ Err n) × (self.new ≡ self.old) }
         ensures allowed { OnOk result (refusal_in (book_in self.old) (Steps.Settle g) ≡ None) }
-        ensures ok { OnOk result (book_in self.new ≡ after (book_in self.old) (Decided g Outcomes.Commit)) }
+        ensures ok { OnOk result
+            (book_in self.new ≡ after (book_in self.old) (Decided g Outcomes.Commit)) }
         ensures err { refusal_in (book_in self.old) (Steps.Settle g) ≡ None →
-            IfErr result (FailsBy (Adds g (voted_yes (book_in self.old) g)) (InDecide g) (book_in self.old) (book_in self.new)) }
-        ensures asked { refusal_in (book_in self.old) (Steps.Settle g) ≡ None → result ≡ Err Refusals.LogFault →
+            IfErr result (FailsBy (Adds g (voted_yes (book_in self.old) g)) (InDecide g)
+            (book_in self.old) (book_in self.new)) }
+        ensures asked { refusal_in (book_in self.old) (Steps.Settle g) ≡ None →
+            result ≡ Err Refusals.LogFault →
             AddsRow Outcomes.Commit ((book_in self.old).deal g) }
         ensures tied { (near : Bool) → (L.moment (log_in self.old)).is_in_order →
             (L.moment (log_in self.new)).is_honest →
             IsTied near (book_in self.old) (L.moment (log_in self.old)).content →
             IsTied near (book_in self.new) (L.moment (log_in self.new)).content }
-        ensures kept { IfErr result (λ n. n ≢ Refusals.LogFault → log_in self.new ≡ log_in self.old) }
+        ensures kept { IfErr result
+            (λ n. n ≢ Refusals.LogFault → log_in self.new ≡ log_in self.old) }
         ensures asks { AsksFor (made (Adds g (voted_yes (book_in self.old) g)))
             (L.moment (log_in self.old)) (L.moment (log_in self.new)) result }
     {
@@ -76,16 +85,20 @@ impl<L: DecisionLog + Drop> Manager<L> {
         ensures refused { (n : Refusal) → refusal_in (book_in self.old) (Steps.Abandon g) ≡ Some n →
             (result ≡ Err n) × (self.new ≡ self.old) }
         ensures allowed { OnOk result (refusal_in (book_in self.old) (Steps.Abandon g) ≡ None) }
-        ensures ok { OnOk result (book_in self.new ≡ after (book_in self.old) (Decided g Outcomes.Rollback)) }
+        ensures ok { OnOk result
+            (book_in self.new ≡ after (book_in self.old) (Decided g Outcomes.Rollback)) }
         ensures err { refusal_in (book_in self.old) (Steps.Abandon g) ≡ None →
-            IfErr result (FailsBy (Adds g (voted_yes (book_in self.old) g)) (InDecide g) (book_in self.old) (book_in self.new)) }
-        ensures asked { refusal_in (book_in self.old) (Steps.Abandon g) ≡ None → result ≡ Err Refusals.LogFault →
+            IfErr result (FailsBy (Adds g (voted_yes (book_in self.old) g)) (InDecide g)
+            (book_in self.old) (book_in self.new)) }
+        ensures asked { refusal_in (book_in self.old) (Steps.Abandon g) ≡ None →
+            result ≡ Err Refusals.LogFault →
             AddsRow Outcomes.Rollback ((book_in self.old).deal g) }
         ensures tied { (near : Bool) → (L.moment (log_in self.old)).is_in_order →
             (L.moment (log_in self.new)).is_honest →
             IsTied near (book_in self.old) (L.moment (log_in self.old)).content →
             IsTied near (book_in self.new) (L.moment (log_in self.new)).content }
-        ensures kept { IfErr result (λ n. n ≢ Refusals.LogFault → log_in self.new ≡ log_in self.old) }
+        ensures kept { IfErr result
+            (λ n. n ≢ Refusals.LogFault → log_in self.new ≡ log_in self.old) }
         ensures asks { AsksFor (made (Adds g (voted_yes (book_in self.old) g)))
             (L.moment (log_in self.old)) (L.moment (log_in self.new)) result }
     {
@@ -102,13 +115,15 @@ impl<L: DecisionLog + Drop> Manager<L> {
             (result ≡ Err n) × (self.new ≡ self.old) }
         ensures allowed { OnOk result (refusal_in (book_in self.old) (Steps.Done g) ≡ None) }
         ensures ok { OnOk result (book_in self.new ≡ after (book_in self.old) (Done g)) }
-        ensures err { refusal_in (book_in self.old) (Steps.Done g) ≡ None → IfErr result (λ n. (n ≡ Refusals.LogFault) ×
+        ensures err { refusal_in (book_in self.old) (Steps.Done g) ≡ None →
+            IfErr result (λ n. (n ≡ Refusals.LogFault) ×
             (book_in self.new ≡ book_after (book_in self.old) (Drops g) (Failed (InDone g)))) }
         ensures tied { (near : Bool) → (L.moment (log_in self.old)).is_in_order →
             (L.moment (log_in self.new)).is_honest →
             IsTied near (book_in self.old) (L.moment (log_in self.old)).content →
             IsTied near (book_in self.new) (L.moment (log_in self.new)).content }
-        ensures kept { IfErr result (λ n. n ≢ Refusals.LogFault → log_in self.new ≡ log_in self.old) }
+        ensures kept { IfErr result
+            (λ n. n ≢ Refusals.LogFault → log_in self.new ≡ log_in self.old) }
         ensures asks { AsksFor (made (Drops g))
             (L.moment (log_in self.old)) (L.moment (log_in self.new)) result }
     {
@@ -132,13 +147,17 @@ impl<L: DecisionLog + Drop> Manager<L> {
         requires sound { IsSound (book_in self.old) }
         requires open { IsOpenIn (book_in self.old) g }
         ensures ok { OnOk result (book_in self.new ≡ after (book_in self.old) (Decided g outcome)) }
-        ensures err { IfErr result (FailsBy (Adds g (voted_yes (book_in self.old) g)) (InDecide g) (book_in self.old) (book_in self.new)) }
-        ensures asked { result ≡ Err Refusals.LogFault → AddsRow outcome ((book_in self.old).deal g) }
+        ensures err { IfErr result
+            (FailsBy (Adds g (voted_yes (book_in self.old) g)) (InDecide g) (book_in self.old)
+            (book_in self.new)) }
+        ensures asked { result ≡ Err Refusals.LogFault →
+            AddsRow outcome ((book_in self.old).deal g) }
         ensures tied { (near : Bool) → (L.moment (log_in self.old)).is_in_order →
             (L.moment (log_in self.new)).is_honest →
             IsTied near (book_in self.old) (L.moment (log_in self.old)).content →
             IsTied near (book_in self.new) (L.moment (log_in self.new)).content }
-        ensures kept { IfErr result (λ n. n ≢ Refusals.LogFault → log_in self.new ≡ log_in self.old) }
+        ensures kept { IfErr result
+            (λ n. n ≢ Refusals.LogFault → log_in self.new ≡ log_in self.old) }
         ensures asks { AsksFor (made (Adds g (voted_yes (book_in self.old) g)))
             (L.moment (log_in self.old)) (L.moment (log_in self.new)) result }
     {
@@ -159,13 +178,17 @@ impl<L: DecisionLog + Drop> Manager<L> {
         requires sound { IsSound (book_in self.old) }
         requires open { IsOpenIn (book_in self.old) g }
         requires yes { ((book_in self.old).deal g).has_yes ≡ Bool.true }
-        ensures ok { OnOk result (book_in self.new ≡ after (book_in self.old) (Decided g Outcomes.Commit)) }
-        ensures err { IfErr result (FailsBy (Adds g (voted_yes (book_in self.old) g)) (InDecide g) (book_in self.old) (book_in self.new)) }
+        ensures ok { OnOk result
+            (book_in self.new ≡ after (book_in self.old) (Decided g Outcomes.Commit)) }
+        ensures err { IfErr result
+            (FailsBy (Adds g (voted_yes (book_in self.old) g)) (InDecide g) (book_in self.old)
+            (book_in self.new)) }
         ensures tied { (near : Bool) → (L.moment (log_in self.old)).is_in_order →
             (L.moment (log_in self.new)).is_honest →
             IsTied near (book_in self.old) (L.moment (log_in self.old)).content →
             IsTied near (book_in self.new) (L.moment (log_in self.new)).content }
-        ensures kept { IfErr result (λ n. n ≢ Refusals.LogFault → log_in self.new ≡ log_in self.old) }
+        ensures kept { IfErr result
+            (λ n. n ≢ Refusals.LogFault → log_in self.new ≡ log_in self.old) }
         ensures asks { AsksFor (made (Adds g (voted_yes (book_in self.old) g)))
             (L.moment (log_in self.old)) (L.moment (log_in self.new)) result }
     {

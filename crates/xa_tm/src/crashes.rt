@@ -13,7 +13,8 @@ impl Ledger {
     /// The lines of what crashes break: no branch is on one of them any more.
     pub(crate) fn break_lines(&mut self, part: Part)
         ensures others { self.new ≡ record self.old { branches = self.new.branches } }
-        ensures notes { (q : _) → notes_at self.new.branches q ≡ off_line part q (notes_at self.old.branches q) }
+        ensures notes { (q : _) →
+            notes_at self.new.branches q ≡ off_line part q (notes_at self.old.branches q) }
         ensures known { known_in self.new.branches ≡ known_in self.old.branches }
     {
         // Keeps each entry: `values_mut` has no contract on what is written.
@@ -60,7 +61,8 @@ impl Ledger {
     /// The log failed, and may have made a change: the manager falls.
     pub(crate) fn fail(&mut self, change: Change)
         requires { self.old.is_up ≡ Bool.true }
-        ensures { (f : Fault) → failed_restarts_after (Failed f) self.old.failed_restarts ≡ self.old.failed_restarts →
+        ensures { (f : Fault) → failed_restarts_after (Failed f) self.old.failed_restarts
+            ≡ self.old.failed_restarts →
             held self.new ≡ book_after (held self.old) (doubt_held change) (Failed f) }
     {
         self.doubt = change;

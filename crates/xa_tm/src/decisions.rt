@@ -30,7 +30,8 @@ impl Ledger {
     /// Decides a transaction where no row is written.
     pub(crate) fn decide(&mut self, g: Gtrid, outcome: Outcome) -> Result<(), AllocError>
         requires undecided { (transaction_at self.old.transactions g).outcome ≡ None }
-        requires no_row { (is_commit (Some outcome) && (transaction_at self.old.transactions g).has_yes) ≡ Bool.false }
+        requires no_row { (is_commit (Some outcome)
+            && (transaction_at self.old.transactions g).has_yes) ≡ Bool.false }
         ensures ok { OnOk result (held self.new ≡ after (held self.old) (Decided g outcome)) }
         ensures err { OnErr result (held self.new ≡ held self.old) }
     {

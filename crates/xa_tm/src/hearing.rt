@@ -39,18 +39,24 @@ impl<L: DecisionLog + Drop> Manager<L> {
         requires sound { IsSound (book_in self.old) }
         requires answers { IsAnswerTo (map_call name_of call.now) (map_answer name_of answer.now) }
         requires fits { FitsRecord (map_call name_of call.now) (map_answer name_of answer.now) }
-        ensures down { (book_in self.old).up ≡ Bool.false → (result ≡ Err Refusals.ManagerDown) × (self.new ≡ self.old) }
+        ensures down { (book_in self.old).up ≡ Bool.false → (result ≡ Err Refusals.ManagerDown) ×
+            (self.new ≡ self.old) }
         ensures up { OnOk result ((book_in self.old).up ≡ Bool.true) }
         ensures ok { OnOk result ((c : KnownCall) → accepted (map_call name_of call.now) ≡ Some c →
-            book_in self.new ≡ after (book_in self.old) (Heard (line thread rm) c (map_answer name_of answer.now))) }
-        ensures err { (book_in self.old).up ≡ Bool.true → IfErr result (λ n. (c : KnownCall) → accepted (map_call name_of call.now) ≡ Some c →
-            FailsBy (doubt_of (record_of c (map_answer name_of answer.now))) (InHear (line thread rm)) (book_in self.old) (book_in self.new) n) }
-        ensures asked { result ≡ Err Refusals.LogFault → MakesRecord (map_call name_of call.now) (map_answer name_of answer.now) }
+            book_in self.new ≡ after (book_in self.old)
+            (Heard (line thread rm) c (map_answer name_of answer.now))) }
+        ensures err { (book_in self.old).up ≡ Bool.true →
+            IfErr result (λ n. (c : KnownCall) → accepted (map_call name_of call.now) ≡ Some c →
+            FailsBy (doubt_of (record_of c (map_answer name_of answer.now)))
+            (InHear (line thread rm)) (book_in self.old) (book_in self.new) n) }
+        ensures asked { result ≡ Err Refusals.LogFault →
+            MakesRecord (map_call name_of call.now) (map_answer name_of answer.now) }
         ensures tied { (near : Bool) → (L.moment (log_in self.old)).is_in_order →
             (L.moment (log_in self.new)).is_honest →
             IsTied near (book_in self.old) (L.moment (log_in self.old)).content →
             IsTied near (book_in self.new) (L.moment (log_in self.new)).content }
-        ensures kept { IfErr result (λ n. n ≢ Refusals.LogFault → log_in self.new ≡ log_in self.old) }
+        ensures kept { IfErr result
+            (λ n. n ≢ Refusals.LogFault → log_in self.new ≡ log_in self.old) }
         ensures asks { (c : KnownCall) → accepted (map_call name_of call.now) ≡ Some c →
             AsksFor (made (doubt_of (record_of c (map_answer name_of answer.now))))
             (L.moment (log_in self.old)) (L.moment (log_in self.new)) result }
@@ -81,17 +87,21 @@ impl<L: DecisionLog + Drop> Manager<L> {
         requires sound { IsSound (book_in self.old) }
         requires up { (book_in self.old).up ≡ Bool.true }
         requires fits { IsSome news.how → FitsRow b.gtrid }
-        ensures ok { OnOk result ((l : Line) (kind : Kind) (code : Code) → news ≡ news_by kind code →
+        ensures ok { OnOk result
+            ((l : Line) (kind : Kind) (code : Code) → news ≡ news_by kind code →
             book_in self.new ≡ after (book_in self.old) (Heard l (on kind b) (Ret code))) }
-        ensures err { IfErr result (λ n. (l : Line) (kind : Kind) (code : Code) → news ≡ news_by kind code →
-            FailsBy (doubt_of (record_of (on kind b) (Ret code))) (InHear l) (book_in self.old) (book_in self.new) n) }
+        ensures err { IfErr result
+            (λ n. (l : Line) (kind : Kind) (code : Code) → news ≡ news_by kind code →
+            FailsBy (doubt_of (record_of (on kind b) (Ret code))) (InHear l) (book_in self.old)
+            (book_in self.new) n) }
         ensures asked { result ≡ Err Refusals.LogFault → IsSome news.how }
         ensures tied { (near : Bool) → (L.moment (log_in self.old)).is_in_order →
             (L.moment (log_in self.new)).is_honest → (l : Line) (kind : Kind) (code : Code) →
             news ≡ news_by kind code →
             IsTied near (book_in self.old) (L.moment (log_in self.old)).content →
             IsTied near (book_in self.new) (L.moment (log_in self.new)).content }
-        ensures kept { IfErr result (λ n. n ≢ Refusals.LogFault → log_in self.new ≡ log_in self.old) }
+        ensures kept { IfErr result
+            (λ n. n ≢ Refusals.LogFault → log_in self.new ≡ log_in self.old) }
         ensures asks { AsksFor (made (recording b news.how))
             (L.moment (log_in self.old)) (L.moment (log_in self.new)) result }
     {

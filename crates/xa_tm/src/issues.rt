@@ -25,7 +25,8 @@ use xa_base::{Branch, Call, Refusal};
 impl Ledger {
     /// Whether a branch that was started on a line, since that last broke, isn't finished.
     fn has_unfinished(&self, thread: u32, rm: u32) -> bool
-        ensures { result ≡ list_any (is_unfinished (held self.now) (line thread rm)) (items (held self.now).known) }
+        ensures { result ≡ list_any (is_unfinished (held self.now) (line thread rm))
+            (items (held self.now).known) }
     {
         self.branches.iter().any(|(b, notes)| {
             notes.is_started
@@ -38,7 +39,8 @@ impl Ledger {
 
     /// The refusal of a call on a line, but for those that the line and the resource manager find.
     pub(crate) fn may_issue(&self, thread: u32, rm: u32, call: &Call) -> Option<Refusal>
-        ensures { result ≡ refusal_in (held self.now) (Steps.Issue thread rm (map_call name_of call.now)) }
+        ensures { result ≡ refusal_in (held self.now)
+            (Steps.Issue thread rm (map_call name_of call.now)) }
     {
         if thread >= self.threads || rm >= self.rms {
             return Some(Refusal::Limit);
@@ -91,7 +93,8 @@ impl Ledger {
     /// Notes a call that is issued: xa_start makes a branch, and xa_commit in one phase hands a transaction over.
     pub(crate) fn note_issued(&mut self, call: &Call) -> Result<(), AllocError>
         requires { IsSound (held self.old) }
-        ensures ok { OnOk result ((l : Line) (c : KnownCall) → accepted (map_call name_of call.now) ≡ Some c →
+        ensures ok { OnOk result
+            ((l : Line) (c : KnownCall) → accepted (map_call name_of call.now) ≡ Some c →
             held self.new ≡ after (held self.old) (Issued l c)) }
         ensures err { OnErr result (held self.new ≡ held self.old) }
     {
@@ -107,7 +110,8 @@ impl Ledger {
     /// The refusal of xa_close.
     fn may_close(&self, thread: u32, rm: u32) -> Option<Refusal>
         requires { self.now.is_up ≡ Bool.true }
-        ensures { result ≡ first_of (applies_in (held self.now) (Steps.Issue thread rm Calls.CloseRm)) manager_rules }
+        ensures { result ≡ first_of
+            (applies_in (held self.now) (Steps.Issue thread rm Calls.CloseRm)) manager_rules }
     {
         if self.has_unfinished(thread, rm) {
             return Some(Refusal::Busy);
@@ -118,8 +122,12 @@ impl Ledger {
     /// The refusal of xa_start.
     fn may_start(&self, thread: u32, rm: u32, b: Branch) -> Option<Refusal>
         requires { self.now.is_up ≡ Bool.true }
-        ensures start { result ≡ first_of (applies_in (held self.now) (Steps.Issue thread rm (Calls.Start (Ours b) false))) manager_rules }
-        ensures join { result ≡ first_of (applies_in (held self.now) (Steps.Issue thread rm (Calls.Start (Ours b) true))) manager_rules }
+        ensures start { result ≡ first_of
+            (applies_in (held self.now) (Steps.Issue thread rm (Calls.Start (Ours b) false)))
+            manager_rules }
+        ensures join { result ≡ first_of
+            (applies_in (held self.now) (Steps.Issue thread rm (Calls.Start (Ours b) true)))
+            manager_rules }
     {
         if !self.is_begun(b.gtrid) {
             return Some(Refusal::UnknownTransaction);
@@ -139,7 +147,9 @@ impl Ledger {
     /// The refusal of xa_end.
     fn may_end(&self, thread: u32, rm: u32, b: Branch) -> Option<Refusal>
         requires { self.now.is_up ≡ Bool.true }
-        ensures { (fail : Bool) → result ≡ first_of (applies_in (held self.now) (Steps.Issue thread rm (Calls.End (Ours b) fail))) manager_rules }
+        ensures { (fail : Bool) →
+            result ≡ first_of (applies_in (held self.now)
+            (Steps.Issue thread rm (Calls.End (Ours b) fail))) manager_rules }
     {
         if !self.is_begun(b.gtrid) {
             return Some(Refusal::UnknownTransaction);
@@ -153,7 +163,9 @@ impl Ledger {
     /// The refusal of xa_prepare.
     fn may_prepare(&self, thread: u32, rm: u32, b: Branch) -> Option<Refusal>
         requires { self.now.is_up ≡ Bool.true }
-        ensures { result ≡ first_of (applies_in (held self.now) (Steps.Issue thread rm (Calls.Prepare (Ours b)))) manager_rules }
+        ensures { result ≡ first_of
+            (applies_in (held self.now) (Steps.Issue thread rm (Calls.Prepare (Ours b))))
+            manager_rules }
     {
         if !self.is_begun(b.gtrid) {
             return Some(Refusal::UnknownTransaction);
@@ -170,7 +182,9 @@ impl Ledger {
     /// The refusal of xa_commit in one phase.
     fn may_hand_over(&self, thread: u32, rm: u32, b: Branch) -> Option<Refusal>
         requires { self.now.is_up ≡ Bool.true }
-        ensures { result ≡ first_of (applies_in (held self.now) (Steps.Issue thread rm (Calls.Commit (Ours b) true))) manager_rules }
+        ensures { result ≡ first_of
+            (applies_in (held self.now) (Steps.Issue thread rm (Calls.Commit (Ours b) true)))
+            manager_rules }
     {
         if let Some(refusal) = self.may_prepare(thread, rm, b) {
             return Some(refusal);
@@ -184,7 +198,9 @@ impl Ledger {
     /// The refusal of xa_commit in two phases.
     fn may_commit(&self, rm: u32, b: Branch) -> Option<Refusal>
         requires { self.now.is_up ≡ Bool.true }
-        ensures { (thread : _) → result ≡ first_of (applies_in (held self.now) (Steps.Issue thread rm (Calls.Commit (Ours b) false))) manager_rules }
+        ensures { (thread : _) →
+            result ≡ first_of (applies_in (held self.now)
+            (Steps.Issue thread rm (Calls.Commit (Ours b) false))) manager_rules }
     {
         if !self.is_begun(b.gtrid) && !self.is_outlived(b.gtrid) {
             return Some(Refusal::UnknownTransaction);
@@ -201,7 +217,9 @@ impl Ledger {
     /// The refusal of xa_rollback.
     fn may_roll_back(&self, rm: u32, b: Branch) -> Option<Refusal>
         requires { self.now.is_up ≡ Bool.true }
-        ensures { (thread : _) → result ≡ first_of (applies_in (held self.now) (Steps.Issue thread rm (Calls.Rollback (Ours b)))) manager_rules }
+        ensures { (thread : _) →
+            result ≡ first_of (applies_in (held self.now)
+            (Steps.Issue thread rm (Calls.Rollback (Ours b)))) manager_rules }
     {
         if !self.is_begun(b.gtrid) {
             return Some(Refusal::UnknownTransaction);
@@ -221,7 +239,9 @@ impl Ledger {
     /// The refusal of xa_forget.
     fn may_forget(&self, rm: u32, b: Branch) -> Option<Refusal>
         requires { self.now.is_up ≡ Bool.true }
-        ensures { (thread : _) → result ≡ first_of (applies_in (held self.now) (Steps.Issue thread rm (Calls.Forget (Ours b)))) manager_rules }
+        ensures { (thread : _) →
+            result ≡ first_of (applies_in (held self.now)
+            (Steps.Issue thread rm (Calls.Forget (Ours b)))) manager_rules }
     {
         if !self.is_begun(b.gtrid) {
             return Some(Refusal::UnknownTransaction);

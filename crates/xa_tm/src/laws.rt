@@ -138,7 +138,8 @@ pub fn crashes_leave_the_book<L: DecisionLog>()
     ensures restart { (near : Bool) (k : Book) (old new : L) → k.up ≡ false →
         IsTied near k (L.moment old).content →
         IsLeft near k (L.moment old).may_leave →
-        LeavesAlso with_bump (L.moment old).content (L.moment old).may_leave (L.moment new).may_leave →
+        LeavesAlso with_bump (L.moment old).content (L.moment old).may_leave
+        (L.moment new).may_leave →
         IsLeft near (book_after k Settled (Failed InRestart)) (L.moment new).may_leave }
     ensures crash { (near : Bool) (k : Book) (part : Crashing) (log : L) →
         IsLeft near k (L.moment log).may_leave →

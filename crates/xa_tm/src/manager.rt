@@ -41,7 +41,8 @@ impl<L: DecisionLog + Drop> Manager<L> {
     /// Begins a transaction of a thread.
     pub fn begin(&mut self, thread: u32) -> Result<Gtrid, Refusal>
         requires { IsSound (book_in self.old) }
-        ensures refused { (n : Refusal) → refusal_in (book_in self.old) (Steps.Begin thread) ≡ Some n →
+        ensures refused { (n : Refusal) →
+            refusal_in (book_in self.old) (Steps.Begin thread) ≡ Some n →
             (result ≡ Err n) × (self.new ≡ self.old) }
         ensures allowed { OnOk result (refusal_in (book_in self.old) (Steps.Begin thread) ≡ None) }
         ensures value { IfOk result (λ g. g ≡ record {
@@ -93,7 +94,8 @@ impl<L: DecisionLog + Drop> Manager<L> {
 
     /// The refusal of a call on a line, but for those that the line and the resource manager find.
     pub fn may_issue(&self, thread: u32, rm: u32, call: &Call) -> Option<Refusal>
-        ensures { result ≡ refusal_in (book_in self.now) (Steps.Issue thread rm (map_call name_of call.now)) }
+        ensures { result ≡ refusal_in (book_in self.now)
+            (Steps.Issue thread rm (map_call name_of call.now)) }
     {
         self.ledger.may_issue(thread, rm, call)
     }
@@ -103,7 +105,8 @@ impl<L: DecisionLog + Drop> Manager<L> {
         requires { IsSound (book_in self.old) }
         ensures ok { OnOk result ((c : KnownCall) → accepted (map_call name_of call.now) ≡ Some c →
             book_in self.new ≡ after (book_in self.old) (Issued (line thread rm) c)) }
-        ensures err { IfErr result (λ n. (n ≡ Refusals.Memory) × (book_in self.new ≡ book_in self.old)) }
+        ensures err { IfErr result
+            (λ n. (n ≡ Refusals.Memory) × (book_in self.new ≡ book_in self.old)) }
         ensures log { log_in self.new ≡ log_in self.old }
     {
         match self.ledger.note_issued(call) {
@@ -138,7 +141,8 @@ impl<L: DecisionLog + Drop> Manager<L> {
         ensures calls { IfOk result (λ calls.
             map waiting_call calls.items ≡ map Some (resolved_open_in (book_in self.old) rm)) }
         ensures ok { OnOk result (book_in self.new ≡ after (book_in self.old) (ResolvedOpen rm)) }
-        ensures err { IfErr result (λ n. (n ≡ Refusals.Memory) × (book_in self.new ≡ book_in self.old)) }
+        ensures err { IfErr result
+            (λ n. (n ≡ Refusals.Memory) × (book_in self.new ≡ book_in self.old)) }
         ensures log { log_in self.new ≡ log_in self.old }
         ensures tied { (near : Bool) (log : Option Content) →
             IsTied near (book_in self.old) log → IsTied near (book_in self.new) log }

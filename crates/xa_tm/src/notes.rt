@@ -147,14 +147,16 @@ impl Transaction {
 
     /// Neither claimed, committed nor handed over, so that it may be rolled back.
     pub(crate) fn is_open(self) -> bool
-        ensures { result ≡ not (self.is_claimed || (is_commit self.outcome || self.is_handed_over)) }
+        ensures { result ≡ not (self.is_claimed
+            || (is_commit self.outcome || self.is_handed_over)) }
     {
         !(self.is_claimed || matches!(self.outcome, Some(Outcome::Commit)) || self.is_handed_over)
     }
 
     /// Decided or handed over in this incarnation.
     pub(crate) fn is_over(self) -> bool
-        ensures { result ≡ (is_commit self.outcome || (is_rollback self.outcome || self.is_handed_over)) }
+        ensures { result ≡ (is_commit self.outcome
+            || (is_rollback self.outcome || self.is_handed_over)) }
     {
         self.outcome.is_some() || self.is_handed_over
     }
@@ -190,7 +192,8 @@ impl BranchNotes {
 
     /// It is settled: recorded, or by an answer of its own.
     pub(crate) fn is_settled(self) -> bool
-        ensures { result ≡ (is_some self.recorded || (self.said_read_only || self.is_acknowledged)) }
+        ensures { result ≡ (is_some self.recorded
+            || (self.said_read_only || self.is_acknowledged)) }
     {
         self.recorded.is_some() || self.said_read_only || self.is_acknowledged
     }
@@ -211,14 +214,16 @@ impl BranchNotes {
 
     /// It has still to be settled.
     pub(crate) fn is_unsettled(self) -> bool
-        ensures { result ≡ (self.is_started && not (is_some self.recorded || (self.said_read_only || self.is_acknowledged))) }
+        ensures { result ≡ (self.is_started
+            && not (is_some self.recorded || (self.said_read_only || self.is_acknowledged))) }
     {
         self.is_started && !self.is_settled()
     }
 
     /// The news are its first vote for commit.
     pub(crate) fn first_votes(self, news: News) -> bool
-        ensures { result ≡ ((news.says_yes || news.says_read_only) && (self.is_started && not (self.said_yes || self.said_read_only))) }
+        ensures { result ≡ ((news.says_yes || news.says_read_only)
+            && (self.is_started && not (self.said_yes || self.said_read_only))) }
     {
         news.votes() && self.lacks_vote()
     }
@@ -226,7 +231,8 @@ impl BranchNotes {
     /// The news settle it first.
     pub(crate) fn first_settles(self, news: News) -> bool
         ensures { result ≡ ((is_some news.how || (news.says_read_only || news.acknowledges))
-            && (self.is_started && not (is_some self.recorded || (self.said_read_only || self.is_acknowledged)))) }
+            && (self.is_started && not
+            (is_some self.recorded || (self.said_read_only || self.is_acknowledged)))) }
     {
         news.settles() && self.is_unsettled()
     }

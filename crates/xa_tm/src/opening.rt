@@ -34,7 +34,8 @@ fn reserve_all(map: &mut BTreeMap<Gtrid, Transaction>, gtrids: &[Gtrid]) -> Resu
 fn roll_back(map: &mut BTreeMap<Gtrid, Transaction>, g: Gtrid)
     requires { IsSome (get gtrid_cmp map.old g) }
     ensures at { (q : _) → transaction_at map.new q ≡
-        (if gtrid_eq g q then rolled_back (transaction_at map.old q) else transaction_at map.old q) }
+        (if gtrid_eq g q then rolled_back (transaction_at map.old q)
+        else transaction_at map.old q) }
     ensures kept { HasKept map.old map.new }
 {
     let transaction = map.get(&g).copied().unwrap_or(Transaction::NEW);
@@ -44,7 +45,8 @@ fn roll_back(map: &mut BTreeMap<Gtrid, Transaction>, g: Gtrid)
 /// Rolls these transactions back.
 fn roll_back_all(map: &mut BTreeMap<Gtrid, Transaction>, gtrids: &[Gtrid])
     requires { HaveRoom map.old gtrids.now }
-    ensures { (q : _) → transaction_at map.new q ≡ rolled_back_by gtrids.now q (transaction_at map.old q) }
+    ensures { (q : _) → transaction_at map.new q
+        ≡ rolled_back_by gtrids.now q (transaction_at map.old q) }
 {
     for g in gtrids {
         roll_back(map, *g);

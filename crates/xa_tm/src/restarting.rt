@@ -63,7 +63,8 @@ impl Ledger {
     /// How many records there are with one of this branch.
     fn with_record(&self, b: Branch) -> u64
         requires { self.now.records < 2 ^ 64 - 1 }
-        ensures { result ≡ (if is_some ((held self.now).recorded b) then self.now.records else self.now.records + 1) }
+        ensures { result ≡ (if is_some ((held self.now).recorded b) then self.now.records
+            else self.now.records + 1) }
     {
         if self.branch(b).recorded.is_some() {
             self.records
@@ -84,7 +85,8 @@ impl Ledger {
     /// Whether the log may have so many rows: those of the book, without or with the change in doubt.
     fn may_have_rows(&self, rows: u64) -> bool
         requires { self.now.row_count < 2 ^ 64 - 1 }
-        ensures { result ≡ (nat_eq rows self.now.row_count || nat_eq rows (rows_of (held self.now).doubt self.now.row_count)) }
+        ensures { result ≡ (nat_eq rows self.now.row_count
+            || nat_eq rows (rows_of (held self.now).doubt self.now.row_count)) }
     {
         rows == self.row_count || rows == self.rows_if_made()
     }
@@ -116,7 +118,8 @@ impl Ledger {
         requires rows { self.old.row_count < 2 ^ 64 - 1 }
         requires records { self.old.records < 2 ^ 64 - 1 }
         ensures value { result ≡ may_find (held self.old) incarnation rows records }
-        ensures up { result ≡ Bool.true → held self.new ≡ after (held self.old) (Restarted incarnation rows records) }
+        ensures up { result ≡ Bool.true →
+            held self.new ≡ after (held self.old) (Restarted incarnation rows records) }
         ensures down { result ≡ Bool.false → (asked : Doubt) →
             held self.new ≡ book_after (held self.old) asked (Failed InRestart) }
     {
@@ -157,7 +160,8 @@ impl Ledger {
         requires { IsSome (get gtrid_cmp self.old.rows g) }
         ensures others { self.new ≡ record self.old { rows = self.new.rows } }
         ensures rows { (q : _) → row_at self.new.rows q ≡
-            (if is_made then (if gtrid_eq g q then option_map waiting_of row else row_at self.old.rows q) else row_at self.old.rows q) }
+            (if is_made then (if gtrid_eq g q then option_map waiting_of row
+            else row_at self.old.rows q) else row_at self.old.rows q) }
     {
         if is_made {
             set_row(&mut self.rows, g, row);
@@ -169,7 +173,8 @@ impl Ledger {
         requires { HasBranch self.old b }
         ensures others { self.new ≡ record self.old { branches = self.new.branches } }
         ensures notes { (q : _) → notes_at self.new.branches q ≡
-            (if is_made then (if branch_eq b q then found_ended how (notes_at self.old.branches b) else notes_at self.old.branches q) else notes_at self.old.branches q) }
+            (if is_made then (if branch_eq b q then found_ended how (notes_at self.old.branches b)
+            else notes_at self.old.branches q) else notes_at self.old.branches q) }
         ensures known { known_in self.new.branches ≡ known_in self.old.branches }
     {
         if is_made {
@@ -194,7 +199,9 @@ impl Ledger {
     /// No acknowledgement was heard lately.
     fn forget_acknowledgements(&mut self)
         ensures others { self.new ≡ record self.old { branches = self.new.branches } }
-        ensures notes { (q : _) → notes_at self.new.branches q ≡ record (notes_at self.old.branches q) { is_acknowledged_lately = Bool.false } }
+        ensures notes { (q : _) →
+            notes_at self.new.branches q
+            ≡ record (notes_at self.old.branches q) { is_acknowledged_lately = Bool.false } }
         ensures known { known_in self.new.branches ≡ known_in self.old.branches }
     {
         // Keeps each entry, as above.
@@ -208,7 +215,8 @@ impl Ledger {
     pub(crate) fn fail_restart(&mut self)
         requires down { self.old.is_up ≡ Bool.false }
         requires room { self.old.failed_restarts < 2 ^ 64 - 1 }
-        ensures { (asked : Doubt) → held self.new ≡ book_after (held self.old) asked (Failed InRestart) }
+        ensures { (asked : Doubt) →
+            held self.new ≡ book_after (held self.old) asked (Failed InRestart) }
     {
         self.failed_restarts += 1;
     }

@@ -71,7 +71,8 @@ pub(crate) fn set_branch(map: &mut BTreeMap<Branch, BranchNotes>, b: Branch, not
         (if branch_eq b q then notes else notes_at map.old q) }
     ensures known { known_in map.new ≡
         (if notes.is_started then insert (known_in map.old) b else known_in map.old) }
-    ensures same_known { notes.is_started ≡ (notes_at map.old b).is_started → known_in map.new ≡ known_in map.old }
+    ensures same_known { notes.is_started ≡ (notes_at map.old b).is_started →
+        known_in map.new ≡ known_in map.old }
 {
     let done: Result<_, _> = map.insert(b, notes);
     done.unwrap();
@@ -101,7 +102,8 @@ pub(crate) fn set_row(
     row: Option<Vec<Branch>>,
 )
     requires { IsSome (get gtrid_cmp map.old g) }
-    ensures { (q : _) → row_at map.new q ≡ (if gtrid_eq g q then option_map waiting_of row else row_at map.old q) }
+    ensures { (q : _) → row_at map.new q
+        ≡ (if gtrid_eq g q then option_map waiting_of row else row_at map.old q) }
 {
     let done: Result<_, _> = map.insert(g, row);
     done.unwrap();

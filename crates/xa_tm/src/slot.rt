@@ -80,12 +80,15 @@ impl<L: DecisionLog + Drop> DecisionLog for Slot<L> {
     ghost says = { λ call change old new fault. says_in L.says call change old.log new.log fault };
 
     ghost durable = { λ it c d order is left. durable_in (λ l. (L.moment l).content)
-        (λ l. (L.moment l).is_in_order) (λ l. (L.moment l).may_leave) L.durable it.log it.was.value c d order is left };
+        (λ l. (L.moment l).is_in_order)
+        (λ l. (L.moment l).may_leave) L.durable it.log it.was.value c d order is left };
 
-    ghost own = { λ it c order is. own_in (λ l. (L.moment l).content) (λ l. (L.moment l).is_in_order)
+    ghost own = { λ it c order is.
+        own_in (λ l. (L.moment l).content) (λ l. (L.moment l).is_in_order)
         L.own it.log c order is };
 
-    ghost fits = { λ it c order is. fits_in (λ l. (L.moment l).content) (λ l. (L.moment l).is_in_order)
+    ghost fits = { λ it c order is.
+        fits_in (λ l. (L.moment l).content) (λ l. (L.moment l).is_in_order)
         L.fits it.log c order is };
 
     fn commit(&mut self, g: Gtrid, participants: &[Branch]) -> Result<Logged, LogFault> {

@@ -40,7 +40,8 @@ impl<L: DecisionLog + Drop> Manager<L> {
     pub fn new(alloc: Global, threads: u32, rms: u32, mut log: L) -> Result<Manager<L>, StartFault>
         ensures book { (L.moment log).is_in_order →
             IfOk result (λ m. (L.moment (log_in m)).is_honest →
-            IsSomeAnd (L.moment (log_in m)).content (λ c. book_in m ≡ book_at_start threads rms c)) }
+            IsSomeAnd (L.moment (log_in m)).content
+            (λ c. book_in m ≡ book_at_start threads rms c)) }
         ensures raised { (L.moment log).is_in_order →
             IfOk result (λ m. (L.moment (log_in m)).is_honest →
             Makes with_bump (L.moment log).content (L.moment (log_in m)).content) }
@@ -49,7 +50,8 @@ impl<L: DecisionLog + Drop> Manager<L> {
             IsTied near (book_in m) (L.moment (log_in m)).content) }
         ensures sound { IfOk result (λ m. IsSound (book_in m)) }
         ensures old { IfOk result (λ m. IsOld (book_in m)) }
-        ensures start { IfOk result (λ m. (o : Origin) → BeginsWith threads rms m o → book_in m ≡ book_of (From o)) }
+        ensures start { IfOk result
+            (λ m. (o : Origin) → BeginsWith threads rms m o → book_in m ≡ book_of (From o)) }
         ensures apart { IfOk result (λ m. ApartRows (rows_begun m)) }
         ensures room { IfOk result (λ m. HasRoomForRun (book_in m)) }
         ensures order { (L.moment log).is_in_order →
@@ -66,7 +68,8 @@ impl<L: DecisionLog + Drop> Manager<L> {
             (L.moment log).fault_count) ⊎
             (((L.moment left).fault_count ≡
             (L.moment log).fault_count) × ((L.moment log).is_in_order → (L.moment left).is_honest →
-            IsSomeAnd (L.moment log).content (λ c. ¬ IsPast c) × Makes with_bump (L.moment log).content
+            IsSomeAnd (L.moment log).content (λ c. ¬ IsPast c) ×
+            Makes with_bump (L.moment log).content
             (L.moment left).content)))) }
         ensures memory_fault { result ≡ Err StartFault.Memory →
             ((left : L) × (((L.moment left).fault_count ≡ (L.moment log).fault_count) ×

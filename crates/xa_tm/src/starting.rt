@@ -39,7 +39,9 @@ fn put_row(
     g: Gtrid,
     participants: Vec<Branch>,
 ) -> Result<(), AllocError>
-    ensures { OnOk result ((q : _) → row_at rows.new q ≡ (if gtrid_eq g q then Some (waiting_of participants) else row_at rows.old q)) }
+    ensures { OnOk result ((q : _) →
+        row_at rows.new q ≡ (if gtrid_eq g q then Some (waiting_of participants)
+        else row_at rows.old q)) }
 {
     match rows.insert(g, Some(participants)) {
         Ok(_) => Ok(()),
@@ -53,7 +55,8 @@ fn load_rows(
     decisions: &[Gtrid],
     participants: &[Branch],
 ) -> Result<BTreeMap<Gtrid, Option<Vec<Branch>>>, AllocError>
-    ensures { IfOk result (λ rows. (q : _) → row_at rows q ≡ loaded decisions.now participants.now q) }
+    ensures { IfOk result (λ rows. (q : _) →
+        row_at rows q ≡ loaded decisions.now participants.now q) }
 {
     let mut rows = BTreeMap::new(alloc);
     let mut rest = participants;
@@ -73,7 +76,8 @@ fn put_record(
 ) -> Result<(), AllocError>
     requires { AreUnstarted branches.old }
     ensures notes { OnOk result ((q : _) → notes_at branches.new q ≡
-        (if branch_eq b q then record no_branch { recorded = Some how } else notes_at branches.old q)) }
+        (if branch_eq b q then record no_branch { recorded = Some how }
+        else notes_at branches.old q)) }
     ensures known { OnOk result (known_in branches.new ≡ known_in branches.old) }
 {
     reserve_branch(branches, b)?;
@@ -93,7 +97,9 @@ fn load_records(
     alloc: Global,
     ends: &[(Branch, How)],
 ) -> Result<BTreeMap<Branch, BranchNotes>, AllocError>
-    ensures notes { IfOk result (λ branches. (q : _) → notes_at branches q ≡ record no_branch { recorded = ended_among ends.now q }) }
+    ensures notes { IfOk result
+        (λ branches. (q : _) → notes_at branches q
+        ≡ record no_branch { recorded = ended_among ends.now q }) }
     ensures known { IfOk result (λ branches. known_in branches ≡ from_list []) }
 {
     let mut branches = BTreeMap::new(alloc);
@@ -112,7 +118,8 @@ impl Ledger {
         rows: &LogRows,
     ) -> Result<Ledger, AllocError>
         ensures { IfOk result (λ book. held book ≡ start_book threads rms 0
-            (loaded rows.now.decisions.items rows.now.participants.items) (length rows.now.decisions.items)
+            (loaded rows.now.decisions.items rows.now.participants.items)
+            (length rows.now.decisions.items)
             (ended_among rows.now.heuristics.items) (length rows.now.heuristics.items)) }
     {
         let loaded = load_rows(
@@ -144,7 +151,8 @@ impl Ledger {
 /// Whether all rows and records are of earlier incarnations, and their numbers fit.
 pub(crate) fn are_old(rows: &LogRows, incarnation: u64) -> bool
     ensures { result ≡ (list_all (fits_before incarnation) rows.now.decisions.items &&
-        list_all (λ (e : Named × End). fits_before incarnation e.0.gtrid) rows.now.heuristics.items) }
+        list_all (λ (e : Named × End). fits_before incarnation e.0.gtrid)
+        rows.now.heuristics.items) }
 {
     are_rows_old(rows.decisions.as_slice(), incarnation)
         && are_records_old(rows.heuristics.as_slice(), incarnation)

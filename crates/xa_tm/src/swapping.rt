@@ -35,7 +35,8 @@ impl<L: DecisionLog + Drop> Manager<Slot<L>> {
     /// Takes the log out, where the manager is down and holds one. Until another is put in, a restart is refused.
     pub fn take_log(&mut self) -> Option<L>
         ensures up { (book_in self.old).up ≡ Bool.true → (result ≡ None) × (self.new ≡ self.old) }
-        ensures empty { log_held (log_in self.old) ≡ None → (result ≡ None) × (self.new ≡ self.old) }
+        ensures empty { log_held (log_in self.old) ≡ None → (result ≡ None) ×
+            (self.new ≡ self.old) }
         ensures taken { (book_in self.old).up ≡ Bool.false → result ≡ log_held (log_in self.old) }
         ensures out { (book_in self.old).up ≡ Bool.false → log_held (log_in self.new) ≡ None }
         ensures was { (log : L) → result ≡ Some log → last_out (log_in self.new) ≡ log }
@@ -55,8 +56,10 @@ impl<L: DecisionLog + Drop> Manager<Slot<L>> {
     /// - [`SwapFault::Log`]: the log failed for another cause;
     /// - [`SwapFault::OtherRows`]: its rows and records are others.
     pub fn give_log(&mut self, mut log: L) -> Result<(), (SwapFault, L)>
-        ensures up { (book_in self.old).up ≡ Bool.true → (result ≡ Err (SwapFault.Up, log)) × (self.new ≡ self.old) }
-        ensures held { IsSome (log_held (log_in self.old)) → (result ≡ Err (SwapFault.Up, log)) × (self.new ≡ self.old) }
+        ensures up { (book_in self.old).up ≡ Bool.true → (result ≡ Err (SwapFault.Up, log)) ×
+            (self.new ≡ self.old) }
+        ensures held { IsSome (log_held (log_in self.old)) → (result ≡ Err (SwapFault.Up, log)) ×
+            (self.new ≡ self.old) }
         ensures only_up { IfErr result (λ e. e.0 ≡ SwapFault.Up →
             ((book_in self.old).up ≡ Bool.true) ⊎ IsSome (log_held (log_in self.old))) }
         ensures err { OnErr result (self.new ≡ self.old) }
@@ -65,13 +68,15 @@ impl<L: DecisionLog + Drop> Manager<Slot<L>> {
             (L.moment e.1).fault_count ≡ one_more_fault (L.moment log).fault_count) }
         ensures other_rows { IfErr result (λ e. e.0 ≡ SwapFault.OtherRows →
             (L.moment e.1).fault_count ≡ (L.moment log).fault_count) }
-        ensures only_other_rows { IfErr result (λ e. e.0 ≡ SwapFault.OtherRows → (L.moment log).is_in_order →
+        ensures only_other_rows { IfErr result
+            (λ e. e.0 ≡ SwapFault.OtherRows → (L.moment log).is_in_order →
             (L.moment e.1).is_honest → (c : Content) → (L.moment log).content ≡ Some c →
             MayHold (book_in self.old) c → ⊥) }
         ensures ok { OnOk result (TakesIn L.DecisionLog log (log_held (log_in self.new))) }
         ensures may_hold { OnOk result ((L.moment log).is_in_order →
             (slot_moment L.moment (log_in self.new)).is_honest →
-            IsSomeAnd (slot_moment L.moment (log_in self.new)).content (MayHold (book_in self.new))) }
+            IsSomeAnd (slot_moment L.moment (log_in self.new)).content
+            (MayHold (book_in self.new))) }
         ensures book { book_in self.new ≡ book_in self.old }
     {
         if self.ledger.is_up || self.log.is_held() {

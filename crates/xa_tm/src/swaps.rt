@@ -1,6 +1,6 @@
 //! Whether the rows of a log that is put in are those of the book.
 
-ghost use Rattle.std.specs.Prelude.{◌≡◌, ◌&&◌, ◌||◌, length, IfOk};
+ghost use Rattle.std.specs.Prelude.{◌≡◌, ◌&&◌, ◌||◌, IfOk};
 ghost use Rattle.xa_tm.specs.Held.{notes_at};
 ghost use Rattle.xa_tm.specs.Swaps.{agrees, change_agrees, counts_agree, end_agrees, end_agrees_with, ends_agree};
 ghost use Rattle.xa_tm.specs.Swaps.{are_among, is_among, is_how, kept_row, names_just, records_agree_with, same_branches, row_agrees, row_agrees_with};
@@ -61,7 +61,8 @@ impl Ledger {
 
     /// Whether a branch is recorded the same here and there, or not at all.
     fn has_same_end(&self, read: &Ledger, b: Branch) -> bool
-        ensures { result ≡ same_how (notes_at self.now.branches b).recorded (notes_at read.now.branches b).recorded }
+        ensures { result ≡ same_how (notes_at self.now.branches b).recorded
+            (notes_at read.now.branches b).recorded }
     {
         match read.branch(b).recorded {
             Some(how) => is_how(self.branch(b).recorded, how),
@@ -71,7 +72,8 @@ impl Ledger {
 
     /// The same, with the change in doubt.
     fn has_changed_end(&self, read: &Ledger, b: Branch) -> bool
-        ensures { result ≡ end_agrees_with self.now.doubt (notes_at self.now.branches b).recorded (notes_at read.now.branches b).recorded b }
+        ensures { result ≡ end_agrees_with self.now.doubt (notes_at self.now.branches b).recorded
+            (notes_at read.now.branches b).recorded b }
     {
         match &self.doubt {
             Change::AddRecord(c, how) if *c == b => {

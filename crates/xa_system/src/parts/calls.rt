@@ -14,7 +14,8 @@ impl<R: ResourceManager + Drop, L: DecisionLog + Drop> Parts<R, L> {
     /// A call is issued on a line. The reasons to refuse it are looked for in their order, at the line and at the
     /// manager.
     pub(super) fn issue(&mut self, thread: u32, rm: u32, call: &Call) -> Twin
-        requires stands { StandsSomewhere (sees R.held_of R.scan_of R.in_doubt_of L.moment) self.old }
+        requires stands { StandsSomewhere
+            (sees R.held_of R.scan_of R.in_doubt_of L.moment) self.old }
         requires has_xid { CallHasXid call.now }
         ensures { GoesOn (sees R.held_of R.scan_of R.in_doubt_of L.moment)
             (Steps.Issue thread rm call.now) result self.old self.new }

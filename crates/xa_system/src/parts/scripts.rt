@@ -45,7 +45,8 @@ impl<R: ResourceManager + Drop, L: DecisionLog + Drop> Parts<R, L> {
 
     /// A resource manager is told how to vote.
     pub(super) fn vote(&mut self, rm: u32, xid: &Xid, vote: Vote) -> Twin
-        requires stands { StandsSomewhere (sees R.held_of R.scan_of R.in_doubt_of L.moment) self.old }
+        requires stands { StandsSomewhere
+            (sees R.held_of R.scan_of R.in_doubt_of L.moment) self.old }
         requires has_xid { IsXid xid.now }
         ensures { GoesOn (sees R.held_of R.scan_of R.in_doubt_of L.moment)
             (Steps.Vote rm xid.now vote) result self.old self.new }
@@ -58,7 +59,8 @@ impl<R: ResourceManager + Drop, L: DecisionLog + Drop> Parts<R, L> {
 
     /// A resource manager is told how many commits to put off.
     pub(super) fn busy(&mut self, rm: u32, xid: &Xid, times: u32) -> Twin
-        requires stands { StandsSomewhere (sees R.held_of R.scan_of R.in_doubt_of L.moment) self.old }
+        requires stands { StandsSomewhere
+            (sees R.held_of R.scan_of R.in_doubt_of L.moment) self.old }
         requires has_xid { IsXid xid.now }
         ensures { GoesOn (sees R.held_of R.scan_of R.in_doubt_of L.moment)
             (Steps.Busy rm xid.now times) result self.old self.new }
@@ -71,7 +73,8 @@ impl<R: ResourceManager + Drop, L: DecisionLog + Drop> Parts<R, L> {
 
     /// A resource manager ends a prepared branch by itself.
     pub(super) fn heuristic(&mut self, rm: u32, xid: &Xid, how: How) -> Twin
-        requires stands { StandsSomewhere (sees R.held_of R.scan_of R.in_doubt_of L.moment) self.old }
+        requires stands { StandsSomewhere
+            (sees R.held_of R.scan_of R.in_doubt_of L.moment) self.old }
         requires has_xid { IsXid xid.now }
         ensures { GoesOn (sees R.held_of R.scan_of R.in_doubt_of L.moment)
             (Steps.Heuristic rm xid.now how) result self.old self.new }

@@ -13,7 +13,8 @@ returns-clause-fault g c = λ near k asked f old new up same order tied leaves.
 
 pub returns-clause-restart : goal.returns-clause-restart
 returns-clause-restart g c = λ near k old new down tied was leaves.
-    left_by_a_restart near k (g.L.DecisionLog.moment old).content (g.L.DecisionLog.moment old).may_leave (g.L.DecisionLog.moment new).may_leave down tied was leaves
+    left_by_a_restart near k (g.L.DecisionLog.moment old).content (g.L.DecisionLog.moment old).may_leave
+    (g.L.DecisionLog.moment new).may_leave down tied was leaves
 
 pub returns-clause-crash : goal.returns-clause-crash
 returns-clause-crash g c = λ near k part log was. left_by_a_crash near k part (g.L.DecisionLog.moment log).may_leave was

@@ -8,7 +8,8 @@ loop-g-preserved c =
     let i = c.loop-g.g-index in
     let low : i < length gs = omega arith in (
       λ q. c.in_ok-reserve_transaction.ensures.same q ∙ c.loop-g.invariant.0 q,
-      room_more gs i _ c.loop-g.map c.reserve_transaction.new.map low c.in_ok-reserve_transaction.ensures.kept c.in_ok-reserve_transaction.ensures.room c.loop-g.invariant.1,
+      room_more gs i _ c.loop-g.map c.reserve_transaction.new.map low c.in_ok-reserve_transaction.ensures.kept c.in_ok-reserve_transaction.ensures.room
+          c.loop-g.invariant.1,
     )
 
 pub returns-clause-room : goal.returns-clause-room

@@ -5,7 +5,8 @@ pub returns-clause-known : goal.returns-clause-known
 returns-clause-known c =
     known_written c.args.map.now c.insert-done.new.self c.args.b c.args.notes c.insert-done.ensures.was_ordered c.insert-done.ensures.ordered c.requires.started
     (written_branch c.args.map.now c.insert-done.new.self c.args.b c.args.notes
-    (inserted c.insert-done.result c.args.map.now c.insert-done.new.self c.args.b c.args.notes c.insert-done.ensures.updates c.insert-done.ensures.absent c.requires.room))
+    (inserted c.insert-done.result c.args.map.now c.insert-done.new.self c.args.b c.args.notes c.insert-done.ensures.updates c.insert-done.ensures.absent
+    c.requires.room))
 
 pub returns-clause-same_known : goal.returns-clause-same_known
 returns-clause-same_known c = λ stays.

@@ -8,7 +8,7 @@ use Rattle.xa_base.specs.declared.refusal.Refusal.{Refusal}
 use Rattle.xa_system.proofs.Logging.{log_done}
 use Rattle.xa_system.specs.Parts.{Sees, sees}
 use Rattle.xa_system.proofs.Managing.{err_is, sound_book}
-use Rattle.xa_system.proofs.ResolveLeads.{restart_did, restart_undone}
+use Rattle.xa_system.proofs.RestartLeads.{restart_did, restart_undone}
 use Rattle.xa_tm.specs.declared.coming_up.Found.{Found}
 use Rattle.xa_system.proofs.parts.Parts.restart_manager.Goals as goal
 

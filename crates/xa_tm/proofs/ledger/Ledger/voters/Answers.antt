@@ -28,7 +28,8 @@ returns-clause-all c =
     (YieldsList-at c.filter.ensures.source (YieldsList-from_rest c.range.result refl)) c.filter.ensures.closure (λ x b q k. search (rules, tests))))
     c.map.ensures.closure (λ x r q k. search rules)) in
     let same : filter voted c.range.result ≡ chosen = ap (filter voted) (c.range.ensures.between tt)
-    ∙ in_turn (λ (e : Branch × BranchNotes). range_contains branch_cmp (Included (record { gtrid = g; thread = 0; rm = 0 })) (Excluded (record { gtrid = record g { sequence = g.sequence + 1 }; thread = 0; rm = 0 })) e.0)
+    ∙ in_turn (λ (e : Branch × BranchNotes). range_contains branch_cmp (Included (record { gtrid = g; thread = 0; rm = 0 }))
+    (Excluded (record { gtrid = record g { sequence = g.sequence + 1 }; thread = 0; rm = 0 })) e.0)
     (λ (e : Branch × BranchNotes). gtrid_eq e.0.gtrid g) voted (λ e. within g e.0) m.entries in
     IfOk-weaker c.collect.result (λ w. vec_items w ≡ map (λ (e : Branch × BranchNotes). e.0) (filter voted c.range.result)) _
     (λ w is. voters_are m g (vec_items w) c.range.ensures.ordered (is ∙ ap (map (λ (e : Branch × BranchNotes). e.0)) same)) run
@@ -46,7 +47,8 @@ returns-clause-own c =
     (YieldsList-at c.filter.ensures.source (YieldsList-from_rest c.range.result refl)) c.filter.ensures.closure (λ x b q k. search (rules, tests))))
     c.map.ensures.closure (λ x r q k. search rules)) in
     let same : filter voted c.range.result ≡ chosen = ap (filter voted) (c.range.ensures.between tt)
-    ∙ in_turn (λ (e : Branch × BranchNotes). range_contains branch_cmp (Included (record { gtrid = g; thread = 0; rm = 0 })) (Excluded (record { gtrid = record g { sequence = g.sequence + 1 }; thread = 0; rm = 0 })) e.0)
+    ∙ in_turn (λ (e : Branch × BranchNotes). range_contains branch_cmp (Included (record { gtrid = g; thread = 0; rm = 0 }))
+    (Excluded (record { gtrid = record g { sequence = g.sequence + 1 }; thread = 0; rm = 0 })) e.0)
     (λ (e : Branch × BranchNotes). gtrid_eq e.0.gtrid g) voted (λ e. within g e.0) m.entries in
     IfOk-weaker c.collect.result (λ w. vec_items w ≡ map (λ (e : Branch × BranchNotes). e.0) (filter voted c.range.result)) _
     (λ w is. own_listed g m.entries (vec_items w) (is ∙ ap (map (λ (e : Branch × BranchNotes). e.0)) same)) run

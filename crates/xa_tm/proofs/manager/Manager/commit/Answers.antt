@@ -36,7 +36,8 @@ returns-in-Ok-commit-clause-tied g c = λ near order honest tied.
     let none = c.requires.sound.no_row c.args.g c.requires.open.begun c.requires.open.uncommitted in
     let new = (g.L.DecisionLog.moment c.commit.new.self).content in
     subst (λ b. IsTied near b new) (sym (c.commit-in-Ok-commit.ensures ∙ ap (λ b. after b (Decided c.args.g Outcomes.Commit)) c.prepare_row.ensures.book))
-    (tied_commit near k c.args.g (from_list c.as_slice.result.now) (g.L.DecisionLog.moment c.args.self.now.log).content new c.requires.open.up none c.requires.yes
+    (tied_commit near k c.args.g (from_list c.as_slice.result.now)
+    (g.L.DecisionLog.moment c.args.self.now.log).content new c.requires.open.up none c.requires.yes
     (ap from_list c.as_slice.ensures.value ∙ c.in-Ok.ensures.all) (c.in-Ok-commit.ensures.changes.ok order honest) tied)
 
 pub returns-in-Err-commit-clause-err : goal.returns-in-Err-commit-clause-err

@@ -47,7 +47,8 @@ returns-then-can_start-clause-sound g c =
     (length rows.decisions.items) (ended_among rows.heuristics.items) (length rows.heuristics.items) c.in-Ok-load.ensures in
     let some : length rows.decisions.items < 2 ^ 64 - 1 = omega arith in
     let few : length rows.heuristics.items < 2 ^ 64 - 1 = omega arith in
-    subst IsSound (sym is) (start_sound c.args.threads c.args.rms i rows.decisions.items rows.participants.items rows.heuristics.items some few c.in-Ok-bump.ensures.most
+    subst IsSound (sym is) (start_sound c.args.threads c.args.rms i rows.decisions.items rows.participants.items rows.heuristics.items some few
+    c.in-Ok-bump.ensures.most
     (and_parts (list_all (fits_before i) rows.decisions.items)
     (list_all (λ (e : Branch × How). fits_before i e.0.gtrid) rows.heuristics.items) (and_parts _ _ (sym c.can_start.ensures ∙ c.if-can_start.true)).0).0)
 
@@ -58,7 +59,8 @@ returns-then-can_start-clause-old g c =
     let is =
     in_incarnation c.in-Ok-load.ledger i c.args.threads c.args.rms (loaded rows.decisions.items rows.participants.items)
     (length rows.decisions.items) (ended_among rows.heuristics.items) (length rows.heuristics.items) c.in-Ok-load.ensures in
-    subst IsOld (sym is) (start_old c.args.threads c.args.rms i rows.decisions.items rows.participants.items rows.heuristics.items (and_parts _ _ (sym c.can_start.ensures ∙ c.if-can_start.true)).0)
+    subst IsOld (sym is) (start_old c.args.threads c.args.rms i rows.decisions.items rows.participants.items rows.heuristics.items
+    (and_parts _ _ (sym c.can_start.ensures ∙ c.if-can_start.true)).0)
 
 pub returns-then-can_start-clause-start : goal.returns-then-can_start-clause-start
 returns-then-can_start-clause-start g c o with =
@@ -68,7 +70,8 @@ returns-then-can_start-clause-start g c o with =
     in_incarnation c.in-Ok-load.ledger i c.args.threads c.args.rms (loaded rows.decisions.items rows.participants.items)
     (length rows.decisions.items) (ended_among rows.heuristics.items) (length rows.heuristics.items) c.in-Ok-load.ensures in
     let up = and_parts _ _ (and_parts _ _ (sym c.can_start.ensures ∙ c.if-can_start.true)).1 in
-    is ∙ begun_book c.args.threads c.args.rms i rows.decisions.items rows.participants.items rows.heuristics.items o up.0 up.1 with.threads_are with.rms_are with.incarnation
+    is ∙ begun_book c.args.threads c.args.rms i rows.decisions.items rows.participants.items rows.heuristics.items o up.0 up.1 with.threads_are with.rms_are
+    with.incarnation
     (with.rows ∙ ap (λ (r : LogRows). rows_listed r.decisions.items r.participants.items) c.of-began.ensures)
     (with.records ∙ ap (λ (r : LogRows). records_listed r.heuristics.items) c.of-began.ensures)
 
@@ -84,7 +87,10 @@ returns-then-can_start-clause-room g c =
     let rows = c.in-Ok.rows in
     let some : length rows.decisions.items ≤ last_number = omega arith in
     let few : length rows.heuristics.items ≤ last_number = omega arith in
-    record { rows = subst (λ n. n ≤ last_number) (sym (ap (λ (k : Book). k.rows) c.in-Ok-load.ensures)) some; records = subst (λ n. n ≤ last_number) (sym (ap (λ (k : Book). k.records) c.in-Ok-load.ensures)) few }
+    record {
+      rows = subst (λ n. n ≤ last_number) (sym (ap (λ (k : Book). k.rows) c.in-Ok-load.ensures)) some;
+      records = subst (λ n. n ≤ last_number) (sym (ap (λ (k : Book). k.records) c.in-Ok-load.ensures)) few;
+    }
 
 -- ** the faults
 

@@ -11,7 +11,8 @@ returns-then-try_restart-clause-tied g c = λ near order honest tied.
     let k = held c.args.self.now.ledger in
     let f = c.in-Ok-find_and_raise.found in
     let new = (g.L.DecisionLog.moment c.find_and_raise.new.log).content in
-    subst (λ b. IsTied near b new) (sym (c.if-try_restart.ensures.up refl ∙ ap (λ b. after b (Restarted f.incarnation f.decisions f.heuristics)) c.prepare_restart.ensures.book))
+    subst (λ b. IsTied near b new) (sym
+    (c.if-try_restart.ensures.up refl ∙ ap (λ b. after b (Restarted f.incarnation f.decisions f.heuristics)) c.prepare_restart.ensures.book))
     (tied_restart near k f.incarnation f.decisions f.heuristics (g.L.DecisionLog.moment c.args.self.now.log).content new c.if-self.false
     (c.in-Ok-find_and_raise.ensures.found order honest) (c.in-Ok-find_and_raise.ensures.ok order honest) tied)
 
@@ -19,7 +20,8 @@ pub returns-else-try_restart-clause-tied : goal.returns-else-try_restart-clause-
 returns-else-try_restart-clause-tied g c = λ near order honest tied.
     let k = held c.args.self.now.ledger in
     let new = (g.L.DecisionLog.moment c.find_and_raise.new.log).content in
-    subst (λ b. IsTied near b new) (sym (c.if-try_restart.ensures.down refl Settled ∙ ap (λ b. book_after b Settled (Failed InRestart)) c.prepare_restart.ensures.book))
+    subst (λ b. IsTied near b new) (sym
+    (c.if-try_restart.ensures.down refl Settled ∙ ap (λ b. book_after b Settled (Failed InRestart)) c.prepare_restart.ensures.book))
     (tied_no_restart near k (g.L.DecisionLog.moment c.args.self.now.log).content new c.if-self.false
     (inr (inr (c.in-Ok-find_and_raise.ensures.ok order honest))) tied)
 
