@@ -24,11 +24,13 @@ row_beside d c g apart = elim (contains_key c.decisions d.gtrid) as (λ t. get (
       | false ↦ get-insert gtrids_total c.decisions d.gtrid (waiting d) g ∙ ap (λ t. cond t (Some (waiting d)) (get c.decisions g)) apart
     ]
 
+own_row : (d : Decision) (c : Content) (g : Gtrid) → gtrid_eq g d.gtrid ≡ true → contains_key c.decisions d.gtrid ≡ contains_key c.decisions g
+own_row d c g same = ap (λ q. contains_key c.decisions q) (sym (exact_gtrids g d.gtrid (equal_is _ same)))
+
 row_made : (d : Decision) (c : Content) (g : Gtrid) → gtrid_eq g d.gtrid ≡ true → get c.decisions g ≡ None
     → get (with_one d c).decisions g ≡ Some (waiting d)
 row_made d c g same none =
-    let absent : contains_key c.decisions d.gtrid ≡ false =
-    ap (λ q. contains_key c.decisions q) (sym (exact_gtrids g d.gtrid (equal_is _ same))) ∙ ap is_some none in
+    let absent : contains_key c.decisions d.gtrid ≡ false = own_row d c g same ∙ ap is_some none in
     ap (λ t. get (cond t c (with_decision d.gtrid (waiting d) c)).decisions g) absent
     ∙ get-insert gtrids_total c.decisions d.gtrid (waiting d) g ∙ ap (λ t. cond t (Some (waiting d)) (get c.decisions g)) same
 
@@ -36,8 +38,7 @@ row_kept : (d : Decision) (c : Content) (g : Gtrid) (set : KeySet branch_cmp) �
     → get (with_one d c).decisions g ≡ Some set
 row_kept d c g set has = elim (cases_Bool (gtrid_eq g d.gtrid)) [
   | inl same ↦ (
-      let there : contains_key c.decisions d.gtrid ≡ true =
-      ap (λ q. contains_key c.decisions q) (sym (exact_gtrids g d.gtrid (equal_is _ same))) ∙ ap is_some has in
+      let there : contains_key c.decisions d.gtrid ≡ true = own_row d c g same ∙ ap is_some has in
       ap (λ t. get (cond t c (with_decision d.gtrid (waiting d) c)).decisions g) there ∙ has)
   | inr apart ↦ row_beside d c g apart ∙ has
 ]
@@ -80,25 +81,23 @@ has_after ds c g = by (get c.decisions g) refl
 
 -- ** what no decision changes
 
-pub same_heuristics : (ds : List Decision) (c : Content) → (with_commits ds c).heuristics ≡ c.heuristics
-same_heuristics [] c = refl
-same_heuristics (d ∷ ds) c = same_heuristics ds (with_one d c) ∙ one
+stays : {A : Type 0} (part : Content → A)
+    → ((g : Gtrid) (set : KeySet branch_cmp) (c : Content) → part (with_decision g set c) ≡ part c)
+    → (ds : List Decision) (c : Content) → part (with_commits ds c) ≡ part c
+stays part same [] c = refl
+stays part same (d ∷ ds) c = stays part same ds (with_one d c) ∙ one
   where
-    one : (with_one d c).heuristics ≡ c.heuristics
-    one = elim (contains_key c.decisions d.gtrid) as (λ t. (cond t c (with_decision d.gtrid (waiting d) c)).heuristics ≡ c.heuristics) [
+    one : part (with_one d c) ≡ part c
+    one = elim (contains_key c.decisions d.gtrid) as (λ t. part (cond t c (with_decision d.gtrid (waiting d) c)) ≡ part c) [
       | true ↦ refl
-      | false ↦ refl
+      | false ↦ same d.gtrid (waiting d) c
     ]
 
+pub same_heuristics : (ds : List Decision) (c : Content) → (with_commits ds c).heuristics ≡ c.heuristics
+same_heuristics ds c = stays (λ k. k.heuristics) (λ g set k. refl) ds c
+
 pub same_incarnation : (ds : List Decision) (c : Content) → (with_commits ds c).incarnation ≡ c.incarnation
-same_incarnation [] c = refl
-same_incarnation (d ∷ ds) c = same_incarnation ds (with_one d c) ∙ one
-  where
-    one : (with_one d c).incarnation ≡ c.incarnation
-    one = elim (contains_key c.decisions d.gtrid) as (λ t. (cond t c (with_decision d.gtrid (waiting d) c)).incarnation ≡ c.incarnation) [
-      | true ↦ refl
-      | false ↦ refl
-    ]
+same_incarnation ds c = stays (λ k. k.incarnation) (λ g set k. refl) ds c
 
 -- ** the answers
 
