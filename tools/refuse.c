@@ -1,6 +1,7 @@
 /* Loaded before a program (LD_PRELOAD), refuses the request for memory that REFUSE_AT numbers, from 1, of those that the
  * program's own code makes, and the next ones, REFUSE_MANY in all; at the first it prints the line "refused" as an error. What
- * the C library asks for isn't counted.
+ * the C library asks for isn't counted. To the file that REFUSE_LIST names, where it does, it writes each request as two
+ * numbers of 64 bits: the place in the program that asks, and the length.
  * It needs no headers, so that the toolchain's own compiler builds it. */
 typedef __SIZE_TYPE__ size;
 typedef __UINTPTR_TYPE__ place;
@@ -21,16 +22,19 @@ struct object {
     unsigned short count;
 };
 
-enum { LOADED = 1, RUNS = 1, ERRORS = 2 };
+/* WRITES is O_WRONLY and O_APPEND. */
+enum { LOADED = 1, RUNS = 1, ERRORS = 2, WRITES = 02001 };
 
 extern void *__libc_malloc(size);
 extern void *__libc_realloc(void *, size);
 extern char *getenv(const char *);
+extern int open(const char *, int, ...);
 extern long write(int, const void *, size);
 extern int dl_iterate_phdr(int (*)(struct object *, size, void *), void *);
 
 static place from, past;
 static u64 at, many, asked;
+static int list = -1;
 
 /* The first object is the program: looks where its code is, and asks for no other. */
 static int look(struct object *it, size unused, void *none)
@@ -58,14 +62,19 @@ __attribute__((constructor)) static void begin(void)
 {
     at = number("REFUSE_AT");
     many = number("REFUSE_MANY");
+    if (getenv("REFUSE_LIST"))
+        list = open(getenv("REFUSE_LIST"), WRITES);
     dl_iterate_phdr(look, 0);
 }
 
-static int is_refused(const void *caller)
+static int is_refused(const void *caller, size length)
 {
     place it = (place)caller;
     if (it < from || it >= past)
         return 0;
+    u64 request[2] = {it - from, length};
+    if (list >= 0)
+        (void)!write(list, request, sizeof request);
     u64 now = __atomic_add_fetch(&asked, 1, __ATOMIC_SEQ_CST);
     if (now == at)
         (void)!write(ERRORS, "refused\n", 8);
@@ -74,10 +83,10 @@ static int is_refused(const void *caller)
 
 void *malloc(size length)
 {
-    return is_refused(__builtin_return_address(0)) ? 0 : __libc_malloc(length);
+    return is_refused(__builtin_return_address(0), length) ? 0 : __libc_malloc(length);
 }
 
 void *realloc(void *old, size length)
 {
-    return is_refused(__builtin_return_address(0)) ? 0 : __libc_realloc(old, length);
+    return is_refused(__builtin_return_address(0), length) ? 0 : __libc_realloc(old, length);
 }

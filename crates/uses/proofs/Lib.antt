@@ -1,3 +1,8 @@
 mod Alike
 mod Branches
 mod Decisions
+mod JobRows
+mod LogSwaps
+mod OwnLogs
+mod Recoveries
+mod StartRows

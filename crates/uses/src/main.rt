@@ -1,5 +1,5 @@
 //! One caller of each library, each proved to do what its contract says, and run here. A file is named after its
-//! library, without the `xa_`.
+//! library, without the `xa_`; `own_log`, `recovery` and `swaps` are further callers of `xa_system`.
 #![tactic(auto)]
 
 mod base;
@@ -9,8 +9,12 @@ mod line;
 mod listing;
 mod log;
 mod model;
+mod own_log;
+mod recovery;
 mod rm;
 mod scenario;
+mod sql_log;
+mod swaps;
 mod system;
 mod tm;
 mod workers;
@@ -19,7 +23,7 @@ use std::alloc::Global;
 use std::sync::Wait;
 use std::thread::Threads;
 use std::time::Clock;
-use xa_base::{Branch, Fate, Gtrid};
+use xa_base::{Branch, Call, Fate, Gtrid, Part, Reply, Side, Step};
 use xa_log::MemLog;
 use xa_rm::MemRm;
 use xa_system::System;
@@ -44,6 +48,15 @@ step = [
 ]
 ";
 
+/// The manager crashes and starts again.
+const RESTART: &str = "threads = 1
+rms = 1
+step = [
+    { do = 'crash', part = 'manager' },
+    { do = 'restart', part = 'manager' },
+]
+";
+
 const JOBS: &str = "threads = 1\nrms = 1\njob = [{ votes = ['ok'] }, { votes = ['102'] }]\n";
 
 /// What the callers of the libraries below the system come to.
@@ -53,7 +66,9 @@ fn show_parts(rt: &HostRuntime) -> anyhow::Result<()> {
     let is_same = base::read_again(alloc, &xid)? == Ok(xid.copy());
     println!(rt; "xa_base: {is_same}")?;
     println!(rt; "xa_rm: {:?}", rm::committed(alloc, &xid)?)?;
-    println!(rt; "xa_line: {:?}", line::opened(alloc)?)?;
+    if let Some((call, answer)) = line::opened(alloc)? {
+        println!(rt; "xa_line: {call:?} {}", answer.number())?;
+    }
     println!(rt; "xa_tm: {:?}", tm::first(alloc)?)?;
     Ok(())
 }
@@ -64,6 +79,8 @@ fn show_log(rt: &HostRuntime) -> anyhow::Result<()> {
     let mut log = MemLog::new(alloc);
     let found = log::found_again(&mut log, BRANCH.gtrid, &[BRANCH])?;
     println!(rt; "xa_log: {found}")?;
+    let found = sql_log::found_in_new_log(alloc, BRANCH.gtrid, &[BRANCH])?;
+    println!(rt; "xa_sql_log: {found:?}")?;
     let listed = listing::listed(&mut log, alloc)?;
     println!(rt; "xa_listing: {}", String::from_utf8(listed)?)?;
     Ok(())
@@ -79,6 +96,44 @@ fn events_and_fate(alloc: Global) -> anyhow::Result<(usize, Fate)> {
     Ok((system.trace().len(), system.fate(&BRANCH.xid())))
 }
 
+/// What a system over a log of its own comes to: its manager crashes, its log is taken out and given back, and a recovery
+/// follows.
+fn show_own_log(rt: &HostRuntime) -> anyhow::Result<()> {
+    let alloc = rt.alloc();
+    let crash = [Step::Begin { thread: 0 }, Step::Crash(Part::Manager)];
+    let mut system = own_log::run_in_memory(alloc, &crash)??;
+    let is_back = swaps::give_back(&mut system).is_ok();
+    let restart = [
+        Step::Restart(Side::Manager),
+        Step::Issue {
+            thread: 0,
+            rm: 0,
+            call: Call::OpenRm,
+        },
+        Step::Take { thread: 0, rm: 0 },
+        Step::Hear { thread: 0, rm: 0 },
+    ];
+    let _restarted = system.run(&restart);
+    let scan = [
+        Step::Recover {
+            rm: 0,
+            count: 1,
+            start_scan: true,
+            end_scan: true,
+        },
+        Step::Take { thread: 0, rm: 0 },
+        Step::Hear { thread: 0, rm: 0 },
+        Step::Resolve { rm: 0 },
+    ];
+    let is_run = recovery::recover(&mut system, &scan).is_ok();
+    let events = system.trace().len();
+    println!(rt; "xa_system, its own log: {events} events, {is_back}, {is_run}")?;
+    let reply = swaps::restart_in_memory(alloc);
+    let is_up = matches!(&reply, Some(Reply::Restarted { .. }));
+    println!(rt; "xa_system, what a crash left: {is_up}")?;
+    Ok(())
+}
+
 /// What jobs come to, by their votes and as a file.
 fn show_jobs<T: Threads + Wait + Clock + Sync>(
     rt: &HostRuntime,
@@ -88,6 +143,9 @@ fn show_jobs<T: Threads + Wait + Clock + Sync>(
     let jobs = workers::two_jobs(alloc)?;
     if jobs.is_runnable() {
         println!(rt; "xa_workers: {:?}", workers::ends(threads, alloc, &jobs)?)?;
+        let mut done = workers::logged(threads, alloc, &jobs)?;
+        let listed = listing::listed(&mut done.log, alloc)?;
+        println!(rt; "{}", String::from_utf8(listed)?)?;
     }
     let printed = jobs::printed(threads, alloc, JOBS.as_bytes())?;
     println!(rt; "xa_jobs:\n{}", String::from_utf8(printed)?)?;
@@ -99,8 +157,10 @@ fn show_scenario(rt: &HostRuntime) -> anyhow::Result<()> {
     let alloc = rt.alloc();
     let threads = files::threads_in(alloc, SCENARIO.as_bytes())?;
     println!(rt; "xa_files: {threads:?}")?;
-    let printed = scenario::printed(alloc, SCENARIO.as_bytes())?;
+    let printed = scenario::printed(alloc, SCENARIO.as_bytes(), MemLog::new(alloc))?;
     println!(rt; "xa_scenario:\n{}", String::from_utf8(printed)?)?;
+    let printed = scenario::printed_after(alloc, RESTART.as_bytes(), BRANCH.gtrid, &[BRANCH])?;
+    println!(rt; "{}", String::from_utf8(printed)?)?;
     Ok(())
 }
 
@@ -109,6 +169,7 @@ fn main(rt: HostRuntime) -> anyhow::Result<()> {
     show_log(&rt)?;
     let (events, fate) = events_and_fate(rt.alloc())?;
     println!(rt; "xa_system: {events} events, {fate:?}")?;
+    show_own_log(&rt)?;
     show_jobs(&rt, &rt)?;
     show_scenario(&rt)
 }

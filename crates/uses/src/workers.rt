@@ -1,15 +1,17 @@
 //! `xa_workers`: jobs on worker threads.
 
-ghost use Rattle.std.specs.Prelude.{◌≡◌, false, IfOk};
+ghost use Rattle.std.specs.Prelude.{◌≡◌, false, IfOk, IsSomeAnd};
+ghost use Rattle.xa_log.specs.Content.{nothing, with_bump};
 ghost use Rattle.xa_workers.specs.Jobs.{IsRunnable, ends_of};
+ghost use Rattle.xa_workers.specs.Rows.{HasRows, rows_of_jobs};
 
 use std::alloc::{AllocError, Global};
 use std::sync::Wait;
 use std::thread::Threads;
 use std::time::Clock;
 use xa_base::{Outcome, RbCode, Vote};
-use xa_log::MemLog;
-use xa_workers::{Gate, Jobs, Point, WorkFault, run_jobs};
+use xa_log::{DecisionLog, MemLog};
+use xa_workers::{Gate, Jobs, Outcomes, Point, WorkFault, run_jobs};
 
 /// A gate that holds nobody back.
 struct Open;
@@ -44,4 +46,19 @@ pub(crate) fn two_jobs(alloc: Global) -> Result<Jobs, AllocError> {
         sweep: false,
         votes,
     })
+}
+
+/// Runs jobs over a new log. It then has a row for each job that committed with a yes, with the branches that voted yes,
+/// and nothing else, and is of the first incarnation.
+#[tactic(auto, using(crate::proofs::JobRows::has_just_rows))]
+pub(crate) fn logged<R: Threads + Wait + Clock + Sync>(
+    rt: &R,
+    alloc: Global,
+    jobs: &Jobs,
+) -> Result<Outcomes<MemLog>, WorkFault>
+    requires { IsRunnable jobs.now }
+    ensures { IfOk result (λ o. IsSomeAnd (⟦<MemLog as DecisionLog>⟧.moment o.log).content
+        (HasRows 1 (rows_of_jobs jobs.now 1 o.ends.items) (with_bump nothing))) }
+{
+    run_jobs(rt, alloc, jobs, MemLog::new(alloc), &Open)
 }

@@ -7,7 +7,10 @@ pub mod DecimalLemmas
 mod HeldBranchRows
 pub mod HexText
 pub mod Lists
+pub mod Options
+pub mod Orders
 mod ScanRows
+pub mod StateLemmas
 mod StateTableRows
 pub mod TextLemmas
 pub mod XidOrder

@@ -6,7 +6,7 @@ use std::alloc::{AllocError, Global};
 use std::marker::Model;
 
 /// A page of a recovery scan: the identifiers that one xa_recover lists (XA, chapter 5, xa_recover).
-#[derive(Debug, Drop)]
+#[derive(Drop)]
 pub struct Page<X = Xid> {
     xids: Vec<X>,
 }
@@ -89,7 +89,7 @@ impl<X: Eq> Eq for Page<X> {
 }
 
 /// A resource manager's answer to a call.
-#[derive(PartialEq, Eq, Debug, Drop)]
+#[derive(Drop)]
 pub enum Answer<X = Xid> {
     /// A return code (XA, section 4.5, Return Codes).
     Ret(Code),
@@ -100,7 +100,8 @@ pub enum Answer<X = Xid> {
 impl Answer {
     ghost use Rattle.xa_base.specs.Answer.{answer_number};
 
-    /// What the call returns in XA: the code's number or, of an xa_recover, how many identifiers it lists.
+    /// What the call returns in XA: the code's number, which may be negative, or how many identifiers an xa_recover lists,
+    /// which may be any `usize`.
     pub fn number(&self) -> i128
         ensures { result ≡ answer_number self.now }
     {

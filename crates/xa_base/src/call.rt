@@ -12,7 +12,7 @@ use crate::{
 
 /// A call to a resource manager, with its flags and all that it is given (XA, chapter 5).
 /// It names branches by X.
-#[derive(PartialEq, Eq, Debug, Drop)]
+#[derive(PartialEq, Eq, Drop)]
 pub enum Call<X = Xid> {
     /// xa_open.
     OpenRm,
@@ -71,8 +71,11 @@ pub enum CallKind {
 impl Call {
     ghost use Rattle.xa_base.specs.Call.{call_with, xid_in};
 
-    /// The call of these parts. It is XAER_INVAL where the kind of call doesn't take these flags (XA, section 4.4), where
-    /// it has no identifier and needs one or has one and takes none, and likewise with the count. No memory is taken.
+    /// The call of these parts. No memory is taken.
+    ///
+    /// XAER_INVAL if this kind of call doesn't take these flags (XA, section 4.4), needs an identifier and has none, or
+    /// takes none and has one; likewise with the count. A negative count is no fault here: it makes a call, and the
+    /// resource manager answers XAER_INVAL to it.
     pub fn of(
         kind: CallKind,
         xid: Option<Xid>,
@@ -189,7 +192,7 @@ impl<X: Drop> Call<X> {
 }
 
 /// The flags of a call, as one word.
-fn flags_of<X>(call: &Call<X>) -> u32
+pub(crate) fn flags_of<X>(call: &Call<X>) -> u32
     ensures { result ≡ flags_of call.now }
 {
     match call {

@@ -1,6 +1,7 @@
-//! The vocabulary of an XA transaction manager: identifiers, calls, codes, votes, states, fates, steps and replies, XA's
-//! table of branch states, and what a resource manager holds of a branch. [`branches_in_order`] does nothing: its
-//! contract is a law on identifiers. What a list of events says is the model, the crate `xa_model` above this one.
+//! The vocabulary of an XA transaction manager: identifiers, calls, codes, votes, states, fates, steps and replies,
+//! XA's table of branch states, and what a resource manager holds of a branch. [`branches_in_order`] does nothing: its
+//! contract is a law on identifiers. The model, what a list of events says, is the crate `xa_model` above this one: who
+//! needs the words alone, as a resource manager or a log, need not read it.
 //!
 //! "XA" in these pages is X/Open CAE Specification C193, "Distributed Transaction Processing: The XA Specification"
 //! (1991). Steps, replies and refusals are this manager's own words.
@@ -10,6 +11,7 @@ mod answer;
 mod branch;
 mod call;
 mod code;
+mod debug;
 mod fault;
 mod flags;
 mod identifiers;

@@ -1,4 +1,4 @@
-//! The limits of a system.
+//! The limits of a system. The specs cite these constants, so that each number stands in one place.
 
 /// The calls that wait on a line at most, and the answers.
 pub const LINE_LIMIT: usize = 64;

@@ -1,59 +1,44 @@
 //! Why a step is refused.
 ghost use Rattle.std.specs.Prelude.{◌≡◌};
 
-use thiserror::Error;
+use std::error::Error;
+use std::fmt;
 
 /// Why a step is refused. Each has a number, and of two that apply the one with the lower number is answered; only
 /// [`Refusal::Limit`] comes first where the step names a thread or resource manager that the system doesn't have.
-#[derive(Clone, Copy, Debug, PartialEq, Eq, Error)]
+#[derive(Clone, Copy, Debug, PartialEq, Eq)]
 pub enum Refusal {
     /// 1: the step needs the transaction manager, which is down.
-    #[error("the transaction manager is down")]
     ManagerDown,
     /// 2: the step needs the resource manager, which is down.
-    #[error("the resource manager is down")]
     RmDown,
     /// 3: no xa_open was issued on the line since it was new or renewed, and the call isn't one.
-    #[error("the line isn't open")]
     NotOpen,
     /// 4: xa_close was issued on the line.
-    #[error("the line is closed")]
     Closed,
     /// 5: no transaction of that name was begun in this incarnation; for xa_commit and Done, nor has it a row.
-    #[error("no such transaction was begun")]
     UnknownTransaction,
     /// 6: the branch belongs to another resource manager or, for calls that are its own thread's, to another thread.
-    #[error("the branch belongs to another thread or resource manager")]
     WrongThread,
     /// 7: an xa_start of the branch was accepted before.
-    #[error("the branch was started before")]
     AlreadyStarted,
     /// 8: the transaction is decided, claimed or handed over to its resource manager.
-    #[error("the transaction is decided")]
     Decided,
     /// 9: the transaction isn't decided so, isn't claimed, has no row, or the branch isn't recorded as heuristic.
-    #[error("the transaction isn't decided so")]
     NotDecided,
     /// 10: a vote for commit is lacking or, in one phase, the transaction has another branch.
-    #[error("not all votes are in, or not for commit")]
     Votes,
     /// 11: a branch isn't finished, started or settled yet, or what is to be restarted is up.
-    #[error("a branch or a side of the system is still busy")]
     Busy,
     /// 12: 64 calls or answers wait on the line, or fewer places are free than calls would be issued.
-    #[error("the line is full")]
     Full,
     /// 13: the branch isn't at this resource manager, or not in a state in which the script could be followed.
-    #[error("the branch can't be scripted so")]
     Script,
     /// 14: the system has no such thread or resource manager, or 1,000 transactions or 10,000 events were made.
-    #[error("the system has no such thread or resource manager, or no room for more")]
     Limit,
     /// 15: the decision log failed in this step. The manager is down until it is restarted.
-    #[error("the decision log failed")]
     LogFault,
     /// 16: a request for memory was refused. Nothing has changed.
-    #[error("out of memory")]
     Memory,
 }
 
@@ -107,4 +92,35 @@ impl Refusal {
             Refusal::Memory => "Memory",
         }
     }
+
+    /// The refusal in words.
+    fn text(self) -> &'static str {
+        match self {
+            Refusal::ManagerDown => "the transaction manager is down",
+            Refusal::RmDown => "the resource manager is down",
+            Refusal::NotOpen => "the line isn't open",
+            Refusal::Closed => "the line is closed",
+            Refusal::UnknownTransaction => "no such transaction was begun",
+            Refusal::WrongThread => "the branch belongs to another thread or resource manager",
+            Refusal::AlreadyStarted => "the branch was started before",
+            Refusal::Decided => "the transaction is decided",
+            Refusal::NotDecided => "the transaction isn't decided so",
+            Refusal::Votes => "not all votes are in, or not for commit",
+            Refusal::Busy => "a branch or a side of the system is still busy",
+            Refusal::Full => "the line is full",
+            Refusal::Script => "the branch can't be scripted so",
+            Refusal::Limit =>
+                "the system has no such thread or resource manager, or no room for more",
+            Refusal::LogFault => "the decision log failed",
+            Refusal::Memory => "out of memory",
+        }
+    }
 }
+
+impl fmt::Display for Refusal {
+    fn fmt<W: fmt::Write>(&self, f: &mut fmt::Formatter<W>) -> fmt::Result {
+        f.write_str(self.text())
+    }
+}
+
+impl Error for Refusal {}

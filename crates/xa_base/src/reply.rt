@@ -3,7 +3,7 @@
 use crate::{Answer, Call, Gtrid, Refusal, Step, Xid};
 
 /// What the system replies to a step.
-#[derive(PartialEq, Eq, Debug, Drop)]
+#[derive(Drop)]
 pub enum Reply<X = Xid> {
     /// A transaction was begun.
     Begun(Gtrid),
@@ -38,7 +38,7 @@ pub enum Reply<X = Xid> {
 }
 
 /// A step and its reply.
-#[derive(PartialEq, Eq, Debug, Drop)]
+#[derive(Drop)]
 pub struct Event {
     pub step: Step,
     pub reply: Reply,

@@ -39,8 +39,8 @@ pub enum Fate {
     Heuristic(How),
 }
 
-/// Where a branch stands: in one of the states or, where it doesn't exist, at its last end. Its state and its fate are
-/// both read off this.
+/// Where a branch stands: in one of the states or, where it doesn't exist, at its last end. XA's state S0 doesn't tell how
+/// a branch ended, so its state and its fate are both read off this.
 #[derive(Clone, Copy, Debug, PartialEq, Eq)]
 pub enum Standing {
     /// It never was.

@@ -12,7 +12,7 @@ pub enum Outcome {
 }
 
 /// What can crash.
-#[derive(Clone, Copy, Debug, PartialEq, Eq)]
+#[derive(Clone, Copy, PartialEq, Eq)]
 pub enum Part {
     /// The line between a thread and a resource manager: what waits on it is lost.
     Line { thread: u32, rm: u32 },
@@ -22,8 +22,8 @@ pub enum Part {
     Manager,
 }
 
-/// What can be down, and so be restarted.
-#[derive(Clone, Copy, Debug, PartialEq, Eq)]
+/// What can be down, and so be restarted. A line is none of these: it is new at once after its crash.
+#[derive(Clone, Copy, PartialEq, Eq)]
 pub enum Side {
     /// A resource manager.
     Rm { rm: u32 },
@@ -32,7 +32,7 @@ pub enum Side {
 }
 
 /// One step of the system. Threads and resource managers are numbered from 0. Branches are named by X.
-#[derive(PartialEq, Eq, Debug, Drop)]
+#[derive(Drop)]
 pub enum Step<X = Xid> {
     /// A thread begins a transaction.
     Begin {

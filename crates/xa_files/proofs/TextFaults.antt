@@ -1,5 +1,5 @@
--- The faults that texts of tables can have.
-use Rattle.std.proofs.Common.{◌≡◌, ◌≢◌, inl, inr, ℕ, List, Option, Some, None, Result, Ok, Err, refl, subst}
+-- The faults that texts of tables can have, and what a fault of the output leaves.
+use Rattle.std.proofs.Common.{◌≡◌, ◌≢◌, inl, inr, ℕ, List, Option, Some, None, Result, Ok, Err, IfErr, refl, subst}
 use Rattle.std.specs.Option.{ok_or}
 use Rattle.std.specs.Prelude.{if◌then◌else◌}
 use Rattle.std.specs.Str.{is_utf8}
@@ -9,7 +9,7 @@ use Rattle.xa_files.specs.Documents.{document_of}
 use Rattle.xa_files.specs.Listed.{IsTextFault}
 use Rattle.xa_files.specs.Reading.{◌>>=◌}
 use Rattle.xa_files.specs.declared.fault.RunFault.{RunFault}
-use Rattle.xa_files.specs.declared.fault.RunFault.TheVariants.{NotToml, Header}
+use Rattle.xa_files.specs.declared.fault.RunFault.TheVariants.{NotToml, Header, Output}
 
 -- a fault where something is missing
 pub missing : {A : Type 0} (of_table : ℕ → RunFault) (o : Option A) (e fault : RunFault) → IsTextFault of_table e → ok_or o e ≡ Err fault
@@ -35,3 +35,9 @@ pub no_text_fault : (of_table : ℕ → RunFault) (fault : RunFault) → fault �
 no_text_fault of_table fault toml header table (inl is) = toml is
 no_text_fault of_table fault toml header table (inr (inl is)) = header is
 no_text_fault of_table fault toml header table (inr (inr is)) = table is.0 is.1
+
+-- what a fault of the output leaves
+pub on_output : (result : Result (Unit {0}) RunFault) (P Q : Type 0) → (P → Q)
+    → IfErr result (λ e. e ≡ Output → P) → IfErr result (λ e. e ≡ Output → Q)
+on_output (Ok done) P Q f h = tt
+on_output (Err e) P Q f h = λ is. f (h is)

@@ -6,7 +6,8 @@ ghost use Rattle.xa_files.specs.declared.fault.RunFault.TheVariants.{Memory};
 use std::alloc::{AllocError, AllocFailed};
 use std::fmt;
 
-/// Why a run of a file ends early. Each displays as its text on standard error. A scenario meets neither Job nor Work.
+/// Why a run of a file ends early. Each displays as its text on standard error, which is written by hand here so that
+/// contracts can cite it (`fault_text`). A scenario meets neither Job nor Work.
 #[derive(Clone, Copy, Debug, PartialEq, Eq)]
 pub enum RunFault {
     /// The text isn't UTF-8 or no TOML document.

@@ -1,5 +1,5 @@
-//! What scenario files and jobs files have in common: the fields and words of their tables, the faults of a run, and what
-//! it writes. Fates and transactions in words are those of a listed log too.
+//! What scenario files and jobs files have in common: the fields and words of their tables, the faults of a run, and
+//! what it writes. A listed log has the same words for fates and transactions.
 #![tactic(auto)]
 
 mod document;

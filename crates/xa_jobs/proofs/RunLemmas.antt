@@ -77,9 +77,3 @@ ends_printed text plan old new reads lines = record { plan = plan; reads = reads
 pub ends_begun : (text : List ℕ) (plan : Plan) (old new : Option (List ℕ)) → jobs_of text ≡ Ok plan
     → BeginsEnds plan old new → Begins text old new
 ends_begun text plan old new reads lines = record { plan = plan; reads = reads; lines = lines }
-
--- what a fault of the output leaves
-pub on_output : (result : Result (Unit {0}) RunFault) (P Q : Type 0) → (P → Q)
-    → IfErr result (λ e. e ≡ Output → P) → IfErr result (λ e. e ≡ Output → Q)
-on_output (Ok done) P Q f h = tt
-on_output (Err e) P Q f h = λ is. f (h is)

@@ -14,11 +14,11 @@ ghost use Rattle.xa_base.specs.declared.step.Step.TheVariants.{Issue};
 ghost use Rattle.xa_line.specs.Histories.{AreAnsweredAs, AreKnownAs, LineStands, known, known_answered};
 ghost use Rattle.xa_line.specs.Traffic.{Traffic, answered, heard, is_full, issued, no_traffic, taken};
 
-/// A line refuses calls by the rules of histories, which this states; the call does nothing:
+/// A line refuses a call exactly where a history does. This is a law; the function does nothing:
 ///
-/// - `not_open`, `on_closed`: where a line was issued the calls that a history says, both refuse a call for them
-///   alike;
-/// - `full`: so they do where as many calls wait.
+/// - `not_open`, `on_closed`: if the calls issued on the line are those of the history, both refuse a call as not open,
+///   or as closed, alike;
+/// - `full`: if as many calls wait, both are full alike.
 pub fn lines_as_in_histories()
     ensures not_open { (tr : Trace) (t r : ℕ) (c : Call Xid) (l : Traffic) →
         AreKnownAs (issued l) (facts.issued tr (line t r)) →
@@ -31,18 +31,18 @@ pub fn lines_as_in_histories()
         is_full l ≡ rules.forces_full tr (step_of (Issue t r c)) }
 {}
 
-/// What waits on a line is what waits in a history, wherever the two stand alike (`LineStands`: the calls issued,
-/// the answers and those heard are the same, and each call that was taken was answered). This states it; the call
-/// does nothing:
+/// What waits on a line is what waits in a history, as long as the two stand alike (`LineStands`): they have the same
+/// calls issued, the same answers and the same answers heard, and each call that was taken was answered. This is a law;
+/// the function does nothing:
 ///
-/// - `front`, `front_answer`: what [`Line::front`](crate::Line::front) and
-///   [`Line::front_answer`](crate::Line::front_answer) show is the history's next call, and its next answer with its
-///   call; where one has none, so has the other;
+/// - `front`, `front_answer`: the call that `Line::front` shows is the history's next one, and the answer that
+///   `Line::front_answer` shows is its next answer, with its call; if one has none, so has the other;
 /// - `calls`, `answers`: as many wait;
 /// - `new`, `renewed`: a new line stands as at the start of a history, and as after each happening that breaks it;
-/// - `goes_on`: a line that isn't broken goes on to stand so, where what is added to its calls, its answers and those
-///   heard is what the happening adds to them.
+/// - `goes_on`: a line that isn't broken still stands so after a happening, if the line's calls, answers and answers
+///   heard grow by what the happening adds to them.
 pub fn traffic_as_in_histories()
+    // What waits, while the two stand alike.
     ensures front { (tr : Trace) (l : Line) (t : Traffic) → LineStands tr l t →
         option_map known (slice_get t.calls.waiting 0) ≡ option_map Some (facts.next_call tr l) }
     ensures front_answer { (tr : Trace) (l : Line) (t : Traffic) → LineStands tr l t →
@@ -52,6 +52,7 @@ pub fn traffic_as_in_histories()
         length t.calls.waiting ≡ waiting tr l }
     ensures answers { (tr : Trace) (l : Line) (t : Traffic) → LineStands tr l t →
         length t.answers.waiting ≡ unheard tr l }
+    // How they come to stand alike, and stay so.
     ensures new { (o : Origin) (l : Line) → LineStands (From o) l no_traffic }
     ensures renewed { (tr : Trace) (e : Happening) (l : Line) → facts.breaks tr e l ≡ true →
         LineStands (Then tr e) l no_traffic }

@@ -31,15 +31,19 @@ impl Issuer {
     #[inline(always)]
     pub fn issue(&mut self, call: Call) -> Result<(), Refusal>
         ensures same { SameIssuer self.old self.new }
+        // Why a call is refused.
         ensures reason { MatchOption (barred (issued_by self.old) call)
             (IfErr result (λ reason. (reason ≡ Full) × (free_calls_of self.new ≡ 0)))
             (λ reason. result ≡ Err reason) }
+        // What an accepted call adds, and that a refused one changes nothing.
         ensures accepted { OnOk result (issued_by self.new ≡ issued_by self.old ++ call ∷ []) }
         ensures free { OnOk result (free_calls_of self.old ≤ free_calls_of self.new + 1) }
         ensures refused { OnErr result (issued_by self.new ≡ issued_by self.old) }
         ensures kept { OnErr result (free_calls_of self.old ≤ free_calls_of self.new) }
+        // The answers stay as they are.
         ensures heard { heard_by self.new ≡ heard_by self.old }
         ensures seen { seen_answers_of self.new ≡ seen_answers_of self.old }
+        // Where a place was seen, the call is accepted.
         ensures succeeds { barred (issued_by self.old) call ≡ None →
             0 < free_calls_of self.old → IsOk result }
     {
@@ -56,13 +60,16 @@ impl Issuer {
     #[inline]
     pub fn hear(&mut self) -> Option<(Call, Answer)>
         ensures same { SameIssuer self.old self.new }
+        // What is heard, and what was seen of it before.
         ensures some { IfSome result (λ pair. heard_by self.new ≡ heard_by self.old ++ pair ∷ []) }
         ensures seen { IfSome result (λ pair.
             IsPrefix (seen_answers_of self.old) (pair ∷ seen_answers_of self.new)) }
         ensures none { IfNone result (
             (heard_by self.new ≡ heard_by self.old) × (seen_answers_of self.new ≡ [])) }
+        // The calls stay as they are.
         ensures issued { issued_by self.new ≡ issued_by self.old }
         ensures free { free_calls_of self.new ≡ free_calls_of self.old }
+        // Where an answer was seen, one is heard.
         ensures succeeds { 0 < length (seen_answers_of self.old) → IsSome result }
     {
         let answers = &mut self.answers.consumer;

@@ -180,10 +180,12 @@ impl Line {
     /// Takes the line apart, for two threads. What waits stays in it.
     pub fn split(self) -> (Issuer, Taker)
         ensures ends { AreEndsOfOne result.0 result.1 }
+        // What each end has done.
         ensures issued { issued_by result.0 ≡ issued self }
         ensures heard { heard_by result.0 ≡ heard self }
         ensures taken { taken_by result.1 ≡ taken self }
         ensures answered { answered_by result.1 ≡ answered self }
+        // What each end sees of the other.
         ensures free_calls { places ≤ free_calls_of result.0 + length self.calls.waiting }
         ensures seen_calls { seen_calls_of result.1 ≡ self.calls.waiting }
         ensures free_answers { places ≤ free_answers_of result.1 + length self.answers.waiting }
@@ -209,6 +211,8 @@ impl Line {
     }
 
     /// Puts the two ends of a line together again, in one thread. What waits between them stays in the line.
+    ///
+    /// That they are the ends of one line has to be proved: rings can't be asked at run time whose ends they are.
     pub fn meet(issuer: Issuer, taker: Taker) -> Line
         requires { AreEndsOfOne issuer taker }
         ensures issued { issued result ≡ issued_by issuer }

@@ -71,7 +71,8 @@ impl<T: Drop> Queue<T> {
         Some(self.outlet.consumer.peek_known())
     }
 
-    /// Lets an item wait, last.
+    /// Lets an item wait, last. Both ends then look at each other, here and in `pop`, so that a look at the queue needs no
+    /// `&mut`.
     #[inline]
     pub fn push(&mut self, item: T)
         requires { length self.old.waiting < places }

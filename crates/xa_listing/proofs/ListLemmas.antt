@@ -1,20 +1,19 @@
 -- The text of the rows of a log is that of its content.
-use Rattle.std.proofs.Common.{◌≡◌, ◌∙◌, T, ℕ, Bool, true, false, ◌&&◌, ◌||◌, List, [], ◌∷◌, ◌++◌, length, map, drop, Less, Equal, Option, Some, None, Result, Ok, Err, IfOk, IfErr, IsSomeAnd, OnOk, OnErr, refl, sym, ap, subst, inl, inr, arith}
-use Rattle.std.specs.Cmp.{tied_itself}
+use Rattle.std.proofs.Common.{◌≡◌, ◌∙◌, T, ℕ, Bool, true, false, ◌&&◌, List, [], ◌∷◌, ◌++◌, length, map, drop, Option, Some, None, Result, Ok, Err, IfOk, IfErr, IsSomeAnd, OnOk, OnErr, refl, sym, ap, subst, arith}
 use Rattle.std.specs.FinMap.{entries, entries_sorted, get-entries, is_sorted, keys}
 use Rattle.std.specs.FinMap.Entries.{below_all}
 use Rattle.std.specs.Io.KnownBytes.{Appends}
-use Rattle.std.specs.List.{AllByRecursion, flat_map, list_any}
-use Rattle.std.specs.Ordering.{eq_by_cmp, is_eq}
+use Rattle.std.specs.List.{AllByRecursion, flat_map}
 use Rattle.std.proofs.Math.Seq.{drop-append_seam}
-use Rattle.std.proofs.lemmas.Bool.{cases_Bool}
 use Rattle.std.proofs.lemmas.Result.{on_ok_weaker}
-use Rattle.xa_base.proofs.BranchOrder.{branches_total, exact_gtrids, gtrids_total}
-use Rattle.xa_base.proofs.BranchKeys.{gtrid_eq-refl, gtrid_eq-true}
+use Rattle.xa_base.proofs.BranchOrder.{exact_gtrids, gtrids_total}
+use Rattle.xa_base.proofs.BranchKeys.{gtrid_eq-refl}
 use Rattle.xa_base.specs.Branch.{branch_cmp, gtrid_cmp, gtrid_eq}
 use Rattle.xa_base.specs.declared.branch.Branch.{Branch}
 use Rattle.xa_base.specs.declared.branch.Gtrid.{Gtrid}
 use Rattle.xa_base.specs.declared.code.How.{How}
+use Rattle.xa_base.proofs.Lists.{all_append, all_map}
+use Rattle.xa_base.proofs.Orders.{less_differs, all_among}
 use Rattle.xa_files.specs.Outputs.{AppendsBeginning}
 use Rattle.xa_files.specs.declared.fault.RunFault.{RunFault}
 use Rattle.xa_files.specs.declared.fault.RunFault.TheVariants.{Output}
@@ -31,14 +30,6 @@ Row = Gtrid × KeySet branch_cmp
 
 -- ** the branches of a transaction stand before those of others
 
-all_append : {A : Type 0} (P : A → Type 0) (xs ys : List A) → AllByRecursion P xs → AllByRecursion P ys → AllByRecursion P (xs ++ ys)
-all_append P [] ys first second = second
-all_append P (x ∷ xs) ys first second = (first.0, all_append P xs ys first.1 second)
-
-all_of : {A : Type 0} (P Q : A → Type 0) → ((x : A) → P x → Q x) → (xs : List A) → AllByRecursion P xs → AllByRecursion Q xs
-all_of P Q f [] all = tt
-all_of P Q f (x ∷ xs) all = (f x all.0, all_of P Q f xs all.1)
-
 first_count : (g : Gtrid) (xs ys : List Branch) → AllByRecursion (λ b. is_of g b ≡ true) xs → AllByRecursion (λ b. is_of g b ≡ false) ys
     → own_count g (xs ++ ys) ≡ length xs
 first_count g [] [] own others = refl
@@ -54,17 +45,8 @@ parts : (a b : Bool) → T (a && b) → T a × T b
 parts true b p = (tt, p)
 parts false b p = absurd p
 
--- a greater transaction is another one
-apart : (g k : Gtrid) → gtrid_cmp g k ≡ Less → gtrid_eq k g ≡ false
-apart g k less = elim (cases_Bool (gtrid_eq k g)) [
-  | inl same ↦ (
-      let tied : gtrid_cmp g g ≡ Less = ap (gtrid_cmp g) (sym (gtrid_eq-true k g same)) ∙ less in
-      let no : Less ≡ Equal = sym tied ∙ tied_itself gtrids_total g in absurd (cc))
-  | inr other ↦ other
-]
-
 own_first : (row : Row) → IsOwn row → AllByRecursion (λ b. is_of row.0 b ≡ true) (items row.1)
-own_first row own = all_of _ _ (λ (b : Branch) (is : b.gtrid ≡ row.0). ap (λ g. gtrid_eq g row.0) is ∙ gtrid_eq-refl row.0) (items row.1) own
+own_first row own = all_map _ _ (λ (b : Branch) (is : b.gtrid ≡ row.0). ap (λ g. gtrid_eq g row.0) is ∙ gtrid_eq-refl row.0) (items row.1) own
 
 others_after : (g : Gtrid) (rows : List Row) → T (below_all gtrid_cmp g rows) → AllByRecursion IsOwn rows
     → AllByRecursion (λ b. is_of g b ≡ false) (all_listed rows)
@@ -72,7 +54,7 @@ others_after g [] below own = tt
 others_after g (row ∷ rows) below own =
     let p = parts _ _ below in
     all_append _ (items row.1) (all_listed rows)
-    (all_of _ _ (λ (b : Branch) (is : b.gtrid ≡ row.0). ap (λ k. gtrid_eq k g) is ∙ apart g row.0 (less _ p.0)) (items row.1) own.0)
+    (all_map _ _ (λ (b : Branch) (is : b.gtrid ≡ row.0). ap (λ k. gtrid_eq k g) is ∙ less_differs g row.0 (less _ p.0)) (items row.1) own.0)
     (others_after g rows p.1 own.1)
 
 decisions_text : (rows : List Row) → T (is_sorted gtrid_cmp rows) → AllByRecursion IsOwn rows
@@ -88,22 +70,10 @@ decisions_text (row ∷ rows) up own =
 
 -- ** the rows of a log are so
 
-later : (a b : Bool) → b ≡ true → (a || b) ≡ true
-later true b h = refl
-later false b h = h
-
--- of a set of which each key is so
-all_items : (P : Branch → Type 0) (xs : List Branch) → ((b : Branch) → list_any (eq_by_cmp branch_cmp b) xs ≡ true → P b) → AllByRecursion P xs
-all_items P [] each = tt
-all_items P (x ∷ xs) each = (
-  each x (ap (λ o. is_eq o || list_any (eq_by_cmp branch_cmp x) xs) (tied_itself branches_total x)),
-  all_items P xs (λ b there. each b (later (eq_by_cmp branch_cmp b x) _ there)),
-)
-
 own_rows : (c : Content) → AreOwn c → AllByRecursion IsOwn (entries c.decisions)
 own_rows c own =
     all_entries gtrids_total exact_gtrids IsOwn (entries c.decisions) (entries_sorted c.decisions) (λ g set is.
-    all_items _ (items set) (λ b there. own g set b (get-entries c.decisions g ∙ is) (contains-items set b ∙ there)))
+    all_among _ (items set) (λ b there. own g set b (get-entries c.decisions g ∙ is) (contains-items set b ∙ there)))
 
 -- the text of the rows that a log lists
 pub text_of_rows : (c : Content) (decisions : List Gtrid) (participants : List Branch) (heuristics : List (Branch × How)) → AreOwn c

@@ -1,4 +1,4 @@
--- One call more, content_after a list of calls.
+-- One call more, after a list of calls.
 use Rattle.std.proofs.Common.{◌≡◌, inl, inr, ℕ, ◌+◌, ◌<◌, ◌≤◌, length, take, get_or, List, [], ◌∷◌, ◌++◌, Option, Some, Ok, Err, IsSomeAnd, refl, sym, ap, subst, ◌∙◌}
 use Rattle.std.proofs.lemmas.List.{take_all, take_more}
 use Rattle.xa_log.specs.Commands.{AreTold, LeavesFirst, Tells, content_after, after_all}

@@ -80,7 +80,7 @@ AreTold c [] [] = Unit {0}
 AreTold c (call ∷ calls) (answer ∷ answers) = Tells c call answer × AreTold (content_after call c) calls answers
 AreTold c _ _ = ⊥
 
--- one of the calls failed, and this is its fault; none was made content_after it
+-- one of the calls failed, and this is its fault; none was made after it
 pub record StopsAt {Log : Type 0} (says : LogCall → (Content → Content) → Log → Log → Option LogFault
     → Type 0) (calls : List Command) (new : Log) (e : LogFault) : Type 0 where
   pub place : ℕ

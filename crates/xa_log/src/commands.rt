@@ -10,7 +10,7 @@ use std::alloc::Global;
 use xa_base::{Branch, Gtrid, How};
 
 /// A call of a decision log, with what it is given: each but `commit_all`, which leaves what its commits leave in turn.
-#[derive(Debug, Drop)]
+#[derive(Drop)]
 pub enum Command {
     Commit(Gtrid, Vec<Branch>),
     Contains(Gtrid),
@@ -23,7 +23,7 @@ pub enum Command {
 }
 
 /// What a call of a decision log answers.
-#[derive(Debug, Drop)]
+#[derive(Drop)]
 pub enum Told {
     /// Of `commit`.
     Logged(Logged),
@@ -79,6 +79,7 @@ pub fn run_commands<L: DecisionLog>(
     commands: &[Command],
 ) -> Result<Vec<Told>, LogFault>
     requires { AllByRecursion Fits commands.now }
+    // What is told and left: by calls that succeed, and by the first ones where one fails.
     ensures told { (c : Content) → (L.moment log.old).is_in_order →
         (L.moment log.new).is_honest → (L.moment log.old).content ≡ Some c →
         IfOk result (λ list. AreTold c commands.now list.items) }
@@ -88,8 +89,10 @@ pub fn run_commands<L: DecisionLog>(
     ensures err { (c : Content) → (L.moment log.old).is_in_order →
         (L.moment log.new).is_honest → (L.moment log.old).content ≡ Some c →
         OnErr result (LeavesFirst commands.now c (L.moment log.new).content) }
+    // The two premises, handed on.
     ensures order { (L.moment log.old).is_in_order → (L.moment log.new).is_in_order }
     ensures honest { (L.moment log.new).is_honest → (L.moment log.old).is_honest }
+    // Failures: how many, and which.
     ensures faults { OnOk result
         ((L.moment log.new).fault_count ≡ (L.moment log.old).fault_count) }
     ensures cause { IfErr result (EndsBy L.says L.moment commands.now

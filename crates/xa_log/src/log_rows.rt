@@ -3,7 +3,7 @@
 use xa_base::{Branch, Gtrid, How};
 
 /// The rows of a decision log, each list in the order of the identifiers (`xa_base`'s law `branches_in_order`).
-#[derive(Debug, Drop)]
+#[derive(Drop)]
 pub struct LogRows {
     /// The transactions that are decided to commit.
     pub decisions: Vec<Gtrid>,

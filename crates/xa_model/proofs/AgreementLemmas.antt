@@ -5,3 +5,4 @@ pub mod Ends
 pub mod PhaseMaps
 pub mod Prefix
 pub mod Simulation
+pub mod Since

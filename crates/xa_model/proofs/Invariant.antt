@@ -24,7 +24,7 @@ use Rattle.xa_model.specs.Trace.{Gtrid, Branch, Line, Name, Name.Ours, Name.Fore
 use Rattle.xa_base.specs.declared.code.Code.TheVariants as Codes
 use Rattle.xa_base.specs.declared.state.Standing.{Standing}
 use Rattle.xa_base.specs.declared.state.Standing.TheVariants.{Unstarted, Active, Idle, Prepared, RollbackOnly, Completed, Committed, RolledBack, Lost, ReadOnly, Forgotten}
-use Rattle.xa_model.specs.Facts.{up, incarnation, sequence, begun, decided_so, handed_over, claimed, live, started, told, says_yes, says_read_only, acknowledges, has_branch, participants, has_row, recorded, recorded_as, had_row, doubt, Change, Change.AddRow, Change.DropRow, Change.AddRecord, Change.NoChange, taken, issued, page, standing}
+use Rattle.xa_model.specs.Facts.{origin, up, incarnation, sequence, begun, decided_so, handed_over, claimed, live, started, told, says_yes, says_read_only, acknowledges, has_branch, participants, has_row, recorded, recorded_as, had_row, doubt, Change, Change.AddRow, Change.DropRow, Change.AddRecord, Change.NoChange, taken, issued, page, standing}
 use Rattle.xa_model.specs.Promises.AgreementInvariant.{Starts}
 use Rattle.xa_model.specs.Protocol.{Lists, AllHaveVoted, AllAreSettled}
 
@@ -101,8 +101,12 @@ CallFact tr l Commit b = had_row tr b.gtrid ≡ true
 CallFact tr l Rollback b = WaitingRollback tr b
 CallFact tr l Forget b = recorded tr b ≡ true
 
+-- of an incarnation before that of the start, which may have found it
+abbrev pub IsOlder : Trace → Branch → Type 0
+IsOlder tr b = b.gtrid.incarnation < (origin tr).incarnation
+
 abbrev pub IsStarted : Trace → Name → Type 0
-IsStarted tr (Ours b) = started tr b ≡ true
+IsStarted tr (Ours b) = (started tr b ≡ true) ⊎ IsOlder tr b
 IsStarted tr (Foreign n) = Unit
 
 -- a yes: the branch was prepared, and stays so while its transaction is live
@@ -153,13 +157,17 @@ IsFixed tr b = (started tr b ≡ true) ⊎ Closed tr b.gtrid
 -- ** the invariant
 
 pub record Inv (tr : Trace) : Type 0 where
+  pub since_start : (origin tr).incarnation ≤ incarnation tr
+  pub begun_since : (g : Gtrid) → begun tr g ≡ true → (origin tr).incarnation ≤ g.incarnation
+  pub started_since : (b : Branch) → started tr b ≡ true → (origin tr).incarnation ≤ b.gtrid.incarnation
   pub begun_old : (g : Gtrid) → begun tr g ≡ true → Old tr g
   pub started_old : (b : Branch) → started tr b ≡ true → Old tr b.gtrid
   pub decided_old : (o : Outcome) (g : Gtrid) → decided_so o tr g ≡ true → Old tr g
   pub handed_old : (g : Gtrid) → handed_over tr g ≡ true → Old tr g
   pub handed_one : (b c : Branch) → handed_over tr b.gtrid ≡ true → c.gtrid ≡ b.gtrid → started tr b ≡ true → started tr c ≡ true → b ≡ c
-  pub unstarted : (b : Branch) → started tr b ≡ false → standing tr b ≡ Unstarted
-  pub committed : (b : Branch) → standing tr b ≡ Committed → (had_row tr b.gtrid ≡ true) ⊎ (handed_over tr b.gtrid ≡ true)
+  pub unstarted : (b : Branch) → started tr b ≡ false → (standing tr b ≡ Unstarted) ⊎ IsOlder tr b
+  pub committed : (b : Branch) → standing tr b ≡ Committed
+      → ((had_row tr b.gtrid ≡ true) ⊎ (handed_over tr b.gtrid ≡ true)) ⊎ IsOlder tr b
   pub rows : (g : Gtrid) → had_row tr g ≡ true → RowFact tr g
   pub row_rowed : (g : Gtrid) → has_row tr g ≡ true → had_row tr g ≡ true
   pub row_left : (g : Gtrid) → had_row tr g ≡ true → has_row tr g ≡ false → AllAreSettled tr g
@@ -178,7 +186,7 @@ pub record Inv (tr : Trace) : Type 0 where
   pub acknowledged_fixed : (b : Branch) → told tr (acknowledges b) ≡ true → IsFixed tr b
   pub recorded_closed : (b : Branch) → recorded tr b ≡ true → Closed tr b.gtrid
   pub heuristic : (b : Branch) (how : How) → recorded_as tr b ≡ Some how → started tr b ≡ true → IsHeuristic how (standing tr b)
-  pub forgotten : (b : Branch) (how : How) → standing tr b ≡ Forgotten how → recorded_as tr b ≡ Some how
+  pub forgotten : (b : Branch) (how : How) → standing tr b ≡ Forgotten how → (recorded_as tr b ≡ Some how) ⊎ IsOlder tr b
   pub paged : (r : ℕ) (x : Name) → Lists (page tr r) x → IsStarted tr x
   pub claimed_live : (g : Gtrid) → claimed tr g ≡ true → live tr g ≡ true
   pub claimed_voted : (g : Gtrid) → claimed tr g ≡ true → AllHaveVoted tr g

@@ -1,4 +1,5 @@
 -- What a page lists, and what a whole recovery does.
 pub mod Pages
 pub mod Recovered
+pub mod RecoveredNext
 pub mod RecoveredStart

@@ -7,6 +7,7 @@ pub mod Events
 pub mod Faults
 pub mod Lines
 pub mod Misplaced
+pub mod Processes
 pub mod Refusals
 pub mod Scans
 use Rattle.std.proofs.Common.{ℕ, zero, suc, ℤ, pos, negsuc, List, [], ◌∷◌, ◌++◌, Bool, false}

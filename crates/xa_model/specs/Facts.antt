@@ -16,4 +16,4 @@ pub use Rattle.xa_model.specs.Facts.Answered.{new_taken, new_heard, taken, heard
 pub use Rattle.xa_model.specs.Facts.Log.{Change, Change.AddRow, Change.DropRow, Change.AddRecord, Change.NoChange, lists_row, without, participants_in, has_branch, how_in, has_record, with_record, rows_changed, heuristics_changed, record_of, record_of_next, takes_part, row_for, fault_change, doubt, log, has_row, participants, is_older, outlived, counts_as_committed, heuristic_rows, recorded, recorded_as, adds_row, had_row, ever, is_taken_up, is_shut}
 pub use Rattle.xa_model.specs.Facts.Settled.{settled, settled_lately, each, each_of_some, participants_settled, row_settled, finishes, finished, has_unfinished}
 pub use Rattle.xa_model.specs.Facts.Issued.{resolving_kind, resolving_calls, new_calls, issued, next_call, is_open, is_closed, waiting, unheard, on_line}
-pub use Rattle.xa_model.specs.Facts.Standings.{held_of, standing_after, standing, fate, vote, retries}
+pub use Rattle.xa_model.specs.Facts.Standings.{fits, held_of, standing_after, standing, fate, vote, retries}

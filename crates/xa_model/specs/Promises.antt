@@ -4,4 +4,5 @@ pub mod Agreement
 pub mod AgreementInvariant
 pub mod Commitment
 pub mod Headline
+pub mod Processes
 pub mod Recovery

@@ -1,21 +1,22 @@
--- What the history asks of each happening. Beside `Demanded` this says it without numbers and in the order of no table.
+-- When a happening may come after a history: the protocol, without the refusals and their order. A reply that `Demanded` allows is
+-- right in this sense.
 use Rattle.std.specs.Prelude.{ℕ, ◌||◌, ◌+◌, ◌<◌, ◌≡◌, ◌⊎◌, List, length, true, false, Option, Some, None, IfSome, Contains, slice_get}
 use Rattle.xa_base.specs.declared.call.Call.TheVariants as Calls
-use Rattle.xa_base.specs.declared.answer.Answer.TheVariants.{Ret}
-use Rattle.xa_model.specs.Trace.{Gtrid, Branch, Code, Line, Name, Kind, Kind.Start, Kind.Join, Kind.End, Kind.Prepare, Kind.Commit, Kind.OnePhase, Kind.Rollback, Kind.Forget, Call, Answer, Outcome, Fault, Fault.InDecide, Fault.InDone, Fault.InHear, Fault.InResolve, Fault.InRestart, Happening, Happening.Begun, Happening.Issued, Happening.Resolved, Happening.ResolvedOpen, Happening.Claimed, Happening.Took, Happening.Heard, Happening.CompletedAlone, Happening.Decided, Happening.Done, Happening.Crashed, Happening.Failed, Happening.Restarted, Origin, Trace, Trace.From, Trace.Then, line}
+use Rattle.xa_base.specs.declared.answer.Answer.TheVariants.{Page, Ret}
+use Rattle.xa_model.specs.Trace.{Gtrid, Branch, Code, Line, Name, Name.Ours, Kind, Kind.Start, Kind.Join, Kind.End, Kind.Prepare, Kind.Commit, Kind.OnePhase, Kind.Rollback, Kind.Forget, Call, Answer, Outcome, Fault, Fault.InDecide, Fault.InDone, Fault.InHear, Fault.InResolve, Fault.InRestart, Happening, Happening.Begun, Happening.Issued, Happening.Resolved, Happening.ResolvedOpen, Happening.Claimed, Happening.Took, Happening.Heard, Happening.CompletedAlone, Happening.Decided, Happening.Done, Happening.Crashed, Happening.Failed, Happening.Restarted, Origin, Trace, Trace.From, Trace.Then, line}
 use Rattle.xa_base.specs.declared.code.Code.TheVariants as Codes
 use Rattle.xa_base.specs.StateTable.{state_of, asks_of, answer}
-use Rattle.xa_base.specs.declared.state.Standing.TheVariants.{Prepared}
-use Rattle.xa_model.specs.Facts.{up, incarnation, sequence, begun, decided_so, handed_over, claimed, live, started, told, says_yes, says_read_only, says_yes_in, outlived, participants_settled, lists_row, has_record, heuristic_rows, log, has_row, recorded, settled, next_answer, next_call, standing, vote, retries, is_closed}
+use Rattle.xa_base.specs.declared.state.Standing.TheVariants.{Prepared, Unstarted}
+use Rattle.xa_model.specs.Facts.{up, incarnation, sequence, begun, decided_so, handed_over, claimed, live, started, told, says_yes, says_read_only, says_yes_in, outlived, participants_settled, lists_row, has_record, heuristic_rows, held_of, log, has_row, recorded, settled, next_answer, next_call, standing, vote, retries, is_closed}
 use Rattle.xa_base.specs.Branch.{branch_of_xid}
 use Rattle.xa_base.specs.Xid.{Xid}
-use Rattle.xa_model.specs.Facts.InDoubt.{scan_answer}
+use Rattle.xa_model.specs.Facts.InDoubt.{is_in_doubt_at, scan_answer}
 
 -- the branch answered its xa_prepare with a vote for commit, and it was heard
 abbrev pub HasVoted : Trace → Branch → Type 0
 HasVoted tr b = (told tr (says_yes b) ≡ true) ⊎ (told tr (says_read_only b) ≡ true)
 
--- each branch of the transaction has
+-- so has each branch of the transaction
 abbrev pub AllHaveVoted : Trace → Gtrid → Type 0
 AllHaveVoted tr g = (b : Branch) → b.gtrid ≡ g → started tr b ≡ true → HasVoted tr b
 
@@ -50,7 +51,7 @@ IsOnOwnThread Rollback l b = Unit
 IsOnOwnThread Forget l b = Unit
 IsOnOwnThread _ l b = l.thread ≡ b.thread
 
--- begun in this incarnation; to xa_commit a row will do that has outlived its own
+-- begun in this incarnation; for xa_commit a row of an earlier one is enough
 abbrev pub IsKnown : Trace → Kind → Gtrid → Type 0
 IsKnown tr Commit g = (begun tr g || outlived tr g) ≡ true
 IsKnown tr _ g = begun tr g ≡ true
@@ -79,6 +80,16 @@ call_code tr None = Codes.Success
 abbrev pub RightAnswer : Trace → Line → Call → Answer → Type 0
 RightAnswer tr l (Calls.Recover n s e) a = a ≡ scan_answer tr l.rm n s
 RightAnswer tr l c a = a ≡ Ret (call_code tr (asks_of c))
+
+-- a page lists no branch of this manager but those that are in doubt there
+abbrev pub IsSoundPage : Trace → (rm : ℕ) → Answer → Type 0
+IsSoundPage tr r (Page names) = (b : Branch) → Lists names (Ours b) → is_in_doubt_at tr r b ≡ true
+IsSoundPage tr r (Ret code) = Unit
+
+-- all that agreement needs of an answer: it is that of the branch state table, or a sound page
+abbrev pub SoundAnswer : Trace → Line → Call → Answer → Type 0
+SoundAnswer tr l (Calls.Recover n s e) a = IsSoundPage tr l.rm a
+SoundAnswer tr l c a = a ≡ Ret (call_code tr (asks_of c))
 
 -- the transaction may be claimed
 pub record RightClaim (tr : Trace) (g : Gtrid) : Type 0 where
@@ -117,7 +128,7 @@ Right tr (Issued l c) = (up tr ≡ true) × RightIssue tr l c × (is_closed tr l
 Right tr (Resolved r) = (up tr ≡ true) × (is_closed tr (line 0 r) ≡ false)
 Right tr (ResolvedOpen r) = (up tr ≡ true) × (is_closed tr (line 0 r) ≡ false)
 Right tr (Claimed g) = RightClaim tr g
-Right tr (Took l c a) = (next_call tr l ≡ Some c) × RightAnswer tr l c a
+Right tr (Took l c a) = (next_call tr l ≡ Some c) × SoundAnswer tr l c a
 Right tr (Heard l c a) = (up tr ≡ true) × (next_answer tr l ≡ Some (c, a))
 Right tr (CompletedAlone b how) = standing tr b ≡ Prepared
 Right tr (Decided g o) = RightDecision tr g o
@@ -130,12 +141,24 @@ Right tr (Restarted i d h) =
     × (h ≡ length (heuristic_rows (Then tr (Restarted i d h))))
 Right tr _ = Unit
 
--- a start is right where no row and no record of it is of a transaction that may still be begun, and where what it lists as
--- another manager's is
+-- a start is right where no row and no record of it is of a transaction that may still be begun, no branch of this manager was
+-- ever started, and all that is in doubt is another manager's
 pub record RightOrigin (o : Origin) : Type 0 where
   pub rows_old : (g : Gtrid) → lists_row o.rows g ≡ true → g.incarnation < o.incarnation
   pub record_old : (b : Branch) → has_record o.heuristic_rows b ≡ true → b.gtrid.incarnation < o.incarnation
+  pub clear : (b : Branch) → (held_of o b).standing ≡ Unstarted
   pub foreign : (r : ℕ) (x : Xid) → Contains (o.in_doubt r) x → branch_of_xid x ≡ None
+
+-- a process may begin there, over what others left: no row, no record and no branch is of a transaction that may still be begun
+pub record OldOrigin (o : Origin) : Type 0 where
+  pub rows_old : (g : Gtrid) → lists_row o.rows g ≡ true → g.incarnation < o.incarnation
+  pub record_old : (b : Branch) → has_record o.heuristic_rows b ≡ true → b.gtrid.incarnation < o.incarnation
+  pub held_old : (b : Branch) → ((held_of o b).standing ≡ Unstarted) ⊎ (b.gtrid.incarnation < o.incarnation)
+
+-- what a process sees: each happening is right after those before it, whatever branches of older incarnations it found
+abbrev pub IsRun : Trace → Type 0
+IsRun (From o) = OldOrigin o
+IsRun (Then tr e) = IsRun tr × Right tr e
 
 -- each happening is right after the history before it
 abbrev pub AllRight : Trace → Type 0

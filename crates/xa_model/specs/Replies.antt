@@ -1,4 +1,4 @@
--- Steps and replies: what the system is asked, which refusal a history forces, which reply it demands, and how a stored
+-- Steps and replies: what the system is asked, which refusal a history forces, which replies it allows, and how a stored
 -- list of events is read as a history.
 pub mod Demanded
 pub mod Guards

@@ -45,7 +45,7 @@ pub data Fault : Type 0 where
   InResolve : Fault
   InRestart : Fault
 
--- what a step and its reply come to. A refused step, and one that found nothing, are `Nothing`
+-- what an event, a step with its reply, means. A refused step, and one that found nothing, are `Nothing`
 pub data Happening : Type 0 where
   Begun : Gtrid → Happening
   Issued : Line → Call → Happening

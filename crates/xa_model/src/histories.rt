@@ -12,16 +12,15 @@ ghost use Rattle.xa_model.specs.Facts.{branches, heuristic_rows, log, origin};
 ghost use Rattle.xa_model.specs.Replies.Steps.{Reply, Step};
 ghost use Rattle.xa_model.specs.Trace.{Origin, Trace, Trace.Then};
 
-/// The replies that a history demands:
+/// The replies that a history allows (`Demanded`):
 ///
-/// - `replies`, `events`: where each reply is one that the history before it demands, each thing happened rightly: of
-///   steps and replies whose identifiers are read as names, and so of the events that a system keeps;
-/// - `guards`: the refusals as they are listed by step are those that are listed by refusal;
-/// - `answered`: no step is left without a reply;
-/// - `valued`: each step has a value, the reply that is demanded where nothing refuses it, memory is there and the log
-///   doesn't fail;
-/// - `determined`: that value is the only one, but for a restart of the manager, which may come up with more than one
-///   incarnation, and finds the change in doubt in the log or not.
+/// - `replies`, `events`: if the history before each reply allows it, then each happening is right after those before
+///   it: `replies` of steps and replies that name branches, `events` of the events that a system keeps;
+/// - `guards`: the refusals listed by step (`Guards`) and those listed by refusal (`Rules`) are the same;
+/// - `answered`: every step has a reply that is allowed;
+/// - `valued`: every step has a value: its reply where nothing refuses it, memory is there and the log doesn't fail;
+/// - `determined`: that value is the only one, except for a restart of the manager, which may come up in more than one
+///   incarnation, and finds the change in doubt made or not.
 pub fn demanded()
     ensures replies { (tr : Trace) (xs : List (Step × Reply)) →
         AllRight tr → AllDemanded tr xs → AllRight (with_steps tr xs) }
@@ -34,11 +33,11 @@ pub fn demanded()
         IsDetermined s → IsValue tr s q → IsValue tr s r → q ≡ r }
 {}
 
-/// One event more at the end of a list of events:
+/// Appending an event to the stored list:
 ///
-/// - `history`: one thing more has happened;
-/// - `demanded`: all replies are demanded, if they were and its own is;
-/// - `before`: if all are, then those of each beginning of the list were;
+/// - `history`: it appends the event's happening to the history;
+/// - `demanded`: all replies are allowed, if those before were and the new one is;
+/// - `before`: if all replies of a list are allowed, so are those of each beginning of it;
 /// - `moment`: each event of a list is a moment of its history.
 pub fn one_more_event()
     ensures history { (o : Origin) (events : List Event) (e : Event) →
@@ -51,7 +50,7 @@ pub fn one_more_event()
         IsMoment (history o events) (happening_of e) (history o (events ++ e ∷ later)) }
 {}
 
-/// Nothing is listed twice, so that the numbers of rows, records and branches are those of their lists:
+/// Nothing is listed twice, so the lengths of the lists count the rows, the records and the branches:
 ///
 /// - `rows`: no transaction has two rows in the log, where none had at the start;
 /// - `records`: no branch has two records, where none had at the start;

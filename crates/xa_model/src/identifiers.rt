@@ -34,7 +34,7 @@ pub fn names()
 /// Nothing of a step or a reply is lost in what a history knows of it:
 ///
 /// - `steps`, `replies`: what a history knows of a step, or of a reply, gives it back;
-/// - `ours`: no history demands an answer to a call on another manager's identifier.
+/// - `ours`: no history allows an answer to a call on another manager's identifier.
 pub fn read_back()
     ensures steps { (s : Step Xid) → StepHasXids s → step_back (step_of s) ≡ s }
     ensures replies { (r : Reply Xid) → ReplyHasXids r → reply_back (reply_of r) ≡ r }

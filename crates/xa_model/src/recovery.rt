@@ -5,9 +5,12 @@ ghost use Rattle.xa_model.specs.Promises.Recovery.{IsRecovered, MayComplete, rec
 ghost use Rattle.xa_model.specs.Protocol.{AllRight};
 ghost use Rattle.xa_model.specs.Trace.{Answer, Call, Name, Trace};
 
-/// A whole recovery completes: all that is in doubt at a resource manager is scanned in one page, heard and
-/// resolved, and the calls are taken and heard one by one. Where none of these steps is refused and no commit is
-/// put off, each branch that is still prepared there is of a live transaction.
+/// A whole recovery completes: after it, every branch that is still prepared at the resource manager belongs to a live
+/// transaction.
+///
+/// A whole recovery begins where no call waits on the first thread's line. One page lists all that is in doubt, the
+/// page is heard and resolved, and every call that follows is taken and heard; no step is refused, and no commit is put
+/// off. The branches' numbers fit their identifiers.
 pub fn recovery_completes()
     ensures { (tr : Trace) (r count : ℕ) (names : List Name) (answers : List (Call × Answer)) →
         AllRight tr → MayComplete tr r count answers

@@ -1,5 +1,5 @@
 -- The table of branches and its index.
-use Rattle.std.proofs.Common.{◌≡◌, ◌==◌, ℕ, ℤ, ◌&&◌, ◌||◌, Bool, true, false, if◌then◌else◌, cond, List, [], ◌∷◌, map, Option, Some, None, IsSome, Result, Ok, Err, OnOk, OnErr, refl, sym, ◌∙◌, ap, subst}
+use Rattle.std.proofs.Common.{◌≡◌, ◌==◌, ℕ, ℤ, ◌&&◌, Bool, true, false, if◌then◌else◌, cond, List, [], ◌∷◌, map, Option, Some, None, IsSome, Result, Ok, Err, OnOk, OnErr, refl, sym, ◌∙◌, ap, subst}
 use Rattle.std.specs.Prelude.{Contains, ◌↔◌, ◌≢◌}
 use Rattle.std.specs.List.{list_any}
 use Rattle.std.specs.BTreeMap as tree
@@ -14,6 +14,7 @@ use Rattle.std.proofs.lemmas.Map.Views.{All-found, btree_set_contains_iff}
 use Rattle.std.proofs.lemmas.Bool.Decides.{Decides-int_eq}
 use Rattle.std.proofs.lemmas.List.Elements.{All-contains}
 use Rattle.std.proofs.lemmas.List.Folds.{Any-from_list_any}
+use Rattle.std.proofs.lemmas.Bool.{and_parts, or_parts}
 use Rattle.xa_base.proofs.XidOrder.{xid_cmp_exact, xid_eq-same}
 use Rattle.xa_base.specs.Xid.{xid_cmp_total, Xid, xid_cmp}
 use Rattle.xa_base.specs.HeldBranch.{HeldBranch, new_branch, broken_by, crashed}
@@ -23,9 +24,10 @@ use Rattle.xa_base.specs.StateTable.{broken}
 use Rattle.xa_base.specs.declared.state.Fate.TheVariants as Fates
 use Rattle.xa_base.specs.declared.state.Standing.{Standing}
 use Rattle.xa_base.specs.declared.state.Standing.TheVariants.{Unstarted, Active, Idle, Prepared, RollbackOnly, Completed, Committed, RolledBack, Lost, ReadOnly, Forgotten}
+use Rattle.xa_base.proofs.StateLemmas.{broken_in_doubt}
 use Rattle.xa_rm.specs.Branches.{IsIndex, held_at, branch_or_new}
 use Rattle.xa_rm.specs.Held.{held_branch, was_started}
-use Rattle.xa_rm.specs.ResourceManager.{HoldsFormat, HoldsNoFormat}
+use Rattle.xa_rm.specs.ResourceManager.{HoldsFormat, HoldsNewer, HoldsNoFormat, HoldsPast, names_newer}
 use Rattle.xa_rm.specs.declared.held.Held.{Held}
 
 -- ** the list of the index
@@ -97,10 +99,6 @@ index_after_map f keeps table new_table index changed is_index = record {
 
 -- ** breaks
 
-broken_in_doubt : (s : Standing) → is_in_doubt (broken s) ≡ is_in_doubt s
-broken_in_doubt Active = refl
-broken_in_doubt _ = refl
-
 pub crashed_in_doubt : (b : HeldBranch) → is_in_doubt (crashed b).standing ≡ is_in_doubt b.standing
 crashed_in_doubt b = broken_in_doubt b.standing
 
@@ -152,17 +150,9 @@ unstarted_fate : (s : Standing) → was_started s ≡ false → fate_of s ≡ Fa
 unstarted_fate Unstarted e = refl
 unstarted_fate _ e = let no : ⊥ = cc in absurd no
 
-and-both : (a b : Bool) → (a && b) ≡ true → (a ≡ true) × (b ≡ true)
-and-both true b e = (refl, e)
-and-both false b e = let no : ⊥ = cc in absurd no
-
 and-second : (a b : Bool) → a ≡ true → (a && b) ≡ false → b ≡ false
 and-second true b h e = e
 and-second false b h e = let no : ⊥ = cc in absurd no
-
-or-neither : (a b : Bool) → (a || b) ≡ false → (a ≡ false) × (b ≡ false)
-or-neither true b e = let no : ⊥ = cc in absurd no
-or-neither false b e = (refl, e)
 
 -- an entry of the format that was started is of a branch that was
 pub format_held : (table : BTreeMap Xid Held) → tree.IsOrdered xid_cmp table → (z : ℤ)
@@ -173,7 +163,7 @@ format_held table ordered z e =
     let found_there =
     All-contains (λ (p : Xid × Held). tree.get xid_cmp table p.0 ≡ Some p.1) table.entries entry (All-found xid_cmp_total table ordered)
     (some.0, some.2, some.3) in
-    let both = and-both (int_eq entry.0.format z) (was_started entry.1.standing) some.4 in
+    let both = and_parts (int_eq entry.0.format z) (was_started entry.1.standing) some.4 in
     record {
       xid = entry.0;
       format = (Decides-int_eq entry.0.format z).0 both.0;
@@ -184,7 +174,7 @@ unstarted_at : (x : Xid) (z : ℤ) → x.format ≡ z → (es : List (Xid × Hel
     → fate_of (branch_or_new (lookup (is_at (xid_cmp x)) es)).standing ≡ Fates.Unstarted
 unstarted_at x z of [] none = refl
 unstarted_at x z of (e ∷ es) none =
-    let neither = or-neither (is_of_format z e) (list_any (is_of_format z) es) none in
+    let neither = or_parts (is_of_format z e) (list_any (is_of_format z) es) none in
     elim (is_at (xid_cmp x) e.0) as
     (λ t. is_at (xid_cmp x) e.0 ≡ t → fate_of (branch_or_new (cond t (Some e.1) (lookup (is_at (xid_cmp x)) es))).standing ≡ Fates.Unstarted) [
       | true ↦ λ at. unstarted_fate e.1.standing
@@ -196,3 +186,40 @@ unstarted_at x z of (e ∷ es) none =
 -- where there is no such entry, no branch of the format ever was
 pub format_not_held : (table : BTreeMap Xid Held) (z : ℤ) → list_any (is_of_format z) table.entries ≡ false → HoldsNoFormat (held_at table) z
 format_not_held table z none = record { unstarted = λ x of. unstarted_at x z of table.entries none }
+
+-- ** what earlier processes left
+
+-- whether an entry is of a branch of this manager that isn't past, and that ever was
+abbrev pub is_newer_entry : (rm incarnation : ℕ) → Xid × Held → Bool
+is_newer_entry r i e = names_newer r i e.0 && was_started e.1.standing
+
+pub newer_held : (table : BTreeMap Xid Held) → tree.IsOrdered xid_cmp table → (r i : ℕ)
+    → list_any (is_newer_entry r i) table.entries ≡ true → HoldsNewer (held_at table) r i
+newer_held table ordered r i e =
+    let some = Any-from_list_any (is_newer_entry r i) table.entries e in
+    let entry = some.1 in
+    let found_there =
+    All-contains (λ (p : Xid × Held). tree.get xid_cmp table p.0 ≡ Some p.1) table.entries entry (All-found xid_cmp_total table ordered)
+    (some.0, some.2, some.3) in
+    let both = and_parts (names_newer r i entry.0) (was_started entry.1.standing) some.4 in
+    record {
+      xid = entry.0;
+      newer = both.0;
+      started = subst (λ (o : Option Held). fate_of (branch_or_new o).standing ≢ Fates.Unstarted) (sym found_there) (started_fate entry.1.standing both.1);
+    }
+
+past_at : (x : Xid) (r i : ℕ) → names_newer r i x ≡ true → (es : List (Xid × Held)) → list_any (is_newer_entry r i) es ≡ false
+    → fate_of (branch_or_new (lookup (is_at (xid_cmp x)) es)).standing ≡ Fates.Unstarted
+past_at x r i of [] none = refl
+past_at x r i of (e ∷ es) none =
+    let neither = or_parts (is_newer_entry r i e) (list_any (is_newer_entry r i) es) none in
+    elim (is_at (xid_cmp x) e.0) as
+    (λ t. is_at (xid_cmp x) e.0 ≡ t → fate_of (branch_or_new (cond t (Some e.1) (lookup (is_at (xid_cmp x)) es))).standing ≡ Fates.Unstarted) [
+      | true ↦ λ at. unstarted_fate e.1.standing
+          (and-second (names_newer r i e.0) (was_started e.1.standing)
+          (ap (names_newer r i) (sym (xid_eq-same x e.0 at)) ∙ of) neither.0)
+      | false ↦ λ at. past_at x r i of es neither.1
+    ] refl
+
+pub newer_not_held : (table : BTreeMap Xid Held) (r i : ℕ) → list_any (is_newer_entry r i) table.entries ≡ false → HoldsPast (held_at table) r i
+newer_not_held table r i none = record { unstarted = λ x of. past_at x r i of table.entries none }

@@ -1,7 +1,9 @@
 -- What calls, scripts and scans do at a resource manager: to the branch of each identifier, and to the scan of each thread.
-use Rattle.std.specs.Prelude.{◌≡◌, ◌≢◌, ◌==◌, ℕ, ℤ, Bool, true, false, if◌then◌else◌, List, Option, Some, None}
+use Rattle.std.specs.Prelude.{◌≡◌, ◌≢◌, ◌==◌, ◌-◌, ◌^◌, ◌&&◌, ℕ, ℤ, Bool, true, false, not, nat_eq, nat_le, nat_lt, if◌then◌else◌, List, Option, Some, None}
 use Rattle.std.specs.Option.{option_map_or}
+use Rattle.xa_base.specs.Branch.{branch_of_xid}
 use Rattle.xa_base.specs.Call.{call_with}
+use Rattle.xa_base.specs.declared.branch.Branch.{Branch}
 use Rattle.xa_base.specs.HeldBranch.{HeldBranch, code_for}
 use Rattle.xa_base.specs.Recover.{xid_page, page_answer}
 use Rattle.xa_base.specs.Scan.{Scan, scan_after}
@@ -77,3 +79,23 @@ pub record HoldsFormat (held : Xid → HeldBranch) (z : ℤ) : Type 0 where
 -- no branch of this format ever was
 pub record HoldsNoFormat (held : Xid → HeldBranch) (z : ℤ) : Type 0 where
   pub unstarted : (x : Xid) → x.format ≡ z → fate_of (held x).standing ≡ Fates.Unstarted
+
+-- ** what earlier processes left
+
+-- the branch is of this resource manager and of an earlier incarnation than this one, and a row of a log can hold its numbers
+abbrev pub is_past : (rm incarnation : ℕ) → Branch → Bool
+is_past r i b = nat_eq b.rm r && (nat_lt b.gtrid.incarnation i && nat_le b.gtrid.sequence (2 ^ 63 - 1))
+
+-- whether an identifier names a branch of this manager that isn't so
+abbrev pub names_newer : (rm incarnation : ℕ) → Xid → Bool
+names_newer r i x = option_map_or (λ b. not (is_past r i b)) (branch_of_xid x) false
+
+-- some such branch was ever started
+pub record HoldsNewer (held : Xid → HeldBranch) (r i : ℕ) : Type 0 where
+  pub xid : Xid
+  pub newer : names_newer r i xid ≡ true
+  pub started : fate_of (held xid).standing ≢ Fates.Unstarted
+
+-- none ever was
+pub record HoldsPast (held : Xid → HeldBranch) (r i : ℕ) : Type 0 where
+  pub unstarted : (x : Xid) → names_newer r i x ≡ true → fate_of (held x).standing ≡ Fates.Unstarted

@@ -1,6 +1,8 @@
 //! The table of branches, and the index of those in doubt.
 
+ghost use Rattle.std.specs.Prelude.{◌≡◌};
 ghost use Rattle.xa_rm.specs.Branches.{IsIndex};
+ghost use Rattle.xa_rm.specs.ResourceManager.{names_newer};
 
 use crate::held::Held;
 use crate::scans::Cursor;
@@ -8,6 +10,24 @@ use std::alloc::Global;
 use std::collections::{BTreeMap, BTreeSet};
 use std::ops::Bound;
 use xa_base::{Call, Code, Memory, Xid};
+
+/// The greatest number that a row of a log can have.
+const LAST_NUMBER: u64 = i64::MAX as u64;
+
+/// Whether an identifier names a branch of this manager that is of another resource manager, or of no earlier
+/// incarnation, or whose numbers no row of a log can hold.
+fn names_newer(xid: &Xid, rm: u32, incarnation: u64) -> bool
+    ensures { result ≡ names_newer rm incarnation xid.now }
+{
+    match xid.branch() {
+        Some(branch) => {
+            !(branch.rm == rm
+                && branch.gtrid.incarnation < incarnation
+                && branch.gtrid.sequence <= LAST_NUMBER)
+        }
+        None => false,
+    }
+}
 
 /// The branches that were ever named, with an index of those in doubt: the prepared and the heuristically completed.
 #[derive(Drop)]
@@ -28,7 +48,7 @@ impl Branches {
     ghost use Rattle.xa_base.specs.declared.code.Code.TheVariants.{NotAnXid};
     ghost use Rattle.xa_rm.specs.Branches.{held_at};
     ghost use Rattle.xa_rm.specs.Held.{held_branch};
-    ghost use Rattle.xa_rm.specs.ResourceManager.{HoldsFormat, HoldsNoFormat, is_of_line};
+    ghost use Rattle.xa_rm.specs.ResourceManager.{HoldsFormat, HoldsNewer, HoldsNoFormat, HoldsPast, is_of_line};
     ghost use Rattle.xa_rm.specs.Scans.{place_of};
 
     pub(crate) fn new(alloc: Global) -> Branches
@@ -126,6 +146,15 @@ impl Branches {
         self.table
             .iter()
             .any(|(xid, held)| xid.format() == format && held.was_started())
+    }
+
+    /// Whether a branch of this manager was ever started that is of another resource manager than this number or of no
+    /// earlier incarnation, or whose numbers no row of a log can hold.
+    pub(crate) fn holds_newer(&self, rm: u32, incarnation: u64) -> bool
+        ensures newer { result ≡ true → HoldsNewer (held_at self.now.table) rm incarnation }
+        ensures past { result ≡ false → HoldsPast (held_at self.now.table) rm incarnation }
+    {
+        self.table.iter().any(|(xid, held)| names_newer(xid, rm, incarnation) && held.was_started())
     }
 
     /// How many identifiers are in doubt.

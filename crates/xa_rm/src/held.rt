@@ -4,7 +4,7 @@ ghost use Rattle.std.specs.Prelude.{◌≡◌, ℕ};
 use xa_base::{Call, Code, RbCode, Standing, Vote};
 
 /// What a resource manager holds of a branch.
-#[derive(Clone, Copy, Debug)]
+#[derive(Clone, Copy)]
 pub(crate) struct Held {
     pub(crate) standing: Standing,
     /// The thread that started it last.

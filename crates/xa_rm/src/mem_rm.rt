@@ -168,6 +168,10 @@ impl ResourceManager for MemRm {
         self.branches.holds_format(format)
     }
 
+    fn holds_newer(&self, rm: u32, incarnation: u64) -> bool {
+        self.branches.holds_newer(rm, incarnation)
+    }
+
     fn in_doubt_len(&self) -> usize {
         self.branches.in_doubt_len()
     }

@@ -18,6 +18,7 @@ pub trait ResourceManager {
     ghost use Rattle.xa_base.specs.declared.code.Code.TheVariants.{Invalid, NotAnXid};
     ghost use Rattle.xa_rm.specs.ResourceManager.{answer_to, scan_after_call, is_of_line, answer_to_recover, scan_after_recover};
     ghost use Rattle.xa_rm.specs.ResourceManager.{changed_at, voting, retrying, HoldsFormat, HoldsNoFormat};
+    ghost use Rattle.xa_rm.specs.ResourceManager.{HoldsNewer, HoldsPast};
 
     /// The branch of an identifier.
     ghost held_of: { Self → Xid → HeldBranch };
@@ -28,11 +29,12 @@ pub trait ResourceManager {
     /// The identifiers in doubt, in order.
     ghost in_doubt_of: { Self → List Xid };
 
-    /// Answers a thread's call (XA, chapter 5), by the branch state table. A branch that is started remembers the thread.
+    /// Answers a thread's call (XA, chapter 5), by the branch state table. A branch that is started remembers the
+    /// thread. xa_recover is answered as `recover` answers it.
     ///
-    /// To xa_recover it answers as `recover` does. xa_open, xa_close and what is answered XAER_INVAL or XAER_NOTA take no
-    /// memory, and so never fail.
+    /// xa_open, xa_close and any call answered XAER_INVAL or XAER_NOTA take no memory, and so never fail.
     fn apply(&mut self, thread: u32, call: &Call) -> Result<Answer, Memory>
+        // The answer, and what the call changes: the branch that it names, and the thread's scan.
         ensures answer { IfOk result (λ answer.
             answer ≡ answer_to (held_of self.old) (scan_of self.old thread)
             (in_doubt_of self.old) call.now) }
@@ -44,6 +46,7 @@ pub trait ResourceManager {
         // Wherever a page is answered, it is one of what is in doubt.
         ensures in_doubt { IfOk result (λ answer. (page : List Xid) → answer ≡ Page page →
             IsInDoubtList (held_of self.old) (in_doubt_of self.old)) }
+        // After a fault nothing has changed.
         ensures err_held { OnErr result ((x : Xid) → held_of self.new x ≡ held_of self.old x) }
         ensures err_scans { OnErr result ((t : ℕ) → scan_of self.new t ≡ scan_of self.old t) }
         // Neither xa_open and xa_close nor an answer XAER_INVAL or XAER_NOTA takes memory.
@@ -55,8 +58,8 @@ pub trait ResourceManager {
             (in_doubt_of self.old) call.now ≡ Ret NotAnXid
             → IsOk result };
 
-    /// Lists up to `count` identifiers in doubt that stand behind the thread's recovery scan, in order and of any format,
-    /// and moves the scan behind the last of them (XA, chapter 5, xa_recover).
+    /// Lists up to `count` identifiers in doubt that stand behind the thread's recovery scan, in order and of any
+    /// format, and moves the scan behind the last of them (XA, chapter 5, xa_recover).
     ///
     /// `flags` are TMSTARTRSCAN, which puts the scan at the start, and TMENDRSCAN, which ends it after the call. The
     /// answer is XAER_INVAL, and nothing changes, at any other flag, at a negative count, and where no scan is open
@@ -78,7 +81,7 @@ pub trait ResourceManager {
             → IsOk result };
 
     /// Sets how the branch votes when it is next prepared or committed in one phase. The last vote set counts, and
-    /// without one it is yes. A crash forgets none.
+    /// without one it is yes. The vote stays with the identifier: a crash doesn't change it, nor does the branch's end.
     ///
     /// `RmFault::Script` where the branch is prepared or heuristically completed, and so has voted.
     fn vote(&mut self, xid: &Xid, vote: Vote) -> Result<(), RmFault>
@@ -117,11 +120,11 @@ pub trait ResourceManager {
         ensures scans { (t : ℕ) → scan_of self.new t
             ≡ (if t == thread then NotOpen else scan_of self.old t) };
 
-    /// The lines of all threads broke: the resource manager crashed, or who calls it, with all its lines, did. Each branch
-    /// that isn't prepared or completed is lost, and all recovery scans are closed. No memory is taken.
+    /// The lines of all threads broke. Each branch that isn't prepared or completed is lost, and all recovery scans are
+    /// closed. No memory is taken.
     ///
-    /// What calls this where the resource manager itself goes on is the transaction manager's end: its own crash, or a
-    /// failure of its log, with which it goes down.
+    /// The resource manager itself has crashed or, with all its lines, the transaction manager has. A failure of its log
+    /// brings the transaction manager down too.
     fn crash(&mut self)
         ensures held { (x : Xid) → held_of self.new x ≡ crashed (held_of self.old x) }
         ensures scans { (t : ℕ) → scan_of self.new t ≡ NotOpen };
@@ -138,6 +141,12 @@ pub trait ResourceManager {
     fn holds_format(&self, format: i32) -> bool
         ensures held { result ≡ true → HoldsFormat (held_of self.now) format }
         ensures clear { result ≡ false → HoldsNoFormat (held_of self.now) format };
+
+    /// Whether a branch of this manager was ever started that is of another resource manager than this number or of no
+    /// earlier incarnation, or whose numbers no row of a log can hold.
+    fn holds_newer(&self, rm: u32, incarnation: u64) -> bool
+        ensures newer { result ≡ true → HoldsNewer (held_of self.now) rm incarnation }
+        ensures past { result ≡ false → HoldsPast (held_of self.now) rm incarnation };
 
     /// How many identifiers are in doubt. No page lists more.
     fn in_doubt_len(&self) -> usize

@@ -7,7 +7,7 @@ use std::ops::Bound;
 use xa_base::{Memory, Xid};
 
 /// Where an open recovery scan stands.
-#[derive(Debug, Drop)]
+#[derive(Drop)]
 pub(crate) enum Cursor {
     /// Before all identifiers.
     Start,
@@ -70,7 +70,8 @@ impl Scans {
         }
     }
 
-    /// From where a thread's call reads: from the start if it asks for that, else from where its scan stands, if one is open.
+    /// From where a thread's call reads: from the start if it asks for that, else from where its scan stands, if one is
+    /// open.
     pub(crate) fn reads_from(&self, thread: u32, start_scan: bool) -> Option<Cursor>
         ensures { option_map place_of result
             ≡ reads_from (scan_at self.now.cursors thread) start_scan }

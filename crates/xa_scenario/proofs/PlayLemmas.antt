@@ -58,7 +58,7 @@ names_none_after : (thread rm : ℕ) (moved : Bool) (rest : List Event) → (IsD
 names_none_after thread rm true rest by h = by h
 names_none_after thread rm false rest by h = rw h refl
 
--- a drain begins_one no transaction
+-- a drain begins no transaction
 pub drain_names_none : (thread rm : ℕ) (events : List Event) → IsDrain thread rm events → gtrids_of events ≡ []
 drain_names_none thread rm [] h = absurd h
 drain_names_none thread rm (a ∷ []) h = absurd h
@@ -78,7 +78,7 @@ answered_both : (trace here others : List Event) → AreAnswered trace here → 
 answered_both trace [] others first second = second
 answered_both trace (e ∷ here) others first second = (first.0, answered_both (events_after trace e) here others first.1 second)
 
--- an entry that was played, and then those events_after it
+-- an entry that was played, and then those after it
 pub play_goes_on : (gtrids began after_gtrids : List Gtrid) (entry : Entry) (entries : List Entry) (P : List Event → Type 0) (start trace new : List Event)
     → after_gtrids ≡ gtrids ++ began → Performs (λ here. MakesEvents gtrids entry here × (gtrids_of here ≡ began)) trace new
     → Leads (IsPlay gtrids (entry ∷ entries)) P start trace → Leads (IsPlay after_gtrids entries) P start new

@@ -1,18 +1,20 @@
 -- Why a run ended.
-use Rattle.std.proofs.Common.{◌≡◌, Bool, List, [], ℕ, Option, Result, Ok, Err, IfOk, IfErr, OnErr, String, Global, string_bytes, ap, sym, subst, ◌∙◌, ◌≢◌}
+use Rattle.std.proofs.Common.{◌≡◌, Bool, List, [], ℕ, Option, Result, Ok, Err, IfOk, IfErr, OnErr, String, Global, string_bytes, ap, sym, subst, ◌∙◌, ◌≢◌, ◌⊎◌, ⊎_elim}
 use Rattle.xa_model.specs.Promises.Headline.{Headline}
 use Rattle.xa_model.specs.Replies.History.{AreDemanded}
 use Rattle.xa_model.specs.Trace.{Origin}
 use Rattle.xa_base.specs.Xid.{Xid}
+use Rattle.xa_log.specs.Contract.{Moment}
 use Rattle.xa_base.specs.declared.reply.Event.{Event}
 use Rattle.xa_base.specs.declared.state.Fate.{Fate}
 use Rattle.xa_files.specs.Outputs.{AppendsBeginning}
+use Rattle.xa_files.proofs.ListedLemmas.{same_err}
 use Rattle.xa_files.proofs.ReadingLemmas.{explained}
 use Rattle.xa_files.specs.Reading.{Explains, Fails}
 use Rattle.xa_files.specs.declared.fault.RunFault.{RunFault}
-use Rattle.xa_files.specs.declared.fault.RunFault.TheVariants.{Work, Output}
+use Rattle.xa_files.specs.declared.fault.RunFault.TheVariants.{Log, Memory, Work, Output}
 use Rattle.xa_scenario.specs.Plays.{IsPlay, Performs}
-use Rattle.xa_scenario.specs.Runs.{Begins, BeginsCheck, BeginsRun, IsReportOf, IsRunOf, IsStartOf, IsTextOf, Prints, PrintsRun, check_line, run_text}
+use Rattle.xa_scenario.specs.Runs.{Begins, BeginsCheck, BeginsRun, IsReportOf, IsRunOf, IsStartOf, StartsOverLog, IsTextOf, Prints, PrintsRun, check_line, run_text}
 use Rattle.xa_scenario.specs.Scenarios.{Plan, scenario_of}
 use Rattle.xa_scenario.proofs.TextFaults as texts
 
@@ -28,6 +30,15 @@ not_of_output fault text fails e = texts.not_of_output text (subst (λ (f : RunF
 -- nor with one of the work
 pub not_of_work : (fault : RunFault) (text : List ℕ) → Fails fault (scenario_of text) → fault ≢ Work
 not_of_work fault text fails e = texts.not_of_work text (subst (λ (f : RunFault). Fails f (scenario_of text)) e fails)
+
+-- nor with one of the log
+pub not_of_log : (fault : RunFault) (text : List ℕ) → Fails fault (scenario_of text) → fault ≢ Log
+not_of_log fault text fails e = texts.not_of_log text (subst (λ (f : RunFault). Fails f (scenario_of text)) e fails)
+
+-- a fault of memory or of the output is none of the log
+pub not_log : (result : Result (Unit {0}) RunFault) (P : Type 0) → IfErr result (λ e. (e ≡ Memory) ⊎ (e ≡ Output)) → result ≡ Err Log → P
+not_log (Ok done) P why is = absurd (cc)
+not_log (Err e) P why is = absurd (⊎_elim (λ (m : e ≡ Memory). let no : Memory ≡ Log = sym m ∙ same_err e Log is in cc) (λ (o : e ≡ Output). let no : Output ≡ Log = sym o ∙ same_err e Log is in cc) why)
 
 -- what a fault of the output leaves
 pub on_output : (result : Result (Unit {0}) RunFault) (P Q : Type 0) → (P → Q)
@@ -48,22 +59,21 @@ begins_check text plan old new reads written = record { plan = plan; reads = rea
 
 -- what was played is a run of the scenario
 pub is_run : (plan : Plan) (start end : Origin) (begun events : List Event) → end ≡ start → IsStartOf plan start → begun ≡ []
-    → Performs (IsPlay [] plan.entries) begun events → AreDemanded end events → Headline end events → IsRunOf plan end events
+    → Performs (IsPlay [] plan.entries) begun events → AreDemanded end events → Headline end events → IsRunOf plan start events
 is_run plan start end begun events same starts none played demanded headline = record {
-  start = subst (IsStartOf plan) (sym same) starts;
+  start = starts;
   played = subst (λ old. Performs (IsPlay [] plan.entries) old events) none played;
-  demanded = demanded;
-  headline = headline;
+  demanded = subst (λ o. AreDemanded o events) same demanded;
+  headline = subst (λ o. Headline o events) same headline;
 }
 
--- of a text that is the scenario
-pub prints_text : (text : List ℕ) (plan : Plan) (with_trace : Bool) (old new : Option (List ℕ)) → scenario_of text ≡ Ok plan → PrintsRun plan with_trace old new
-    → Prints text with_trace old new
-prints_text text plan with_trace old new reads run = record { plan = plan; reads = reads; run = run }
+-- of a text that is the scenario, over a log
+module _ {L : Type 0} (moment : L → Moment) (log : L) (text : List ℕ) (plan : Plan) (with_trace : Bool) (o : Origin) (old new : Option (List ℕ)) where
+  pub prints_text : scenario_of text ≡ Ok plan → StartsOverLog moment log o → PrintsRun plan with_trace o old new → Prints moment log text with_trace old new
+  prints_text reads over run = record { plan = plan; origin = o; reads = reads; over = over; run = run }
 
-pub begins_text : (text : List ℕ) (plan : Plan) (with_trace : Bool) (old new : Option (List ℕ)) → scenario_of text ≡ Ok plan → BeginsRun plan with_trace old new
-    → Begins text with_trace old new
-begins_text text plan with_trace old new reads run = record { plan = plan; reads = reads; run = run }
+  pub begins_text : scenario_of text ≡ Ok plan → StartsOverLog moment log o → BeginsRun plan with_trace o old new → Begins moment log text with_trace old new
+  begins_text reads over run = record { plan = plan; origin = o; reads = reads; over = over; run = run }
 
 -- a text that was made of the events and of their report
 pub told : (r : Result (String Global) RunFault) (with_trace : Bool) (o : Origin) (events given : List Event) (fates listed : List (Xid × Fate))

@@ -28,7 +28,7 @@ abbrev pub IsAnswered : List Event → Reply Xid → Type 0
 IsAnswered trace reply =
     MatchBool (nat_lt (length trace) EVENT_LIMIT) (Unit {0}) (reply ≡ replies.Refused refusals.Limit)
 
--- the trace events_after a step: it holds no more events, once it is full
+-- the trace after a step: it holds no more events, once it is full
 abbrev pub events_after : List Event → Event → List Event
 events_after trace event = if nat_lt (length trace) EVENT_LIMIT then trace ++ event ∷ [] else trace
 
@@ -36,7 +36,7 @@ abbrev pub AreAnswered : List Event → List Event → Type 0
 AreAnswered trace [] = Unit {0}
 AreAnswered trace (event ∷ events) = IsAnswered trace event.reply × AreAnswered (events_after trace event) events
 
--- the trace events_after steps in turn
+-- the trace after steps in turn
 abbrev pub trace_after : List Event → List Event → List Event
 trace_after trace [] = trace
 trace_after trace (event ∷ events) = trace_after (events_after trace event) events
@@ -59,7 +59,7 @@ abbrev pub gtrid_answered : Reply Xid → Gtrid
 gtrid_answered (replies.Begun gtrid) = gtrid
 gtrid_answered _ = no_gtrid
 
--- whether the step begins_one a transaction
+-- whether the step begins a transaction
 abbrev pub begins_one : Step Xid → Bool
 begins_one (steps.Begin thread) = true
 begins_one _ = false
@@ -68,7 +68,7 @@ begins_one _ = false
 abbrev pub gtrid_begun : Event → Option Gtrid
 gtrid_begun event = if begins_one event.step then Some (gtrid_answered event.reply) else None
 
--- what the names of the begins_one among these events stand for
+-- what the names of the begins among these events stand for
 abbrev pub gtrids_of : List Event → List Gtrid
 gtrids_of = filter_map gtrid_begun
 

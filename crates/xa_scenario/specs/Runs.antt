@@ -1,11 +1,13 @@
 -- What a run of a scenario file prints, and why it ends early.
-use Rattle.std.specs.Prelude.{◌≡◌, ◌⊎◌, ◌↔◌, ℕ, Bool, if◌then◌else◌, List, [], ◌++◌, length, codes, Contains, Option, Ok}
+use Rattle.std.specs.Prelude.{◌≡◌, ◌⊎◌, ◌↔◌, ℕ, Bool, if◌then◌else◌, List, [], ◌++◌, length, codes, Contains, Option, Ok, IsSomeAnd}
 use Rattle.std.specs.Fmt.{decimal}
 use Rattle.std.specs.Io.KnownBytes.{Appends}
 use Rattle.std.specs.List.Sorted.{IsStrictlySortedBy}
 use Rattle.std.specs.Map.{keys_of}
 use Rattle.xa_model.specs.Promises.Headline.{Headline}
 use Rattle.xa_base.specs.HeldBranch.{new_branch}
+use Rattle.xa_base.specs.Scan.{Scan.NotOpen}
+use Rattle.xa_log.specs.Contract.{Moment}
 use Rattle.xa_model.specs.Replies.History.{AreDemanded, history}
 use Rattle.xa_model.specs.Trace.{Origin}
 use Rattle.xa_base.specs.Xid.{Xid, xid_cmp}
@@ -18,15 +20,32 @@ use Rattle.xa_files.specs.declared.fault.RunFault.TheVariants.{Log, Memory}
 use Rattle.xa_scenario.specs.Plays.{IsPlay, Performs}
 use Rattle.xa_scenario.specs.Replies.{trace_lines}
 use Rattle.xa_scenario.specs.Scenarios.{Plan, scenario_of}
+use Rattle.xa_system.specs.Logged.{StartsOver}
 use Rattle.xa_system.specs.Report.{IsReported}
+use Rattle.xa_system.specs.Sites.{Looks}
 
 -- ** runs
 
--- where a run of a scenario starts: a system as large as it says, at whose resource managers no branch ever was
+-- a resource manager at which no branch ever was, nothing is in doubt and no scan is open
+pub record IsNewRm {R : Type 0} (look : Looks R) (rm : R) : Type 0 where
+  pub held : (x : Xid) → look.held_of rm x ≡ new_branch
+  pub in_doubt : look.in_doubt_of rm ≡ []
+  pub scans : (thread : ℕ) → look.scan_of rm thread ≡ NotOpen
+
+-- where a run of a scenario starts: a system as large as it says, with new resource managers
 pub record IsStartOf (plan : Plan) (o : Origin) : Type 0 where
   pub threads : o.threads ≡ plan.threads
   pub rms : o.rms ≡ plan.rms
   pub unstarted : (r : ℕ) (x : Xid) → o.held r x ≡ new_branch
+  pub in_doubt : (r : ℕ) → o.in_doubt r ≡ []
+  pub scans : (r : ℕ) → o.scans r ≡ NotOpen
+
+-- It starts over this log: with just the rows and the record that the log held, in its next incarnation. That is so where
+-- the log was in order, and what it rests on was honest until the start, which left it as `left`.
+pub record StartsOverLog {L : Type 0} (moment : L → Moment) (log : L) (o : Origin) : Type 0 where
+  pub left : L
+  pub honest : (moment left).is_honest → (moment log).is_honest
+  pub held : (moment log).is_in_order → (moment left).is_honest → IsSomeAnd (moment log).content (StartsOver o)
 
 -- The events are those of the scenario's entries in turn, as far as there is room for them; each is answered as the
 -- history before it demands, and so they are all that the headline says.
@@ -53,35 +72,38 @@ pub record IsTextOf (with_trace : Bool) (o : Origin) (events : List Event) (text
   pub report : IsReportOf o events fates
   pub spelled : text ≡ run_text with_trace events fates
 
--- What was written is the text of a run of the scenario.
-pub record PrintsRun (plan : Plan) (with_trace : Bool) (old new : Option (List ℕ)) : Type 0 where
-  pub origin : Origin
+-- What was written is the text of a run of the scenario from this start.
+pub record PrintsRun (plan : Plan) (with_trace : Bool) (o : Origin) (old new : Option (List ℕ)) : Type 0 where
   pub events : List Event
   pub text : List ℕ
-  pub run : IsRunOf plan origin events
-  pub told : IsTextOf with_trace origin events text
+  pub run : IsRunOf plan o events
+  pub told : IsTextOf with_trace o events text
   pub writes : Appends old new text
 
--- What was written is a beginning of the text of a run of the scenario.
-pub record BeginsRun (plan : Plan) (with_trace : Bool) (old new : Option (List ℕ)) : Type 0 where
-  pub origin : Origin
+-- What was written is a beginning of the text of a run of the scenario from this start.
+pub record BeginsRun (plan : Plan) (with_trace : Bool) (o : Origin) (old new : Option (List ℕ)) : Type 0 where
   pub events : List Event
   pub text : List ℕ
-  pub run : IsRunOf plan origin events
-  pub told : IsTextOf with_trace origin events text
+  pub run : IsRunOf plan o events
+  pub told : IsTextOf with_trace o events text
   pub begins : AppendsBeginning old new text
 
--- The text is a scenario, and what was written is the text of a run of it.
-pub record Prints (text : List ℕ) (with_trace : Bool) (old new : Option (List ℕ)) : Type 0 where
-  pub plan : Plan
-  pub reads : scenario_of text ≡ Ok plan
-  pub run : PrintsRun plan with_trace old new
+module _ {L : Type 0} (moment : L → Moment) (log : L) where
+  -- The text is a scenario, and what was written is the text of a run of it over this log.
+  pub record Prints (text : List ℕ) (with_trace : Bool) (old new : Option (List ℕ)) : Type 0 where
+    pub plan : Plan
+    pub origin : Origin
+    pub reads : scenario_of text ≡ Ok plan
+    pub over : StartsOverLog moment log origin
+    pub run : PrintsRun plan with_trace origin old new
 
--- The text is a scenario, and what was written is a beginning of that.
-pub record Begins (text : List ℕ) (with_trace : Bool) (old new : Option (List ℕ)) : Type 0 where
-  pub plan : Plan
-  pub reads : scenario_of text ≡ Ok plan
-  pub run : BeginsRun plan with_trace old new
+  -- The text is a scenario, and what was written is a beginning of that.
+  pub record Begins (text : List ℕ) (with_trace : Bool) (old new : Option (List ℕ)) : Type 0 where
+    pub plan : Plan
+    pub origin : Origin
+    pub reads : scenario_of text ≡ Ok plan
+    pub over : StartsOverLog moment log origin
+    pub run : BeginsRun plan with_trace origin old new
 
 -- ** checks
 

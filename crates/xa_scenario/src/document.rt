@@ -28,7 +28,7 @@ const MAX_THREADS: u32 = 8;
 const MAX_RMS: u32 = 8;
 
 /// A scenario: how large the system is, and what is asked of it.
-#[derive(Debug, Drop)]
+#[derive(Drop)]
 pub struct Scenario {
     /// How many threads of control there are.
     pub threads: u32,

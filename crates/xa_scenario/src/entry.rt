@@ -3,7 +3,7 @@
 use xa_base::{Call, How, Outcome, Part, Side, Vote};
 
 /// A branch of the transaction of a `begin`.
-#[derive(Clone, Copy, Debug, PartialEq, Eq)]
+#[derive(Clone, Copy, PartialEq, Eq)]
 pub struct BranchEntry {
     /// Which of the `begin` entries begins the transaction, from 0.
     pub begin: usize,
@@ -12,7 +12,7 @@ pub struct BranchEntry {
 }
 
 /// What a resource manager is told to do with a branch.
-#[derive(Clone, Copy, Debug, PartialEq, Eq)]
+#[derive(Clone, Copy, PartialEq, Eq)]
 pub enum Script {
     /// It is to vote so.
     Vote(Vote),
@@ -23,7 +23,7 @@ pub enum Script {
 }
 
 /// What is done to end a transaction.
-#[derive(Clone, Copy, Debug, PartialEq, Eq)]
+#[derive(Clone, Copy, PartialEq, Eq)]
 pub enum Ending {
     /// Its outcome is decided.
     Decide(Outcome),
@@ -40,7 +40,7 @@ pub enum Ending {
 /// One table of a scenario file. Threads and resource managers are numbered from 0, and any number may stand there,
 /// also where the system has no such thread or resource manager. A transaction is named by its `begin` entry, as in
 /// [`BranchEntry`].
-#[derive(Debug, Drop)]
+#[derive(Drop)]
 pub enum Entry {
     /// A thread begins a transaction.
     Begin {

@@ -3,15 +3,14 @@
 ghost use Rattle.std.specs.Prelude.{◌≡◌, ◌≢◌, ◌⊎◌, [], All, Err, IfErr, IfOk, IsErr, OnOk, vec_len};
 ghost use Rattle.std.specs.Io.KnownBytes.{Keeps};
 ghost use Rattle.std.specs.String.{string_bytes};
-ghost use Rattle.xa_base.specs.HeldBranch.{new_branch};
-ghost use Rattle.xa_base.specs.Xid.{Xid};
 ghost use Rattle.xa_files.specs.Reading.{EndsWith, Explains};
 ghost use Rattle.xa_files.specs.declared.fault.RunFault.{RunFault};
-ghost use Rattle.xa_files.specs.declared.fault.RunFault.TheVariants.{Memory, Output, Work};
-ghost use Rattle.xa_scenario.specs.Runs.{Begins, BeginsCheck, BeginsRun, IsStartFault, IsStartOf, IsTextOf, Prints, PrintsCheck, PrintsRun};
+ghost use Rattle.xa_files.specs.declared.fault.RunFault.TheVariants.{Log, Memory, Output, Work};
+ghost use Rattle.xa_scenario.specs.Runs.{Begins, BeginsCheck, BeginsRun, IsNewRm, IsStartFault, IsStartOf, StartsOverLog, IsTextOf, Prints, PrintsCheck, PrintsRun};
 ghost use Rattle.xa_scenario.specs.Scenarios.{IsSized, plan_of, scenario_of};
 ghost use Rattle.xa_system.specs.Seen.{origin_in};
 ghost use Rattle.xa_system.specs.Sites.{looks};
+ghost use Rattle.xa_system.specs.Unmade.{IsToBlame};
 
 use crate::document::{Scenario, read_scenario};
 use crate::play::play;
@@ -26,8 +25,8 @@ use xa_system::{NewFault, System};
 /// New resource managers.
 fn rms_of(alloc: Global, count: u32) -> Result<Vec<MemRm>, RunFault>
     ensures count { IfOk result (λ rms. vec_len rms ≡ count) }
-    ensures unstarted { IfOk result (λ rms.
-        All (λ rm. (x : Xid) → ⟦<MemRm as ResourceManager>⟧.held_of rm x ≡ new_branch) rms.items) }
+    ensures new { IfOk result (λ rms. All (IsNewRm (looks ⟦<MemRm as ResourceManager>⟧.held_of
+        ⟦<MemRm as ResourceManager>⟧.scan_of ⟦<MemRm as ResourceManager>⟧.in_doubt_of)) rms.items) }
     ensures fault { IfErr result (λ e. e ≡ Memory) }
 {
     let mut rms = Vec::new(alloc);
@@ -37,7 +36,7 @@ fn rms_of(alloc: Global, count: u32) -> Result<Vec<MemRm>, RunFault>
     Ok(rms)
 }
 
-/// The system of a scenario, at resource managers where no branch ever was.
+/// The system of a scenario over a log, at new resource managers.
 fn system_of<R: ResourceManager + Drop, L: DecisionLog + Drop>(
     alloc: Global,
     scenario: &Scenario,
@@ -46,11 +45,16 @@ fn system_of<R: ResourceManager + Drop, L: DecisionLog + Drop>(
 ) -> Result<System<R, L>, RunFault>
     requires sized { IsSized (plan_of scenario.now) }
     requires count { vec_len rms ≡ scenario.now.rms }
-    requires unstarted { All (λ rm. (x : Xid) → R.held_of rm x ≡ new_branch) rms.items }
+    requires new { All (IsNewRm (looks R.held_of R.scan_of R.in_doubt_of)) rms.items }
+    // It has just started, over this log.
     ensures empty { IfOk result (λ system. system.events ≡ []) }
     ensures start { IfOk result (λ system.
         IsStartOf (plan_of scenario.now)
         (origin_in (looks R.held_of R.scan_of R.in_doubt_of) system)) }
+    ensures over { IfOk result (λ system. StartsOverLog L.moment log
+        (origin_in (looks R.held_of R.scan_of R.in_doubt_of) system)) }
+    // Why there is none.
+    ensures log { result ≡ Err Log → IsToBlame L.DecisionLog log }
     ensures fault { IfErr result IsStartFault }
 {
     match System::new(alloc, scenario.threads, rms, log) {
@@ -90,9 +94,11 @@ fn run<R: ResourceManager + Drop, L: DecisionLog + Drop, W: Write>(
     requires start { IsStartOf (plan_of scenario.now)
         (origin_in (looks R.held_of R.scan_of R.in_doubt_of) system) }
     ensures prints { OnOk result (PrintsRun (plan_of scenario.now) with_trace
+        (origin_in (looks R.held_of R.scan_of R.in_doubt_of) system)
         (W.contents out.old) (W.contents out.new)) }
-    ensures begun { IfErr result (λ e. e ≡ Output →
-        BeginsRun (plan_of scenario.now) with_trace (W.contents out.old) (W.contents out.new)) }
+    ensures begun { IfErr result (λ e. e ≡ Output → BeginsRun (plan_of scenario.now) with_trace
+        (origin_in (looks R.held_of R.scan_of R.in_doubt_of) system)
+        (W.contents out.old) (W.contents out.new)) }
     ensures memory { IfErr result (λ e. e ≡ Memory
         → Keeps (W.contents out.old) (W.contents out.new)) }
     ensures fault { IfErr result (λ e. (e ≡ Memory) ⊎ (e ≡ Output)) }
@@ -103,9 +109,9 @@ fn run<R: ResourceManager + Drop, L: DecisionLog + Drop, W: Write>(
     write_text(text.as_bytes(), out)
 }
 
-/// Runs a scenario file at new resource managers and a decision log, whatever that holds. It prints a line for each
-/// event, where the trace is asked for, and then a line for each branch whose xa_start was accepted, in the order of their
-/// identifiers.
+/// Runs a scenario file at new resource managers and over a decision log, whatever that holds: the run starts from its
+/// rows and its record, in its next incarnation. It prints a line for each event, where the trace is asked for, and then
+/// a line for each branch whose xa_start was accepted, in the order of their identifiers.
 ///
 /// A file that is no scenario is refused before anything is run, by NotToml, Header or Step. Log comes where the log
 /// can't be started. Memory comes where a request was refused outside of a step; nothing is written then. Output comes
@@ -118,19 +124,23 @@ pub fn run_scenario<L: DecisionLog + Drop, W: Write>(
     with_trace: bool,
     out: &mut W,
 ) -> Result<(), RunFault>
-    ensures ok { OnOk result (Prints text.now with_trace (W.contents out.old)
+    // What is printed is a run over this log.
+    ensures ok { OnOk result (Prints L.moment log text.now with_trace (W.contents out.old)
         (W.contents out.new)) }
+
+    // Why a run ends early.
     ensures fault { IfErr result (λ e. Explains e (scenario_of text.now)) }
+    ensures log { result ≡ Err Log → IsToBlame L.DecisionLog log }
     ensures work { IfErr result (λ e. e ≢ Work) }
     ensures refused { (e : RunFault) → scenario_of text.now ≡ Err e → EndsWith e result }
-    // A file that is no scenario writes nothing.
+
+    // A file that is no scenario writes nothing, and nor does a run that wants memory.
     ensures unwritten { IsErr (scenario_of text.now)
         → Keeps (W.contents out.old) (W.contents out.new) }
-    // Nor does a run that wants memory.
     ensures memory { IfErr result (λ e. e ≡ Memory
         → Keeps (W.contents out.old) (W.contents out.new)) }
     ensures begun { IfErr result (λ e. e ≡ Output →
-        Begins text.now with_trace (W.contents out.old) (W.contents out.new)) }
+        Begins L.moment log text.now with_trace (W.contents out.old) (W.contents out.new)) }
 {
     let scenario = read_scenario(alloc, text)?;
     let rms = rms_of(alloc, scenario.rms)?;

@@ -1,7 +1,8 @@
 -- What a crash may leave of a log is a log, and a log is what an open then finds.
-use Rattle.std.proofs.Common.{◌≡◌, inl, inr, sym, subst, ℕ, OnOk, Result}
+use Rattle.std.proofs.Common.{◌≡◌, inl, inr, ap, sym, subst, ◌∙◌, ℕ, IsTrue, OnOk, Result}
 use Rattle.sqlite.specs.Effect.{Database, IsDatabase}
-use Rattle.sqlite.specs.State.{HasCleanDisk, State}
+use Rattle.sqlite.specs.State.{HasCleanDisk, IsLive, State}
+use Rattle.sqlite.specs.Tree.{Trees}
 use Rattle.sqlite_catalog.specs.Listing.{IsSound}
 use Rattle.sqlite_catalog.proofs.ReadLemmas.{lists_once}
 use Rattle.sqlite_trees.specs.Objects.{catalog_tree}
@@ -10,7 +11,7 @@ use Rattle.xa_log.specs.Contract.{Changes, Makes, Reads, faults_after}
 use Rattle.xa_log.specs.declared.log_fault.LogFault.{LogFault}
 use Rattle.xa_sql_log.specs.Opened.{IsFoundLog}
 use Rattle.xa_sql_log.specs.Rows.{IsLog}
-use Rattle.xa_sql_log.specs.Sql.{AreLogTrees, IsLasting, IsOrderly, HasLogTables, MayChange, OnlyReads, content_in, sql_moment}
+use Rattle.xa_sql_log.specs.Sql.{AreLogTrees, IsLasting, IsOrderly, IsReadyWith, HasLogTables, MayChange, OnlyReads, content_in, sql_moment}
 use Rattle.xa_sql_log.specs.Tables.{log_schema}
 use Rattle.xa_log.proofs.Parts.{on_err}
 
@@ -31,6 +32,21 @@ lasts_changing change old new may lasts = record {
   order = may.order lasts.order;
   leaves = λ clean db h. elim (may.logs lasts.order clean db h) [ inl was ↦ lasts.leaves (may.honest clean) db was | inr is ↦ is ];
 }
+
+-- A log that is ready lasts: its rows obey the tables, and while it is open a crash leaves the last commit alone.
+pub ready_lasts : (s : State) → IsLive s → ((db : Trees) → IsTrue s.is_open → s.may_leave db → db ≡ s.committed.trees)
+    → (IsTrue s.is_open → HasCleanDisk s) → (HasCleanDisk s → (c : Content) × IsReadyWith c s) → IsLasting s
+ready_lasts s live settled opened ready = record {
+  order = λ is_open. (ready (opened is_open)).1.ready;
+  leaves = λ clean db left.
+      let is = (ready clean).1 in
+      let same : db ≡ s.now.trees = settled db is.is_open left ∙ ap (λ (d : Database). d.trees) is.ready.committed in
+      subst AreLogTrees (sym same) (as_log s.now is.ready.now (live is.is_open).0);
+}
+
+-- only a log of which the disk is clean is open, or leaves anything
+pub lasts_if_clean : (s : State) → (IsTrue s.is_open → HasCleanDisk s) → (HasCleanDisk s → IsLasting s) → IsLasting s
+lasts_if_clean s opened lasts = record { order = λ is_open. (lasts (opened is_open)).order is_open; leaves = λ clean. (lasts clean).leaves clean }
 
 -- ** what a log says of a call on its connection
 

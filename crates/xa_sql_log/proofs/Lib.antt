@@ -1,10 +1,12 @@
 pub mod AllRows
 pub mod Apart
 pub mod Cascade
+pub mod Closing
 pub mod Contents
 pub mod DecisionReads
 pub mod DecisionRows
 pub mod Deletes
+pub mod Found
 pub mod GroupedRows
 pub mod HeuristicReads
 pub mod HeuristicRows

@@ -1,3 +1,5 @@
+pub mod Closed
+pub mod Faults
 pub mod Opened
 pub mod Rows
 pub mod Sql

@@ -1,5 +1,5 @@
 -- What a log finds in a database that it takes, and what it makes of it.
-use Rattle.std.specs.Prelude.{◌≡◌, ◌⊎◌, ℕ, pos, false, List, [], ◌∷◌, Ok, IsTrue}
+use Rattle.std.specs.Prelude.{◌≡◌, ◌⊎◌, ℕ, pos, false, List, [], ◌∷◌, length, Ok, IsTrue}
 use Rattle.std.specs.List.{Contains}
 use Rattle.sqlite.specs.declared.types.Value.{Value}
 use Rattle.sqlite.specs.declared.types.Value.TheVariants.{Null, Int}
@@ -9,12 +9,13 @@ use Rattle.sqlite.specs.State.{State, Executes, IsLive, Opens}
 use Rattle.sqlite.specs.Held.{Held}
 use Rattle.sqlite.specs.declared.FileStore.{FileStore}
 use Rattle.sqlite.specs.Recovery.{Image}
-use Rattle.sqlite.specs.Files.{file_state, over_files, IsBlankAs, IsOpened}
+use Rattle.sqlite_catalog.specs.Listing.{IsSound}
+use Rattle.sqlite.specs.Files.{file_state, over_files, AreFoundIn, HoldsDatabase, IsBlankAs, IsEmpty, IsOpened}
 use Rattle.sqlite.specs.Start.{FindsIn}
 use Rattle.sqlite_disk.specs.declared.Disk.{Ghosts}
 use Rattle.xa_log.specs.Content.{nothing}
 use Rattle.xa_sql_log.specs.Tables.{no_tables, old_schema, log_schema}
-use Rattle.xa_sql_log.specs.Rows.{content_of, old_content_of}
+use Rattle.xa_sql_log.specs.Rows.{IsOldLog, content_of, old_content_of}
 use Rattle.xa_sql_log.specs.Sql.{AreLogTrees, IsOrderly, IsOldReady, HasLogTables, IsReadyWith, IsShutOrAsBefore, AreNewTrees}
 
 -- the statement ran in the transaction, which goes on
@@ -105,3 +106,22 @@ pub record IsOver {D : Type 0} {g : Ghosts D} (image : Image) (log : Held (FileS
   -- where there was no file, its pages end in no sums of their own, so that any program of SQLite may write them
   pub plain : IsBlankAs false image → (over_files.view was.store).has_sums ≡ false
   pub taken : IsTaken (file_state was) (file_state log)
+
+-- ** the files that a log is in order over
+
+-- the trees of a log of version 1: they list its tables, and each row is one of the log's
+pub record AreOldLogTrees (trees : Trees) : Type 0 where
+  pub sound : IsSound old_schema trees
+  pub log : IsOldLog (record { schema = old_schema; trees = trees })
+
+-- a log of version 1 or 2
+abbrev pub AreAnyLogTrees : Trees → Type 0
+AreAnyLogTrees db = AreOldLogTrees db ⊎ AreLogTrees db
+
+-- the database file is empty, or the files hold a log
+abbrev pub HoldsLog : Image → Type 0
+HoldsLog image = (length image.db ≡ 0) ⊎ ((db : Trees) × ∥ HoldsDatabase image db ∥₁ × AreAnyLogTrees db)
+
+-- whatever an open may find in the files is no table at all, or a log
+abbrev pub FindsLog : Image → Type 0
+FindsLog image = (db : Trees) → AreFoundIn image db → IsEmpty db ⊎ AreAnyLogTrees db

@@ -2,6 +2,7 @@
 ghost use Rattle.std.specs.Prelude.{◌≡◌, ◌<◌, ◌⊎◌, IfErr, IfOk, Some, length, ◌≢◌};
 ghost use Rattle.sqlite.specs.Order.{column};
 ghost use Rattle.xa_base.specs.Code.{how_of_number};
+ghost use Rattle.xa_sql_log.specs.Faults.{cell_fault_of};
 ghost use Rattle.xa_sql_log.specs.Rows.{branch_from, gtrid_from, integer_in, participant_from};
 ghost use Rattle.xa_log.specs.declared.log_fault.LogFault.{LogFault};
 
@@ -9,6 +10,18 @@ use sqlite::types::FromSql;
 use sqlite::{Error, ErrorCode, Row};
 use xa_base::{Branch, Gtrid, How};
 use xa_log::LogFault;
+
+/// The fault of a cell that wasn't read.
+fn cell_fault(error: Error) -> LogFault
+    ensures told { result ≡ cell_fault_of error }
+    ensures kind { (result ≡ LogFault.Version) ⊎ (result ≡ LogFault.Memory) }
+    ensures misfit { result ≡ LogFault.Version → error ≢ Error.SqliteFailure ErrorCode.OutOfMemory }
+{
+    match error {
+        Error::SqliteFailure(ErrorCode::OutOfMemory) => LogFault::Memory,
+        _ => LogFault::Version,
+    }
+}
 
 /// The number in a column.
 pub(crate) fn number<T: FromSql>(row: &Row, at: usize) -> Result<T, LogFault>
@@ -20,8 +33,7 @@ pub(crate) fn number<T: FromSql>(row: &Row, at: usize) -> Result<T, LogFault>
 {
     match row.get(at) {
         Ok(number) => Ok(number),
-        Err(Error::SqliteFailure(ErrorCode::OutOfMemory)) => Err(LogFault::Memory),
-        Err(_) => Err(LogFault::Version),
+        Err(error) => Err(cell_fault(error)),
     }
 }
 

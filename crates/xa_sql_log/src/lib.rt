@@ -14,4 +14,4 @@ mod tables;
 mod version;
 mod waiting;
 
-pub use sql_log::SqlLog;
+pub use sql_log::{SqlLog, memory_is_honest};

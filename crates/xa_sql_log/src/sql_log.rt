@@ -9,9 +9,12 @@ ghost use Rattle.xa_sql_log.specs.Tables.{log_schema};
 ghost use Rattle.xa_sql_log.specs.Sql.{IsOrderly, IsReadyWith, IsShutOrAsBefore, IsOldReady};
 ghost use Rattle.xa_sql_log.specs.Opened.{IsBlank, IsFoundLog, IsTakeable, IsKnownDatabase, HasTables, NamesKnown, LeavesTables, LeavesSame, IsUntouched};
 
+mod closing;
+mod looking;
 mod opening;
 
 use crate::{decisions, grouped, heuristics, incarnation, rows, tables, waiting};
+pub use opening::memory_is_honest;
 use sqlite::{Alter, Connection};
 use std::alloc::Global;
 use xa_base::{Branch, Gtrid, How};
@@ -26,9 +29,10 @@ pub struct SqlLog<S: Alter> {
 }
 
 impl<S: Alter + Drop> SqlLog<S> {
-    /// Takes a connection: makes the tables of an empty log where the database has none, migrates those of version
-    /// 1 with all their rows, and keeps those of version 2. A migration and the making of tables are one
-    /// transaction each. A failure gives the connection back.
+    /// Takes a connection: makes the tables of an empty log where the database has none of them, migrates those of
+    /// version 1 with all their rows, and keeps those of version 2. A migration and the making of tables are one
+    /// transaction each. A failure gives the connection back. Tables, indexes and views of others may stand beside the
+    /// log's; of such a database the contract says only that each call is safe.
     ///
     /// - [`LogFault::Version`]: the tables name another version, or lack a number or have one that doesn't fit its
     ///   type. Nothing has changed.
@@ -40,6 +44,8 @@ impl<S: Alter + Drop> SqlLog<S> {
     /// - `made`, `migrated`, `kept`: what the log then holds, by what the database was;
     /// - `found`, `found_err`: what a crash may have left of a log in order, also of one that a failure had shut, is a log
     ///   when it is opened again: it is taken with its content, and never refused as unknown;
+    /// - `order`, `order_found`: the log is in order, as the clauses of `DecisionLog` ask, over a blank database, one of a
+    ///   log of version 1 or 2, and what a crash may have left of one;
     /// - `version`: no log is made of the tables of one where no row of `tm_meta` names version 1 or 2 and a natural
     ///   incarnation;
     /// - `known`: a database without tables, or one that a log has left, is refused by the store or for want of memory
@@ -54,6 +60,7 @@ impl<S: Alter + Drop> SqlLog<S> {
             HasCleanDisk (state S.Store log.conn) → HasCleanDisk (state S.Store conn)) }
         ensures honest_err { IfErr result (λ e.
             HasCleanDisk (state S.Store e.1) → HasCleanDisk (state S.Store conn)) }
+        // What the log then holds, by what the database was.
         ensures made { IfOk result (λ log. IsBlank (state S.Store conn) →
             HasCleanDisk (state S.Store log.conn) →
             IsReadyWith nothing (state S.Store log.conn)) }
@@ -63,14 +70,17 @@ impl<S: Alter + Drop> SqlLog<S> {
         ensures kept { IfOk result (λ log. (state S.Store conn).now.schema ≡ log_schema →
             IsOrderly (state S.Store conn) → HasCleanDisk (state S.Store log.conn) →
             IsReadyWith (content_of (state S.Store conn).now.trees) (state S.Store log.conn)) }
+        // After a failure the database is as it was, or shut.
         ensures undone { IfErr result (λ e. conn.in_transaction ≡ false →
             IsTakeable (state S.Store conn) → HasCleanDisk (state S.Store e.1) →
             IsShutOrAsBefore (state S.Store conn) (state S.Store e.1)) }
+        // What a crash may have left of a log.
         ensures found { IfOk result (λ log. IsFoundLog (state S.Store conn) →
             HasCleanDisk (state S.Store log.conn) →
             IsReadyWith (content_of (state S.Store conn).now.trees) (state S.Store log.conn)) }
         ensures found_err { IfErr result (λ e. IsFoundLog (state S.Store conn) →
             HasCleanDisk (state S.Store e.1) → IsStoreFault e.0) }
+        // Which tables are refused, and as what.
         ensures version { IfOk result (λ log. HasTables (state S.Store conn) →
             HasCleanDisk (state S.Store log.conn) → NamesKnown (state S.Store conn)) }
         ensures known { IfErr result (λ e. IsKnownDatabase (state S.Store conn) →
@@ -82,6 +92,7 @@ impl<S: Alter + Drop> SqlLog<S> {
         ensures refused { IfErr result (λ e. e.0 ≡ LogFault.Version →
             HasTables (state S.Store conn) → HasCleanDisk (state S.Store e.1) →
             IsUntouched (state S.Store conn) (state S.Store e.1)) }
+        // What a crash leaves, after success and after a failure.
         ensures crash { IfOk result (λ log. IsTakeable (state S.Store conn) →
             HasCleanDisk (state S.Store log.conn) →
             LeavesTables (state S.Store conn) (state S.Store log.conn)) }
@@ -94,9 +105,18 @@ impl<S: Alter + Drop> SqlLog<S> {
         ensures crash_kept_err { IfErr result (λ e. (state S.Store conn).now.schema ≡ log_schema →
             HasCleanDisk (state S.Store e.1) →
             LeavesSame (state S.Store conn) (state S.Store e.1)) }
+        // The log is in order.
+        ensures order { IfOk result (λ log. IsKnownDatabase (state S.Store conn) →
+            (⟦<SqlLog<S> as DecisionLog>⟧.moment log).is_in_order) }
+        ensures order_found { IfOk result (λ log. IsFoundLog (state S.Store conn) →
+            (⟦<SqlLog<S> as DecisionLog>⟧.moment log).is_in_order) }
     {
         match tables::prepare(&mut conn) {
-            Ok(()) => Ok(SqlLog { conn, faults: 0 }),
+            Ok(()) => {
+                // Read for its clause alone: whatever was run, the rows obey the tables.
+                let _tables = conn.schema();
+                Ok(SqlLog { conn, faults: 0 })
+            }
             Err(fault) => Err((fault, conn)),
         }
     }

@@ -9,6 +9,7 @@ ghost use Rattle.sqlite.specs.Values.{bound};
 ghost use Rattle.xa_sql_log.specs.Tables.{log_schema};
 ghost use Rattle.xa_log.specs.Contract.{IsStoreFault};
 ghost use Rattle.xa_log.specs.Content.{last_number};
+ghost use Rattle.xa_sql_log.specs.Faults.{store_fault_of};
 ghost use Rattle.xa_sql_log.specs.Sql.{IsOrderly, OnlyReads, Rests, Answers, RunsFrom, LeavesBy};
 
 use sqlite::{Alter, Connection, Error, ErrorCode, Row};
@@ -17,7 +18,8 @@ use xa_log::LogFault;
 
 /// The fault of a store that failed. Its cause is not told, but for a growth that was refused.
 pub(crate) fn store_fault(error: Error) -> LogFault
-    ensures { IsStoreFault result }
+    ensures kind { IsStoreFault result }
+    ensures told { result ≡ store_fault_of error }
 {
     match error {
         Error::SqliteFailure(ErrorCode::OutOfMemory) => LogFault::Memory,

@@ -1,5 +1,5 @@
 //! The tables of a log: made where there is none, and migrated from version 1.
-ghost use Rattle.std.specs.Prelude.{◌≡◌, false, IsTrue, [], Err, IfErr, OnOk, OnErr};
+ghost use Rattle.std.specs.Prelude.{◌≡◌, false, true, IsTrue, [], Err, IfErr, OnOk, OnErr};
 ghost use Rattle.sqlite.specs.State.{HasCleanDisk, KeepsCommit, Survives};
 ghost use Rattle.sqlite.specs.Held.{state};
 ghost use Rattle.xa_log.specs.Content.{nothing};
@@ -143,6 +143,7 @@ fn migrate<S: Alter>(conn: &mut Connection<S>) -> Result<(), LogFault>
 fn upgrade<S: Alter>(conn: &mut Connection<S>) -> Result<(), LogFault>
     requires { conn.old.in_transaction ≡ false }
     ensures honest { HasCleanDisk (state S.Store conn.new) → HasCleanDisk (state S.Store conn.old) }
+    // What is done, and what a failure and a crash leave.
     ensures ok { HasCleanDisk (state S.Store conn.new) → IsOldReady (state S.Store conn.old) →
         OnOk result (IsReadyWith (old_content_of (state S.Store conn.old).now.trees)
         (state S.Store conn.new)) }
@@ -151,6 +152,7 @@ fn upgrade<S: Alter>(conn: &mut Connection<S>) -> Result<(), LogFault>
     ensures crash { IsOldReady (state S.Store conn.old) → HasCleanDisk (state S.Store conn.new) →
         LeavesOr (AreNewTrees (old_content_of (state S.Store conn.old).now.trees))
         (state S.Store conn.old) (state S.Store conn.new) }
+    // Which tables are refused, and as what.
     ensures version { HasTables (state S.Store conn.old) → HasCleanDisk (state S.Store conn.new) →
         OnOk result (NamesVersion 1 (state S.Store conn.old)) }
     ensures known { IsOldReady (state S.Store conn.old) →
@@ -186,11 +188,23 @@ fn layout_of<S: Alter>(conn: &Connection<S>) -> Layout
     }
 }
 
+/// Whether the database has tables of a log.
+pub(crate) fn has_log<S: Alter>(conn: &Connection<S>) -> bool
+    ensures blank { IsBlank (state S.Store conn.now) → result ≡ false }
+    ensures tables { HasTables (state S.Store conn.now) → result ≡ true }
+{
+    match layout_of(conn) {
+        Layout::Missing => false,
+        Layout::Version1 | Layout::Version2 => true,
+    }
+}
+
 /// Makes the tables where there is none, migrates those of version 1, and keeps those of version 2.
 pub(crate) fn prepare<S: Alter>(conn: &mut Connection<S>) -> Result<(), LogFault>
     ensures busy { IsTrue conn.old.in_transaction →
         (result ≡ Err LogFault.Store) × (conn.new ≡ conn.old) }
     ensures honest { HasCleanDisk (state S.Store conn.new) → HasCleanDisk (state S.Store conn.old) }
+    // What the tables then are.
     ensures made { IsBlank (state S.Store conn.old) → HasCleanDisk (state S.Store conn.new) →
         OnOk result (IsReadyWith nothing (state S.Store conn.new)) }
     ensures migrated { IsOldReady (state S.Store conn.old) → HasCleanDisk (state S.Store conn.new) →
@@ -200,6 +214,7 @@ pub(crate) fn prepare<S: Alter>(conn: &mut Connection<S>) -> Result<(), LogFault
         IsOrderly (state S.Store conn.old) → HasCleanDisk (state S.Store conn.new) →
         OnOk result (IsReadyWith (content_of (state S.Store conn.old).now.trees)
         (state S.Store conn.new)) }
+    // What a failure and a crash leave.
     ensures undone { conn.old.in_transaction ≡ false → IsTakeable (state S.Store conn.old) →
         HasCleanDisk (state S.Store conn.new) →
         OnErr result (IsShutOrAsBefore (state S.Store conn.old) (state S.Store conn.new)) }
@@ -208,6 +223,7 @@ pub(crate) fn prepare<S: Alter>(conn: &mut Connection<S>) -> Result<(), LogFault
     ensures crash_kept { (state S.Store conn.old).now.schema ≡ log_schema →
         HasCleanDisk (state S.Store conn.new)
         → LeavesSame (state S.Store conn.old) (state S.Store conn.new) }
+    // Which tables are refused, and as what.
     ensures version { HasTables (state S.Store conn.old) → HasCleanDisk (state S.Store conn.new) →
         OnOk result (NamesKnown (state S.Store conn.old)) }
     ensures known { IsKnownDatabase (state S.Store conn.old)

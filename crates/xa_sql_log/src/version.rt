@@ -1,5 +1,5 @@
 //! The version that the tables of a log name.
-ghost use Rattle.std.specs.Prelude.{◌≡◌, ℕ, List, pos, false, [], ◌∷◌, IfOk, IfErr, OnOk, OnErr};
+ghost use Rattle.std.specs.Prelude.{◌≡◌, ◌≢◌, ℕ, List, pos, false, [], ◌∷◌, IfOk, IfErr, OnOk, OnErr};
 ghost use Rattle.std.specs.List.{Contains};
 ghost use Rattle.sqlite.specs.declared.types.Value.{Value};
 ghost use Rattle.sqlite.specs.declared.types.Value.TheVariants.{Int};
@@ -30,6 +30,18 @@ fn version_in(rows: &[Row]) -> Result<u64, LogFault>
     Ok(version)
 }
 
+/// Refuses a version that is another.
+fn match_version(found: u64, version: u64) -> Result<(), LogFault>
+    ensures ok { OnOk result (found ≡ version) }
+    ensures err { IfErr result (λ fault. (fault ≡ LogFault.Version) × (found ≢ version)) }
+{
+    if found == version {
+        Ok(())
+    } else {
+        Err(LogFault::Version)
+    }
+}
+
 /// Whether the tables name this version; [`LogFault::Version`] where they name another or none.
 pub(crate) fn check_version<S: Alter>(
     conn: &mut Connection<S>,
@@ -37,21 +49,20 @@ pub(crate) fn check_version<S: Alter>(
 ) -> Result<(), LogFault>
     ensures honest { HasCleanDisk (state S.Store conn.new) → HasCleanDisk (state S.Store conn.old) }
     ensures mode { conn.old.in_transaction ≡ false → conn.new.in_transaction ≡ false }
+    // Nothing is changed.
     ensures same { HasTables (state S.Store conn.old) → HasCleanDisk (state S.Store conn.new) →
         OnOk result (IsUnchanged (state S.Store conn.old) (state S.Store conn.new)) }
     ensures rests { HasTables (state S.Store conn.old) → HasCleanDisk (state S.Store conn.new) →
         OnErr result (Rests (state S.Store conn.old) (state S.Store conn.new)) }
     ensures survives { HasTables (state S.Store conn.old) →
         Survives (state S.Store conn.old) (state S.Store conn.new) (λ _. ⊥) }
+    // Which tables are refused, and as what.
     ensures version { HasTables (state S.Store conn.old) → HasCleanDisk (state S.Store conn.new) →
         OnOk result (NamesVersion version (state S.Store conn.old)) }
     ensures known { (i : ℕ) → HasRow version i (state S.Store conn.old) →
         HasCleanDisk (state S.Store conn.new) → IfErr result IsStoreFault }
 {
     let rows = of_store(conn.query_all(READ_META, &[]))?;
-    if version_in(rows.as_slice())? == version {
-        Ok(())
-    } else {
-        Err(LogFault::Version)
-    }
+    let found = version_in(rows.as_slice())?;
+    match_version(found, version)
 }

@@ -1,6 +1,6 @@
 -- Steps of the manager in which its log may fail.
-use Rattle.std.proofs.Common.{◌≡◌, ◌≢◌, inl, inr, Bool, true, false, refl, sym, ap, ◌∙◌, subst, Vec, Global}
-use Rattle.std.specs.Prelude.{not, ◌&&◌, Option, Some, None, Result, Err}
+use Rattle.std.proofs.Common.{◌≡◌, ◌≢◌, inl, inr, ℕ, true, refl, sym, ap, ◌∙◌, subst, Vec, Global}
+use Rattle.std.specs.Prelude.{Option, Some, None, Result, Err}
 use Rattle.xa_tm.specs.Kept.{AddsRow, book_in, FailsBy}
 use Rattle.xa_base.specs.declared.step.Step.TheVariants as Steps
 use Rattle.xa_base.specs.declared.step.Outcome.TheVariants as Outcomes
@@ -12,8 +12,7 @@ use Rattle.xa_model.specs.Replies.Demanded.{MayLackMemory, UsesLog}
 use Rattle.xa_model.specs.Facts as facts
 use Rattle.xa_model.specs.Replies.History.{step_of}
 use Rattle.xa_model.specs.Replies.ReadBack.{StepHasXids}
-use Rattle.xa_model.specs.Replies.Rules.{asks_manager, must_refuse}
-use Rattle.xa_model.specs.Replies.Steps as known
+use Rattle.xa_model.specs.Replies.Rules.{must_refuse}
 use Rattle.xa_model.specs.Replies.Steps.{log_failed}
 use Rattle.xa_model.specs.Trace.{Fault, Happening.Failed, Trace}
 use Rattle.xa_base.specs.declared.refusal.Refusal.{Refusal}
@@ -21,7 +20,7 @@ use Rattle.xa_base.specs.declared.refusal.Refusal.TheVariants as Refusals
 use Rattle.xa_base.specs.declared.reply.Reply.{Reply}
 use Rattle.xa_base.specs.declared.reply.Reply.TheVariants as Replies
 use Rattle.xa_base.specs.declared.step.Step.{Step}
-use Rattle.xa_model.proofs.Replies.Replies.{IsForced, forced, none_applies}
+use Rattle.xa_model.proofs.Replies.Replies.{IsForced, forced}
 use Rattle.xa_line.specs.Grid.{Grid, new_grid}
 use Rattle.xa_tm.specs.declared.manager.Manager.{Manager}
 use Rattle.xa_log.specs.Content.{Content}
@@ -34,7 +33,7 @@ use Rattle.xa_system.proofs.HearLeads.{fail_goes}
 use Rattle.xa_system.proofs.Logging.{LogUndone, log_failing}
 use Rattle.xa_system.proofs.Managing.{err_is, judged, not_fault}
 use Rattle.xa_system.proofs.Standing.{lacking_goes, rule_goes}
-use Rattle.xa_tm.specs.Book.{Book, Doubt, asked_in, book_after, book_of}
+use Rattle.xa_tm.specs.Book.{Book, Doubt, asked_in, book_after, book_of, failed_restarts_after}
 use Rattle.xa_tm.specs.Refusing.{managers_refusal, refusal_in}
 
 module _ {R L : Type 0} (see : Sees R L) where
@@ -43,6 +42,7 @@ module _ {R L : Type 0} (see : Sees R L) where
       IsLookedAt (step_of step)
       → ((tr : Trace) → managers_refusal tr (step_of step) ≡ must_refuse tr (step_of step))
       → ((tr : Trace) → MayLackMemory tr (step_of step)) → log_failed (step_of step) ≡ Failed f
+      → ((m : ℕ) → failed_restarts_after (Failed f) m ≡ m)
       → ((tr : Trace) → must_refuse tr (step_of step) ≡ None → facts.up tr ≡ true)
       → ((tr : Trace) → book_in parts.manager ≡ book_of tr → asked ≡ asked_in tr (Failed f))
       → ((tr : Trace) → book_in parts.manager ≡ book_of tr → refusal_in (book_in parts.manager) (step_of step) ≡ None
@@ -56,8 +56,8 @@ module _ {R L : Type 0} (see : Sees R L) where
       → (n ≢ Refusals.LogFault → sites ≡ parts.sites) → (n ≢ Refusals.LogFault → lines ≡ parts.lines)
       → ((tr : Trace) (c : Content) → book_in parts.manager ≡ book_of tr → change c ≡ change_in tr f c) → LogUndone see.moment A n change parts.manager manager
       → GoesOn see step reply parts (record { alloc = parts.alloc; start = parts.start; began = parts.began; sites = sites; lines = lines; manager = manager })
-  manager_undone {A = A} step f asked change parts n sites lines manager reply has looked same may fault up asks uses is refused fails crash broken sites_stay
-      lines_stay changes undone tr stands few = by_rule (refusal_in (book_in parts.manager) (step_of step)) refl
+  manager_undone {A = A} step f asked change parts n sites lines manager reply has looked same may fault still up asks uses is refused fails crash broken
+      sites_stay lines_stay changes undone tr stands few = by_rule (refusal_in (book_in parts.manager) (step_of step)) refl
     where
       why : (o : Option Refusal) → refusal_in (book_in parts.manager) (step_of step) ≡ o → must_refuse tr (step_of step) ≡ o
       why o e = sym (same tr) ∙ sym (judged see tr parts (step_of step) looked stands) ∙ e
@@ -115,7 +115,8 @@ module _ {R L : Type 0} (see : Sees R L) where
           fail_goes see tr step f reply parts sites lines manager stands has (is ∙ ap (λ m. Replies.Refused m) w.0) none
           (uses tr stands.book free w.0) fault (up tr none) (crash w.0) (broken w.0)
           (w.1 ∙ ap (λ d. book_after (book_in parts.manager) d (Failed f)) (asks tr stands.book))
-          (log_failing see.moment f n parts.manager manager w.0
+          (log_failing see.moment f n parts.manager manager w.0 (ap (λ (k : Book). k.up) stands.book ∙ up tr none) still
+          (w.1 ∙ ap (λ d. book_after (book_in parts.manager) d (Failed f)) (asks tr stands.book))
           (subst (λ (d : Content → Content). LogUndone see.moment A n d parts.manager manager) (λ i c. changes tr c stands.book i) undone))
 
       by_rule : (o : Option Refusal) → refusal_in (book_in parts.manager) (step_of step) ≡ o
@@ -134,15 +135,6 @@ module _ {R L : Type 0} (see : Sees R L) where
           (rule_goes see tr step reply parts manager m stands has (is ∙ ap (λ k. Replies.Refused k) same_n) forced_so (ap book_in (refused m e).1)
           (undone.kept (not_fault n (subst IsForced (sym same_n) (forced tr (step_of step) m forced_so)))))
       by_rule None e = by_cause (why None e) e (fails e)
-
--- the manager is up where a step that asks it isn't refused
-pub up_where : (tr : Trace) (s : known.Step) → asks_manager s ≡ true → must_refuse tr s ≡ None → facts.up tr ≡ true
-up_where tr s asks none = by_up (facts.up tr) (asks_manager s) asks (none_applies tr s Refusals.ManagerDown none)
-  where
-    by_up : (u a : Bool) → a ≡ true → (a && not u) ≡ false → u ≡ true
-    by_up true a e h = refl
-    by_up false true e h = absurd (cc)
-    by_up false false e h = absurd (cc)
 
 -- the log is asked for a row only where some branch voted XA_OK for a commit
 pub row_is_asked : (tr : Trace) (g : Gtrid) (o : Outcome) {k : Book} → k ≡ book_of tr → AddsRow o (k.deal g) → UsesLog tr (Steps.Decide g o)

@@ -1,6 +1,6 @@
 -- A new system stands where its history begins.
-use Rattle.std.proofs.Common.{◌≡◌, ◌≤◌, ◌<◌, ◌+◌, ◌⊎◌, inl, inr, ℕ, Bool, true, false, List, [], ◌∷◌, map, length, refl, sym, ap, subst, ◌∙◌, arith, rules}
-use Rattle.std.specs.Prelude.{Option, Some, None, IsSomeAnd, Contains, slice_get, vec_len}
+use Rattle.std.proofs.Common.{◌≡◌, ◌≤◌, ◌<◌, ◌+◌, ◌⊎◌, inl, inr, ℕ, Bool, true, false, List, [], ◌∷◌, map, length, refl, sym, ap, subst, ◌∙◌, arith}
+use Rattle.std.specs.Prelude.{if◌then◌else◌, Option, Some, None, IsSomeAnd, Contains, slice_get, vec_len}
 use Rattle.std.specs.Option.{option_map, option_map_or}
 use Rattle.std.specs.Ordering.{int_eq}
 use Rattle.std.specs.Vec.{vec_capacity}
@@ -11,13 +11,16 @@ use Rattle.xa_tm.proofs.Limits.{old_start_is_right}
 use Rattle.xa_tm.specs.Starting.{IsOld, book_at_start}
 use Rattle.xa_tm.specs.Limits.{HasRoomForRun}
 use Rattle.xa_log.specs.Contract.{Moment}
+use Rattle.xa_model.specs.Facts.{fits, held_of}
 use Rattle.xa_model.specs.Facts.Distinct.{ApartRows}
+use Rattle.xa_model.proofs.ProcessLemmas.Leaving.{branch_fits}
+use Rattle.xa_base.specs.declared.branch.Branch.{Branch}
 use Rattle.xa_tm.specs.Begins.{records_begun, rows_begun}
 use Rattle.xa_tm.specs.Book.{Book, book_of}
 use Rattle.xa_tm.specs.Slots.{content_in, honest_in, last_out, log_held, moment_in, order_in, slot_moment}
 use Rattle.xa_tm.specs.declared.slot.Slot.{Slot}
 use Rattle.xa_tm.specs.Held as books
-use Rattle.xa_base.specs.Branch.{branch_of_xid, own_format, xid_of_branch}
+use Rattle.xa_base.specs.Branch.{IsBranch, branch_of_xid, own_format, xid_of_branch}
 use Rattle.xa_base.specs.HeldBranch.{HeldBranch, new_branch}
 use Rattle.xa_model.specs.Replies.History.{history}
 use Rattle.xa_model.specs.Facts.InDoubt.{xid_of_name}
@@ -30,12 +33,14 @@ use Rattle.xa_base.specs.Xid.{Xid}
 use Rattle.xa_base.specs.declared.state.Fate.TheVariants as Fates
 use Rattle.xa_base.specs.declared.state.Standing.{Standing}
 use Rattle.xa_base.specs.declared.state.Standing.TheVariants.{Unstarted, Active, Idle, Prepared, RollbackOnly, Completed, Committed, RolledBack, Lost, ReadOnly, Forgotten}
+use Rattle.xa_base.proofs.BranchLemmas.{own_format_of}
 use Rattle.xa_line.specs.Grid.{Grid, line_at, new_grid}
 use Rattle.xa_line.proofs.GridLaws.{line_at-new_grid, whole-new_grid}
 use Rattle.xa_tm.specs.declared.manager.Manager.{Manager}
 use Rattle.xa_tm.specs.Kept.{book_in, log_in}
 use Rattle.xa_tm.specs.Tied.{IsTied}
-use Rattle.xa_system.specs.Logged.{IsStartedOver, StartsOver}
+use Rattle.xa_system.specs.Logged.{IsDurable, IsStartedOver, StartsOver}
+use Rattle.xa_system.proofs.Logging.{left_up}
 use Rattle.xa_system.specs.declared.system.System.TheInside.{Inside}
 use Rattle.xa_system.proofs.LogLaws.{near_restarts, starts_over}
 use Rattle.xa_line.specs.Histories.{LineStands}
@@ -59,9 +64,6 @@ never RolledBack e = absurd (cc)
 never Lost e = absurd (cc)
 never ReadOnly e = absurd (cc)
 never (Forgotten how) e = absurd (cc)
-
-own_format_of : (x : Xid) → int_eq x.format own_format ≡ true → x.format ≡ own_format
-own_format_of x e = search rules
 
 scan_back : (s : Scan Xid) → s ≡ scan_by xid_of_name (scan_by (λ x. Foreign x) s)
 scan_back NotOpen = refl
@@ -125,16 +127,31 @@ module _ {R L : Type 0} (see : Sees R L) (threads : ℕ) (rms : List R) (manager
           let not_started = never _ ((clear r rm at).no_branch.unstarted x (own_format_of x own)) in
           absurd (true≢false (sym doubt ∙ ap is_in_doubt not_started))
 
+  none_there : (b : Branch) → (held_of (origin_of see threads rms manager) b).standing ≡ Unstarted
+  none_there b = by_fit (fits b)
+    where
+      by_fit : (t : Bool)
+          → (if t then (origin_of see threads rms manager).held b.rm (xid_of_branch b) else new_branch).standing ≡ Unstarted
+      by_fit true = none_started b.rm (xid_of_branch b) refl
+      by_fit false = refl
+
   pub starts_right : RightOrigin (origin_of see threads rms manager)
-  starts_right = old_start_is_right (origin_of see threads rms manager) (subst IsOld begun new.old) foreign_listed
+  starts_right = old_start_is_right (origin_of see threads rms manager) (subst IsOld begun new.old) none_there foreign_listed
+
+  -- what is held of a branch with an identifier is what its resource manager holds
+  held_as : (b : Branch) → IsBranch b
+      → held_of (origin_of see threads rms manager) b ≡ (origin_of see threads rms manager).held b.rm (xid_of_branch b)
+  held_as b h = ap (λ t. if t then (origin_of see threads rms manager).held b.rm (xid_of_branch b) else new_branch) (branch_fits b h)
 
   pub rm_starts : (r : ℕ) (rm : R) → slice_get rms r ≡ Some rm → RmStands see.look (From (origin_of see threads rms manager)) r rm
   rm_starts r rm at = record {
     branches = record {
       own = λ b h here. record {
-        standing = never _ ((clear r rm at).no_branch.unstarted (xid_of_branch b) refl);
-        vote = ap (λ (f : Xid → HeldBranch). (f (xid_of_branch b)).vote) (sym (ap (origin_of see threads rms manager).held here ∙ held_there r rm at));
-        retries = ap (λ (f : Xid → HeldBranch). (f (xid_of_branch b)).retries) (sym (ap (origin_of see threads rms manager).held here ∙ held_there r rm at));
+        standing = never _ ((clear r rm at).no_branch.unstarted (xid_of_branch b) refl) ∙ sym (none_there b);
+        vote = ap (λ (f : Xid → HeldBranch). (f (xid_of_branch b)).vote) (sym (ap (origin_of see threads rms manager).held here ∙ held_there r rm at))
+            ∙ sym (ap (λ (k : HeldBranch). k.vote) (held_as b h));
+        retries = ap (λ (f : Xid → HeldBranch). (f (xid_of_branch b)).retries) (sym (ap (origin_of see threads rms manager).held here ∙ held_there r rm at))
+            ∙ sym (ap (λ (k : HeldBranch). k.retries) (held_as b h));
         starter = inl (let u = never _ ((clear r rm at).no_branch.unstarted (xid_of_branch b) refl) in rw u refl);
       };
       others = λ x other. ap (λ (f : Xid → HeldBranch). is_in_doubt (f x).standing) (sym (held_there r rm at));
@@ -205,14 +222,19 @@ module _ {R L : Type 0} (see : Sees R (Slot L)) (moment : L → Moment) (threads
   unfolding here
   same_book = begun see threads rms manager clear new
 
+  -- and the manager is up
+  pub starts_up : (book_in manager).up ≡ true
+  unfolding here
+  starts_up = ap (λ (k : Book). k.up) same_book
+
   -- a system of new parts with no events is sound
-  pub new_sound : (a : Inside R L) → 0 < threads → a.parts.start.value.items ≡ rms → a.parts.began.value ≡ manager
+  pub new_sound : (a : Inside R L) → IsDurable see.moment → 0 < threads → a.parts.start.value.items ≡ rms → a.parts.began.value ≡ manager
       → a.parts.manager ≡ manager → a.parts.sites.items ≡ map new_site rms
       → a.parts.lines ≡ new_grid threads (length rms) → a.events.items ≡ [] → vec_len a.events ≡ 0
       → vec_capacity a.events ≡ EVENT_LIMIT → (log : L) → a.first.value ≡ log → a.handed.value ≡ log
       → IsStartedOver moment threads (length rms) log started → IsSound see moment a
   unfolding here
-  new_sound a some same_start same_began same_manager sites lines none len room log same_first same_handed over = record {
+  new_sound a durable some same_start same_began same_manager sites lines none len room log same_first same_handed over = record {
     few = omega (arith, len);
     room = omega (arith, room);
     stands = subst (λ o. Stands see o a.parts) (sym (ap (λ es. history (start_of see moment a.parts) es) none ∙ ap From origin_same)) (record {
@@ -238,8 +260,7 @@ module _ {R L : Type 0} (see : Sees R (Slot L)) (moment : L → Moment) (threads
     });
     demanded = rw none tt;
     log = record {
-      order = λ h. subst (λ m. (see.moment (log_in m)).is_in_order) (sym same_manager)
-          (slot.log.order (over.order (subst (λ l. (moment l).is_in_order) same_handed h)));
+      order = order_as;
       honest = λ h. subst (λ l. (moment l).is_honest) (sym same_handed)
           (over.honest (slot.log.honest (subst (λ m. (see.moment (log_in m)).is_honest) same_manager h)));
       start = λ order honest.
@@ -252,9 +273,16 @@ module _ {R L : Type 0} (see : Sees R (Slot L)) (moment : L → Moment) (threads
           (subst (λ k. IsSomeAnd (moment (log_in started)).content (λ c. k ≡ book_at_start threads (length rms) c)) (sym slot.book ∙ same_book)
           (over.book in_order now))));
       tied = tied_as false;
+      left = λ order honest.
+          left_up false (book_in a.parts.manager) (see.moment (log_in a.parts.manager)).content (see.moment (log_in a.parts.manager)).may_leave
+          (ap (λ m. (book_in m).up) same_manager ∙ starts_up) (tied_as false order honest) (λ c d. durable (log_in a.parts.manager) c d (order_as order));
     };
   }
     where
+      order_as : (moment a.handed.value).is_in_order → (see.moment (log_in a.parts.manager)).is_in_order
+      order_as h = subst (λ m. (see.moment (log_in m)).is_in_order) (sym same_manager)
+          (slot.log.order (over.order (subst (λ l. (moment l).is_in_order) same_handed h)))
+
       origin_same : start_of see moment a.parts ≡ here
       origin_same = λ i. origin_of see (ap (λ (g : Grid). g.threads) lines i) (same_start i) (same_began i)
 

@@ -29,12 +29,15 @@ use Rattle.xa_base.specs.declared.reply.Reply.{Reply}
 use Rattle.xa_base.specs.declared.reply.Reply.TheVariants as Replies
 use Rattle.xa_base.specs.declared.step.Step.{Step}
 use Rattle.xa_base.specs.declared.step.Step.TheVariants as Steps
+use Rattle.xa_base.proofs.Options.{some_is}
+use Rattle.xa_base.proofs.Lists.{none_first}
 use Rattle.xa_model.proofs.Keys.{line_eq-refl}
 use Rattle.xa_model.proofs.Replies.Replies.{demanded_right, accepted_ours}
 use Rattle.xa_line.specs.Grid.{Grid, HasLine, line_at, new_grid, with_line}
 use Rattle.xa_line.specs.Traffic.{Flow, PassesOn, Traffic, all_of, answered, issued}
 use Rattle.xa_line.proofs.FlowLaws.{all_of-PassesOn}
 use Rattle.xa_line.proofs.GridLaws.{line_at-new_grid, whole-new_grid, whole-with_line}
+use Rattle.xa_model.proofs.Invariant.Preserved.{run_of}
 use Rattle.xa_tm.specs.declared.manager.Manager.{Manager}
 use Rattle.xa_tm.specs.Asked.{FitsRecord, IsAnswerTo, MakesRecord}
 use Rattle.xa_tm.specs.Kept.{book_in, log_in, FailsBy}
@@ -52,13 +55,12 @@ use Rattle.xa_system.proofs.CrashLeads.{all_stand, line_why}
 use Rattle.xa_line.proofs.TrafficLaws.{line_goes_on, line_renewed}
 use Rattle.xa_system.proofs.LineLaws.{line_stays, no_waiting_answer, waiting_answer}
 use Rattle.xa_system.proofs.OnBranch.{ours_back}
-use Rattle.xa_system.proofs.Lists.{some_is}
 use Rattle.xa_system.proofs.LogLaws.{made_is}
 use Rattle.xa_log.specs.Content.{Content}
 use Rattle.xa_tm.specs.Tied.{made}
 use Rattle.xa_system.proofs.Logging.{LogCalled, LogUndone, log_done, log_failing}
 use Rattle.xa_system.specs.Logged.{LogFollows, changed}
-use Rattle.xa_system.proofs.Managing.{book_then, within}
+use Rattle.xa_system.proofs.Managing.{book_then, up_where, within}
 use Rattle.xa_system.proofs.Standing.{Follows, IsEvent, goes_as, has_line, lacking_goes, lines_with, nothing_follows, site_stays, there_is}
 use Rattle.xa_tm.specs.Book.{Book, after, asked_in, book_after, doubt_of}
 
@@ -74,10 +76,6 @@ known_pair None a q e = absurd (cc)
 pub first_is : {A : Type 0} (xs : List A) (x : A) → Some x ≡ slice_get xs 0 → (rest : List A) × (xs ≡ x ∷ rest)
 first_is [] x e = absurd (cc)
 first_is (y ∷ ys) x e = (ys, ap (λ z. z ∷ ys) (some_is y x (sym e)))
-
-pub none_first : {A : Type 0} (xs : List A) → None ≡ slice_get xs 0 → xs ≡ []
-none_first [] e = refl
-none_first (x ∷ xs) e = absurd (cc)
 
 -- what is said of the first of a list, where that is at hand
 pub some_and : {A : Type 0} (P : A → Type 0) (o : Option A) (x : A) → Some x ≡ o → IsSomeAnd o P → P x
@@ -208,7 +206,8 @@ module _ {R L : Type 0} (see : Sees R L) where
     pub hear_answers : (call : Asking.Call Xid) (a : Given.Answer Xid)
         → Some (call, a) ≡ slice_get (line_at parts.lines t r).answers.waiting 0 → IsAnswerTo (map_call name_of call) (map_answer name_of a)
     hear_answers call a first =
-        let k = heard_known call a first in answer_is_code tr (line t r) k.0 (map_answer name_of a) (map_call name_of call) stands.kept.right k.2 k.1
+        let k = heard_known call a first in
+        answer_is_code tr (line t r) k.0 (map_answer name_of a) (map_call name_of call) (run_of tr stands.kept.right) k.2 k.1
 
     pub hear_fits : (call : Asking.Call Xid) (a : Given.Answer Xid)
         → Some (call, a) ≡ slice_get (line_at parts.lines t r).answers.waiting 0 → happenings tr < EVENT_LIMIT
@@ -279,7 +278,8 @@ module _ {R L : Type 0} (see : Sees R L) where
           book = book_then see tr e parts manager stands
               (subst (Right tr) happens (demanded_right tr (Steps.Hear t r) (Replies.Heard (map_call Ours k.0) (map_answer name_of a)) demanded))
               (book k.0 k.1);
-          log = log_done see.moment e tt parts.manager manager (λ n. refl) called;
+          log = log_done see.moment e tt parts.manager manager (λ n. refl)
+              (ap (λ (b : Book). b.up) (book k.0 k.1) ∙ ap (λ (b : Book). b.up) stands.book ∙ up_where tr (Steps.Hear t r) refl none) called;
           unchanged = λ q. absurd (subst IsEvent q tt);
         }))
 
@@ -346,7 +346,9 @@ module _ {R L : Type 0} (see : Sees R L) where
             hear_failed call a (uses w.0).0 sites lines manager reply first (is ∙ ap (λ m. Replies.Refused m) w.0) (uses w.0).1 up (crash w.0) (broken w.0)
             (λ c e. subst (λ d. book_in manager ≡ book_after (book_in parts.manager) (doubt_of (facts.record_of d (map_answer name_of a)))
             (Failed (InHear (line t r)))) (let two : Some (heard_known call a first).0 ≡ Some c = sym (heard_known call a first).1 ∙ e in some_is _ _ two) w.1)
-            (log_failing see.moment (InHear (line t r)) n parts.manager manager w.0
+            (log_failing see.moment (InHear (line t r)) n parts.manager manager w.0 (ap (λ (b : Book). b.up) stands.book ∙ up) (λ m. refl)
+            (w.1 ∙ ap (λ d. book_after (book_in parts.manager) (doubt_of d) (Failed (InHear (line t r))))
+            (sym (ap facts.record_of_next (heard_known call a first).2)))
             (subst (λ (d : Content → Content). LogUndone see.moment (Unit {0}) n d parts.manager manager)
             (λ i d. (made_is (facts.record_of (heard_known call a first).0 (map_answer name_of a)) d ∙ ap (λ e. changed e d)
             (sym (ap facts.record_of_next (heard_known call a first).2))) i)

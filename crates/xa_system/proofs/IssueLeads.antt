@@ -19,7 +19,6 @@ use Rattle.std.proofs.lemmas.Bool.{true≢false}
 use Rattle.xa_tm.specs.declared.manager.Manager.{Manager}
 use Rattle.xa_tm.specs.Kept.{book_in, log_in}
 use Rattle.xa_tm.specs.Tied.{IsTied}
-use Rattle.xa_system.proofs.Lists.{some_is}
 use Rattle.xa_model.specs.Replies.Rules.{applies, first_of, has_rm, has_thread, must_refuse, forces_not_open, forces_unknown_transaction}
 use Rattle.xa_model.specs.Trace.{Call, Happening.Issued, Name.Foreign, Name.Ours, Trace, Trace.Then, line, Name}
 use Rattle.xa_base.specs.declared.call.Call as Asking
@@ -28,6 +27,7 @@ use Rattle.xa_base.specs.declared.refusal.Refusal.TheVariants as Refusals
 use Rattle.xa_base.specs.declared.reply.Reply.{Reply}
 use Rattle.xa_base.specs.declared.reply.Reply.TheVariants as Replies
 use Rattle.xa_base.specs.declared.step.Step.TheVariants as Steps
+use Rattle.xa_base.proofs.Options.{or_none, some_is}
 use Rattle.xa_model.proofs.Keys.{line_eq-refl}
 use Rattle.xa_model.proofs.Replies.Replies.{demanded_right, peel}
 use Rattle.xa_line.specs.Grid.{HasLine, line_at, with_line}
@@ -61,10 +61,6 @@ first_append test (x ∷ xs) ys = by_test (test x) (first_append test xs ys)
 by_book : List Refusal
 by_book =
     Refusals.UnknownTransaction ∷ Refusals.WrongThread ∷ Refusals.AlreadyStarted ∷ Refusals.Decided ∷ Refusals.NotDecided ∷ Refusals.Votes ∷ Refusals.Busy ∷ []
-
-or_none : {A : Type 0} (o : Option A) → option_or o None ≡ o
-or_none None = refl
-or_none (Some x) = refl
 
 abbrev pub bar_of : (shut closed : Bool) → Option Refusal
 bar_of shut closed = if shut then Some Refusals.NotOpen else (if closed then Some Refusals.Closed else None)

@@ -16,6 +16,7 @@ pub mod TakeLaws
 pub mod Deciding
 pub mod FaultCounts
 pub mod Fresh
+pub mod Given
 pub mod HearLeads
 pub mod IssueLeads
 pub mod Kept
@@ -24,7 +25,6 @@ pub mod RestartLeads
 pub mod Standing
 pub mod TakeLeads
 pub mod Seeing
-pub mod Agreeing
 pub mod Managing
 pub mod Broken
 pub mod ScriptLeads

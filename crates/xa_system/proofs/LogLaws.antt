@@ -13,7 +13,7 @@ use Rattle.xa_log.specs.KeySet.{from_list}
 use Rattle.xa_tm.specs.Book.{Book, book_of, doubt_of, row_in}
 use Rattle.xa_tm.specs.Starting.{book_at_start}
 use Rattle.xa_tm.specs.Tied.{HoldsBook, IsTied, IsTiedUp, MayHold, SameRows, TiedBy, made}
-use Rattle.xa_system.specs.Logged.{HoldsRows, IsBeforeNext, LogStands, LogStandsBy, MayHoldRows, MayRestartOver, StartsOver, changed}
+use Rattle.xa_system.specs.Logged.{HoldsRows, IsBeforeNext, LeftBy, LogStands, LogStandsBy, MayBeLeft, MayHoldRows, MayRestartOver, StartsOver, changed}
 
 -- ** rows
 
@@ -72,6 +72,14 @@ tied_stands tr held tied = by (facts.up tr) held tied
     by true None tied = absurd tied
     by true (Some c) tied = record { rows = holds_rows tr c tied.holds; incarnation_is = tied.incarnation }
     by false held tied = λ c is. may_hold_rows tr c (tied c is).holds
+
+-- and what is tied is what a crash may leave, where it may be left
+pub tied_left : (tr : Trace) (c : Content) → IsTied false (book_of tr) (Some c) → MayBeLeft tr c
+tied_left tr c tied = by (facts.up tr) tied
+  where
+    by : (u : Bool) → TiedBy u false (book_of tr) (Some c) → LeftBy u tr c
+    by true tied = record { rows = holds_rows tr c tied.holds; incarnation_is = tied.incarnation }
+    by false tied = may_hold_rows tr c (tied c refl).holds
 
 -- a log that is tied and near is of an incarnation that a restart may follow, and the other way round
 pub near_restarts : (tr : Trace) (held : Option Content) → IsTied true (book_of tr) held → MayRestartOver tr held

@@ -1,16 +1,16 @@
 -- Steps that the manager does or refuses.
-use Rattle.std.proofs.Common.{◌≡◌, ◌≤◌, ◌<◌, ◌+◌, ◌≢◌, inl, inr, ℕ, [], false, refl, sym, ap, ◌∙◌, subst, arith}
-use Rattle.std.specs.Prelude.{Option, Some, None, Result, Ok, Err}
+use Rattle.std.proofs.Common.{◌≡◌, ◌≤◌, ◌<◌, ◌+◌, ◌≢◌, inl, ℕ, [], Bool, true, false, refl, sym, ap, ◌∙◌, subst, arith}
+use Rattle.std.specs.Prelude.{not, ◌&&◌, Option, Some, None, Result, Ok, Err}
 use Rattle.xa_base.specs.Xid.{Xid}
 use Rattle.xa_model.specs.Replies.Demanded.{Demanded.As_value, IsValue, MayLackMemory}
 use Rattle.xa_model.specs.Facts as facts
 use Rattle.xa_model.specs.Replies.History.{reply_of, step_of}
 use Rattle.xa_model.specs.Replies.ReadBack.{StepHasXids}
 use Rattle.xa_model.specs.Protocol.{Right}
-use Rattle.xa_model.specs.Replies.Rules.{must_refuse}
+use Rattle.xa_model.specs.Replies.Rules.{asks_manager, must_refuse}
 use Rattle.xa_model.specs.Replies.Steps as known
 use Rattle.xa_model.specs.Replies.Steps.{happened}
-use Rattle.xa_model.specs.Trace.{Fault, Happening, Happening.Begun, Happening.Claimed, Happening.Decided, Happening.Done, Trace, Trace.Then, line}
+use Rattle.xa_model.specs.Trace.{Happening, Happening.Begun, Happening.Claimed, Happening.Decided, Happening.Done, Trace, Trace.Then, line}
 use Rattle.xa_base.specs.declared.branch.Gtrid.{Gtrid}
 use Rattle.xa_base.specs.declared.refusal.Refusal.{Refusal}
 use Rattle.xa_base.specs.declared.refusal.Refusal.TheVariants as Refusals
@@ -20,12 +20,14 @@ use Rattle.xa_base.specs.declared.step.Outcome.{Outcome}
 use Rattle.xa_base.specs.declared.step.Outcome.TheVariants as Outcomes
 use Rattle.xa_base.specs.declared.step.Step.{Step}
 use Rattle.xa_base.specs.declared.step.Step.TheVariants as Steps
-use Rattle.xa_model.proofs.Replies.Replies.{IsForced, demanded_right, forced}
+use Rattle.xa_model.proofs.Replies.Replies.{IsForced, demanded_right, forced, none_applies}
 use Rattle.xa_line.specs.Grid.{line_at}
+use Rattle.xa_model.proofs.Invariant.Preserved.{run_of}
+use Rattle.xa_model.proofs.RecoveryLemmas.RecoveredStart.{origin_right}
 use Rattle.xa_tm.specs.declared.manager.Manager.{Manager}
 use Rattle.xa_log.specs.Content.{last_number}
 use Rattle.xa_tm.specs.Held.{IsSound}
-use Rattle.xa_tm.specs.Kept.{FailsBy, book_in, log_in}
+use Rattle.xa_tm.specs.Kept.{book_in, log_in}
 use Rattle.xa_tm.specs.Tied.{IsTied}
 use Rattle.xa_system.specs.Logged.{LogFollows}
 use Rattle.xa_system.proofs.Logging.{LogCalled, log_done, log_kept, tied_begun, tied_claimed}
@@ -49,16 +51,24 @@ err_is m n e = cc
 pub not_fault : (n : Refusal) → IsForced n → n ≢ Refusals.LogFault
 not_fault n f e = subst IsForced e f
 
--- a call in which the log wasn't asked fails for want of memory
-pub only_memory : (asked : Doubt) (f : Fault) {old new : Book} {n : Refusal} → FailsBy asked f old new n
-    → (n ≡ Refusals.LogFault → ⊥) → (n ≡ Refusals.Memory) × (new ≡ old)
-only_memory asked f (inl w) never = w
-only_memory asked f (inr w) never = absurd (never w.0)
+-- a step that asks the manager is refused while that is down
+pub up_where : (tr : Trace) (s : known.Step) → asks_manager s ≡ true → must_refuse tr s ≡ None → facts.up tr ≡ true
+up_where tr s asks none = by_up (facts.up tr) (asks_manager s) asks (none_applies tr s Refusals.ManagerDown none)
+  where
+    by_up : (u a : Bool) → a ≡ true → (a && not u) ≡ false → u ≡ true
+    by_up true a e h = refl
+    by_up false true e h = absurd (cc)
+    by_up false false e h = absurd (cc)
 
 module _ {R L : Type 0} (see : Sees R L) where
   -- the history is within the limits
   pub within : (tr : Trace) (parts : Parts R L) → Stands see tr parts → happenings tr < EVENT_LIMIT → IsWithinLimits tr
-  within tr parts stands few = record { right = stands.kept.right; events = omega (arith, few); fits = stands.fits }
+  within tr parts stands few = record {
+    right = run_of tr stands.kept.right;
+    events = omega (arith, few);
+    fits = stands.fits;
+    found = λ b. inl ((origin_right tr stands.kept.right).clear b);
+  }
 
   -- the book that the manager holds is sound
   pub sound_book : (parts : Parts R L) → StandsSomewhere see parts → IsSound (book_in parts.manager)
@@ -67,13 +77,19 @@ module _ {R L : Type 0} (see : Sees R L) where
   -- what the manager would refuse, the history does
   pub judged : (tr : Trace) (parts : Parts R L) (s : known.Step) → IsLookedAt s → Stands see tr parts
       → refusal_in (book_in parts.manager) s ≡ managers_refusal tr s
-  judged tr parts s looked stands = ap (λ k. refusal_in k s) stands.book ∙ refusal_is tr s stands.kept.right looked
+  judged tr parts s looked stands = ap (λ k. refusal_in k s) stands.book ∙ refusal_is tr s (run_of tr stands.kept.right) looked
+
+  -- while it is up
+  up_in : (tr : Trace) (parts : Parts R L) (s : known.Step) → IsLookedAt s → managers_refusal tr s ≡ must_refuse tr s → asks_manager s ≡ true
+      → Stands see tr parts → refusal_in (book_in parts.manager) s ≡ None → (book_in parts.manager).up ≡ true
+  up_in tr parts s looked same asks stands none =
+      ap (λ (k : Book). k.up) stands.book ∙ up_where tr s asks (sym same ∙ sym (judged tr parts s looked stands) ∙ none)
 
   -- the book of one happening more
   pub book_then : (tr : Trace) (e : Happening) (parts : Parts R L) (manager : Manager L) → Stands see tr parts → Right tr e
       → book_in manager ≡ book_after (book_in parts.manager) (asked_in tr e) e → book_in manager ≡ book_of (Then tr e)
   book_then tr e parts manager stands right is =
-      is ∙ ap (λ k. book_after k (asked_in tr e) e) stands.book ∙ sym (right_book tr e stands.kept.right right stands.apart)
+      is ∙ ap (λ k. book_after k (asked_in tr e) e) stands.book ∙ sym (right_book tr e (run_of tr stands.kept.right) right stands.apart)
 
   -- a happening of the manager alone is nothing to the lines and the resource managers
   pub record IsOwn (tr : Trace) (e : Happening) : Type 0 where
@@ -268,7 +284,8 @@ module _ {R L : Type 0} (see : Sees R L) where
   abandon_did parts manager g reply is none book did tr stands few =
       did_goes tr (Steps.Abandon g) reply Replies.Decided parts manager stands tt tt (ap reply_of is) refl none refl
       (own_decided tr g Outcomes.Rollback) refl book
-      (log_done see.moment (Decided g Outcomes.Rollback) tt parts.manager manager (λ k. refl) did)
+      (log_done see.moment (Decided g Outcomes.Rollback) tt parts.manager manager (λ k. refl)
+      (ap (λ (k : Book). k.up) book ∙ up_in tr parts (Steps.Abandon g) tt refl refl stands none) did)
 
   pub decide_did : (parts : Parts R L) (manager : Manager L) (g : Gtrid) (o : Outcome) (reply : Reply Xid)
       → reply ≡ Replies.Decided → refusal_in (book_in parts.manager) (Steps.Decide g o) ≡ None
@@ -277,7 +294,8 @@ module _ {R L : Type 0} (see : Sees R L) where
       → GoesOn see (Steps.Decide g o) reply parts (with_manager parts manager)
   decide_did parts manager g o reply is none book did tr stands few =
       did_goes tr (Steps.Decide g o) reply Replies.Decided parts manager stands tt tt (ap reply_of is) refl none refl (own_decided tr g o) refl book
-      (log_done see.moment (Decided g o) tt parts.manager manager (λ k. refl) did)
+      (log_done see.moment (Decided g o) tt parts.manager manager (λ k. refl)
+      (ap (λ (k : Book). k.up) book ∙ up_in tr parts (Steps.Decide g o) tt refl refl stands none) did)
 
   pub settle_did : (parts : Parts R L) (manager : Manager L) (g : Gtrid) (reply : Reply Xid) → reply ≡ Replies.Decided
       → refusal_in (book_in parts.manager) (Steps.Settle g) ≡ None
@@ -286,7 +304,8 @@ module _ {R L : Type 0} (see : Sees R L) where
       → GoesOn see (Steps.Settle g) reply parts (with_manager parts manager)
   settle_did parts manager g reply is none book did tr stands few =
       did_goes tr (Steps.Settle g) reply Replies.Decided parts manager stands tt tt (ap reply_of is) refl none refl (own_decided tr g Outcomes.Commit) refl book
-      (log_done see.moment (Decided g Outcomes.Commit) tt parts.manager manager (λ k. refl) did)
+      (log_done see.moment (Decided g Outcomes.Commit) tt parts.manager manager (λ k. refl)
+      (ap (λ (k : Book). k.up) book ∙ up_in tr parts (Steps.Settle g) tt refl refl stands none) did)
 
   pub done_did : (parts : Parts R L) (manager : Manager L) (g : Gtrid) (reply : Reply Xid) → reply ≡ Replies.Noted
       → refusal_in (book_in parts.manager) (Steps.Done g) ≡ None
@@ -294,4 +313,5 @@ module _ {R L : Type 0} (see : Sees R L) where
       → GoesOn see (Steps.Done g) reply parts (with_manager parts manager)
   done_did parts manager g reply is none book did tr stands few =
       did_goes tr (Steps.Done g) reply Replies.Noted parts manager stands tt tt (ap reply_of is) refl none refl (own_done tr g) refl book
-      (log_done see.moment (Done g) tt parts.manager manager (λ k. refl) did)
+      (log_done see.moment (Done g) tt parts.manager manager (λ k. refl)
+      (ap (λ (k : Book). k.up) book ∙ up_in tr parts (Steps.Done g) tt refl refl stands none) did)

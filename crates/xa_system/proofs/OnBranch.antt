@@ -1,5 +1,5 @@
 -- Calls whose kind is any, and calls as histories know them.
-use Rattle.std.proofs.Common.{false, ◌≡◌, ℕ, List, [], ◌∷◌, map, Bool, not, ◌&&◌, ◌||◌, Some, None, refl, sym, ap, ◌∙◌}
+use Rattle.std.proofs.Common.{◌≡◌, ℕ, List, [], ◌∷◌, map, Bool, not, ◌&&◌, ◌||◌, Some, None, refl, sym, ap, ◌∙◌}
 use Rattle.std.specs.Prelude.{if◌then◌else◌}
 use Rattle.xa_base.specs.Branch.{branch_eq}
 use Rattle.xa_model.specs.Facts.Standings.{moved_by}
@@ -18,21 +18,12 @@ use Rattle.xa_base.specs.declared.branch.Branch.{Branch}
 use Rattle.xa_base.specs.declared.call.Call as Asking
 use Rattle.xa_base.specs.declared.call.Call.TheVariants as Calls
 use Rattle.xa_base.specs.declared.code.Code.{Code}
+use Rattle.xa_base.proofs.StateLemmas.{asks_on}
+use Rattle.xa_base.proofs.Options.{some_is}
 use Rattle.xa_line.specs.Histories.{known}
 use Rattle.xa_system.specs.Trace.{IsHome}
-use Rattle.xa_system.proofs.Lists.{some_is}
 
 -- ** any kind
-
-asks_on : (k : Kind) (b : Branch) → asks_of (on k b) ≡ Some (k, b)
-asks_on Start b = refl
-asks_on Join b = refl
-asks_on (End f) b = refl
-asks_on Prepare b = refl
-asks_on Commit b = refl
-asks_on OnePhase b = refl
-asks_on Rollback b = refl
-asks_on Forget b = refl
 
 pub home_on : (l : Line) (k : Kind) (b : Branch) → IsHome l (on k b) → b.rm ≡ l.rm
 home_on l Start b h = h
@@ -153,17 +144,6 @@ closes_ours _ = refl
 closes_named : (c : Asking.Call Xid) → closes (map_call name_of c) ≡ closes c
 closes_named Calls.CloseRm = refl
 closes_named _ = refl
-
--- no call on a branch closes
-pub closes_on : (k : Kind) (b : Branch) → closes (on k b) ≡ false
-closes_on Start b = refl
-closes_on Join b = refl
-closes_on (End f) b = refl
-closes_on Prepare b = refl
-closes_on Commit b = refl
-closes_on OnePhase b = refl
-closes_on Rollback b = refl
-closes_on Forget b = refl
 
 closes_known : (call : Asking.Call Name) (k : Call) → accepted call ≡ Some k → closes call ≡ closes k
 closes_known call k e = ap closes (ours_back call k e) ∙ closes_ours k

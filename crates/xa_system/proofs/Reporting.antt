@@ -1,11 +1,12 @@
 -- What a report lists.
-use Rattle.std.proofs.Common.{◌≡◌, ◌<◌, ◌≤◌, ◌+◌, ◌++◌, ◌∙◌, ℕ, zero, suc, arith, List, [], ◌∷◌, map, take, length, Bool, true, false, ◌||◌, refl, sym, ap, subst, Ordering, Less, Equal, Greater, is_eq}
+use Rattle.std.proofs.Common.{◌≡◌, ◌<◌, ◌≤◌, ◌+◌, ◌++◌, ◌∙◌, ℕ, zero, suc, arith, List, [], ◌∷◌, map, take, length, Bool, true, false, ◌||◌, refl, sym, ap, subst, Less}
 use Rattle.std.specs.Prelude.{◌↔◌, Contains, slice_index_or}
 use Rattle.std.specs.List.{AllByRecursion, list_any}
 use Rattle.std.specs.List.Sorted.{IsStrictlySortedBy}
 use Rattle.std.specs.Map.{keys_of}
 use Rattle.std.specs.Ordering.{eq_by_cmp}
 use Rattle.std.proofs.lemmas.Cmp.{eq_by_cmp_equiv}
+use Rattle.std.proofs.lemmas.Bool.{or_right}
 use Rattle.xa_base.specs.Branch.{IsBranch, branch_cmp, branch_eq, xid_of_branch}
 use Rattle.xa_model.specs.Facts.{branches, fate, started}
 use Rattle.xa_model.specs.Replies.History.{history, read}
@@ -14,8 +15,9 @@ use Rattle.xa_base.specs.Xid.{Xid, xid_cmp}
 use Rattle.xa_base.specs.declared.branch.Branch.{Branch}
 use Rattle.xa_base.specs.declared.call.Call.TheVariants as Calls
 use Rattle.xa_base.specs.declared.state.Fate.{Fate}
-use Rattle.xa_base.proofs.BranchOrder.{branches_total, exact_branches}
+use Rattle.xa_base.proofs.BranchOrder.{branches_total}
 use Rattle.xa_base.proofs.BytesOrder.{branch_order}
+use Rattle.xa_base.proofs.Orders.{same_branch}
 use Rattle.xa_log.specs.KeySet.{contains-from_list, contains-items, from_list, items}
 use Rattle.xa_system.specs.Parts.{Sees}
 use Rattle.xa_system.specs.Report.{IsReported}
@@ -38,18 +40,6 @@ abbrev is_among : Branch → List Branch → Bool
 is_among q bs = list_any (eq_by_cmp branch_cmp q) bs
 
 -- ** the members of a list
-
-equal_is : (o : Ordering) → is_eq o ≡ true → o ≡ Equal
-equal_is Less h = absurd (cc)
-equal_is Equal h = refl
-equal_is Greater h = absurd (cc)
-
-same_branch : (q b : Branch) → eq_by_cmp branch_cmp q b ≡ true → q ≡ b
-same_branch q b e = exact_branches q b (equal_is _ e)
-
-or_right : (a b : Bool) → b ≡ true → (a || b) ≡ true
-or_right true b e = refl
-or_right false b e = e
 
 here : (b : Branch) (bs : List Branch) → is_among b (b ∷ bs) ≡ true
 here b bs = ap (λ t. t || is_among b bs) ((eq_by_cmp_equiv branches_total).refl b)
@@ -161,7 +151,8 @@ module _ {R L : Type 0} (see : Sees R (Slot L)) (moment : L → Moment) where
       let at = origin_is o a.events.items in
       record {
         fits = fits_at (trace_of a) (branches (trace_of a)) sound.stands.kept.numbers q (among_branches (trace_of a) q ∙ is);
-        there = (subst (λ p. q.thread < p.threads) at within.0, subst (λ n. q.rm < n) (sym sound.stands.rms) within.1);
+        thread = subst (λ p. q.thread < p.threads) at within.0;
+        rm = subst (λ p. q.rm < p.rms) at within.1;
       }
 
   pub all_own : (a : Inside R L) → IsSound see moment a → (bs : List Branch) → bs ≡ items (book_in a.parts.manager).known → AllByRecursion (IsOwnIn (seen a)) bs

@@ -3,7 +3,7 @@ use Rattle.std.proofs.Common.{◌≡◌, ◌≤◌, ◌<◌, ℕ, suc, Bool, tru
 use Rattle.std.specs.Prelude.{◌&&◌, ◌||◌, ◌+◌, not, if◌then◌else◌, Option, Some, None, nat_le, nat_lt, slice_get, Result, OnOk}
 use Rattle.std.specs.Result.{result_err}
 use Rattle.std.proofs.lemmas.Bool.Decides.{nat_tests}
-use Rattle.std.proofs.lemmas.Bool.{lt-ltb}
+use Rattle.std.proofs.lemmas.Bool.{lt-ltb, not-false}
 use Rattle.std.proofs.lemmas.List.{append-nil}
 use Rattle.std.specs.List.{list_any}
 use Rattle.std.proofs.lemmas.List.Folds.{list_any-append}
@@ -25,6 +25,7 @@ use Rattle.xa_base.specs.declared.reply.Reply.{Reply}
 use Rattle.xa_base.specs.declared.reply.Reply.TheVariants as Replies
 use Rattle.xa_base.specs.declared.step.Step.{Step}
 use Rattle.xa_base.specs.declared.step.Step.TheVariants as Steps
+use Rattle.xa_base.proofs.StateLemmas.{closes_on}
 use Rattle.xa_model.proofs.Keys.{line_eq-refl}
 use Rattle.xa_model.proofs.Replies.Replies.{demanded_right}
 use Rattle.xa_line.specs.Grid.{HasLine, line_at, with_line}
@@ -45,7 +46,7 @@ use Rattle.xa_system.proofs.IssueLeads.{line_took}
 use Rattle.xa_line.proofs.TrafficLaws.{as_many_calls, line_goes_on, same_length}
 use Rattle.xa_system.proofs.LineLaws.{line_stays}
 use Rattle.xa_system.proofs.Managing.{book_then, with_manager}
-use Rattle.xa_system.proofs.OnBranch.{closed_alike, closes_on, opened_alike}
+use Rattle.xa_system.proofs.OnBranch.{closed_alike, opened_alike}
 use Rattle.xa_system.proofs.Standing.{Follows, IsEvent, IsNothingTo, goes_as, has_line, lacking_goes, lines_with, refused_goes, site_stays, up_is}
 use Rattle.xa_tm.specs.Book.{Book, after, book_of}
 use Rattle.xa_tm.specs.Refusing.{live_in, resolved_in, resolved_open_in, resolving_calls_in, resolving_kind_in}
@@ -100,10 +101,6 @@ recovery_free false up rm_is_up shut closed full e = absurd (cc)
 
 room_for : (waits n : ℕ) → nat_lt 64 (waits + n) ≡ false → waits + n ≤ 64
 room_for waits n e = grind (arith, nat_tests, e)
-
-not_shut : (o : Bool) → not o ≡ false → o ≡ true
-not_shut true e = refl
-not_shut false e = absurd (cc)
 
 -- ** what a line takes
 
@@ -308,7 +305,7 @@ module _ {R L : Type 0} (see : Sees R L) where
     recovery_open x is at =
         let tr = at.0 in
         let free = recovery_free _ _ _ _ _ _ (sym (hinders tr at.1)) in
-        ap (λ t. has_opened (issued t)) is ∙ same_open tr parts r at.1 (has_first tr parts r at.1 free.0) ∙ not_shut _ free.2
+        ap (λ t. has_opened (issued t)) is ∙ same_open tr parts r at.1 (has_first tr parts r at.1 free.0) ∙ not-false _ free.2
 
     pub recovery_unclosed : (x : Traffic) → x ≡ line_at parts.lines 0 r → has_closed ks ≡ false → StandsSomewhere see parts
         → has_closed (issued x ++ calls) ≡ false

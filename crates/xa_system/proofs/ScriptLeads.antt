@@ -2,7 +2,7 @@
 use Rattle.std.proofs.Common.{◌≡◌, ◌≢◌, ◌<◌, ◌≤◌, ◌⊎◌, inl, ℕ, Bool, true, false, [], refl, sym, ap, ◌∙◌, subst}
 use Rattle.std.specs.Prelude.{not, if◌then◌else◌, Some, None, Result, Ok, Err, IfErr, OnOk, OnErr, slice_get}
 use Rattle.std.specs.Vec.{with_item}
-use Rattle.std.proofs.lemmas.Bool.{eqb-true, eq-eqb}
+use Rattle.std.proofs.lemmas.Bool.{eqb-true, eq-eqb, false_from_ne_true}
 use Rattle.xa_log.specs.Content.{last_number}
 use Rattle.xa_base.specs.declared.step.Step.TheVariants as Steps
 use Rattle.xa_base.specs.Branch.{IsBranch, branch_eq, xid_of_branch}
@@ -148,14 +148,10 @@ heuristic_elsewhere tr r (Foreign x) how e = refl
 
 -- ** whether the branch is where the script wants it
 
-not_true : (t : Bool) → (t ≡ true → ⊥) → t ≡ false
-not_true true f = absurd (f refl)
-not_true false f = refl
-
 pub vote_fine : (tr : Trace) (r : ℕ) (n : Name) (b : Branch) (v : Vote) (f : Standing) → n ≡ Ours b → b.rm ≡ r
     → f ≡ facts.standing tr b → (is_in_doubt f ≡ true → ⊥) → forces_script tr (Steps.Vote r n v) ≡ false
 vote_fine tr r n b v f is at same no_doubt =
-    ap (λ m. forces_script tr (Steps.Vote r m v)) is ∙ rw (eq-eqb b.rm r at, ← same) (not_true (is_in_doubt f) no_doubt)
+    ap (λ m. forces_script tr (Steps.Vote r m v)) is ∙ rw (eq-eqb b.rm r at, ← same) (false_from_ne_true (is_in_doubt f) no_doubt)
 
 pub vote_bad : (tr : Trace) (r : ℕ) (n : Name) (b : Branch) (v : Vote) (f : Standing) → n ≡ Ours b → b.rm ≡ r
     → f ≡ facts.standing tr b → is_in_doubt f ≡ true → forces_script tr (Steps.Vote r n v) ≡ true

@@ -1,13 +1,18 @@
 -- What is seen of a sound system.
-use Rattle.std.proofs.Common.{◌≡◌, ◌≢◌, true, false, ◌<◌, ◌+◌, ℕ, List, [], ◌∷◌, ◌++◌, map, refl, sym, ap, subst, ◌∙◌, arith, Global, Vec, Option, Some, None}
+use Rattle.std.proofs.Common.{inl, inr, ◌≡◌, ◌≢◌, true, false, ◌<◌, ◌+◌, ℕ, List, [], ◌∷◌, ◌++◌, map, refl, sym, ap, subst, ◌∙◌, arith, Global, Vec, Option, Some, None}
 use Rattle.std.specs.Prelude.{IsSomeAnd, vec_len, slice_get}
 use Rattle.std.specs.Vec.{vec_capacity}
 use Rattle.std.specs.Option.{option_map}
+use Rattle.std.proofs.lemmas.List.{length-map}
 use Rattle.std.proofs.lemmas.Option.{slice_get-map}
 use Rattle.xa_tm.proofs.Limits.{events_happen}
 use Rattle.xa_model.specs.Replies.Demanded.{Demanded, with_steps}
 use Rattle.xa_base.specs.Branch.{IsBranch, xid_of_branch}
-use Rattle.xa_model.specs.Facts.{fate, origin, up}
+use Rattle.xa_base.specs.Recover.{IsInDoubtList}
+use Rattle.xa_model.specs.Facts.{branches, fate, origin, up}
+use Rattle.xa_model.specs.Protocol.{RightOrigin}
+use Rattle.xa_model.proofs.RecoveryLemmas.RecoveredStart.{origin_right}
+use Rattle.xa_model.proofs.Replies.Replies.{InBranches, started_in}
 use Rattle.xa_base.specs.Standing.{fate_of}
 use Rattle.xa_base.specs.Xid.{Xid}
 use Rattle.xa_base.specs.declared.branch.Branch.{Branch}
@@ -24,15 +29,17 @@ use Rattle.xa_system.specs.declared.system.TheConstants.{EVENT_LIMIT}
 use Rattle.xa_base.specs.declared.refusal.Refusal.{Refusal}
 use Rattle.xa_base.specs.declared.refusal.Refusal.TheVariants as Refusals
 use Rattle.xa_base.specs.declared.reply.Reply.TheVariants as Replies
-use Rattle.xa_system.specs.Logged.{MayHaveFailed, MayRestartOver, StartsOver}
+use Rattle.xa_system.specs.Logged.{AreTied, IsBeforeNext, IsDurable, MayHaveFailed, MayRestartOver, StartsOver}
+use Rattle.xa_system.specs.Trace.{Each}
 use Rattle.xa_system.specs.Steps.{IsSame}
-use Rattle.xa_system.specs.Seen.{FaultsHaveCauses, HoldsItsTrace, IsAsBefore, IsSound, KeepsLog, MayRestart, observed, seen, start_of}
+use Rattle.xa_system.specs.Seen.{FaultsHaveCauses, HoldsItsTrace, IsAsBefore, IsSound, KeepsLog, MayRestart, MayRestartAfterCrash, OtherFaultsHaveCauses, observed, seen, start_of}
 use Rattle.xa_system.specs.Sites.{RmStands}
 use Rattle.xa_system.specs.declared.parts.Parts.{Parts}
 use Rattle.xa_system.specs.declared.site.Site.{Site}
 use Rattle.xa_system.specs.declared.system.System.TheInside.{Inside}
-use Rattle.xa_system.proofs.FaultCounts.{causes_more, falls, rises}
-use Rattle.xa_system.proofs.LogLaws.{near_restarts, restarts_near, tied_stands}
+use Rattle.xa_system.proofs.Logging.{left_up}
+use Rattle.xa_system.proofs.FaultCounts.{causes_more, falls, is_fault_event, is_other_fault, other_rises, rises}
+use Rattle.xa_system.proofs.LogLaws.{near_restarts, restarts_near, tied_left, tied_stands}
 use Rattle.xa_log.specs.Contract.{Moment}
 use Rattle.xa_tm.specs.Kept.{book_in, log_in}
 use Rattle.xa_tm.specs.declared.slot.Slot.{Slot}
@@ -56,10 +63,23 @@ mapped_at f xs k y e = from_option (slice_get xs k) refl (sym (slice_get-map f x
     from_option None at is = absurd cc
     from_option (Some x) at is = (x, at, cc)
 
+-- of branches with numbers that fit each has such numbers
+numbers_in : (bs : List Branch) (b : Branch) → Each IsBranch bs → InBranches bs b → IsBranch b
+numbers_in [] b all among = absurd among
+numbers_in (x ∷ xs) b all (inl same) = subst IsBranch same all.0
+numbers_in (x ∷ xs) b all (inr more) = numbers_in xs b all.1 more
+
 module _ {R L : Type 0} (see : Sees R (Slot L)) (moment : L → Moment) where
   pub holds : (a : Inside R L) → IsSound see moment a → HoldsItsTrace (observed see moment) (seen a)
   holds a sound = record {
     demanded = sound.demanded;
+    right = subst RightOrigin (origin_is o a.events.items) (origin_right (history o a.events.items) sound.stands.kept.right);
+    listed = λ r few. subst (λ p. IsInDoubtList (p.held r) (p.in_doubt r)) (origin_is o a.events.items)
+        (sound.stands.clear.listed r (subst (λ p. r < p.rms) (sym (origin_is o a.events.items)) few));
+    numbers = λ b is. numbers_in (branches (history o a.events.items)) b sound.stands.kept.numbers (started_in (history o a.events.items) b is);
+    count = length-map a.parts.sites.items (λ (site : Site R). site.rm) ∙ sym a.parts.sites.ok.0 ∙ sound.stands.count
+        ∙ ap (λ (p : Origin). p.rms) (origin_is o a.events.items);
+    grid = sound.stands.rms ∙ ap (λ (p : Origin). p.rms) (origin_is o a.events.items);
     rms = λ r rm at.
         let from = mapped_at (λ (site : Site R). site.rm) a.parts.sites.items r rm at in
         subst (RmStands see.look (history (start_of see moment a.parts) a.events.items) r) from.2 (sound.stands.sites r from.0 from.1).rm;
@@ -68,8 +88,23 @@ module _ {R L : Type 0} (see : Sees R (Slot L)) (moment : L → Moment) where
       start = sound.log.start;
       stands = λ order honest. tied_stands (history (start_of see moment a.parts) a.events.items) (see.moment (log_in a.parts.manager)).content
           (subst (λ k. IsTied false k (see.moment (log_in a.parts.manager)).content) sound.stands.book (sound.log.tied order honest));
+      order = sound.log.order;
+      leaves = λ order honest c left. tied_left (history o a.events.items) c
+          (subst (λ k. IsTied false k (Some c)) sound.stands.book (sound.log.left order honest c left));
     };
   }
+    where
+      o : Origin
+      o = start_of see moment a.parts
+
+  -- what a crash may leave is tied with its incarnation, where that is one that a restart may follow
+  near_left : (a : Inside R L) → IsSound see moment a → (moment a.handed.value).is_in_order → (see.moment (log_in a.parts.manager)).is_honest
+      → MayRestartAfterCrash (observed see moment) (seen a) → AreTied true (book_in a.parts.manager) (see.moment (log_in a.parts.manager)).may_leave
+  near_left a sound order honest may c left =
+      subst (λ k. IsTied true k (Some c)) (sym sound.stands.book)
+      (restarts_near (history (start_of see moment a.parts) a.events.items) (Some c)
+      (subst (λ k. IsTied false k (Some c)) sound.stands.book (sound.log.left order honest c left))
+      (λ d is. subst (IsBeforeNext (history (start_of see moment a.parts) a.events.items)) (let same : c ≡ d = cc in same) (may c left)))
 
   -- where a restart may follow, the log is tied with its incarnation
   near_tied : (a : Inside R L) → IsSound see moment a → (moment a.handed.value).is_in_order → (see.moment (log_in a.parts.manager)).is_honest
@@ -79,6 +114,17 @@ module _ {R L : Type 0} (see : Sees R (Slot L)) (moment : L → Moment) where
       subst (λ k. IsTied true k held) (sym sound.stands.book)
       (restarts_near (history (start_of see moment a.parts) a.events.items) held
       (subst (λ k. IsTied false k held) sound.stands.book (sound.log.tied order honest)) may)
+
+  -- so it is while the manager is up, where a restart may follow over what the log holds
+  pub follows_a_crash : (a : Inside R L) → IsSound see moment a → IsDurable see.moment → (book_in a.parts.manager).up ≡ true
+      → (moment a.handed.value).is_in_order → (see.moment (log_in a.parts.manager)).is_honest
+      → MayRestart (observed see moment) (seen a) → MayRestartAfterCrash (observed see moment) (seen a)
+  follows_a_crash a sound durable up order honest may c left =
+      let log = see.moment (log_in a.parts.manager) in
+      near_restarts (history (start_of see moment a.parts) a.events.items) (Some c)
+      (subst (λ k. IsTied true k (Some c)) sound.stands.book
+      (left_up true (book_in a.parts.manager) log.content log.may_leave up (near_tied a sound order honest may)
+      (λ d e. durable (log_in a.parts.manager) d e (sound.log.order order)) c left)) c refl
 
   -- the parts stand, and there is room
   pub somewhere : (a : Inside R L) → IsSound see moment a → vec_len a.events < EVENT_LIMIT → StandsSomewhere see a.parts
@@ -157,10 +203,10 @@ module _ {R L : Type 0} (see : Sees R (Slot L)) (moment : L → Moment) where
 
   -- the log after one event more
   log_then : (old : Inside R L) (new : Parts R (Slot L)) (events : Vec Event Global) (step : Step Xid) (reply : Reply Xid)
-      → IsSound see moment old → GoesOn see step reply old.parts new → vec_len old.events < EVENT_LIMIT
+      → IsDurable see.moment → IsSound see moment old → GoesOn see step reply old.parts new → vec_len old.events < EVENT_LIMIT
       → KeepsLog (observed see moment) (start_of see moment new) (record { first = old.first; handed = old.handed; parts = new; events = events })
   unfolding somewhere
-  log_then old new events step reply sound goes few =
+  log_then old new events step reply durable sound goes few =
       let here = somewhere old sound few in
       let log = (goes here.0 here.1 here.2).log in
       let start = start_stays old.parts new here.0 step reply here.1 here.2 goes in
@@ -172,6 +218,8 @@ module _ {R L : Type 0} (see : Sees R (Slot L)) (moment : L → Moment) where
             λ order honest. subst (λ o. IsSomeAnd (moment old.first.value).content (StartsOver o)) (sym start)
             (sound.log.start order (subst (λ m. (see.moment (log_in m)).is_honest) began honest));
         tied = λ order honest. log.tied false (sound.log.order order) honest (sound.log.tied order (log.honest honest));
+        left = λ order honest.
+            log.left false durable (sound.log.order order) honest (sound.log.tied order (log.honest honest)) (sound.log.left order (log.honest honest));
       }
 
   -- what was honest since
@@ -194,9 +242,25 @@ module _ {R L : Type 0} (see : Sees R (Slot L)) (moment : L → Moment) where
       let more = goes here.0 here.1 here.2 in
       let counted = more.log.counted (sound.log.order order) honest (near_tied old sound order (more.log.honest honest) may) in
       let all = items ∙ ap (λ (r : Reply Xid). old.events.items ++ record { step = step; reply = r } ∷ []) same in
-      causes_more old.events.items events.items (record { step = step; reply = reply })
+      causes_more is_fault_event old.events.items events.items (record { step = step; reply = reply })
       (see.moment (log_in old.parts.manager)).fault_count (see.moment (log_in new.manager)).fault_count _ all
       (rises here.0 (step_of step) reply (see.moment (log_in old.parts.manager)).fault_count more.demanded) counted
+
+  -- so has one that is no restart of the manager, whatever the log
+  pub other_fault_has_cause : (old : Inside R L) (new : Parts R (Slot L)) (events : Vec Event Global) (step : Step Xid) (reply copy : Reply Xid)
+      → IsSound see moment old → GoesOn see step reply old.parts new → copy ≡ reply
+      → vec_len old.events < EVENT_LIMIT → events.items ≡ old.events.items ++ record { step = step; reply = copy } ∷ []
+      → OtherFaultsHaveCauses (observed see moment) (seen old)
+      (seen (record { first = old.first; handed = old.handed; parts = new; events = events }))
+  unfolding somewhere
+  other_fault_has_cause old new events step reply copy sound goes same few items =
+      let here = somewhere old sound few in
+      let more = goes here.0 here.1 here.2 in
+      let all = items ∙ ap (λ (r : Reply Xid). old.events.items ++ record { step = step; reply = r } ∷ []) same in
+      causes_more is_other_fault old.events.items events.items (record { step = step; reply = reply })
+      (see.moment (log_in old.parts.manager)).fault_count (see.moment (log_in new.manager)).fault_count _ all
+      (other_rises here.0 (step_of step) reply (see.moment (log_in old.parts.manager)).fault_count (see.moment (log_in new.manager)).fault_count
+      more.demanded more.log.counts) refl
 
   -- a restart may follow still
   pub restart_may_follow : (old : Inside R L) (new : Parts R (Slot L)) (events : Vec Event Global) (step : Step Xid) (reply copy : Reply Xid)
@@ -214,14 +278,30 @@ module _ {R L : Type 0} (see : Sees R (Slot L)) (moment : L → Moment) where
       subst (λ tr. MayRestartOver tr held) (sym (trace_then old new events step reply copy sound goes same few items))
       (near_restarts (Then here.0 (happened (step_of step) (reply_of reply))) held (subst (λ k. IsTied true k held) more.stands.book tied))
 
+  -- also over what a crash may leave of the log
+  pub restart_may_follow_a_crash : (old : Inside R L) (new : Parts R (Slot L)) (events : Vec Event Global) (step : Step Xid) (reply copy : Reply Xid)
+      → IsDurable see.moment → IsSound see moment old → GoesOn see step reply old.parts new → copy ≡ reply
+      → vec_len old.events < EVENT_LIMIT → events.items ≡ old.events.items ++ record { step = step; reply = copy } ∷ []
+      → (moment old.handed.value).is_in_order → (see.moment (log_in new.manager)).is_honest
+      → MayRestart (observed see moment) (seen old) → MayRestartAfterCrash (observed see moment) (seen old)
+      → MayRestartAfterCrash (observed see moment) (seen (record { first = old.first; handed = old.handed; parts = new; events = events }))
+  unfolding somewhere
+  restart_may_follow_a_crash old new events step reply copy durable sound goes same few items order honest may crash c left =
+      let here = somewhere old sound few in
+      let more = goes here.0 here.1 here.2 in
+      let tied = more.log.left true durable (sound.log.order order) honest (near_tied old sound order (more.log.honest honest) may)
+      (near_left old sound order (more.log.honest honest) crash) c left in
+      subst (λ tr. IsBeforeNext tr c) (sym (trace_then old new events step reply copy sound goes same few items))
+      (near_restarts (Then here.0 (happened (step_of step) (reply_of reply))) (Some c) (subst (λ k. IsTied true k (Some c)) more.stands.book tied) c refl)
+
   -- one event more
   pub sound_then : (old : Inside R L) (new : Parts R (Slot L)) (events : Vec Event Global) (step : Step Xid) (reply copy : Reply Xid)
-      → IsSound see moment old → GoesOn see step reply old.parts new → copy ≡ reply
+      → IsDurable see.moment → IsSound see moment old → GoesOn see step reply old.parts new → copy ≡ reply
       → vec_len old.events < EVENT_LIMIT → vec_len events ≡ vec_len old.events + 1
       → events.items ≡ old.events.items ++ record { step = step; reply = copy } ∷ [] → vec_capacity events ≡ vec_capacity old.events
       → IsSound see moment (record { first = old.first; handed = old.handed; parts = new; events = events })
   unfolding somewhere
-  sound_then old new events step reply copy sound goes same few len items room =
+  sound_then old new events step reply copy durable sound goes same few len items room =
       let event : Event = record { step = step; reply = reply } in
       let o = start_of see moment old.parts in
       let here = somewhere old sound few in
@@ -237,7 +317,7 @@ module _ {R L : Type 0} (see : Sees R (Slot L)) (moment : L → Moment) where
         demanded =
             subst (λ s. AreDemanded s events.items) (sym start)
             (subst (AreDemanded o) (sym all) (demanded_push o old.events.items event sound.demanded after.demanded));
-        log = log_then old new events step reply sound goes few;
+        log = log_then old new events step reply durable sound goes few;
       }
 
   -- what the step was answered

@@ -1,5 +1,5 @@
 -- What a decision log holds, as the history of its system knows it.
-use Rattle.std.specs.Prelude.{◌≡◌, ◌≤◌, ◌⊎◌, ◌+◌, ◌-◌, ◌^◌, ℕ, Bool, true, false, filter, if◌then◌else◌, List, length, Option, Some, None, IsSomeAnd}
+use Rattle.std.specs.Prelude.{◌≡◌, ◌≤◌, ◌⊎◌, ◌&&◌, not, ◌+◌, ◌-◌, ◌^◌, ℕ, Bool, true, false, filter, if◌then◌else◌, List, length, Option, Some, None, IsSomeAnd}
 use Rattle.std.specs.FinMap.{get, len}
 use Rattle.xa_base.specs.Branch.{branch_cmp}
 use Rattle.xa_model.specs.Replies.Demanded.{failed_restarts}
@@ -12,9 +12,14 @@ use Rattle.xa_base.specs.declared.refusal.Refusal.TheVariants as Refusals
 use Rattle.xa_base.specs.declared.reply.Event.{Event}
 use Rattle.xa_base.specs.declared.reply.Reply.{Reply}
 use Rattle.xa_base.specs.declared.reply.Reply.TheVariants as Replies
+use Rattle.xa_base.specs.declared.step.Side.TheVariants as Sides
+use Rattle.xa_base.specs.declared.step.Step.TheVariants as Steps
+use Rattle.xa_model.specs.Replies.History.{step_of}
+use Rattle.xa_model.specs.Replies.Steps as known
 use Rattle.xa_log.specs.Content.{Content, with_bump, with_commit, with_record, without_decision}
 use Rattle.xa_log.specs.Contract.{Makes, MayMake, Moment, one_more_fault}
 use Rattle.xa_log.specs.KeySet.{KeySet, from_list}
+use Rattle.xa_tm.specs.Book.{Book}
 use Rattle.xa_tm.specs.Kept.{book_in, log_in}
 use Rattle.xa_tm.specs.Starting.{book_at_start}
 use Rattle.xa_tm.specs.Tied.{IsTied, SameRows}
@@ -63,6 +68,15 @@ LogStandsBy false tr held = (c : Content) → held ≡ Some c → MayHoldRows tr
 abbrev pub LogStands : Trace → Option Content → Type 0
 LogStands tr held = LogStandsBy (up tr) tr held
 
+-- what a crash may leave of it: just that while the manager is up, and while it is down those rows and that record, with
+-- or without the change in doubt
+abbrev pub LeftBy : (is_up : Bool) → Trace → Content → Type 0
+LeftBy true tr c = IsAsTold tr c
+LeftBy false tr c = MayHoldRows tr c
+
+abbrev pub MayBeLeft : Trace → Content → Type 0
+MayBeLeft tr c = LeftBy (up tr) tr c
+
 -- its incarnation is one that a restart may follow: restarts that failed may have raised it
 pub record IsBeforeNext (tr : Trace) (c : Content) : Type 0 where
   pub least : incarnation tr ≤ c.incarnation
@@ -101,7 +115,16 @@ says_log_fault reply = false
 abbrev pub log_faults : List Event → ℕ
 log_faults events = length (filter (λ event. says_log_fault event.reply) events)
 
--- ** a manager that was just book_at_start
+-- how many of those that are no restarts of the manager
+abbrev pub is_restart : known.Step → Bool
+is_restart (Steps.Restart Sides.Manager) = true
+is_restart step = false
+
+abbrev pub log_faults_but_restarts : List Event → ℕ
+log_faults_but_restarts events =
+    length (filter (λ event. says_log_fault event.reply && not (is_restart (step_of event.step))) events)
+
+-- ** a manager that was just started
 
 -- over a log that was handed to it
 pub record IsStartedOver {L : Type 0} (moment : L → Moment) (threads rms : ℕ) (handed : L) (manager : Manager L) : Type 0 where
@@ -115,6 +138,17 @@ pub record IsStartedOver {L : Type 0} (moment : L → Moment) (threads rms : ℕ
       → Makes with_bump (moment handed).content (moment (log_in manager)).content
   pub faults : (moment (log_in manager)).fault_count ≡ (moment handed).fault_count
 
+-- ** what a crash may leave
+
+-- each content that it may leave is tied to the book
+abbrev pub AreTied : (near : Bool) → Book → (Content → Type 0) → Type 0
+AreTied near k may = (c : Content) → may c → IsTied near k (Some c)
+
+-- of a log in order that holds something it leaves just that
+abbrev pub IsDurable : {L : Type 0} → (L → Moment) → Type 0
+IsDurable moment = (log : _) (c d : Content) → (moment log).is_in_order → (moment log).content ≡ Some c
+    → (moment log).may_leave d → d ≡ c
+
 -- ** one happening more
 
 -- what it does to the log of a manager. Its rows follow the book where they followed it before
@@ -126,5 +160,11 @@ pub record LogFollows {L : Type 0} (moment : L → Moment) (tr : Trace) (e : Hap
   pub counted : (moment (log_in old)).is_in_order → (moment (log_in new)).is_honest
       → IsTied true (book_in old) (moment (log_in old)).content
       → (moment (log_in new)).fault_count ≡ count_after e (moment (log_in old)).fault_count
+  -- whatever the log, but that nothing is counted where a restart finds what it may not
+  pub counts : ((moment (log_in new)).fault_count ≡ count_after e (moment (log_in old)).fault_count)
+      ⊎ ((e ≡ Failed InRestart) × ((moment (log_in new)).fault_count ≡ (moment (log_in old)).fault_count))
   pub failed : (moment (log_in old)).is_in_order → (moment (log_in new)).is_honest
       → MayHaveFailed tr e (moment (log_in old)).content (moment (log_in new)).content
+  pub left : (near : Bool) → IsDurable moment → (moment (log_in old)).is_in_order → (moment (log_in new)).is_honest
+      → IsTied near (book_in old) (moment (log_in old)).content → AreTied near (book_in old) (moment (log_in old)).may_leave
+      → AreTied near (book_in new) (moment (log_in new)).may_leave

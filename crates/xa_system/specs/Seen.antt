@@ -1,8 +1,10 @@
 -- What is seen of a system: where it started, its events, and the parts that it holds.
-use Rattle.std.specs.Prelude.{◌≡◌, ◌≤◌, ◌<◌, ◌⊎◌, ◌+◌, ◌++◌, ℕ, true, false, Some, IsSomeAnd, List, map, vec_len, slice_get}
+use Rattle.std.specs.Prelude.{◌≡◌, ◌≤◌, ◌<◌, ◌⊎◌, ◌+◌, ◌++◌, ℕ, true, false, Some, IsSomeAnd, List, length, map, vec_len, slice_get}
 use Rattle.std.specs.Vec.{vec_capacity}
 use Rattle.xa_base.specs.Xid.{Xid}
+use Rattle.xa_model.specs.Facts.{started}
 use Rattle.xa_model.specs.Facts.Distinct.{ApartRows}
+use Rattle.xa_model.specs.Protocol.{RightOrigin}
 use Rattle.xa_model.specs.Replies.History.{AreDemanded, history}
 use Rattle.xa_model.specs.Trace.{Origin, Recorded, Row, Trace, Trace.From, line}
 use Rattle.xa_base.specs.Branch.{IsBranch, own_format}
@@ -12,6 +14,7 @@ use Rattle.xa_rm.specs.ResourceManager.{HoldsFormat, HoldsNoFormat}
 use Rattle.xa_system.specs.declared.site.Site.{Site}
 use Rattle.xa_base.specs.HeldBranch.{HeldBranch}
 use Rattle.xa_base.specs.Scan.{Scan}
+use Rattle.xa_log.specs.Content.{Content}
 use Rattle.xa_log.specs.Contract.{Moment}
 use Rattle.xa_base.specs.declared.refusal.Refusal.TheVariants as Refusals
 use Rattle.xa_base.specs.declared.reply.Event.{Event}
@@ -20,7 +23,7 @@ use Rattle.xa_base.specs.declared.reply.Reply.TheVariants as Replies
 use Rattle.xa_base.specs.declared.step.Step.{Step}
 use Rattle.xa_line.specs.Grid.{Grid, HasLine, line_at}
 use Rattle.xa_line.specs.Histories.{LineStands}
-use Rattle.xa_system.specs.Logged.{LogStands, MayRestartOver, StartsOver, greatest_count, log_faults}
+use Rattle.xa_system.specs.Logged.{AreTied, IsBeforeNext, LogStands, MayBeLeft, MayRestartOver, StartsOver, greatest_count, log_faults, log_faults_but_restarts}
 use Rattle.xa_system.specs.Parts.{Sees, Stands, origin_from, origin_of}
 use Rattle.xa_system.specs.declared.system.TheConstants.{EVENT_LIMIT}
 use Rattle.xa_system.specs.Sites.{Looks, RmStands, looks}
@@ -95,10 +98,23 @@ module _ {R L : Type 0} (see : Observes R L) where
         → IsSomeAnd (see.moment s.first).content (StartsOver (origin_in see.look s))
     pub stands : (see.moment s.handed).is_in_order → (see.place s.log).is_honest
         → LogStands (trace_in see.look s) (see.place s.log).content
+    -- then that is in order, and so is each content that a crash may leave of it
+    pub order : (see.moment s.handed).is_in_order → (see.place s.log).is_in_order
+    pub leaves : (see.moment s.handed).is_in_order → (see.place s.log).is_honest
+        → (c : Content) → (see.place s.log).may_leave c → MayBeLeft (trace_in see.look s) c
 
   -- each reply is the one that the history before it demands, and the parts are where the history leaves them
   pub record HoldsItsTrace (s : Seen R L) : Type 0 where
     pub demanded : AreDemanded (origin_in see.look s) s.events
+    -- the start was right, and what was in doubt there is listed
+    pub right : RightOrigin (origin_in see.look s)
+    pub listed : (r : ℕ) → r < length s.start
+        → IsInDoubtList ((origin_in see.look s).held r) ((origin_in see.look s).in_doubt r)
+    -- each branch that was started since has an identifier
+    pub numbers : (b : Branch) → started (trace_in see.look s) b ≡ true → IsBranch b
+    -- no resource manager and no line is missing
+    pub count : length s.rms ≡ length s.start
+    pub grid : s.lines.rms ≡ length s.start
     pub rms : (r : ℕ) (rm : R) → slice_get s.rms r ≡ Some rm → RmStands see.look (trace_in see.look s) r rm
     pub lines : (t r : ℕ) → HasLine s.lines t r → LineStands (trace_in see.look s) (line t r) (line_at s.lines t r)
     pub log : HoldsItsLog s
@@ -106,6 +122,10 @@ module _ {R L : Type 0} (see : Observes R L) where
   -- a restart may follow: the log held is shut, or of an incarnation that the history's restarts may have left
   abbrev pub MayRestart : Seen R L → Type 0
   MayRestart s = MayRestartOver (trace_in see.look s) (see.place s.log).content
+
+  -- so may one over each content that a crash may leave of the log
+  abbrev pub MayRestartAfterCrash : Seen R L → Type 0
+  MayRestartAfterCrash s = (c : Content) → (see.place s.log).may_leave c → IsBeforeNext (trace_in see.look s) c
 
   -- the resource managers, the lines and the log are as before
   pub record IsAsBefore (old new : Seen R L) : Type 0 where
@@ -120,6 +140,12 @@ module _ {R L : Type 0} (see : Observes R L) where
   FaultsHaveCauses old new = (greatest_count ≤ (see.place new.log).fault_count)
       ⊎ (log_faults new.events + (see.place old.log).fault_count ≤ log_faults old.events + (see.place new.log).fault_count)
 
+  -- the same of the events that are no restarts of the manager
+  abbrev pub OtherFaultsHaveCauses : (old new : Seen R L) → Type 0
+  OtherFaultsHaveCauses old new = (greatest_count ≤ (see.place new.log).fault_count)
+      ⊎ (log_faults_but_restarts new.events + (see.place old.log).fault_count
+      ≤ log_faults_but_restarts old.events + (see.place new.log).fault_count)
+
   -- what is known of the log that was handed in first and of the one handed in last, and of what became of that
   pub record KeepsLog (origin : Origin) (a : Inside R L) : Type 0 where
     pub order : (see.moment a.handed.value).is_in_order → (see.place (log_in a.parts.manager)).is_in_order
@@ -128,6 +154,8 @@ module _ {R L : Type 0} (see : Observes R L) where
         → IsSomeAnd (see.moment a.first.value).content (StartsOver origin)
     pub tied : (see.moment a.handed.value).is_in_order → (see.place (log_in a.parts.manager)).is_honest
         → IsTied false (book_in a.parts.manager) (see.place (log_in a.parts.manager)).content
+    pub left : (see.moment a.handed.value).is_in_order → (see.place (log_in a.parts.manager)).is_honest
+        → AreTied false (book_in a.parts.manager) (see.place (log_in a.parts.manager)).may_leave
 
 module _ {R L : Type 0} (see : Sees R (Slot L)) (moment : L → Moment) where
   -- what is observed of parts and of the logs that are handed in
@@ -161,10 +189,11 @@ AddsSteps steps old new = (events : List Event) × (map (λ event. event.step) e
 abbrev pub HasWrongSize : ℕ → ℕ → Type 0
 HasWrongSize threads rms = (threads ≡ 0) ⊎ ((8 < threads) ⊎ ((rms ≡ 0) ⊎ (8 < rms)))
 
--- a branch of this system: its numbers fit, and the system has its thread and its resource manager
+-- a branch of this system: its numbers fit, and the system started with its thread and its resource manager
 pub record IsOwnIn {R L : Type 0} (s : Seen R L) (b : Branch) : Type 0 where
   pub fits : IsBranch b
-  pub there : HasLine s.lines b.thread b.rm
+  pub thread : b.thread < s.lines.threads
+  pub rm : b.rm < length s.start
 
 -- ** the start
 

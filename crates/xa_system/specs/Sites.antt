@@ -26,8 +26,7 @@ looks held_of scan_of in_doubt_of = record { held_of = held_of; scan_of = scan_o
 
 -- ** branches
 
--- what is held of a branch is where it stands, its vote and its retries. Where a break of its line would lose it,
--- its own
+-- what is held of a branch is where it stands, its vote and its retries. Where a break of its line would lose it, its own
 -- thread started it
 pub record IsHeldAs (tr : Trace) (b : Branch) (h : HeldBranch) : Type 0 where
   pub standing : h.standing ≡ facts.standing tr b

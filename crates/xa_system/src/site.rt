@@ -26,7 +26,7 @@ pub struct Site<R: Drop> {
     pub is_up: bool,
 }
 
-/// The identifier in a call is one. Nothing is done.
+/// Only for the proof: the identifier in a call keeps the bounds of an `Xid`.
 fn has_xid(call: &Call)
     ensures { CallHasXid call.now }
 {
@@ -120,7 +120,7 @@ pub(crate) fn heard(line: &mut Line, copy: Answer) -> Twin
     }
 }
 
-/// A step that the manager didn't do. Where its log failed, it is down, and all lines break.
+/// The reply to a step that the manager refused. Where its log failed, it is down, and all lines break.
 pub(crate) fn undone<R: ResourceManager + Drop>(
     sites: &mut Vec<Site<R>>,
     lines: &mut Lines,

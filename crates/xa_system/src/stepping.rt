@@ -1,5 +1,5 @@
 //! Steps are done, one after the other.
-ghost use Rattle.std.specs.Prelude.{◌≡◌, ◌≢◌, Bool, ◌<◌, ◌≤◌, ◌+◌, ◌++◌, ◌∷◌, [], length, Some, None, Err, IsOk, OnErr, OnOk, ℕ};
+ghost use Rattle.std.specs.Prelude.{◌≡◌, ◌≢◌, Bool, ◌<◌, ◌≤◌, ◌+◌, ◌++◌, ◌∷◌, [], length, Some, None, Err, IsOk, OnErr, OnOk};
 ghost use Rattle.xa_base.specs.declared.refusal.Refusal.{Refusal};
 ghost use Rattle.xa_base.specs.declared.refusal.Refusal.TheVariants as Refusals;
 ghost use Rattle.xa_base.specs.declared.reply.Reply.TheVariants as Replies;
@@ -14,7 +14,8 @@ ghost use Rattle.xa_model.specs.Replies.ReadBack.{StepHasXids};
 ghost use Rattle.xa_model.specs.Replies.Steps.{happened, log_failed};
 ghost use Rattle.xa_model.specs.Trace.{Happening.Nothing};
 ghost use Rattle.xa_system.specs.Logged.{IsBeforeNext, MayHaveFailed};
-ghost use Rattle.xa_system.specs.Seen.{AddsSteps, FaultsHaveCauses, HoldsItsTrace, IsAsBefore, IsFailed, MayRestart, observes, origin_in, trace_in};
+ghost use Rattle.xa_system.specs.Seen.{AddsSteps, FaultsHaveCauses, HoldsItsTrace, IsAsBefore, IsFailed, MayRestart};
+ghost use Rattle.xa_system.specs.Seen.{MayRestartAfterCrash, OtherFaultsHaveCauses, observes, origin_in, trace_in};
 ghost use Rattle.xa_system.specs.Sites.{looks};
 ghost use Rattle.xa_tm.specs.Slots.{log_held, slot_moment};
 
@@ -23,7 +24,7 @@ use xa_base::{Event, Refusal, Reply, Step};
 use xa_log::DecisionLog;
 use xa_rm::ResourceManager;
 
-/// The identifiers in a step are such. Nothing is done.
+/// Only for the proof: each identifier in a step keeps the bounds of an `Xid`.
 fn has_xids(step: &Step)
     ensures { StepHasXids step.now }
 {
@@ -49,6 +50,7 @@ impl<R: ResourceManager + Drop, L: DecisionLog + Drop> System<R, L> {
     /// the log as it was or with the step's one change. A restart of the manager is refused in the same way while its log
     /// is out, and over a log of another incarnation than one that it may follow.
     pub fn step(&mut self, step: Step) -> Reply
+        // The event, and its reply.
         ensures full { EVENT_LIMIT ≤ length self.old.events →
             (result ≡ Replies.Refused Refusals.Limit) × (self.new ≡ self.old) }
         ensures adds { length self.old.events < EVENT_LIMIT →
@@ -56,12 +58,21 @@ impl<R: ResourceManager + Drop, L: DecisionLog + Drop> System<R, L> {
         ensures demanded { length self.old.events < EVENT_LIMIT →
             Demanded (trace_in (looks R.held_of R.scan_of R.in_doubt_of) self.old)
             (step_of step) (reply_of result) }
+        // What all events then say, and where the parts are.
+        ensures headline { Headline
+            (origin_in (looks R.held_of R.scan_of R.in_doubt_of) self.new) self.new.events }
         ensures parts { HoldsItsTrace
             (observes R.held_of R.scan_of R.in_doubt_of L.moment) self.new }
+        ensures start { origin_in (looks R.held_of R.scan_of R.in_doubt_of) self.new
+            ≡ origin_in (looks R.held_of R.scan_of R.in_doubt_of) self.old }
+        ensures handed { (self.new.handed ≡ self.old.handed) × (self.new.first ≡ self.old.first)
+            × (self.new.begun ≡ self.old.begun) }
+        // A step that is refused, but not by the log, is nothing.
         ensures refused { (n : Refusal) → result ≡ Replies.Refused n → n ≢ Refusals.LogFault →
             IsAsBefore (observes R.held_of R.scan_of R.in_doubt_of L.moment) self.old self.new }
         ensures nothing { (n : Refusal) → result ≡ Replies.Refused n → n ≢ Refusals.LogFault →
             happened (step_of step) (reply_of result) ≡ Nothing }
+        // One in which the log failed.
         ensures down { result ≡ Replies.Refused Refusals.LogFault →
             up (trace_in (looks R.held_of R.scan_of R.in_doubt_of) self.new) ≡ Bool.false }
         ensures failed { result ≡ Replies.Refused Refusals.LogFault →
@@ -70,21 +81,26 @@ impl<R: ResourceManager + Drop, L: DecisionLog + Drop> System<R, L> {
             (log_failed (step_of step))
             (slot_moment L.moment self.old.log).content
             (slot_moment L.moment self.new.log).content }
-        ensures handed { (self.new.handed ≡ self.old.handed) × (self.new.first ≡ self.old.first)
-            × (self.new.begun ≡ self.old.begun) }
+        // The log, and whether a restart may follow over it.
         ensures honest { (slot_moment L.moment self.new.log).is_honest →
             (slot_moment L.moment self.old.log).is_honest }
         ensures near { (L.moment self.old.handed).is_in_order →
             (slot_moment L.moment self.new.log).is_honest →
             MayRestart (observes R.held_of R.scan_of R.in_doubt_of L.moment) self.old →
             MayRestart (observes R.held_of R.scan_of R.in_doubt_of L.moment) self.new }
+        ensures crash { (L.moment self.old.handed).is_in_order →
+            (slot_moment L.moment self.new.log).is_honest →
+            MayRestart (observes R.held_of R.scan_of R.in_doubt_of L.moment) self.old →
+            MayRestartAfterCrash (observes R.held_of R.scan_of R.in_doubt_of L.moment) self.old →
+            MayRestartAfterCrash (observes R.held_of R.scan_of R.in_doubt_of L.moment) self.new }
         ensures faults { (L.moment self.old.handed).is_in_order →
             (slot_moment L.moment self.new.log).is_honest →
             MayRestart (observes R.held_of R.scan_of R.in_doubt_of L.moment) self.old →
             FaultsHaveCauses (observes R.held_of R.scan_of R.in_doubt_of L.moment) self.old
             self.new }
-        ensures start { origin_in (looks R.held_of R.scan_of R.in_doubt_of) self.new
-            ≡ origin_in (looks R.held_of R.scan_of R.in_doubt_of) self.old }
+        ensures other_faults { OtherFaultsHaveCauses
+            (observes R.held_of R.scan_of R.in_doubt_of L.moment) self.old self.new }
+        // A restart that can't be.
         ensures out { log_held self.old.log ≡ None → step ≡ Steps.Restart Sides.Manager →
             length self.old.events < EVENT_LIMIT →
             up (trace_in (looks R.held_of R.scan_of R.in_doubt_of) self.old) ≡ Bool.false →
@@ -96,8 +112,6 @@ impl<R: ResourceManager + Drop, L: DecisionLog + Drop> System<R, L> {
             (slot_moment L.moment self.old.log).content ≡ Some c →
             (IsBeforeNext (trace_in (looks R.held_of R.scan_of R.in_doubt_of) self.old) c → ⊥) →
             IsFailed result }
-        ensures headline { Headline
-            (origin_in (looks R.held_of R.scan_of R.in_doubt_of) self.new) self.new.events }
     {
         if self.events.len() >= EVENT_LIMIT {
             self.agree();
@@ -112,30 +126,40 @@ impl<R: ResourceManager + Drop, L: DecisionLog + Drop> System<R, L> {
 
     /// Does all steps in order, or none where the trace lacks room for them.
     pub fn run(&mut self, steps: &[Step]) -> Result<(), Refusal>
+        // The events.
         ensures limit { EVENT_LIMIT < length self.old.events + length steps.now →
             result ≡ Err Refusals.Limit }
         ensures room { length self.old.events + length steps.now ≤ EVENT_LIMIT → IsOk result }
         ensures err { OnErr result (self.new ≡ self.old) }
         ensures adds { OnOk result (AddsSteps steps.now self.old.events self.new.events) }
+        // What they then say, and where the parts are.
+        ensures headline { Headline
+            (origin_in (looks R.held_of R.scan_of R.in_doubt_of) self.new) self.new.events }
+        ensures parts { HoldsItsTrace
+            (observes R.held_of R.scan_of R.in_doubt_of L.moment) self.new }
+        ensures start { origin_in (looks R.held_of R.scan_of R.in_doubt_of) self.new
+            ≡ origin_in (looks R.held_of R.scan_of R.in_doubt_of) self.old }
         ensures handed { (self.new.handed ≡ self.old.handed) × (self.new.first ≡ self.old.first)
             × (self.new.begun ≡ self.old.begun) }
+        // The log, and whether a restart may follow over it.
         ensures honest { (slot_moment L.moment self.new.log).is_honest →
             (slot_moment L.moment self.old.log).is_honest }
         ensures near { (L.moment self.old.handed).is_in_order →
             (slot_moment L.moment self.new.log).is_honest →
             MayRestart (observes R.held_of R.scan_of R.in_doubt_of L.moment) self.old →
             MayRestart (observes R.held_of R.scan_of R.in_doubt_of L.moment) self.new }
+        ensures crash { (L.moment self.old.handed).is_in_order →
+            (slot_moment L.moment self.new.log).is_honest →
+            MayRestart (observes R.held_of R.scan_of R.in_doubt_of L.moment) self.old →
+            MayRestartAfterCrash (observes R.held_of R.scan_of R.in_doubt_of L.moment) self.old →
+            MayRestartAfterCrash (observes R.held_of R.scan_of R.in_doubt_of L.moment) self.new }
         ensures faults { (L.moment self.old.handed).is_in_order →
             (slot_moment L.moment self.new.log).is_honest →
             MayRestart (observes R.held_of R.scan_of R.in_doubt_of L.moment) self.old →
             FaultsHaveCauses (observes R.held_of R.scan_of R.in_doubt_of L.moment) self.old
             self.new }
-        ensures start { origin_in (looks R.held_of R.scan_of R.in_doubt_of) self.new
-            ≡ origin_in (looks R.held_of R.scan_of R.in_doubt_of) self.old }
-        ensures parts { HoldsItsTrace
-            (observes R.held_of R.scan_of R.in_doubt_of L.moment) self.new }
-        ensures headline { Headline
-            (origin_in (looks R.held_of R.scan_of R.in_doubt_of) self.new) self.new.events }
+        ensures other_faults { OtherFaultsHaveCauses
+            (observes R.held_of R.scan_of R.in_doubt_of L.moment) self.old self.new }
     {
         if self.room() < steps.len() {
             self.agree();

@@ -1,13 +1,14 @@
 //! The system's log is taken out while the manager is down, and one with the same rows is put in.
-ghost use Rattle.std.specs.Prelude.{◌≡◌, ◌⊎◌, Bool, Some, None, IsSome, Err, IfErr, OnOk, OnErr};
+ghost use Rattle.std.specs.Prelude.{◌≡◌, ◌≢◌, ◌⊎◌, Bool, Some, None, IsSome, Err, IfErr, OnOk, OnErr};
 ghost use Rattle.xa_log.specs.Content.{Content};
 ghost use Rattle.xa_log.specs.Contract.{one_more_fault};
+ghost use Rattle.xa_log.specs.declared.log_fault.LogFault.{LogFault};
 ghost use Rattle.xa_model.specs.Facts.{up};
 ghost use Rattle.xa_model.specs.Promises.Headline.{Headline};
 ghost use Rattle.xa_system.specs.Logged.{MayHoldRows};
 ghost use Rattle.xa_system.specs.Seen.{HoldsItsTrace, observes, origin_in, trace_in};
 ghost use Rattle.xa_system.specs.Sites.{looks};
-ghost use Rattle.xa_tm.specs.Slots.{LooksAt, TakesIn, last_out, log_held};
+ghost use Rattle.xa_tm.specs.Slots.{FailsToRead, LooksAt, ReadsRows, TakesIn, last_out, log_held};
 ghost use Rattle.xa_tm.specs.declared.swap_fault.SwapFault.TheVariants as SwapFault;
 
 use crate::system::System;
@@ -20,6 +21,7 @@ impl<R: ResourceManager + Drop, L: DecisionLog + Drop> System<R, L> {
     /// Takes the log out, where the manager is down and holds one; else it is `None` and nothing changes. No event is
     /// added. Until a log is put in, each restart of the manager is refused as where the log failed.
     pub fn take_log(&mut self) -> Option<L>
+        // What comes out.
         ensures up { up (trace_in (looks R.held_of R.scan_of R.in_doubt_of) self.old) ≡ Bool.true →
             (result ≡ None) × (self.new ≡ self.old) }
         ensures empty { log_held self.old.log ≡ None → (result ≡ None) × (self.new ≡ self.old) }
@@ -30,6 +32,7 @@ impl<R: ResourceManager + Drop, L: DecisionLog + Drop> System<R, L> {
             ≡ Bool.false →
             log_held self.new.log ≡ None }
         ensures was { (log : L) → result ≡ Some log → last_out self.new.log ≡ log }
+        // What stays.
         ensures others { self.new ≡ record self.old { log = self.new.log } }
         ensures parts { HoldsItsTrace
             (observes R.held_of R.scan_of R.in_doubt_of L.moment) self.new }
@@ -50,6 +53,7 @@ impl<R: ResourceManager + Drop, L: DecisionLog + Drop> System<R, L> {
     /// - [`SwapFault::Log`]: the log failed for another cause;
     /// - [`SwapFault::OtherRows`]: its rows and records are others.
     pub fn give_log(&mut self, log: L) -> Result<(), (SwapFault, L)>
+        // Where no log can be put in, the one handed in isn't looked at.
         ensures up { up (trace_in (looks R.held_of R.scan_of R.in_doubt_of) self.old) ≡ Bool.true →
             (result ≡ Err (SwapFault.Up, log)) × (self.new ≡ self.old) }
         ensures held { IsSome (log_held self.old.log) →
@@ -57,8 +61,18 @@ impl<R: ResourceManager + Drop, L: DecisionLog + Drop> System<R, L> {
         ensures only_up { IfErr result (λ e. e.0 ≡ SwapFault.Up →
             (up (trace_in (looks R.held_of R.scan_of R.in_doubt_of) self.old) ≡ Bool.true)
             ⊎ IsSome (log_held self.old.log)) }
+        // A fault changes nothing but the log that comes back.
         ensures err { OnErr result (self.new ≡ self.old) }
         ensures back { IfErr result (λ e. LooksAt (L.moment log) (L.moment e.1)) }
+        // Which fault it is.
+        ensures memory_fault { IfErr result (λ e. e.0 ≡ SwapFault.Memory →
+            ReadsRows L.DecisionLog log e.1 ⊎
+            FailsToRead L.DecisionLog log e.1 LogFault.Memory) }
+        ensures log_cause { IfErr result (λ e. e.0 ≡ SwapFault.Log →
+            ((cause : LogFault) × (cause ≢ LogFault.Memory) ×
+            FailsToRead L.DecisionLog log e.1 cause)) }
+        ensures rows_read { IfErr result (λ e. e.0 ≡ SwapFault.OtherRows →
+            ReadsRows L.DecisionLog log e.1) }
         ensures log_fault { IfErr result (λ e. e.0 ≡ SwapFault.Log →
             (L.moment e.1).fault_count ≡ one_more_fault (L.moment log).fault_count) }
         ensures other_rows { IfErr result (λ e. e.0 ≡ SwapFault.OtherRows →
@@ -67,6 +81,7 @@ impl<R: ResourceManager + Drop, L: DecisionLog + Drop> System<R, L> {
             (L.moment log).is_in_order → (L.moment e.1).is_honest → (c : Content) →
             (L.moment log).content ≡ Some c →
             MayHoldRows (trace_in (looks R.held_of R.scan_of R.in_doubt_of) self.old) c → ⊥) }
+        // The log that is put in, and what stays.
         ensures ok { OnOk result (TakesIn L.DecisionLog log (log_held self.new.log)) }
         ensures others { OnOk result
             (self.new ≡ record self.old { handed = log; log = self.new.log }) }

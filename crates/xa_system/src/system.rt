@@ -121,17 +121,20 @@ fn start_manager<L: DecisionLog + Drop>(
 
 impl<R: ResourceManager + Drop, L: DecisionLog + Drop> System<R, L> {
     ghost use Rattle.xa_model.specs.Promises.Headline.{Headline};
-    ghost use Rattle.xa_system.specs.Seen.{HasWrongSize, HoldsItsTrace, MayRestart, observes, origin_in};
+    ghost use Rattle.xa_system.specs.Seen.{HasWrongSize, HoldsItsTrace, MayRestart, MayRestartAfterCrash};
+    ghost use Rattle.xa_system.specs.Seen.{observes, origin_in};
     ghost use Rattle.xa_system.specs.declared.system.TheConstants.{EVENT_LIMIT};
     ghost use Rattle.xa_tm.specs.Slots.{log_held, slot_moment};
 
     /// A system with no events, of 1 to 8 threads and 1 to 8 resource managers that hold no branch of this manager's
-    /// format, with a manager that starts over the log. Room for all events is made here, and all other room before the
-    /// log is asked.
+    /// format, with a manager that starts over the log. Room for all events is made here. The log's rows are read, and
+    /// room for them is made, before its incarnation is raised.
     ///
     /// `Log` blames the log alone: it failed, or has a row or a record of a later incarnation than its own, and then its
-    /// incarnation was raised. `Memory` comes where a request was refused outside of the log.
+    /// incarnation was raised. `Memory` comes where a request was refused outside of the log, before that is raised. A
+    /// fault drops what was handed in.
     pub fn new(alloc: Global, threads: u32, rms: Vec<R>, log: L) -> Result<System<R, L>, NewFault>
+        // Why none is made.
         ensures limit { HasWrongSize threads (vec_len rms) → result ≡ Err NewFault.Limit }
         ensures not_clear { (HasWrongSize threads (vec_len rms) → ⊥) →
             IsUnclear (looks R.held_of R.scan_of R.in_doubt_of) rms.items →
@@ -139,6 +142,13 @@ impl<R: ResourceManager + Drop, L: DecisionLog + Drop> System<R, L> {
         ensures only_limit { result ≡ Err NewFault.Limit → HasWrongSize threads (vec_len rms) }
         ensures only_not_clear { result ≡ Err NewFault.NotClear →
             IsUnclear (looks R.held_of R.scan_of R.in_doubt_of) rms.items }
+        ensures log_fault { result ≡ Err NewFault.Log → IsToBlame L.DecisionLog log }
+        // What is made.
+        ensures ok { IfOk result
+            (λ system. (system.events ≡ []) × (system.start ≡ rms.items) × (system.rms ≡ rms.items)
+            × (system.lines.threads ≡ threads) × HoldsItsTrace
+            (observes R.held_of R.scan_of R.in_doubt_of L.moment) system) }
+        // Its log.
         ensures handed { IfOk result (λ system. (system.handed ≡ log) × (system.first ≡ log)) }
         ensures held { IfOk result
             (λ system. (system.begun ≡ system.log) × IsSome (log_held system.log)) }
@@ -149,14 +159,12 @@ impl<R: ResourceManager + Drop, L: DecisionLog + Drop> System<R, L> {
         ensures past { (L.moment log).is_in_order →
             IfOk result (λ system. (slot_moment L.moment system.log).is_honest →
             IsSomeAnd (L.moment log).content IsPast) }
-        ensures log_fault { result ≡ Err NewFault.Log → IsToBlame L.DecisionLog log }
-        ensures ok { IfOk result
-            (λ system. (system.events ≡ []) × (system.start ≡ rms.items) × (system.rms ≡ rms.items)
-            × (system.lines.threads ≡ threads) × HoldsItsTrace
-            (observes R.held_of R.scan_of R.in_doubt_of L.moment) system) }
         ensures near { (L.moment log).is_in_order →
             IfOk result (λ system. (slot_moment L.moment system.log).is_honest →
             MayRestart (observes R.held_of R.scan_of R.in_doubt_of L.moment) system) }
+        ensures crash { (L.moment log).is_in_order →
+            IfOk result (λ system. (slot_moment L.moment system.log).is_honest →
+            MayRestartAfterCrash (observes R.held_of R.scan_of R.in_doubt_of L.moment) system) }
     {
         if threads == 0 || threads > 8 || rms.is_empty() || rms.len() > 8 {
             return Err(NewFault::Limit);

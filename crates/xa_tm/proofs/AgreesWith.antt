@@ -15,6 +15,7 @@ use Rattle.xa_base.specs.declared.code.How.{How}
 use Rattle.xa_base.specs.declared.code.How.TheVariants.{Haz, Com, Rb, Mix}
 use Rattle.xa_base.proofs.BranchOrder.{branches_total, exact_gtrids, gtrids_total}
 use Rattle.xa_base.proofs.BranchKeys.{branch_eq-true, gtrid_eq-true}
+use Rattle.xa_base.proofs.Orders.{gtrid_swap, branch_swap}
 use Rattle.xa_log.specs.Content.{AreOwn, Content, all_listed, with_decision, with_heuristic}
 use Rattle.xa_log.specs.declared.log_rows.LogRows.{LogRows}
 use Rattle.xa_log.specs.KeySet.{from_list}
@@ -27,7 +28,6 @@ use Rattle.xa_tm.specs.declared.change.Change.TheVariants.{AddRecord, AddRow, Dr
 use Rattle.xa_tm.specs.declared.ledger.Ledger.{Ledger}
 use Rattle.xa_tm.proofs.BranchSets.{sets_back}
 use Rattle.xa_tm.proofs.HeldAgain.{Reads, as_read, is_gone, put_back}
-use Rattle.xa_tm.proofs.Restarts.{swap_branch, swap_gtrid}
 use Rattle.xa_log.proofs.Rising.{equal_is}
 
 -- ** of one transaction, and of one branch
@@ -153,7 +153,7 @@ module _ (k n : Ledger) (c : Content) (reads : Reads n c) where
     where
       at : (q : Gtrid) → get c.decisions q ≡ cond (gtrid_eq g q) (Some (waiting_of v)) (get b.decisions q)
       at q = ap (λ m. get m q) ds ∙ get-insert gtrids_total b.decisions g (waiting_of v) q
-          ∙ ap (λ t. cond t (Some (waiting_of v)) (get b.decisions q)) (swap_gtrid g q)
+          ∙ ap (λ t. cond t (Some (waiting_of v)) (get b.decisions q)) (gtrid_swap g q)
 
       no_row : (o : Option Waiting) → is_some o ≡ false → o ≡ None
       no_row None e = refl
@@ -188,7 +188,7 @@ module _ (k n : Ledger) (c : Content) (reads : Reads n c) where
   }
     where
       at : (q : Gtrid) → get c.decisions q ≡ cond (gtrid_eq g q) None (get b.decisions q)
-      at q = ap (λ m. get m q) ds ∙ get-remove gtrids_total b.decisions g q ∙ ap (λ t. cond t None (get b.decisions q)) (swap_gtrid g q)
+      at q = ap (λ m. get m q) ds ∙ get-remove gtrids_total b.decisions g q ∙ ap (λ t. cond t None (get b.decisions q)) (gtrid_swap g q)
 
       some_row : (o : Option Waiting) → is_some o ≡ true → (w : Waiting) × (o ≡ Some w)
       some_row None e = absurd (cc)
@@ -228,7 +228,7 @@ module _ (k n : Ledger) (c : Content) (reads : Reads n c) where
   }
     where
       at : (q : Branch) → get c.heuristics q ≡ cond (branch_eq b q) (Some how) (get d.heuristics q)
-      at q = ap (λ m. get m q) hs ∙ get-insert branches_total d.heuristics b how q ∙ ap (λ t. cond t (Some how) (get d.heuristics q)) (swap_branch b q)
+      at q = ap (λ m. get m q) hs ∙ get-insert branches_total d.heuristics b how q ∙ ap (λ t. cond t (Some how) (get d.heuristics q)) (branch_swap b q)
 
       no_end : (o : Option How) → is_some o ≡ false → o ≡ None
       no_end None e = refl

@@ -2,16 +2,17 @@
 use Rattle.std.proofs.Common.{◌≡◌, List, [], ◌∷◌, Bool, true, false, ◌||◌, refl, sym, ap, ◌∙◌}
 use Rattle.std.specs.List.{list_all, list_any}
 use Rattle.std.proofs.lemmas.Bool.{and_from, and_parts, or_left, or_right}
+use Rattle.std.specs.Cmp.{both_ways}
 use Rattle.xa_base.specs.Branch.{branch_cmp, branch_eq}
 use Rattle.xa_base.specs.declared.branch.Branch.{Branch}
 use Rattle.xa_base.proofs.BranchOrder.{branches_total, exact_branches}
 use Rattle.xa_base.proofs.BranchKeys.{branch_eq-refl, branch_eq-true}
+use Rattle.xa_base.proofs.Orders.{branch_swap}
 use Rattle.xa_log.specs.KeySet.{contains, contains-from_list, from_list, same_set}
 use Rattle.xa_tm.specs.Swaps.{is_among, same_branches}
-use Rattle.xa_tm.proofs.Restarts.{swap_branch}
 
 among_is : (q : Branch) (bs : List Branch) → contains (from_list {R = branch_cmp} bs) q ≡ is_among q bs
-among_is q bs = contains-from_list branches_total bs q ∙ ap (λ (p : Branch → Bool). list_any p bs) (λ i. λ c. swap_branch c q i)
+among_is q bs = contains-from_list branches_total bs q ∙ ap (λ (p : Branch → Bool). list_any p bs) (λ i. λ c. branch_swap c q i)
 
 -- what is so of each of them is so of one among them
 at_one : (p : Branch → Bool) (q : Branch) (bs : List Branch) → list_all p bs ≡ true → is_among q bs ≡ true → p q ≡ true
@@ -30,16 +31,11 @@ at_each p (b ∷ bs) each =
     and_from (p b) (list_all p bs) (each b (or_left (branch_eq b b) (is_among b bs) (branch_eq-refl b)))
     (at_each p bs (λ q has. each q (or_right (branch_eq b q) (is_among q bs) has)))
 
-alike : (s t : Bool) → (s ≡ true → t ≡ true) → (t ≡ true → s ≡ true) → s ≡ t
-alike true t there back = sym (there refl)
-alike false true there back = back refl
-alike false false there back = refl
-
 pub sets_are : (bs cs : List Branch) → same_branches bs cs ≡ true → from_list {R = branch_cmp} bs ≡ from_list cs
 sets_are bs cs e =
     let parts = and_parts _ _ e in
     same_set branches_total exact_branches (from_list bs) (from_list cs) (λ q. among_is q bs
-    ∙ alike (is_among q bs) (is_among q cs) (at_one (λ b. is_among b cs) q bs parts.0) (at_one (λ c. is_among c bs) q cs parts.1)
+    ∙ both_ways (is_among q bs) (is_among q cs) (at_one (λ b. is_among b cs) q bs parts.0) (at_one (λ c. is_among c bs) q cs parts.1)
     ∙ sym (among_is q cs))
 
 pub sets_back : (bs cs : List Branch) → from_list {R = branch_cmp} bs ≡ from_list cs → same_branches bs cs ≡ true

@@ -1,5 +1,5 @@
 -- From what the map of transactions has at each name to what the book says.
-use Rattle.std.proofs.Common.{◌≡◌, ℕ, ◌+◌, Bool, true, false, not, ◌&&◌, ◌||◌, cond, Option, Some, None, IsSome, Result, Ok, Err, OnOk, OnErr, is_some, is_eq, refl, sym, ap, ◌∙◌, subst, arith, Ordering, Less, Equal, Greater}
+use Rattle.std.proofs.Common.{◌≡◌, ℕ, ◌+◌, Bool, true, false, not, ◌&&◌, ◌||◌, cond, Option, Some, None, IsSome, Result, Ok, Err, OnOk, OnErr, is_some, refl, sym, ap, ◌∙◌, subst, arith}
 use Rattle.std.specs.Prelude.{if◌then◌else◌, unwrap_or}
 use Rattle.std.specs.Ordering.{eq_by_cmp}
 use Rattle.std.specs.BTreeMap.{BTreeMap, Updates, get, is_at}
@@ -7,6 +7,7 @@ use Rattle.std.specs.Global.{Vec}
 use Rattle.std.specs.Option.{option_map}
 use Rattle.std.proofs.lemmas.Bool.{true≢false, eq-eqb}
 use Rattle.std.proofs.lemmas.Cmp.{eq_by_cmp_equiv}
+use Rattle.std.proofs.Math.Bool.{and-false}
 use Rattle.xa_base.specs.declared.call.Call.TheVariants as Calls
 use Rattle.xa_base.specs.Branch.{gtrid_eq, branch_eq, gtrid_cmp, branch_cmp}
 use Rattle.xa_base.specs.declared.branch.Branch.{Branch}
@@ -16,17 +17,13 @@ use Rattle.xa_base.specs.declared.step.Outcome.TheVariants as Outcomes
 use Rattle.xa_model.specs.Trace.{Line, Happening.Begun, Happening.Issued, Happening.Claimed, Happening.Decided}
 use Rattle.xa_base.proofs.BranchOrder.{gtrids_total, exact_gtrids, branches_total, exact_branches}
 use Rattle.xa_base.proofs.BranchKeys.{gtrid_eq-true, gtrid_eq-refl, branch_eq-true, branch_eq-refl}
+use Rattle.xa_base.proofs.Orders.{equal_is}
 use Rattle.xa_tm.specs.Book.{Deal, Book, Waiting, deal_after, with_branch, settled_in}
 use Rattle.xa_tm.specs.Held.{HasKept, transaction_at, no_transaction, begun_by, deal_of, row_at, waiting_of}
 use Rattle.xa_tm.specs.Outcomes.{is_commit, is_rollback}
 use Rattle.xa_tm.specs.declared.notes.Transaction.{Transaction}
 
 -- ** names
-
-equal_is : (o : Ordering) → is_eq o ≡ true → o ≡ Equal
-equal_is Less h = absurd (cc)
-equal_is Equal h = refl
-equal_is Greater h = absurd (cc)
 
 -- a name ties with itself alone
 pub gtrid_tie : (g q : Gtrid) → is_at (gtrid_cmp g) q ≡ gtrid_eq g q
@@ -96,19 +93,15 @@ one_deal after was now old mid new g t same h here away q = ap (deal_of (now q))
 
 -- ** a transaction is begun
 
-and_false : (t : Bool) → (t && false) ≡ false
-and_false true = refl
-and_false false = refl
-
 pub begun_now : (u : Bool) (i s : ℕ) → u ≡ true → begun_by u i (s + 1) (record { incarnation = i; sequence = s + 1 }) ≡ true
 begun_now u i s e = grind (arith, eq-eqb)
 
 pub begun_not_yet : (u : Bool) (i s : ℕ) → begun_by u i s (record { incarnation = i; sequence = s + 1 }) ≡ false
-begun_not_yet u i s = grind (arith, and_false)
+begun_not_yet u i s = grind (arith, and-false)
 
 pub begun_others : (u : Bool) (i s : ℕ) (q : Gtrid) → gtrid_eq (record { incarnation = i; sequence = s + 1 }) q ≡ false
     → begun_by u i (s + 1) q ≡ begun_by u i s q
-begun_others u i s q e = grind (arith, and_false)
+begun_others u i s q e = grind (arith, and-false)
 
 pub begin_deals : (k : Book) (u : Bool) (i s : ℕ) (old mid new : Gtrid → Transaction) (t : Transaction) → u ≡ true
     → t ≡ mid (record { incarnation = i; sequence = s + 1 })
@@ -121,7 +114,7 @@ begin_deals k u i s old mid new t up was same h =
     (λ self. deal_is _ _
     (begun_now u i s up ∙ sym (ap (λ b. b || begun_by u i s g) self))
     (ap (λ (x : Transaction). is_commit x.outcome) is) (ap (λ (x : Transaction). is_rollback x.outcome) is) (ap (λ (x : Transaction). x.is_handed_over) is)
-    (and_false (begun_by u i (s + 1) g) ∙ sym (ap (λ b. b && (old g).is_claimed) (begun_not_yet u i s)))
+    (and-false (begun_by u i (s + 1) g) ∙ sym (ap (λ b. b && (old g).is_claimed) (begun_not_yet u i s)))
     (ap (λ (x : Transaction). x.has_yes) is) (ap (λ (x : Transaction). x.branches) is) (ap (λ (x : Transaction). x.unvoted) is)
     (ap (λ (x : Transaction). x.unsettled) is))
     (λ q e. deal_is _ _

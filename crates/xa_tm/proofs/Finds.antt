@@ -6,14 +6,14 @@ use Rattle.xa_base.specs.declared.reply.Reply.TheVariants as Replies
 use Rattle.xa_model.specs.Replies.Demanded.{Restarts, Restarts.Restarts_as}
 use Rattle.xa_model.specs.Facts.Distinct.{ApartRows}
 use Rattle.xa_model.specs.Facts.{Change, Change.AddRecord, Change.AddRow, Change.DropRow, Change.NoChange, doubt, has_record, heuristic_rows, heuristics_changed, how_in, log, origin, rows_changed}
-use Rattle.xa_model.specs.Protocol.{AllRight}
+use Rattle.xa_model.specs.Protocol.{IsRun}
 use Rattle.xa_model.specs.Trace.{Happening.Restarted, Recorded, Trace, Trace.Then}
 use Rattle.xa_tm.specs.Book.{book_of, doubt_of, records_with}
 use Rattle.xa_tm.specs.Tied.{IsFound, rows_of}
 use Rattle.xa_tm.proofs.OneMore.{has_record_is}
 use Rattle.xa_tm.proofs.RowCounts.{drops_one}
 
-module _ (tr : Trace) (right : AllRight tr) (apart : ApartRows (origin tr).rows) where
+module _ (tr : Trace) (right : IsRun tr) (apart : ApartRows (origin tr).rows) where
   rows_len : (c : Change) → doubt tr ≡ c → rows_of (doubt_of c) (length (log tr)) ≡ length (rows_changed c (log tr))
   rows_len (AddRow x) e = omega arith
   rows_len (DropRow g) e = sym (drops_one tr g right apart e)
@@ -51,9 +51,9 @@ module _ (tr : Trace) (right : AllRight tr) (apart : ApartRows (origin tr).rows)
       → (d ≡ length (log (Then tr (Restarted i d h)))) × (h ≡ length (heuristic_rows (Then tr (Restarted i d h))))
   found_so i d h found = (rows_found i d h found (eqb_tells d (length (log tr))), records_found i d h found (eqb_tells h (length (heuristic_rows tr))))
 
-pub found_is_there : (tr : Trace) (i d h : ℕ) → AllRight tr → ApartRows (origin tr).rows → IsFound (book_of tr) i d h
+pub found_is_there : (tr : Trace) (i d h : ℕ) → IsRun tr → ApartRows (origin tr).rows → IsFound (book_of tr) i d h
     → (d ≡ length (log (Then tr (Restarted i d h)))) × (h ≡ length (heuristic_rows (Then tr (Restarted i d h))))
 found_is_there tr i d h right apart found = found_so tr right apart i d h found
 
-pub found_is_demanded : (tr : Trace) (i d h : ℕ) → AllRight tr → ApartRows (origin tr).rows → IsFound (book_of tr) i d h → Restarts tr (Replies.Restarted i d h)
+pub found_is_demanded : (tr : Trace) (i d h : ℕ) → IsRun tr → ApartRows (origin tr).rows → IsFound (book_of tr) i d h → Restarts tr (Replies.Restarted i d h)
 found_is_demanded tr i d h right apart found = let there = found_so tr right apart i d h found in Restarts_as i d h found.greater found.most there.0 there.1

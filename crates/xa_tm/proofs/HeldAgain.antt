@@ -19,6 +19,7 @@ use Rattle.xa_base.specs.declared.code.How.{How}
 use Rattle.xa_base.specs.declared.code.How.TheVariants.{Haz, Com, Rb, Mix}
 use Rattle.xa_base.proofs.BranchOrder.{branches_total, exact_branches, gtrids_total, exact_gtrids}
 use Rattle.xa_base.proofs.BranchKeys.{gtrid_eq-refl, branch_eq-refl}
+use Rattle.xa_base.proofs.Orders.{gtrid_swap, branch_swap}
 use Rattle.xa_log.specs.Content.{AreOwn, Content, all_listed, with_decision, with_heuristic, unchanged}
 use Rattle.xa_log.specs.Contract.{Makes}
 use Rattle.xa_log.specs.KeySet.{from_list}
@@ -31,7 +32,6 @@ use Rattle.xa_tm.specs.declared.change.Change.{Change}
 use Rattle.xa_tm.specs.declared.change.Change.TheVariants.{AddRow, DropRow, AddRecord, Nothing}
 use Rattle.xa_tm.specs.declared.ledger.Ledger.{Ledger}
 use Rattle.xa_tm.specs.declared.notes.BranchNotes.{BranchNotes}
-use Rattle.xa_tm.proofs.Restarts.{swap_branch, swap_gtrid}
 use Rattle.xa_tm.proofs.BranchSets.{sets_are}
 use Rattle.xa_tm.proofs.Starts.{started_as}
 use Rattle.xa_log.proofs.Rising.{equal_is}
@@ -268,7 +268,7 @@ module _ (k n : Ledger) (c : Content) (reads : Reads n c) where
       by q true h none = ap (λ t. cond t None (get c.decisions q)) h ∙ sym none ∙ ap (row_at k.rows) (sym (exact_gtrids q g (equal_is _ h)))
       by q false h none =
           ap (λ t. cond t None (get c.decisions q)) h
-          ∙ other_row g q (names_just (kept_row n.rows q) v.items && not (is_some (kept_row k.rows q))) (sym (swap_gtrid g q) ∙ h) (a.rows q)
+          ∙ other_row g q (names_just (kept_row n.rows q) v.items && not (is_some (kept_row k.rows q))) (sym (gtrid_swap g q) ∙ h) (a.rows q)
 
   -- a row is gone that the change takes away
   dropped : (g : Gtrid) → k.doubt ≡ DropRow g → (not (is_some (kept_row n.rows g)) && is_some (kept_row k.rows g)) ≡ true
@@ -296,7 +296,7 @@ module _ (k n : Ledger) (c : Content) (reads : Reads n c) where
       by q w true h own = ap (λ t. cond t (Some w) (get c.decisions q)) h ∙ sym own ∙ ap (row_at k.rows) (sym (exact_gtrids q g (equal_is _ h)))
       by q w false h own =
           ap (λ t. cond t (Some w) (get c.decisions q)) h
-          ∙ other_row g q (not (is_some (kept_row n.rows q)) && is_some (kept_row k.rows q)) (sym (swap_gtrid g q) ∙ h) (a.rows q)
+          ∙ other_row g q (not (is_some (kept_row n.rows q)) && is_some (kept_row k.rows q)) (sym (gtrid_swap g q) ∙ h) (a.rows q)
 
   -- a record is there that the change makes
   noted : (b : Branch) (how : How) → k.doubt ≡ AddRecord b how
@@ -332,7 +332,7 @@ module _ (k n : Ledger) (c : Content) (reads : Reads n c) where
       by q true h none =
           ap (λ t. cond t None (get c.heuristics q)) h ∙ sym none ∙ ap (λ p. (notes_at k.branches p).recorded) (sym (exact_branches q b (equal_is _ h)))
       by q false h none = ap (λ t. cond t None (get c.heuristics q)) h
-          ∙ other_end b q (is_how (notes_at n.branches q).recorded how && not (is_some (notes_at k.branches q).recorded)) (sym (swap_branch b q) ∙ h) (a.ends q)
+          ∙ other_end b q (is_how (notes_at n.branches q).recorded how && not (is_some (notes_at k.branches q).recorded)) (sym (branch_swap b q) ∙ h) (a.ends q)
 
   -- with the change in doubt
   changed : (d : Change) → k.doubt ≡ d → Agrees d → MayHold (held k) c

@@ -1,6 +1,7 @@
 -- What a crash of the log's store may leave.
 use Rattle.std.proofs.Common.{◌≡◌, ◌≤◌, ◌+◌, ◌⊎◌, inl, inr, Bool, true, false, Option, Some, None, IsSomeAnd, refl, sym, ap, subst, arith}
 use Rattle.xa_base.specs.declared.step.Part.{Part}
+use Rattle.xa_base.proofs.Options.{some_is}
 use Rattle.xa_model.specs.Trace.{Fault, Fault.InRestart, Happening.Crashed, Happening.Failed}
 use Rattle.xa_log.specs.Content.{Content, with_bump}
 use Rattle.xa_log.specs.Contract.{LeavesAlso}
@@ -35,16 +36,13 @@ left_by_a_fault near k asked f log old new up same tied holds leaves d left = by
     by (Some c) tied holds (inl o) = tied_fault near k asked f (Some c) (Some d) up same (inr (inl (ap (λ x. Some x) (holds c d refl o)))) tied d refl
     by (Some c) tied holds (inr e) = tied_fault near k asked f (Some c) (Some d) up same (inr (inr (ap (λ x. Some x) e))) tied d refl
 
-same_some : (c d : Content) → Some c ≡ Some d → c ≡ d
-same_some c d e = cc
-
 pub left_by_a_restart : (near : Bool) (k : Book) (log : Option Content) (old new : Content → Type 0) → k.up ≡ false → IsTied near k log → IsLeft near k old
     → LeavesAlso with_bump log old new → IsLeft near (book_after k Settled (Failed InRestart)) new
 left_by_a_restart near k log old new down tied was leaves d left = by log tied (leaves d left)
   where
     by : (log : Option Content) → IsTied near k log → old d ⊎ IsSomeAnd log (λ b. d ≡ with_bump b) → IsTiedDown near (book_after k Settled (Failed InRestart)) d
     by log tied (inl o) = tied_no_restart near k (Some d) (Some d) down (inr (inl refl))
-        (subst (λ u. TiedBy u near k (Some d)) (sym down) (λ c is. subst (IsTiedDown near k) (same_some d c is) (was d o))) d refl
+        (subst (λ u. TiedBy u near k (Some d)) (sym down) (λ c is. subst (IsTiedDown near k) (some_is d c is) (was d o))) d refl
     by None tied (inr e) = absurd e
     by (Some c) tied (inr e) = tied_no_restart near k (Some c) (Some d) down (inr (inr (ap (λ x. Some x) e))) tied d refl
 

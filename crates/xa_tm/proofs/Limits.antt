@@ -6,19 +6,20 @@ use Rattle.xa_base.specs.declared.branch.Branch.{Branch}
 use Rattle.xa_base.specs.declared.branch.Gtrid.{Gtrid}
 use Rattle.xa_base.specs.declared.call.Call.TheVariants as Calls
 use Rattle.xa_base.specs.declared.reply.Event.{Event}
+use Rattle.xa_base.specs.declared.state.Standing.TheVariants.{Unstarted}
 use Rattle.xa_base.specs.declared.step.Outcome.TheVariants as Outcome
 use Rattle.xa_base.specs.declared.step.Part.TheVariants as Part
 use Rattle.xa_base.specs.Branch.{branch_eq, branch_of_xid, gtrid_eq}
 use Rattle.xa_model.specs.Replies.Demanded.{failed_restarts, with_steps}
-use Rattle.xa_model.specs.Facts.{Change, Change.AddRow, Change.DropRow, Change.AddRecord, Change.NoChange, adds_row, begun, doubt, fault_change, had_row, has_record, heuristic_rows, heuristics_changed, incarnation, lists_row, live, log, next_answer, origin, record_of, record_of_next, row_for, rows_changed, says_yes_in, sequence, started, told, up, without, begins, has_voted}
+use Rattle.xa_model.specs.Facts.{Change, Change.AddRow, Change.DropRow, Change.AddRecord, Change.NoChange, adds_row, begun, doubt, fault_change, had_row, has_record, held_of, heuristic_rows, heuristics_changed, incarnation, lists_row, live, log, next_answer, origin, record_of, record_of_next, row_for, rows_changed, says_yes_in, sequence, started, told, up, without, begins, has_voted}
 use Rattle.xa_model.specs.Replies.History.{history, read}
-use Rattle.xa_model.specs.Protocol.{AllRight, Right, RightFault, RightOrigin}
+use Rattle.xa_model.specs.Protocol.{IsRun, Right, RightFault, RightOrigin}
 use Rattle.xa_model.specs.Replies.Steps.{Reply, Step, happened}
 use Rattle.xa_model.specs.Trace.{Fault, Fault.InDecide, Fault.InHear, Fault.InRestart, Happening, Happening.Begun, Happening.Crashed, Happening.Decided, Happening.Done, Happening.Failed, Happening.Heard, Happening.Issued, Happening.Restarted, Origin, Recorded, Row, Trace, Trace.From, Trace.Then}
 use Rattle.xa_base.specs.Xid.{Xid}
 use Rattle.xa_model.proofs.Invariant.{Inv, Old}
 use Rattle.xa_base.proofs.BranchKeys.{branch_eq-true, gtrid_eq-true}
-use Rattle.xa_model.proofs.Invariant.Preserved.{always}
+use Rattle.xa_model.proofs.Invariant.Preserved.{run_always}
 use Rattle.xa_model.proofs.Invariant.Rows.{NewRow, NewRow.Had, NewRow.By_decision, NewRow.By_restart, rowed_new}
 use Rattle.xa_log.specs.Content.{last_number}
 use Rattle.xa_log.specs.Contract.{FitsRow}
@@ -154,7 +155,7 @@ records_few (Then tr _) = let h = records_few tr in omega (arith, h)
 
 -- ** what is begun fits a row
 
-pub begun_fits : (tr : Trace) (g : Gtrid) → begun tr g ≡ true → AllRight tr → g.sequence ≤ happenings tr
+pub begun_fits : (tr : Trace) (g : Gtrid) → begun tr g ≡ true → IsRun tr → g.sequence ≤ happenings tr
 begun_fits (From o) g e r = absurd (cc)
 begun_fits (Then tr (Begun h)) g e r = by (gtrid_eq h g) refl e (λ k. begun_fits tr g k r.0)
   where
@@ -170,10 +171,10 @@ begun_fits (Then tr (Failed f)) g e r = absurd (cc)
 begun_fits (Then tr (Restarted i d h)) g e r = absurd (cc)
 begun_fits (Then tr _) g e r = as_before _ _ (begun_fits tr g e r.0)
 
-live_fits : (tr : Trace) (g : Gtrid) → AllRight tr → live tr g ≡ true → g.sequence ≤ happenings tr
+live_fits : (tr : Trace) (g : Gtrid) → IsRun tr → live tr g ≡ true → g.sequence ≤ happenings tr
 live_fits tr g r l = begun_fits tr g (and_parts _ _ l).0 r
 
-pub started_fits : (tr : Trace) (b : Branch) → started tr b ≡ true → AllRight tr → b.gtrid.sequence ≤ happenings tr
+pub started_fits : (tr : Trace) (b : Branch) → started tr b ≡ true → IsRun tr → b.gtrid.sequence ≤ happenings tr
 started_fits (From o) b e r = absurd (cc)
 started_fits (Then tr (Issued l (Calls.Start c false))) b e r = by (branch_eq c b) refl e (λ k. started_fits tr b k r.0)
   where
@@ -193,7 +194,7 @@ started_fits (Then tr _) b e r = as_before _ _ (started_fits tr b e r.0)
 
 -- ** rows fit the log
 
-fault_fits : (tr : Trace) (f : Fault) (g : Gtrid) → AllRight tr → RightFault tr f → adds_row (fault_change tr f) g ≡ true → g.sequence ≤ happenings tr
+fault_fits : (tr : Trace) (f : Fault) (g : Gtrid) → IsRun tr → RightFault tr f → adds_row (fault_change tr f) g ≡ true → g.sequence ≤ happenings tr
 fault_fits tr (InDecide h) g r right e = subst (λ (x : Gtrid). x.sequence ≤ happenings tr) (gtrid_eq-true h g e) (live_fits tr h r right.0.is_live)
 fault_fits tr (InHear l) g r right e = by (next_or_none (next_answer tr l))
   where
@@ -202,7 +203,7 @@ fault_fits tr (InHear l) g r right e = by (next_or_none (next_answer tr l))
     by (inr w) = let no : false ≡ true = sym (ap (λ c. adds_row c g) w) ∙ e in absurd (cc)
 fault_fits tr _ g r right e = absurd (cc)
 
-doubt_fits : (tr : Trace) (g : Gtrid) → AllRight tr → adds_row (doubt tr) g ≡ true → g.sequence ≤ happenings tr
+doubt_fits : (tr : Trace) (g : Gtrid) → IsRun tr → adds_row (doubt tr) g ≡ true → g.sequence ≤ happenings tr
 doubt_fits (From o) g r e = absurd (cc)
 doubt_fits (Then tr (Failed f)) g r e = by (up tr) (λ k. doubt_fits tr g r.0 k) e
   where
@@ -214,7 +215,7 @@ doubt_fits (Then tr (Restarted i d h)) g r e = absurd (cc)
 doubt_fits (Then tr _) g r e = as_before _ _ (doubt_fits tr g r.0 e)
 
 -- a row is of the start, or of a transaction that was begun since
-pub row_fits : (tr : Trace) (g : Gtrid) → AllRight tr → had_row tr g ≡ true → (lists_row (origin tr).rows g ≡ true) ⊎ (g.sequence ≤ happenings tr)
+pub row_fits : (tr : Trace) (g : Gtrid) → IsRun tr → had_row tr g ≡ true → (lists_row (origin tr).rows g ≡ true) ⊎ (g.sequence ≤ happenings tr)
 row_fits (From o) g r h = inl h
 row_fits (Then tr e) g r h = by (rowed_new tr e g h) (λ k. row_fits tr g r.0 k)
   where
@@ -240,7 +241,7 @@ module _ (tr : Trace) (limits : IsWithinLimits tr) (sound : IsSound (book_of (Fr
   rows_fit g some = (old_fits tr g (inv.rows g had).closed.old limits.fits, by (row_fits tr g limits.right had))
     where
       inv : Inv tr
-      inv = always tr limits.right
+      inv = run_always tr limits.right
 
       had : had_row tr g ≡ true
       had = inv.row_rowed g (sym (has_row_is tr g) ∙ some)
@@ -279,6 +280,7 @@ limits_kept tr e limits right room fit = record {
   right = (limits.right, right);
   events = let more : happenings tr + 1 ≤ most_events = omega (arith, room) in more;
   fits = incarnation_fits e fit;
+  found = limits.found;
 }
   where
     incarnation_fits : (e : Happening) → FitsIncarnation e → incarnation (Then tr e) ≤ last_number
@@ -287,9 +289,11 @@ limits_kept tr e limits right room fit = record {
 
 -- ** starts
 
-pub old_start_is_right : (o : Origin) → IsOld (book_of (From o)) → ((r : ℕ) (x : Xid) → Contains (o.in_doubt r) x → branch_of_xid x ≡ None) → RightOrigin o
-old_start_is_right o old foreign = record {
+pub old_start_is_right : (o : Origin) → IsOld (book_of (From o)) → ((b : Branch) → (held_of o b).standing ≡ Unstarted)
+    → ((r : ℕ) (x : Xid) → Contains (o.in_doubt r) x → branch_of_xid x ≡ None) → RightOrigin o
+old_start_is_right o old clear foreign = record {
   rows_old = λ g h. old.rows g (has_row_is (From o) g ∙ h);
   record_old = λ b h. old.records b (recorded_is (From o) b ∙ h);
+  clear = clear;
   foreign = foreign;
 }

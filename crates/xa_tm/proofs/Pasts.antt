@@ -5,7 +5,7 @@ use Rattle.std.specs.FinMap.{contains_key-keys, entries, entries_sorted, keys}
 use Rattle.std.specs.List.{AllByRecursion, list_all, list_any}
 use Rattle.std.specs.List.Sorted.{IsStrictlySortedBy}
 use Rattle.std.specs.Ordering.{eq_by_cmp}
-use Rattle.std.proofs.lemmas.Bool.{and_from, le-leb, lt-ltb, true≢false}
+use Rattle.std.proofs.lemmas.Bool.{and_from, le-leb, lt-ltb, true≢false, or_right}
 use Rattle.std.proofs.lemmas.Cmp.{eq_by_cmp_equiv}
 use Rattle.xa_base.specs.Branch.{branch_cmp, gtrid_cmp}
 use Rattle.xa_base.proofs.BranchOrder.{branches_total, gtrids_total}
@@ -43,10 +43,6 @@ each_entry {K = K} {X = X} R p (e ∷ es) same each =
     and_from (p e.0) (list_all (λ (e : K × X). p e.0) es)
     (each e.0 (ap (λ t. t || list_any (eq_by_cmp R e.0) (map (λ (e : K × X). e.0) es)) (same e.0)))
     (each_entry R p es same (λ k has. each k (or_right (eq_by_cmp R k e.0) _ has)))
-  where
-    or_right : (s t : Bool) → t ≡ true → (s || t) ≡ true
-    or_right true t e = refl
-    or_right false t e = e
 
 each_key : {K X : Type 0} (p : K → Bool) (es : List (K × X))
     → list_all (λ (e : K × X). p e.0) es ≡ list_all p (map (λ (e : K × X). e.0) es)

@@ -4,9 +4,10 @@ use Rattle.std.specs.Prelude.{if◌then◌else◌, Some}
 use Rattle.xa_base.specs.declared.branch.Branch.{Branch}
 use Rattle.xa_base.specs.declared.branch.Gtrid.{Gtrid}
 use Rattle.xa_model.specs.Facts.{live, next_answer, page, record_of, record_of_next, resolving_calls, resolving_kind}
-use Rattle.xa_base.specs.Opening.{closes, has_closed}
+use Rattle.xa_base.specs.Opening.{has_closed}
 use Rattle.xa_base.specs.StateTable.{on}
-use Rattle.xa_model.specs.Trace.{Answer, Call, Fault.InDecide, Fault.InHear, Happening.Failed, Happening.ResolvedOpen, Kind, Kind.Commit, Kind.End, Kind.Forget, Kind.Join, Kind.OnePhase, Kind.Prepare, Kind.Rollback, Kind.Start, Line, Name, Name.Foreign, Name.Ours, Trace, Trace.Then}
+use Rattle.xa_base.proofs.StateLemmas.{closes_on}
+use Rattle.xa_model.specs.Trace.{Answer, Call, Fault.InDecide, Fault.InHear, Happening.Failed, Happening.ResolvedOpen, Kind.Commit, Kind.Forget, Kind.Rollback, Line, Name, Name.Foreign, Name.Ours, Trace, Trace.Then}
 use Rattle.xa_tm.specs.Book.{Book, Doubt.Adds, after, asked_in, book_of, doubt_of, voted_yes}
 use Rattle.xa_tm.specs.Refusing.{live_in, resolved_in, resolved_open_in, resolving_calls_in, resolving_kind_in}
 use Rattle.xa_tm.proofs.OneMore.{one_more, voted_yes_is}
@@ -36,16 +37,6 @@ resolved_is tr r = same_calls tr (page tr r)
 pub resolved_open_is : (tr : Trace) (r : ℕ) → resolved_open_in (book_of tr) r ≡ resolving_calls (Then tr (ResolvedOpen r)) (page tr r)
 resolved_open_is tr r = ap (λ k. resolving_calls_in k (page tr r)) (sym (one_more tr (ResolvedOpen r) tt)) ∙ same_calls (Then tr (ResolvedOpen r)) (page tr r)
 
-on_closes_none : (k : Kind) (b : Branch) → closes (on k b) ≡ false
-on_closes_none Start b = refl
-on_closes_none Join b = refl
-on_closes_none (End fail) b = refl
-on_closes_none Prepare b = refl
-on_closes_none Commit b = refl
-on_closes_none OnePhase b = refl
-on_closes_none Rollback b = refl
-on_closes_none Forget b = refl
-
 close_none : (k : Book) (ns : List Name) → has_closed (resolving_calls_in k ns) ≡ false
 close_none k [] = refl
 close_none k (Ours b ∷ ns) = by (live_in k b.gtrid) (close_none k ns)
@@ -53,7 +44,7 @@ close_none k (Ours b ∷ ns) = by (live_in k b.gtrid) (close_none k ns)
     by : (t : Bool) → has_closed (resolving_calls_in k ns) ≡ false
         → has_closed (if t then resolving_calls_in k ns else on (resolving_kind_in k b) b ∷ resolving_calls_in k ns) ≡ false
     by true rest = rest
-    by false rest = ap (λ t. t || has_closed (resolving_calls_in k ns)) (on_closes_none (resolving_kind_in k b) b) ∙ rest
+    by false rest = ap (λ t. t || has_closed (resolving_calls_in k ns)) (closes_on (resolving_kind_in k b) b) ∙ rest
 close_none k (Foreign x ∷ ns) = close_none k ns
 
 pub recoveries_close_none : (k : Book) (r : ℕ) → (has_closed (resolved_in k r) ≡ false) × (has_closed (resolved_open_in k r) ≡ false)

@@ -3,17 +3,16 @@ use Rattle.std.proofs.Common.{◌≡◌, ◌≤◌, ◌⊎◌, inl, inr, ℕ, �
 use Rattle.std.proofs.lemmas.List.{length-map}
 use Rattle.std.specs.Prelude.{if◌then◌else◌, nat_eq, nat_le, nat_lt, ◌&&◌, ◌||◌}
 use Rattle.std.specs.Option.{option_or}
-use Rattle.std.specs.Ordering.{eq_by_cmp}
 use Rattle.std.specs.FinMap.{FinMap, entries, keys, get, len, len-entries, insert, remove, contains_key, get-empty, get-insert, get-remove, len-insert, len-remove, empty_of_len}
-use Rattle.std.proofs.lemmas.Bool.{true≢false, and_parts, eqb-true, eq-eqb, leb-true, ltb-true}
-use Rattle.std.proofs.lemmas.Cmp.{eq_by_cmp_equiv}
-use Rattle.xa_base.specs.Branch.{branch_cmp, branch_eq, gtrid_cmp, gtrid_eq}
+use Rattle.std.proofs.lemmas.Bool.{true≢false, and_parts, eqb-true, eq-eqb, leb-true, ltb-true, or_cases}
+use Rattle.xa_base.specs.Branch.{branch_eq, gtrid_eq}
 use Rattle.xa_model.specs.Trace.{Fault.InRestart, Happening.Failed, Happening.Restarted}
 use Rattle.xa_base.specs.declared.branch.Branch.{Branch}
 use Rattle.xa_base.specs.declared.branch.Gtrid.{Gtrid}
 use Rattle.xa_base.specs.declared.code.How.{How}
 use Rattle.xa_base.proofs.BranchOrder.{branches_total, gtrids_total}
 use Rattle.xa_base.proofs.BranchKeys.{branch_eq-true, gtrid_eq-true}
+use Rattle.xa_base.proofs.Orders.{gtrid_swap, branch_swap}
 use Rattle.xa_log.specs.Content.{Content, with_bump, unchanged}
 use Rattle.xa_log.specs.Contract.{Makes, MayMake}
 use Rattle.xa_tm.specs.Book.{Book, Waiting, Doubt, Doubt.Adds, Doubt.Drops, Doubt.Records, Doubt.Settled, after, book_after, row_with, recorded_with, records_with}
@@ -21,7 +20,6 @@ use Rattle.xa_tm.specs.Held.{come_up_with, without_doubt, notes_of}
 use Rattle.xa_tm.specs.News.{found_ended}
 use Rattle.xa_tm.specs.declared.notes.BranchNotes.{BranchNotes}
 use Rattle.xa_tm.specs.Tied.{FoundIn, IsFound, may_find, rows_of, HoldsBook, made, SameRows, IsTiedUp, IsTiedDown, TiedBy, IsTied}
-use Rattle.xa_tm.proofs.Deals.{branch_tie, gtrid_tie}
 use Rattle.xa_tm.proofs.OneMore.{book_is}
 
 -- a choice the other way round
@@ -86,12 +84,6 @@ module _ {K X : Type 0} {R : K → K → Ordering} where
   has_length : (c : FinMap R X) (q : K) → contains_key c q ≡ true → len c ≡ 0 → ⊥
   has_length c q has none = true≢false (sym has ∙ ap (λ (x : FinMap R X). is_some (get x q)) (empty_of_len c none) ∙ ap is_some (get-empty R q))
 
-pub swap_gtrid : (g q : Gtrid) → eq_by_cmp gtrid_cmp q g ≡ gtrid_eq g q
-swap_gtrid g q = (eq_by_cmp_equiv gtrids_total).symm q g ∙ gtrid_tie g q
-
-pub swap_branch : (b q : Branch) → eq_by_cmp branch_cmp q b ≡ branch_eq b q
-swap_branch b q = (eq_by_cmp_equiv branches_total).symm q b ∙ branch_tie b q
-
 module _ (c : Content) (row : Gtrid → Option Waiting) (m : ℕ) (at : (g : Gtrid) → get c.decisions g ≡ row g) (number : len c.decisions ≡ m) where
   stays : (d : ℕ) → d ≡ m → (g : Gtrid) (other : Option Waiting) → get c.decisions g ≡ (if d == m then row g else other)
   stays d e g other = at g ∙ sym (ap (λ (t : Bool). if t then row g else other) (same_number d m e))
@@ -114,14 +106,14 @@ module _ (c : Content) (row : Gtrid → Option Waiting) (m : ℕ) (at : (g : Gtr
       by true has e = stays d (e ∙ number) g _
       by false has e =
           let more = e ∙ len-insert gtrids_total c.decisions h set ∙ ap (λ t. cond t (len c.decisions) (len c.decisions + 1)) has ∙ ap (λ n. n + 1) number in
-          get-insert gtrids_total c.decisions h set g ∙ ap (λ t. cond t (Some set) (get c.decisions g)) (swap_gtrid h g)
+          get-insert gtrids_total c.decisions h set g ∙ ap (λ t. cond t (Some set) (get c.decisions g)) (gtrid_swap h g)
           ∙ ap (cond (gtrid_eq h g) (Some set)) (at g)
           ∙ sym (ap (λ (t : Bool). if t then row g else (if gtrid_eq h g then Some set else row g))
           (other_number d m (λ same. let no : ⊥ = absurd (omega (arith, more, same)) in no)))
   rows_found (Drops h) d is g = by (contains_key c.decisions h) refl
     where
       removed : get (remove c.decisions h) g ≡ (if gtrid_eq h g then None else row g)
-      removed = get-remove gtrids_total c.decisions h g ∙ ap (λ t. cond t None (get c.decisions g)) (swap_gtrid h g) ∙ ap (cond (gtrid_eq h g) None) (at g)
+      removed = get-remove gtrids_total c.decisions h g ∙ ap (λ t. cond t None (get c.decisions g)) (gtrid_swap h g) ∙ ap (cond (gtrid_eq h g) None) (at g)
 
       gone : (t : Bool) → gtrid_eq h g ≡ t → contains_key c.decisions h ≡ false → (if t then None else row g) ≡ row g
       gone true e has = sym (nothing (row g) (ap is_some (sym (at g)) ∙ ap (contains_key c.decisions) (sym (gtrid_eq-true h g e)) ∙ has))
@@ -169,7 +161,7 @@ module _ (c : Content) (recs : Branch → Option How) (m : ℕ) (at : (b : Branc
       by false has e =
           let more =
           e ∙ len-insert branches_total c.heuristics b how ∙ ap (λ t. cond t (len c.heuristics) (len c.heuristics + 1)) has ∙ ap (λ n. n + 1) number in
-          get-insert branches_total c.heuristics b how q ∙ ap (λ t. cond t (Some how) (get c.heuristics q)) (swap_branch b q)
+          get-insert branches_total c.heuristics b how q ∙ ap (λ t. cond t (Some how) (get c.heuristics q)) (branch_swap b q)
           ∙ ap (cond (branch_eq b q) (Some how)) (at q)
           ∙ put (recs q) (branch_eq b q) refl refl (ap is_some (sym (at b)) ∙ has)
           ∙ sym (ap (λ (t : Bool). if t then recs q else recorded_with (Records b how) q (recs q))
@@ -351,12 +343,8 @@ is_found k i d h old down f tied = go old f (subst (λ u. TiedBy u true k old) d
 
 -- ** the test of what is found
 
-either : (s t : Bool) → (s || t) ≡ true → (s ≡ true) ⊎ (t ≡ true)
-either true t e = inl refl
-either false t e = inr e
-
 one_of_two : (n a b : ℕ) → (nat_eq n a || nat_eq n b) ≡ true → (n ≡ a) ⊎ (n ≡ b)
-one_of_two n a b e = by (either (nat_eq n a) (nat_eq n b) e)
+one_of_two n a b e = by (or_cases (nat_eq n a) (nat_eq n b) e)
   where
     by : (nat_eq n a ≡ true) ⊎ (nat_eq n b ≡ true) → (n ≡ a) ⊎ (n ≡ b)
     by (inl x) = inl (eqb-true n a x)

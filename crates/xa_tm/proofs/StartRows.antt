@@ -5,6 +5,7 @@ use Rattle.std.specs.List.{AllByRecursion}
 use Rattle.std.specs.List.Sorted.{IsStrictlySortedBy}
 use Rattle.xa_base.specs.declared.branch.Gtrid.{Gtrid}
 use Rattle.xa_base.specs.Branch.{gtrid_cmp}
+use Rattle.xa_base.proofs.Orders.{less_differs}
 use Rattle.xa_model.specs.Facts.Distinct.{ApartRows}
 use Rattle.xa_model.specs.Facts.{lists_row}
 use Rattle.xa_model.specs.Trace.{Row}
@@ -12,7 +13,6 @@ use Rattle.xa_log.specs.Content.{Content}
 use Rattle.xa_log.specs.KeySet.{items}
 use Rattle.xa_tm.specs.Book.{Waiting}
 use Rattle.xa_tm.specs.Starting.{rows_from}
-use Rattle.xa_tm.proofs.Starts.{less_differs}
 use Rattle.xa_log.proofs.Rising.{risen}
 
 abbrev row_of : Gtrid × Waiting → Row

@@ -1,7 +1,7 @@
 -- The book of a start.
-use Rattle.std.proofs.Common.{◌≡◌, ℕ, ◌<◌, ◌≤◌, ◌+◌, List, [], ◌∷◌, length, drop, get_or, Bool, true, false, ◌&&◌, Option, Some, None, is_some, refl, sym, ap, ◌∙◌, arith, map, ◌++◌, ◌||◌, ◌-◌, cond, is_eq, Less, IsSomeAnd, subst}
+use Rattle.std.proofs.Common.{◌≡◌, ℕ, ◌<◌, ◌≤◌, ◌+◌, List, [], ◌∷◌, length, drop, get_or, Bool, true, false, ◌&&◌, Option, Some, None, is_some, refl, sym, ap, ◌∙◌, arith, map, ◌++◌, ◌-◌, cond, is_eq, Less, IsSomeAnd, subst}
 use Rattle.std.specs.Prelude.{if◌then◌else◌, nat_lt, nat_le, ◌^◌}
-use Rattle.std.specs.List.{AllByRecursion, list_all, list_any}
+use Rattle.std.specs.List.{AllByRecursion, list_all}
 use Rattle.std.specs.List.Sorted.{IsStrictlySortedBy}
 use Rattle.std.specs.Ordering.{eq_by_cmp}
 use Rattle.std.specs.FinMap.{find, entries, entries_sorted, get-entries, keys, len-entries}
@@ -11,12 +11,15 @@ use Rattle.std.proofs.lemmas.List.{length-map, drop_more, drop_all}
 use Rattle.std.proofs.lemmas.List.Sums.{take_while-cons}
 use Rattle.std.proofs.Math.Seq.{drop-append_seam}
 use Rattle.std.specs.Option.{option_or}
+use Rattle.std.proofs.Math.Bool.{and-false}
 use Rattle.xa_base.specs.Branch.{gtrid_cmp, gtrid_eq, branch_eq, branch_cmp}
 use Rattle.xa_base.proofs.BranchOrder.{branches_total, exact_branches, gtrids_total, exact_gtrids}
 use Rattle.xa_base.proofs.BranchKeys.{gtrid_eq-refl, gtrid_eq-true, branch_eq-true}
 use Rattle.xa_base.specs.declared.branch.Branch.{Branch}
 use Rattle.xa_base.specs.declared.branch.Gtrid.{Gtrid}
 use Rattle.xa_base.specs.declared.code.How.{How}
+use Rattle.xa_base.proofs.Options.{or_none}
+use Rattle.xa_base.proofs.Orders.{less_differs, all_among, gtrid_swap, branch_swap}
 use Rattle.xa_log.specs.Content.{AreOwn, Content, all_listed, with_bump, last_number, unchanged}
 use Rattle.xa_log.specs.Contract.{FitsRow, Makes}
 use Rattle.xa_log.specs.KeySet.{KeySet, contains, contains-from_list, contains-items, from_list, items, same_set}
@@ -28,7 +31,6 @@ use Rattle.xa_tm.specs.declared.notes.BranchNotes.{BranchNotes}
 use Rattle.xa_tm.proofs.Deals.{deal_is}
 use Rattle.xa_tm.specs.Starting.{IsOld, StartsAreHistories, StartsHaveContent, ended_among, fits_before, loaded, run_of, start_book, book_at_start}
 use Rattle.xa_tm.specs.Tied.{IsTied}
-use Rattle.xa_tm.proofs.Restarts.{swap_branch, swap_gtrid}
 use Rattle.xa_tm.proofs.OneMore.{book_is}
 use Rattle.xa_log.proofs.Rising.{equal_is, risen}
 
@@ -106,12 +108,8 @@ module _ (ends : List (Branch × How)) (i : ℕ) (d : Branch × How) (old new : 
 
 -- ** the incarnation is put in
 
-and_false : (t : Bool) → (t && false) ≡ false
-and_false true = refl
-and_false false = refl
-
 none_begun : (u : Bool) (i s : ℕ) (g : Gtrid) → s ≡ 0 → begun_by u i s g ≡ false
-none_begun u i s g e = grind (arith, and_false)
+none_begun u i s g e = grind (arith, and-false)
 
 pub in_incarnation : (l : Ledger) (i t r : ℕ) (row : Gtrid → Option Waiting) (rows : ℕ) (how : Branch → Option How) (records : ℕ)
     → held l ≡ start_book t r 0 row rows how records → held (record l { incarnation = i }) ≡ start_book t r i row rows how records
@@ -178,17 +176,13 @@ end_none : (b : Branch) (es : List (Branch × How))
 end_none b [] low = refl
 end_none b (e ∷ es) low = ap (λ o. cond (is_eq o) (Some e.1) (find branch_cmp b es)) low.0 ∙ end_none b es low.1
 
-or_none : {X : Type 0} (x : Option X) → option_or x None ≡ x
-or_none None = refl
-or_none (Some v) = refl
-
 pub ended_is : (es : List (Branch × How)) → IsStrictlySortedBy branch_cmp (map (λ (e : Branch × How). e.0) es) → (q : Branch)
     → ended_among es q ≡ find branch_cmp q es
 unfolding IsStrictlySortedBy
 ended_is [] up q = refl
 ended_is (e ∷ es) up q =
     ap (λ o. option_or o (if branch_eq e.0 q then Some e.1 else None)) (ended_is es up.1 q) ∙ by (branch_eq e.0 q) refl
-    ∙ ap (λ t. cond t (Some e.1) (find branch_cmp q es)) (sym (swap_branch e.0 q))
+    ∙ ap (λ t. cond t (Some e.1) (find branch_cmp q es)) (sym (branch_swap e.0 q))
   where
     by : (t : Bool) → branch_eq e.0 q ≡ t → option_or (find branch_cmp q es) (if t then Some e.1 else None) ≡ cond t (Some e.1) (find branch_cmp q es)
     by true same = ap (λ o. option_or o (Some e.1)) (ap (λ p. find branch_cmp p es) (sym (branch_eq-true e.0 q same)) ∙ end_none e.0 es up.0)
@@ -201,24 +195,12 @@ abbrev OwnAll : List (Gtrid × KeySet branch_cmp) → Type 0
 OwnAll [] = Unit
 OwnAll (e ∷ es) = AllByRecursion (λ (b : Branch). b.gtrid ≡ e.0) (items e.1) × OwnAll es
 
-each_of : (P : Branch → Type 0) (xs : List Branch) → ((b : Branch) → list_any (eq_by_cmp branch_cmp b) xs ≡ true → P b) → AllByRecursion P xs
-each_of P [] all = tt
-each_of P (x ∷ xs) all = (
-  all x (ap (λ t. t || list_any (eq_by_cmp branch_cmp x) xs) ((eq_by_cmp_equiv branches_total).refl x)),
-  each_of P xs
-      (λ b h. all b (or_right (eq_by_cmp branch_cmp b x) _ h)),
-)
-  where
-    or_right : (s t : Bool) → t ≡ true → (s || t) ≡ true
-    or_right true t e = refl
-    or_right false t e = e
-
 own_all : (es : List (Gtrid × KeySet branch_cmp)) → IsStrictlySortedBy gtrid_cmp (map (λ (e : Gtrid × KeySet branch_cmp). e.0) es)
     → ((g : Gtrid) (set : KeySet branch_cmp) (b : Branch) → find gtrid_cmp g es ≡ Some set → contains set b ≡ true → b.gtrid ≡ g) → OwnAll es
 unfolding IsStrictlySortedBy
 own_all [] up own = tt
 own_all (e ∷ es) up own = (
-  each_of (λ b. b.gtrid ≡ e.0) (items e.1)
+  all_among (λ b. b.gtrid ≡ e.0) (items e.1)
       (λ b h. own e.0 e.1 b (ap (λ t. cond t (Some e.1) (find gtrid_cmp e.0 es)) ((eq_by_cmp_equiv gtrids_total).refl e.0)) (contains-items e.1 b ∙ h)),
   own_all es up.1 (λ g set b is has. later g set b (eq_by_cmp gtrid_cmp g e.0) refl is has),
 )
@@ -231,13 +213,6 @@ own_all (e ∷ es) up own = (
 
 abbrev IsApart : Gtrid → List Branch → Type 0
 IsApart g bs = AllByRecursion (λ (b : Branch). gtrid_eq b.gtrid g ≡ false) bs
-
-pub less_differs : (g h : Gtrid) → gtrid_cmp g h ≡ Less → gtrid_eq h g ≡ false
-less_differs g h low = by (gtrid_eq h g) refl
-  where
-    by : (t : Bool) → gtrid_eq h g ≡ t → t ≡ false
-    by false e = refl
-    by true e = absurd (true≢false (sym ((eq_by_cmp_equiv gtrids_total).refl g) ∙ ap (λ p. is_eq (gtrid_cmp g p)) (sym (gtrid_eq-true h g e)) ∙ ap is_eq low))
 
 joined : (g : Gtrid) (xs ys : List Branch) → IsApart g xs → IsApart g ys → IsApart g (xs ++ ys)
 joined g [] ys a b = b
@@ -269,7 +244,7 @@ loaded_is [] up own q = refl
 loaded_is (e ∷ es) up own q =
     (λ i. option_or (loaded gs (rest i) q) (if gtrid_eq e.0 q then Some (from_list (run i)) else None))
     ∙ (λ i. option_or (loaded_is es up.1 own.1 q i) (if gtrid_eq e.0 q then Some (items_again e.1 i) else None))
-    ∙ by (gtrid_eq e.0 q) refl ∙ ap (λ t. cond t (Some e.1) (find gtrid_cmp q es)) (sym (swap_gtrid e.0 q))
+    ∙ by (gtrid_eq e.0 q) refl ∙ ap (λ t. cond t (Some e.1) (find gtrid_cmp q es)) (sym (gtrid_swap e.0 q))
   where
     gs : List Gtrid
     gs = map (λ (e : Gtrid × KeySet branch_cmp). e.0) es
@@ -358,7 +333,7 @@ row_found : (es : List (Gtrid × KeySet branch_cmp)) (g : Gtrid)
 row_found [] g = refl
 row_found (e ∷ es) g =
     (λ i. if gtrid_eq e.0 g then Some (items_again e.1 i) else row_found es g i) ∙ by (gtrid_eq e.0 g)
-    ∙ ap (λ t. cond t (Some e.1) (find gtrid_cmp g es)) (sym (swap_gtrid e.0 g))
+    ∙ ap (λ t. cond t (Some e.1) (find gtrid_cmp g es)) (sym (gtrid_swap e.0 g))
   where
     by : (t : Bool) → (if t then Some e.1 else find gtrid_cmp g es) ≡ cond t (Some e.1) (find gtrid_cmp g es)
     by true = refl
@@ -368,7 +343,7 @@ pub end_found : (es : List (Branch × How)) (b : Branch) → how_in (map (λ (e 
 end_found [] b = refl
 end_found (e ∷ es) b =
     (λ i. if branch_eq e.0 b then Some e.1 else end_found es b i) ∙ by (branch_eq e.0 b)
-    ∙ ap (λ t. cond t (Some e.1) (find branch_cmp b es)) (sym (swap_branch e.0 b))
+    ∙ ap (λ t. cond t (Some e.1) (find branch_cmp b es)) (sym (branch_swap e.0 b))
   where
     by : (t : Bool) → (if t then Some e.1 else find branch_cmp b es) ≡ cond t (Some e.1) (find branch_cmp b es)
     by true = refl

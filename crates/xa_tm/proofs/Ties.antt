@@ -5,7 +5,7 @@ use Rattle.std.specs.Ordering.{eq_by_cmp}
 use Rattle.std.specs.FinMap.{get, len, insert, contains_key, get-insert, get-remove, len-insert, len-remove}
 use Rattle.std.proofs.lemmas.Cmp.{eq_by_cmp_equiv}
 use Rattle.xa_base.specs.declared.step.Step.TheVariants as Steps
-use Rattle.xa_base.specs.Branch.{gtrid_cmp, branch_cmp, gtrid_eq, branch_eq}
+use Rattle.xa_base.specs.Branch.{branch_cmp, gtrid_eq, branch_eq}
 use Rattle.xa_base.specs.declared.branch.Branch.{Branch}
 use Rattle.xa_base.specs.declared.branch.Gtrid.{Gtrid}
 use Rattle.xa_base.specs.declared.code.How.{How}
@@ -19,13 +19,15 @@ use Rattle.xa_tm.specs.Refusing.{refusal_in, outlived_in, has_row_in, row_settle
 use Rattle.xa_model.specs.Facts.{record_of}
 use Rattle.xa_base.proofs.BranchOrder.{gtrids_total, branches_total}
 use Rattle.xa_base.proofs.BranchKeys.{branch_eq-true}
+use Rattle.xa_base.proofs.Orders.{gtrid_swap}
+use Rattle.xa_base.proofs.Options.{some_is}
 use Rattle.xa_log.specs.Content.{Content, with_commit, without_decision}
 use Rattle.xa_log.specs.Contract.{Makes, MayMake}
 use Rattle.xa_tm.specs.Book.{Book, Waiting, doubt_of, Doubt, Doubt.Adds, Doubt.Drops, Doubt.Records, Doubt.Settled, after, book_after, failed_restarts_after, row_with, recorded_with, records_with, voted_yes}
 use Rattle.xa_tm.specs.Outcomes.{is_commit}
 use Rattle.xa_tm.specs.Tied.{HoldsBook, made, SameRows, MayHold, IsReached, IsTiedUp, IsTiedDown, TiedBy, IsTied, MakesOf}
 use Rattle.xa_tm.specs.News.{recording}
-use Rattle.xa_tm.proofs.Deals.{gtrid_tie, branch_tie}
+use Rattle.xa_tm.proofs.Deals.{branch_tie}
 
 -- ** what the log doesn't see
 
@@ -82,9 +84,6 @@ up_content near k log up tied = subst (λ u. TiedBy u near k log) up tied
 
 -- ** changes
 
-same_some : (c d : Content) → Some c ≡ Some d → c ≡ d
-same_some c d e = cc
-
 made_incarnation : (d : Doubt) (c : Content) → (made d c).incarnation ≡ c.incarnation
 made_incarnation (Adds g set) c = by (contains_key c.decisions g)
   where
@@ -136,8 +135,8 @@ tied_fault near k asked f old new up same may tied = go old (up_content near k o
     go : (old : Option Content) → IsSomeAnd old (IsTiedUp k) → MayMake (made asked) old new → (c : Content) → new ≡ Some c → IsTiedDown near n c
     go None t may c is = absurd t
     go (Some d) t (inl none) c is = absurd (let no : None ≡ Some c = sym none ∙ is in cc)
-    go (Some d) t (inr (inl stays)) c is = as_before d c (same_some d c (sym stays ∙ is)) t
-    go (Some d) t (inr (inr done)) c is = changed d c (same_some (made asked d) c (sym done ∙ is)) t
+    go (Some d) t (inr (inl stays)) c is = as_before d c (some_is d c (sym stays ∙ is)) t
+    go (Some d) t (inr (inr done)) c is = changed d c (some_is (made asked d) c (sym done ∙ is)) t
 
 -- the change is made
 module _ (near : Bool) (k l : Book) (up : k.up ≡ true) (still_up : l.up ≡ true) (same : l.incarnation ≡ k.incarnation) where
@@ -149,9 +148,6 @@ module _ (near : Bool) (k l : Book) (up : k.up ≡ true) (still_up : l.up ≡ tr
       go None t makes = absurd t
       go (Some c) t makes = subst (λ x. IsSomeAnd x (IsTiedUp l)) (sym makes)
           (record { holds = holds c t.holds; incarnation = made_incarnation asked c ∙ t.incarnation ∙ sym same })
-
-gtrid_swap : (g q : Gtrid) → eq_by_cmp gtrid_cmp q g ≡ gtrid_eq g q
-gtrid_swap g q = (eq_by_cmp_equiv gtrids_total).symm q g ∙ gtrid_tie g q
 
 -- a row is written, where there was none
 pub holds_row : (k l : Book) (g : Gtrid) (set : Waiting) → k.row g ≡ None
@@ -309,7 +305,7 @@ tied_fall near k l log down inc failed row rows recs number doubt tied = subst (
 
     by : (u : Bool) (log : Option Content) → k.up ≡ u → TiedBy u near k log → (c : Content) → log ≡ Some c → IsTiedDown near l c
     by true None e tied c is = absurd tied
-    by true (Some d) e tied c is = fallen d c (same_some d c is) tied
+    by true (Some d) e tied c is = fallen d c (some_is d c is) tied
     by false log e tied c is =
         let t = tied c is in record {
           holds = (t.holds.0, held_still t.holds.0 t.holds.1, may c t.holds.0 t.holds.2);

@@ -9,7 +9,7 @@ use Rattle.xa_base.specs.declared.step.Part.TheVariants as Part
 use Rattle.xa_base.specs.declared.step.Side.TheVariants as Side
 use Rattle.xa_model.specs.Facts.{Change.DropRow, begun, branches, decided_so, doubt, has_row, heuristic_rows, log, next_answer, origin, page, record_of, resolving_calls, settled, without, has_voted}
 use Rattle.xa_base.specs.Opening.{has_closed}
-use Rattle.xa_model.specs.Protocol.{AllRight, Right}
+use Rattle.xa_model.specs.Protocol.{IsRun, Right}
 use Rattle.xa_model.specs.Replies.Rules.{must_refuse}
 use Rattle.xa_model.specs.Replies.Steps.{Step}
 use Rattle.xa_model.specs.Trace.{Answer, Call, Fault.InDecide, Fault.InDone, Fault.InHear, Happening, Happening.Done, Happening.Failed, Happening.ResolvedOpen, Happening.Restarted, Line, Trace, Trace.Then}
@@ -33,10 +33,10 @@ BooksFollowHistories = (tr : Trace) (e : Happening) → CountsRows tr e
 -- of a right history over a start whose rows are of different transactions nothing more is asked: the row that a Done
 -- takes away is one, and the numbers that a restart tells are those of the rows
 abbrev pub RowsAreCounted : Type 0
-RowsAreCounted = (tr : Trace) (e : Happening) → AllRight tr → Right tr e → ApartRows (origin tr).rows → CountsRows tr e
+RowsAreCounted = (tr : Trace) (e : Happening) → IsRun tr → Right tr e → ApartRows (origin tr).rows → CountsRows tr e
 
 abbrev pub RightBooksFollow : Type 0
-RightBooksFollow = (tr : Trace) (e : Happening) → AllRight tr → Right tr e → ApartRows (origin tr).rows
+RightBooksFollow = (tr : Trace) (e : Happening) → IsRun tr → Right tr e → ApartRows (origin tr).rows
     → book_of (Then tr e) ≡ book_after (book_of tr) (asked_in tr e) e
 
 -- the rows of a log are, so that a start with them has such rows
@@ -45,11 +45,11 @@ StartRowsAreApart = (c : Content) → ApartRows (rows_from c)
 
 -- a row whose removal is in doubt is there
 abbrev pub DroppedRowsAreThere : Type 0
-DroppedRowsAreThere = (tr : Trace) (g : Gtrid) → AllRight tr → doubt tr ≡ DropRow g → has_row tr g ≡ true
+DroppedRowsAreThere = (tr : Trace) (g : Gtrid) → IsRun tr → doubt tr ≡ DropRow g → has_row tr g ≡ true
 
 -- and it is one
 abbrev pub DropsAreOne : Type 0
-DropsAreOne = (tr : Trace) (g : Gtrid) → AllRight tr → ApartRows (origin tr).rows → doubt tr ≡ DropRow g
+DropsAreOne = (tr : Trace) (g : Gtrid) → IsRun tr → ApartRows (origin tr).rows → doubt tr ≡ DropRow g
     → length (without g (log tr)) ≡ length (log tr) - 1
 
 -- the numbers of the book are those of a count over all branches: of a transaction's branches, of those without a vote
@@ -59,11 +59,11 @@ BranchesAreCounted = (tr : Trace) (g : Gtrid)
     → ((book_of tr).deal g).branches ≡ length (filter (λ b. gtrid_eq b.gtrid g) (branches tr))
 
 abbrev pub VotesAreCounted : Type 0
-VotesAreCounted = (tr : Trace) (g : Gtrid) → AllRight tr
+VotesAreCounted = (tr : Trace) (g : Gtrid) → IsRun tr
     → ((book_of tr).deal g).unvoted ≡ length (filter (λ b. gtrid_eq b.gtrid g && not (has_voted tr b)) (branches tr))
 
 abbrev pub SettlementsAreCounted : Type 0
-SettlementsAreCounted = (tr : Trace) (g : Gtrid) → AllRight tr → begun tr g ≡ true
+SettlementsAreCounted = (tr : Trace) (g : Gtrid) → IsRun tr → begun tr g ≡ true
     → ((book_of tr).deal g).unsettled ≡ length (filter (λ b. gtrid_eq b.gtrid g && not (settled tr b)) (branches tr))
 
 -- the step names no thread and no resource manager that only others look at
@@ -78,7 +78,7 @@ IsLookedAt _ = Unit
 
 -- what the book of a right history says is refused is what the history forces
 abbrev pub RefusalsAreRead : Type 0
-RefusalsAreRead = (tr : Trace) (s : Step) → AllRight tr → IsLookedAt s
+RefusalsAreRead = (tr : Trace) (s : Step) → IsRun tr → IsLookedAt s
     → refusal_in (book_of tr) s ≡ managers_refusal tr s
 
 -- the manager alone is asked
@@ -99,7 +99,7 @@ ManagersRefusalsAreAll = (tr : Trace) (s : Step) → IsAlone s → must_refuse t
 
 -- a transaction that is begun and not committed has no row
 abbrev pub OpenHasNoRow : Type 0
-OpenHasNoRow = (tr : Trace) (g : Gtrid) → AllRight tr → begun tr g ≡ true
+OpenHasNoRow = (tr : Trace) (g : Gtrid) → IsRun tr → begun tr g ≡ true
     → decided_so Outcome.Commit tr g ≡ false → (book_of tr).row g ≡ None
 
 -- ** what the log is asked for

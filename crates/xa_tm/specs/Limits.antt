@@ -1,16 +1,18 @@
 -- What bounds the numbers of a book: how much has happened, and what the start had.
-use Rattle.std.specs.Prelude.{ℕ, ◌+◌, ◌<◌, ◌≡◌, ◌≤◌, List, length, Contains, Some, None}
+use Rattle.std.specs.Prelude.{ℕ, ◌+◌, ◌<◌, ◌≡◌, ◌≤◌, ◌⊎◌, List, length, Contains, Some, None}
 use Rattle.xa_base.specs.Branch.{branch_of_xid}
 use Rattle.xa_model.specs.Replies.Demanded.{Restarts}
 use Rattle.xa_model.specs.Facts.Distinct.{ApartRows}
-use Rattle.xa_model.specs.Facts.{heuristic_rows, incarnation, log, next_answer, origin}
+use Rattle.xa_model.specs.Facts.{held_of, heuristic_rows, incarnation, log, next_answer, origin}
 use Rattle.xa_model.specs.Replies.History.{history}
-use Rattle.xa_model.specs.Protocol.{AllRight, Right, RightOrigin}
+use Rattle.xa_model.specs.Protocol.{IsRun, Right, RightOrigin}
 use Rattle.xa_model.specs.Replies.Steps.{accepted}
 use Rattle.xa_model.specs.Trace.{Answer, Call, Happening, Happening.Restarted, Line, Origin, Trace, Trace.From, Trace.Then}
 use Rattle.xa_base.specs.Xid.{Xid}
+use Rattle.xa_base.specs.declared.branch.Branch.{Branch}
 use Rattle.xa_base.specs.declared.reply.Event.{Event}
 use Rattle.xa_base.specs.declared.reply.Reply.TheVariants as Replies
+use Rattle.xa_base.specs.declared.state.Standing.TheVariants.{Unstarted}
 use Rattle.xa_log.specs.Content.{last_number}
 use Rattle.xa_tm.specs.Asked.{FitsRecord, IsAnswerTo}
 use Rattle.xa_tm.specs.Book.{Book, book_of}
@@ -37,11 +39,13 @@ pub record HasRoomForRun (k : Book) : Type 0 where
   pub rows : k.rows ≤ last_number
   pub records : k.records ≤ last_number
 
--- the history is right, not too long, and of no greater incarnation than a log can hold
+-- the history is a run, not too long, and of no greater incarnation than a log can hold; nor has what its start found numbers that
+-- a log can't hold
 pub record IsWithinLimits (tr : Trace) : Type 0 where
-  pub right : AllRight tr
+  pub right : IsRun tr
   pub events : happenings tr ≤ most_events
   pub fits : incarnation tr ≤ last_number
+  pub found : (b : Branch) → ((held_of (origin tr) b).standing ≡ Unstarted) ⊎ (b.gtrid.sequence ≤ last_number)
 
 -- no greater incarnation is given than a log can hold
 abbrev pub FitsIncarnation : Happening → Type 0
@@ -58,14 +62,15 @@ abbrev pub BooksAreSound : Type 0
 BooksAreSound = (tr : Trace) → IsWithinLimits tr → IsSound (book_of (From (origin tr)))
     → HasRoomForRun (book_of (From (origin tr))) → IsSound (book_of tr)
 
--- a start whose rows and records are of earlier incarnations is right, where what it lists as another manager's is
+-- a start whose rows and records are of earlier incarnations is right, where no branch of this manager was there and all that
+-- is in doubt is another manager's
 abbrev pub OldStartsAreRight : Type 0
-OldStartsAreRight = (o : Origin) → IsOld (book_of (From o))
+OldStartsAreRight = (o : Origin) → IsOld (book_of (From o)) → ((b : Branch) → (held_of o b).standing ≡ Unstarted)
     → ((r : ℕ) (x : Xid) → Contains (o.in_doubt r) x → branch_of_xid x ≡ None) → RightOrigin o
 
 -- the answer that waits first on a line answers what was asked for: a call on a branch is answered by a code
 abbrev pub AnswersAreCodes : Type 0
-AnswersAreCodes = (tr : Trace) (l : Line) (c : Call) (a : Answer) (asked : Asked) → AllRight tr
+AnswersAreCodes = (tr : Trace) (l : Line) (c : Call) (a : Answer) (asked : Asked) → IsRun tr
     → next_answer tr l ≡ Some (c, a) → accepted asked ≡ Some c → IsAnswerTo asked a
 
 -- and if it makes a record, then of a branch that fits the log
@@ -75,10 +80,10 @@ RecordsFit = (tr : Trace) (l : Line) (c : Call) (a : Answer) (asked : Asked) →
 
 -- what a restart of the manager finds, that its book allows, is what the history says is there
 abbrev pub FoundIsThere : Type 0
-FoundIsThere = (tr : Trace) (i d h : ℕ) → AllRight tr → ApartRows (origin tr).rows → IsFound (book_of tr) i d h
+FoundIsThere = (tr : Trace) (i d h : ℕ) → IsRun tr → ApartRows (origin tr).rows → IsFound (book_of tr) i d h
     → (d ≡ length (log (Then tr (Restarted i d h)))) × (h ≡ length (heuristic_rows (Then tr (Restarted i d h))))
 
 -- so that the history demands the reply that says it
 abbrev pub FoundIsDemanded : Type 0
-FoundIsDemanded = (tr : Trace) (i d h : ℕ) → AllRight tr → ApartRows (origin tr).rows → IsFound (book_of tr) i d h
+FoundIsDemanded = (tr : Trace) (i d h : ℕ) → IsRun tr → ApartRows (origin tr).rows → IsFound (book_of tr) i d h
     → Restarts tr (Replies.Restarted i d h)

@@ -1,9 +1,10 @@
 -- What is known of the log in a slot, or of the one that was taken out of it.
 use Rattle.std.specs.Prelude.{◌≡◌, ℕ, Option, Some, None}
 use Rattle.xa_log.specs.Content.{AreOwn, Content, unchanged}
-use Rattle.xa_log.specs.Contract.{AllFit, Keeps, LeavesNoMore, Makes, Moment}
+use Rattle.xa_log.specs.Contract.{AllFit, Keeps, LeavesNoMore, Makes, Moment, one_more_fault}
 use Rattle.xa_log.specs.declared.decision_log.DecisionLog as DecisionLog
 use Rattle.xa_log.specs.declared.fail_plan.LogCall.{LogCall}
+use Rattle.xa_log.specs.declared.fail_plan.LogCall.TheVariants.{Rows}
 use Rattle.xa_log.specs.declared.log_fault.LogFault.{LogFault}
 use Rattle.xa_log.specs.declared.log_fault.LogFault.TheVariants.{Store}
 use Rattle.xa_tm.specs.declared.slot.Slot.{Slot}
@@ -85,6 +86,16 @@ pub record LooksAt (old new : Moment) : Type 0 where
   pub crash : old.is_in_order → new.is_honest → LeavesNoMore old.may_leave new.may_leave
   pub order : old.is_in_order → new.is_in_order
   pub honest : new.is_honest → old.is_honest
+
+-- a log's rows were read
+pub record ReadsRows {L : Type 0} (logs : DecisionLog.Ghosts L) (old new : L) : Type 0 where
+  pub says : logs.says Rows unchanged old new None
+  pub faults : (logs.moment new).fault_count ≡ (logs.moment old).fault_count
+
+-- a log's rows couldn't be read, for this cause
+pub record FailsToRead {L : Type 0} (logs : DecisionLog.Ghosts L) (old new : L) (cause : LogFault) : Type 0 where
+  pub says : logs.says Rows unchanged old new (Some cause)
+  pub faults : (logs.moment new).fault_count ≡ one_more_fault (logs.moment old).fault_count
 
 -- the log that was handed in is in the slot, as a look at its rows leaves it
 pub record TakesIn {L : Type 0} (logs : DecisionLog.Ghosts L) (handed : L) (slot : Option L) : Type 0 where

@@ -26,6 +26,7 @@ impl Ledger {
         requires branch { HasBranch self.old b }
         requires transaction { HasTransaction self.old b.gtrid }
         requires started { notes.is_started ≡ (notes_at self.old.branches b).is_started }
+        // What is put, and what stays.
         ensures others { self.new ≡
             record self.old { transactions = self.new.transactions; branches = self.new.branches } }
         ensures transactions { (q : _) → transaction_at self.new.transactions q ≡

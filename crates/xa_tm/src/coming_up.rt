@@ -29,19 +29,23 @@ impl<L: DecisionLog + Drop> Manager<L> {
     /// The rows are read before the incarnation is raised, and all room is made before the log is asked for either.
     pub fn restart(&mut self) -> Result<Found, Refusal>
         requires { IsSound (book_in self.old) }
+        // It comes up only where it is down.
         ensures busy { (book_in self.old).up ≡ Bool.true → (result ≡ Err Refusals.Busy) ×
             (self.new ≡ self.old) }
         ensures down { OnOk result ((book_in self.old).up ≡ Bool.false) }
+        // What the book then says.
         ensures ok { IfOk result (λ found. book_in self.new ≡
             after (book_in self.old)
             (Restarted found.incarnation found.decisions found.heuristics)) }
         ensures err { (book_in self.old).up ≡ Bool.false →
             IfErr result (FailsBy Settled InRestart (book_in self.old) (book_in self.new)) }
+        // What it finds.
         ensures most { IfOk result (λ found. found.incarnation ≤ last_number) }
         ensures found { IfOk result (λ found.
             IsFound (book_in self.old) found.incarnation found.decisions found.heuristics) }
         ensures read { IfOk result (λ found. IsReadFrom L.DecisionLog found.incarnation
             found.decisions found.heuristics (log_in self.old) (log_in self.new)) }
+        // What becomes of the log, which a fault shuts, leaves, or raises the incarnation of.
         ensures tied { (near : Bool) → (L.moment (log_in self.old)).is_in_order →
             (L.moment (log_in self.new)).is_honest →
             IsTied near (book_in self.old) (L.moment (log_in self.old)).content →
@@ -60,6 +64,7 @@ impl<L: DecisionLog + Drop> Manager<L> {
             (L.moment (log_in self.new)).is_in_order }
         ensures honest { (L.moment (log_in self.new)).is_honest →
             (L.moment (log_in self.old)).is_honest }
+        // What its log counts.
         ensures faults { (L.moment (log_in self.old)).is_in_order →
             (L.moment (log_in self.new)).is_honest →
             IsTied Bool.true (book_in self.old) (L.moment (log_in self.old)).content →
@@ -98,6 +103,7 @@ impl<L: DecisionLog + Drop> Manager<L> {
 
 /// Finds the numbers of rows of a log, and raises its incarnation.
 fn find_and_raise<L: DecisionLog>(log: &mut L) -> Result<Found, LogFault>
+    // What it finds.
     ensures found { (L.moment log.old).is_in_order → (L.moment log.new).is_honest →
         IfOk result (λ found.
         IsSomeAnd (L.moment log.old).content
@@ -105,6 +111,7 @@ fn find_and_raise<L: DecisionLog>(log: &mut L) -> Result<Found, LogFault>
     ensures read { IfOk result (λ found. IsReadFrom L.DecisionLog found.incarnation
         found.decisions found.heuristics log.old log.new) }
     ensures most { IfOk result (λ found. found.incarnation ≤ last_number) }
+    // What becomes of the log.
     ensures ok { (L.moment log.old).is_in_order → (L.moment log.new).is_honest →
         OnOk result (Makes with_bump (L.moment log.old).content (L.moment log.new).content) }
     ensures err { (L.moment log.old).is_in_order → (L.moment log.new).is_honest →

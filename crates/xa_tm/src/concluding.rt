@@ -1,16 +1,18 @@
 //! The steps that decide a transaction, and the one that takes its row away (XA, section 2.3, Transaction Completion
 //! and Recovery).
 
-ghost use Rattle.std.specs.Prelude.{◌≡◌, ◌≢◌, Bool, Some, None, Err, IfErr, OnOk};
+ghost use Rattle.std.specs.Prelude.{◌≡◌, ◌≢◌, ◌&&◌, Bool, Option, Some, None, Err, IfErr, OnOk};
 ghost use Rattle.xa_base.specs.declared.step.Step.TheVariants as Steps;
 ghost use Rattle.xa_model.specs.Trace.{Fault.InDecide, Fault.InDone, Happening.Decided, Happening.Done};
 ghost use Rattle.xa_model.specs.Trace.{Happening.Failed};
 ghost use Rattle.xa_base.specs.declared.refusal.Refusal.TheVariants as Refusals;
 ghost use Rattle.xa_base.specs.declared.step.Outcome.TheVariants as Outcomes;
+ghost use Rattle.xa_log.specs.Content.{Content};
 ghost use Rattle.xa_tm.specs.Book.{Doubt.Adds, Doubt.Drops, after, book_after, voted_yes};
 ghost use Rattle.xa_tm.specs.Tied.{made};
 ghost use Rattle.xa_tm.specs.Held.{IsSound};
 ghost use Rattle.xa_tm.specs.Kept.{AddsRow, AsksFor, FailsBy, IsOpenIn, book_in, log_in};
+ghost use Rattle.xa_tm.specs.Outcomes.{is_commit};
 ghost use Rattle.xa_tm.specs.Refusing.{refusal_in};
 ghost use Rattle.xa_tm.specs.Tied.{IsTied};
 
@@ -20,14 +22,16 @@ use xa_base::{Gtrid, Outcome, Refusal};
 use xa_log::{DecisionLog, LogFault};
 
 impl<L: DecisionLog + Drop> Manager<L> {
-    /// Decides a transaction. A commit writes its row where some branch voted XA_OK.
+    /// Decides a transaction. A commit writes its row where some branch voted XA_OK. No other decision asks the log.
     pub fn decide(&mut self, g: Gtrid, outcome: Outcome) -> Result<(), Refusal>
         requires { IsSound (book_in self.old) }
+        // A rule that refuses changes nothing.
         ensures refused { (n : Refusal) →
             refusal_in (book_in self.old) (Steps.Decide g outcome) ≡ Some n →
             (result ≡ Err n) × (self.new ≡ self.old) }
         ensures allowed { OnOk result
             (refusal_in (book_in self.old) (Steps.Decide g outcome) ≡ None) }
+        // What the book then says.
         ensures ok { OnOk result (book_in self.new ≡ after (book_in self.old) (Decided g outcome)) }
         ensures err { refusal_in (book_in self.old) (Steps.Decide g outcome) ≡ None →
             IfErr result (FailsBy (Adds g (voted_yes (book_in self.old) g)) (InDecide g)
@@ -35,12 +39,15 @@ impl<L: DecisionLog + Drop> Manager<L> {
         ensures asked { refusal_in (book_in self.old) (Steps.Decide g outcome) ≡ None →
             result ≡ Err Refusals.LogFault →
             AddsRow outcome ((book_in self.old).deal g) }
+        // What becomes of the log.
         ensures tied { (near : Bool) → (L.moment (log_in self.old)).is_in_order →
             (L.moment (log_in self.new)).is_honest →
             IsTied near (book_in self.old) (L.moment (log_in self.old)).content →
             IsTied near (book_in self.new) (L.moment (log_in self.new)).content }
         ensures kept { IfErr result
             (λ n. n ≢ Refusals.LogFault → log_in self.new ≡ log_in self.old) }
+        ensures without_row { ¬ AddsRow outcome ((book_in self.old).deal g) →
+            log_in self.new ≡ log_in self.old }
         ensures asks { AsksFor (made (Adds g (voted_yes (book_in self.old) g)))
             (L.moment (log_in self.old)) (L.moment (log_in self.new)) result }
     {
@@ -53,9 +60,11 @@ impl<L: DecisionLog + Drop> Manager<L> {
     /// Commits a claimed transaction.
     pub fn settle(&mut self, g: Gtrid) -> Result<(), Refusal>
         requires { IsSound (book_in self.old) }
+        // A rule that refuses changes nothing.
         ensures refused { (n : Refusal) → refusal_in (book_in self.old) (Steps.Settle g) ≡ Some n →
             (result ≡ Err n) × (self.new ≡ self.old) }
         ensures allowed { OnOk result (refusal_in (book_in self.old) (Steps.Settle g) ≡ None) }
+        // What the book then says.
         ensures ok { OnOk result
             (book_in self.new ≡ after (book_in self.old) (Decided g Outcomes.Commit)) }
         ensures err { refusal_in (book_in self.old) (Steps.Settle g) ≡ None →
@@ -64,6 +73,7 @@ impl<L: DecisionLog + Drop> Manager<L> {
         ensures asked { refusal_in (book_in self.old) (Steps.Settle g) ≡ None →
             result ≡ Err Refusals.LogFault →
             AddsRow Outcomes.Commit ((book_in self.old).deal g) }
+        // What becomes of the log.
         ensures tied { (near : Bool) → (L.moment (log_in self.old)).is_in_order →
             (L.moment (log_in self.new)).is_honest →
             IsTied near (book_in self.old) (L.moment (log_in self.old)).content →
@@ -79,45 +89,38 @@ impl<L: DecisionLog + Drop> Manager<L> {
         }
     }
 
-    /// Rolls a claimed transaction back.
+    /// Rolls a claimed transaction back. The log is not asked.
     pub fn abandon(&mut self, g: Gtrid) -> Result<(), Refusal>
-        requires { IsSound (book_in self.old) }
         ensures refused { (n : Refusal) → refusal_in (book_in self.old) (Steps.Abandon g) ≡ Some n →
             (result ≡ Err n) × (self.new ≡ self.old) }
         ensures allowed { OnOk result (refusal_in (book_in self.old) (Steps.Abandon g) ≡ None) }
         ensures ok { OnOk result
             (book_in self.new ≡ after (book_in self.old) (Decided g Outcomes.Rollback)) }
         ensures err { refusal_in (book_in self.old) (Steps.Abandon g) ≡ None →
-            IfErr result (FailsBy (Adds g (voted_yes (book_in self.old) g)) (InDecide g)
-            (book_in self.old) (book_in self.new)) }
-        ensures asked { refusal_in (book_in self.old) (Steps.Abandon g) ≡ None →
-            result ≡ Err Refusals.LogFault →
-            AddsRow Outcomes.Rollback ((book_in self.old).deal g) }
-        ensures tied { (near : Bool) → (L.moment (log_in self.old)).is_in_order →
-            (L.moment (log_in self.new)).is_honest →
-            IsTied near (book_in self.old) (L.moment (log_in self.old)).content →
-            IsTied near (book_in self.new) (L.moment (log_in self.new)).content }
-        ensures kept { IfErr result
-            (λ n. n ≢ Refusals.LogFault → log_in self.new ≡ log_in self.old) }
-        ensures asks { AsksFor (made (Adds g (voted_yes (book_in self.old) g)))
-            (L.moment (log_in self.old)) (L.moment (log_in self.new)) result }
+            IfErr result (λ n. (n ≡ Refusals.Memory) × (book_in self.new ≡ book_in self.old)) }
+        ensures log { log_in self.new ≡ log_in self.old }
+        ensures tied { (near : Bool) (log : Option Content) →
+            IsTied near (book_in self.old) log → IsTied near (book_in self.new) log }
     {
         match self.ledger.may_settle(g) {
             Some(refusal) => Err(refusal),
-            None => self.conclude(g, Outcome::Rollback),
+            None => self.decide_without_row(g, Outcome::Rollback),
         }
     }
 
     /// Takes the row of a transaction away that waits for nothing more.
     pub fn done(&mut self, g: Gtrid) -> Result<(), Refusal>
         requires { IsSound (book_in self.old) }
+        // A rule that refuses changes nothing.
         ensures refused { (n : Refusal) → refusal_in (book_in self.old) (Steps.Done g) ≡ Some n →
             (result ≡ Err n) × (self.new ≡ self.old) }
         ensures allowed { OnOk result (refusal_in (book_in self.old) (Steps.Done g) ≡ None) }
+        // What the book then says.
         ensures ok { OnOk result (book_in self.new ≡ after (book_in self.old) (Done g)) }
         ensures err { refusal_in (book_in self.old) (Steps.Done g) ≡ None →
             IfErr result (λ n. (n ≡ Refusals.LogFault) ×
             (book_in self.new ≡ book_after (book_in self.old) (Drops g) (Failed (InDone g)))) }
+        // What becomes of the log.
         ensures tied { (near : Bool) → (L.moment (log_in self.old)).is_in_order →
             (L.moment (log_in self.new)).is_honest →
             IsTied near (book_in self.old) (L.moment (log_in self.old)).content →
@@ -146,28 +149,47 @@ impl<L: DecisionLog + Drop> Manager<L> {
     fn conclude(&mut self, g: Gtrid, outcome: Outcome) -> Result<(), Refusal>
         requires sound { IsSound (book_in self.old) }
         requires open { IsOpenIn (book_in self.old) g }
+        // What the book then says.
         ensures ok { OnOk result (book_in self.new ≡ after (book_in self.old) (Decided g outcome)) }
         ensures err { IfErr result
             (FailsBy (Adds g (voted_yes (book_in self.old) g)) (InDecide g) (book_in self.old)
             (book_in self.new)) }
         ensures asked { result ≡ Err Refusals.LogFault →
             AddsRow outcome ((book_in self.old).deal g) }
+        // What becomes of the log.
         ensures tied { (near : Bool) → (L.moment (log_in self.old)).is_in_order →
             (L.moment (log_in self.new)).is_honest →
             IsTied near (book_in self.old) (L.moment (log_in self.old)).content →
             IsTied near (book_in self.new) (L.moment (log_in self.new)).content }
         ensures kept { IfErr result
             (λ n. n ≢ Refusals.LogFault → log_in self.new ≡ log_in self.old) }
+        ensures without_row { ¬ AddsRow outcome ((book_in self.old).deal g) →
+            log_in self.new ≡ log_in self.old }
         ensures asks { AsksFor (made (Adds g (voted_yes (book_in self.old) g)))
             (L.moment (log_in self.old)) (L.moment (log_in self.new)) result }
     {
         if self.ledger.transaction(g).adds_row(outcome) {
             self.commit(g)
         } else {
-            match self.ledger.decide(g, outcome) {
-                Ok(()) => Ok(()),
-                Err(_) => Err(Refusal::Memory),
-            }
+            self.decide_without_row(g, outcome)
+        }
+    }
+
+    /// Decides a transaction of which no row is written.
+    fn decide_without_row(&mut self, g: Gtrid, outcome: Outcome) -> Result<(), Refusal>
+        requires open { IsOpenIn (book_in self.old) g }
+        requires no_row { (is_commit (Some outcome)
+            && ((book_in self.old).deal g).has_yes) ≡ Bool.false }
+        ensures ok { OnOk result (book_in self.new ≡ after (book_in self.old) (Decided g outcome)) }
+        ensures err { IfErr result
+            (λ n. (n ≡ Refusals.Memory) × (book_in self.new ≡ book_in self.old)) }
+        ensures log { log_in self.new ≡ log_in self.old }
+        ensures tied { (near : Bool) (log : Option Content) →
+            IsTied near (book_in self.old) log → IsTied near (book_in self.new) log }
+    {
+        match self.ledger.decide(g, outcome) {
+            Ok(()) => Ok(()),
+            Err(_) => Err(Refusal::Memory),
         }
     }
 
@@ -178,11 +200,13 @@ impl<L: DecisionLog + Drop> Manager<L> {
         requires sound { IsSound (book_in self.old) }
         requires open { IsOpenIn (book_in self.old) g }
         requires yes { ((book_in self.old).deal g).has_yes ≡ Bool.true }
+        // What the book then says.
         ensures ok { OnOk result
             (book_in self.new ≡ after (book_in self.old) (Decided g Outcomes.Commit)) }
         ensures err { IfErr result
             (FailsBy (Adds g (voted_yes (book_in self.old) g)) (InDecide g) (book_in self.old)
             (book_in self.new)) }
+        // What becomes of the log.
         ensures tied { (near : Bool) → (L.moment (log_in self.old)).is_in_order →
             (L.moment (log_in self.new)).is_honest →
             IsTied near (book_in self.old) (L.moment (log_in self.old)).content →

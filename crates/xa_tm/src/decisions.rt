@@ -74,6 +74,7 @@ impl Ledger {
         ensures { held self.new ≡ after (held self.old) (Done g) }
     {
         set_row(&mut self.rows, g, None);
+        // The row is counted, so that this is one less.
         self.row_count = self.row_count.saturating_sub(1);
     }
 

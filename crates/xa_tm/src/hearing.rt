@@ -39,9 +39,11 @@ impl<L: DecisionLog + Drop> Manager<L> {
         requires sound { IsSound (book_in self.old) }
         requires answers { IsAnswerTo (map_call name_of call.now) (map_answer name_of answer.now) }
         requires fits { FitsRecord (map_call name_of call.now) (map_answer name_of answer.now) }
+        // It hears only while it is up.
         ensures down { (book_in self.old).up ≡ Bool.false → (result ≡ Err Refusals.ManagerDown) ×
             (self.new ≡ self.old) }
         ensures up { OnOk result ((book_in self.old).up ≡ Bool.true) }
+        // What the book then says.
         ensures ok { OnOk result ((c : KnownCall) → accepted (map_call name_of call.now) ≡ Some c →
             book_in self.new ≡ after (book_in self.old)
             (Heard (line thread rm) c (map_answer name_of answer.now))) }
@@ -51,6 +53,7 @@ impl<L: DecisionLog + Drop> Manager<L> {
             (InHear (line thread rm)) (book_in self.old) (book_in self.new) n) }
         ensures asked { result ≡ Err Refusals.LogFault →
             MakesRecord (map_call name_of call.now) (map_answer name_of answer.now) }
+        // What becomes of the log.
         ensures tied { (near : Bool) → (L.moment (log_in self.old)).is_in_order →
             (L.moment (log_in self.new)).is_honest →
             IsTied near (book_in self.old) (L.moment (log_in self.old)).content →
@@ -60,6 +63,7 @@ impl<L: DecisionLog + Drop> Manager<L> {
         ensures asks { (c : KnownCall) → accepted (map_call name_of call.now) ≡ Some c →
             AsksFor (made (doubt_of (record_of c (map_answer name_of answer.now))))
             (L.moment (log_in self.old)) (L.moment (log_in self.new)) result }
+        // Of the log after any call, also one that no history knows.
         ensures order { (L.moment (log_in self.old)).is_in_order →
             (L.moment (log_in self.new)).is_in_order }
         ensures honest { (L.moment (log_in self.new)).is_honest →
@@ -87,6 +91,7 @@ impl<L: DecisionLog + Drop> Manager<L> {
         requires sound { IsSound (book_in self.old) }
         requires up { (book_in self.old).up ≡ Bool.true }
         requires fits { IsSome news.how → FitsRow b.gtrid }
+        // What the book then says.
         ensures ok { OnOk result
             ((l : Line) (kind : Kind) (code : Code) → news ≡ news_by kind code →
             book_in self.new ≡ after (book_in self.old) (Heard l (on kind b) (Ret code))) }
@@ -95,6 +100,7 @@ impl<L: DecisionLog + Drop> Manager<L> {
             FailsBy (doubt_of (record_of (on kind b) (Ret code))) (InHear l) (book_in self.old)
             (book_in self.new) n) }
         ensures asked { result ≡ Err Refusals.LogFault → IsSome news.how }
+        // What becomes of the log.
         ensures tied { (near : Bool) → (L.moment (log_in self.old)).is_in_order →
             (L.moment (log_in self.new)).is_honest → (l : Line) (kind : Kind) (code : Code) →
             news ≡ news_by kind code →
@@ -124,6 +130,7 @@ impl<L: DecisionLog + Drop> Manager<L> {
 /// Records in the log how a branch ended by itself, where it did.
 fn note_end<L: DecisionLog>(log: &mut L, b: Branch, how: Option<How>) -> Result<(), LogFault>
     requires { IsSome how → FitsRow b.gtrid }
+    // The record is made where there is one to make.
     ensures ok { (L.moment log.old).is_in_order → (L.moment log.new).is_honest →
         OnOk result (MakesOf (recording b how) (L.moment log.old).content
         (L.moment log.new).content) }
@@ -131,6 +138,7 @@ fn note_end<L: DecisionLog>(log: &mut L, b: Branch, how: Option<How>) -> Result<
         OnErr result (MayMake (made (recording b how)) (L.moment log.old).content
         (L.moment log.new).content) }
     ensures asked { OnErr result (IsSome how) }
+    // What becomes of the log.
     ensures crash { (L.moment log.old).is_in_order → (L.moment log.new).is_honest →
         LeavesAlso (made (recording b how)) (L.moment log.old).content (L.moment log.old).may_leave
         (L.moment log.new).may_leave }

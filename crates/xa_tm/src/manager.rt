@@ -41,14 +41,17 @@ impl<L: DecisionLog + Drop> Manager<L> {
     /// Begins a transaction of a thread.
     pub fn begin(&mut self, thread: u32) -> Result<Gtrid, Refusal>
         requires { IsSound (book_in self.old) }
+        // A rule that refuses changes nothing.
         ensures refused { (n : Refusal) →
             refusal_in (book_in self.old) (Steps.Begin thread) ≡ Some n →
             (result ≡ Err n) × (self.new ≡ self.old) }
         ensures allowed { OnOk result (refusal_in (book_in self.old) (Steps.Begin thread) ≡ None) }
+        // The transaction that is begun.
         ensures value { IfOk result (λ g. g ≡ record {
           incarnation = (book_in self.old).incarnation;
           sequence = (book_in self.old).sequence + 1;
         }) }
+        // What the book then says.
         ensures ok { IfOk result (λ g. book_in self.new ≡ after (book_in self.old) (Begun g)) }
         ensures err { refusal_in (book_in self.old) (Steps.Begin thread) ≡ None →
             IfErr result (λ n. (n ≡ Refusals.Memory) × (book_in self.new ≡ book_in self.old)) }

@@ -9,7 +9,7 @@ use crate::news::News;
 use xa_base::{How, Outcome};
 
 /// What is noted of a transaction.
-#[derive(Clone, Copy, Debug, PartialEq, Eq)]
+#[derive(Clone, Copy, PartialEq, Eq)]
 pub(crate) struct Transaction {
     /// How it was decided.
     pub outcome: Option<Outcome>,

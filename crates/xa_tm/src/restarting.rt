@@ -117,6 +117,7 @@ impl Ledger {
         requires restarts { self.old.failed_restarts < 2 ^ 64 - 1 }
         requires rows { self.old.row_count < 2 ^ 64 - 1 }
         requires records { self.old.records < 2 ^ 64 - 1 }
+        // Whether it comes up, and what the book then says.
         ensures value { result ≡ may_find (held self.old) incarnation rows records }
         ensures up { result ≡ Bool.true →
             held self.new ≡ after (held self.old) (Restarted incarnation rows records) }
@@ -204,7 +205,7 @@ impl Ledger {
             ≡ record (notes_at self.old.branches q) { is_acknowledged_lately = Bool.false } }
         ensures known { known_in self.new.branches ≡ known_in self.old.branches }
     {
-        // Keeps each entry, as above.
+        // Keeps each entry: `values_mut` has no contract on what is written.
         self.branches.retain(|_, notes| {
             notes.is_acknowledged_lately = false;
             true

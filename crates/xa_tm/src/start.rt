@@ -28,7 +28,7 @@ pub enum StartFault {
     /// may have been raised.
     #[error("the decision log failed, or has a row of no earlier incarnation")]
     Log,
-    /// A request for memory was refused. The log is as it was.
+    /// A request for memory was refused, but for one within the log, which is its failure. The log is as it was.
     #[error("out of memory")]
     Memory,
 }
@@ -36,8 +36,10 @@ pub enum StartFault {
 impl<L: DecisionLog + Drop> Manager<L> {
     /// A manager over a log, up in the next incarnation, that knows the log's rows and records and nothing else.
     ///
-    /// The rows are read, and all room for them is made, before the incarnation is raised.
+    /// The rows are read first, then all room for them is made, and only then the incarnation is raised: where memory is
+    /// refused for that room, the log has only been read.
     pub fn new(alloc: Global, threads: u32, rms: u32, mut log: L) -> Result<Manager<L>, StartFault>
+        // The book is that of the log, whose incarnation is raised.
         ensures book { (L.moment log).is_in_order →
             IfOk result (λ m. (L.moment (log_in m)).is_honest →
             IsSomeAnd (L.moment (log_in m)).content
@@ -48,18 +50,21 @@ impl<L: DecisionLog + Drop> Manager<L> {
         ensures tied { (near : Bool) → (L.moment log).is_in_order →
             IfOk result (λ m. (L.moment (log_in m)).is_honest →
             IsTied near (book_in m) (L.moment (log_in m)).content) }
+        // The book allows each call, and is that of a history.
         ensures sound { IfOk result (λ m. IsSound (book_in m)) }
         ensures old { IfOk result (λ m. IsOld (book_in m)) }
         ensures start { IfOk result
             (λ m. (o : Origin) → BeginsWith threads rms m o → book_in m ≡ book_of (From o)) }
         ensures apart { IfOk result (λ m. ApartRows (rows_begun m)) }
         ensures room { IfOk result (λ m. HasRoomForRun (book_in m)) }
+        // What becomes of the log.
         ensures order { (L.moment log).is_in_order →
             IfOk result (λ m. (L.moment (log_in m)).is_in_order) }
         ensures honest { IfOk result (λ m. (L.moment (log_in m)).is_honest →
             (L.moment log).is_honest) }
         ensures faults { IfOk result (λ m. (L.moment (log_in m)).fault_count ≡
             (L.moment log).fault_count) }
+        // Which logs are refused, and what is left of them.
         ensures past { (L.moment log).is_in_order →
             IfOk result (λ m. (L.moment (log_in m)).is_honest →
             IsSomeAnd (L.moment log).content IsPast) }

@@ -6,7 +6,8 @@ ghost use Rattle.xa_log.specs.Contract.{Makes, one_more_fault};
 ghost use Rattle.xa_tm.specs.Begins.{records_begun, rows_begun};
 ghost use Rattle.xa_tm.specs.Held.{held};
 ghost use Rattle.xa_tm.specs.Kept.{book_in, log_in};
-ghost use Rattle.xa_tm.specs.Slots.{LooksAt, TakesIn, last_out, log_held, slot_moment};
+ghost use Rattle.xa_log.specs.declared.log_fault.LogFault.{LogFault};
+ghost use Rattle.xa_tm.specs.Slots.{FailsToRead, LooksAt, ReadsRows, TakesIn, last_out, log_held, slot_moment};
 ghost use Rattle.xa_tm.specs.Tied.{MayHold};
 
 use crate::ledger::Ledger;
@@ -56,14 +57,25 @@ impl<L: DecisionLog + Drop> Manager<Slot<L>> {
     /// - [`SwapFault::Log`]: the log failed for another cause;
     /// - [`SwapFault::OtherRows`]: its rows and records are others.
     pub fn give_log(&mut self, mut log: L) -> Result<(), (SwapFault, L)>
+        // Where no log can be put in, the one handed in isn't looked at.
         ensures up { (book_in self.old).up ≡ Bool.true → (result ≡ Err (SwapFault.Up, log)) ×
             (self.new ≡ self.old) }
         ensures held { IsSome (log_held (log_in self.old)) → (result ≡ Err (SwapFault.Up, log)) ×
             (self.new ≡ self.old) }
         ensures only_up { IfErr result (λ e. e.0 ≡ SwapFault.Up →
             ((book_in self.old).up ≡ Bool.true) ⊎ IsSome (log_held (log_in self.old))) }
+        // A fault changes nothing but the log that comes back.
         ensures err { OnErr result (self.new ≡ self.old) }
         ensures back { IfErr result (λ e. LooksAt (L.moment log) (L.moment e.1)) }
+        // Which fault it is.
+        ensures memory_fault { IfErr result (λ e. e.0 ≡ SwapFault.Memory →
+            ReadsRows L.DecisionLog log e.1 ⊎
+            FailsToRead L.DecisionLog log e.1 LogFault.Memory) }
+        ensures log_cause { IfErr result (λ e. e.0 ≡ SwapFault.Log →
+            ((cause : LogFault) × (cause ≢ LogFault.Memory) ×
+            FailsToRead L.DecisionLog log e.1 cause)) }
+        ensures rows_read { IfErr result (λ e. e.0 ≡ SwapFault.OtherRows →
+            ReadsRows L.DecisionLog log e.1) }
         ensures log_fault { IfErr result (λ e. e.0 ≡ SwapFault.Log →
             (L.moment e.1).fault_count ≡ one_more_fault (L.moment log).fault_count) }
         ensures other_rows { IfErr result (λ e. e.0 ≡ SwapFault.OtherRows →
@@ -72,6 +84,7 @@ impl<L: DecisionLog + Drop> Manager<Slot<L>> {
             (λ e. e.0 ≡ SwapFault.OtherRows → (L.moment log).is_in_order →
             (L.moment e.1).is_honest → (c : Content) → (L.moment log).content ≡ Some c →
             MayHold (book_in self.old) c → ⊥) }
+        // The log is in.
         ensures ok { OnOk result (TakesIn L.DecisionLog log (log_held (log_in self.new))) }
         ensures may_hold { OnOk result ((L.moment log).is_in_order →
             (slot_moment L.moment (log_in self.new)).is_honest →
@@ -92,14 +105,25 @@ impl<L: DecisionLog + Drop> Manager<Slot<L>> {
     }
 }
 
-/// Why a log whose rows are read isn't one that the book tells of, if it isn't.
+/// The fault of a log that can't be put in, by its rows; none if it can.
 fn swap_fault<L: DecisionLog>(ledger: &Ledger, log: &mut L) -> Option<SwapFault>
+    // Without a fault the book may hold what was read.
     ensures none { result ≡ None → (L.moment log.old).is_in_order → (L.moment log.new).is_honest →
         IsSomeAnd (L.moment log.new).content (MayHold (held ledger.now)) }
     ensures same { result ≡ None → (L.moment log.old).is_in_order → (L.moment log.new).is_honest →
         Makes unchanged (L.moment log.old).content (L.moment log.new).content }
+    // The log is only read.
     ensures looks { LooksAt (L.moment log.old) (L.moment log.new) }
     ensures not_up { result ≢ Some SwapFault.Up }
+    // Which fault it is.
+    ensures memory_fault { result ≡ Some SwapFault.Memory →
+        ReadsRows L.DecisionLog log.old log.new ⊎
+        FailsToRead L.DecisionLog log.old log.new LogFault.Memory }
+    ensures log_cause { result ≡ Some SwapFault.Log →
+        ((cause : LogFault) × (cause ≢ LogFault.Memory) ×
+        FailsToRead L.DecisionLog log.old log.new cause) }
+    ensures rows_read { result ≡ Some SwapFault.OtherRows →
+        ReadsRows L.DecisionLog log.old log.new }
     ensures log_fault { result ≡ Some SwapFault.Log →
         (L.moment log.new).fault_count ≡ one_more_fault (L.moment log.old).fault_count }
     ensures other_rows { result ≡ Some SwapFault.OtherRows →

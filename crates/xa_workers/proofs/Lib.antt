@@ -8,6 +8,7 @@ pub mod Ranges
 pub mod RowLaws
 pub mod Seating
 pub mod Settled
+pub mod Sweeping
 pub mod Tabled
 pub mod Tied
 pub mod Turning

@@ -4,6 +4,7 @@ use Rattle.std.specs.Prelude.{IsSomeAnd, List, Option, Some, None, slice_get, sl
 use Rattle.std.specs.FinMap.{get}
 use Rattle.std.specs.List.{list_any}
 use Rattle.xa_base.specs.Branch.{branch_cmp}
+use Rattle.xa_base.specs.declared.branch.Branch.{Branch}
 use Rattle.xa_base.specs.declared.branch.Gtrid.{Gtrid}
 use Rattle.xa_base.specs.declared.step.Outcome.{Outcome}
 use Rattle.xa_base.specs.declared.step.Outcome.TheVariants.{Commit}
@@ -25,11 +26,11 @@ is_committed _ = false
 abbrev pub job_has_row : Jobs → List Outcome → (i : ℕ) → Bool
 job_has_row jobs ends i = is_committed (slice_get ends i) && list_any is_yes (votes_of jobs i)
 
--- the participants_of_job of job i: its branches that vote yes
+-- the participants of job i: its branches that vote yes
 abbrev pub participants_of_job : Jobs → (incarnation i : ℕ) → KeySet branch_cmp
 participants_of_job jobs incarnation i = from_list (yes_branches jobs incarnation i)
 
--- the row of each job that has one, as its participants_of_job
+-- the row of each job that has one: its participants
 abbrev pub rows_of_jobs : Jobs → (incarnation : ℕ) → List Outcome → (i : ℕ) → Option (KeySet branch_cmp)
 rows_of_jobs jobs incarnation ends i = if job_has_row jobs ends i then Some (participants_of_job jobs incarnation i) else None
 
@@ -39,11 +40,12 @@ written_rows participants_of_job written i = if slice_index_or written i false t
 
 -- ** what they make of a log
 
--- no row is of this incarnation or a later one
-abbrev pub IsFresh : (incarnation : ℕ) → Content → Type 0
-IsFresh incarnation c = (g : Gtrid) → incarnation ≤ g.incarnation → get c.decisions g ≡ None
+-- no row and no record is of this incarnation or a later one
+pub record IsFresh (incarnation : ℕ) (c : Content) : Type 0 where
+  pub rows : (g : Gtrid) → incarnation ≤ g.incarnation → get c.decisions g ≡ None
+  pub records : (b : Branch) → incarnation ≤ b.gtrid.incarnation → get c.heuristics b ≡ None
 
--- the log has these rows of jobs, and besides just what it came with, where no row was of this incarnation
+-- the log has these rows of jobs, and besides just what it came with, where no row and no record was of this incarnation
 pub record HasRows (incarnation : ℕ) (rows : ℕ → Option (KeySet branch_cmp)) (before after : Content) : Type 0 where
   pub fresh : IsFresh incarnation before
   pub jobs : (i : ℕ) → get after.decisions (gtrid_of incarnation i) ≡ rows i

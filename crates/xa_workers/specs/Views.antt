@@ -1,5 +1,5 @@
 -- What a seat has seen of the board, and which slots it holds.
-use Rattle.std.specs.Prelude.{◌≡◌, ◌⊎◌, ℕ, ◌<◌, ◌≤◌, ◌==◌, List, [], ◌∷◌, ◌++◌, not}
+use Rattle.std.specs.Prelude.{◌≡◌, ◌≢◌, ◌⊎◌, ℕ, ◌<◌, ◌≤◌, ◌==◌, List, [], ◌∷◌, ◌++◌, not}
 use Rattle.std.specs.List.{AllPairs, Contains, filter}
 use Rattle.atomic_table.specs.Seated.{TableId}
 use Rattle.xa_workers.specs.declared.word.Word.{Word}
@@ -59,6 +59,10 @@ Saw v slot w = (found : Word) × Contains v.entries (entry slot found w)
 -- a step of this seat left the slot decided so
 abbrev pub SawDecided : View → ℕ → Word → Type 0
 SawDecided v slot w = Saw v slot w × IsDecided w
+
+-- a step of this seat left the slot claimed or decided
+abbrev pub SawTaken : View → ℕ → Type 0
+SawTaken v slot = (w : Word) × Saw v slot w × (w ≢ Open)
 
 -- two seats that saw a slot decided saw it decided alike
 abbrev pub Agree : View → View → Type 0

@@ -1,5 +1,5 @@
 //! The jobs of a run: which branches each has, and how these vote.
-ghost use Rattle.std.specs.Prelude.{◌≡◌, ◌+◌, ◌%◌, ◌<◌, ◌≤◌, ◌^◌, All, IfOk, IsTrue, true, vec_len};
+ghost use Rattle.std.specs.Prelude.{◌≡◌, ◌↔◌, ◌+◌, ◌%◌, ◌<◌, ◌≤◌, ◌^◌, All, IfOk, IsTrue, true, vec_len};
 ghost use Rattle.std.specs.List.{list_any};
 ghost use Rattle.xa_workers.specs.Jobs.{IsRunnable, branch_of, gtrid_of, is_branch_of, is_no, is_xid_of, is_yes, vote_at};
 ghost use Rattle.xa_workers.specs.Jobs.{votes_of, yes_branch, yes_branches};
@@ -68,7 +68,7 @@ impl Jobs {
     /// Whether the jobs can be run: there are 1 to 8 threads, 1 to 8 resource managers and at most 1,000 jobs, and each
     /// job has a vote or none for each resource manager.
     pub fn is_runnable(&self) -> bool
-        ensures { IsTrue result → IsRunnable self.now }
+        ensures { IsTrue result ↔ IsRunnable self.now }
     {
         (1..=8).contains(&self.threads)
             && (1..=8).contains(&self.rms)
@@ -78,7 +78,7 @@ impl Jobs {
 
     /// Whether each job has a vote or none for each resource manager.
     fn have_rows(&self) -> bool
-        ensures { result ≡ true → All (λ votes. vec_len votes ≡ self.now.rms) self.now.votes.items }
+        ensures { IsTrue result ↔ All (λ votes. vec_len votes ≡ self.now.rms) self.now.votes.items }
     {
         self.votes
             .iter()

@@ -1,8 +1,9 @@
 //! Runs of jobs.
-ghost use Rattle.std.specs.Prelude.{◌≡◌, ◌≤◌, ◌<◌, ℕ, IfOk, false, vec_len};
+ghost use Rattle.std.specs.Prelude.{◌≡◌, ◌≤◌, ◌<◌, IfOk, false, vec_len};
 ghost use Rattle.xa_log.specs.Content.{last_number};
 ghost use Rattle.xa_workers.specs.Fates.{AreInOrder, HaveFates, fates_of};
 ghost use Rattle.xa_workers.specs.Jobs.{AreEndsOf, IsRunnable, ends_of, is_xid_of};
+ghost use Rattle.xa_workers.specs.Outcomes.{IsOutcomeOf};
 ghost use Rattle.xa_workers.specs.Rows.{HasRowsOf, Logs, no_rows, rows_of_jobs};
 ghost use Rattle.xa_workers.specs.Tied.{ArePaired};
 
@@ -90,20 +91,14 @@ fn run_crew<
         halt_of(&swept),
         halt_of(&served),
     ]);
-    if started.is_err() || logged.is_err() || swept.is_err() {
-        return Err(fault);
+    match (started, logged, controlled, swept, served) {
+        (Ok(()), Ok(()), Ok(controlled), Ok(_), Ok(served)) => Ok(Work {
+            controlled,
+            served,
+            journal,
+        }),
+        _ => Err(fault),
     }
-    let Ok(controlled) = controlled else {
-        return Err(fault);
-    };
-    let Ok(served) = served else {
-        return Err(fault);
-    };
-    Ok(Work {
-        controlled,
-        served,
-        journal,
-    })
 }
 
 /// Runs all workers, and returns once all have ended.
@@ -160,10 +155,14 @@ fn run_named<
     requires some { 0 < jobs.now.threads }
     requires some_rms { 0 < jobs.now.rms }
     requires fits { begun.incarnation ≤ last_number }
+
+    // What the run's type knows.
     requires own { J.is_own ≡ is_xid_of jobs.now begun.incarnation }
     requires takers { takers.items ≡ J.takers }
     requires paired { ArePaired issuers.items J.takers }
     requires begun { Logs L.DecisionLog begun.incarnation no_rows begun.first.value begun.log }
+
+    // What the jobs came to, in the incarnation that the log gave.
     ensures ends { IfOk result (λ o. AreEndsOf jobs.now o.ends.items) }
     ensures fates { IfOk result (λ o. o.fates.items
         ≡ fates_of jobs.now begun.incarnation o.ends.items) }
@@ -218,9 +217,9 @@ fn run_named<
 /// the rows that it came with and one for each committed job with a yes, with these branches as its participants;
 /// `order`, that the fates are listed in the order of the identifiers. After a fault nothing is said of the log.
 ///
-/// - [`WorkFault::Memory`]: a request for memory, or for a thread, was refused.
-/// - [`WorkFault::Log`]: the log failed, has no incarnation left, or holds a row of the incarnation that it gave, or of a
-///   later one.
+/// - [`WorkFault::Memory`]: a request for memory outside of the log, or for a thread, was refused.
+/// - [`WorkFault::Log`]: the log failed, for want of memory too, or no system starts over it: it has no incarnation left, or
+///   holds a row or a record of the incarnation that it gave, or of a later one.
 /// - [`WorkFault::Stuck`]: a gate answered no to one worker 1,000,000 times in a row.
 /// - [`WorkFault::Mixed`]: what the workers gave back doesn't agree.
 ///
@@ -236,10 +235,7 @@ pub fn run_jobs<R: Threads + Wait + Clock + Sync, L: DecisionLog + Drop, G: Gate
     ensures ends { IfOk result (λ o. AreEndsOf jobs.now o.ends.items) }
     ensures plain { jobs.now.sweep ≡ false → IfOk result (λ o. o.ends.items ≡ ends_of jobs.now) }
     ensures order { IfOk result (λ o. AreInOrder o.fates.items) }
-    ensures outcome { IfOk result (λ o. (incarnation : ℕ) ×
-        (o.fates.items ≡ fates_of jobs.now incarnation o.ends.items) ×
-        HaveFates jobs.now incarnation o.rms.items o.fates.items ×
-        Logs L.DecisionLog incarnation (rows_of_jobs jobs.now incarnation o.ends.items) log o.log) }
+    ensures outcome { IfOk result (IsOutcomeOf L.DecisionLog jobs.now log) }
 {
     let begun = begin(log)?;
     let (issuers, takers) = new_ends(alloc, jobs)?;

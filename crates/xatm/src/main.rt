@@ -19,6 +19,7 @@ use std::{env, fs, io};
 use xa_files::RunFault;
 use xa_jobs::run_job_file;
 use xa_listing::list_log;
+use xa_log::LogFault;
 use xa_scenario::{check_scenario, run_scenario};
 use xa_sql_log::SqlLog;
 
@@ -92,7 +93,12 @@ fn run<W: Write>(
 ) -> Result<(), Failure> {
     let alloc = rt.alloc();
     match log {
-        Some(path) => run_scenario(alloc, text, SqlLog::open(rt, path)?, with_trace, out)?,
+        Some(path) => {
+            let ran = run_scenario(alloc, text, SqlLog::open(rt, path)?, with_trace, out);
+            let gathered = gather(rt, path);
+            ran?;
+            gathered?;
+        }
         None => run_scenario(alloc, text, SqlLog::open_in_memory(alloc)?, with_trace, out)?,
     }
     Ok(())
@@ -109,20 +115,28 @@ fn run_threads<T: Threads + Wait + Clock + Sync, W: Write>(
 ) -> Result<(), Failure> {
     let alloc = rt.alloc();
     match log {
-        Some(path) => run_job_file(threads, alloc, text, SqlLog::open(rt, path)?, out)?,
+        Some(path) => {
+            let ran = run_job_file(threads, alloc, text, SqlLog::open(rt, path)?, out);
+            let gathered = gather(rt, path);
+            ran?;
+            gathered?;
+        }
         None => run_job_file(threads, alloc, text, SqlLog::open_in_memory(alloc)?, out)?,
     }
     Ok(())
 }
 
-/// Lists the log at a path. Where there is no file it fails: who looks at a log makes none.
+/// Lists the log at a path. Where there is none it fails: who looks at a log makes none.
 fn list<W: Write>(rt: &HostRuntime, path: &str, out: &mut W) -> Result<(), Failure> {
-    let is_there = fs::exists(rt, path).map_err(|error| Failure::Run(RunFault::Log).caused_by(
-        &error,
-    ))?;
-    if !is_there {
-        return Err(Failure::Run(RunFault::Log));
-    }
-    list_log(&mut SqlLog::open(rt, path)?, out)?;
+    let mut log = SqlLog::look(rt, path)?;
+    let listed = list_log(&mut log, out);
+    let closed = log.close();
+    listed?;
+    closed?;
     Ok(())
+}
+
+/// Copies the journal of the log at a path into its file, once a run has ended.
+fn gather(rt: &HostRuntime, path: &str) -> Result<(), LogFault> {
+    SqlLog::look(rt, path)?.close()
 }

@@ -1,20 +1,21 @@
 -- Branches end alike and as the log says, and heuristic ends are held.
-use Rattle.std.proofs.Common.{◌≡◌, List, [], ◌++◌, length, Bool, true, false, refl, sym, ap, ◌∙◌, subst, ◌⊎◌}
+use Rattle.std.proofs.Common.{◌≡◌, List, [], ◌++◌, length, Bool, true, false, refl, sym, ap, ◌∙◌, subst, arith, ◌⊎◌}
 use Rattle.std.specs.Prelude.{if◌then◌else◌, Some, slice_get}
+use Rattle.std.proofs.lemmas.Bool.{false_from_ne_true}
 use mathlib.Core.Logic.{◌⊎◌.inl, ◌⊎◌.inr}
-use Rattle.xa_model.specs.Trace.{Branch, Line, Happening, Happening.Issued, Happening.Resolved, Happening.ResolvedOpen, Happening.Took, Happening.Crashed, Happening.Failed, Happening.Restarted, Trace, Trace.From, Trace.Then}
+use Rattle.xa_model.specs.Trace.{Gtrid, Branch, Line, Happening, Happening.Issued, Happening.Resolved, Happening.ResolvedOpen, Happening.Took, Happening.Crashed, Happening.Failed, Happening.Restarted, Trace, Trace.From, Trace.Then}
 use Rattle.xa_base.specs.declared.step.Part.TheVariants as Part
 use Rattle.xa_base.specs.StateTable.{state_of}
 use Rattle.xa_base.specs.declared.state.Standing.{Standing}
 use Rattle.xa_base.specs.declared.state.Standing.TheVariants.{Prepared, Committed}
-use Rattle.xa_model.specs.Facts.{up, handed_over, started, has_row, had_row, ever, breaks, new_taken, new_calls, taken, issued, standing}
-use Rattle.xa_model.specs.Protocol.{Right, AllRight}
-use Rattle.xa_model.proofs.Invariant.{IsAtRest, IsGood, HasBegun, Inv}
+use Rattle.xa_model.specs.Facts.{up, handed_over, started, has_row, had_row, ever, recorded_as, breaks, new_taken, new_calls, taken, issued, standing}
+use Rattle.xa_model.specs.Promises.Processes.{OwnAreAlike}
+use Rattle.xa_model.specs.Protocol.{Right, AllRight, IsRun}
+use Rattle.xa_model.proofs.Invariant.{IsAtRest, IsGood, IsOlder, HasBegun, Inv}
 use Rattle.xa_model.proofs.Invariant.Moves.{Move, Move.Commits as Commits_now}
-use Rattle.xa_model.proofs.Invariant.Grows.{false_unless}
 use Rattle.xa_base.proofs.Lists.{get_none}
-use Rattle.xa_model.proofs.Invariant.Now.{row_fact_ever, settled_at_rest, step_move}
-use Rattle.xa_model.proofs.Invariant.Preserved.{always}
+use Rattle.xa_model.proofs.Invariant.Now.{begun_or_older, older_not_started, row_fact_ever, settled_at_rest, step_move}
+use Rattle.xa_model.proofs.Invariant.Preserved.{always, begun_is_started, run_always}
 use Rattle.xa_model.specs.Promises.Agreement.{followed_by, IsFinal, IsUndone, AreAlike, HeuristicsAreHeld, AsLogged, DoubtIsDown}
 use Rattle.xa_model.proofs.AgreementLemmas.Ends.{right_before, final}
 
@@ -32,31 +33,41 @@ undone_begun : (f : Standing) → IsUndone f → HasBegun f
 undone_begun f (inl u) = subst HasBegun (sym u) tt
 undone_begun f (inr u) = subst HasBegun (sym u) tt
 
-has_started : (tr : Trace) (b : Branch) → Inv tr → HasBegun (standing tr b) → started tr b ≡ true
-has_started tr b inv h = by_test (started tr b) refl
+started_alike : (tr : Trace) (b c : Branch) → Inv tr → b.gtrid ≡ c.gtrid → started tr b ≡ true → started tr c ≡ true
+    → standing tr b ≡ Committed → IsUndone (standing tr c) → ⊥
+started_alike tr b c inv q b_started c_started f u = by_case (inv.committed b f)
   where
-    by_test : (t : Bool) → started tr b ≡ t → t ≡ true
-    by_test true s = refl
-    by_test false s = absurd (subst HasBegun (inv.unstarted b s) h)
+    by_case : ((had_row tr b.gtrid ≡ true) ⊎ (handed_over tr b.gtrid ≡ true)) ⊎ IsOlder tr b → ⊥
+    by_case (inl (inl h)) = undone_not_good _ u ((inv.rows b.gtrid h).good c (sym q) c_started)
+    by_case (inl (inr h)) = undone_not_committed _ u (sym (ap (standing tr) (inv.handed_one b c h (sym q) b_started c_started)) ∙ f)
+    by_case (inr o) = older_not_started tr b inv o b_started
 
-pub are_alike : (tr : Trace) → Inv tr → AreAlike tr
-are_alike tr inv b c q f u = by_case (inv.committed b f)
+pub are_alike : (tr : Trace) → AllRight tr → AreAlike tr
+are_alike tr r b c q f u =
+    started_alike tr b c (always tr r) q (begun_is_started tr b r (subst HasBegun (sym f) tt)) (begun_is_started tr c r (undone_begun _ u)) f u
+
+-- whatever a process found, its own transactions are alike
+pub own_alike : (tr : Trace) → IsRun tr → OwnAreAlike tr
+own_alike tr r b c n q f u =
+    by_case (begun_or_older tr b inv (subst HasBegun (sym f) tt)) (begun_or_older tr c inv (undone_begun _ u))
   where
-    c_started : started tr c ≡ true
-    c_started = has_started tr c inv (undone_begun _ u)
+    inv : Inv tr
+    inv = run_always tr r
 
-    b_started : started tr b ≡ true
-    b_started = has_started tr b inv (subst HasBegun (sym f) tt)
-
-    by_case : (had_row tr b.gtrid ≡ true) ⊎ (handed_over tr b.gtrid ≡ true) → ⊥
-    by_case (inl h) = undone_not_good _ u ((inv.rows b.gtrid h).good c (sym q) c_started)
-    by_case (inr h) = undone_not_committed _ u (sym (ap (standing tr) (inv.handed_one b c h (sym q) b_started c_started)) ∙ f)
+    by_case : (started tr b ≡ true) ⊎ IsOlder tr b → (started tr c ≡ true) ⊎ IsOlder tr c → ⊥
+    by_case (inl s) (inl t) = started_alike tr b c inv q s t f u
+    by_case (inr o) t = omega (arith, n, o)
+    by_case (inl s) (inr o) = let i = ap (λ (g : Gtrid). g.incarnation) q in omega (arith, n, o, i)
 
 -- ** heuristics
 
-pub held : (tr : Trace) → Inv tr → HeuristicsAreHeld tr
-held tr inv b how (inl h) = inl (ap state_of h)
-held tr inv b how (inr h) = inr (inv.forgotten b how h)
+pub held : (tr : Trace) → AllRight tr → HeuristicsAreHeld tr
+held tr r b how (inl h) = inl (ap state_of h)
+held tr r b how (inr h) = inr (by_case ((always tr r).forgotten b how h))
+  where
+    by_case : (recorded_as tr b ≡ Some how) ⊎ IsOlder tr b → recorded_as tr b ≡ Some how
+    by_case (inl k) = k
+    by_case (inr o) = absurd (older_not_started tr b (always tr r) o (begun_is_started tr b r (subst HasBegun (sym h) tt)))
 
 -- ** the log
 
@@ -67,26 +78,27 @@ commit_cause tr b f g _ q k = cc
 prepared_not_at_rest : (f : Standing) → f ≡ Prepared → IsAtRest f → ⊥
 prepared_not_at_rest f q h = subst IsAtRest q h
 
-row_of_prepared : (tr : Trace) (b : Branch) → Inv tr → standing tr b ≡ Prepared → had_row tr b.gtrid ≡ true → has_row tr b.gtrid ≡ true
-row_of_prepared tr b inv p h = by_test (has_row tr b.gtrid) refl
+row_of_prepared : (tr : Trace) (b : Branch) → AllRight tr → standing tr b ≡ Prepared → had_row tr b.gtrid ≡ true → has_row tr b.gtrid ≡ true
+row_of_prepared tr b r p h = by_test (has_row tr b.gtrid) refl
   where
     s : started tr b ≡ true
-    s = has_started tr b inv (subst HasBegun (sym p) tt)
+    s = begun_is_started tr b r (subst HasBegun (sym p) tt)
 
     by_test : (t : Bool) → has_row tr b.gtrid ≡ t → t ≡ true
     by_test true n = refl
-    by_test false n = absurd (prepared_not_at_rest _ p (settled_at_rest tr b inv s (inv.row_left b.gtrid h n b refl s)))
+    by_test false n = absurd (prepared_not_at_rest _ p (settled_at_rest tr b (always tr r) s ((always tr r).row_left b.gtrid h n b refl s)))
 
-pub undone_no_row : (tr : Trace) (b : Branch) → Inv tr → IsUndone (standing tr b) → ever tr b.gtrid ≡ false
-undone_no_row tr b inv u = false_unless _ (λ e. undone_not_good _ u ((row_fact_ever tr b.gtrid inv e).good b refl (has_started tr b inv (undone_begun _ u))))
+pub undone_no_row : (tr : Trace) (b : Branch) → AllRight tr → IsUndone (standing tr b) → ever tr b.gtrid ≡ false
+undone_no_row tr b r u =
+    false_from_ne_true _ (λ e. undone_not_good _ u ((row_fact_ever tr b.gtrid (always tr r) e).good b refl (begun_is_started tr b r (undone_begun _ u))))
 
 pub as_logged : (tr : Trace) (e : Happening) (es : List Happening) → AllRight (followed_by (Then tr e) es) → AsLogged tr e (followed_by (Then tr e) es)
 as_logged tr e es r =
     let r' = right_before (Then tr e) es r in
     let inv = always tr r'.0 in
     record {
-      committed = λ b p c. row_of_prepared tr b inv p (commit_cause tr b _ _ (step_move tr e b inv r'.1) p c);
-      rolled_back = λ b p u. undone_no_row (followed_by (Then tr e) es) b (always _ r) (inl (final (Then tr e) es b r (subst IsFinal (sym u) tt) ∙ u));
+      committed = λ b p c. row_of_prepared tr b r'.0 p (commit_cause tr b _ _ (step_move tr e b inv r'.1) p c);
+      rolled_back = λ b p u. undone_no_row (followed_by (Then tr e) es) b r (inl (final (Then tr e) es b r (subst IsFinal (sym u) tt) ∙ u));
     }
 
 -- ** doubt

@@ -1,6 +1,7 @@
 -- No transaction has two rows, no branch two records, and none is started twice.
 use Rattle.std.proofs.Common.{◌≡◌, List, [], ◌∷◌, length, Bool, true, false, ◌||◌, ◌==◌, refl, ap, ◌∙◌, subst}
 use Rattle.std.specs.Prelude.{if◌then◌else◌, Option, Some, None}
+use Rattle.std.proofs.lemmas.Bool.{false_from_ne_true}
 use Rattle.xa_base.specs.declared.call.Call.TheVariants as Calls
 use Rattle.xa_base.specs.declared.answer.Answer.TheVariants.{Ret}
 use Rattle.xa_model.specs.Trace.{Gtrid, Branch, Call, Answer, Outcome, Fault, Fault.InDecide, Fault.InHear, Row, Recorded, Happening, Happening.Issued, Happening.Heard, Happening.Decided, Happening.Done, Happening.Failed, Happening.Restarted, Trace, Trace.From, Trace.Then}
@@ -8,11 +9,11 @@ use Rattle.xa_base.specs.declared.code.Code.TheVariants as Codes
 use Rattle.xa_base.specs.Branch.{gtrid_eq, branch_eq}
 use Rattle.xa_model.specs.Facts.{origin, up, live, started, branches, told, says_yes_in, log, heuristic_rows, doubt, fault_change, record_of, record_of_next, row_for, lists_row, without, has_branch, has_record, rows_changed, heuristics_changed, adds_row, next_answer, Change, Change.AddRow, Change.DropRow, Change.AddRecord, Change.NoChange}
 use Rattle.xa_model.specs.Facts.Distinct.{ApartRows, ApartRecords, ApartBranches}
-use Rattle.xa_model.specs.Protocol.{Right, RightFault, AllRight}
-use Rattle.xa_model.proofs.Invariant.Grows.{both, false_unless}
+use Rattle.xa_model.specs.Protocol.{Right, RightFault, IsRun}
+use Rattle.xa_model.proofs.Invariant.Grows.{both}
 use Rattle.xa_model.proofs.Invariant.{Inv}
 use Rattle.xa_base.proofs.BranchKeys.{gtrid_eq-true, gtrid_eq-refl}
-use Rattle.xa_model.proofs.Invariant.Preserved.{always}
+use Rattle.xa_model.proofs.Invariant.Preserved.{run_always}
 use Rattle.xa_model.proofs.Invariant.RowLists.{without_keeps}
 
 -- ** rows
@@ -23,7 +24,7 @@ without_apart g (x ∷ xs) h = by_test (gtrid_eq x.gtrid g) (without_apart g xs 
   where
     by_test : (t : Bool) → ApartRows (without g xs) → ApartRows (if t then without g xs else x ∷ without g xs)
     by_test true k = k
-    by_test false k = (false_unless _ (λ e. both (lists_row xs x.gtrid) (without_keeps g x.gtrid xs e) h.0), k)
+    by_test false k = (false_from_ne_true _ (λ e. both (lists_row xs x.gtrid) (without_keeps g x.gtrid xs e) h.0), k)
 
 changed_apart :
     (c : Change) (rows : List Row) → ((g : Gtrid) → adds_row c g ≡ true → lists_row rows g ≡ false) → ApartRows rows
@@ -35,7 +36,7 @@ changed_apart NoChange rows f h = h
 
 -- a live transaction has no row
 live_no_row : (tr : Trace) (g : Gtrid) → Inv tr → live tr g ≡ true → lists_row (log tr) g ≡ false
-live_no_row tr g inv l = false_unless _ (λ e. both (live tr g) l (inv.rows g (inv.row_rowed g e)).closed.not_live)
+live_no_row tr g inv l = false_from_ne_true _ (λ e. both (live tr g) l (inv.rows g (inv.row_rowed g e)).closed.not_live)
 
 record_adds_none : (c : Call) (a : Answer) (g : Gtrid) → adds_row (record_of c a) g ≡ false
 record_adds_none (Calls.Commit b false) (Ret (Codes.Heuristic how)) g = refl
@@ -59,25 +60,25 @@ none_in_doubt : (tr : Trace) (g : Gtrid) → Inv tr → up tr ≡ true → adds_
 none_in_doubt tr g inv u e = both _ e (ap (λ c. adds_row c g) (inv.doubt_down u))
 
 -- a row in doubt is of a transaction that has none
-pub doubt_is_new : (tr : Trace) → AllRight tr → (g : Gtrid) → adds_row (doubt tr) g ≡ true → lists_row (log tr) g ≡ false
+pub doubt_is_new : (tr : Trace) → IsRun tr → (g : Gtrid) → adds_row (doubt tr) g ≡ true → lists_row (log tr) g ≡ false
 doubt_is_new (From o) r g e = absurd (cc)
 doubt_is_new (Then tr (Failed f)) r g e = by_up (up tr) refl (λ k. doubt_is_new tr r.0 g k) e
   where
     by_up :
         (t : Bool) → up tr ≡ t → (adds_row (doubt tr) g ≡ true → lists_row (log tr) g ≡ false)
         → adds_row (if t then fault_change tr f else doubt tr) g ≡ true → lists_row (log tr) g ≡ false
-    by_up true q before k = fault_new tr f g (always tr r.0) r.1 k
+    by_up true q before k = fault_new tr f g (run_always tr r.0) r.1 k
     by_up false q before k = before k
 doubt_is_new (Then tr (Restarted i d n)) r g e = absurd (cc)
-doubt_is_new (Then tr (Decided h o)) r g e = absurd (none_in_doubt tr g (always tr r.0) r.1.is_up e)
-doubt_is_new (Then tr (Done h)) r g e = absurd (none_in_doubt tr g (always tr r.0) r.1.is_up e)
+doubt_is_new (Then tr (Decided h o)) r g e = absurd (none_in_doubt tr g (run_always tr r.0) r.1.is_up e)
+doubt_is_new (Then tr (Done h)) r g e = absurd (none_in_doubt tr g (run_always tr r.0) r.1.is_up e)
 doubt_is_new (Then tr _) r g e = doubt_is_new tr r.0 g e
 
-rows_step : (tr : Trace) (e : Happening) → AllRight tr → Right tr e → ApartRows (log tr) → ApartRows (log (Then tr e))
+rows_step : (tr : Trace) (e : Happening) → IsRun tr → Right tr e → ApartRows (log tr) → ApartRows (log (Then tr e))
 rows_step tr (Decided g Outcome.Commit) a r h = by_test (told tr (says_yes_in g))
   where
     by_test : (t : Bool) → ApartRows (if t then row_for tr g ∷ log tr else log tr)
-    by_test true = (live_no_row tr g (always tr a) r.is_live, h)
+    by_test true = (live_no_row tr g (run_always tr a) r.is_live, h)
     by_test false = h
 rows_step tr (Done g) a r h = without_apart g (log tr) h
 rows_step tr (Restarted i d n) a r h = by_test (d == length (log tr))
@@ -87,7 +88,7 @@ rows_step tr (Restarted i d n) a r h = by_test (d == length (log tr))
     by_test false = changed_apart (doubt tr) (log tr) (doubt_is_new tr a) h
 rows_step tr _ a r h = h
 
-pub rows_apart : (tr : Trace) → AllRight tr → ApartRows (origin tr).rows → ApartRows (log tr)
+pub rows_apart : (tr : Trace) → IsRun tr → ApartRows (origin tr).rows → ApartRows (log tr)
 rows_apart (From o) r h = h
 rows_apart (Then tr e) r h = rows_step tr e r.0 r.1 (rows_apart tr r.0 h)
 
@@ -130,6 +131,6 @@ branches_step tr (Issued l (Calls.Start b false)) r h = (branches_listed tr b �
 branches_step tr (Issued l (Calls.Start b true)) r h = (branches_listed tr b ∙ r.1.may_be.0, h)
 branches_step tr _ r h = h
 
-pub branches_apart : (tr : Trace) → AllRight tr → ApartBranches (branches tr)
+pub branches_apart : (tr : Trace) → IsRun tr → ApartBranches (branches tr)
 branches_apart (From o) r = tt
 branches_apart (Then tr e) r = branches_step tr e r.1 (branches_apart tr r.0)

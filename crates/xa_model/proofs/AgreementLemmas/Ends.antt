@@ -63,7 +63,7 @@ ends_move tr b f g fs Loses_idle h = one_end Lost fs h
 ends_move tr b f g fs Loses_rollback_only h = one_end Lost fs h
 
 ends_fit : (tr : Trace) (b : Branch) → AllRight tr → EndsFit (standing tr b) (ends tr b)
-ends_fit (From o) b r = refl
+ends_fit (From o) b r = subst (λ f. EndsFit f []) (sym (r.clear b)) refl
 ends_fit (Then tr e) b r = ends_move tr b _ _ (ends tr b) (step_move tr e b (always tr r.0) r.1) (ends_fit tr b r.0)
 
 at_most_one : (f : Standing) (fs : List Standing) → EndsFit f fs → length fs ≤ 1

@@ -2,7 +2,6 @@
 use Rattle.std.proofs.Common.{◌≡◌, List, [], ◌∷◌, Bool, true, false, refl, sym, ap, ◌∙◌, subst, ◌⊎◌}
 use Rattle.std.specs.Prelude.{if◌then◌else◌}
 use mathlib.Core.Logic.{◌⊎◌.inl, ◌⊎◌.inr}
-use Rattle.xa_base.specs.declared.call.Call.TheVariants as Calls
 use Rattle.xa_model.specs.Trace.{Branch}
 use Rattle.xa_base.specs.Branch.{branch_eq}
 use Rattle.xa_base.proofs.BranchKeys.{branch_eq-true, branch_eq-refl}
@@ -13,7 +12,7 @@ use Rattle.xa_model.specs.Promises.Commitment.{Phase, Phase.Working, Phase.Prepa
 abbrev pub IsEager : Phase → Type 0
 IsEager x = (x ≡ Willing) ⊎ (x ≡ Kept)
 
--- how one branch changes, with what holds of all members before and followed_by
+-- how one branch changes, with what holds of all members before and after
 pub data Change2 (Member : Branch → Type 0) (p q : Branch → Phase) (b : Branch) : Type 0 where
   Same : p b ≡ q b → Change2 Member p q b
   To_willing : p b ≡ Working → q b ≡ Willing → Change2 Member p q b

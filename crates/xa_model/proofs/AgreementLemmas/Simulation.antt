@@ -1,5 +1,6 @@
 -- Each happening is some steps of the abstract commitment.
 use Rattle.std.proofs.Common.{◌≡◌, List, [], ◌∷◌, Bool, true, false, refl, sym, ap, ◌∙◌, subst, ◌⊎◌}
+use Rattle.std.proofs.lemmas.Bool.{or_cases}
 use mathlib.Core.Logic.{◌⊎◌.inl, ◌⊎◌.inr}
 use Rattle.xa_base.specs.declared.call.Call.TheVariants as Calls
 use Rattle.xa_model.specs.Trace.{Gtrid, Branch, Happening, Happening.Issued, Trace, Trace.From, Trace.Then}
@@ -13,7 +14,6 @@ use Rattle.xa_base.proofs.BranchKeys.{gtrid_eq-true, branch_eq-true, gtrid_eq-re
 use Rattle.xa_model.proofs.Invariant.Moves.{Move, Move.Stays, Move.Starts, Move.Completes, Move.Rolls_back, CanRollBack, Move.Ends, Move.Fails, Move.Prepares, Move.Only_reads, Move.Refuses, Move.In_one_phase, Move.Commits, Move.Forgets, Move.Loses_active, Move.Loses_idle, Move.Loses_rollback_only}
 use Rattle.xa_model.proofs.Invariant.Grows.{closed_kept, started_kept, handed_kept}
 use Rattle.xa_model.proofs.Invariant.Rows.{rowed_kept}
-use Rattle.xa_model.proofs.Invariant.RowLists.{or_here}
 use Rattle.xa_model.proofs.Invariant.Now.{step_move, started_back}
 use Rattle.xa_model.proofs.Invariant.Kept.{ended_kept}
 use Rattle.xa_model.proofs.Invariant.Preserved.{always}
@@ -34,12 +34,12 @@ started_list (Then tr _) = started_list tr
 started_within : (tr : Trace) (b : Branch) → started tr b ≡ true → Within (started_list tr) b
 unfolding started_list
 started_within (From o) b s = cc
-started_within (Then tr (Issued l (Calls.Start c false))) b s = by_case (or_here _ _ s) (λ k. started_within tr b k)
+started_within (Then tr (Issued l (Calls.Start c false))) b s = by_case (or_cases _ _ s) (λ k. started_within tr b k)
   where
     by_case : (branch_eq c b ≡ true) ⊎ (started tr b ≡ true) → (started tr b ≡ true → Within (started_list tr) b) → (c ≡ b) ⊎ Within (started_list tr) b
     by_case (inl h) f = inl (branch_eq-true c b h)
     by_case (inr h) f = inr (f h)
-started_within (Then tr (Issued l (Calls.Start c true))) b s = by_case (or_here _ _ s) (λ k. started_within tr b k)
+started_within (Then tr (Issued l (Calls.Start c true))) b s = by_case (or_cases _ _ s) (λ k. started_within tr b k)
   where
     by_case : (branch_eq c b ≡ true) ⊎ (started tr b ≡ true) → (started tr b ≡ true → Within (started_list tr) b) → (c ≡ b) ⊎ Within (started_list tr) b
     by_case (inl h) f = inl (branch_eq-true c b h)
@@ -150,7 +150,7 @@ one_change tr e es g b x y r k (P_aborted z o) p q =
     r' = right_before (Then tr e) es r
 
     none : (c : Branch) → IsBranchOf (followed_by (Then tr e) es) g c → standing (Then tr e) c ≡ Committed → ⊥
-    none c m f = are_alike (Then tr e) (always (Then tr e) r') c b (m.0 ∙ sym k.0) f (aborted_fate _ q)
+    none c m f = are_alike (Then tr e) r' c b (m.0 ∙ sym k.0) f (aborted_fate _ q)
 
 pub commitment : (tr : Trace) (e : Happening) (es : List Happening) → AllRight (followed_by (Then tr e) es) → IsCommitment tr e (followed_by (Then tr e) es)
 commitment tr e es r g =

@@ -1,23 +1,22 @@
 -- What holds at every moment, read off the invariant.
 use Rattle.std.proofs.Common.{◌≡◌, true, false, Bool, refl, sym, subst, arith, ◌⊎◌}
+use Rattle.std.specs.Prelude.{Some}
 use mathlib.Core.Logic.{◌⊎◌.inl, ◌⊎◌.inr}
-use Rattle.std.proofs.lemmas.Bool.{and_parts}
+use Rattle.std.proofs.lemmas.Bool.{and_parts, false_from_ne_true, or_cases}
 use Rattle.xa_base.specs.StateTable.{State.S0, State.S5, state_of}
 use Rattle.xa_base.specs.declared.state.Standing.{Standing}
 use Rattle.xa_base.specs.declared.state.Standing.TheVariants.{Unstarted, Active, Idle, Prepared, RollbackOnly, Completed, Committed, RolledBack, Lost, ReadOnly, Forgotten}
 use Rattle.xa_base.specs.declared.step.Outcome.TheVariants as Outcome
 use Rattle.xa_model.specs.Promises.AgreementInvariant.{IsWaiting, CommitHasRow, RollbackHasNoRow, NoStartAfterCommit, RowsWerePrepared, IsReady, ClaimedIsPrepared, SettledIsOver, MayBegin, FreshGtrids, HandedOverAlone}
 use Rattle.xa_model.specs.Promises.Commitment.{Phase, phase_of}
-use Rattle.xa_model.specs.Facts.{decided_so, claimed, outlived, counts_as_committed, handed_over, live, has_row, had_row, ever, settled, heuristic_rows, standing}
-use Rattle.xa_model.specs.Protocol.{HasVoted, AllAreSettled, AllRight}
+use Rattle.xa_model.specs.Facts.{decided_so, claimed, outlived, counts_as_committed, handed_over, live, has_row, had_row, ever, settled, heuristic_rows, recorded_as, standing}
+use Rattle.xa_model.specs.Protocol.{HasVoted, AllAreSettled, IsRun}
 use Rattle.xa_base.specs.declared.call.Call.TheVariants as Calls
 use Rattle.xa_model.specs.Trace.{Gtrid, Branch, Line, Kind.Start, Kind.Join, Kind.Commit, Kind.Rollback, Call, How, Trace}
 use Rattle.xa_model.proofs.Replies.Determined.{handed_some}
-use Rattle.xa_model.proofs.Invariant.Grows.{false_unless}
-use Rattle.xa_model.proofs.Invariant.{Old, IsAtRest, IsGood, HasBegun, Waits, WaitingStart, Inv}
-use Rattle.xa_model.proofs.Invariant.Now.{closed_handed, ever_up, row_fact_ever, settled_at_rest}
+use Rattle.xa_model.proofs.Invariant.{Old, IsAtRest, IsGood, IsOlder, HasBegun, Waits, WaitingStart, Inv}
+use Rattle.xa_model.proofs.Invariant.Now.{closed_handed, older_not_live, ever_up, row_fact_ever, settled_at_rest}
 use Rattle.xa_model.proofs.Invariant.Records.{has_of}
-use Rattle.xa_model.proofs.Invariant.RowLists.{or_here}
 use Rattle.xa_model.proofs.Invariant.PreservedRows.{voted_good}
 
 good_phase : (f : Standing) → IsGood f → (phase_of f ≡ Phase.Prepared) ⊎ (phase_of f ≡ Phase.Committed)
@@ -76,8 +75,8 @@ no_start tr l b inv f (inr o) = subst IsGood f.unstarted ((inv.rows b.gtrid (inv
 
 not_closed_yet : (tr : Trace) (l : Line) (b : Branch) → Inv tr → WaitingStart tr l b → (counts_as_committed tr b.gtrid ≡ false) × (claimed tr b.gtrid ≡ false)
 not_closed_yet tr l b inv f = (
-  false_unless _ (λ d. no_start tr l b inv f (or_here _ _ d)),
-  false_unless _
+  false_from_ne_true _ (λ d. no_start tr l b inv f (or_cases _ _ d)),
+  false_from_ne_true _
       (λ c. no_vote tr b inv f.unstarted (inv.claimed_voted b.gtrid c b refl f.is_started)),
 )
 
@@ -100,8 +99,16 @@ ready : (tr : Trace) (b : Branch) → Inv tr → IsGood (standing tr b) → live
 ready tr b inv h l Prepared e = tt
 ready tr b inv h l (Completed how) e = tt
 ready tr b inv h l ReadOnly e = tt
-ready tr b inv h l Committed e = absurd (no_end tr b inv l (inv.committed b e))
-ready tr b inv h l (Forgotten how) e = let n = (inv.recorded_closed b (has_of (heuristic_rows tr) b how (inv.forgotten b how e))).not_live in absurd (cc)
+ready tr b inv h l Committed e = absurd (by_case (inv.committed b e))
+  where
+    by_case : ((had_row tr b.gtrid ≡ true) ⊎ (handed_over tr b.gtrid ≡ true)) ⊎ IsOlder tr b → ⊥
+    by_case (inl k) = no_end tr b inv l k
+    by_case (inr o) = older_not_live tr b inv o l
+ready tr b inv h l (Forgotten how) e = absurd (by_case (inv.forgotten b how e))
+  where
+    by_case : (recorded_as tr b ≡ Some how) ⊎ IsOlder tr b → ⊥
+    by_case (inl k) = let n = (inv.recorded_closed b (has_of (heuristic_rows tr) b how k)).not_live in cc
+    by_case (inr o) = older_not_live tr b inv o l
 ready tr b inv h l Unstarted e = absurd (subst IsGood e h)
 ready tr b inv h l Active e = absurd (subst IsGood e h)
 ready tr b inv h l Idle e = absurd (subst IsGood e h)
@@ -123,13 +130,13 @@ settled_is_over tr inv = record {
 
 pub fresh_gtrids : (tr : Trace) → Inv tr → FreshGtrids tr
 fresh_gtrids tr inv = record {
-  rows = λ g m. false_unless _ (λ e. not_begun tr g m (row_fact_ever tr g inv e).closed.old);
-  branches = λ b m. false_unless _ (λ e. not_begun tr b.gtrid m (inv.started_old b e));
+  rows = λ g m. false_from_ne_true _ (λ e. not_begun tr g m (row_fact_ever tr g inv e).closed.old);
+  branches = λ b m. false_from_ne_true _ (λ e. not_begun tr b.gtrid m (inv.started_old b e));
 }
 
-pub handed_over_alone : (tr : Trace) → AllRight tr → Inv tr → HandedOverAlone tr
+pub handed_over_alone : (tr : Trace) → IsRun tr → Inv tr → HandedOverAlone tr
 handed_over_alone tr right inv = record {
   some = λ g h. handed_some tr g right h;
   one = λ b c h q s t. inv.handed_one b c h (sym q) s t;
-  no_row = λ g h. false_unless _ (λ e. let n = (row_fact_ever tr g inv e).not_handed in cc);
+  no_row = λ g h. false_from_ne_true _ (λ e. let n = (row_fact_ever tr g inv e).not_handed in cc);
 }

@@ -1,7 +1,7 @@
 -- One happening more: what stays, and what may be new.
 use Rattle.std.proofs.Common.{◌≡◌, ◌∙◌, ℕ, Bool, true, false, not, ◌&&◌, ◌||◌, refl, ap, arith, ◌⊎◌}
 use mathlib.Core.Logic.{◌⊎◌.inl, ◌⊎◌.inr}
-use Rattle.std.proofs.lemmas.Bool.{and_parts}
+use Rattle.std.proofs.lemmas.Bool.{and_parts, false_from_ne_true, or_right}
 use Rattle.xa_base.specs.declared.call.Call.TheVariants as Calls
 use Rattle.xa_base.specs.StateTable.{on}
 use Rattle.xa_model.specs.Trace.{Kind, Gtrid, Branch, Line, Kind.Start, Kind.Join, Call, Answer, Outcome, Happening, Happening.Begun, Happening.Issued, Happening.ResolvedOpen, Happening.Claimed, Happening.Heard, Happening.Decided, Happening.Crashed, Happening.Failed, Happening.Restarted, Trace, Trace.Then}
@@ -12,18 +12,6 @@ use Rattle.xa_model.specs.Facts.{claimed, begun, decided_so, handed_over, live, 
 use Rattle.xa_model.specs.Protocol.{Right}
 use Rattle.xa_model.proofs.Invariant.{Old, Closed}
 use Rattle.xa_base.proofs.BranchKeys.{gtrid_eq-true, branch_eq-true}
-
-pub false_unless : (t : Bool) → (t ≡ true → ⊥) → t ≡ false
-false_unless true h = absurd (h refl)
-false_unless false h = refl
-
-pub or_right : (s t : Bool) → t ≡ true → (s || t) ≡ true
-or_right true t h = refl
-or_right false t h = h
-
-pub or_left : (s t : Bool) → s ≡ true → (s || t) ≡ true
-or_left true t h = refl
-or_left false t h = cc
 
 -- ** numbers of transactions
 
@@ -56,7 +44,7 @@ live_back tr _ g r o l = l
 
 pub closed_kept : (tr : Trace) (e : Happening) (g : Gtrid) → Right tr e → Closed tr g → Closed (Then tr e) g
 closed_kept tr e g r c =
-    record { old = old_kept tr e g r c.old; not_live = false_unless _ (λ l. let m = live_back tr e g r c.old l in let n = c.not_live in cc) }
+    record { old = old_kept tr e g r c.old; not_live = false_from_ne_true _ (λ l. let m = live_back tr e g r c.old l in let n = c.not_live in cc) }
 
 -- ** facts that stay
 

@@ -6,16 +6,16 @@ use Rattle.xa_base.specs.declared.call.Call.TheVariants as Calls
 use Rattle.xa_base.specs.declared.answer.Answer.TheVariants.{Ret}
 use Rattle.xa_model.specs.Trace.{Branch, Line, Call, How, Answer, Happening, Happening.Heard, Recorded, Trace, Trace.Then}
 use Rattle.xa_base.specs.declared.code.Code.TheVariants as Codes
-use Rattle.xa_base.specs.declared.state.Standing.TheVariants.{Completed, Committed, ReadOnly, Forgotten}
+use Rattle.xa_base.specs.declared.state.Standing.TheVariants.{Unstarted, Completed, Committed, ReadOnly, Forgotten}
 use Rattle.xa_model.specs.Facts.{started, told, says_yes, says_read_only, acknowledges, recorded, recorded_as, heuristic_rows, record_of, record_of, Change.AddRecord, taken, heard, standing}
 use Rattle.xa_model.specs.Protocol.{Right}
-use Rattle.xa_model.proofs.Invariant.{Closed, IsAtRest, IsHeuristic, YesFact, NotKnownFact, HeuristicFact, AnswerFact, DoubtFact, IsFixed, Inv}
+use Rattle.xa_model.proofs.Invariant.{Closed, HasBegun, IsAtRest, IsHeuristic, IsOlder, YesFact, NotKnownFact, HeuristicFact, AnswerFact, DoubtFact, IsFixed, Inv}
 use Rattle.xa_base.proofs.BranchKeys.{branch_eq-true}
 use Rattle.xa_model.proofs.Invariant.Moves.{rest_moves, forgotten_moves}
 use Rattle.xa_model.proofs.Invariant.Grows.{closed_kept, told_new}
 use Rattle.xa_model.proofs.Invariant.Records.{has_of, recorded_how, recorded_as_kept, NewRecord, NewRecord.Had_record, NewRecord.By_answer, NewRecord.By_doubt_too, recorded_new}
 use Rattle.xa_model.proofs.Invariant.Lines.{NewTaken, NewTaken.Was, NewTaken.Now, taken_back}
-use Rattle.xa_model.proofs.Invariant.Now.{step_move, started_back, fixed_back, fixed_kept}
+use Rattle.xa_model.proofs.Invariant.Now.{begun_or_older, older_closed, step_move, started_back, fixed_back, fixed_kept}
 use Rattle.xa_model.proofs.Invariant.Kept.{ended_kept, heuristic_kept, yes_kept, answer_kept}
 use Rattle.xa_model.proofs.Invariant.NewFacts.{answer_new}
 
@@ -48,11 +48,15 @@ pub record AckFact (tr : Trace) (b : Branch) : Type 0 where
   pub at_rest : started tr b ≡ true → IsAtRest (standing tr b)
 
 committed_ack : (tr : Trace) (b : Branch) → Inv tr → standing tr b ≡ Committed → AckFact tr b
-committed_ack tr b inv h = record { is_fixed = inl (by_test (started tr b) refl); at_rest = λ s. subst IsAtRest (sym h) tt }
+committed_ack tr b inv h = record { is_fixed = by_test (started tr b) refl; at_rest = λ s. subst IsAtRest (sym h) tt }
   where
-    by_test : (t : Bool) → started tr b ≡ t → t ≡ true
-    by_test true s = refl
-    by_test false s = let u = inv.unstarted b s in cc
+    by_case : (standing tr b ≡ Unstarted) ⊎ IsOlder tr b → IsFixed tr b
+    by_case (inl u) = absurd (cc)
+    by_case (inr o) = inr (older_closed tr b inv o)
+
+    by_test : (t : Bool) → started tr b ≡ t → IsFixed tr b
+    by_test true s = inl s
+    by_test false s = by_case (inv.unstarted b s)
 
 ack_now : (tr : Trace) (b : Branch) (c : Call) (a : Answer) → Inv tr → acknowledges b c a ≡ true → AnswerFact tr c a → AckFact tr b
 ack_now tr b (Calls.Commit d false) (Ret Codes.Success) inv t h = committed_ack tr b inv (subst (λ x. standing tr x ≡ Committed) (branch_eq-true d b t) h)
@@ -138,20 +142,25 @@ pub recorded_closed_after : (tr : Trace) (e : Happening) (b : Branch) → Inv tr
 recorded_closed_after tr e b inv r h = let k = recorded_how (Then tr e) b h in (recorded_after tr e b k.0 inv r k.1).closed
 
 -- a branch that is forgotten now was recorded as what it is
-forgets_recorded : (tr : Trace) (b : Branch) (how : How) → Inv tr → standing tr b ≡ Completed how → recorded tr b ≡ true → recorded_as tr b ≡ Some how
-forgets_recorded tr b how inv q r = by_test (started tr b) refl
+forgets_recorded : (tr : Trace) (b : Branch) (how : How) → Inv tr → standing tr b ≡ Completed how → recorded tr b ≡ true
+    → (recorded_as tr b ≡ Some how) ⊎ IsOlder tr b
+forgets_recorded tr b how inv q r = by_case (begun_or_older tr b inv (subst HasBegun (sym q) tt))
   where
     k : (h : How) × (recorded_as tr b ≡ Some h)
     k = recorded_how tr b r
 
-    by_test : (t : Bool) → started tr b ≡ t → recorded_as tr b ≡ Some how
-    by_test true s = let p : how ≡ k.0 = subst (IsHeuristic k.0) q (inv.heuristic b k.0 k.1 s) in k.1 ∙ ap (λ x. Some x) (sym p)
-    by_test false s = let u = inv.unstarted b s in absurd (cc)
+    by_case : (started tr b ≡ true) ⊎ IsOlder tr b → (recorded_as tr b ≡ Some how) ⊎ IsOlder tr b
+    by_case (inl s) = let p : how ≡ k.0 = subst (IsHeuristic k.0) q (inv.heuristic b k.0 k.1 s) in inl (k.1 ∙ ap (λ x. Some x) (sym p))
+    by_case (inr o) = inr o
 
 pub forgotten_after : (tr : Trace) (e : Happening) (b : Branch) (how : How) → Inv tr → Right tr e
-    → standing (Then tr e) b ≡ Forgotten how → recorded_as (Then tr e) b ≡ Some how
-forgotten_after tr e b how inv r f = recorded_as_kept tr e b how (by_case (forgotten_moves tr b _ _ how (step_move tr e b inv r) f))
+    → standing (Then tr e) b ≡ Forgotten how → (recorded_as (Then tr e) b ≡ Some how) ⊎ IsOlder (Then tr e) b
+forgotten_after tr e b how inv r f = kept (by_case (forgotten_moves tr b _ _ how (step_move tr e b inv r) f))
   where
-    by_case : (standing tr b ≡ Forgotten how) ⊎ ((standing tr b ≡ Completed how) × (recorded tr b ≡ true)) → recorded_as tr b ≡ Some how
+    by_case : (standing tr b ≡ Forgotten how) ⊎ ((standing tr b ≡ Completed how) × (recorded tr b ≡ true)) → (recorded_as tr b ≡ Some how) ⊎ IsOlder tr b
     by_case (inl h) = inv.forgotten b how h
     by_case (inr h) = forgets_recorded tr b how inv h.0 h.1
+
+    kept : (recorded_as tr b ≡ Some how) ⊎ IsOlder tr b → (recorded_as (Then tr e) b ≡ Some how) ⊎ IsOlder (Then tr e) b
+    kept (inl k) = inl (recorded_as_kept tr e b how k)
+    kept (inr o) = inr o

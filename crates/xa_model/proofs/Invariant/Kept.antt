@@ -1,5 +1,6 @@
 -- Facts that one right happening more keeps.
-use Rattle.std.proofs.Common.{◌≡◌, List, Bool, true, false, refl, sym, ap, ◌∙◌, subst, ◌⊎◌}
+use Rattle.std.proofs.Common.{◌≡◌, List, true, false, refl, sym, ap, ◌∙◌, subst, ◌⊎◌}
+use Rattle.std.proofs.lemmas.Bool.{false_from_ne_true}
 use mathlib.Core.Logic.{◌⊎◌.inl, ◌⊎◌.inr}
 use Rattle.xa_base.specs.declared.call.Call.TheVariants as Calls
 use Rattle.xa_base.specs.declared.answer.Answer.TheVariants.{Ret, Page}
@@ -9,30 +10,26 @@ use Rattle.xa_base.specs.declared.state.Standing.{Standing}
 use Rattle.xa_base.specs.declared.state.Standing.TheVariants.{Committed, ReadOnly}
 use Rattle.xa_model.specs.Facts.{decided_so, handed_over, claimed, live, started, says_yes, says_read_only, told, has_branch, ever, Change, Change.AddRow, Change.DropRow, Change.AddRecord, Change.NoChange, standing}
 use Rattle.xa_model.specs.Protocol.{HasVoted, AllHaveVoted, AllAreSettled, RightDecision, Right}
-use Rattle.xa_model.proofs.Invariant.{Closed, IsEnded, IsGood, IsHeuristic, HasBegun, IsStarted, YesFact, NotKnownFact, HeuristicFact, AnswerFact, RowFact, Covers, DoubtFact, Inv}
+use Rattle.xa_model.proofs.Invariant.{Closed, IsEnded, IsGood, IsHeuristic, IsOlder, IsStarted, YesFact, NotKnownFact, HeuristicFact, AnswerFact, RowFact, Covers, DoubtFact, Inv}
 use Rattle.xa_model.proofs.Invariant.Moves.{begun_moves, ended_moves, heuristic_moves, rest_moves, good_moves}
-use Rattle.xa_model.proofs.Invariant.Grows.{both, false_unless, live_back, closed_kept, started_kept, handed_new, NewDecision, NewDecision.Was_decided, NewDecision.By_decide, NewDecision.By_recovery, decided_new, told_kept}
+use Rattle.xa_model.proofs.Invariant.Grows.{both, live_back, closed_kept, started_kept, handed_new, NewDecision, NewDecision.Was_decided, NewDecision.By_decide, NewDecision.By_recovery, decided_new, told_kept}
 use Rattle.xa_model.proofs.Invariant.Rows.{settled_kept}
-use Rattle.xa_model.proofs.Invariant.Now.{step_move, started_back, started_unclaimed}
-
-begun_is_started : (tr : Trace) (b : Branch) → Inv tr → HasBegun (standing tr b) → started tr b ≡ true
-begun_is_started tr b inv h = by_test (started tr b) refl
-  where
-    by_test : (t : Bool) → started tr b ≡ t → t ≡ true
-    by_test true s = refl
-    by_test false s = absurd (subst HasBegun (inv.unstarted b s) h)
+use Rattle.xa_model.proofs.Invariant.Now.{begun_or_older, older_closed, step_move, started_back, started_unclaimed}
 
 not_ever : (tr : Trace) (g : Gtrid) → Closed tr g → live tr g ≡ true → ⊥
 not_ever tr g c l = let n = c.not_live in cc
 
 pub yes_kept : (tr : Trace) (e : Happening) (b : Branch) → Inv tr → Right tr e → YesFact tr b → YesFact (Then tr e) b
-yes_kept tr e b inv r y =
-    let m = step_move tr e b inv r in
-    let s = begun_is_started tr b inv y.has_begun in
-    record {
-      has_begun = begun_moves tr b _ _ m y.has_begun;
-      good = λ l. let n = live_back tr e b.gtrid r (inv.started_old b s) l in good_moves tr b _ _ m s (λ c. absurd (not_ever tr b.gtrid c n)) (y.good n);
-    }
+yes_kept tr e b inv r y = record {
+  has_begun = begun_moves tr b _ _ (step_move tr e b inv r) y.has_begun;
+  good = λ l. by_case (begun_or_older tr b inv y.has_begun) l;
+}
+  where
+    by_case : (started tr b ≡ true) ⊎ IsOlder tr b → live (Then tr e) b.gtrid ≡ true → IsGood (standing (Then tr e) b)
+    by_case (inl s) l =
+        let n = live_back tr e b.gtrid r (inv.started_old b s) l in
+        good_moves tr b _ _ (step_move tr e b inv r) s (λ c. absurd (not_ever tr b.gtrid c n)) (y.good n)
+    by_case (inr o) l = let c = older_closed tr b inv o in absurd (not_ever tr b.gtrid c (live_back tr e b.gtrid r c.old l))
 
 pub not_known_kept : (tr : Trace) (e : Happening) (b : Branch) → Inv tr → Right tr e → NotKnownFact tr b → NotKnownFact (Then tr e) b
 not_known_kept tr e b inv r f = record {
@@ -51,7 +48,8 @@ pub heuristic_fact_kept : (tr : Trace) (e : Happening) (b : Branch) (how : How) 
 heuristic_fact_kept tr e b how inv r h = record { heuristic = heuristic_kept tr e b how inv r h.heuristic; closed = closed_kept tr e b.gtrid r h.closed }
 
 pub is_started_kept : (tr : Trace) (e : Happening) (x : Name) → IsStarted tr x → IsStarted (Then tr e) x
-is_started_kept tr e (Ours b) h = started_kept tr e b h
+is_started_kept tr e (Ours b) (inl h) = inl (started_kept tr e b h)
+is_started_kept tr e (Ours b) (inr o) = inr o
 is_started_kept tr e (Foreign n) h = tt
 
 pub answer_kept : (tr : Trace) (e : Happening) (c : Call) (a : Answer) → Inv tr → Right tr e → AnswerFact tr c a → AnswerFact (Then tr e) c a
@@ -74,7 +72,7 @@ answer_kept tr e (Calls.Recover n s t) (Ret (Codes.Heuristic how)) inv r h = tt
 answer_kept tr e _ _ inv r h = tt
 
 pub not_handed_kept : (tr : Trace) (e : Happening) (g : Gtrid) → Right tr e → live tr g ≡ false → handed_over tr g ≡ false → handed_over (Then tr e) g ≡ false
-not_handed_kept tr e g r n h = false_unless _ (λ k. by_case (handed_new tr e g k))
+not_handed_kept tr e g r n h = false_from_ne_true _ (λ k. by_case (handed_new tr e g k))
   where
     by_case : (handed_over tr g ≡ true) ⊎ ((l : Line) × (b : Branch) × (e ≡ Issued l (Calls.Commit b true)) × (b.gtrid ≡ g)) → ⊥
     by_case (inl k) = cc
@@ -84,7 +82,7 @@ not_handed_kept tr e g r n h = false_unless _ (λ k. by_case (handed_new tr e g 
 
 pub not_decided_kept : (tr : Trace) (e : Happening) (o : Outcome) (g : Gtrid) → Right tr e → live tr g ≡ false
     → decided_so o tr g ≡ false → decided_so o (Then tr e) g ≡ false
-not_decided_kept tr e o g r n h = false_unless _ (λ k. by_case (decided_new tr e o g k))
+not_decided_kept tr e o g r n h = false_from_ne_true _ (λ k. by_case (decided_new tr e o g k))
   where
     by_case : NewDecision tr e o g → ⊥
     by_case (Was_decided k) = both (decided_so o tr g) k h

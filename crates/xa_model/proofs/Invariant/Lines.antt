@@ -1,5 +1,5 @@
 -- One happening more on a line.
-use Rattle.std.proofs.Common.{◌≡◌, ℕ, ◌+◌, ◌≤◌, [], ◌∷◌, ◌++◌, length, length-append, Bool, true, false, refl, ap, arith, ◌⊎◌}
+use Rattle.std.proofs.Common.{◌≡◌, ℕ, ◌+◌, ◌≤◌, [], ◌++◌, length, length-append, Bool, true, false, refl, ap, arith, ◌⊎◌}
 use Rattle.std.specs.Prelude.{if◌then◌else◌, Some, slice_get}
 use mathlib.Core.Logic.{◌⊎◌.inl, ◌⊎◌.inr}
 use Rattle.xa_model.specs.Trace.{Line, Call, Answer, Happening, Happening.Took, Trace, Trace.Then, line_eq}

@@ -160,7 +160,7 @@ answer_new tr l (Calls.Rollback b) (Ret (Codes.Heuristic how)) inv r =
     heuristic_new tr l Rollback b how r ((inv.waiting l Rollback b (front_waits tr l (Calls.Rollback b) r.0)).closed)
     (subst (IsHeuristic how) (took_standing tr l Rollback b (Codes.Heuristic how)) (heuristic_answer (standing tr b) Rollback _ _ how (code_of r.1)))
 answer_new tr l (Calls.Forget b) (Ret (Codes.Heuristic how)) inv r = absurd (quiet_forget (state_of (standing tr b)) _ _ how (code_of r.1))
-answer_new tr l (Calls.Recover n s t) (Page names) inv r = page_started tr l.rm n s names inv r.1
+answer_new tr l (Calls.Recover n s t) (Page names) inv r = page_started tr l.rm names inv r.1
 answer_new tr l Calls.OpenRm (Ret (Codes.Heuristic how)) inv r = tt
 answer_new tr l Calls.CloseRm (Ret (Codes.Heuristic how)) inv r = tt
 answer_new tr l (Calls.Recover n s t) (Ret (Codes.Heuristic how)) inv r = tt

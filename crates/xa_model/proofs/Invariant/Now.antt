@@ -2,36 +2,35 @@
 use Rattle.std.proofs.Common.{◌≡◌, length, Bool, true, false, ◌||◌, refl, sym, ap, ◌∙◌, subst, arith, ◌⊎◌}
 use Rattle.std.specs.Prelude.{if◌then◌else◌, Some}
 use mathlib.Core.Logic.{◌⊎◌.inl, ◌⊎◌.inr}
-use Rattle.std.proofs.lemmas.Bool.{and_parts}
+use Rattle.std.proofs.lemmas.Bool.{and_parts, false_from_ne_true, or_cases}
 use Rattle.xa_base.specs.declared.call.Call.TheVariants as Calls
 use Rattle.xa_base.specs.StateTable.{on, state_of, answer, moved, broken, completed}
 use Rattle.xa_base.specs.declared.answer.Answer.TheVariants.{Ret, Page}
 use Rattle.xa_model.specs.Trace.{Gtrid, Branch, Line, Kind, Kind.Start, Kind.Join, Kind.End, Kind.Prepare, Kind.Commit, Kind.OnePhase, Kind.Rollback, Kind.Forget, Call, How, Code, Outcome, Happening, Happening.Issued, Happening.Took, Happening.CompletedAlone, Trace, Trace.Then, line_of, Answer}
 use Rattle.xa_base.specs.Branch.{branch_eq}
 use Rattle.xa_base.specs.declared.state.Standing.{Standing}
-use Rattle.xa_base.specs.declared.state.Standing.TheVariants.{Prepared, Completed, Forgotten}
+use Rattle.xa_base.specs.declared.state.Standing.TheVariants.{Unstarted, Prepared, Completed, Forgotten}
 use Rattle.xa_model.specs.Promises.AgreementInvariant.{Starts}
 use Rattle.xa_model.specs.Facts.{up, begun, decided_so, handed_over, claimed, live, started, told, says_read_only, acknowledges, recorded, had_row, ever, doubt, Change.AddRow, adds_row, settled, breaks, taken, next_call, standing, vote, retries}
 use Rattle.xa_model.specs.Protocol.{MayBeCalled, Right, RightIssue, RightCall}
-use Rattle.xa_model.proofs.Invariant.{Closed, IsAtRest, IsHeuristic, Waits, RowFact, DoubtFact, IsFixed, Inv}
+use Rattle.xa_model.proofs.Invariant.{Closed, HasBegun, IsAtRest, IsHeuristic, IsOlder, Waits, RowFact, DoubtFact, IsFixed, Inv}
 use Rattle.xa_model.proofs.Invariant.Records.{recorded_how}
 use Rattle.xa_base.proofs.BranchKeys.{branch_eq-true}
 use Rattle.xa_model.proofs.Invariant.Moves.{Move, Move.Stays, Move.Completes, TakenFact, taken_move, broken_move}
-use Rattle.xa_model.proofs.Invariant.Grows.{NewBranch, false_unless, closed_kept, started_kept, started_new}
+use Rattle.xa_model.proofs.Invariant.Grows.{NewBranch, closed_kept, started_kept, started_new}
 use Rattle.xa_model.proofs.Invariant.Rows.{adds_row-true}
-use Rattle.xa_model.proofs.Invariant.RowLists.{or_here}
 
 -- ** at one moment
 
 pub ever_up : (tr : Trace) (g : Gtrid) → Inv tr → up tr ≡ true → ever tr g ≡ true → had_row tr g ≡ true
-ever_up tr g inv u e = by_case (or_here _ _ e)
+ever_up tr g inv u e = by_case (or_cases _ _ e)
   where
     by_case : (adds_row (doubt tr) g ≡ true) ⊎ (had_row tr g ≡ true) → had_row tr g ≡ true
     by_case (inl h) = let n = inv.doubt_down u in let a = (adds_row-true (doubt tr) g h).is in absurd (cc)
     by_case (inr h) = h
 
 pub row_fact_ever : (tr : Trace) (g : Gtrid) → Inv tr → ever tr g ≡ true → RowFact tr g
-row_fact_ever tr g inv e = by_case (or_here _ _ e)
+row_fact_ever tr g inv e = by_case (or_cases _ _ e)
   where
     by_case : (adds_row (doubt tr) g ≡ true) ⊎ (had_row tr g ≡ true) → RowFact tr g
     by_case (inl h) =
@@ -45,7 +44,7 @@ at_rest_of_heuristic k (Forgotten how) h = tt
 at_rest_of_heuristic k _ h = absurd h
 
 pub settled_at_rest : (tr : Trace) (b : Branch) → Inv tr → started tr b ≡ true → settled tr b ≡ true → IsAtRest (standing tr b)
-settled_at_rest tr b inv s t = by_case (or_here _ _ t)
+settled_at_rest tr b inv s t = by_case (or_cases _ _ t)
   where
     by_told : (told tr (says_read_only b) ≡ true) ⊎ (told tr (acknowledges b) ≡ true) → IsAtRest (standing tr b)
     by_told (inl h) = subst IsAtRest (sym (inv.voted_read_only b h)) tt
@@ -53,17 +52,42 @@ settled_at_rest tr b inv s t = by_case (or_here _ _ t)
 
     by_case : (recorded tr b ≡ true) ⊎ ((told tr (says_read_only b) || told tr (acknowledges b)) ≡ true) → IsAtRest (standing tr b)
     by_case (inl h) = let k = recorded_how tr b h in at_rest_of_heuristic k.0 _ (inv.heuristic b k.0 k.1 s)
-    by_case (inr h) = by_told (or_here _ _ h)
+    by_case (inr h) = by_told (or_cases _ _ h)
 
 pub closed_handed : (tr : Trace) (g : Gtrid) → Inv tr → handed_over tr g ≡ true → Closed tr g
-closed_handed tr g inv h = record { old = inv.handed_old g h; not_live = false_unless _ (λ l. grind arith) }
+closed_handed tr g inv h = record { old = inv.handed_old g h; not_live = false_from_ne_true _ (λ l. grind arith) }
 
 pub closed_decided : (tr : Trace) (o : Outcome) (g : Gtrid) → Inv tr → decided_so o tr g ≡ true → Closed tr g
-closed_decided tr Outcome.Commit g inv h = record { old = inv.decided_old Outcome.Commit g h; not_live = false_unless _ (λ l. grind arith) }
-closed_decided tr Outcome.Rollback g inv h = record { old = inv.decided_old Outcome.Rollback g h; not_live = false_unless _ (λ l. grind arith) }
+closed_decided tr Outcome.Commit g inv h = record { old = inv.decided_old Outcome.Commit g h; not_live = false_from_ne_true _ (λ l. grind arith) }
+closed_decided tr Outcome.Rollback g inv h = record { old = inv.decided_old Outcome.Rollback g h; not_live = false_from_ne_true _ (λ l. grind arith) }
 
 pub live_begun : (tr : Trace) (g : Gtrid) → live tr g ≡ true → begun tr g ≡ true
 live_begun tr g l = let p = and_parts _ _ l in p.0
+
+-- what the start may have found takes no new branch and no decision
+pub older_closed : (tr : Trace) (b : Branch) → Inv tr → IsOlder tr b → Closed tr b.gtrid
+older_closed tr b inv o = record {
+  old = inl (let s = inv.since_start in omega (arith, s, o));
+  not_live = false_from_ne_true _ (λ l. let s = inv.begun_since b.gtrid (live_begun tr b.gtrid l) in omega (arith, s, o));
+}
+
+pub older_not_live : (tr : Trace) (b : Branch) → Inv tr → IsOlder tr b → live tr b.gtrid ≡ true → ⊥
+older_not_live tr b inv o l = let n = (older_closed tr b inv o).not_live in cc
+
+-- nor was it started since
+pub older_not_started : (tr : Trace) (b : Branch) → Inv tr → IsOlder tr b → started tr b ≡ true → ⊥
+older_not_started tr b inv o s = let k = inv.started_since b s in omega (arith, k, o)
+
+pub begun_or_older : (tr : Trace) (b : Branch) → Inv tr → HasBegun (standing tr b) → (started tr b ≡ true) ⊎ IsOlder tr b
+begun_or_older tr b inv h = by_test (started tr b) refl
+  where
+    by_case : (standing tr b ≡ Unstarted) ⊎ IsOlder tr b → (started tr b ≡ true) ⊎ IsOlder tr b
+    by_case (inl u) = absurd (subst HasBegun u h)
+    by_case (inr o) = inr o
+
+    by_test : (t : Bool) → started tr b ≡ t → (started tr b ≡ true) ⊎ IsOlder tr b
+    by_test true s = inl s
+    by_test false s = by_case (inv.unstarted b s)
 
 -- a waiting call on a branch is as its standing allows
 pub taken_fact : (tr : Trace) (l : Line) (k : Kind) (b : Branch) → Inv tr → Waits tr l (on k b) → TakenFact tr k b (standing tr b)

@@ -1,22 +1,23 @@
 -- Each right happening keeps the invariant.
-use Rattle.std.proofs.Common.{◌≡◌, ℕ, [], length, Bool, true, false, refl, sym, subst, ◌⊎◌}
-use Rattle.std.specs.Prelude.{if◌then◌else◌}
+use Rattle.std.proofs.Common.{◌≡◌, arith, ℕ, [], length, Bool, true, false, refl, sym, subst, ◌⊎◌}
+use Rattle.std.specs.Prelude.{if◌then◌else◌, Some}
 use mathlib.Core.Logic.{◌⊎◌.inl, ◌⊎◌.inr}
 use Rattle.xa_base.specs.declared.call.Call.TheVariants as Calls
 use Rattle.xa_base.specs.StateTable.{on}
 use Rattle.xa_base.specs.declared.answer.Answer.TheVariants.{Page}
-use Rattle.xa_model.specs.Trace.{Gtrid, Line, Name, Call, Answer, Outcome, Happening, Happening.Claimed, Happening.Heard, Happening.Decided, Origin, Trace, Trace.From, Trace.Then, line_eq, line}
-use Rattle.xa_base.specs.declared.code.Code.TheVariants as Codes
-use Rattle.xa_model.specs.Facts.{decided_so, claimed, live, lists_row, breaks, heard, page, page_after}
-use Rattle.xa_model.specs.Protocol.{Lists, AllHaveVoted, RightClaim, RightDecision, Right, RightOrigin, AllRight}
-use Rattle.xa_model.proofs.Invariant.{Old, IsStarted, RowFact, Inv}
+use Rattle.xa_base.specs.declared.state.Standing.TheVariants.{Committed, Forgotten, Unstarted}
+use Rattle.xa_model.specs.Trace.{Branch, Gtrid, How, Line, Name, Call, Answer, Outcome, Happening, Happening.Claimed, Happening.Heard, Happening.Decided, Origin, Trace, Trace.From, Trace.Then, line_eq, line}
+use Rattle.xa_model.specs.Facts.{origin, had_row, handed_over, held_of, recorded_as, standing, started, decided_so, claimed, live, lists_row, breaks, heard, page, page_after}
+use Rattle.xa_model.specs.Protocol.{Lists, AllHaveVoted, RightClaim, RightDecision, Right, OldOrigin, IsRun, AllRight}
+use Rattle.xa_model.proofs.Invariant.{HasBegun, IsOlder, Old, IsStarted, RowFact, Inv}
+use Rattle.xa_model.proofs.Invariant.Moves.{unstarted_moves}
 use Rattle.xa_model.proofs.Invariant.Grows.{NewDecision, NewDecision.Was_decided, NewDecision.By_decide, NewDecision.By_recovery, decided_new, claimed_new, live_kept}
 use Rattle.xa_model.proofs.Invariant.Rows.{row_rowed_after}
 use Rattle.xa_base.proofs.Lists.{get_none}
-use Rattle.xa_model.proofs.Invariant.Now.{closed_decided}
+use Rattle.xa_model.proofs.Invariant.Now.{closed_decided, step_move}
 use Rattle.xa_model.proofs.Invariant.Kept.{claimed_voted_kept, decided_voted, all_voted_kept, is_started_kept}
 use Rattle.xa_model.proofs.Invariant.WaitingCalls.{waiting_after, waiting_up_after, start_once_after, start_issued_after}
-use Rattle.xa_model.proofs.Invariant.PreservedRows.{begun_old_after, started_old_after, decided_old_after, handed_old_after, handed_one_after, unstarted_after, committed_after, rows_after, row_left_after, covered_after, doubt_down_after, in_doubt_after}
+use Rattle.xa_model.proofs.Invariant.PreservedRows.{begun_since_after, not_started_before, since_start_after, started_since_after, begun_old_after, started_old_after, decided_old_after, handed_old_after, handed_one_after, unstarted_after, committed_after, rows_after, row_left_after, covered_after, doubt_down_after, in_doubt_after}
 use Rattle.xa_model.proofs.Invariant.Heard.{answered_after, voted_yes_after, voted_read_only_after, acknowledged_after, recorded_after, recorded_closed_after, forgotten_after}
 
 -- ** pages
@@ -80,6 +81,9 @@ claimed_voted_after tr e g inv r h = by_case (claimed_new tr e g h)
 
 pub step : (tr : Trace) (e : Happening) → Inv tr → Right tr e → Inv (Then tr e)
 step tr e inv r = record {
+  since_start = since_start_after tr e inv r;
+  begun_since = λ g h. begun_since_after tr e g inv r h;
+  started_since = λ b h. started_since_after tr e b inv r h;
   begun_old = λ g h. begun_old_after tr e g inv r h;
   started_old = λ b h. started_old_after tr e b inv r h;
   decided_old = λ o g h. decided_old_after tr e o g inv r h;
@@ -113,7 +117,7 @@ step tr e inv r = record {
 
 -- ** the start
 
-origin_row : (o : Origin) (g : Gtrid) → RightOrigin o → lists_row o.rows g ≡ true → RowFact (From o) g
+origin_row : (o : Origin) (g : Gtrid) → OldOrigin o → lists_row o.rows g ≡ true → RowFact (From o) g
 origin_row o g r h = record {
   closed = record { old = inl (r.rows_old g h); not_live = refl };
   good = λ b q s. absurd (false_is_true s);
@@ -124,15 +128,18 @@ origin_row o g r h = record {
     false_is_true : false ≡ true → ⊥
     false_is_true e = cc
 
-pub at_start : (o : Origin) → RightOrigin o → Inv (From o)
+pub at_start : (o : Origin) → OldOrigin o → Inv (From o)
 at_start o r = record {
+  since_start = omega arith;
+  begun_since = λ g h. absurd (cc);
+  started_since = λ b h. absurd (cc);
   begun_old = λ g h. cc;
   started_old = λ b h. cc;
   decided_old = λ x g h. no_decision x g h;
   handed_old = λ g h. cc;
   handed_one = λ b c h q s t. cc;
-  unstarted = λ b h. refl;
-  committed = λ b h. cc;
+  unstarted = λ b h. r.held_old b;
+  committed = λ b h. was_committed b (r.held_old b) h;
   rows = λ g h. origin_row o g r h;
   row_rowed = λ g h. h;
   row_left = λ g h n. cc;
@@ -150,17 +157,54 @@ at_start o r = record {
   acknowledged_fixed = λ b h. cc;
   recorded_closed = λ b h. record { old = inl (r.record_old b h); not_live = refl };
   heuristic = λ b how h s. absurd (cc);
-  forgotten = λ b how h. cc;
+  forgotten = λ b how h. was_forgotten b how (r.held_old b) h;
   paged = λ n x h. absurd (get_none h.0 x h.1);
   claimed_live = λ g h. absurd (cc);
   claimed_voted = λ g h. absurd (cc);
   all_voted = λ g h. cc;
 }
   where
+    was_committed : (b : Branch) → ((held_of o b).standing ≡ Unstarted) ⊎ IsOlder (From o) b → (held_of o b).standing ≡ Committed
+        → ((had_row (From o) b.gtrid ≡ true) ⊎ (handed_over (From o) b.gtrid ≡ true)) ⊎ IsOlder (From o) b
+    was_committed b (inl u) h = absurd (cc)
+    was_committed b (inr k) h = inr k
+
+    was_forgotten : (b : Branch) (how : How) → ((held_of o b).standing ≡ Unstarted) ⊎ IsOlder (From o) b → (held_of o b).standing ≡ Forgotten how
+        → (recorded_as (From o) b ≡ Some how) ⊎ IsOlder (From o) b
+    was_forgotten b how (inl u) h = absurd (cc)
+    was_forgotten b how (inr k) h = inr k
+
     no_decision : (x : Outcome) (g : Gtrid) → decided_so x (From o) g ≡ true → Old (From o) g
     no_decision Outcome.Commit g h = cc
     no_decision Outcome.Rollback g h = cc
 
+pub run_always : (tr : Trace) → IsRun tr → Inv tr
+run_always (From o) r = at_start o r
+run_always (Then tr e) r = step tr e (run_always tr r.0) r.1
+
+-- a right history is a run
+pub run_of : (tr : Trace) → AllRight tr → IsRun tr
+run_of (From o) r = record { rows_old = r.rows_old; record_old = r.record_old; held_old = λ b. inl (r.clear b) }
+run_of (Then tr e) r = (run_of tr r.0, r.1)
+
 pub always : (tr : Trace) → AllRight tr → Inv tr
-always (From o) r = at_start o r
-always (Then tr e) r = step tr e (always tr r.0) r.1
+always tr r = run_always tr (run_of tr r)
+
+-- what the start found unstarted was started since, or is so still
+pub never_found : (tr : Trace) (b : Branch) → IsRun tr → (held_of (origin tr) b).standing ≡ Unstarted → started tr b ≡ false → standing tr b ≡ Unstarted
+never_found (From o) b r u s = u
+never_found (Then tr e) b r u s =
+    let m = not_started_before tr e b s in unstarted_moves tr b _ _ (step_move tr e b (run_always tr r.0) r.1) m (never_found tr b r.0 u m)
+
+-- and its start found nothing
+pub never_started : (tr : Trace) (b : Branch) → AllRight tr → started tr b ≡ false → standing tr b ≡ Unstarted
+never_started (From o) b r s = r.clear b
+never_started (Then tr e) b r s =
+    let m = not_started_before tr e b s in unstarted_moves tr b _ _ (step_move tr e b (always tr r.0) r.1) m (never_started tr b r.0 m)
+
+pub begun_is_started : (tr : Trace) (b : Branch) → AllRight tr → HasBegun (standing tr b) → started tr b ≡ true
+begun_is_started tr b r h = by_test (started tr b) refl
+  where
+    by_test : (t : Bool) → started tr b ≡ t → t ≡ true
+    by_test true s = refl
+    by_test false s = absurd (subst HasBegun (never_started tr b r s) h)

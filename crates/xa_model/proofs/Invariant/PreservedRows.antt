@@ -1,8 +1,8 @@
 -- Transactions, rows and what is in doubt, after one right happening more.
-use Rattle.std.proofs.Common.{◌≡◌, List, [], ◌∷◌, length, Bool, true, false, not, ◌&&◌, ◌||◌, refl, sym, ap, ◌∙◌, subst, arith, ◌⊎◌}
+use Rattle.std.proofs.Common.{◌≡◌, ◌≤◌, List, [], ◌∷◌, length, Bool, true, false, not, ◌&&◌, ◌||◌, refl, sym, ap, ◌∙◌, subst, arith, ◌⊎◌}
 use Rattle.std.specs.Prelude.{if◌then◌else◌, filter, Option, Some, None}
 use mathlib.Core.Logic.{◌⊎◌.inl, ◌⊎◌.inr}
-use Rattle.std.proofs.lemmas.Bool.{and_parts}
+use Rattle.std.proofs.lemmas.Bool.{and_parts, false_from_ne_true, or_cases, or_left, or_right}
 use Rattle.xa_base.specs.declared.call.Call.TheVariants as Calls
 use Rattle.xa_base.specs.StateTable.{on}
 use Rattle.xa_base.specs.declared.answer.Answer.TheVariants.{Ret}
@@ -11,21 +11,21 @@ use Rattle.xa_base.specs.declared.code.Code.TheVariants as Codes
 use Rattle.xa_base.specs.declared.step.Part.TheVariants as Part
 use Rattle.xa_base.specs.Branch.{gtrid_eq, branch_eq}
 use Rattle.xa_base.specs.declared.state.Standing.TheVariants.{Unstarted, Committed}
-use Rattle.xa_model.specs.Facts.{up, begun, decided_so, handed_over, live, started, told, says_read_only, has_branch, participants, settled, settled_lately, each, each_of_some, branches, takes_part, row_for, has_row, had_row, ever, doubt, fault_change, record_of, adds_row, record_of, Change.AddRow, Change.NoChange, record_of_next, heard, next_answer, standing}
+use Rattle.xa_model.specs.Facts.{origin, up, incarnation, begun, decided_so, handed_over, live, started, told, says_read_only, has_branch, participants, settled, settled_lately, each, each_of_some, branches, takes_part, row_for, has_row, had_row, ever, doubt, fault_change, record_of, adds_row, record_of, Change.AddRow, Change.NoChange, record_of_next, heard, next_answer, standing}
 use Rattle.xa_model.specs.Protocol.{HasVoted, AllHaveVoted, AllAreSettled, RightCall, IsRowSettled, RightDecision, RightDone, Right}
-use Rattle.xa_model.proofs.Invariant.{Old, Closed, IsGood, AnswerFact, RowFact, Covers, DoubtFact, Inv}
+use Rattle.xa_model.proofs.Invariant.{Old, Closed, IsGood, IsOlder, AnswerFact, RowFact, Covers, DoubtFact, Inv}
 use Rattle.xa_base.proofs.BranchKeys.{gtrid_eq-true, branch_eq-true, gtrid_eq-refl, branch_eq-refl}
 use Rattle.xa_model.proofs.Invariant.Moves.{good_moves, unstarted_moves, committed_moves}
-use Rattle.xa_model.proofs.Invariant.Grows.{NewBranch, false_unless, or_left, or_right, old_kept, closed_kept, started_kept, started_new, handed_kept, handed_new, NewDecision, NewDecision.Was_decided, NewDecision.By_decide, NewDecision.By_recovery, decided_new}
+use Rattle.xa_model.proofs.Invariant.Grows.{NewBranch, old_kept, closed_kept, started_kept, started_new, handed_kept, handed_new, NewDecision, NewDecision.Was_decided, NewDecision.By_decide, NewDecision.By_recovery, decided_new}
 use Rattle.xa_model.proofs.Invariant.Rows.{RowNow, RowNow.Before, RowNow.Decided_now, RowNow.Restarted_now, row_back, settled_lately_settled, rowed_kept, NewRow, NewRow.Had, NewRow.By_decision, NewRow.By_restart, rowed_new, LeftRow, LeftRow.By_done, LeftRow.By_doubt, row_lost}
-use Rattle.xa_model.proofs.Invariant.RowLists.{or_here, or_map}
+use Rattle.xa_model.proofs.Invariant.RowLists.{or_map}
 use Rattle.xa_model.proofs.Invariant.Now.{row_fact_ever, closed_handed, live_begun, step_move, starting_live, started_back, right_on}
 use Rattle.xa_model.proofs.Invariant.Kept.{heuristic_fact_kept, decided_voted, row_fact_kept, covers_kept, all_settled_kept, doubt_kept}
 
 -- ** transactions and branches
 
 begun_new : (tr : Trace) (e : Happening) (g : Gtrid) → begun (Then tr e) g ≡ true → (begun tr g ≡ true) ⊎ (e ≡ Begun g)
-begun_new tr (Begun h) g b = by_case (or_here _ _ b)
+begun_new tr (Begun h) g b = by_case (or_cases _ _ b)
   where
     by_case : (gtrid_eq h g ≡ true) ⊎ (begun tr g ≡ true) → (begun tr g ≡ true) ⊎ (Begun h ≡ Begun g)
     by_case (inl s) = inr (ap (λ x. Begun x) (gtrid_eq-true h g s))
@@ -89,24 +89,60 @@ handed_one_after tr e b c inv r h q s t = by_case (handed_new tr e b.gtrid h)
         let only = (one_phase_call tr e k.0 k.1 r k.2).may_be.1 in
         only.1 b (sym k.3) (one_phase_started tr e k.0 k.1 b k.2 s) ∙ sym (only.1 c (q ∙ sym k.3) (one_phase_started tr e k.0 k.1 c k.2 t))
 
-not_started_before : (tr : Trace) (e : Happening) (b : Branch) → started (Then tr e) b ≡ false → started tr b ≡ false
-not_started_before tr e b n = false_unless _ (λ s. let k = started_kept tr e b s in cc)
+pub not_started_before : (tr : Trace) (e : Happening) (b : Branch) → started (Then tr e) b ≡ false → started tr b ≡ false
+not_started_before tr e b n = false_from_ne_true _ (λ s. let k = started_kept tr e b s in cc)
 
-pub unstarted_after : (tr : Trace) (e : Happening) (b : Branch) → Inv tr → Right tr e → started (Then tr e) b ≡ false → standing (Then tr e) b ≡ Unstarted
-unstarted_after tr e b inv r n = let m = not_started_before tr e b n in unstarted_moves tr b _ _ (step_move tr e b inv r) m (inv.unstarted b m)
+pub unstarted_after : (tr : Trace) (e : Happening) (b : Branch) → Inv tr → Right tr e → started (Then tr e) b ≡ false
+    → (standing (Then tr e) b ≡ Unstarted) ⊎ IsOlder (Then tr e) b
+unstarted_after tr e b inv r n = by_case (inv.unstarted b m)
+  where
+    m : started tr b ≡ false
+    m = not_started_before tr e b n
+
+    by_case : (standing tr b ≡ Unstarted) ⊎ IsOlder tr b → (standing (Then tr e) b ≡ Unstarted) ⊎ IsOlder (Then tr e) b
+    by_case (inl u) = inl (unstarted_moves tr b _ _ (step_move tr e b inv r) m u)
+    by_case (inr o) = inr o
 
 pub committed_after : (tr : Trace) (e : Happening) (b : Branch) → Inv tr → Right tr e → standing (Then tr e) b ≡ Committed
-    → (had_row (Then tr e) b.gtrid ≡ true) ⊎ (handed_over (Then tr e) b.gtrid ≡ true)
+    → ((had_row (Then tr e) b.gtrid ≡ true) ⊎ (handed_over (Then tr e) b.gtrid ≡ true)) ⊎ IsOlder (Then tr e) b
 committed_after tr e b inv r f = by_case (committed_moves tr b _ _ (step_move tr e b inv r) f)
   where
     kept : (had_row tr b.gtrid ≡ true) ⊎ (handed_over tr b.gtrid ≡ true) → (had_row (Then tr e) b.gtrid ≡ true) ⊎ (handed_over (Then tr e) b.gtrid ≡ true)
     kept (inl h) = inl (rowed_kept tr e b.gtrid h)
     kept (inr h) = inr (handed_kept tr e b.gtrid h)
 
+    was : ((had_row tr b.gtrid ≡ true) ⊎ (handed_over tr b.gtrid ≡ true)) ⊎ IsOlder tr b
+        → ((had_row (Then tr e) b.gtrid ≡ true) ⊎ (handed_over (Then tr e) b.gtrid ≡ true)) ⊎ IsOlder (Then tr e) b
+    was (inl h) = inl (kept h)
+    was (inr o) = inr o
+
     by_case : (standing tr b ≡ Committed) ⊎ ((had_row tr b.gtrid ≡ true) ⊎ (handed_over tr b.gtrid ≡ true))
-        → (had_row (Then tr e) b.gtrid ≡ true) ⊎ (handed_over (Then tr e) b.gtrid ≡ true)
-    by_case (inl h) = kept (inv.committed b h)
-    by_case (inr h) = kept h
+        → ((had_row (Then tr e) b.gtrid ≡ true) ⊎ (handed_over (Then tr e) b.gtrid ≡ true)) ⊎ IsOlder (Then tr e) b
+    by_case (inl h) = was (inv.committed b h)
+    by_case (inr h) = inl (kept h)
+
+-- ** since the start
+
+pub since_start_after : (tr : Trace) (e : Happening) → Inv tr → Right tr e → (origin tr).incarnation ≤ incarnation (Then tr e)
+since_start_after tr (Restarted i d n) inv r = let s = inv.since_start in omega (arith, s, r.1)
+since_start_after tr _ inv r = inv.since_start
+
+pub begun_since_after : (tr : Trace) (e : Happening) (g : Gtrid) → Inv tr → Right tr e → begun (Then tr e) g ≡ true → (origin tr).incarnation ≤ g.incarnation
+begun_since_after tr e g inv r b = by_case (begun_new tr e g b)
+  where
+    by_case : (begun tr g ≡ true) ⊎ (e ≡ Begun g) → (origin tr).incarnation ≤ g.incarnation
+    by_case (inl h) = inv.begun_since g h
+    by_case (inr h) = let q : Right tr (Begun g) = subst (Right tr) h r in let s = inv.since_start in let i = q.1 in omega (arith, s, i)
+
+pub started_since_after : (tr : Trace) (e : Happening) (b : Branch) → Inv tr → Right tr e → started (Then tr e) b ≡ true
+    → (origin tr).incarnation ≤ b.gtrid.incarnation
+started_since_after tr e b inv r s = by_case (started_new tr e b s)
+  where
+    by_case : (started tr b ≡ true) ⊎ NewBranch e b → (origin tr).incarnation ≤ b.gtrid.incarnation
+    by_case (inl h) = inv.started_since b h
+    by_case (inr h) =
+        let q : Right tr (Issued h.0 (on h.1 b)) = subst (Right tr) h.2 r in
+        inv.begun_since b.gtrid (live_begun tr b.gtrid (starting_live tr h.1 b h.3 (right_on tr h.0 h.1 b q.1).may_be))
 
 -- ** rows
 
@@ -115,10 +151,10 @@ voted_good tr b inv l (inl h) = (inv.voted_yes b h).good l
 voted_good tr b inv l (inr h) = subst IsGood (sym (inv.voted_read_only b h)) tt
 
 not_handed_live : (tr : Trace) (g : Gtrid) → live tr g ≡ true → handed_over tr g ≡ false
-not_handed_live tr g l = false_unless _ (λ h. grind arith)
+not_handed_live tr g l = false_from_ne_true _ (λ h. grind arith)
 
 not_rolled_back_live : (tr : Trace) (g : Gtrid) → live tr g ≡ true → decided_so Outcome.Rollback tr g ≡ false
-not_rolled_back_live tr g l = false_unless _ (λ h. grind arith)
+not_rolled_back_live tr g l = false_from_ne_true _ (λ h. grind arith)
 
 no_longer_live : (b c d h s : Bool) → s ≡ true → (b && not ((s || c) || (d || h))) ≡ true → ⊥
 no_longer_live b c d h true p q = grind arith
@@ -129,7 +165,8 @@ decided_row_fact tr g inv d = record {
   closed =
       record {
         old = inv.begun_old g (live_begun tr g d.is_live);
-        not_live = false_unless _ (λ l. no_longer_live (begun tr g) (decided_so Outcome.Commit tr g) (decided_so Outcome.Rollback tr g) (handed_over tr g) _
+        not_live = false_from_ne_true _
+            (λ l. no_longer_live (begun tr g) (decided_so Outcome.Commit tr g) (decided_so Outcome.Rollback tr g) (handed_over tr g) _
             (gtrid_eq-refl g) l);
       };
   good = λ b q s. voted_good tr b inv (ap (live tr) q ∙ d.is_live) (decided_voted tr g inv d b q s);
@@ -148,7 +185,7 @@ rows_after tr e g inv r h = by_case (rowed_new tr e g h)
 -- a row waits for its participants: what they have settled, all branches have
 each_settled : (tr : Trace) (b : Branch) (bs : List Branch) → each (settled_lately tr) bs ≡ true → has_branch bs b ≡ true → settled tr b ≡ true
 each_settled tr b [] h k = cc
-each_settled tr b (x ∷ bs) h k = by_place (or_here _ _ k) (each_settled tr b bs (and_parts _ _ h).1)
+each_settled tr b (x ∷ bs) h k = by_place (or_cases _ _ k) (each_settled tr b bs (and_parts _ _ h).1)
   where
     by_place : (branch_eq x b ≡ true) ⊎ (has_branch bs b ≡ true) → (has_branch bs b ≡ true → settled tr b ≡ true) → settled tr b ≡ true
     by_place (inl s) f = subst (λ y. settled tr y ≡ true) (branch_eq-true x b s) (settled_lately_settled tr x (and_parts _ _ h).0)
@@ -190,7 +227,7 @@ row_left_after tr e g inv r h n = by_case (rowed_new tr e g h)
 
 in_filter : (test : Branch → Bool) (bs : List Branch) (b : Branch) → has_branch bs b ≡ true → test b ≡ true → has_branch (filter test bs) b ≡ true
 in_filter test [] b h t = cc
-in_filter test (x ∷ bs) b h t = by_place (or_here _ _ h) (in_filter test bs b)
+in_filter test (x ∷ bs) b h t = by_place (or_cases _ _ h) (in_filter test bs b)
   where
     here : (u : Bool) → test x ≡ u → x ≡ b → has_branch (if u then x ∷ filter test bs else filter test bs) b ≡ true
     here true p q = or_left _ _ (ap (λ y. branch_eq y b) q ∙ branch_eq-refl b)

@@ -1,13 +1,12 @@
 -- Lists of rows, with one row more or fewer.
 use Rattle.std.proofs.Common.{◌≡◌, List, [], ◌∷◌, Bool, true, false, ◌||◌, refl, sym, ◌∙◌, ◌⊎◌}
 use Rattle.std.specs.Prelude.{if◌then◌else◌}
+use Rattle.std.proofs.lemmas.Bool.{or_cases, or_right}
 use mathlib.Core.Logic.{◌⊎◌.inl, ◌⊎◌.inr}
 use Rattle.xa_model.specs.Trace.{Gtrid, Row}
-use Rattle.xa_base.specs.declared.step.Outcome.TheVariants as Outcome
 use Rattle.xa_base.specs.Branch.{gtrid_eq}
 use Rattle.xa_model.specs.Facts.{lists_row, without}
 use Rattle.xa_base.proofs.BranchKeys.{gtrid_eq-true}
-use Rattle.xa_model.proofs.Invariant.Grows.{or_right}
 
 -- ** lists of rows
 
@@ -28,13 +27,9 @@ or_drop : (s a b : Bool) (h g : Gtrid) → (a ≡ true → b ≡ false → h ≡
 or_drop true a b h g f e k = cc
 or_drop false a b h g f e k = f e k
 
-pub or_here : (s a : Bool) → (s || a) ≡ true → (s ≡ true) ⊎ (a ≡ true)
-or_here true a e = inl refl
-or_here false a e = inr e
-
 drop_step : (t : Bool) (h : Gtrid) (x : Row) (g : Gtrid) (less rows : List Row) → gtrid_eq x.gtrid h ≡ t
     → (lists_row rows g ≡ true → lists_row less g ≡ false → h ≡ g) → lists_row (x ∷ rows) g ≡ true → lists_row (if t then less else x ∷ less) g ≡ false → h ≡ g
-drop_step true h x g less rows k f e n = by_place (or_here (gtrid_eq x.gtrid g) _ e)
+drop_step true h x g less rows k f e n = by_place (or_cases (gtrid_eq x.gtrid g) _ e)
   where
     by_place : (gtrid_eq x.gtrid g ≡ true) ⊎ (lists_row rows g ≡ true) → h ≡ g
     by_place (inl s) = sym (gtrid_eq-true x.gtrid h k) ∙ gtrid_eq-true x.gtrid g s

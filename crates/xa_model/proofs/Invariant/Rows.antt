@@ -2,15 +2,15 @@
 use Rattle.std.proofs.Common.{◌≡◌, ℕ, List, [], ◌∷◌, length, Bool, true, false, not, ◌&&◌, ◌||◌, ◌==◌, refl, sym, ap, ◌∙◌, subst, ◌⊎◌}
 use Rattle.std.specs.Prelude.{if◌then◌else◌}
 use mathlib.Core.Logic.{◌⊎◌.inl, ◌⊎◌.inr}
-use Rattle.std.proofs.lemmas.Bool.{and_parts}
+use Rattle.std.proofs.lemmas.Bool.{and_parts, or_cases, or_left, or_right}
 use Rattle.xa_model.specs.Trace.{Gtrid, Branch, Call, Answer, Row, Happening, Happening.Heard, Happening.Decided, Happening.Done, Happening.Restarted, Trace, Trace.From, Trace.Then}
 use Rattle.xa_base.specs.declared.step.Outcome.TheVariants as Outcome
 use Rattle.xa_base.specs.Branch.{gtrid_eq}
 use Rattle.xa_model.specs.Facts.{told, told_lately, row_for, participants_in, participants, settled_lately, says_yes_in, says_read_only, acknowledges, has_row, recorded, had_row, doubt, log, settled, lists_row, without, rows_changed, adds_row, Change, Change.AddRow, Change.DropRow, Change.AddRecord, Change.NoChange}
 use Rattle.xa_base.proofs.BranchKeys.{gtrid_eq-true}
-use Rattle.xa_model.proofs.Invariant.Grows.{or_left, or_right, told_kept}
+use Rattle.xa_model.proofs.Invariant.Grows.{told_kept}
 use Rattle.xa_model.proofs.Invariant.Records.{recorded_kept}
-use Rattle.xa_model.proofs.Invariant.RowLists.{or_map, without_keeps, or_here, without_drops}
+use Rattle.xa_model.proofs.Invariant.RowLists.{or_map, without_keeps, without_drops}
 
 -- ** rows after one happening more
 
@@ -50,13 +50,13 @@ restarted_row g false (AddRecord b) rows s e = absurd (cc)
 restarted_row g false NoChange rows s e = absurd (cc)
 
 pub rowed_new : (tr : Trace) (e : Happening) (g : Gtrid) → had_row (Then tr e) g ≡ true → NewRow tr e g
-rowed_new tr (Decided h Outcome.Commit) g r = by_case (or_here _ _ r)
+rowed_new tr (Decided h Outcome.Commit) g r = by_case (or_cases _ _ r)
   where
     by_case : ((gtrid_eq h g && told tr (says_yes_in h)) ≡ true) ⊎ (had_row tr g ≡ true) → NewRow tr (Decided h Outcome.Commit) g
     by_case (inl k) =
         let p = and_parts _ _ k in By_decision (ap (λ x. Decided x Outcome.Commit) (gtrid_eq-true h g p.0)) (decided_row (row_for tr h) g _ (log tr) p.0 p.1)
     by_case (inr k) = Had k
-rowed_new tr (Restarted i d n) g r = by_case (or_here _ _ r)
+rowed_new tr (Restarted i d n) g r = by_case (or_cases _ _ r)
   where
     by_case : ((not (d == length (log tr)) && adds_row (doubt tr) g) ≡ true) ⊎ (had_row tr g ≡ true) → NewRow tr (Restarted i d n) g
     by_case (inl k) = let p = and_parts _ _ k in By_restart i d n refl p.1 (restarted_row g _ (doubt tr) (log tr) p.0 p.1)
@@ -66,7 +66,7 @@ rowed_new tr _ g r = Had r
 -- a row that is there has been made, before this or by it
 row_rowed_decided : (x : Row) (g : Gtrid) (t : Bool) (rows : List Row) (r : Bool) → (lists_row rows g ≡ true → r ≡ true)
     → lists_row (if t then x ∷ rows else rows) g ≡ true → ((gtrid_eq x.gtrid g && t) || r) ≡ true
-row_rowed_decided x g true rows r f e = by_place (or_here _ _ e)
+row_rowed_decided x g true rows r f e = by_place (or_cases _ _ e)
   where
     by_place : (gtrid_eq x.gtrid g ≡ true) ⊎ (lists_row rows g ≡ true) → ((gtrid_eq x.gtrid g && true) || r) ≡ true
     by_place (inl s) = or_left _ _ (ap (λ y. y && true) s)
@@ -139,7 +139,7 @@ without_none g (x ∷ rows) e = by_test (gtrid_eq x.gtrid g) refl (without_none 
     by_test : (t : Bool) → gtrid_eq x.gtrid g ≡ t → (lists_row (without g rows) g ≡ true → ⊥)
         → lists_row (if t then without g rows else x ∷ without g rows) g ≡ true → ⊥
     by_test true s f e = f e
-    by_test false s f e = by_place (or_here _ _ e)
+    by_test false s f e = by_place (or_cases _ _ e)
       where
         by_place : (gtrid_eq x.gtrid g ≡ true) ⊎ (lists_row (without g rows) g ≡ true) → ⊥
         by_place (inl k) = cc

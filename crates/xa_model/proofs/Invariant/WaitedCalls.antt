@@ -1,11 +1,11 @@
 -- Calls that waited before, after one happening more.
-use Rattle.std.proofs.Common.{◌≡◌, ◌+◌, ◌≤◌, [], ◌∷◌, ◌++◌, length, length-append, Bool, true, false, refl, sym, ap, ◌∙◌, subst, arith}
+use Rattle.std.proofs.Common.{◌≡◌, ◌≤◌, [], ◌∷◌, ◌++◌, length, length-append, Bool, true, false, refl, sym, ap, ◌∙◌, subst, arith}
 use Rattle.std.specs.Prelude.{if◌then◌else◌, Some, slice_get}
+use Rattle.std.proofs.lemmas.Bool.{false_from_ne_true}
 use Rattle.xa_base.specs.declared.call.Call.TheVariants as Calls
 use Rattle.xa_base.specs.declared.answer.Answer.TheVariants.{Ret, Page}
-use Rattle.xa_model.specs.Trace.{Gtrid, Branch, Line, Kind, Kind.Start, Kind.Join, Kind.End, Kind.Prepare, Kind.Commit, Kind.OnePhase, Kind.Rollback, Kind.Forget, Call, Code, Answer, Happening, Happening.Took, Happening.CompletedAlone, Happening.Restarted, Trace, Trace.Then, line_eq, line_of}
+use Rattle.xa_model.specs.Trace.{Gtrid, Branch, Line, Kind, Kind.Start, Kind.Join, Kind.End, Kind.Prepare, Kind.Commit, Kind.OnePhase, Kind.Rollback, Kind.Forget, Call, Code, Answer, Happening, Happening.Took, Happening.CompletedAlone, Happening.Restarted, Trace, Trace.Then, line_of}
 use Rattle.xa_base.specs.declared.step.Outcome.TheVariants as Outcome
-use Rattle.xa_base.specs.declared.step.Part.TheVariants as Part
 use Rattle.xa_base.specs.Branch.{branch_eq}
 use Rattle.xa_base.specs.StateTable.{on, moved, broken, completed}
 use Rattle.xa_base.specs.declared.state.Standing.TheVariants.{Unstarted}
@@ -15,7 +15,7 @@ use Rattle.xa_model.specs.Protocol.{RightDecision, Right}
 use Rattle.xa_model.proofs.Invariant.{Waits, WaitingStart, CallFact, Inv}
 use Rattle.xa_base.proofs.BranchKeys.{branch_eq-true}
 use Rattle.xa_model.proofs.Keys.{line_eq-refl}
-use Rattle.xa_model.proofs.Invariant.Grows.{false_unless, closed_kept, started_kept, handed_kept}
+use Rattle.xa_model.proofs.Invariant.Grows.{closed_kept, started_kept, handed_kept}
 use Rattle.xa_model.proofs.Invariant.Rows.{rowed_kept, RowNow, RowNow.Before, RowNow.Decided_now, RowNow.Restarted_now, row_back}
 use Rattle.xa_model.proofs.Invariant.Records.{recorded_kept}
 use Rattle.xa_model.proofs.Invariant.Now.{front_waits}
@@ -93,7 +93,7 @@ start_kept tr e l x b s inv r f w n =
     }
 
 no_row_kept : (tr : Trace) (e : Happening) (g : Gtrid) → Right tr e → up tr ≡ true → live tr g ≡ false → has_row tr g ≡ false → has_row (Then tr e) g ≡ false
-no_row_kept tr e g r u n h = false_unless _ (λ k. by_case (row_back tr e g k))
+no_row_kept tr e g r u n h = false_from_ne_true _ (λ k. by_case (row_back tr e g k))
   where
     by_case : RowNow tr e g → ⊥
     by_case (Before k p) = cc

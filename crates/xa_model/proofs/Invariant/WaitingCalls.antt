@@ -1,29 +1,31 @@
 -- Waiting calls, after one right happening more.
 use Rattle.std.proofs.Common.{◌≡◌, ℕ, zero, suc, ◌+◌, List, [], ◌∷◌, ◌++◌, length, Bool, true, false, refl, sym, ap, ◌∙◌, subst, arith, ◌⊎◌}
 use Rattle.std.specs.Prelude.{if◌then◌else◌, Option, Some, None, slice_get}
+use Rattle.std.proofs.lemmas.Bool.{false_from_ne_true, or_left}
 use mathlib.Core.Logic.{◌⊎◌.inl, ◌⊎◌.inr}
 use Rattle.xa_base.specs.declared.call.Call.TheVariants as Calls
 use Rattle.xa_model.specs.Trace.{Gtrid, Branch, Line, Name, Name.Ours, Name.Foreign, Kind, Kind.Start, Kind.Join, Kind.End, Kind.Prepare, Kind.Commit, Kind.OnePhase, Kind.Rollback, Kind.Forget, Call, Happening, Happening.Issued, Happening.Resolved, Happening.ResolvedOpen, Happening.Crashed, Happening.Failed, Happening.Restarted, Trace, Trace.Then, line_eq, line, line_of}
 use Rattle.xa_base.specs.declared.step.Outcome.TheVariants as Outcome
 use Rattle.xa_base.specs.declared.step.Part.TheVariants as Part
-use Rattle.xa_base.specs.Branch.{branch_eq}
 use Rattle.xa_base.specs.StateTable.{asks_of, on}
-use Rattle.xa_model.specs.Facts.{up, decided_so, handed_over, live, started, has_row, recorded, had_row, breaks, new_calls, issued, page, resolving_kind, resolving_calls}
+use Rattle.xa_model.specs.Facts.{standing, up, decided_so, handed_over, live, started, has_row, recorded, had_row, breaks, new_calls, issued, page, resolving_kind, resolving_calls}
 use Rattle.xa_model.specs.Promises.AgreementInvariant.{Starts}
 use Rattle.xa_model.specs.Protocol.{Lists, Right}
-use Rattle.xa_model.proofs.Invariant.{Old, Closed, Waits, CallFact, Inv}
+use Rattle.xa_base.specs.declared.state.Standing.TheVariants.{Unstarted}
+use Rattle.xa_model.proofs.Invariant.{Old, Closed, IsOlder, IsStarted, Waits, CallFact, Inv}
 use Rattle.xa_base.proofs.BranchKeys.{gtrid_eq-refl, branch_eq-refl}
 use Rattle.xa_model.proofs.Keys.{line_eq-true}
-use Rattle.xa_model.proofs.Invariant.Grows.{false_unless, or_left, closed_kept, started_kept}
+use Rattle.xa_model.proofs.Invariant.Grows.{closed_kept, started_kept}
 use Rattle.xa_base.proofs.Lists.{get_append, get_if, get_none}
+use Rattle.xa_base.proofs.StateLemmas.{asks_on}
 use Rattle.xa_model.proofs.Invariant.Lines.{NewWait, NewWait.Waited, NewWait.IsNew, waits_back}
-use Rattle.xa_model.proofs.Invariant.Now.{closed_handed, closed_decided}
+use Rattle.xa_model.proofs.Invariant.Now.{closed_handed, closed_decided, older_closed, older_not_live}
 use Rattle.xa_model.proofs.Invariant.WaitedCalls.{waited_kept}
 
 -- ** calls that are new
 
 no_row_of : (tr : Trace) (g : Gtrid) → Inv tr → (had_row tr g ≡ true → ⊥) → has_row tr g ≡ false
-no_row_of tr g inv n = false_unless _ (λ k. n (inv.row_rowed g k))
+no_row_of tr g inv n = false_from_ne_true _ (λ k. n (inv.row_rowed g k))
 
 decided_no_row : (tr : Trace) (g : Gtrid) → Inv tr → decided_so Outcome.Rollback tr g ≡ true → has_row tr g ≡ false
 decided_no_row tr g inv d = no_row_of tr g inv (λ k. let f = (inv.rows g k).not_rolled_back in cc)
@@ -38,13 +40,33 @@ may_roll_back tr g inv (inr d) = (closed_handed tr g inv d, handed_no_row tr g i
 same_lines : (l m : Line) → l.thread ≡ m.thread → l.rm ≡ m.rm → l ≡ m
 same_lines l m p q = λ i. record { thread = p i; rm = q i }
 
+-- a branch of a live transaction is none that the start found
+unstarted_live : (tr : Trace) (b : Branch) → Inv tr → started tr b ≡ false → live tr b.gtrid ≡ true → standing tr b ≡ Unstarted
+unstarted_live tr b inv s l = by_case (inv.unstarted b s)
+  where
+    by_case : (standing tr b ≡ Unstarted) ⊎ IsOlder tr b → standing tr b ≡ Unstarted
+    by_case (inl u) = u
+    by_case (inr o) = absurd (older_not_live tr b inv o l)
+
+old_name : (tr : Trace) (b : Branch) → Inv tr → IsStarted tr (Ours b) → Old tr b.gtrid
+old_name tr b inv (inl s) = inv.started_old b s
+old_name tr b inv (inr o) = (older_closed tr b inv o).old
+
 issued_fact : (tr : Trace) (l : Line) (k : Kind) (b : Branch) → Inv tr → Right tr (Issued l (on k b)) → CallFact (Then tr (Issued l (on k b))) l k b
 issued_fact tr l Start b inv r =
     let c = r.1 in let m = c.may_be in
-    record { own_line = same_lines l (line_of b) c.own_thread c.own_rm; is_started = or_left _ _ (branch_eq-refl b); unstarted = inv.unstarted b m.0 }
+    record {
+      own_line = same_lines l (line_of b) c.own_thread c.own_rm;
+      is_started = or_left _ _ (branch_eq-refl b);
+      unstarted = unstarted_live tr b inv m.0 m.1.is_live;
+    }
 issued_fact tr l Join b inv r =
     let c = r.1 in let m = c.may_be in
-    record { own_line = same_lines l (line_of b) c.own_thread c.own_rm; is_started = or_left _ _ (branch_eq-refl b); unstarted = inv.unstarted b m.0 }
+    record {
+      own_line = same_lines l (line_of b) c.own_thread c.own_rm;
+      is_started = or_left _ _ (branch_eq-refl b);
+      unstarted = unstarted_live tr b inv m.0 m.1.is_live;
+    }
 issued_fact tr l (End t) b inv r = tt
 issued_fact tr l Prepare b inv r = tt
 issued_fact tr l OnePhase b inv r = or_left _ _ (gtrid_eq-refl b.gtrid)
@@ -62,16 +84,6 @@ pub record Resolving (tr : Trace) (names : List Name) (k : Kind) (b : Branch) : 
 
 later : (tr : Trace) (x : Name) (names : List Name) (k : Kind) (b : Branch) → Resolving tr names k b → Resolving tr (x ∷ names) k b
 later tr x names k b h = record { listed = (suc h.listed.0, h.listed.1); not_live = h.not_live; kind = h.kind }
-
-asks_on : (k : Kind) (b : Branch) → asks_of (on k b) ≡ Some (k, b)
-asks_on Start b = refl
-asks_on Join b = refl
-asks_on (End fail) b = refl
-asks_on Prepare b = refl
-asks_on Commit b = refl
-asks_on OnePhase b = refl
-asks_on Rollback b = refl
-asks_on Forget b = refl
 
 call_parts : (j k : Kind) (b c : Branch) → Some (on j b) ≡ Some (on k c) → (k ≡ j) × (b ≡ c)
 call_parts j k b c e = some_parts (sym (asks_on j b) ∙ ap asked e ∙ asks_on k c)
@@ -112,7 +124,7 @@ resolved_fact : (tr : Trace) (r : ℕ) (l : Line) (k : Kind) (b : Branch) → In
 resolved_fact tr r l k b inv rt h = subst (λ x. CallFact (Then tr (Resolved r)) l x b) (sym h.kind) (by_record (recorded tr b) refl)
   where
     old : Old tr b.gtrid
-    old = inv.started_old b (inv.paged r (Ours b) h.listed)
+    old = old_name tr b inv (inv.paged r (Ours b) h.listed)
 
     by_row : (t : Bool) → has_row tr b.gtrid ≡ t → CallFact (Then tr (Resolved r)) l (if t then Commit else Rollback) b
     by_row true e = inv.row_rowed b.gtrid e
@@ -128,7 +140,7 @@ opened_fact : (tr : Trace) (r : ℕ) (l : Line) (k : Kind) (b : Branch) → Inv 
 opened_fact tr r l k b inv rt h = subst (λ x. CallFact (Then tr (ResolvedOpen r)) l x b) (sym h.kind) (by_record (recorded tr b) refl)
   where
     old : Old (Then tr (ResolvedOpen r)) b.gtrid
-    old = inv.started_old b (inv.paged r (Ours b) h.listed)
+    old = old_name tr b inv (inv.paged r (Ours b) h.listed)
 
     by_row : (t : Bool) → has_row tr b.gtrid ≡ t → CallFact (Then tr (ResolvedOpen r)) l (if t then Commit else Rollback) b
     by_row true e = inv.row_rowed b.gtrid e

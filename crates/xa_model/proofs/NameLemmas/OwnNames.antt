@@ -1,11 +1,11 @@
 -- Names are identifiers, seen otherwise: none is lost, and each branch has its own.
-use Rattle.std.proofs.Common.{◌≡◌, ℕ, suc, Bool, true, false, refl, sym, ap, ◌∙◌, rules, arith}
+use Rattle.std.proofs.Common.{◌≡◌, ℕ, suc, Bool, true, false, refl, sym, ap, ◌∙◌, arith}
 use Rattle.std.specs.Prelude.{if◌then◌else◌, All, List, [], ◌∷◌, map, Option, Some, None}
 use Rattle.std.specs.Ordering.{int_eq}
 use Rattle.xa_base.specs.Xid.{Xid, IsXid, xid_cmp}
 use Rattle.xa_base.specs.Bytes.{u64_pair, u32_pair}
 use Rattle.xa_base.specs.Branch.{xid_of_branch, branch_of_xid, branch_of_pairs, own_format, IsBranch}
-use Rattle.xa_base.proofs.BranchLemmas.{u64_pair-bytes, u32_pair-bytes, own-found}
+use Rattle.xa_base.proofs.BranchLemmas.{u64_pair-bytes, u32_pair-bytes, own-found, own_format_of}
 use Rattle.xa_model.specs.Trace.{Branch, Name.Ours, Name.Foreign}
 use Rattle.xa_model.specs.Facts.InDoubt.{xid_of_name, name_cmp}
 use Rattle.xa_model.specs.Replies.History.{name_by, name_of}
@@ -16,9 +16,6 @@ own_name b h =
     (u64_pair-bytes b.gtrid.incarnation b.gtrid.sequence h.incarnation h.sequence)
     ∙ ap (λ (p : Option (ℕ × ℕ)). name_by (xid_of_branch b) (branch_of_pairs (Some (b.gtrid.incarnation, b.gtrid.sequence)) p))
     (u32_pair-bytes b.thread b.rm h.thread h.rm)
-
-own_format_of : (x : Xid) → int_eq x.format own_format ≡ true → x.format ≡ own_format
-own_format_of x e = search rules
 
 back_by : (x : Xid) → IsXid x → (p q : Option (ℕ × ℕ)) → p ≡ u64_pair x.gtrid → q ≡ u32_pair x.bqual → (t : Bool)
     → int_eq x.format own_format ≡ t → xid_of_name (name_by x (if t then branch_of_pairs p q else None)) ≡ x

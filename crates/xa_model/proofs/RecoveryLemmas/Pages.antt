@@ -1,21 +1,24 @@
 -- What a page lists.
-use Rattle.std.proofs.Common.{◌≡◌, ℕ, zero, suc, List, [], ◌∷◌, ◌++◌, Bool, true, false, refl, sym, ap, ◌∙◌, subst, ℤ, pos, negsuc}
+use Rattle.std.proofs.Common.{◌≡◌, ℕ, zero, suc, List, [], ◌∷◌, ◌++◌, Bool, true, false, refl, subst, ℤ, pos, negsuc}
 use Rattle.std.specs.Prelude.{cond, map, filter, take, Option, Some, None, slice_get}
 use Rattle.std.specs.BTreeSet.{insert_key}
 use Rattle.std.specs.declared.cmp.Ordering.{Ordering}
 use Rattle.std.specs.declared.cmp.Ordering.TheVariants.{Less, Equal, Greater}
 use Rattle.std.specs.Ordering.{match_ordering, is_lt}
 use Rattle.std.proofs.lemmas.Bool.{and_parts}
-use Rattle.xa_base.specs.Xid.{Xid}
-use Rattle.xa_base.specs.declared.answer.Answer.TheVariants.{Page}
-use Rattle.xa_model.specs.Trace.{Branch, Name, Name.Ours, Name.Foreign, Trace}
-use Rattle.xa_model.specs.Facts.{origin, branches, started, standing}
+use Rattle.xa_base.specs.declared.answer.Answer.TheVariants.{Page, Ret}
+use Rattle.xa_base.specs.declared.call.Call.TheVariants as Calls
+use Rattle.xa_model.specs.Trace.{Answer, Branch, Call, Line, Name, Name.Ours, Name.Foreign, Trace}
+use Rattle.xa_model.specs.Facts.{origin, branches, standing}
 use Rattle.xa_base.specs.Scan.{reads_from, behind, page_of}
 use Rattle.xa_base.specs.Standing.{is_in_doubt}
-use Rattle.xa_model.specs.Facts.InDoubt.{name_cmp, in_order, is_in_doubt_at, in_doubt, scan, scan_answer}
+use Rattle.xa_model.specs.Facts.InDoubt.{name_cmp, name_of, in_order, is_in_doubt_at, is_still_in_doubt, in_doubt, scan, scan_answer}
 use Rattle.xa_base.specs.Recover.{page_answer}
-use Rattle.xa_model.specs.Protocol.{Lists}
-use Rattle.xa_model.proofs.Invariant.{IsStarted, Inv}
+use Rattle.xa_model.specs.Protocol.{IsSoundPage, Lists, RightAnswer, SoundAnswer}
+use Rattle.xa_base.specs.declared.state.Standing.{Standing}
+use Rattle.xa_base.specs.declared.state.Standing.TheVariants.{Unstarted}
+use Rattle.xa_model.proofs.Invariant.{HasBegun, IsStarted, Inv}
+use Rattle.xa_model.proofs.Invariant.Now.{begun_or_older}
 
 abbrev pub Each : (Name → Type 0) → List Name → Type 0
 Each P [] = Unit
@@ -72,29 +75,64 @@ page_each P (pos n) (Some last) xs names e h =
 page_each P (pos n) None xs names e h = absurd (cc)
 page_each P (negsuc n) from xs names e h = absurd (cc)
 
-pub doubtful_started : (tr : Trace) (b : Branch) → Inv tr → is_in_doubt (standing tr b) ≡ true → started tr b ≡ true
-doubtful_started tr b inv h = by_test (started tr b) refl
-  where
-    by_test : (t : Bool) → started tr b ≡ t → t ≡ true
-    by_test true s = refl
-    by_test false s = let k = sym (ap is_in_doubt (inv.unstarted b s)) ∙ h in absurd (cc)
+doubtful_begun : (f : Standing) → is_in_doubt f ≡ true → HasBegun f
+doubtful_begun Unstarted h = absurd (cc)
+doubtful_begun _ h = tt
 
-pub foreign_started : (tr : Trace) (xs : List Xid) → Each (IsStarted tr) (map (λ x. Foreign x) xs)
-foreign_started tr [] = tt
-foreign_started tr (x ∷ xs) = (tt, foreign_started tr xs)
+-- a name of this manager's is of a branch that is in doubt there
+abbrev IsDoubtful : Trace → (rm : ℕ) → Name → Type 0
+IsDoubtful tr r (Ours b) = is_in_doubt_at tr r b ≡ true
+IsDoubtful tr r (Foreign x) = Unit
 
-pub own_started : (tr : Trace) (r : ℕ) (bs : List Branch) → Inv tr → Each (IsStarted tr) (map (λ b. Ours b) (filter (is_in_doubt_at tr r) bs))
-own_started tr r [] inv = tt
-own_started tr r (b ∷ bs) inv = by_test (is_in_doubt_at tr r b) refl (own_started tr r bs inv)
+still_doubtful : (tr : Trace) (r : ℕ) (n : Name) → is_still_in_doubt tr r n ≡ true → IsDoubtful tr r n
+still_doubtful tr r (Ours b) h = h
+still_doubtful tr r (Foreign x) h = tt
+
+found_doubtful : (tr : Trace) (r : ℕ) (ns : List Name) → Each (IsDoubtful tr r) (filter (is_still_in_doubt tr r) ns)
+found_doubtful tr r [] = tt
+found_doubtful tr r (n ∷ ns) = by_test (is_still_in_doubt tr r n) refl (found_doubtful tr r ns)
   where
-    by_test : (t : Bool) → is_in_doubt_at tr r b ≡ t → Each (IsStarted tr) (map (λ b. Ours b) (filter (is_in_doubt_at tr r) bs))
-        → Each (IsStarted tr) (map (λ b. Ours b) (cond t (b ∷ filter (is_in_doubt_at tr r) bs) (filter (is_in_doubt_at tr r) bs)))
-    by_test true q k = (doubtful_started tr b inv (and_parts _ _ q).1, k)
+    by_test : (t : Bool) → is_still_in_doubt tr r n ≡ t → Each (IsDoubtful tr r) (filter (is_still_in_doubt tr r) ns)
+        → Each (IsDoubtful tr r) (cond t (n ∷ filter (is_still_in_doubt tr r) ns) (filter (is_still_in_doubt tr r) ns))
+    by_test true q k = (still_doubtful tr r n q, k)
     by_test false q k = k
 
-pub page_started : (tr : Trace) (r : ℕ) (count : ℤ) (start : Bool) (names : List Name) → Inv tr
-    → Page names ≡ scan_answer tr r count start → (x : Name) → Lists names x → IsStarted tr x
-page_started tr r count start names inv e =
-    each_listed (IsStarted tr) names
-    (page_each (IsStarted tr) count (reads_from (scan tr r) start) (in_doubt tr r) names e
-    (each_in_order (IsStarted tr) _ (each_append (IsStarted tr) _ _ (foreign_started tr ((origin tr).in_doubt r)) (own_started tr r (branches tr) inv))))
+own_doubtful : (tr : Trace) (r : ℕ) (bs : List Branch) → Each (IsDoubtful tr r) (map (λ b. Ours b) (filter (is_in_doubt_at tr r) bs))
+own_doubtful tr r [] = tt
+own_doubtful tr r (b ∷ bs) = by_test (is_in_doubt_at tr r b) refl (own_doubtful tr r bs)
+  where
+    by_test : (t : Bool) → is_in_doubt_at tr r b ≡ t → Each (IsDoubtful tr r) (map (λ b. Ours b) (filter (is_in_doubt_at tr r) bs))
+        → Each (IsDoubtful tr r) (map (λ b. Ours b) (cond t (b ∷ filter (is_in_doubt_at tr r) bs) (filter (is_in_doubt_at tr r) bs)))
+    by_test true q k = (q, k)
+    by_test false q k = k
+
+-- the page that comes next is sound
+sound_page : (tr : Trace) (r : ℕ) (count : ℤ) (start : Bool) (names : List Name) (b : Branch) → Page names ≡ scan_answer tr r count start
+    → Lists names (Ours b) → is_in_doubt_at tr r b ≡ true
+sound_page tr r count start names b e l =
+    each_listed (IsDoubtful tr r) names
+    (page_each (IsDoubtful tr r) count (reads_from (scan tr r) start) (in_doubt tr r) names e
+    (each_in_order (IsDoubtful tr r) _
+    (each_append (IsDoubtful tr r) _ _ (found_doubtful tr r (map name_of ((origin tr).in_doubt r))) (own_doubtful tr r (branches tr)))))
+    (Ours b) l
+
+sound_answer : (tr : Trace) (r : ℕ) (count : ℤ) (start : Bool) (a : Answer) → a ≡ scan_answer tr r count start → IsSoundPage tr r a
+sound_answer tr r count start (Page names) e = λ b l. sound_page tr r count start names b e l
+sound_answer tr r count start (Ret code) e = tt
+
+-- the answer that is demanded is sound
+pub right_is_sound : (tr : Trace) (l : Line) (c : Call) (a : Answer) → RightAnswer tr l c a → SoundAnswer tr l c a
+right_is_sound tr l (Calls.Recover n s e) a h = sound_answer tr l.rm n s a h
+right_is_sound tr l Calls.OpenRm a h = h
+right_is_sound tr l Calls.CloseRm a h = h
+right_is_sound tr l (Calls.Start b join) a h = h
+right_is_sound tr l (Calls.End b fail) a h = h
+right_is_sound tr l (Calls.Prepare b) a h = h
+right_is_sound tr l (Calls.Commit b one_phase) a h = h
+right_is_sound tr l (Calls.Rollback b) a h = h
+right_is_sound tr l (Calls.Forget b) a h = h
+
+-- what a sound page lists was started
+pub page_started : (tr : Trace) (r : ℕ) (names : List Name) → Inv tr → IsSoundPage tr r (Page names) → (x : Name) → Lists names x → IsStarted tr x
+page_started tr r names inv h (Ours b) l = begun_or_older tr b inv (doubtful_begun (standing tr b) (and_parts _ _ (h b l)).1)
+page_started tr r names inv h (Foreign x) l = tt

@@ -13,7 +13,7 @@ use Rattle.xa_base.specs.declared.state.Standing.TheVariants.{Unstarted, Active,
 use Rattle.xa_model.specs.Replies.Demanded.{with_steps, AllDemanded}
 use Rattle.xa_model.specs.Facts.{live, taken, new_taken, issued, next_call, standing, vote, retries}
 use Rattle.xa_model.specs.Promises.Recovery.{in_turn, NonePutOff, IsRecovered}
-use Rattle.xa_model.specs.Protocol.{RightAnswer, Right}
+use Rattle.xa_model.specs.Protocol.{SoundAnswer, Right}
 use Rattle.xa_base.specs.declared.reply.Reply.TheVariants as Replies
 use Rattle.xa_base.specs.declared.step.Step.TheVariants as Steps
 use Rattle.xa_model.specs.Replies.Steps.{if_ours, happened}
@@ -123,7 +123,7 @@ not_same x b n e = both (branch_eq b b) (branch_eq-refl b) (sym (ap (λ y. branc
 
 -- a branch that is prepared after the call was so before, and the call that ends it still waits
 pub took_left : (t : Trace) (l : Line) (d : Call) (ds : List Call) (a : Code) (b : Branch) → EndsBranch d
-    → RightAnswer t l d (Ret a) → (a ≡ Codes.Retry → ⊥) → (standing t b ≡ Prepared → (live t b.gtrid ≡ true) ⊎ IsToEnd (d ∷ ds) b)
+    → SoundAnswer t l d (Ret a) → (a ≡ Codes.Retry → ⊥) → (standing t b ≡ Prepared → (live t b.gtrid ≡ true) ⊎ IsToEnd (d ∷ ds) b)
     → standing (Then t (Took l d (Ret a))) b ≡ Prepared → (live t b.gtrid ≡ true) ⊎ IsToEnd ds b
 took_left t l (Calls.Commit x false) ds a b k r n f s = by_branch (branch_eq x b) refl s
   where
@@ -166,7 +166,7 @@ pub record Left (t : Trace) (r : ℕ) (cs : List Call) : Type 0 where
   pub end : AllEnd cs
   pub left : (b : Branch) → b.rm ≡ r → standing t b ≡ Prepared → (live t b.gtrid ≡ true) ⊎ IsToEnd cs b
 
-pub left_next : (t : Trace) (r : ℕ) (d : Call) (ds : List Call) (a : Answer) → RightAnswer t (line 0 r) d a
+pub left_next : (t : Trace) (r : ℕ) (d : Call) (ds : List Call) (a : Answer) → SoundAnswer t (line 0 r) d a
     → (a ≡ Ret Codes.Retry → ⊥) → Left t r (d ∷ ds) → Left (Then (Then t (Took (line 0 r) d a)) (Heard (line 0 r) d a)) r ds
 left_next t r d ds (Ret a) h n p = record {
   pending = pending_next t (line 0 r) d d (Ret a) ds p.pending;
@@ -175,7 +175,7 @@ left_next t r d ds (Ret a) h n p = record {
 }
 left_next t r d ds (Page names) h n p = absurd (no_page d p.end.0 h)
   where
-    no_page : (d : Call) → EndsBranch d → RightAnswer t (line 0 r) d (Page names) → ⊥
+    no_page : (d : Call) → EndsBranch d → SoundAnswer t (line 0 r) d (Page names) → ⊥
     no_page (Calls.Commit b false) k h = cc
     no_page (Calls.Rollback b) k h = cc
     no_page (Calls.Forget b) k h = cc
@@ -206,7 +206,7 @@ all_taken t r (d ∷ ds) (x ∷ xs) p e n a b q s =
         (happened (Steps.Hear 0 r) (Replies.Heard (map_call Ours x.0) x.1)) ≡ Then (Then t (Took (line 0 r) x.0 x.1)) (Heard (line 0 r) x.0 x.1)
     after = λ i. Then (Then t (takes i)) (hears i)
 
-    took : (next_call t (line 0 r) ≡ Some x.0) × RightAnswer t (line 0 r) x.0 x.1
+    took : (next_call t (line 0 r) ≡ Some x.0) × SoundAnswer t (line 0 r) x.0 x.1
     took = subst (Right t) takes (demanded_right t (Steps.Take 0 r) (Replies.Took (map_call Ours x.0) x.1) a.0)
 
     first : x.0 ≡ d
@@ -214,4 +214,4 @@ all_taken t r (d ∷ ds) (x ∷ xs) p e n a b q s =
 
     next : Left (Then (Then t (Took (line 0 r) x.0 x.1)) (Heard (line 0 r) x.0 x.1)) r ds
     next = subst (λ c. Left (Then (Then t (Took (line 0 r) c x.1)) (Heard (line 0 r) c x.1)) r ds) (sym first)
-        (left_next t r d ds x.1 (subst (λ c. RightAnswer t (line 0 r) c x.1) first took.1) n.0 p)
+        (left_next t r d ds x.1 (subst (λ c. SoundAnswer t (line 0 r) c x.1) first took.1) n.0 p)

@@ -1,47 +1,47 @@
 -- What a whole recovery has to do, once its page is resolved.
-use Rattle.std.proofs.Common.{◌≡◌, ℕ, zero, suc, ◌+◌, List, [], ◌∷◌, ◌++◌, length, length-append, Bool, true, false, ◌&&◌, refl, sym, ap, ◌∙◌, subst, arith, pos, ◌⊎◌}
+use Rattle.std.proofs.Common.{◌≡◌, ℕ, zero, suc, ◌+◌, List, [], ◌∷◌, ◌++◌, length, length-append, Bool, true, false, ◌&&◌, refl, sym, ap, ◌∙◌, subst, arith, ℤ, pos, ◌⊎◌}
 use Rattle.std.specs.Prelude.{if◌then◌else◌, cond, map, filter, take, nat_eq, Some, None, Contains, slice_get}
 use Rattle.std.specs.BTreeSet.{insert_key}
 use Rattle.std.specs.declared.cmp.Ordering.{Ordering}
 use Rattle.std.specs.declared.cmp.Ordering.TheVariants.{Less, Equal, Greater}
 use Rattle.std.specs.Ordering.{match_ordering}
 use mathlib.Core.Logic.{◌⊎◌.inl, ◌⊎◌.inr}
-use Rattle.std.proofs.lemmas.Bool.{and_parts, eq-eqb}
+use Rattle.std.proofs.lemmas.Bool.{and_parts, eq-eqb, or_cases}
 use Rattle.std.proofs.lemmas.List.{append-nil, take_all}
 use Rattle.xa_base.specs.Branch.{xid_of_branch, branch_of_xid, branch_eq, IsBranch}
 use Rattle.xa_base.specs.Standing.{is_in_doubt}
 use Rattle.xa_base.specs.Xid.{Xid}
 use Rattle.xa_base.specs.declared.state.Standing.TheVariants.{Prepared}
 use Rattle.xa_base.proofs.XidOrder.{xid_cmp_exact}
-use Rattle.xa_model.specs.Replies.Demanded.{Demanded, Demanded.By_rule, Demanded.As_value, Demanded.For_memory, Demanded.For_log, with_steps, AllDemanded}
+use Rattle.xa_model.specs.Replies.Demanded.{Demanded, Demanded.By_rule, Demanded.As_value, Demanded.For_memory, Demanded.For_log, Takes, Takes.Takes_none, Takes.Takes_one, with_steps, AllDemanded}
 use Rattle.xa_model.specs.Facts.{origin, branches, started, live, has_branch, has_row, recorded, taken, issued, page, resolving_kind, resolving_calls, standing}
 use Rattle.xa_model.specs.Replies.History.{name_of}
-use Rattle.xa_model.specs.Facts.InDoubt.{xid_of_name, name_cmp, in_order, is_in_doubt_at, in_doubt}
+use Rattle.xa_model.specs.Facts.InDoubt.{xid_of_name, name_cmp, in_order, is_in_doubt_at, is_still_in_doubt, in_doubt, scan_answer}
 use Rattle.xa_model.specs.Promises.Recovery.{recovery, MayComplete, IsRecovered}
-use Rattle.xa_model.specs.Protocol.{RightOrigin, Right, AllRight}
+use Rattle.xa_base.specs.Call.{map_call}
+use Rattle.xa_model.specs.Protocol.{RightOrigin, RightAnswer, AllRight}
+use Rattle.xa_model.specs.Replies.Steps.{Reply}
 use Rattle.xa_base.specs.declared.reply.Reply.TheVariants as Replies
 use Rattle.xa_base.specs.declared.step.Step.TheVariants as Steps
 use Rattle.xa_base.specs.declared.call.Call.TheVariants as Calls
 use Rattle.xa_base.specs.StateTable.{on}
 use Rattle.xa_base.specs.declared.answer.Answer.TheVariants.{Page}
-use Rattle.xa_model.specs.Trace.{Branch, Name, Name.Ours, Name.Foreign, Kind.Commit, Kind.Rollback, Kind.Forget, Call, Answer, Happening.Issued, Happening.Resolved, Happening.Took, Happening.Heard, Trace, Trace.From, Trace.Then, line}
+use Rattle.xa_model.specs.Trace.{Branch, Name, Name.Ours, Name.Foreign, Kind.Commit, Kind.Rollback, Kind.Forget, Call, Answer, Line, Happening.Issued, Happening.Resolved, Happening.Took, Happening.Heard, Trace, Trace.From, Trace.Then, line}
 use Rattle.xa_model.proofs.Invariant.{IsHeuristic, Inv}
 use Rattle.xa_base.proofs.BranchKeys.{branch_eq-true}
 use Rattle.xa_model.proofs.Keys.{line_eq-refl}
 use Rattle.xa_model.proofs.NameLemmas.OwnNames.{own_name, foreign_name}
 use Rattle.xa_model.proofs.RecoveryLemmas.Pages.{Each, each_append, each_in_order}
-use Rattle.xa_model.proofs.Invariant.Preserved.{always}
+use Rattle.xa_model.proofs.Invariant.Preserved.{always, never_started}
 use Rattle.xa_model.proofs.Invariant.PreservedRows.{started_listed}
 use Rattle.xa_model.proofs.Invariant.Records.{recorded_how}
 use Rattle.xa_model.proofs.RecoveryLemmas.Recovered.{In, Pending, EndsBranch, AllEnd, IsToEnd, Left, all_taken}
-use Rattle.xa_model.proofs.Replies.Replies.{demanded_right}
-use Rattle.xa_model.proofs.Invariant.RowLists.{or_here}
 
 -- ** what is in doubt is listed
 
 pub has_in : (bs : List Branch) (b : Branch) → has_branch bs b ≡ true → In bs b
 has_in [] b h = absurd (cc)
-has_in (x ∷ bs) b h = by_place (or_here _ _ h) (has_in bs b)
+has_in (x ∷ bs) b h = by_place (or_cases _ _ h) (has_in bs b)
   where
     by_place : (branch_eq x b ≡ true) ⊎ (has_branch bs b ≡ true) → (has_branch bs b ≡ true → In bs b) → (x ≡ b) ⊎ In bs b
     by_place (inl s) f = inl (branch_eq-true x b s)
@@ -117,9 +117,15 @@ pub origin_right : (t : Trace) → AllRight t → RightOrigin (origin t)
 origin_right (From o) r = r
 origin_right (Then t e) r = origin_right t r.0
 
-pub foreign_known : (t : Trace) (xs : List Xid) → ((x : Xid) → In xs x → branch_of_xid x ≡ None) → Each (IsKnownName t) (map (λ x. Foreign x) xs)
-foreign_known t [] f = tt
-foreign_known t (x ∷ xs) f = (f x (inl refl), foreign_known t xs (λ y i. f y (inr i)))
+pub foreign_known : (t : Trace) (r : ℕ) (xs : List Xid) → ((x : Xid) → In xs x → branch_of_xid x ≡ None)
+    → Each (IsKnownName t) (filter (is_still_in_doubt t r) (map name_of xs))
+foreign_known t r [] f = tt
+foreign_known t r (x ∷ xs) f =
+    subst (λ (n : Name). Each (IsKnownName t) (filter (is_still_in_doubt t r) (n ∷ map name_of xs))) (sym (foreign_name x none))
+    (none, foreign_known t r xs (λ y i. f y (inr i)))
+  where
+    none : branch_of_xid x ≡ None
+    none = f x (inl refl)
 
 pub contains_in : (xs : List Xid) (x : Xid) → In xs x → Contains xs x
 contains_in [] x i = absurd i
@@ -136,18 +142,18 @@ own_known t r (b ∷ bs) f = by_test (is_in_doubt_at t r b) refl (own_known t r 
     by_test true q k = (f b (and_parts _ _ q).1, k)
     by_test false q k = k
 
-pub in_doubt_started : (t : Trace) (b : Branch) → Inv t → is_in_doubt (standing t b) ≡ true → started t b ≡ true
-in_doubt_started t b inv h = by_test (started t b) refl
+pub in_doubt_started : (t : Trace) (b : Branch) → AllRight t → is_in_doubt (standing t b) ≡ true → started t b ≡ true
+in_doubt_started t b a h = by_test (started t b) refl
   where
     by_test : (u : Bool) → started t b ≡ u → u ≡ true
     by_test true s = refl
-    by_test false s = let k = sym (ap is_in_doubt (inv.unstarted b s)) ∙ h in absurd (cc)
+    by_test false s = let k = sym (ap is_in_doubt (never_started t b a s)) ∙ h in absurd (cc)
 
 pub all_known : (t : Trace) (r : ℕ) → AllRight t → Each (IsKnownName t) (in_doubt t r)
 all_known t r a =
     each_in_order (IsKnownName t) _
-    (each_append (IsKnownName t) _ _ (foreign_known t ((origin t).in_doubt r) (λ x i. (origin_right t a).foreign r x (contains_in _ x i)))
-    (own_known t r (branches t) (λ b. in_doubt_started t b (always t a))))
+    (each_append (IsKnownName t) _ _ (foreign_known t r ((origin t).in_doubt r) (λ x i. (origin_right t a).foreign r x (contains_in _ x i)))
+    (own_known t r (branches t) (λ b. in_doubt_started t b a)))
 
 pub each_in : (P : Name → Type 0) (xs : List Name) (n : Name) → Each P xs → In xs n → P n
 each_in P [] n h i = absurd i
@@ -163,7 +169,7 @@ listed t r b a f q s = as_itself h.0 h.1 h.2 (each_in (IsKnownName t) (in_doubt 
     doubt = ap is_in_doubt s
 
     b_started : started t b ≡ true
-    b_started = in_doubt_started t b (always t a) doubt
+    b_started = in_doubt_started t b a doubt
 
     passes : is_in_doubt_at t r b ≡ true
     passes = λ i. (here i && doubt i)
@@ -172,7 +178,7 @@ listed t r b a f q s = as_itself h.0 h.1 h.2 (each_in (IsKnownName t) (in_doubt 
         here = eq-eqb b.rm r q
 
     h : HasXid (in_doubt t r) (xid_of_branch b)
-    h = in_order_has _ (Ours b) (in_behind (map (λ x. Foreign x) ((origin t).in_doubt r)) _ (Ours b)
+    h = in_order_has _ (Ours b) (in_behind (filter (is_still_in_doubt t r) (map name_of ((origin t).in_doubt r))) _ (Ours b)
         (in_mapped _ b (in_filtered (is_in_doubt_at t r) (branches t) b (has_in (branches t) b (started_listed t b b_started)) passes)))
 
     as_itself : (n : Name) → In (in_doubt t r) n → xid_of_name n ≡ xid_of_branch b → IsKnownName t n → In (in_doubt t r) (Ours b)
@@ -295,20 +301,49 @@ number_of t r n (As_value e q) = cc
 number_of t r n (For_memory e m q) = absurd (cc)
 number_of t r n (For_log e m q) = absurd (cc)
 
-pub recovered : (t : Trace) (r count : ℕ) (names : List Name) (answers : List (Call × Answer)) → AllRight t
+-- the page that is demanded
+page_given : (t : Trace) (l : Line) (c : Call) (a : Answer) (k : ℤ) (x y : Bool) (names : List Name) → RightAnswer t l c a
+    → ◌≡◌ {A = Reply} (Replies.Took (map_call Ours c) a) (Replies.Took (Calls.Recover k x y) (Page names)) → Page names ≡ scan_answer t l.rm k x
+page_given t l (Calls.Recover n s u) a k x y names h e =
+    let one : n ≡ k = cc in let two : s ≡ x = cc in let three : a ≡ Page names = cc in
+    sym three ∙ (h ∙ (λ i. scan_answer t l.rm (one i) (two i)))
+page_given t l Calls.OpenRm a k x y names h e = absurd (cc)
+page_given t l Calls.CloseRm a k x y names h e = absurd (cc)
+page_given t l (Calls.Start b join) a k x y names h e = absurd (cc)
+page_given t l (Calls.End b fail) a k x y names h e = absurd (cc)
+page_given t l (Calls.Prepare b) a k x y names h e = absurd (cc)
+page_given t l (Calls.Commit b one_phase) a k x y names h e = absurd (cc)
+page_given t l (Calls.Rollback b) a k x y names h e = absurd (cc)
+page_given t l (Calls.Forget b) a k x y names h e = absurd (cc)
+
+page_taken_by : (t : Trace) (l : Line) (q : Reply) (k : ℤ) (x y : Bool) (names : List Name) → Takes t l q
+    → q ≡ Replies.Took (Calls.Recover k x y) (Page names) → Page names ≡ scan_answer t l.rm k x
+page_taken_by t l q k x y names (Takes_one c a h r) e = page_given t l c a k x y names r e
+page_taken_by t l q k x y names (Takes_none h) e = absurd (cc)
+
+page_demanded : (t : Trace) (r : ℕ) (k : ℤ) (x y : Bool) (names : List Name)
+    → Demanded t (Steps.Take 0 r) (Replies.Took (Calls.Recover k x y) (Page names)) → Page names ≡ scan_answer t r k x
+page_demanded t r k x y names (By_rule n e q) = absurd (cc)
+page_demanded t r k x y names (As_value e v) = page_taken_by t (line 0 r) _ k x y names v refl
+page_demanded t r k x y names (For_memory e m q) = absurd (cc)
+page_demanded t r k x y names (For_log e m q) = absurd (cc)
+
+-- where each branch that is prepared there is listed, and not recorded
+pub recovered_by : (t : Trace) (r count : ℕ) (names : List Name) (answers : List (Call × Answer))
+    → ((b : Branch) → b.rm ≡ r → standing t b ≡ Prepared → recorded t b ≡ false)
+    → ((b : Branch) → b.rm ≡ r → standing t b ≡ Prepared → In (in_doubt t r) (Ours b))
     → MayComplete t r count answers → AllDemanded t (recovery r count names answers) → IsRecovered (with_steps t (recovery r count names answers)) r
-recovered t r count names answers a m d =
+recovered_by t r count names answers unrecorded is_listed m d =
     all_taken (Then (paged t r count names) (Resolved r)) r (resolving_calls (paged t r count names) names) answers left number m.none_put_off d.1.1.1.1
   where
-    took : Right (Then t (Issued (line 0 r) (Calls.Recover (pos count) true true))) (Took (line 0 r) (Calls.Recover (pos count) true true) (Page names))
-    took = demanded_right (Then t (Issued (line 0 r) (Calls.Recover (pos count) true true))) (Steps.Take 0 r)
-        (Replies.Took (Calls.Recover (pos count) true true) (Page names)) d.1.0
+    listed_now : Page names ≡ Page (take count (in_doubt t r))
+    listed_now = page_demanded (Then t (Issued (line 0 r) (Calls.Recover (pos count) true true))) r (pos count) true true names d.1.0
 
     page_taken : Page names ≡ Page (take count (in_doubt t r)) → names ≡ take count (in_doubt t r)
     page_taken e = cc
 
     whole : names ≡ in_doubt t r
-    whole = page_taken took.1 ∙ take_all count (in_doubt t r) m.enough
+    whole = page_taken listed_now ∙ take_all count (in_doubt t r) m.enough
 
     number : length answers ≡ length (resolving_calls (paged t r count names) names)
     number =
@@ -319,8 +354,8 @@ recovered t r count names answers a m d =
         → (u ≡ true) ⊎ IsToEnd (resolving_calls (paged t r count names) names) b
     by_live b q s true l = inl refl
     by_live b q s false l =
-        inr (to_end (paged t r count names) _ b (not_recorded t b (always t a) (in_doubt_started t b (always t a) (ap is_in_doubt s)) s)
-        (resolved (paged t r count names) names b (subst (λ ns. In ns (Ours b)) (sym whole) (listed t r b a m.numbers q s)) l))
+        inr (to_end (paged t r count names) _ b (unrecorded b q s)
+        (resolved (paged t r count names) names b (subst (λ ns. In ns (Ours b)) (sym whole) (is_listed b q s)) l))
 
     left : Left (Then (paged t r count names) (Resolved r)) r (resolving_calls (paged t r count names) names)
     left = record {
@@ -328,3 +363,9 @@ recovered t r count names answers a m d =
       end = all_end (paged t r count names) names;
       left = λ b q s. by_live b q s (live t b.gtrid) refl;
     }
+
+pub recovered : (t : Trace) (r count : ℕ) (names : List Name) (answers : List (Call × Answer)) → AllRight t
+    → MayComplete t r count answers → AllDemanded t (recovery r count names answers) → IsRecovered (with_steps t (recovery r count names answers)) r
+recovered t r count names answers a m d =
+    recovered_by t r count names answers
+    (λ b q s. not_recorded t b (always t a) (in_doubt_started t b a (ap is_in_doubt s)) s) (λ b q s. listed t r b a m.numbers q s) m d

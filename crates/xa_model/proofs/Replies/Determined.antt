@@ -10,7 +10,7 @@ use Rattle.xa_base.specs.Call.{map_call}
 use Rattle.xa_base.specs.declared.step.Side.TheVariants as Side
 use Rattle.xa_model.specs.Replies.Demanded.{Takes, Takes.Takes_one, Takes.Takes_none, Hears, Hears.Hears_one, Hears.Hears_none, IsValue, IsDetermined}
 use Rattle.xa_model.specs.Facts.{handed_over, started}
-use Rattle.xa_model.specs.Protocol.{Right, RightAnswer, AllRight}
+use Rattle.xa_model.specs.Protocol.{Right, RightAnswer, IsRun}
 use Rattle.xa_model.specs.Replies.Steps.{Step, Reply}
 use Rattle.xa_model.specs.Trace.{Gtrid, Branch, Line, Name.Ours, Call, Answer, Happening.Issued, Trace, Trace.From, Trace.Then, line}
 use Rattle.xa_model.proofs.Invariant.Grows.{started_kept, handed_new}
@@ -47,7 +47,7 @@ determined tr _ q r d x y = x ∙ sym y
 
 -- a transaction that was handed over has a branch
 pub handed_some :
-    (tr : Trace) (g : Gtrid) → AllRight tr → handed_over tr g ≡ true
+    (tr : Trace) (g : Gtrid) → IsRun tr → handed_over tr g ≡ true
     → (b : Branch) × (b.gtrid ≡ g) × (started tr b ≡ true)
 handed_some (From o) g r h = absurd (cc)
 handed_some (Then tr e) g r h = by_case (handed_new tr e g h) (λ k. handed_some tr g r.0 k)

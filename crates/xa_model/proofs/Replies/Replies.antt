@@ -2,7 +2,7 @@
 use Rattle.std.proofs.Common.{◌≡◌, ℕ, List, [], ◌∷◌, Bool, true, false, not, ◌&&◌, ◌||◌, refl, sym, ap, ◌∙◌, subst, ◌⊎◌}
 use Rattle.std.specs.Prelude.{if◌then◌else◌, nat_eq, Option, Some, None}
 use mathlib.Core.Logic.{◌⊎◌.inl, ◌⊎◌.inr}
-use Rattle.std.proofs.lemmas.Bool.{and_parts, eqb-true}
+use Rattle.std.proofs.lemmas.Bool.{and_parts, eqb-true, not-false, or_cases, or_parts}
 use Rattle.xa_base.specs.Branch.{gtrid_eq, branch_eq}
 use Rattle.xa_base.specs.Call.{map_call}
 use Rattle.xa_base.specs.Standing.{is_prepared}
@@ -20,7 +20,7 @@ use Rattle.xa_base.specs.declared.call.Call.TheVariants as Calls
 use Rattle.xa_base.specs.StateTable.{on}
 use Rattle.xa_model.specs.Trace.{Gtrid, Branch, Call, Name.Ours, Name.Foreign, Kind, Kind.Start, Kind.Join, Kind.End, Kind.Prepare, Kind.Commit, Kind.OnePhase, Kind.Rollback, Kind.Forget, Outcome, Happening, Happening.Issued, Trace, Trace.From, Trace.Then, line}
 use Rattle.xa_base.proofs.BranchKeys.{branch_eq-true, gtrid_eq-refl}
-use Rattle.xa_model.proofs.Invariant.RowLists.{or_here}
+use Rattle.xa_model.proofs.RecoveryLemmas.Pages.{right_is_sound}
 
 -- ** no rule applies
 
@@ -110,16 +110,8 @@ abbrev pub InBranches : List Branch → Branch → Type 0
 InBranches [] b = ⊥
 InBranches (x ∷ xs) b = (x ≡ b) ⊎ InBranches xs b
 
-pub not_back : (t : Bool) → not t ≡ false → t ≡ true
-not_back true e = refl
-not_back false e = cc
-
-pub or_none : (s t : Bool) → (s || t) ≡ false → (s ≡ false) × (t ≡ false)
-or_none true t e = absurd (cc)
-or_none false t e = (refl, e)
-
 pub is_up : (tr : Trace) (s : Step) → must_refuse tr s ≡ None → asks_manager s ≡ true → up tr ≡ true
-is_up tr s e a = not_back (up tr) (by_ask (asks_manager s) a (none_applies tr s Refusal.ManagerDown e))
+is_up tr s e a = not-false (up tr) (by_ask (asks_manager s) a (none_applies tr s Refusal.ManagerDown e))
   where
     by_ask : (t : Bool) → t ≡ true → (t && not (up tr)) ≡ false → not (up tr) ≡ false
     by_ask true a e = e
@@ -136,10 +128,10 @@ is_live tr g b n = by_tests (begun tr g) (decided_so Outcome.Commit tr g) (outli
     by_tests false c o t b n = cc
 
 pub is_open : (tr : Trace) (g : Gtrid) → begun tr g ≡ true → is_shut tr g ≡ false → IsOpen tr g
-is_open tr g b n = let p = or_none _ _ n in record { is_live = is_live tr g b p.0; unclaimed = p.1 }
+is_open tr g b n = let p = or_parts _ _ n in record { is_live = is_live tr g b p.0; unclaimed = p.1 }
 
 pub voted_of : (tr : Trace) (b : Branch) → has_voted tr b ≡ true → HasVoted tr b
-voted_of tr b h = or_here _ _ h
+voted_of tr b h = or_cases _ _ h
 
 pub all_of_step : (g : Gtrid) (test : Branch → Bool) (x b : Branch) (rest : Bool) → x ≡ b → b.gtrid ≡ g
     → ((not (gtrid_eq x.gtrid g) || test x) && rest) ≡ true → test b ≡ true
@@ -159,12 +151,12 @@ all_of-started tr g test (x ∷ bs) b h (inr i) q = all_of-started tr g test bs 
 
 pub started_in : (tr : Trace) (b : Branch) → started tr b ≡ true → InBranches (branches tr) b
 started_in (From o) b s = absurd (cc)
-started_in (Then tr (Issued l (Calls.Start c false))) b s = by_case (or_here _ _ s) (λ k. started_in tr b k)
+started_in (Then tr (Issued l (Calls.Start c false))) b s = by_case (or_cases _ _ s) (λ k. started_in tr b k)
   where
     by_case : (branch_eq c b ≡ true) ⊎ (started tr b ≡ true) → (started tr b ≡ true → InBranches (branches tr) b) → (c ≡ b) ⊎ InBranches (branches tr) b
     by_case (inl h) f = inl (branch_eq-true c b h)
     by_case (inr h) f = inr (f h)
-started_in (Then tr (Issued l (Calls.Start c true))) b s = by_case (or_here _ _ s) (λ k. started_in tr b k)
+started_in (Then tr (Issued l (Calls.Start c true))) b s = by_case (or_cases _ _ s) (λ k. started_in tr b k)
   where
     by_case : (branch_eq c b ≡ true) ⊎ (started tr b ≡ true) → (started tr b ≡ true → InBranches (branches tr) b) → (c ≡ b) ⊎ InBranches (branches tr) b
     by_case (inl h) f = inl (branch_eq-true c b h)
@@ -173,7 +165,7 @@ started_in (Then tr _) b s = started_in tr b s
 
 pub each_started : (tr : Trace) (g : Gtrid) (test : Branch → Bool) → not (all_of g test (branches tr)) ≡ false → (b : Branch)
     → b.gtrid ≡ g → started tr b ≡ true → test b ≡ true
-each_started tr g test h b q s = all_of-started tr g test (branches tr) b (not_back _ h) (started_in tr b s) q
+each_started tr g test h b q s = all_of-started tr g test (branches tr) b (not-false _ h) (started_in tr b s) q
 
 pub prepared_of : (f : Standing) → not (is_prepared f) ≡ false → f ≡ Prepared
 prepared_of Prepared h = refl
@@ -182,14 +174,14 @@ prepared_of _ h = cc
 -- ** steps that no rule refuses
 
 pub is_known : (tr : Trace) (t n : ℕ) (k : Kind) (b : Branch) → must_refuse tr (Steps.Issue t n (on k (Ours b))) ≡ None → IsKnown tr k b.gtrid
-is_known tr t n Start b e = not_back _ (none_applies tr (Steps.Issue t n (Calls.Start (Ours b) false)) Refusal.UnknownTransaction e)
-is_known tr t n Join b e = not_back _ (none_applies tr (Steps.Issue t n (Calls.Start (Ours b) true)) Refusal.UnknownTransaction e)
-is_known tr t n (End fail) b e = not_back _ (none_applies tr (Steps.Issue t n (Calls.End (Ours b) fail)) Refusal.UnknownTransaction e)
-is_known tr t n Prepare b e = not_back _ (none_applies tr (Steps.Issue t n (Calls.Prepare (Ours b))) Refusal.UnknownTransaction e)
-is_known tr t n OnePhase b e = not_back _ (none_applies tr (Steps.Issue t n (Calls.Commit (Ours b) true)) Refusal.UnknownTransaction e)
-is_known tr t n Commit b e = not_back _ (none_applies tr (Steps.Issue t n (Calls.Commit (Ours b) false)) Refusal.UnknownTransaction e)
-is_known tr t n Rollback b e = not_back _ (none_applies tr (Steps.Issue t n (Calls.Rollback (Ours b))) Refusal.UnknownTransaction e)
-is_known tr t n Forget b e = not_back _ (none_applies tr (Steps.Issue t n (Calls.Forget (Ours b))) Refusal.UnknownTransaction e)
+is_known tr t n Start b e = not-false _ (none_applies tr (Steps.Issue t n (Calls.Start (Ours b) false)) Refusal.UnknownTransaction e)
+is_known tr t n Join b e = not-false _ (none_applies tr (Steps.Issue t n (Calls.Start (Ours b) true)) Refusal.UnknownTransaction e)
+is_known tr t n (End fail) b e = not-false _ (none_applies tr (Steps.Issue t n (Calls.End (Ours b) fail)) Refusal.UnknownTransaction e)
+is_known tr t n Prepare b e = not-false _ (none_applies tr (Steps.Issue t n (Calls.Prepare (Ours b))) Refusal.UnknownTransaction e)
+is_known tr t n OnePhase b e = not-false _ (none_applies tr (Steps.Issue t n (Calls.Commit (Ours b) true)) Refusal.UnknownTransaction e)
+is_known tr t n Commit b e = not-false _ (none_applies tr (Steps.Issue t n (Calls.Commit (Ours b) false)) Refusal.UnknownTransaction e)
+is_known tr t n Rollback b e = not-false _ (none_applies tr (Steps.Issue t n (Calls.Rollback (Ours b))) Refusal.UnknownTransaction e)
+is_known tr t n Forget b e = not-false _ (none_applies tr (Steps.Issue t n (Calls.Forget (Ours b))) Refusal.UnknownTransaction e)
 
 pub may_be_called : (tr : Trace) (t n : ℕ) (k : Kind) (b : Branch) → must_refuse tr (Steps.Issue t n (on k (Ours b))) ≡ None
     → IsKnown tr k b.gtrid → MayBeCalled tr k b
@@ -206,20 +198,20 @@ may_be_called tr t n Join b e h = (
 may_be_called tr t n (End fail) b e h = tt
 may_be_called tr t n Prepare b e h = is_open tr b.gtrid h (none_applies tr (Steps.Issue t n (Calls.Prepare (Ours b))) Refusal.Decided e)
 may_be_called tr t n OnePhase b e h =
-    let v = and_parts _ _ (not_back _ (none_applies tr (Steps.Issue t n (Calls.Commit (Ours b) true)) Refusal.Votes e)) in (
+    let v = and_parts _ _ (not-false _ (none_applies tr (Steps.Issue t n (Calls.Commit (Ours b) true)) Refusal.Votes e)) in (
       is_open tr b.gtrid h (none_applies tr (Steps.Issue t n (Calls.Commit (Ours b) true)) Refusal.Decided e),
       (v.0, λ c q s. branch_eq-true c b (all_of-started tr b.gtrid (λ d. branch_eq d b) (branches tr) c v.1 (started_in tr c s) q)),
     )
-may_be_called tr t n Commit b e h = not_back _ (none_applies tr (Steps.Issue t n (Calls.Commit (Ours b) false)) Refusal.NotDecided e)
-may_be_called tr t n Rollback b e h = or_here _ _ (not_back _ (none_applies tr (Steps.Issue t n (Calls.Rollback (Ours b))) Refusal.NotDecided e))
-may_be_called tr t n Forget b e h = not_back _ (none_applies tr (Steps.Issue t n (Calls.Forget (Ours b))) Refusal.NotDecided e)
+may_be_called tr t n Commit b e h = not-false _ (none_applies tr (Steps.Issue t n (Calls.Commit (Ours b) false)) Refusal.NotDecided e)
+may_be_called tr t n Rollback b e h = or_cases _ _ (not-false _ (none_applies tr (Steps.Issue t n (Calls.Rollback (Ours b))) Refusal.NotDecided e))
+may_be_called tr t n Forget b e h = not-false _ (none_applies tr (Steps.Issue t n (Calls.Forget (Ours b))) Refusal.NotDecided e)
 
 pub own_thread : (t n : ℕ) (k : Kind) (b : Branch) → (not (nat_eq n b.rm) || (is_own k && not (nat_eq t b.thread))) ≡ false → IsOnOwnThread k (line t n) b
-own_thread t n Start b e = eqb-true _ _ (not_back _ (or_none _ _ e).1)
-own_thread t n Join b e = eqb-true _ _ (not_back _ (or_none _ _ e).1)
-own_thread t n (End fail) b e = eqb-true _ _ (not_back _ (or_none _ _ e).1)
-own_thread t n Prepare b e = eqb-true _ _ (not_back _ (or_none _ _ e).1)
-own_thread t n OnePhase b e = eqb-true _ _ (not_back _ (or_none _ _ e).1)
+own_thread t n Start b e = eqb-true _ _ (not-false _ (or_parts _ _ e).1)
+own_thread t n Join b e = eqb-true _ _ (not-false _ (or_parts _ _ e).1)
+own_thread t n (End fail) b e = eqb-true _ _ (not-false _ (or_parts _ _ e).1)
+own_thread t n Prepare b e = eqb-true _ _ (not-false _ (or_parts _ _ e).1)
+own_thread t n OnePhase b e = eqb-true _ _ (not-false _ (or_parts _ _ e).1)
 own_thread t n Commit b e = tt
 own_thread t n Rollback b e = tt
 own_thread t n Forget b e = tt
@@ -239,14 +231,14 @@ pub right_call : (tr : Trace) (t n : ℕ) (k : Kind) (b : Branch) → must_refus
 right_call tr t n k b e =
     let h = is_known tr t n k b e in
     let w = sym (wrong_thread t n k b) ∙ none_applies tr (Steps.Issue t n (on k (Ours b))) Refusal.WrongThread e in
-    record { known = h; own_rm = eqb-true _ _ (not_back _ (or_none _ _ w).0); own_thread = own_thread t n k b w; may_be = may_be_called tr t n k b e h }
+    record { known = h; own_rm = eqb-true _ _ (not-false _ (or_parts _ _ w).0); own_thread = own_thread t n k b w; may_be = may_be_called tr t n k b e h }
 
 pub right_decision : (tr : Trace) (g : Gtrid) (o : Outcome) → must_refuse tr (Steps.Decide g o) ≡ None → RightDecision tr g o
 right_decision tr g o e = record {
   is_up = is_up tr (Steps.Decide g o) e refl;
   is_live =
-      is_live tr g (not_back _ (none_applies tr (Steps.Decide g o) Refusal.UnknownTransaction e))
-      (or_none _ _ (none_applies tr (Steps.Decide g o) Refusal.Decided e)).0;
+      is_live tr g (not-false _ (none_applies tr (Steps.Decide g o) Refusal.UnknownTransaction e))
+      (or_parts _ _ (none_applies tr (Steps.Decide g o) Refusal.Decided e)).0;
   votes =
       λ q. inl (λ b k s. voted_of tr b
       (each_started tr g (has_voted tr)
@@ -257,18 +249,18 @@ pub right_claim : (tr : Trace) (g : Gtrid) → must_refuse tr (Steps.Claim g) �
 right_claim tr g e = record {
   is_up = is_up tr (Steps.Claim g) e refl;
   is_live =
-      is_live tr g (not_back _ (none_applies tr (Steps.Claim g) Refusal.UnknownTransaction e))
-      (or_none _ _ (none_applies tr (Steps.Claim g) Refusal.Decided e)).0;
+      is_live tr g (not-false _ (none_applies tr (Steps.Claim g) Refusal.UnknownTransaction e))
+      (or_parts _ _ (none_applies tr (Steps.Claim g) Refusal.Decided e)).0;
   votes = λ b k s. voted_of tr b (each_started tr g (has_voted tr) (none_applies tr (Steps.Claim g) Refusal.Votes e) b k s);
 }
 
 pub claimed_of : (s t : Bool) → s ≡ true → (s && not t) ≡ false → t ≡ true
-claimed_of true t p e = not_back t e
+claimed_of true t p e = not-false t e
 claimed_of false t p e = absurd (cc)
 
 pub right_settle : (tr : Trace) (g : Gtrid) → must_refuse tr (Steps.Settle g) ≡ None → RightDecision tr g Outcome.Commit
 right_settle tr g e =
-    let l = is_live tr g (not_back _ (none_applies tr (Steps.Settle g) Refusal.UnknownTransaction e)) (none_applies tr (Steps.Settle g) Refusal.Decided e) in
+    let l = is_live tr g (not-false _ (none_applies tr (Steps.Settle g) Refusal.UnknownTransaction e)) (none_applies tr (Steps.Settle g) Refusal.Decided e) in
     record {
       is_up = is_up tr (Steps.Settle g) e refl;
       is_live = l;
@@ -277,20 +269,20 @@ right_settle tr g e =
 
 pub right_abandon : (tr : Trace) (g : Gtrid) → must_refuse tr (Steps.Abandon g) ≡ None → RightDecision tr g Outcome.Rollback
 right_abandon tr g e =
-    let l = is_live tr g (not_back _ (none_applies tr (Steps.Abandon g) Refusal.UnknownTransaction e)) (none_applies tr (Steps.Abandon g) Refusal.Decided e) in
+    let l = is_live tr g (not-false _ (none_applies tr (Steps.Abandon g) Refusal.UnknownTransaction e)) (none_applies tr (Steps.Abandon g) Refusal.Decided e) in
     record { is_up = is_up tr (Steps.Abandon g) e refl; is_live = l; votes = λ q. absurd (cc) }
 
 pub right_done : (tr : Trace) (g : Gtrid) → must_refuse tr (Steps.Done g) ≡ None → RightDone tr g
 right_done tr g e = record {
   is_up = is_up tr (Steps.Done g) e refl;
-  has = not_back _ (none_applies tr (Steps.Done g) Refusal.NotDecided e);
+  has = not-false _ (none_applies tr (Steps.Done g) Refusal.NotDecided e);
   is_settled = by_begun (begun tr g) refl (none_applies tr (Steps.Done g) Refusal.UnknownTransaction e) (none_applies tr (Steps.Done g) Refusal.Busy e);
 }
   where
     by_begun : (t : Bool) → begun tr g ≡ t → not (t || outlived tr g) ≡ false
         → not (if t then all_of g (settled tr) (branches tr) else participants_settled tr g) ≡ false → IsRowSettled tr g
     by_begun true q u h = inl (q, λ b k s. each_started tr g (settled tr) h b k s)
-    by_begun false q u h = inr (not_back _ u, not_back _ h)
+    by_begun false q u h = inr (not-false _ u, not-false _ h)
 
 -- ** replies
 
@@ -303,7 +295,8 @@ accepted_ours Calls.OpenRm = refl
 accepted_ours _ = refl
 
 pub takes_right : (tr : Trace) (t n : ℕ) (r : Reply) → Takes tr (line t n) r → Right tr (happened (Steps.Take t n) r)
-takes_right tr t n r (Takes_one c a h k) = subst (λ o. Right tr (if_ours (λ d. Happening.Took (line t n) d a) o)) (sym (accepted_ours c)) (h, k)
+takes_right tr t n r (Takes_one c a h k) =
+    subst (λ o. Right tr (if_ours (λ d. Happening.Took (line t n) d a) o)) (sym (accepted_ours c)) (h, right_is_sound tr (line t n) c a k)
 takes_right tr t n r (Takes_none h) = tt
 
 pub hears_right : (tr : Trace) (t n : ℕ) (r : Reply) → up tr ≡ true → Hears tr (line t n) r → Right tr (happened (Steps.Hear t n) r)
@@ -393,7 +386,7 @@ value_right tr (Steps.Vote n (Foreign y) x) r e v = by tr (Steps.Vote n (Foreign
 value_right tr (Steps.Busy n (Ours b) x) r e v = by tr (Steps.Busy n (Ours b) x) r _ v tt
 value_right tr (Steps.Busy n (Foreign y) x) r e v = by tr (Steps.Busy n (Foreign y) x) r _ v tt
 value_right tr (Steps.Heuristic n (Ours b) how) r e v =
-    by tr (Steps.Heuristic n (Ours b) how) r _ v (prepared_of _ (or_none _ _ (none_applies tr (Steps.Heuristic n (Ours b) how) Refusal.Script e)).1)
+    by tr (Steps.Heuristic n (Ours b) how) r _ v (prepared_of _ (or_parts _ _ (none_applies tr (Steps.Heuristic n (Ours b) how) Refusal.Script e)).1)
 value_right tr (Steps.Heuristic n (Foreign y) how) r e v = by tr (Steps.Heuristic n (Foreign y) how) r _ v tt
 value_right tr (Steps.Decide g o) r e v = by tr (Steps.Decide g o) r _ v (right_decision tr g o e)
 value_right tr (Steps.Claim g) r e v = by tr (Steps.Claim g) r _ v (right_claim tr g e)

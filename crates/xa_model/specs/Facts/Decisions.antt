@@ -20,7 +20,7 @@ branches (From o) = []
 branches (Then tr (Issued l (Calls.Start b join))) = b ∷ branches tr
 branches (Then tr _) = branches tr
 
--- an xa_commit in one phase was accepted: the outcome is its resource manager's
+-- an xa_commit in one phase was accepted: the resource manager decides the outcome
 abbrev pub handed_over : Trace → Gtrid → Bool
 handed_over (From o) g = false
 handed_over (Then tr (Issued l (Calls.Commit b true))) g = gtrid_eq b.gtrid g || handed_over tr g

@@ -1,4 +1,4 @@
--- What the manager was told: answers to xa_prepare, xa_commit and xa_recover (XA, chapter 5).
+-- The answers that the manager heard, to xa_prepare, xa_commit and xa_recover (XA, chapter 5): `told` has them all.
 use Rattle.std.specs.Prelude.{ℕ, List, [], ◌∷◌, Bool, true, false, ◌||◌, if◌then◌else◌}
 use Rattle.xa_base.specs.Branch.{gtrid_eq, branch_eq}
 use Rattle.xa_base.specs.declared.code.Code.TheVariants as Codes

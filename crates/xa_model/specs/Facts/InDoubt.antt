@@ -1,9 +1,9 @@
 -- What a resource manager has in doubt, and the page that the first thread's scan gives next (XA, chapter 5, xa_recover).
-use Rattle.std.specs.Prelude.{ℕ, ℤ, List, [], ◌∷◌, ◌++◌, map, filter, Bool, ◌&&◌, nat_eq, if◌then◌else◌, Option, Some, None}
+use Rattle.std.specs.Prelude.{ℕ, ℤ, List, [], ◌∷◌, ◌++◌, map, filter, Bool, true, ◌&&◌, nat_eq, if◌then◌else◌, Option, Some, None}
 use Rattle.std.specs.BTreeSet.{insert_key}
 use Rattle.std.specs.declared.cmp.Ordering.{Ordering}
 use Rattle.std.specs.Ordering.{on}
-use Rattle.xa_base.specs.Branch.{xid_of_branch}
+use Rattle.xa_base.specs.Branch.{branch_of_xid, xid_of_branch}
 use Rattle.xa_base.specs.Recover.{page_answer}
 use Rattle.xa_base.specs.Scan.{Scan, Scan.NotOpen, reads_from, page_of, scan_after}
 use Rattle.xa_base.specs.Standing.{is_in_doubt}
@@ -20,6 +20,15 @@ abbrev pub xid_of_name : Name → Xid
 xid_of_name (Ours b) = xid_of_branch b
 xid_of_name (Foreign x) = x
 
+-- a name, by the branch of this manager that the identifier names
+abbrev pub name_by : Xid → Option Branch → Name
+name_by x (Some b) = Ours b
+name_by x None = Foreign x
+
+-- the name that an identifier is read as
+abbrev pub name_of : Xid → Name
+name_of x = name_by x (branch_of_xid x)
+
 -- the order of names is that of identifiers
 abbrev pub name_cmp : Name → Name → Ordering
 name_cmp = on xid_of_name xid_cmp
@@ -33,9 +42,15 @@ in_order (x ∷ xs) = insert_key name_cmp (in_order xs) x
 abbrev pub is_in_doubt_at : Trace → (rm : ℕ) → Branch → Bool
 is_in_doubt_at tr r b = nat_eq b.rm r && is_in_doubt (standing tr b)
 
--- all that is in doubt at a resource manager, in order: other managers' identifiers, which stay, and branches of this one
+-- what was in doubt at the start and still is: other managers' identifiers stay
+abbrev pub is_still_in_doubt : Trace → (rm : ℕ) → Name → Bool
+is_still_in_doubt tr r (Ours b) = is_in_doubt_at tr r b
+is_still_in_doubt tr r (Foreign x) = true
+
+-- all that is in doubt at a resource manager, in order: of what the start found there, and of the branches started since
 abbrev pub in_doubt : Trace → (rm : ℕ) → List Name
-in_doubt tr r = in_order (map (λ x. Foreign x) ((origin tr).in_doubt r) ++ map (λ b. Ours b) (filter (is_in_doubt_at tr r) (branches tr)))
+in_doubt tr r = in_order
+    (filter (is_still_in_doubt tr r) (map name_of ((origin tr).in_doubt r)) ++ map (λ b. Ours b) (filter (is_in_doubt_at tr r) (branches tr)))
 
 -- ** the first thread's scan
 

@@ -127,14 +127,14 @@ abbrev pub adds_row : Change → Gtrid → Bool
 adds_row (AddRow x) g = gtrid_eq x.gtrid g
 adds_row _ g = false
 
--- a row was there at some time, also if it has left since
+-- a row was there at some time, even if it has left since
 abbrev pub had_row : Trace → Gtrid → Bool
 had_row (From o) g = lists_row o.rows g
 had_row (Then tr (Decided h Outcome.Commit)) g = (gtrid_eq h g && told tr (says_yes_in h)) || had_row tr g
 had_row (Then tr (Restarted i d h)) g = (not (d == length (log tr)) && adds_row (doubt tr) g) || had_row tr g
 had_row (Then tr _) g = had_row tr g
 
--- the same, or a row is in doubt
+-- the same, or a row is in doubt. That one counts only until the next restart: if it wasn't written, a later rollback is right
 abbrev pub ever : Trace → Gtrid → Bool
 ever tr g = adds_row (doubt tr) g || had_row tr g
 

@@ -15,7 +15,8 @@ use Rattle.xa_model.specs.Trace.{Gtrid, Branch, Line, Call, Answer, Trace, line_
 abbrev pub settled : Trace → Branch → Bool
 settled tr b = recorded tr b || (told tr (says_read_only b) || told tr (acknowledges b))
 
--- it acknowledged its xa_commit since the manager last came up, or is recorded
+-- it acknowledged its xa_commit since the manager last came up, or is recorded. An earlier acknowledgement doesn't count for a row of an
+-- older incarnation: the manager sends xa_commit again, and hears XAER_NOTA from a branch that had ended
 abbrev pub settled_lately : Trace → Branch → Bool
 settled_lately tr b = recorded tr b || told_lately tr (acknowledges b)
 

@@ -1,22 +1,26 @@
 -- Where a branch stands at its resource manager (XA, chapter 6, State Tables), and what that was told to vote and to put off.
-use Rattle.std.specs.Prelude.{ℕ, ◌-◌, if◌then◌else◌, Option, Some, None, false}
+use Rattle.std.specs.Prelude.{ℕ, ◌-◌, ◌^◌, Bool, ◌&&◌, nat_lt, if◌then◌else◌, Option, Some, None, false}
 use Rattle.xa_base.specs.Branch.{xid_of_branch, branch_eq}
-use Rattle.xa_base.specs.HeldBranch.{HeldBranch}
+use Rattle.xa_base.specs.HeldBranch.{HeldBranch, new_branch}
 use Rattle.xa_base.specs.StateTable.{Kind, asks_of, moved, broken, completed}
 use Rattle.xa_base.specs.declared.code.Code.{Code}
 use Rattle.xa_base.specs.declared.code.Code.TheVariants as Codes
 use Rattle.xa_base.specs.declared.state.Fate.{Fate}
 use Rattle.xa_base.specs.declared.state.Standing.{Standing}
-use Rattle.xa_base.specs.declared.state.Standing.TheVariants.{Unstarted}
 use Rattle.xa_base.specs.Standing.{fate_of}
 use Rattle.xa_model.specs.Facts.Manager.{breaks}
 use Rattle.xa_base.specs.declared.call.Call.TheVariants as Calls
 use Rattle.xa_base.specs.declared.answer.Answer.TheVariants.{Ret}
 use Rattle.xa_model.specs.Trace.{Branch, Vote, Happening, Happening.Took, Happening.CompletedAlone, Happening.Voted, Happening.PutOff, Origin, Trace, Trace.From, Trace.Then, line_of}
 
--- what the branch's resource manager held of it at the start
+-- whether the numbers of a branch fit its identifier
+abbrev pub fits : Branch → Bool
+fits b =
+    (nat_lt b.gtrid.incarnation (2 ^ 64) && nat_lt b.gtrid.sequence (2 ^ 64)) && (nat_lt b.thread (2 ^ 32) && nat_lt b.rm (2 ^ 32))
+
+-- what the branch's resource manager held of it at the start: nothing, where it has no identifier of its own
 abbrev pub held_of : Origin → Branch → HeldBranch
-held_of o b = o.held b.rm (xid_of_branch b)
+held_of o b = if fits b then o.held b.rm (xid_of_branch b) else new_branch
 
 -- a branch after what was asked of one, and answered so
 abbrev pub moved_by : Option (Kind × Branch) → Code → Branch → Standing → Standing
@@ -29,9 +33,9 @@ standing_after tr (Took l c (Ret a)) b f = moved_by (asks_of c) a b f
 standing_after tr (CompletedAlone c how) b f = if branch_eq c b then completed f how else f
 standing_after tr e b f = if breaks tr e (line_of b) then broken f else f
 
--- where a branch stands: no branch of this manager was there at the start
+-- where a branch stands: at the start, as its resource manager holds it
 abbrev pub standing : Trace → Branch → Standing
-standing (From o) b = Unstarted
+standing (From o) b = (held_of o b).standing
 standing (Then tr e) b = standing_after tr e b (standing tr b)
 
 -- the fate of a branch: its state or, where it is in none, its last end

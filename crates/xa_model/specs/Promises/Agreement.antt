@@ -1,5 +1,5 @@
--- What every history of demanded replies means: the headline of this manager. Alike is the consistency of TCommit, of Gray and
--- Lamport, "Consensus on Transaction Commit".
+-- What holds of every history in which each reply is allowed: the headline of this manager. `AreAlike` is the consistency of TCommit,
+-- of Gray and Lamport, "Consensus on Transaction Commit".
 use Rattle.std.specs.Prelude.{ℕ, ◌+◌, ◌≡◌, ◌⊎◌, List, [], ◌∷◌, ◌++◌, length, Bool, true, false, if◌then◌else◌, Some, slice_get}
 use Rattle.xa_base.specs.StateTable.{State.S5, state_of}
 use Rattle.xa_base.specs.declared.state.Standing.{Standing}
@@ -11,12 +11,12 @@ use Rattle.xa_model.specs.Trace.{Gtrid, Branch, Line, Call, How, Answer, Happeni
 
 -- ** moments
 
--- the history followed_by further happenings
+-- the history, followed by further happenings
 abbrev pub followed_by : Trace → List Happening → Trace
 followed_by tr [] = tr
 followed_by tr (e ∷ es) = followed_by (Then tr e) es
 
--- the whole goes on with this happening behind that beginning
+-- the whole history is that beginning, then this happening, then others
 abbrev pub IsMoment : Trace → Happening → Trace → Type 0
 IsMoment tr e whole = (later : List Happening) × (followed_by (Then tr e) later ≡ whole)
 
@@ -97,13 +97,13 @@ IsCommitment tr e whole = (g : Gtrid) → Leads (IsBranchOf whole g) (phases (Th
 abbrev pub IsHeld : Trace → Branch → How → Type 0
 IsHeld tr b how = (state_of (standing tr b) ≡ S5 how) ⊎ (recorded_as tr b ≡ Some how)
 
--- each heuristic completion is, also followed_by it was forgotten
+-- each heuristic completion is held so, even after the resource manager was told to forget it
 abbrev pub HeuristicsAreHeld : Trace → Type 0
 HeuristicsAreHeld tr = (b : Branch) (how : How) → (standing tr b ≡ Completed how) ⊎ (standing tr b ≡ Forgotten how) → IsHeld tr b how
 
 -- ** the log
 
--- a prepared branch that is committed now has a row; one that is rolled back now has none at any time, to the end of the whole
+-- a prepared branch that is committed now has a row now; one that is rolled back now never has a row, to the end of the whole history
 pub record AsLogged (tr : Trace) (e : Happening) (whole : Trace) : Type 0 where
   pub committed : (b : Branch) → standing tr b ≡ Prepared → standing (Then tr e) b ≡ Committed → has_row tr b.gtrid ≡ true
   pub rolled_back : (b : Branch) → standing tr b ≡ Prepared → standing (Then tr e) b ≡ RolledBack → ever whole b.gtrid ≡ false

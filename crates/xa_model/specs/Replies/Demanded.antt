@@ -1,4 +1,4 @@
--- The reply that a history demands.
+-- The replies that a history allows.
 use Rattle.std.specs.Prelude.{ℕ, ◌+◌, ◌<◌, ◌≤◌, ◌≡◌, List, [], ◌∷◌, length, true, Some, None}
 use Rattle.xa_base.specs.declared.code.Code.TheVariants as Codes
 use Rattle.xa_base.specs.declared.step.Outcome.TheVariants as Outcome
@@ -90,7 +90,7 @@ MayLackMemory tr (Steps.Restart (Side.Rm r)) = ⊥
 MayLackMemory tr (Steps.Hear t r) = next_answer tr (line t r) ≡ None → ⊥
 MayLackMemory tr _ = Unit
 
--- ** demanded replies
+-- ** replies that are allowed
 
 -- the reply is one that the history allows: a refusal that it forces; else the step's value, or that memory or the log failed
 pub data Demanded (tr : Trace) (s : Step) (reply : Reply) : Type 0 where

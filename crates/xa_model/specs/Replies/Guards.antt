@@ -1,12 +1,11 @@
--- The refusals by step: what each step is refused for, in the order in which the refusals are looked at. `Rules` says the same by
--- refusal; the manager and the lines follow this view.
+-- The refusals by step: what each step is refused for, in the order in which this is checked. `Rules` says the same by refusal, and
+-- the manager is proved against that; the clause `guards` of `demanded` proves that the two agree.
 use Rattle.xa_base.specs.declared.limits.TheConstants.{BEGIN_LIMIT, LINE_LIMIT}
 use Rattle.std.specs.Prelude.{ℕ, ◌+◌, List, [], ◌∷◌, ◌++◌, length, Bool, true, false, not, ◌&&◌, ◌||◌, if◌then◌else◌, Option, Some, None, nat_eq, nat_le, nat_lt}
 use Rattle.xa_base.specs.Branch.{branch_eq}
 use Rattle.xa_base.specs.Standing.{is_in_doubt, is_prepared}
 use Rattle.xa_base.specs.declared.call.Call.{Call}
 use Rattle.xa_base.specs.declared.call.Call.TheVariants as Calls
-use Rattle.xa_base.specs.declared.refusal.Refusal.TheVariants as Refusal
 use Rattle.xa_base.specs.declared.step.Outcome.TheVariants as Outcome
 use Rattle.xa_base.specs.declared.step.Part.TheVariants as Part
 use Rattle.xa_base.specs.declared.step.Side.TheVariants as Side
@@ -134,6 +133,6 @@ guards tr (Steps.Crash Part.Manager) = (Refusal.ManagerDown, not (up tr)) ∷ []
 guards tr (Steps.Restart (Side.Rm r)) = (Refusal.Busy, rm_up tr r) ∷ []
 guards tr (Steps.Restart Side.Manager) = (Refusal.Busy, up tr) ∷ []
 
--- the first guard that holds; a thread or a resource manager that the system hasn't is past its limits
+-- the first guard that applies; a step on a thread or a resource manager that the system hasn't is over its limits
 abbrev pub refused_by_guards : Trace → Step → Option Refusal
 refused_by_guards tr s = if is_there tr s then first_guard (guards tr s) else Some Refusal.Limit

@@ -1,6 +1,6 @@
 use Rattle.std.proofs.Common.{◌∙◌, sym}
 use Rattle.std.specs.Str.{bytes_eq}
-use Rattle.xa_files.proofs.FieldLemmas.{list_any-map}
+use Rattle.xa_base.proofs.Lists.{list_any-map}
 use Rattle.xa_files.proofs.fields.is_among.Goals as goal
 
 pub returns : goal.returns

@@ -1,5 +1,6 @@
 use Rattle.std.proofs.lemmas.Result.{err_from_is_err_and, on_ok_weaker}
-use Rattle.xa_jobs.proofs.RunLemmas.{not_output, on_output, work_is_run}
+use Rattle.xa_files.proofs.TextFaults.{on_output}
+use Rattle.xa_jobs.proofs.RunLemmas.{not_output, work_is_run}
 use Rattle.xa_jobs.proofs.run.run_and_print.Goals as goal
 
 pub returns-in_err-ends-clause-begun : goal.returns-in_err-ends-clause-begun

@@ -1,7 +1,8 @@
 use Rattle.std.proofs.lemmas.Result.{err_from_is_err_and}
 use Rattle.xa_jobs.specs.JobFiles.{jobs_of, plan_of}
 use Rattle.xa_files.proofs.ReadingLemmas.{ends_with}
-use Rattle.xa_jobs.proofs.RunLemmas.{explains, not_of_output, run_explains, no_fault, ends_begun, on_output}
+use Rattle.xa_files.proofs.TextFaults.{on_output}
+use Rattle.xa_jobs.proofs.RunLemmas.{explains, not_of_output, run_explains, no_fault, ends_begun}
 use Rattle.xa_jobs.proofs.run.run_job_file.Goals as goal
 
 pub returns-in_err-jobs-clause-fault : goal.returns-in_err-jobs-clause-fault

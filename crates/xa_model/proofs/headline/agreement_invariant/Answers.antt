@@ -1,5 +1,5 @@
 use Rattle.xa_model.proofs.Invariant.Carried.{commit_has_row, rollback_has_no_row, no_start_after_commit, rows_were_prepared, settled_is_over, fresh_gtrids, handed_over_alone, claimed_is_prepared}
-use Rattle.xa_model.proofs.Invariant.Preserved.{always}
+use Rattle.xa_model.proofs.Invariant.Preserved.{always, run_of}
 use Rattle.xa_model.proofs.headline.agreement_invariant.Goals as goal
 
 pub returns-clause-commit_has_row : goal.returns-clause-commit_has_row
@@ -21,7 +21,7 @@ pub returns-clause-fresh_gtrids : goal.returns-clause-fresh_gtrids
 returns-clause-fresh_gtrids c tr r = fresh_gtrids tr (always tr r)
 
 pub returns-clause-handed_over_alone : goal.returns-clause-handed_over_alone
-returns-clause-handed_over_alone c tr r = handed_over_alone tr r (always tr r)
+returns-clause-handed_over_alone c tr r = handed_over_alone tr (run_of tr r) (always tr r)
 
 pub returns-clause-claimed_is_prepared : goal.returns-clause-claimed_is_prepared
 returns-clause-claimed_is_prepared c tr r = claimed_is_prepared tr (always tr r)

@@ -1,7 +1,7 @@
 use Rattle.std.proofs.Common.{[], string_bytes, subst}
 use Rattle.std.proofs.lemmas.Result.{on_ok_weaker}
 use Rattle.xa_scenario.specs.Plays.{IsPlay, Performs}
-use Rattle.xa_scenario.specs.Runs.{IsRunOf}
+use Rattle.xa_scenario.specs.Runs.{IsRunOf, IsTextOf}
 use Rattle.xa_scenario.specs.Scenarios.{plan_of}
 use Rattle.xa_scenario.proofs.RunLemmas.{is_run, on_output_of}
 use Rattle.xa_system.specs.Seen.{origin_in}
@@ -15,16 +15,16 @@ returns-clause-prints g c =
     let plan = plan_of c.args.scenario.now in
     let system = c.play.new.system in
     let played = subst (λ entries. Performs (IsPlay [] entries) c.args.system.events system.events) c.deref.ensures.value c.in_ok-play.ensures.performs in
-    let run : IsRunOf plan (origin_in look system) system.events =
-    is_run plan (origin_in look c.args.system) (origin_in look system) c.args.system.events system.events
+    let start = origin_in look c.args.system in
+    let run : IsRunOf plan start system.events =
+    is_run plan start (origin_in look system) c.args.system.events system.events
     c.in_ok-play.ensures.start c.requires.start c.requires.empty played c.agree.ensures.parts.demanded c.agree.ensures.headline in
     on_ok_weaker c.write_text.result
     (λ written. record {
-      origin = origin_in look system;
       events = system.events;
       text = string_bytes c.in_ok-text.text;
       run = run;
-      told = c.in_ok-text.ensures.text;
+      told = subst (λ o. IsTextOf c.args.with_trace o system.events (string_bytes c.in_ok-text.text)) c.in_ok-play.ensures.start c.in_ok-text.ensures.text;
       writes = rw (← c.as_bytes.ensures.value) written;
     })
     c.write_text.ensures.whole
@@ -36,16 +36,16 @@ returns-clause-begun g c =
     let plan = plan_of c.args.scenario.now in
     let system = c.play.new.system in
     let played = subst (λ entries. Performs (IsPlay [] entries) c.args.system.events system.events) c.deref.ensures.value c.in_ok-play.ensures.performs in
-    let run : IsRunOf plan (origin_in look system) system.events =
-    is_run plan (origin_in look c.args.system) (origin_in look system) c.args.system.events system.events
+    let start = origin_in look c.args.system in
+    let run : IsRunOf plan start system.events =
+    is_run plan start (origin_in look system) c.args.system.events system.events
     c.in_ok-play.ensures.start c.requires.start c.requires.empty played c.agree.ensures.parts.demanded c.agree.ensures.headline in
     on_output_of c.write_text.result _ _
     (λ written. record {
-      origin = origin_in look system;
       events = system.events;
       text = string_bytes c.in_ok-text.text;
       run = run;
-      told = c.in_ok-text.ensures.text;
+      told = subst (λ o. IsTextOf c.args.with_trace o system.events (string_bytes c.in_ok-text.text)) c.in_ok-play.ensures.start c.in_ok-text.ensures.text;
       begins = rw (← c.as_bytes.ensures.value) written;
     })
     c.write_text.ensures.begun

@@ -1,19 +1,34 @@
-use Rattle.std.proofs.Common.{◌≡◌, Err, ap, arith, length, rules, slice_get, subst, sym}
-use Rattle.std.specs.Option.{option_map_or}
-use Rattle.xa_base.specs.HeldBranch.{new_branch}
-use Rattle.xa_scenario.proofs.StartLemmas.{not_wrong, unstarted}
+use Rattle.std.proofs.Common.{◌≡◌, All, Err, IsSomeAnd, ap, arith, length, rules, slice_get, subst, sym}
+use Rattle.xa_scenario.proofs.StartLemmas.{new_at, none_in_doubt, none_open, not_wrong, over, unstarted}
+use Rattle.xa_scenario.specs.Runs.{IsNewRm}
 use Rattle.xa_scenario.proofs.run.system_of.Goals as goal
-use Rattle.xa_system.specs.Seen.{HasWrongSize}
+use Rattle.xa_system.specs.Logged.{StartsOver}
+use Rattle.xa_system.specs.Seen.{HasWrongSize, origin_in}
+use Rattle.xa_system.specs.Sites.{looks}
 use Rattle.xa_system.specs.declared.system.NewFault.TheVariants as faults
 
 pub returns-in-Ok-clause-start : goal.returns-in-Ok-clause-start
-returns-in-Ok-clause-start g c = record {
-  threads = c.in-Ok.ensures.ok.3;
-  rms = omega (arith, ap length c.in-Ok.ensures.ok.1, c.args.rms.ok.0, c.requires.count);
-  unstarted = λ r x.
-      subst (λ rms. option_map_or g.R.ResourceManager.held_of (slice_get rms r) (λ y. new_branch) x ≡ new_branch) (sym c.in-Ok.ensures.ok.1)
-      (unstarted g.R.ResourceManager.held_of c.args.rms.items c.requires.unstarted r x);
-}
+returns-in-Ok-clause-start g c =
+    let look = looks g.R.ResourceManager.held_of g.R.ResourceManager.scan_of g.R.ResourceManager.in_doubt_of in
+    let rms = c.in-Ok.system.start in
+    let each : All (IsNewRm look) rms = subst (All (IsNewRm look)) (sym c.in-Ok.ensures.ok.1) c.requires.new in
+    record {
+      threads = c.in-Ok.ensures.ok.3;
+      rms = omega (arith, ap length c.in-Ok.ensures.ok.1, c.args.rms.ok.0, c.requires.count);
+      unstarted = λ r x. unstarted look (slice_get rms r) (new_at look rms each r) x;
+      in_doubt = λ r. none_in_doubt look (slice_get rms r) (new_at look rms each r);
+      scans = λ r. none_open look (slice_get rms r) (new_at look rms each r);
+    }
+
+pub returns-in-Ok-clause-over : goal.returns-in-Ok-clause-over
+returns-in-Ok-clause-over g c =
+    let look = looks g.R.ResourceManager.held_of g.R.ResourceManager.scan_of g.R.ResourceManager.in_doubt_of in
+    let moment = g.L.DecisionLog.moment in
+    let system = c.in-Ok.system in
+    over moment c.args.log (origin_in look system) system.log system.begun c.in-Ok.ensures.held.0 c.in-Ok.ensures.held.1 c.in-Ok.ensures.honest
+    (λ order honest.
+    subst (λ log. IsSomeAnd (moment log).content (StartsOver (origin_in look system))) c.in-Ok.ensures.handed.1
+    (c.in-Ok.ensures.ok.4.log.start (subst (λ log. (moment log).is_in_order) (sym c.in-Ok.ensures.handed.1) order) honest))
 
 pub unreachable-requires : goal.unreachable-requires
 unreachable-requires g c =

@@ -1,12 +1,16 @@
-use Rattle.std.proofs.Common.{rules, inl, inr, [], ap, subst, ◌∙◌, pos}
+use Rattle.std.proofs.Common.{rules, inl, inr, [], ap, subst, ◌∙◌, pos, Result, Ok, Err, IfErr}
 use Rattle.std.specs.List.{Contains}
 use Rattle.sqlite.specs.declared.types.Value.TheVariants.{Int}
 use Rattle.sqlite.specs.Held.{state}
 use Rattle.xa_log.specs.Contract.{IsStoreFault}
-use Rattle.xa_log.proofs.Parts.{on_err}
+use Rattle.xa_log.proofs.Parts.{if_on_ok, on_err, on_ok}
 use Rattle.xa_sql_log.proofs.States.{rests_query}
 use Rattle.xa_sql_log.proofs.Versions.{read_meta, looks, looks_at, number_of_one, names, look_survives}
 use Rattle.xa_sql_log.proofs.version.check_version.Goals as goal
+
+if_err : {A E : Type 0} (r : Result A E) (P Q : E → Type 0) → ((e : E) → P e → Q e) → IfErr r P → IfErr r Q
+if_err (Ok x) P Q f h = tt
+if_err (Err e) P Q f h = f e h
 
 pub returns-in_err-rows-clause-rests : goal.returns-in_err-rows-clause-rests
 returns-in_err-rows-clause-rests g c has clean =
@@ -17,53 +21,53 @@ pub returns-in_err-rows-clause-survives : goal.returns-in_err-rows-clause-surviv
 returns-in_err-rows-clause-survives g c has =
     look_survives (state g.S.Store c.args.conn.now) (state g.S.Store c.query_all.new.self) has c.query_all.ensures.survives
 
-pub returns-in_err-version_in-clause-rests : goal.returns-in_err-version_in-clause-rests
-returns-in_err-version_in-clause-rests g c has clean =
+pub returns-in_err-found-clause-rests : goal.returns-in_err-found-clause-rests
+returns-in_err-found-clause-rests g c has clean =
     on_err _ _ (inl (looks (state g.S.Store c.args.conn.now) (state g.S.Store c.query_all.new.self) c.in_ok-rows.rows.items has
     (rw c.in_ok-rows.ensures.ok at (c.query_all.ensures.ok clean))))
 
-pub returns-in_err-version_in-clause-survives : goal.returns-in_err-version_in-clause-survives
-returns-in_err-version_in-clause-survives g c has =
+pub returns-in_err-found-clause-survives : goal.returns-in_err-found-clause-survives
+returns-in_err-found-clause-survives g c has =
     look_survives (state g.S.Store c.args.conn.now) (state g.S.Store c.query_all.new.self) has c.query_all.ensures.survives
 
-pub returns-then-branch-version-clause-same : goal.returns-then-branch-version-clause-same
-returns-then-branch-version-clause-same g c has clean =
-    looks (state g.S.Store c.args.conn.now) (state g.S.Store c.query_all.new.self) c.in_ok-rows.rows.items has
-    (rw c.in_ok-rows.ensures.ok at (c.query_all.ensures.ok clean))
-
-pub returns-then-branch-version-clause-survives : goal.returns-then-branch-version-clause-survives
-returns-then-branch-version-clause-survives g c has =
-    look_survives (state g.S.Store c.args.conn.now) (state g.S.Store c.query_all.new.self) has c.query_all.ensures.survives
-
-pub returns-then-branch-version-clause-version : goal.returns-then-branch-version-clause-version
-returns-then-branch-version-clause-version g c has clean =
-    let found = c.in_ok-version_in.ensures.ok in
-    names c.args.version (state g.S.Store c.args.conn.now) (state g.S.Store c.query_all.new.self) c.in_ok-rows.rows.items found.0 has
-    (rw c.in_ok-rows.ensures.ok at (c.query_all.ensures.ok clean))
-    (subst (λ rows. Contains rows found.0) c.as_slice.ensures.value found.1)
-    (found.2 ∙ ap (λ n. Int (pos n)) c.if-branch-version.true)
-    found.3
-
-pub returns-in_err-version_in-clause-known : goal.returns-in_err-version_in-clause-known
-returns-in_err-version_in-clause-known g c i row clean =
+pub returns-in_err-found-clause-known : goal.returns-in_err-found-clause-known
+returns-in_err-found-clause-known g c i row clean =
     let is =
     looks_at c.args.version i (state g.S.Store c.args.conn.now) (state g.S.Store c.query_all.new.self) c.in_ok-rows.rows.items row
     (rw c.in_ok-rows.ensures.ok at (c.query_all.ensures.ok clean)) in
-    let fault : IsStoreFault c.in_err-version_in.field-0.0 = inr (c.in_err-version_in.ensures.err c.args.version i (c.as_slice.ensures.value ∙ is)) in
+    let fault : IsStoreFault c.in_err-found.field-0.0 = inr (c.in_err-found.ensures.err c.args.version i (c.as_slice.ensures.value ∙ is)) in
     search rules
+
+pub returns-clause-same : goal.returns-clause-same
+returns-clause-same g c has clean =
+    on_ok c.match_version.result _ (looks (state g.S.Store c.args.conn.now) (state g.S.Store c.query_all.new.self) c.in_ok-rows.rows.items has
+    (rw c.in_ok-rows.ensures.ok at (c.query_all.ensures.ok clean)))
+
+pub returns-clause-version : goal.returns-clause-version
+returns-clause-version g c has clean =
+    let found = c.in_ok-found.ensures.ok in
+    if_on_ok c.match_version.result _ _
+    (λ same. names c.args.version (state g.S.Store c.args.conn.now) (state g.S.Store c.query_all.new.self) c.in_ok-rows.rows.items found.0 has
+    (rw c.in_ok-rows.ensures.ok at (c.query_all.ensures.ok clean))
+    (subst (λ rows. Contains rows found.0) c.as_slice.ensures.value found.1)
+    (found.2 ∙ ap (λ n. Int (pos n)) same)
+    found.3)
+    c.match_version.ensures.ok
 
 pub returns-clause-known : goal.returns-clause-known
 returns-clause-known g c i row clean =
     let is =
     looks_at c.args.version i (state g.S.Store c.args.conn.now) (state g.S.Store c.query_all.new.self) c.in_ok-rows.rows.items row
     (rw c.in_ok-rows.ensures.ok at (c.query_all.ensures.ok clean)) in
-    let found = c.in_ok-version_in.ensures.ok in
-    absurd (c.if-branch-version.false (number_of_one c.args.version i c.in_ok-version_in.field-0 _ found.0 (c.as_slice.ensures.value ∙ is) found.1 found.2))
+    let found = c.in_ok-found.ensures.ok in
+    if_err c.match_version.result _ _
+    (λ fault other. absurd (other.1 (number_of_one c.args.version i c.in_ok-found.found _ found.0 (c.as_slice.ensures.value ∙ is) found.1 found.2)))
+    c.match_version.ensures.err
 
 pub returns-clause-rests : goal.returns-clause-rests
 returns-clause-rests g c has clean =
-    inl (looks (state g.S.Store c.args.conn.now) (state g.S.Store c.query_all.new.self) c.in_ok-rows.rows.items has
-    (rw c.in_ok-rows.ensures.ok at (c.query_all.ensures.ok clean)))
+    on_err c.match_version.result _ (inl (looks (state g.S.Store c.args.conn.now) (state g.S.Store c.query_all.new.self) c.in_ok-rows.rows.items has
+    (rw c.in_ok-rows.ensures.ok at (c.query_all.ensures.ok clean))))
 
 pub returns-clause-survives : goal.returns-clause-survives
 returns-clause-survives g c has = look_survives (state g.S.Store c.args.conn.now) (state g.S.Store c.query_all.new.self) has c.query_all.ensures.survives

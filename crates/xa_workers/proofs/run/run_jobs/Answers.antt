@@ -1,5 +1,5 @@
 use Rattle.xa_workers.proofs.FateOrder.{in_order_if_ok}
-use Rattle.xa_workers.proofs.Settled.{plain_if_ok}
+use Rattle.xa_workers.proofs.Settled.{outcome_if_ok, plain_if_ok}
 use Rattle.xa_workers.proofs.run.run_jobs.Goals as goal
 
 pub returns-clause-plain : goal.returns-clause-plain
@@ -9,3 +9,8 @@ pub returns-clause-order : goal.returns-clause-order
 returns-clause-order g c =
     in_order_if_ok c.args.jobs.now c.in_ok-begun.begun.incarnation (λ o. o.ends.items) (λ o. o.fates.items) c.run_named.result c.requires
     c.in_ok-begun.ensures.most c.run_named.ensures.fates
+
+pub returns-clause-outcome : goal.returns-clause-outcome
+returns-clause-outcome g c =
+    outcome_if_ok g.L.DecisionLog c.args.jobs.now c.in_ok-begun.begun.first.value c.args.log c.in_ok-begun.begun.incarnation c.run_named.result
+    c.in_ok-begun.ensures.first c.run_named.ensures.fates c.run_named.ensures.rms c.run_named.ensures.rows

@@ -7,8 +7,8 @@ use Rattle.xa_base.specs.declared.step.Step.TheVariants as Steps
 use Rattle.xa_tm.specs.Kept.{book_in}
 use Rattle.xa_tm.specs.Tied.{made}
 use Rattle.xa_system.specs.Parts.{Sees, sees}
-use Rattle.xa_system.proofs.Deciding.{row_is_asked, manager_undone, up_where}
-use Rattle.xa_system.proofs.Managing.{decide_did, sound_book}
+use Rattle.xa_system.proofs.Deciding.{row_is_asked, manager_undone}
+use Rattle.xa_system.proofs.Managing.{decide_did, sound_book, up_where}
 use Rattle.xa_system.proofs.Logging.{log_called, log_undone}
 use Rattle.xa_tm.specs.Book.{Book, Doubt.Adds, voted_yes}
 use Rattle.xa_system.proofs.parts.Parts.decide.Goals as goal
@@ -37,7 +37,7 @@ returns-in-Err g c =
     (Adds c.args.gtrid (voted_yes (book_in p.manager) c.args.gtrid))
     (made (Adds c.args.gtrid (voted_yes (book_in p.manager) c.args.gtrid))) p c.in-Err.refusal c.undone.new.sites c.undone.new.lines c.decide.new.self
     c.undone.result tt tt (λ tr. refl) (λ tr. tt) refl
-    (λ tr. up_where tr (Steps.Decide c.args.gtrid c.args.outcome) refl)
+    (λ m. refl) (λ tr. up_where tr (Steps.Decide c.args.gtrid c.args.outcome) refl)
     (λ tr at. ap (λ (k : Book). Adds c.args.gtrid (voted_yes k c.args.gtrid)) at ∙ decision_asks tr c.args.gtrid)
     (λ tr at free e. row_is_asked tr c.args.gtrid c.args.outcome at
     (c.in-Err.ensures.asked free (ap (λ (m : Refusal). let x : Result (Unit {0}) Refusal = Err m in x) e))) c.undone.ensures.reply c.in-Err.ensures.refused

@@ -3,8 +3,8 @@ use Rattle.xa_model.specs.Trace.{Fault.InDone}
 use Rattle.xa_base.specs.declared.step.Step.TheVariants as Steps
 use Rattle.xa_tm.specs.Tied.{made}
 use Rattle.xa_system.specs.Parts.{Sees, sees}
-use Rattle.xa_system.proofs.Deciding.{manager_undone, up_where}
-use Rattle.xa_system.proofs.Managing.{done_did, sound_book}
+use Rattle.xa_system.proofs.Deciding.{manager_undone}
+use Rattle.xa_system.proofs.Managing.{done_did, sound_book, up_where}
 use Rattle.xa_system.proofs.Logging.{log_called, log_undone}
 use Rattle.xa_tm.specs.Book.{Doubt.Drops}
 use Rattle.xa_system.proofs.parts.Parts.done.Goals as goal
@@ -31,7 +31,7 @@ returns-in-Err g c =
     let p = c.args.self.now in
     manager_undone see {A = Unit {0}} (Steps.Done c.args.gtrid) (InDone c.args.gtrid) (Drops c.args.gtrid)
     (made (Drops c.args.gtrid)) p c.in-Err.refusal c.undone.new.sites c.undone.new.lines c.done.new.self c.undone.result tt tt (λ tr. refl) (λ tr. tt) refl
-    (λ tr. up_where tr (Steps.Done c.args.gtrid) refl) (λ tr at. refl) (λ tr at free e. tt) c.undone.ensures.reply c.in-Err.ensures.refused
+    (λ m. refl) (λ tr. up_where tr (Steps.Done c.args.gtrid) refl) (λ tr at. refl) (λ tr at free e. tt) c.undone.ensures.reply c.in-Err.ensures.refused
     (λ free. inr (c.in-Err.ensures.err free)) c.undone.ensures.failed c.undone.ensures.broken c.undone.ensures.sites_stay c.undone.ensures.lines_stay
     (λ tr d at. refl)
     (log_undone see.moment c.in-Err.refusal _ p.manager c.done.new.self c.in-Err.ensures.asks c.in-Err.ensures.tied c.in-Err.ensures.kept)

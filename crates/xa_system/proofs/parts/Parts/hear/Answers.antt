@@ -1,4 +1,4 @@
-use Rattle.std.proofs.Common.{true, false, refl, sym, ap, subst, ◌∙◌}
+use Rattle.std.proofs.Common.{inl, true, false, refl, sym, ap, subst, ◌∙◌}
 use Rattle.std.specs.Option.{option_copied}
 use Rattle.std.specs.Prelude.{Result, Err, slice_get}
 use Rattle.xa_base.specs.Call.{map_call}
@@ -145,6 +145,7 @@ returns-in-Ok-hear g c tr stands few =
       honest = c.in-Ok-hear.ensures.honest;
       tied = c.in-Ok-hear.ensures.tied;
       faults = λ o h t. c.in-Ok-hear.ensures.faults;
+      counts = inl c.in-Ok-hear.ensures.faults;
     })
 
 pub returns-in-Err : goal.returns-in-Err

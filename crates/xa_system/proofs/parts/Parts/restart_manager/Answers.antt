@@ -1,11 +1,12 @@
 use Rattle.std.proofs.Common.{◌≡◌, ◌∙◌, refl, sym, ap, subst}
 use Rattle.xa_base.specs.declared.reply.Reply.TheVariants as Replies
+use Rattle.xa_tm.specs.Book.{Book}
 use Rattle.xa_tm.specs.Kept.{book_in, log_in}
 use Rattle.xa_tm.specs.Tied.{IsReadFrom}
-use Rattle.std.specs.Prelude.{Result, Err}
+use Rattle.std.specs.Prelude.{Result, Ok, Err}
 use Rattle.xa_model.specs.Trace.{Happening.Restarted}
 use Rattle.xa_base.specs.declared.refusal.Refusal.{Refusal}
-use Rattle.xa_system.proofs.Logging.{log_done}
+use Rattle.xa_system.proofs.Logging.{log_done, restart_counts}
 use Rattle.xa_system.specs.Parts.{Sees, sees}
 use Rattle.xa_system.proofs.Managing.{err_is, sound_book}
 use Rattle.xa_system.proofs.RestartLeads.{restart_did, restart_undone}
@@ -28,7 +29,14 @@ returns-in-Ok-clause-goes g c tr stands few =
     c.in-Ok.ensures.down c.in-Ok.ensures.ok c.in-Ok.ensures.found c.in-Ok.ensures.most
     (λ tr. log_done see.moment {A = Found}
     (Restarted c.in-Ok.field-0.incarnation c.in-Ok.field-0.decisions c.in-Ok.field-0.heuristics) c.in-Ok.field-0 p.manager c.restart.new.self
-    (λ n. refl) (record { order = c.in-Ok.ensures.order; honest = c.in-Ok.ensures.honest; tied = c.in-Ok.ensures.tied; faults = c.in-Ok.ensures.faults })) tr
+    (λ n. refl) (ap (λ (k : Book). k.up) c.in-Ok.ensures.ok) (record {
+      order = c.in-Ok.ensures.order;
+      honest = c.in-Ok.ensures.honest;
+      tied = c.in-Ok.ensures.tied;
+      faults = c.in-Ok.ensures.faults;
+      counts = restart_counts see.moment {A = Found} (Ok c.in-Ok.field-0) p.manager c.restart.new.self
+          (λ up. (c.in-Ok.ensures.busy up).0) c.in-Ok.ensures.counted;
+    })) tr
     stands
 
 pub returns-in-Err-clause-goes : goal.returns-in-Err-clause-goes
@@ -44,10 +52,13 @@ returns-in-Err-clause-goes g c tr stands few =
         honest = c.in-Err.ensures.honest;
         tied = c.in-Err.ensures.tied;
         faults = c.in-Err.ensures.faults;
+        counts = restart_counts see.moment {A = Found} (Err c.in-Err.refusal) p.manager c.restart.new.self (λ up. (c.in-Err.ensures.busy up).0)
+            c.in-Err.ensures.counted;
       };
       kept = c.in-Err.ensures.kept;
       failed = λ is order honest. c.in-Err.ensures.fault order honest
           (ap (λ (m : Refusal). let x : Result Found Refusal = Err m in x) is);
+      crash = c.in-Err.ensures.crash;
     }) tr stands
 
 pub returns-in-Ok-clause-read : goal.returns-in-Ok-clause-read

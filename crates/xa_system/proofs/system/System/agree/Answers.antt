@@ -1,7 +1,6 @@
 use Rattle.std.proofs.Common.{subst}
 use Rattle.xa_model.specs.Promises.Headline.{Headline}
 use Rattle.xa_system.specs.Seen.{HoldsItsTrace, Observes, observes, origin_in, seen}
-use Rattle.xa_system.proofs.Agreeing.{start_right}
 use Rattle.xa_system.proofs.Seeing.{holds}
 use Rattle.xa_system.proofs.system.System.agree.Goals as goal
 
@@ -17,4 +16,4 @@ returns-clause-headline g c =
     observes g.R.ResourceManager.held_of g.R.ResourceManager.scan_of g.R.ResourceManager.in_doubt_of g.L.DecisionLog.moment in
     subst (λ v. Headline (origin_in see.look v) v.events) c.self.view_is
     (c.headline_holds.ensures (origin_in see.look (seen c.self.inside)) (seen c.self.inside).events
-    (start_right _ _ c.self.inside c.self.invariant) c.self.invariant.demanded)
+    (holds _ _ c.self.inside c.self.invariant).right c.self.invariant.demanded)

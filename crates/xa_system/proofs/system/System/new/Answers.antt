@@ -5,9 +5,12 @@ use Rattle.xa_line.specs.Grid.{Grid, new_grid}
 use Rattle.xa_system.specs.Logged.{IsStartedOver}
 use Rattle.xa_system.specs.declared.site.Site.{Site}
 use Rattle.xa_system.specs.Seen.{IsStarted, Observes, observes}
-use Rattle.xa_system.proofs.Fresh.{IsInSlot, back_again, in_slot, new_may_restart, new_sound, not_both}
+use Rattle.xa_system.proofs.Fresh.{IsInSlot, back_again, in_slot, new_may_restart, new_sound, not_both, starts_up}
+use Rattle.xa_system.specs.Parts.{Sees, sees}
 use Rattle.xa_tm.specs.Slots.{slot_moment}
-use Rattle.xa_system.proofs.Seeing.{holds}
+use Rattle.xa_tm.specs.declared.slot.Slot.{Slot}
+use Rattle.xa_system.proofs.Logging.{slot_durable}
+use Rattle.xa_system.proofs.Seeing.{follows_a_crash, holds}
 use Rattle.xa_system.proofs.system.System.new.Goals as goal
 
 pub invariant_of-result : goal.invariant_of-result
@@ -40,7 +43,7 @@ invariant_of-result g c =
         manager = manager;
       };
       events = c.in-Ok.events;
-    }) some
+    }) (slot_durable moment g.met.L.DecisionLog.durable) some
     (ap (λ (v : Vec g.row.R.Denot Global). v.items) c.of-start.ensures) c.of-began.ensures refl c.in-Ok-sites_of.ensures lines c.in-Ok.ensures.items
     c.in-Ok.ensures.len c.in-Ok.ensures.exact c.args.log c.of-first.ensures c.of-handed.ensures over
 
@@ -131,3 +134,23 @@ returns-clause-near g c order h =
     in_slot moment started manager c.into_slot-manager.ensures.log c.into_slot-manager.ensures.book c.into_slot-manager.ensures.rows
     c.into_slot-manager.ensures.records in
     new_may_restart _ moment c.args.threads c.args.rms.items started manager clear slot first _ (invariant_of-result g c) refl c.args.log over order h
+
+pub returns-clause-crash : goal.returns-clause-crash
+returns-clause-crash g c order h =
+    let see : Sees g.row.R.Denot (Slot g.row.L.Denot) =
+    sees g.R.ResourceManager.held_of g.R.ResourceManager.scan_of g.R.ResourceManager.in_doubt_of (slot_moment g.L.DecisionLog.moment) in
+    let clear = rw c.as_slice.ensures.value at (c.if-not-are_clear.ensures.clear refl) in
+    let started = c.in_ok-manager.manager in
+    let moment = g.L.DecisionLog.moment in
+    let lines : c.in-Ok-new.lines ≡ new_grid c.args.threads (length c.args.rms.items) =
+    c.in-Ok-new.ensures ∙ ap (new_grid c.args.threads) (c.len-2.ensures ∙ c.args.rms.ok.0) in
+    let rms = c.rms.ensures.value ∙ ap (λ (g : Grid). g.rms) lines in
+    let first : IsStarted c.args.threads (length c.args.rms.items) started =
+    subst (λ n. IsStarted c.args.threads n started) rms c.in_ok-manager.ensures.manager in
+    let manager = c.into_slot-manager.result in
+    let slot : IsInSlot (slot_moment moment) moment started manager =
+    in_slot moment started manager c.into_slot-manager.ensures.log c.into_slot-manager.ensures.book c.into_slot-manager.ensures.rows
+    c.into_slot-manager.ensures.records in
+    let in_order = subst (λ l. (moment l).is_in_order) (sym c.of-handed.ensures) order in
+    follows_a_crash _ moment _ (invariant_of-result g c) (slot_durable moment g.met.L.DecisionLog.durable)
+    (starts_up see moment c.args.threads c.args.rms.items started manager clear slot first) in_order h (returns-clause-near g c order h)

@@ -1,7 +1,7 @@
 use Rattle.std.proofs.Common.{◌<◌, ◌∙◌, ap, arith, length, subst, sym}
 use Rattle.std.specs.Prelude.{slice_index_or}
 use Rattle.xa_system.specs.declared.system.TheConstants.{EVENT_LIMIT}
-use Rattle.xa_system.proofs.FaultCounts.{causes_chain}
+use Rattle.xa_system.proofs.FaultCounts.{causes_chain, is_fault_event, is_other_fault}
 use Rattle.xa_system.proofs.Running.{adds_more, room_more}
 use Rattle.xa_tm.specs.Slots.{slot_moment}
 use Rattle.xa_system.proofs.system.System.run.Goals as goal
@@ -24,10 +24,16 @@ loop-step-preserved g c =
       honest = λ h. so_far.honest (step.honest h);
       near = λ order honest may. step.near (subst (λ l. (moment l).is_in_order) (sym so_far.handed.0) order) honest
           (so_far.near order (step.honest honest) may);
+      crash = λ order honest may crash. step.crash (subst (λ l. (moment l).is_in_order) (sym so_far.handed.0) order) honest
+          (so_far.near order (step.honest honest) may) (so_far.crash order (step.honest honest) may crash);
       faults = λ order honest may.
-          causes_chain c.args.self.now.events c.loop-step.self.events c.step-reply.new.self.events _
+          causes_chain is_fault_event c.args.self.now.events c.loop-step.self.events c.step-reply.new.self.events _
           (slot_moment moment c.args.self.now.log).fault_count (slot_moment moment c.loop-step.self.log).fault_count
           (slot_moment moment c.step-reply.new.self.log).fault_count one
           (so_far.faults order (step.honest honest) may)
           (step.faults (subst (λ l. (moment l).is_in_order) (sym so_far.handed.0) order) honest (so_far.near order (step.honest honest) may));
+      other_faults =
+          causes_chain is_other_fault c.args.self.now.events c.loop-step.self.events c.step-reply.new.self.events _
+          (slot_moment moment c.args.self.now.log).fault_count (slot_moment moment c.loop-step.self.log).fault_count
+          (slot_moment moment c.step-reply.new.self.log).fault_count one so_far.other_faults step.other_faults;
     }

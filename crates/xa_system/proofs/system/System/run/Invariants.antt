@@ -1,7 +1,7 @@
 use Rattle.std.proofs.Common.{◌≡◌, ◌≤◌, ◌+◌, length, take}
 use Rattle.xa_system.specs.declared.system.TheConstants.{EVENT_LIMIT}
 use Rattle.xa_system.specs.Sites.{looks}
-use Rattle.xa_system.specs.Seen.{AddsSteps, FaultsHaveCauses, MayRestart, observes, origin_in}
+use Rattle.xa_system.specs.Seen.{AddsSteps, FaultsHaveCauses, MayRestart, MayRestartAfterCrash, OtherFaultsHaveCauses, observes, origin_in}
 use Rattle.xa_tm.specs.Slots.{slot_moment}
 use Rattle.xa_system.proofs.system.System.run.Given as goal
 
@@ -17,8 +17,16 @@ invariant-loop-step g l = record {
   near : (g.L.DecisionLog.moment l.fn.self.handed).is_in_order → (slot_moment g.L.DecisionLog.moment l.self.log).is_honest
       → MayRestart (observes g.R.ResourceManager.held_of g.R.ResourceManager.scan_of g.R.ResourceManager.in_doubt_of g.L.DecisionLog.moment) l.fn.self
       → MayRestart (observes g.R.ResourceManager.held_of g.R.ResourceManager.scan_of g.R.ResourceManager.in_doubt_of g.L.DecisionLog.moment) l.self;
+  crash : (g.L.DecisionLog.moment l.fn.self.handed).is_in_order → (slot_moment g.L.DecisionLog.moment l.self.log).is_honest
+      → MayRestart (observes g.R.ResourceManager.held_of g.R.ResourceManager.scan_of g.R.ResourceManager.in_doubt_of g.L.DecisionLog.moment) l.fn.self
+      → MayRestartAfterCrash (observes g.R.ResourceManager.held_of g.R.ResourceManager.scan_of g.R.ResourceManager.in_doubt_of g.L.DecisionLog.moment)
+      l.fn.self
+      → MayRestartAfterCrash (observes g.R.ResourceManager.held_of g.R.ResourceManager.scan_of g.R.ResourceManager.in_doubt_of g.L.DecisionLog.moment)
+      l.self;
   faults : (g.L.DecisionLog.moment l.fn.self.handed).is_in_order → (slot_moment g.L.DecisionLog.moment l.self.log).is_honest
       → MayRestart (observes g.R.ResourceManager.held_of g.R.ResourceManager.scan_of g.R.ResourceManager.in_doubt_of g.L.DecisionLog.moment) l.fn.self
       → FaultsHaveCauses (observes g.R.ResourceManager.held_of g.R.ResourceManager.scan_of g.R.ResourceManager.in_doubt_of g.L.DecisionLog.moment) l.fn.self
       l.self;
+  other_faults : OtherFaultsHaveCauses
+      (observes g.R.ResourceManager.held_of g.R.ResourceManager.scan_of g.R.ResourceManager.in_doubt_of g.L.DecisionLog.moment) l.fn.self l.self;
 }

@@ -4,11 +4,12 @@ use Rattle.xa_model.specs.Replies.History.{reply_of, step_of}
 use Rattle.xa_model.specs.Replies.Steps.{happened, log_failed}
 use Rattle.xa_model.specs.Facts.{up}
 use Rattle.xa_system.specs.Logged.{IsBeforeNext, MayHaveFailed}
+use Rattle.xa_system.proofs.Logging.{slot_durable}
 use Rattle.xa_system.proofs.Restarting.{empty_fails, followed, found_in, not_restarted}
 use Rattle.xa_tm.specs.Slots.{log_held}
 use Rattle.xa_system.proofs.Standing.{refused_as_nothing, stays_same}
-use Rattle.xa_system.specs.Seen.{FaultsHaveCauses, HoldsItsTrace, IsAsBefore, IsFailed, MayRestart, Observes, observes, origin_in, seen, trace_in}
-use Rattle.xa_system.proofs.Seeing.{as_before, began_kept, down_after, failed_so, fault_has_cause, holds, honest_before, restart_may_follow, somewhere, sound_then, start_kept, was_demanded}
+use Rattle.xa_system.specs.Seen.{FaultsHaveCauses, HoldsItsTrace, IsAsBefore, IsFailed, MayRestart, MayRestartAfterCrash, Observes, OtherFaultsHaveCauses, observes, origin_in, seen, trace_in}
+use Rattle.xa_system.proofs.Seeing.{as_before, began_kept, down_after, failed_so, fault_has_cause, holds, honest_before, other_fault_has_cause, restart_may_follow, restart_may_follow_a_crash, somewhere, sound_then, start_kept, was_demanded}
 use Rattle.xa_tm.specs.Kept.{log_in}
 use Rattle.xa_system.proofs.system.System.step.Goals as goal
 
@@ -29,8 +30,8 @@ pub invariant_of-self : goal.invariant_of-self
 invariant_of-self g c =
     let see : Observes g.row.R.Denot g.row.L.Denot =
     observes g.R.ResourceManager.held_of g.R.ResourceManager.scan_of g.R.ResourceManager.in_doubt_of g.L.DecisionLog.moment in
-    sound_then _ _ c.self.inside c.step.new.self c.push_reserved.new.self c.args.step c.step.result c.split-reply.result.1 c.self.invariant c.step.ensures.goes
-    (ap (λ p. p.1) c.split-reply.ensures)
+    sound_then _ _ c.self.inside c.step.new.self c.push_reserved.new.self c.args.step c.step.result c.split-reply.result.1
+    (slot_durable g.L.DecisionLog.moment g.met.L.DecisionLog.durable) c.self.invariant c.step.ensures.goes (ap (λ p. p.1) c.split-reply.ensures)
     (rw c.len.ensures at c.if-len-ge-EVENT_LIMIT.false) c.push_reserved.ensures.len c.push_reserved.ensures.items c.push_reserved.ensures.capacity
 
 pub returns-clause-demanded : goal.returns-clause-demanded
@@ -46,7 +47,8 @@ pub returns-clause-parts : goal.returns-clause-parts
 returns-clause-parts g c =
     let see : Observes g.row.R.Denot g.row.L.Denot =
     observes g.R.ResourceManager.held_of g.R.ResourceManager.scan_of g.R.ResourceManager.in_doubt_of g.L.DecisionLog.moment in
-    holds _ _ _ (sound_then _ _ c.self.inside c.step.new.self c.push_reserved.new.self c.args.step c.step.result c.split-reply.result.1 c.self.invariant
+    holds _ _ _ (sound_then _ _ c.self.inside c.step.new.self c.push_reserved.new.self c.args.step c.step.result c.split-reply.result.1
+    (slot_durable g.L.DecisionLog.moment g.met.L.DecisionLog.durable) c.self.invariant
     c.step.ensures.goes (ap (λ p. p.1) c.split-reply.ensures) (rw c.len.ensures at c.if-len-ge-EVENT_LIMIT.false) c.push_reserved.ensures.len
     c.push_reserved.ensures.items c.push_reserved.ensures.capacity)
 
@@ -84,6 +86,23 @@ returns-clause-faults g c =
     }))) c.self.view_is
     (fault_has_cause _ _ c.self.inside c.step.new.self c.push_reserved.new.self c.args.step c.step.result c.split-reply.result.1 c.self.invariant
     c.step.ensures.goes (ap (λ p. p.1) c.split-reply.ensures) (rw c.len.ensures at c.if-len-ge-EVENT_LIMIT.false) c.push_reserved.ensures.items)
+
+pub returns-clause-other_faults : goal.returns-clause-other_faults
+returns-clause-other_faults g c =
+    let see : Observes g.row.R.Denot g.row.L.Denot =
+    observes g.R.ResourceManager.held_of g.R.ResourceManager.scan_of g.R.ResourceManager.in_doubt_of g.L.DecisionLog.moment in
+    subst (λ v. OtherFaultsHaveCauses see v (seen (record {
+      first = c.self.inside.first;
+      handed = c.self.inside.handed;
+      parts = c.step.new.self;
+      events = c.push_reserved.new.self;
+    }))) c.self.view_is
+    (other_fault_has_cause _ _ c.self.inside c.step.new.self c.push_reserved.new.self c.args.step c.step.result c.split-reply.result.1 c.self.invariant
+    c.step.ensures.goes (ap (λ p. p.1) c.split-reply.ensures) (rw c.len.ensures at c.if-len-ge-EVENT_LIMIT.false) c.push_reserved.ensures.items)
+
+pub returns-then-len-ge-EVENT_LIMIT-clause-other_faults :
+    goal.returns-then-len-ge-EVENT_LIMIT-clause-other_faults
+returns-then-len-ge-EVENT_LIMIT-clause-other_faults g c = inr (omega arith)
 
 pub returns-clause-handed : goal.returns-clause-handed
 returns-clause-handed g c = (
@@ -154,6 +173,17 @@ returns-clause-near g c =
     (restart_may_follow _ _ c.self.inside c.step.new.self c.push_reserved.new.self c.args.step c.step.result c.split-reply.result.1 c.self.invariant
     c.step.ensures.goes
     (ap (λ p. p.1) c.split-reply.ensures) (rw c.len.ensures at c.if-len-ge-EVENT_LIMIT.false) c.push_reserved.ensures.items)
+
+pub returns-clause-crash : goal.returns-clause-crash
+returns-clause-crash g c =
+    let see : Observes g.row.R.Denot g.row.L.Denot =
+    observes g.R.ResourceManager.held_of g.R.ResourceManager.scan_of g.R.ResourceManager.in_doubt_of g.L.DecisionLog.moment in
+    subst (λ v. (see.moment v.handed).is_in_order → (see.place (log_in c.step.new.self.manager)).is_honest → MayRestart see v
+    → MayRestartAfterCrash see v → MayRestartAfterCrash see
+    (seen (record { first = c.self.inside.first; handed = c.self.inside.handed; parts = c.step.new.self; events = c.push_reserved.new.self }))) c.self.view_is
+    (restart_may_follow_a_crash _ _ c.self.inside c.step.new.self c.push_reserved.new.self c.args.step c.step.result c.split-reply.result.1
+    (slot_durable g.L.DecisionLog.moment g.met.L.DecisionLog.durable) c.self.invariant
+    c.step.ensures.goes (ap (λ p. p.1) c.split-reply.ensures) (rw c.len.ensures at c.if-len-ge-EVENT_LIMIT.false) c.push_reserved.ensures.items)
 
 pub returns-clause-out : goal.returns-clause-out
 returns-clause-out g c none is few down =

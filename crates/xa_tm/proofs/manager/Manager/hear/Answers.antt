@@ -3,6 +3,7 @@ use Rattle.xa_base.specs.declared.answer.Answer.TheVariants.{Ret}
 use Rattle.xa_model.specs.Facts.{record_of}
 use Rattle.xa_base.specs.Call.{map_call}
 use Rattle.xa_base.specs.Answer.{map_answer}
+use Rattle.xa_base.proofs.Options.{on_ok}
 use Rattle.xa_model.specs.Replies.History.{name_of}
 use Rattle.xa_model.specs.Trace.{Call, Answer, Fault.InHear, Happening.Heard, line}
 use Rattle.xa_tm.specs.Book.{after, doubt_of}
@@ -12,7 +13,7 @@ use Rattle.xa_tm.specs.News.{recording}
 use Rattle.xa_tm.specs.Tied.{made}
 use Rattle.xa_tm.specs.declared.news.News.{News}
 use Rattle.xa_tm.proofs.NewsLaws.{recorded_by_news}
-use Rattle.xa_tm.proofs.HeardBy.{call_kind, call_on, if_err, on_ok, quiet_code}
+use Rattle.xa_tm.proofs.HeardBy.{call_kind, call_on, if_err, quiet_code}
 use Rattle.xa_tm.proofs.manager.Manager.hear.Goals as goal
 
 pub returns-in-Some-clause-ok : goal.returns-in-Some-clause-ok

@@ -1,5 +1,0 @@
-use Rattle.xa_line.specs.Ends.{SameTaker}
-use Rattle.base_rows.proofs.lines.answer_patiently.Given as goal
-
-abbrev pub invariant-loop : goal.invariant-loop
-invariant-loop l = SameTaker l.initial.taker l.taker

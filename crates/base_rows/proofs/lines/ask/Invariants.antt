@@ -1,5 +1,0 @@
-use Rattle.xa_line.specs.Ends.{SameIssuer}
-use Rattle.base_rows.proofs.lines.ask.Given as goal
-
-abbrev pub invariant-loop-number : goal.invariant-loop-number
-invariant-loop-number l = SameIssuer l.initial.issuer l.issuer

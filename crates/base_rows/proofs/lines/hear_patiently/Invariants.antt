@@ -1,5 +1,0 @@
-use Rattle.xa_line.specs.Ends.{SameIssuer}
-use Rattle.base_rows.proofs.lines.hear_patiently.Given as goal
-
-abbrev pub invariant-loop : goal.invariant-loop
-invariant-loop l = SameIssuer l.initial.issuer l.issuer

@@ -1,5 +1,0 @@
-use Rattle.xa_line.specs.Ends.{SameTaker}
-use Rattle.base_rows.proofs.lines.reply.Given as goal
-
-abbrev pub invariant-loop-number : goal.invariant-loop-number
-invariant-loop-number l = SameTaker l.initial.taker l.taker

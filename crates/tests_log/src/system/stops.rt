@@ -1,0 +1,219 @@
+//! Each row, with a stop at each call of either file.
+
+use crate::files::{Crashes, Stops, blank, log_over, stopping};
+use crate::system::act::{Act, meets_stop, perform};
+use crate::system::recovery::{count_of, end_as_the_log_says};
+use crate::system::rows::{
+    ABANDONED, ACKNOWLEDGED_LATER, CLAIM_ENDS_WITH_CRASH, CLAIMED_IS_KEPT, DECIDED_BEFORE_CRASH,
+    HEURISTIC, OPEN_ROLLED_BACK, RESOURCE_MANAGER_CRASH, RETRIES, Row, TWO_PHASE_COMMIT,
+};
+use sqlite::Files;
+use sqlite_disk::Crash;
+use std::alloc::Global;
+use std::process::Abort;
+use std::test::Fail;
+use xa_base::{Fate, How, Refusal, Reply, Side, Step};
+use xa_log::DecisionLog;
+use xa_rm::MemRm;
+use xa_system::{NewFault, System};
+
+/// How a run ended.
+#[derive(Clone, Copy, Debug, PartialEq, Eq)]
+enum Ended {
+    /// There was no system, and no step.
+    NotBegun,
+    /// A step met the stop.
+    Stopped,
+    /// None did.
+    Whole,
+}
+
+/// A system on one thread over a log, or None where the log fails.
+fn system_over<L: DecisionLog + Drop>(
+    alloc: Global,
+    rms: u32,
+    log: L,
+) -> Result<Option<System<MemRm, L>>, Fail> {
+    let mut held = Vec::new(alloc);
+    for _ in 0..rms {
+        held.push(MemRm::new(alloc))?;
+    }
+    match System::new(alloc, 1, held, log) {
+        Ok(system) => Ok(Some(system)),
+        Err(NewFault::Log) => Ok(None),
+        Err(fault) => Err(Fail::from(fault)),
+    }
+}
+
+/// A row that met no stop ends as it says.
+fn ends_whole<L: DecisionLog + Drop>(rt: &impl Abort, system: &System<MemRm, L>, row: &Row) {
+    let end = if row.is_committed {
+        Fate::Committed
+    } else {
+        Fate::RolledBack
+    };
+    let alone = count_of(system, row.rms, Fate::Heuristic(How::Rb));
+    let ended = count_of(system, row.rms, end);
+    assert!(rt; ended.saturating_add(alone) == row.rms as usize && ended > 0);
+}
+
+/// The log of a manager that has met a stop. While it is out no restart is accepted, and there is no other to take.
+fn log_of<L: DecisionLog + Drop>(rt: &impl Abort, system: &mut System<MemRm, L>) -> Option<L> {
+    let log = system.take_log();
+    assert!(rt; log.is_some(), "the manager is down, and holds its log");
+    assert!(rt; system.take_log().is_none());
+    let restarted = perform(system, Act::RestartManager);
+    assert!(rt; matches!(restarted, Reply::Refused(Refusal::LogFault)));
+    log
+}
+
+/// The incarnation of the last start, and whether the step behind all others was to start the manager again.
+fn starts_of<L: DecisionLog + Drop>(system: &System<MemRm, L>) -> (u64, bool) {
+    let mut incarnation = 1u64;
+    let mut is_start = false;
+    for event in system.trace() {
+        is_start = matches!(event.step, Step::Restart(Side::Manager));
+        if matches!(event.reply, Reply::Restarted { .. }) {
+            incarnation = incarnation.saturating_add(1);
+        }
+    }
+    (incarnation, is_start)
+}
+
+/// A manager that is down takes its log again, and all ends as the log says. The incarnation is the next, and where the
+/// start of a manager met the stop, that or the one after it.
+fn goes_on<L: DecisionLog + Drop>(
+    rt: &impl Abort,
+    system: &mut System<MemRm, L>,
+    log: L,
+    rms: u32,
+    starts: (u64, bool),
+) {
+    let events = system.trace().len();
+    let given = system.give_log(log).is_ok();
+    assert!(rt; given, "the log isn't taken");
+    assert!(rt; system.trace().len() == events);
+    let found = end_as_the_log_says(rt, system, rms);
+    let (last, is_start) = starts;
+    let passed = found.incarnation.saturating_sub(last);
+    assert!(rt;
+        passed == 1 || (passed == 2 && is_start),
+        "{found:?}, {last}"
+    );
+}
+
+/// A row over a log.
+fn run_over<L: Crashes>(rt: &impl Abort, alloc: Global, log: L, row: &Row) -> Result<Ended, Fail> {
+    let Some(mut system) = system_over(alloc, row.rms, log)? else {
+        return Ok(Ended::NotBegun);
+    };
+    if !meets_stop(&mut system, row.parts) {
+        ends_whole(rt, &system, row);
+        return Ok(Ended::Whole);
+    }
+    let starts = starts_of(&system);
+    if let Some(log) = log_of(rt, &mut system) {
+        let Some(log) = log.reopened(alloc) else {
+            return Err(Fail::from("the files don't open again"));
+        };
+        goes_on(rt, &mut system, log, row.rms, starts);
+    }
+    Ok(Ended::Stopped)
+}
+
+/// A row over a log in files.
+fn run<D: Crash + Drop>(
+    rt: &impl Abort,
+    alloc: Global,
+    files: Files<D>,
+    row: &Row,
+) -> Result<Ended, Fail> {
+    match log_over(alloc, files) {
+        Some(log) => run_over(rt, alloc, log, row),
+        None => Ok(Ended::NotBegun),
+    }
+}
+
+/// A row with a stop at each call of the one file, up to a run that meets none. Answers how many runs met a stop before the
+/// first step, and how many in a step.
+fn stop_at_each_call(
+    rt: &impl Abort,
+    alloc: Global,
+    which: Stops,
+    row: &Row,
+) -> Result<(usize, usize), Fail> {
+    let (mut before, mut stopped) = (0usize, 0usize);
+    for calls in 0..2000u64 {
+        match run(rt, alloc, stopping(blank(alloc), which, calls), row)? {
+            Ended::NotBegun => before = before.saturating_add(1),
+            Ended::Stopped => stopped = stopped.saturating_add(1),
+            Ended::Whole => {
+                assert!(rt; before as u64 == calls.saturating_sub(stopped as u64));
+                return Ok((before, stopped));
+            }
+        }
+    }
+    Err(Fail::from("each run met a stop"))
+}
+
+/// The same for both files. A step that changes the log meets stops of the journal, in which its changes are.
+fn stops(rt: &(impl Abort + Eprint), alloc: Global, row: &Row) -> Result<(), Fail> {
+    let (database, in_steps) = stop_at_each_call(rt, alloc, Stops::Database, row)?;
+    let (journal, stopped) = stop_at_each_call(rt, alloc, Stops::Journal, row)?;
+    let _ = eprintln!(rt;
+        "{database} and {journal} before a step, {in_steps} and {stopped} in one"
+    );
+    assert!(rt; database > 0 && journal > 0, "no stop at the start");
+    assert!(rt; (stopped > 0) == row.is_logged, "{stopped} stops");
+    Ok(())
+}
+
+#[test]
+fn two_phase_commit(rt: HostRuntime) -> Result<(), Fail> {
+    stops(&rt, rt.alloc(), &TWO_PHASE_COMMIT)
+}
+
+#[test]
+fn decided_before_crash(rt: HostRuntime) -> Result<(), Fail> {
+    stops(&rt, rt.alloc(), &DECIDED_BEFORE_CRASH)
+}
+
+#[test]
+fn acknowledged_later(rt: HostRuntime) -> Result<(), Fail> {
+    stops(&rt, rt.alloc(), &ACKNOWLEDGED_LATER)
+}
+
+#[test]
+fn resource_manager_crash(rt: HostRuntime) -> Result<(), Fail> {
+    stops(&rt, rt.alloc(), &RESOURCE_MANAGER_CRASH)
+}
+
+#[test]
+fn heuristic(rt: HostRuntime) -> Result<(), Fail> {
+    stops(&rt, rt.alloc(), &HEURISTIC)
+}
+
+#[test]
+fn retries(rt: HostRuntime) -> Result<(), Fail> {
+    stops(&rt, rt.alloc(), &RETRIES)
+}
+
+#[test]
+fn open_rolled_back(rt: HostRuntime) -> Result<(), Fail> {
+    stops(&rt, rt.alloc(), &OPEN_ROLLED_BACK)
+}
+
+#[test]
+fn claimed_is_kept(rt: HostRuntime) -> Result<(), Fail> {
+    stops(&rt, rt.alloc(), &CLAIMED_IS_KEPT)
+}
+
+#[test]
+fn claim_ends_with_crash(rt: HostRuntime) -> Result<(), Fail> {
+    stops(&rt, rt.alloc(), &CLAIM_ENDS_WITH_CRASH)
+}
+
+#[test]
+fn abandoned(rt: HostRuntime) -> Result<(), Fail> {
+    stops(&rt, rt.alloc(), &ABANDONED)
+}

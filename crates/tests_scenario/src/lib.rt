@@ -1,0 +1,16 @@
+//! Tests of whole scenario files, each with all that a run or a check of it prints; and of logs, with the lists of
+//! them.
+#![tactic(auto)]
+
+#[cfg(test)]
+mod again;
+#[cfg(test)]
+mod early;
+#[cfg(test)]
+mod failing;
+#[cfg(test)]
+mod logs;
+#[cfg(test)]
+mod refused;
+#[cfg(test)]
+mod stories;

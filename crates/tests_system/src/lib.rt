@@ -1,0 +1,31 @@
+//! Worked rows through a whole system: each line of a row is a step, with the reply that it is to have.
+#![tactic(auto)]
+
+#[cfg(test)]
+mod claims;
+#[cfg(test)]
+mod crashes;
+#[cfg(test)]
+mod decisions;
+#[cfg(test)]
+mod faults;
+#[cfg(test)]
+mod full;
+#[cfg(test)]
+mod growth;
+#[cfg(test)]
+mod limits;
+#[cfg(test)]
+mod logs;
+#[cfg(test)]
+mod play;
+#[cfg(test)]
+mod ready;
+#[cfg(test)]
+mod refused;
+#[cfg(test)]
+mod scans;
+#[cfg(test)]
+mod told;
+#[cfg(test)]
+mod words;

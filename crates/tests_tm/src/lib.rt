@@ -1,0 +1,8 @@
+//! Tests of the coordinator by itself over logs in memory, of what no clause says: that it starts, gives its log out and takes
+//! it again where there is memory, and which fault it tells.
+#![tactic(auto)]
+
+#[cfg(test)]
+mod starts;
+#[cfg(test)]
+mod swaps;

@@ -1,0 +1,27 @@
+use Rattle.std.specs.Prelude.{Result, Err}
+use Rattle.xa_model.specs.Facts.{up}
+use Rattle.xa_system.specs.Seen.{trace_in}
+use Rattle.xa_system.specs.Sites.{Looks, looks}
+use Rattle.xa_tm.specs.Slots.{log_held}
+use Rattle.xa_tm.specs.declared.swap_fault.SwapFault.{SwapFault}
+use Rattle.uses.proofs.LogSwaps.{left_down, not_blamed, not_there_yet, why_not}
+use Rattle.uses.proofs.swaps.restart_over.Goals as goal
+
+pub returns-in-Ok-clause-restarted : goal.returns-in-Ok-clause-restarted
+returns-in-Ok-clause-restarted g c content is =
+    let gave = c.in-Ok.ensures in
+    let did = c.step.ensures in
+    not_blamed g.R.ResourceManager.held_of g.R.ResourceManager.scan_of g.R.ResourceManager.in_doubt_of g.L.DecisionLog c.args.system.now
+    c.give_log.new.self c.step.new.self c.args.left content _
+    c.step.result gave.others gave.ok c.requires.left is (c.requires.near content (c.requires.leaves content is)) did.full did.adds did.honest did.faults
+
+pub returns-in-Err-clause-given : goal.returns-in-Err-clause-given
+returns-in-Err-clause-given g c content is =
+    let look : Looks g.row.R.Denot = looks g.R.ResourceManager.held_of g.R.ResourceManager.scan_of g.R.ResourceManager.in_doubt_of in
+    let old = c.args.system.now in
+    let tr = trace_in look old in
+    let gave = c.in-Err.ensures in
+    why_not {A = Unit {0}} g.L.DecisionLog.moment tr c.args.left (Err c.in-Err.fault) _ gave.back gave.only_up gave.only_other_rows
+    (not_there_yet g.R.ResourceManager.held_of g.R.ResourceManager.scan_of g.R.ResourceManager.in_doubt_of g.L.DecisionLog.moment
+    (up tr) (log_held old.log) c.requires.down c.requires.out) c.requires.left content is
+    (λ honest. left_down tr content c.requires.down (c.agree.ensures.parts.log.leaves c.requires.order c.requires.honest content (c.requires.leaves content is)))

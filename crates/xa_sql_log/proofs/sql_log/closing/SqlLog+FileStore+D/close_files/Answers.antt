@@ -1,0 +1,8 @@
+use Rattle.sqlite.specs.Files.{file_state}
+use Rattle.xa_sql_log.proofs.Closing.{closed_whole}
+use Rattle.xa_sql_log.proofs.sql_log.closing.SqlLog+FileStore+D.close_files.Goals as goal
+
+pub returns-in-Ok-clause-held : goal.returns-in-Ok-clause-held
+returns-in-Ok-clause-held g c lasts clean content is =
+    let copied = c.in-Ok.ensures.copied clean in
+    closed_whole (file_state c.args.self.conn) _ content c.schema-tables.ensures.live lasts copied.was_open copied.seen is

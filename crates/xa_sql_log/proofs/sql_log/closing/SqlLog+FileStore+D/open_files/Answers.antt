@@ -1,0 +1,43 @@
+use Rattle.xa_log.proofs.Parts.{both_ok, if_ok}
+use Rattle.sqlite.specs.Files.{file_state}
+use Rattle.xa_sql_log.proofs.Closing.{found_whole}
+use Rattle.xa_sql_log.proofs.Found.{known_held}
+use Rattle.xa_sql_log.proofs.sql_log.closing.SqlLog+FileStore+D.open_files.Goals as goal
+
+pub returns-clause-opened : goal.returns-clause-opened
+returns-clause-opened g c =
+    both_ok c.adopt_files.result _ _ _
+    (λ log honest taken clean.
+    let early = honest clean in
+    let found = c.in-Ok.ensures.found early in
+    record {
+      was = c.in-Ok.conn;
+      opened = c.in-Ok.ensures.opened early;
+      found = record { holds = found.holds; reads = found.reads };
+      plain = c.in-Ok.ensures.plain early;
+      taken = taken clean;
+    })
+    c.adopt_files.ensures.honest
+    c.adopt_files.ensures.taken
+
+pub returns-clause-order : goal.returns-clause-order
+returns-clause-order g c =
+    let conn = c.in-Ok.conn in
+    if_ok c.adopt_files.result _ _
+    (λ log lasts holds. lasts (λ early.
+    let opened = c.in-Ok.ensures.opened early in
+    let found = c.in-Ok.ensures.found early in
+    known_held (file_state conn) opened.0 opened.1 _ (record { holds = found.holds; reads = found.reads }) holds))
+    c.adopt_files.ensures.order
+
+pub returns-clause-held : goal.returns-clause-held
+returns-clause-held g c =
+    let conn = c.in-Ok.conn in
+    both_ok c.adopt_files.result _ _ _
+    (λ log honest taken content whole clean.
+    let early = honest clean in
+    let opened = c.in-Ok.ensures.opened early in
+    let found = c.in-Ok.ensures.found early in
+    found_whole content _ (file_state conn) (file_state log.conn) opened.0 opened.1 (record { holds = found.holds; reads = found.reads }) whole (taken clean))
+    c.adopt_files.ensures.honest
+    c.adopt_files.ensures.taken

@@ -1,0 +1,130 @@
+//! A log that is looked at. Who looks makes none, and an open writes where there is none: so the files are tried on a
+//! copy first.
+ghost use Rattle.std.specs.Prelude.{◌≡◌, codes, Err, IsErr, IsTrue, IfOk, IfErr};
+ghost use Rattle.sqlite.specs.State.{HasCleanDisk};
+ghost use Rattle.sqlite.specs.Held.{state};
+ghost use Rattle.sqlite.specs.Files.{file_state};
+ghost use Rattle.sqlite_wal.specs.Files.{image_at};
+ghost use Rattle.xa_log.specs.Contract.{IsStoreFault};
+ghost use Rattle.xa_sql_log.specs.Opened.{FindsLog, HoldsLog, IsBlank, IsOver};
+
+use super::SqlLog;
+use crate::statements::{of_store, store_fault};
+use crate::tables::has_log;
+use sqlite::{Alter, Connection, FileFrom, FileStore, Files, Options, Unknown};
+use sqlite_disk::{Disk, Memory, Start};
+use std::alloc::Global;
+use std::fs;
+use std::io::{self, ErrorKind};
+use xa_log::{DecisionLog, LogFault};
+
+/// Whether a log takes a database that has the tables of one. No table is made.
+fn try_database<S: Alter + Drop>(conn: Connection<S>) -> Result<(), LogFault>
+    ensures blank { IsBlank (state S.Store conn) → result ≡ Err LogFault.Version }
+{
+    if !has_log(&conn) {
+        return Err(LogFault::Version);
+    }
+    match SqlLog::adopt(conn) {
+        Ok(_log) => Ok(()),
+        Err((fault, _conn)) => Err(fault),
+    }
+}
+
+/// The same of the database in these files.
+fn try_files<D: Disk + Drop>(alloc: Global, files: Files<D>) -> Result<(), LogFault>
+    requires log { IsTrue (D.Disk.is_usable files.log) }
+    requires db { IsTrue (D.Disk.is_usable files.db) }
+{
+    match Connection::open_files(alloc, files, Options::new(0)) {
+        Ok(conn) => try_database(conn),
+        Err((error, _files)) => Err(store_fault(error)),
+    }
+}
+
+/// The fault of a file that wasn't read.
+fn read_fault(error: io::Error) -> LogFault
+    ensures { IsStoreFault result }
+{
+    if error.kind() == ErrorKind::OutOfMemory {
+        LogFault::Memory
+    } else {
+        LogFault::Store
+    }
+}
+
+/// What the file at a path holds: nothing where there is none.
+fn bytes_at(rt: &HostRuntime, path: &str) -> Result<Vec<u8>, LogFault>
+    ensures { IfErr result IsStoreFault }
+{
+    match fs::read(rt, path) {
+        Ok(bytes) => Ok(bytes),
+        Err(error) if error.kind() == ErrorKind::NotFound => Ok(Vec::new(rt.alloc())),
+        Err(error) => Err(read_fault(error)),
+    }
+}
+
+/// A copy of that file in memory.
+fn copy_of(rt: &HostRuntime, path: &str) -> Result<Memory, LogFault>
+    ensures usable { IfOk result (λ file. IsTrue (⟦<Memory as Disk>⟧.is_usable file)) }
+    ensures cause { IfErr result IsStoreFault }
+{
+    let bytes = bytes_at(rt, path)?;
+    let mut file = Memory::new(rt.alloc());
+    match file.write_at(0, bytes.as_slice()) {
+        Ok(()) => Ok(file),
+        Err(error) => Err(read_fault(error)),
+    }
+}
+
+/// Copies of the database file at a path and of its journal. As in SQLite, that lies where a link leads.
+fn copies_of(rt: &HostRuntime, path: &str) -> Result<Files<Memory>, LogFault>
+    ensures log { IfOk result (λ files. IsTrue (⟦<Memory as Disk>⟧.is_usable files.log)) }
+    ensures db { IfOk result (λ files. IsTrue (⟦<Memory as Disk>⟧.is_usable files.db)) }
+    ensures cause { IfErr result IsStoreFault }
+{
+    let path = match fs::canonicalize(rt, path) {
+        Ok(path) => path,
+        Err(error) => return Err(read_fault(error)),
+    };
+    let journal = format!(in rt.alloc(); "{}-wal", path.as_str())?;
+    Ok(Files {
+        log: copy_of(rt, journal.as_str())?,
+        db: copy_of(rt, path.as_str())?,
+    })
+}
+
+impl SqlLog<FileStore<FileFrom<Unknown>>> {
+    /// Opens the log that is in the file at a path, as `open` does: one of version 1 is migrated. Where there is no file,
+    /// or no log in it, it fails, and makes none: neither the file nor its journal is written then. What the files hold
+    /// is read once more for that, into memory.
+    ///
+    /// [`LogFault::Version`] comes also for a file that is empty, and for a database that has no table of a log.
+    pub fn look(
+        rt: &HostRuntime,
+        path: &str,
+    ) -> Result<SqlLog<FileStore<FileFrom<Unknown>>>, LogFault>
+        ensures faults { IfOk result (λ log. log.faults ≡ 0) }
+        ensures opened { IfOk result (λ log. HasCleanDisk (file_state log.conn) →
+            IsOver (image_at ⟦<Unknown as Start>⟧) log.conn) }
+        ensures order { IfOk result (λ log. HoldsLog (image_at ⟦<Unknown as Start>⟧) →
+            (⟦<SqlLog<FileStore<FileFrom<Unknown>>> as DecisionLog>⟧.moment log).is_in_order) }
+        ensures order_found { IfOk result (λ log. FindsLog (image_at ⟦<Unknown as Start>⟧) →
+            (⟦<SqlLog<FileStore<FileFrom<Unknown>>> as DecisionLog>⟧.moment log).is_in_order) }
+        ensures memory { path.now ≡ codes ":memory:" → IsErr result }
+    {
+        let copies = copies_of(rt, path)?;
+        try_files(rt.alloc(), copies)?;
+        SqlLog::open(rt, path)
+    }
+}
+
+impl<D: Disk + Drop> SqlLog<FileStore<D>> {
+    /// Copies the journal into the database file, which then holds the whole log by itself, and closes both. A log that
+    /// is dropped loses nothing, but lies in both files, which belong together.
+    pub fn close(self) -> Result<(), LogFault>
+        ensures { IfErr result IsStoreFault }
+    {
+        of_store(self.into_connection().close())
+    }
+}
