@@ -1,4 +1,4 @@
--- The texts of faults, as standard error shows them.
+-- The texts of faults, as standard error shows them, and the statuses that a program ends with.
 use Rattle.std.specs.Prelude.{ℕ, List, codes, ◌++◌}
 use Rattle.std.specs.Fmt.{decimal}
 use Rattle.xa_files.specs.declared.fault.RunFault.{RunFault}
@@ -13,3 +13,14 @@ fault_text Log = codes "xatm: log"
 fault_text Memory = codes "xatm: memory"
 fault_text Work = codes "xatm: work"
 fault_text Output = codes "xatm: output"
+
+-- the status of a fault: 1 where the file is refused, 2 where the work on it fails
+abbrev pub fault_status : RunFault → ℕ
+fault_status NotToml = 1
+fault_status Header = 1
+fault_status (Step n) = 1
+fault_status (Job n) = 1
+fault_status Log = 2
+fault_status Memory = 2
+fault_status Work = 2
+fault_status Output = 2

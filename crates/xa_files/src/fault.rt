@@ -28,6 +28,20 @@ pub enum RunFault {
     Output,
 }
 
+impl RunFault {
+    ghost use Rattle.xa_files.specs.Faults.{fault_status};
+
+    /// The status that a program ends with for this fault: 1 where the file is refused, 2 where the work on it fails.
+    pub fn status(self) -> u8
+        ensures { result ≡ fault_status self }
+    {
+        match self {
+            RunFault::NotToml | RunFault::Header | RunFault::Step(_) | RunFault::Job(_) => 1,
+            RunFault::Log | RunFault::Memory | RunFault::Work | RunFault::Output => 2,
+        }
+    }
+}
+
 impl fmt::Display for RunFault {
     ghost use Rattle.xa_files.specs.Faults.{fault_text};
 

@@ -28,6 +28,16 @@ impl Failure {
             _ => self,
         }
     }
+
+    /// The status that the program ends with: 1 where the file is refused, 2 where the work on it fails, 3 where the
+    /// command line is refused.
+    fn status(&self) -> u8 {
+        match self {
+            Failure::CommandLine => 3,
+            Failure::NotReadable => 1,
+            Failure::Run(fault) => fault.status(),
+        }
+    }
 }
 
 impl From<RunFault> for Failure {
@@ -48,7 +58,7 @@ fn main(rt: HostRuntime) -> ExitCode {
         Err(failure) => {
             // A text that can't be written changes no status.
             let _unwritten = print(&rt, &failure);
-            ExitCode::from(status_of(&failure))
+            ExitCode::from(failure.status())
         }
     }
 }
@@ -95,14 +105,5 @@ fn print(rt: &HostRuntime, failure: &Failure) -> io::Result<()> {
         Failure::CommandLine => eprintln!(rt; "xatm: command line"),
         Failure::NotReadable => eprintln!(rt; "xatm: scenario: not readable"),
         Failure::Run(fault) => eprintln!(rt; "{fault}"),
-    }
-}
-
-/// The status of a failure: 1 where the file is refused, 2 where the work on it fails, 3 where the command line is refused.
-fn status_of(failure: &Failure) -> u8 {
-    match failure {
-        Failure::CommandLine => 3,
-        Failure::Run(RunFault::Log | RunFault::Memory | RunFault::Work | RunFault::Output) => 2,
-        Failure::NotReadable | Failure::Run(_) => 1,
     }
 }

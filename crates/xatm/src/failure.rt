@@ -1,7 +1,6 @@
 //! Why the program ends with a status other than 0.
 
 ghost use Rattle.std.specs.Prelude.{◌≡◌};
-ghost use Rattle.xatm.specs.Failures.{fault_status};
 ghost use Rattle.xa_files.specs.declared.fault.RunFault.TheVariants as Faults;
 ghost use Rattle.xatm.specs.declared.failure.Failure.TheVariants.{Run};
 
@@ -49,7 +48,7 @@ impl Failure {
         match self {
             Failure::CommandLine(_) | Failure::Words => 3,
             Failure::NotReadable => 1,
-            Failure::Run(fault) => status_of(*fault),
+            Failure::Run(fault) => fault.status(),
         }
     }
 
@@ -61,16 +60,6 @@ impl Failure {
             Failure::NotReadable => eprintln!(rt; "xatm: scenario: not readable"),
             Failure::Run(fault) => eprintln!(rt; "{fault}"),
         }
-    }
-}
-
-/// The status of a fault: 1 where the file is refused, 2 where the work on it fails.
-fn status_of(fault: RunFault) -> u8
-    ensures { result ≡ fault_status fault }
-{
-    match fault {
-        RunFault::NotToml | RunFault::Header | RunFault::Step(_) | RunFault::Job(_) => 1,
-        RunFault::Log | RunFault::Memory | RunFault::Work | RunFault::Output => 2,
     }
 }
 
