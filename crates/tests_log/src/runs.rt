@@ -46,7 +46,8 @@ fn gtrid(sequence: u64) -> Gtrid
     }
 }
 
-fn branch(gtrid: Gtrid, rm: u32) -> Branch
+/// The branch of a transaction at a resource manager.
+pub(crate) fn branch(gtrid: Gtrid, rm: u32) -> Branch
     ensures { result.gtrid ≡ gtrid }
 {
     Branch {

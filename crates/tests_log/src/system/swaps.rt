@@ -1,12 +1,13 @@
 //! A commit in two phases whose log fails at a change, over logs that fail by plan; and logs that a manager doesn't take.
 
+use crate::runs::branch;
 use crate::system::act::{FIRST, meets_stop};
 use crate::system::recovery::end_as_the_log_says;
 use crate::system::rows::TWO_PHASE_COMMIT;
 use std::alloc::Global;
 use std::process::Abort;
 use std::test::Fail;
-use xa_base::{Branch, Gtrid};
+use xa_base::Gtrid;
 use xa_log::{DecisionLog, FailLog, FailPlan, LogCall, MemLog};
 use xa_rm::MemRm;
 use xa_system::{SwapFault, System};
@@ -14,15 +15,6 @@ use xa_system::{SwapFault, System};
 /// A log in memory that fails once, at its first call of a kind.
 fn log_that_fails(alloc: Global, kind: LogCall, made: bool) -> FailLog {
     FailLog::new(MemLog::new(alloc), FailPlan::Once { kind, at: 1, made })
-}
-
-/// The branches of a transaction at both resource managers.
-fn branches_of(gtrid: Gtrid) -> [Branch; 2] {
-    [0, 1].map(|rm| Branch {
-        gtrid,
-        thread: 0,
-        rm,
-    })
 }
 
 /// A log that has, beside the row where there is one, a decision of which the manager knows nothing.
@@ -33,9 +25,9 @@ fn log_with_more(alloc: Global, has_row: bool) -> Result<FailLog, Fail> {
     };
     let mut log = MemLog::new(alloc);
     if has_row {
-        log.commit(FIRST, &branches_of(FIRST))?;
+        log.commit(FIRST, &[branch(FIRST, 0), branch(FIRST, 1)])?;
     }
-    log.commit(gtrid, &branches_of(gtrid))?;
+    log.commit(gtrid, &[branch(gtrid, 0), branch(gtrid, 1)])?;
     let kind = LogCall::Participants;
     Ok(FailLog::new(log, FailPlan::Every { kind }))
 }
