@@ -7,9 +7,12 @@
 
 mod command;
 mod failure;
+mod stores;
 
 use crate::command::{Command, command_of, parser};
 use crate::failure::Failure;
+use crate::stores::{close_in_files, list_in_files, run_in_files, run_jobs_in_files};
+use crate::stores::{run_jobs_over, run_over};
 use std::io::Write;
 use std::process::ExitCode;
 use std::sync::Wait;
@@ -17,10 +20,8 @@ use std::thread::Threads;
 use std::time::Clock;
 use std::{env, fs, io};
 use xa_files::RunFault;
-use xa_jobs::run_job_file;
-use xa_listing::list_log;
 use xa_log::LogFault;
-use xa_scenario::{check_scenario, run_scenario};
+use xa_scenario::check_scenario;
 use xa_sql_log::SqlLog;
 
 fn main(rt: HostRuntime) -> ExitCode {
@@ -94,12 +95,12 @@ fn run<W: Write>(
     let alloc = rt.alloc();
     match log {
         Some(path) => {
-            let ran = run_scenario(alloc, text, SqlLog::open(rt, path)?, with_trace, out);
+            let ran = run_in_files(alloc, text, SqlLog::open(rt, path)?, with_trace, out);
             let gathered = gather(rt, path);
             ran?;
             gathered?;
         }
-        None => run_scenario(alloc, text, SqlLog::open_in_memory(alloc)?, with_trace, out)?,
+        None => run_over(alloc, text, SqlLog::open_in_memory(alloc)?, with_trace, out)?,
     }
     Ok(())
 }
@@ -116,27 +117,22 @@ fn run_threads<T: Threads + Wait + Clock + Sync, W: Write>(
     let alloc = rt.alloc();
     match log {
         Some(path) => {
-            let ran = run_job_file(threads, alloc, text, SqlLog::open(rt, path)?, out);
+            let ran = run_jobs_in_files(threads, alloc, text, SqlLog::open(rt, path)?, out);
             let gathered = gather(rt, path);
             ran?;
             gathered?;
         }
-        None => run_job_file(threads, alloc, text, SqlLog::open_in_memory(alloc)?, out)?,
+        None => run_jobs_over(threads, alloc, text, SqlLog::open_in_memory(alloc)?, out)?,
     }
     Ok(())
 }
 
 /// Lists the log at a path. Where there is none it fails: who looks at a log makes none.
 fn list<W: Write>(rt: &HostRuntime, path: &str, out: &mut W) -> Result<(), Failure> {
-    let mut log = SqlLog::look(rt, path)?;
-    let listed = list_log(&mut log, out);
-    let closed = log.close();
-    listed?;
-    closed?;
-    Ok(())
+    list_in_files(SqlLog::look(rt, path)?, out)
 }
 
 /// Copies the journal of the log at a path into its file, once a run has ended.
 fn gather(rt: &HostRuntime, path: &str) -> Result<(), LogFault> {
-    SqlLog::look(rt, path)?.close()
+    close_in_files(SqlLog::look(rt, path)?)
 }

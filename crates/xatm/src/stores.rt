@@ -1,0 +1,83 @@
+//! What is done over a log in any store, and over one in files of any kind. Each step nearer to one kind of file makes a proof
+//! several times as long, so that a function does no more there than to call the one behind it.
+
+use crate::failure::Failure;
+use sqlite::{Alter, FileStore};
+use sqlite_disk::Disk;
+use std::alloc::Global;
+use std::io::Write;
+use std::sync::Wait;
+use std::thread::Threads;
+use std::time::Clock;
+use xa_files::RunFault;
+use xa_jobs::run_job_file;
+use xa_listing::list_log;
+use xa_log::LogFault;
+use xa_scenario::run_scenario;
+use xa_sql_log::SqlLog;
+
+/// Runs a scenario.
+pub(crate) fn run_over<S: Alter + Drop, W: Write>(
+    alloc: Global,
+    text: &[u8],
+    log: SqlLog<S>,
+    with_trace: bool,
+    out: &mut W,
+) -> Result<(), RunFault> {
+    run_scenario(alloc, text, log, with_trace, out)
+}
+
+/// The same over files.
+pub(crate) fn run_in_files<D: Disk + Drop, W: Write>(
+    alloc: Global,
+    text: &[u8],
+    log: SqlLog<FileStore<D>>,
+    with_trace: bool,
+    out: &mut W,
+) -> Result<(), RunFault> {
+    run_over(alloc, text, log, with_trace, out)
+}
+
+/// Runs the jobs of a file.
+pub(crate) fn run_jobs_over<S: Alter + Drop, T: Threads + Wait + Clock + Sync, W: Write>(
+    threads: &T,
+    alloc: Global,
+    text: &[u8],
+    log: SqlLog<S>,
+    out: &mut W,
+) -> Result<(), RunFault> {
+    run_job_file(threads, alloc, text, log, out)
+}
+
+/// The same over files.
+pub(crate) fn run_jobs_in_files<D: Disk + Drop, T: Threads + Wait + Clock + Sync, W: Write>(
+    threads: &T,
+    alloc: Global,
+    text: &[u8],
+    log: SqlLog<FileStore<D>>,
+    out: &mut W,
+) -> Result<(), RunFault> {
+    run_jobs_over(threads, alloc, text, log, out)
+}
+
+/// Lists a log.
+fn list_over<S: Alter, W: Write>(log: &mut SqlLog<S>, out: &mut W) -> Result<(), RunFault> {
+    list_log(log, out)
+}
+
+/// Lists a log in files, and closes it.
+pub(crate) fn list_in_files<D: Disk + Drop, W: Write>(
+    mut log: SqlLog<FileStore<D>>,
+    out: &mut W,
+) -> Result<(), Failure> {
+    let listed = list_over(&mut log, out);
+    let closed = close_in_files(log);
+    listed?;
+    closed?;
+    Ok(())
+}
+
+/// Copies the journal of a log into its file, and closes both.
+pub(crate) fn close_in_files<D: Disk + Drop>(log: SqlLog<FileStore<D>>) -> Result<(), LogFault> {
+    log.close()
+}
