@@ -3,6 +3,8 @@
 ghost use Rattle.std.specs.Prelude.{◌≡◌, ◌≤◌};
 ghost use Rattle.xa_log.specs.Contract.{FitsRow};
 
+use sqlite::{Alter, FileStore};
+use sqlite_disk::Disk;
 use std::time::Instant;
 use xa_base::{Branch, Gtrid, How};
 use xa_log::{DecisionLog, LogFault};
@@ -14,6 +16,15 @@ const COMMITS: u64 = 1_000;
 /// How many are where the time is taken.
 const TIMED: u64 = 20_000;
 
+/// What is done over a log.
+#[derive(Clone, Copy)]
+enum Work {
+    Write,
+    Read,
+    Time,
+    Settle,
+}
+
 /// Runs a command, with a path where it needs one.
 pub(crate) fn run(
     rt: &HostRuntime,
@@ -21,27 +32,61 @@ pub(crate) fn run(
     path: Option<&str>,
 ) -> anyhow::Result<()> {
     match (command, path) {
-        (Some("write"), Some(path)) => Ok(write(&mut SqlLog::open(rt, path)?)?),
-        (Some("read"), Some(path)) => read(rt, &mut SqlLog::open(rt, path)?),
-        (Some("time"), path) => {
-            measure(rt, "in memory", &mut SqlLog::open_in_memory(rt.alloc())?)?;
-            if let Some(path) = path {
-                measure(rt, "in a file", &mut SqlLog::open(rt, path)?)?;
-            }
-            Ok(())
+        (Some("write"), Some(path)) => work_at(rt, path, Work::Write),
+        (Some("read"), Some(path)) => work_at(rt, path, Work::Read),
+        (Some("time"), Some(path)) => {
+            work_in_memory(rt, Work::Time)?;
+            work_at(rt, path, Work::Time)
         }
-        _ => {
-            let mut log = SqlLog::open_in_memory(rt.alloc())?;
-            commit_all(&mut log, COMMITS)?;
-            println!(rt;
-                "{} rows after {COMMITS} commits",
-                log.rows()?.decisions.len()
-            )?;
-            settle_all(&mut log)?;
-            println!(rt; "{} rows once all are done", log.rows()?.decisions.len())?;
-            Ok(())
-        }
+        (Some("time"), None) => work_in_memory(rt, Work::Time),
+        _ => work_in_memory(rt, Work::Settle),
     }
+}
+
+/// Works over a log in memory.
+fn work_in_memory(rt: &HostRuntime, work: Work) -> anyhow::Result<()> {
+    work_over(rt, "in memory", SqlLog::open_in_memory(rt.alloc())?, work)
+}
+
+/// Works over a log in a file.
+fn work_at(rt: &HostRuntime, path: &str, work: Work) -> anyhow::Result<()> {
+    work_in_files(rt, SqlLog::open(rt, path)?, work)
+}
+
+/// Works over a log in files of any kind: a proof at one kind of file takes several times as long.
+fn work_in_files<D: Disk + Drop>(
+    rt: &HostRuntime,
+    log: SqlLog<FileStore<D>>,
+    work: Work,
+) -> anyhow::Result<()> {
+    work_over(rt, "in a file", log, work)
+}
+
+/// Works over a log in any store.
+fn work_over<S: Alter + Drop>(
+    rt: &HostRuntime,
+    place: &str,
+    mut log: SqlLog<S>,
+    work: Work,
+) -> anyhow::Result<()> {
+    match work {
+        Work::Write => Ok(write(&mut log)?),
+        Work::Read => read(rt, &mut log),
+        Work::Time => measure(rt, place, &mut log),
+        Work::Settle => commit_and_settle(rt, &mut log),
+    }
+}
+
+/// Prints how many rows there are after commits, and once all are done.
+fn commit_and_settle<L: DecisionLog>(rt: &HostRuntime, log: &mut L) -> anyhow::Result<()> {
+    commit_all(log, COMMITS)?;
+    println!(rt;
+        "{} rows after {COMMITS} commits",
+        log.rows()?.decisions.len()
+    )?;
+    settle_all(log)?;
+    println!(rt; "{} rows once all are done", log.rows()?.decisions.len())?;
+    Ok(())
 }
 
 /// A transaction of the first incarnation.

@@ -11,8 +11,9 @@ mod stores;
 
 use crate::command::{Command, command_of, parser};
 use crate::failure::Failure;
-use crate::stores::{close_in_files, list_in_files, run_in_files, run_jobs_in_files};
-use crate::stores::{run_jobs_over, run_over};
+use crate::stores::{
+    close_in_files, list_in_files, run_in_files, run_jobs_in_files, run_jobs_over, run_over,
+};
 use std::io::Write;
 use std::process::ExitCode;
 use std::sync::Wait;
