@@ -45,3 +45,13 @@ found_until_done g p (Some c) logged seen done before after commits finds sees t
     let done_is = subst (λ x. Makes (without_decision g) x done) seen_is takes in
     let missed = subst (λ x. IsSomeAnd x (λ d. after ≡ contains_key d.decisions g)) done_is misses in
     (found ∙ there c g p, missed ∙ gone then g)
+
+-- a decision that is logged is found in what holds the same
+pub found_in_same :
+    (g : Gtrid) (p : KeySet branch_cmp) (first logged held : Option Content) (found : Bool) → Makes (with_commit g p) first logged
+    → ((c : Content) → logged ≡ Some c → (held ≡ Some c) × IsSomeAnd held (λ d. found ≡ contains_key d.decisions g)) → found ≡ true
+found_in_same g p None logged held found commits same = absurd commits
+found_in_same g p (Some c) logged held found commits same =
+    let then = with_commit g p c in
+    let is = same then commits in
+    subst (λ x. IsSomeAnd x (λ d. found ≡ contains_key d.decisions g)) is.0 is.1 ∙ there c g p

@@ -19,6 +19,8 @@ mod system;
 mod tm;
 mod workers;
 
+use sqlite::Files;
+use sqlite_disk::Memory;
 use std::alloc::Global;
 use std::sync::Wait;
 use std::thread::Threads;
@@ -81,6 +83,12 @@ fn show_log(rt: &HostRuntime) -> anyhow::Result<()> {
     println!(rt; "xa_log: {found}")?;
     let found = sql_log::found_in_new_log(alloc, BRANCH.gtrid, &[BRANCH])?;
     println!(rt; "xa_sql_log: {found:?}")?;
+    let files = Files {
+        log: Memory::new(alloc),
+        db: Memory::new(alloc),
+    };
+    let found = sql_log::is_found_again(alloc, files, BRANCH.gtrid, &[BRANCH])?;
+    println!(rt; "xa_sql_log, in files: {found}")?;
     let listed = listing::listed(&mut log, alloc)?;
     println!(rt; "xa_listing: {}", String::from_utf8(listed)?)?;
     Ok(())

@@ -1,9 +1,14 @@
 //! `xa_sql_log`: a log of one's own, in a database in memory. A decision is logged and found, and is gone once it is done.
+//! And one in files, which is closed and opened again.
 
-ghost use Rattle.std.specs.Prelude.{◌≡◌, false, true, IfOk};
+ghost use Rattle.std.specs.Prelude.{◌≡◌, false, true, IfOk, IsTrue};
 ghost use Rattle.std.specs.List.{AllByRecursion};
+ghost use Rattle.sqlite.specs.Files.{image_of};
 ghost use Rattle.xa_log.specs.Contract.{FitsRow};
+ghost use Rattle.xa_sql_log.specs.Opened.{HoldsLog};
 
+use sqlite::{FileStore, Files, Options};
+use sqlite_disk::Disk;
 use std::alloc::Global;
 use xa_base::{Branch, Gtrid};
 use xa_log::{DecisionLog, LogFault};
@@ -41,4 +46,47 @@ pub(crate) fn found_in_new_log(
     let mut log = SqlLog::open_in_memory(alloc)?;
     memory_is_honest();
     found_until_done(&mut log, g, participants)
+}
+
+/// Opens the log in files, or makes it, logs that a transaction commits, and closes it into one file. Then it opens the log
+/// in the same files again, and looks: the decision is there. That the files are empty or hold a log, and that they give
+/// back what was written, up to the last look, is the premise.
+pub(crate) fn found_again<D: Disk + Drop>(
+    alloc: Global,
+    files: Files<D>,
+    g: Gtrid,
+    participants: &[Branch],
+) -> Result<(bool, SqlLog<FileStore<D>>), LogFault>
+    requires log { IsTrue (D.Disk.is_usable files.log) }
+    requires db { IsTrue (D.Disk.is_usable files.db) }
+    requires fits { FitsRow g }
+    requires own { AllByRecursion (λ b. b.gtrid ≡ g) participants.now }
+    ensures { HoldsLog (image_of D.Disk files) → IfOk result (λ found.
+        (⟦<SqlLog<FileStore<D>> as DecisionLog>⟧.moment found.1).is_honest → found.0 ≡ true) }
+{
+    let mut log = SqlLog::open_files(alloc, files, Options::new(0))?;
+    let _logged = log.commit(g, participants)?;
+    let files = match log.close_files() {
+        Ok(files) => files,
+        Err((fault, _store)) => return Err(fault),
+    };
+    let mut again = SqlLog::open_files(alloc, files, Options::new(0))?;
+    let found = again.contains(g)?;
+    Ok((found, again))
+}
+
+/// The same, and the log is dropped. It then lies in both files.
+pub(crate) fn is_found_again<D: Disk + Drop>(
+    alloc: Global,
+    files: Files<D>,
+    g: Gtrid,
+    participants: &[Branch],
+) -> Result<bool, LogFault>
+    requires log { IsTrue (D.Disk.is_usable files.log) }
+    requires db { IsTrue (D.Disk.is_usable files.db) }
+    requires fits { FitsRow g }
+    requires own { AllByRecursion (λ b. b.gtrid ≡ g) participants.now }
+{
+    let (found, _log) = found_again(alloc, files, g, participants)?;
+    Ok(found)
 }

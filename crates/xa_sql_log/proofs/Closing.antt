@@ -33,7 +33,7 @@ closed_whole s image c live lasts is_open held is =
 pub whole_holds : (c : Content) (image : Image) → HoldsWhole c image → HoldsLog image
 whole_holds c image whole = inr (whole.db, whole.held.both, inr whole.log)
 
-ready_content : (c : Content) (s : State) → IsReadyWith c s → content_in s ≡ Some c
+pub ready_content : (c : Content) (s : State) → IsReadyWith c s → content_in s ≡ Some c
 ready_content c s ready = let is_on : s.is_open ≡ true = ready.is_open in rw is_on (ap Some ready.content)
 
 pub found_whole : (c : Content) (image : Image) (was new : State) → Opens was → IsLive was → FindsIn image was → HoldsWhole c image

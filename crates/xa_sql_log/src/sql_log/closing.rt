@@ -17,7 +17,8 @@ use xa_log::{DecisionLog, LogFault};
 
 impl<D: Disk + Drop> SqlLog<FileStore<D>> {
     /// Copies the journal into the database file, which then holds the whole log by itself, and gives the files back: of a
-    /// log in order `held` says so. A log that is dropped loses nothing either, but lies in both files.
+    /// log in order `held` says so, where no file has given back other than what was written (`honest`). A log that is
+    /// dropped loses nothing either, but lies in both files.
     pub fn close_files(self) -> Result<Files<D>, (LogFault, FileStore<D>)>
         ensures usable { IfOk result (λ files.
             IsTrue (D.Disk.is_usable files.log) × IsTrue (D.Disk.is_usable files.db)) }
@@ -26,6 +27,8 @@ impl<D: Disk + Drop> SqlLog<FileStore<D>> {
             AreClean D.Disk files.log files.db → (c : Content) →
             (⟦<SqlLog<FileStore<D>> as DecisionLog>⟧.moment self).content ≡ Some c →
             HoldsWhole c (image_of D.Disk files)) }
+        ensures honest { IfOk result (λ files. AreClean D.Disk files.log files.db →
+            (⟦<SqlLog<FileStore<D>> as DecisionLog>⟧.moment self).is_honest) }
         ensures cause { IfErr result (λ e. IsStoreFault e.0) }
     {
         let SqlLog { conn, faults: _ } = self;
@@ -47,6 +50,9 @@ impl<D: Disk + Drop> SqlLog<FileStore<D>> {
         requires log { IsTrue (D.Disk.is_usable files.log) }
         requires db { IsTrue (D.Disk.is_usable files.db) }
         ensures faults { IfOk result (λ log. log.faults ≡ 0) }
+        ensures honest { IfOk result (λ log.
+            (⟦<SqlLog<FileStore<D>> as DecisionLog>⟧.moment log).is_honest →
+            AreClean D.Disk files.log files.db) }
         ensures opened { IfOk result (λ log. HasCleanDisk (file_state log.conn) →
             IsOver (image_of D.Disk files) log.conn) }
         ensures order { IfOk result (λ log. HoldsLog (image_of D.Disk files) →

@@ -6,3 +6,6 @@ pub returns-in-Ok-clause-held : goal.returns-in-Ok-clause-held
 returns-in-Ok-clause-held g c lasts clean content is =
     let copied = c.in-Ok.ensures.copied clean in
     closed_whole (file_state c.args.self.conn) _ content c.schema-tables.ensures.live lasts copied.was_open copied.seen is
+
+pub returns-in-Ok-clause-honest : goal.returns-in-Ok-clause-honest
+returns-in-Ok-clause-honest g c clean = (c.in-Ok.ensures.copied clean).was_clean

@@ -4,6 +4,10 @@ use Rattle.xa_sql_log.proofs.Closing.{found_whole}
 use Rattle.xa_sql_log.proofs.Found.{known_held}
 use Rattle.xa_sql_log.proofs.sql_log.closing.SqlLog+FileStore+D.open_files.Goals as goal
 
+pub returns-clause-honest : goal.returns-clause-honest
+returns-clause-honest g c =
+    if_ok c.adopt_files.result _ _ (λ log honest clean. (c.in-Ok.ensures.found (honest clean)).honest) c.adopt_files.ensures.honest
+
 pub returns-clause-opened : goal.returns-clause-opened
 returns-clause-opened g c =
     both_ok c.adopt_files.result _ _ _
