@@ -1,6 +1,7 @@
 -- A new system stands where its history begins.
 use Rattle.std.proofs.Common.{◌≡◌, ◌≤◌, ◌<◌, ◌+◌, ◌⊎◌, inl, inr, ℕ, Bool, true, false, List, [], ◌∷◌, map, length, refl, sym, ap, subst, ◌∙◌, arith}
 use Rattle.std.specs.Prelude.{if◌then◌else◌, Option, Some, None, IsSomeAnd, Contains, slice_get, vec_len}
+use Rattle.std.specs.List.Sorted.{IsStrictlySortedBy}
 use Rattle.std.specs.Option.{option_map, option_map_or}
 use Rattle.std.specs.Ordering.{int_eq}
 use Rattle.std.specs.Vec.{vec_capacity}
@@ -124,6 +125,7 @@ module _ {R L : Type 0} (see : Sees R L) (threads : ℕ) (rms : List R) (manager
 -- ** a start where nothing of this manager's was
 
 none_listed : IsInDoubtList (λ x. new_branch) []
+unfolding IsStrictlySortedBy
 none_listed = record { in_order = tt; listed = λ x. (λ in_none. absurd (omega (arith, in_none.1)), λ e. absurd (cc)) }
 
 module _ {R L : Type 0} (see : Sees R L) (threads : ℕ) (rms : List R) (manager : Manager L) (clear : AreClear see.look rms)
