@@ -16,6 +16,7 @@ mod deal;
 mod docket;
 mod fault;
 mod gate;
+mod halts;
 mod jobs;
 mod journal;
 mod kept;
