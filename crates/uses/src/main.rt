@@ -13,6 +13,7 @@ mod own_log;
 mod recovery;
 mod rm;
 mod scenario;
+mod sql_jobs;
 mod sql_log;
 mod swaps;
 mod system;
