@@ -1,5 +1,6 @@
 mod Alike
 mod Branches
+mod Crashes
 mod Decisions
 mod JobRows
 mod LogSwaps

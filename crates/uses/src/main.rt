@@ -3,6 +3,7 @@
 #![tactic(auto)]
 
 mod base;
+mod crash;
 mod files;
 mod jobs;
 mod line;
