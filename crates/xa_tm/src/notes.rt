@@ -11,6 +11,8 @@ use xa_base::{How, Outcome};
 /// What is noted of a transaction.
 #[derive(Clone, Copy, PartialEq, Eq)]
 pub(crate) struct Transaction {
+    /// It was begun, and is not released.
+    pub is_begun: bool,
     /// How it was decided.
     pub outcome: Option<Outcome>,
     /// Its one branch was told to commit in one phase, so that the outcome is its resource manager's.
@@ -53,6 +55,7 @@ pub(crate) struct BranchNotes {
 impl Transaction {
     /// A transaction of which nothing is noted.
     pub(crate) const NEW: Transaction = Transaction {
+        is_begun: false,
         outcome: None,
         is_handed_over: false,
         is_claimed: false,
