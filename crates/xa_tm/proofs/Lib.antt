@@ -28,6 +28,7 @@ pub mod Ranges
 pub mod Recovering
 pub mod Refused
 pub mod Released
+mod Removals
 pub mod Resolves
 pub mod Restarts
 pub mod RowCounts

@@ -705,7 +705,7 @@ module _ (gone : Gtrid → Bool) (k : Book) (deals : Gtrid → Deal) (noted : Br
         finished_here b same known =
             let kept = ap gone (sym same) ∙ begun_kept g begun in
             ap (λ (x : Notes). x.finished) (short.same_notes b kept)
-            ∙ done.finished b (sym same) (short.same_known b ∙ ap (λ t. t && not (gone b.gtrid)) known ∙ ap not kept)
+            ∙ done.branches.finished b (sym same) (short.same_known b ∙ ap (λ t. t && not (gone b.gtrid)) known ∙ ap not kept)
 
         each_finished : (b : Branch) → more_gone b.gtrid ≡ true → contains all b ≡ true → (noted b).finished ≡ true
         each_finished b e known = go (gtrid_eq g b.gtrid) refl e

@@ -12,13 +12,16 @@ use Rattle.xa_tm.specs.Refusing.{live_in, refusal_in, resolved_in, resolved_open
 
 -- ** a transaction is released
 
--- Nothing more can come of it: it is decided, or its resource manager's to end; it has no row; each of its branches that was
--- started has given its last answer, and none is recorded as heuristic.
+-- nothing more can come of its branches: each that was started has given its last answer, and none is recorded as heuristic
+pub record AreOver (k : Book) (g : Gtrid) : Type 0 where
+  pub finished : (b : Branch) → b.gtrid ≡ g → contains k.known b ≡ true → (k.notes b).finished ≡ true
+  pub unrecorded : (b : Branch) → b.gtrid ≡ g → k.recorded b ≡ None
+
+-- nothing more can come of it: it is decided, or its resource manager's to end, and has no row
 pub record IsOver (k : Book) (g : Gtrid) : Type 0 where
   pub decided : live_in k g ≡ false
   pub no_row : k.row g ≡ None
-  pub finished : (b : Branch) → b.gtrid ≡ g → contains k.known b ≡ true → (k.notes b).finished ≡ true
-  pub unrecorded : (b : Branch) → b.gtrid ≡ g → k.recorded b ≡ None
+  pub branches : AreOver k g
 
 -- nothing is noted
 abbrev pub no_deal : Deal

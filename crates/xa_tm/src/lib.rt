@@ -20,6 +20,7 @@ mod manager;
 mod news;
 mod notes;
 mod opening;
+mod releasing;
 mod resolving;
 mod restarting;
 mod room;

@@ -208,6 +208,13 @@ impl BranchNotes {
         self.recorded.is_some() || self.is_acknowledged_lately
     }
 
+    /// Something may still come of it: its last answer, or what its record asks for.
+    pub(crate) fn is_owed(self) -> bool
+        ensures { result ≡ ((self.is_started && not self.is_finished) || is_some self.recorded) }
+    {
+        (self.is_started && !self.is_finished) || self.recorded.is_some()
+    }
+
     /// It has still to vote for commit.
     pub(crate) fn lacks_vote(self) -> bool
         ensures { result ≡ (self.is_started && not (self.said_yes || self.said_read_only)) }
