@@ -1,6 +1,5 @@
 mod Alike
 mod Branches
-mod Crashes
 mod Decisions
 mod JobRows
 mod LogSwaps

@@ -3,7 +3,6 @@
 #![tactic(auto)]
 
 mod base;
-mod crash;
 mod files;
 mod jobs;
 mod line;
@@ -14,7 +13,6 @@ mod own_log;
 mod recovery;
 mod rm;
 mod scenario;
-mod sql_jobs;
 mod sql_log;
 mod swaps;
 mod system;

@@ -6,7 +6,6 @@ ghost use Rattle.xa_base.specs.declared.reply.Reply.TheVariants as Replies;
 ghost use Rattle.xa_log.specs.Content.{Content};
 ghost use Rattle.xa_model.specs.Facts.{up};
 ghost use Rattle.xa_model.specs.Promises.Headline.{Headline};
-ghost use Rattle.xa_model.specs.Protocol.{RightOrigin};
 ghost use Rattle.xa_system.specs.Logged.{greatest_count};
 ghost use Rattle.xa_system.specs.Seen.{MayRestartAfterCrash, observes, origin_in, trace_in};
 ghost use Rattle.xa_system.specs.Sites.{looks};
@@ -38,7 +37,7 @@ pub(crate) fn give_back<R: ResourceManager + Drop, L: DecisionLog + Drop>(
 
 /// Puts in what a crash left of the log that was taken out, and restarts the manager. That log is refused for want of
 /// memory or for a failure of its own, and for nothing else; and where it counts no failure, the restart isn't refused
-/// for its sake. The headline holds of the whole, where the system had a right start, as a new one has.
+/// for its sake. Agreement holds of the whole.
 pub(crate) fn restart_over<R: ResourceManager + Drop, L: DecisionLog + Drop>(
     system: &mut System<R, L>,
     left: L,
@@ -60,8 +59,7 @@ pub(crate) fn restart_over<R: ResourceManager + Drop, L: DecisionLog + Drop>(
         IfOk result (λ reply. (slot_moment L.moment system.new.log).is_honest →
         (slot_moment L.moment system.new.log).fault_count ≡ (L.moment left).fault_count →
         (L.moment left).fault_count < greatest_count → reply ≢ Replies.Refused Refusals.LogFault) }
-    ensures headline {
-        RightOrigin (origin_in (looks R.held_of R.scan_of R.in_doubt_of) system.new) → Headline
+    ensures headline { Headline
         (origin_in (looks R.held_of R.scan_of R.in_doubt_of) system.new) system.new.events }
 {
     system.agree();

@@ -1,25 +1,22 @@
 -- The table of branches and its index.
 use Rattle.std.proofs.Common.{◌≡◌, ◌==◌, ℕ, ℤ, ◌&&◌, Bool, true, false, if◌then◌else◌, cond, List, [], ◌∷◌, map, Option, Some, None, IsSome, Result, Ok, Err, OnOk, OnErr, refl, sym, ◌∙◌, ap, subst}
-use Rattle.std.specs.Prelude.{Contains, ◌↔◌, ◌≢◌, ◌^◌, nat_lt, not}
+use Rattle.std.specs.Prelude.{Contains, ◌↔◌, ◌≢◌}
 use Rattle.std.specs.List.{list_any}
 use Rattle.std.specs.BTreeMap as tree
 use Rattle.std.specs.BTreeMap.{BTreeMap, is_at}
 use Rattle.std.specs.BTreeSet as sorted
 use Rattle.std.specs.BTreeSet.{BTreeSet, contains}
 use Rattle.std.specs.Map.{lookup}
-use Rattle.std.specs.Option.{option_map, option_map_or}
+use Rattle.std.specs.Option.{option_map}
 use Rattle.std.specs.Ordering.{int_eq}
 use Rattle.std.proofs.lemmas.Map.Made.{lookup-map_values}
 use Rattle.std.proofs.lemmas.Map.Views.{All-found, btree_set_contains_iff}
 use Rattle.std.proofs.lemmas.Bool.Decides.{Decides-int_eq}
 use Rattle.std.proofs.lemmas.List.Elements.{All-contains}
 use Rattle.std.proofs.lemmas.List.Folds.{Any-from_list_any}
-use Rattle.std.proofs.lemmas.Bool.{and_parts, lt-ltb, or_parts}
-use Rattle.xa_base.proofs.XidOrder.{xid_cmp_exact, xid_eq-refl, xid_eq-same}
-use Rattle.xa_base.proofs.BranchLemmas.{numbers_fit}
-use Rattle.xa_base.specs.Branch.{branch_of_xid, xid_of_branch}
-use Rattle.xa_base.specs.Xid.{IsXid, xid_cmp_total, Xid, xid_cmp, xid_eq}
-use Rattle.xa_base.specs.declared.branch.Branch.{Branch}
+use Rattle.std.proofs.lemmas.Bool.{and_parts, or_parts}
+use Rattle.xa_base.proofs.XidOrder.{xid_cmp_exact, xid_eq-same}
+use Rattle.xa_base.specs.Xid.{xid_cmp_total, Xid, xid_cmp}
 use Rattle.xa_base.specs.HeldBranch.{HeldBranch, new_branch, broken_by, crashed}
 use Rattle.xa_base.specs.Recover.{IsInDoubtList}
 use Rattle.xa_base.specs.Standing.{is_in_doubt, fate_of}
@@ -30,7 +27,7 @@ use Rattle.xa_base.specs.declared.state.Standing.TheVariants.{Unstarted, Active,
 use Rattle.xa_base.proofs.StateLemmas.{broken_in_doubt}
 use Rattle.xa_rm.specs.Branches.{IsIndex, held_at, branch_or_new}
 use Rattle.xa_rm.specs.Held.{held_branch, was_started}
-use Rattle.xa_rm.specs.ResourceManager.{HoldsFormat, HoldsNewer, HoldsNoFormat, HoldsPast, is_past, is_past_as, names_newer}
+use Rattle.xa_rm.specs.ResourceManager.{HoldsFormat, HoldsNewer, HoldsNoFormat, HoldsPast, names_newer}
 use Rattle.xa_rm.specs.declared.held.Held.{Held}
 
 -- ** the list of the index
@@ -191,16 +188,6 @@ pub format_not_held : (table : BTreeMap Xid Held) (z : ℤ) → list_any (is_of_
 format_not_held table z none = record { unstarted = λ x of. unstarted_at x z of table.entries none }
 
 -- ** what earlier processes left
-
--- an identifier that names a branch is that branch's
-pub newer_by_branch : (r i : ℕ) (x : Xid) (b : Branch) → IsXid x → Some b ≡ branch_of_xid x → x ≡ xid_of_branch b
-    → not (is_past r i b) ≡ names_newer r i x
-newer_by_branch r i x b valid read is = sym (λ j. not (own j && is_past r i b)) ∙ ap (λ o. option_map_or (λ c. not (is_past_as r i x c)) o false) read
-  where
-    own : (nat_lt b.thread (2 ^ 32) && xid_eq x (xid_of_branch b)) ≡ true
-    own = let fits = numbers_fit x b valid (sym read) in
-        let same : xid_eq x (xid_of_branch b) ≡ true = ap (xid_eq x) (sym is) ∙ xid_eq-refl x in
-        (λ j. lt-ltb _ _ fits.thread j && same j)
 
 -- whether an entry is of a branch of this manager that isn't past, and that ever was
 abbrev pub is_newer_entry : (rm incarnation : ℕ) → Xid × Held → Bool

@@ -15,14 +15,12 @@ use xa_base::{Call, Code, Memory, Xid};
 const LAST_NUMBER: u64 = i64::MAX as u64;
 
 /// Whether an identifier names a branch of this manager that is of another resource manager, or of no earlier
-/// incarnation, or whose numbers no row of a log can hold. It is then the identifier of that branch.
+/// incarnation, or whose numbers no row of a log can hold.
 fn names_newer(xid: &Xid, rm: u32, incarnation: u64) -> bool
     ensures { result ≡ names_newer rm incarnation xid.now }
 {
     match xid.branch() {
         Some(branch) => {
-            // Only for the proof: the bytes of an identifier are bytes.
-            let _ = xid.format();
             !(branch.rm == rm
                 && branch.gtrid.incarnation < incarnation
                 && branch.gtrid.sequence <= LAST_NUMBER)

@@ -1,13 +1,12 @@
 -- A new system stands where its history begins.
 use Rattle.std.proofs.Common.{◌≡◌, ◌≤◌, ◌<◌, ◌+◌, ◌⊎◌, inl, inr, ℕ, Bool, true, false, List, [], ◌∷◌, map, length, refl, sym, ap, subst, ◌∙◌, arith}
 use Rattle.std.specs.Prelude.{if◌then◌else◌, Option, Some, None, IsSomeAnd, Contains, slice_get, vec_len}
-use Rattle.std.specs.List.Sorted.{IsStrictlySortedBy}
 use Rattle.std.specs.Option.{option_map, option_map_or}
 use Rattle.std.specs.Ordering.{int_eq}
 use Rattle.std.specs.Vec.{vec_capacity}
 use Rattle.std.proofs.lemmas.Bool.{cases_Bool, cases_lt, true≢false}
 use Rattle.std.proofs.lemmas.List.{length-map}
-use Rattle.std.proofs.lemmas.Option.{slice_get-map, slice_get_within}
+use Rattle.std.proofs.lemmas.Option.{slice_get-map, slice_get_cases, slice_get_within}
 use Rattle.xa_tm.proofs.Limits.{old_start_is_right}
 use Rattle.xa_tm.specs.Starting.{IsOld, book_at_start}
 use Rattle.xa_tm.specs.Limits.{HasRoomForRun}
@@ -26,11 +25,9 @@ use Rattle.xa_base.specs.HeldBranch.{HeldBranch, new_branch}
 use Rattle.xa_model.specs.Replies.History.{history}
 use Rattle.xa_model.specs.Facts.InDoubt.{xid_of_name}
 use Rattle.xa_base.specs.Recover.{IsInDoubtList}
-use Rattle.xa_model.specs.Protocol.{OldOrigin, RightOrigin}
-use Rattle.xa_model.proofs.Invariant.Preserved.{run_of}
+use Rattle.xa_model.specs.Protocol.{RightOrigin}
 use Rattle.xa_base.specs.Scan.{Scan, Scan.Behind, Scan.NotOpen}
 use Rattle.xa_base.specs.Standing.{fate_of, is_in_doubt}
-use Rattle.xa_base.specs.StateTable.{broken}
 use Rattle.xa_model.specs.Trace.{Name.Foreign, Origin, Trace.From, line}
 use Rattle.xa_base.specs.Xid.{Xid}
 use Rattle.xa_base.specs.declared.state.Fate.TheVariants as Fates
@@ -50,7 +47,7 @@ use Rattle.xa_line.specs.Histories.{LineStands}
 use Rattle.xa_system.specs.Parts.{Sees, SiteStands, Stands, origin_of}
 use Rattle.xa_system.specs.declared.system.TheConstants.{EVENT_LIMIT}
 use Rattle.xa_system.specs.Seen.{AreClear, IsClear, IsStarted, IsSound, IsUnclear, MayRestart, new_site, observed, seen, start_of}
-use Rattle.xa_system.specs.Sites.{BeginsOver, Looks, RmStands, scan_by}
+use Rattle.xa_system.specs.Sites.{BeginsClear, Looks, RmStands, scan_by}
 use Rattle.xa_system.specs.declared.site.Site.{Site}
 
 -- ** branches that never were
@@ -87,7 +84,8 @@ pub back_again : {R : Type 0} (rms : List R) → map (λ (s : Site R). s.rm) (ma
 back_again [] = refl
 back_again (x ∷ xs) = ap (λ ys. x ∷ ys) (back_again xs)
 
-module _ {R L : Type 0} (see : Sees R L) (threads : ℕ) (rms : List R) (manager : Manager L) (new : IsStarted threads (length rms) manager) where
+module _ {R L : Type 0} (see : Sees R L) (threads : ℕ) (rms : List R) (manager : Manager L) (clear : AreClear see.look rms)
+    (new : IsStarted threads (length rms) manager) where
   -- the manager's book is that of the start
   pub begun : book_in manager ≡ book_of (From (origin_of see threads rms manager))
   begun = new.book (origin_of see threads rms manager) (record { threads_are = refl; rms_are = refl; incarnation = refl; rows = refl; records = refl })
@@ -95,41 +93,6 @@ module _ {R L : Type 0} (see : Sees R L) (threads : ℕ) (rms : List R) (manager
   held_there : (r : ℕ) (rm : R) → slice_get rms r ≡ Some rm → (origin_of see threads rms manager).held r ≡ see.look.held_of rm
   held_there r rm at = ap (λ o. option_map_or see.look.held_of o (λ x. new_branch)) at
 
-  -- what is held of a branch with an identifier is what its resource manager holds
-  held_as : (b : Branch) → IsBranch b
-      → held_of (origin_of see threads rms manager) b ≡ (origin_of see threads rms manager).held b.rm (xid_of_branch b)
-  held_as b h = ap (λ t. if t then (origin_of see threads rms manager).held b.rm (xid_of_branch b) else new_branch) (branch_fits b h)
-
-  -- and that is where the history begins
-  held_at_first : (r : ℕ) (rm : R) (b : Branch) → slice_get rms r ≡ Some rm → IsBranch b → b.rm ≡ r
-      → see.look.held_of rm (xid_of_branch b) ≡ held_of (origin_of see threads rms manager) b
-  held_at_first r rm b at h here =
-      ap (λ (f : Xid → HeldBranch). f (xid_of_branch b)) (sym (ap (origin_of see threads rms manager).held here ∙ held_there r rm at)) ∙ sym (held_as b h)
-
-  pub rm_starts : BeginsOver (origin_of see threads rms manager) → (r : ℕ) (rm : R) → slice_get rms r ≡ Some rm
-      → RmStands see.look (From (origin_of see threads rms manager)) r rm
-  rm_starts over r rm at = record {
-    branches = record {
-      own = λ b h here. let same = held_at_first r rm b at h here in record {
-        standing = ap (λ (k : HeldBranch). k.standing) same;
-        vote = ap (λ (k : HeldBranch). k.vote) same;
-        retries = ap (λ (k : HeldBranch). k.retries) same;
-        starter = inl (subst (λ (k : HeldBranch). broken k.standing ≡ k.standing) (sym same) (over.still b));
-      };
-      others = λ x other. ap (λ (f : Xid → HeldBranch). is_in_doubt (f x).standing) (sym (held_there r rm at));
-    };
-    scan = scan_back (see.look.scan_of rm 0)
-        ∙ ap (λ o. scan_by xid_of_name (option_map_or (λ q. scan_by (λ x. Foreign x) (see.look.scan_of q 0)) o NotOpen)) (sym at);
-  }
-
--- ** a start where nothing of this manager's was
-
-none_listed : IsInDoubtList (λ x. new_branch) []
-unfolding IsStrictlySortedBy
-none_listed = record { in_order = tt; listed = λ x. (λ in_none. absurd (omega (arith, in_none.1)), λ e. absurd (cc)) }
-
-module _ {R L : Type 0} (see : Sees R L) (threads : ℕ) (rms : List R) (manager : Manager L) (clear : AreClear see.look rms)
-    (new : IsStarted threads (length rms) manager) where
   none_started : (r : ℕ) (x : Xid) → x.format ≡ own_format → ((origin_of see threads rms manager).held r x).standing ≡ Unstarted
   none_started r x e = from_option (slice_get rms r) refl
     where
@@ -137,22 +100,32 @@ module _ {R L : Type 0} (see : Sees R L) (threads : ℕ) (rms : List R) (manager
       from_option None at = refl
       from_option (Some rm) at = never _ ((clear r rm at).no_branch.unstarted x e)
 
-  all_listed : (r : ℕ) → IsInDoubtList ((origin_of see threads rms manager).held r) ((origin_of see threads rms manager).in_doubt r)
-  all_listed r = from_option (slice_get rms r) refl
-    where
-      from_option : (o : Option R) → slice_get rms r ≡ o
-          → IsInDoubtList (option_map_or see.look.held_of o (λ x. new_branch)) (option_map_or see.look.in_doubt_of o [])
-      from_option None at = none_listed
-      from_option (Some rm) at = (clear r rm at).listed
+  pub starts_clear : BeginsClear (origin_of see threads rms manager)
+  starts_clear = record {
+    unstarted = λ r x e. ap (λ o. (option_map_or see.look.held_of o (λ x. new_branch) x).standing) refl ∙ none_started r x e;
+    listed = λ r lt.
+        elim ((slice_get_cases rms r).1) [
+          | inl w ↦ (
+              let at = w.2 in
+              subst (λ o. IsInDoubtList (option_map_or see.look.held_of o (λ x. new_branch)) (option_map_or see.look.in_doubt_of o []))
+              (sym at) (clear r w.0 at).listed)
+          | inr w ↦ absurd (omega (arith, w.0, lt))
+        ];
+  }
 
   foreign_listed : (r : ℕ) (x : Xid) → Contains ((origin_of see threads rms manager).in_doubt r) x → branch_of_xid x ≡ None
-  foreign_listed r x listed = by_format (cases_Bool (int_eq x.format own_format))
+  foreign_listed r x listed = by_format (cases_Bool (int_eq x.format own_format)) (slice_get rms r) refl
     where
-      by_format : (int_eq x.format own_format ≡ true) ⊎ (int_eq x.format own_format ≡ false) → branch_of_xid x ≡ None
-      by_format (inr other) = rw other refl
-      by_format (inl own) =
-          let doubt = ((all_listed r).listed x).0 listed in
-          absurd (true≢false (sym doubt ∙ ap is_in_doubt (none_started r x (own_format_of x own))))
+      by_format : (int_eq x.format own_format ≡ true) ⊎ (int_eq x.format own_format ≡ false) → (o : Option R) → slice_get rms r ≡ o → branch_of_xid x ≡ None
+      by_format (inr other) o at = rw other refl
+      by_format (inl own) None at =
+          let none : Contains {X = Xid} [] x = subst (λ o. Contains (option_map_or see.look.in_doubt_of o []) x) at listed in
+          absurd (omega (arith, none.1))
+      by_format (inl own) (Some rm) at =
+          let there : Contains (see.look.in_doubt_of rm) x = subst (λ o. Contains (option_map_or see.look.in_doubt_of o []) x) at listed in
+          let doubt = ((clear r rm at).listed.listed x).0 there in
+          let not_started = never _ ((clear r rm at).no_branch.unstarted x (own_format_of x own)) in
+          absurd (true≢false (sym doubt ∙ ap is_in_doubt not_started))
 
   none_there : (b : Branch) → (held_of (origin_of see threads rms manager) b).standing ≡ Unstarted
   none_there b = by_fit (fits b)
@@ -162,20 +135,30 @@ module _ {R L : Type 0} (see : Sees R L) (threads : ℕ) (rms : List R) (manager
       by_fit true = none_started b.rm (xid_of_branch b) refl
       by_fit false = refl
 
-  pub starts_clear : BeginsOver (origin_of see threads rms manager)
-  starts_clear = record {
-    still = λ b. subst (λ s. broken s ≡ s) (sym (none_there b)) refl;
-    numbers = λ b. inl (none_there b);
-    listed = all_listed;
-    home = λ r x listed. inr (foreign_listed r x listed);
-  }
-
   pub starts_right : RightOrigin (origin_of see threads rms manager)
-  starts_right =
-      old_start_is_right (origin_of see threads rms manager) (subst IsOld (begun see threads rms manager new) new.old) none_there foreign_listed
+  starts_right = old_start_is_right (origin_of see threads rms manager) (subst IsOld begun new.old) none_there foreign_listed
 
-  pub starts_old : OldOrigin (origin_of see threads rms manager)
-  starts_old = run_of (From (origin_of see threads rms manager)) starts_right
+  -- what is held of a branch with an identifier is what its resource manager holds
+  held_as : (b : Branch) → IsBranch b
+      → held_of (origin_of see threads rms manager) b ≡ (origin_of see threads rms manager).held b.rm (xid_of_branch b)
+  held_as b h = ap (λ t. if t then (origin_of see threads rms manager).held b.rm (xid_of_branch b) else new_branch) (branch_fits b h)
+
+  pub rm_starts : (r : ℕ) (rm : R) → slice_get rms r ≡ Some rm → RmStands see.look (From (origin_of see threads rms manager)) r rm
+  rm_starts r rm at = record {
+    branches = record {
+      own = λ b h here. record {
+        standing = never _ ((clear r rm at).no_branch.unstarted (xid_of_branch b) refl) ∙ sym (none_there b);
+        vote = ap (λ (f : Xid → HeldBranch). (f (xid_of_branch b)).vote) (sym (ap (origin_of see threads rms manager).held here ∙ held_there r rm at))
+            ∙ sym (ap (λ (k : HeldBranch). k.vote) (held_as b h));
+        retries = ap (λ (f : Xid → HeldBranch). (f (xid_of_branch b)).retries) (sym (ap (origin_of see threads rms manager).held here ∙ held_there r rm at))
+            ∙ sym (ap (λ (k : HeldBranch). k.retries) (held_as b h));
+        starter = inl (let u = never _ ((clear r rm at).no_branch.unstarted (xid_of_branch b) refl) in rw u refl);
+      };
+      others = λ x other. ap (λ (f : Xid → HeldBranch). is_in_doubt (f x).standing) (sym (held_there r rm at));
+    };
+    scan = scan_back (see.look.scan_of rm 0)
+        ∙ ap (λ o. scan_by xid_of_name (option_map_or (λ q. scan_by (λ x. Foreign x) (see.look.scan_of q 0)) o NotOpen)) (sym at);
+  }
 
 -- ** a manager whose log may be taken out
 
@@ -228,7 +211,7 @@ in_slot moment started manager held book rows records = record {
 }
 
 module _ {R L : Type 0} (see : Sees R (Slot L)) (moment : L → Moment) (threads : ℕ) (rms : List R) (started : Manager L) (manager : Manager (Slot L))
-    (slot : IsInSlot see.moment moment started manager) (first : IsStarted threads (length rms) started) where
+    (clear : AreClear see.look rms) (slot : IsInSlot see.moment moment started manager) (first : IsStarted threads (length rms) started) where
   new : IsStarted threads (length rms) manager
   new = started_in_slot see.moment moment threads (length rms) started manager slot first
 
@@ -237,7 +220,7 @@ module _ {R L : Type 0} (see : Sees R (Slot L)) (moment : L → Moment) (threads
 
   same_book : book_in manager ≡ book_of (From here)
   unfolding here
-  same_book = begun see threads rms manager new
+  same_book = begun see threads rms manager clear new
 
   -- and the manager is up
   pub starts_up : (book_in manager).up ≡ true
@@ -245,20 +228,20 @@ module _ {R L : Type 0} (see : Sees R (Slot L)) (moment : L → Moment) (threads
   starts_up = ap (λ (k : Book). k.up) same_book
 
   -- a system of new parts with no events is sound
-  pub new_sound : BeginsOver (origin_of see threads rms manager) → OldOrigin (origin_of see threads rms manager) → (a : Inside R L) → IsDurable see.moment → 0 < threads → a.parts.start.value.items ≡ rms → a.parts.began.value ≡ manager
+  pub new_sound : (a : Inside R L) → IsDurable see.moment → 0 < threads → a.parts.start.value.items ≡ rms → a.parts.began.value ≡ manager
       → a.parts.manager ≡ manager → a.parts.sites.items ≡ map new_site rms
       → a.parts.lines ≡ new_grid threads (length rms) → a.events.items ≡ [] → vec_len a.events ≡ 0
       → vec_capacity a.events ≡ EVENT_LIMIT → (log : L) → a.first.value ≡ log → a.handed.value ≡ log
       → IsStartedOver moment threads (length rms) log started → IsSound see moment a
   unfolding here
-  new_sound begins old a durable some same_start same_began same_manager sites lines none len room log same_first same_handed over = record {
+  new_sound a durable some same_start same_began same_manager sites lines none len room log same_first same_handed over = record {
     few = omega (arith, len);
     room = omega (arith, room);
     stands = subst (λ o. Stands see o a.parts) (sym (ap (λ es. history (start_of see moment a.parts) es) none ∙ ap From origin_same)) (record {
       origin = sym origin_same;
       some_thread = some;
-      kept = record { run = old; numbers = tt; calls = λ l. tt; answers = λ l. tt; pages = λ r. tt };
-      over = begins;
+      kept = record { right = starts_right see threads rms manager clear new; numbers = tt; calls = λ l. tt; answers = λ l. tt; pages = λ r. tt };
+      clear = starts_clear see threads rms manager clear new;
       apart = new.apart;
       began = subst books.IsSound same_book new.sound;
       room = subst HasRoomForRun same_book new.room;
@@ -266,7 +249,7 @@ module _ {R L : Type 0} (see : Sees R (Slot L)) (moment : L → Moment) (threads
       count = a.parts.sites.ok.0 ∙ ap length sites ∙ length-map rms new_site;
       sites = λ r site at.
           let from = mapped_site rms r site (sym (ap (λ xs. slice_get xs r) sites) ∙ at) in
-          subst (SiteStands see (From here) r) from.2 (record { is_up = refl; rm = rm_starts see threads rms manager new begins r from.0 from.1 });
+          subst (SiteStands see (From here) r) from.2 (record { is_up = refl; rm = rm_starts see threads rms manager clear new r from.0 from.1 });
       rms = ap (λ (g : Grid). g.rms) lines;
       whole = rw lines (whole-new_grid threads (length rms));
       lines =

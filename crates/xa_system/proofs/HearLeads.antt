@@ -37,6 +37,7 @@ use Rattle.xa_line.specs.Grid.{Grid, HasLine, line_at, new_grid, with_line}
 use Rattle.xa_line.specs.Traffic.{Flow, PassesOn, Traffic, all_of, answered, issued}
 use Rattle.xa_line.proofs.FlowLaws.{all_of-PassesOn}
 use Rattle.xa_line.proofs.GridLaws.{line_at-new_grid, whole-new_grid, whole-with_line}
+use Rattle.xa_model.proofs.Invariant.Preserved.{run_of}
 use Rattle.xa_tm.specs.declared.manager.Manager.{Manager}
 use Rattle.xa_tm.specs.Asked.{FitsRecord, IsAnswerTo, MakesRecord}
 use Rattle.xa_tm.specs.Kept.{book_in, log_in, FailsBy}
@@ -206,7 +207,7 @@ module _ {R L : Type 0} (see : Sees R L) where
         → Some (call, a) ≡ slice_get (line_at parts.lines t r).answers.waiting 0 → IsAnswerTo (map_call name_of call) (map_answer name_of a)
     hear_answers call a first =
         let k = heard_known call a first in
-        answer_is_code tr (line t r) k.0 (map_answer name_of a) (map_call name_of call) stands.kept.run k.2 k.1
+        answer_is_code tr (line t r) k.0 (map_answer name_of a) (map_call name_of call) (run_of tr stands.kept.right) k.2 k.1
 
     pub hear_fits : (call : Asking.Call Xid) (a : Given.Answer Xid)
         → Some (call, a) ≡ slice_get (line_at parts.lines t r).answers.waiting 0 → happenings tr < EVENT_LIMIT

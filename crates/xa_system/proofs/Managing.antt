@@ -1,5 +1,5 @@
 -- Steps that the manager does or refuses.
-use Rattle.std.proofs.Common.{◌≡◌, ◌≤◌, ◌<◌, ◌+◌, ◌≢◌, ℕ, [], Bool, true, false, refl, sym, ap, ◌∙◌, subst, arith}
+use Rattle.std.proofs.Common.{◌≡◌, ◌≤◌, ◌<◌, ◌+◌, ◌≢◌, inl, ℕ, [], Bool, true, false, refl, sym, ap, ◌∙◌, subst, arith}
 use Rattle.std.specs.Prelude.{not, ◌&&◌, Option, Some, None, Result, Ok, Err}
 use Rattle.xa_base.specs.Xid.{Xid}
 use Rattle.xa_model.specs.Replies.Demanded.{Demanded.As_value, IsValue, MayLackMemory}
@@ -22,6 +22,8 @@ use Rattle.xa_base.specs.declared.step.Step.{Step}
 use Rattle.xa_base.specs.declared.step.Step.TheVariants as Steps
 use Rattle.xa_model.proofs.Replies.Replies.{IsForced, demanded_right, forced, none_applies}
 use Rattle.xa_line.specs.Grid.{line_at}
+use Rattle.xa_model.proofs.Invariant.Preserved.{run_of}
+use Rattle.xa_model.proofs.RecoveryLemmas.RecoveredStart.{origin_right}
 use Rattle.xa_tm.specs.declared.manager.Manager.{Manager}
 use Rattle.xa_log.specs.Content.{last_number}
 use Rattle.xa_tm.specs.Held.{IsSound}
@@ -62,10 +64,10 @@ module _ {R L : Type 0} (see : Sees R L) where
   -- the history is within the limits
   pub within : (tr : Trace) (parts : Parts R L) → Stands see tr parts → happenings tr < EVENT_LIMIT → IsWithinLimits tr
   within tr parts stands few = record {
-    right = stands.kept.run;
+    right = run_of tr stands.kept.right;
     events = omega (arith, few);
     fits = stands.fits;
-    found = stands.over.numbers;
+    found = λ b. inl ((origin_right tr stands.kept.right).clear b);
   }
 
   -- the book that the manager holds is sound
@@ -75,7 +77,7 @@ module _ {R L : Type 0} (see : Sees R L) where
   -- what the manager would refuse, the history does
   pub judged : (tr : Trace) (parts : Parts R L) (s : known.Step) → IsLookedAt s → Stands see tr parts
       → refusal_in (book_in parts.manager) s ≡ managers_refusal tr s
-  judged tr parts s looked stands = ap (λ k. refusal_in k s) stands.book ∙ refusal_is tr s stands.kept.run looked
+  judged tr parts s looked stands = ap (λ k. refusal_in k s) stands.book ∙ refusal_is tr s (run_of tr stands.kept.right) looked
 
   -- while it is up
   up_in : (tr : Trace) (parts : Parts R L) (s : known.Step) → IsLookedAt s → managers_refusal tr s ≡ must_refuse tr s → asks_manager s ≡ true
@@ -87,7 +89,7 @@ module _ {R L : Type 0} (see : Sees R L) where
   pub book_then : (tr : Trace) (e : Happening) (parts : Parts R L) (manager : Manager L) → Stands see tr parts → Right tr e
       → book_in manager ≡ book_after (book_in parts.manager) (asked_in tr e) e → book_in manager ≡ book_of (Then tr e)
   book_then tr e parts manager stands right is =
-      is ∙ ap (λ k. book_after k (asked_in tr e) e) stands.book ∙ sym (right_book tr e stands.kept.run right stands.apart)
+      is ∙ ap (λ k. book_after k (asked_in tr e) e) stands.book ∙ sym (right_book tr e (run_of tr stands.kept.right) right stands.apart)
 
   -- a happening of the manager alone is nothing to the lines and the resource managers
   pub record IsOwn (tr : Trace) (e : Happening) : Type 0 where

@@ -15,6 +15,7 @@ use Rattle.xa_base.specs.declared.step.Side.TheVariants as Sides
 use Rattle.xa_base.specs.declared.step.Step.TheVariants as Steps
 use Rattle.xa_model.proofs.Replies.Replies.{demanded_right}
 use Rattle.xa_log.specs.Content.{last_number, with_bump}
+use Rattle.xa_model.proofs.Invariant.Preserved.{run_of}
 use Rattle.xa_tm.specs.declared.manager.Manager.{Manager}
 use Rattle.xa_system.specs.Logged.{LogFollows}
 use Rattle.xa_system.proofs.Logging.{LogUndone, restart_failing}
@@ -81,7 +82,7 @@ module _ {R L : Type 0} (see : Sees R L) where
       let e = Restarted i d h in
       let at : IsFound (book_of tr) i d h = subst (λ k. IsFound k i d h) stands.book found in
       let demanded : Demanded tr (Steps.Restart Sides.Manager) (Replies.Restarted i d h) =
-      As_value (restart_free tr (sym (up_is see tr parts stands) ∙ down)) (found_is_demanded tr i d h stands.kept.run stands.apart at) in
+      As_value (restart_free tr (sym (up_is see tr parts stands) ∙ down)) (found_is_demanded tr i d h (run_of tr stands.kept.right) stands.apart at) in
       goes_as see tr (Steps.Restart Sides.Manager) reply (Replies.Restarted i d h) parts (with_manager see parts manager) stands tt (ap reply_of is) demanded
       (own_follows see tr e parts manager (own_restarted tr i d h most) stands
       (book_then see tr e parts manager stands (demanded_right tr (Steps.Restart Sides.Manager) (Replies.Restarted i d h) demanded) book) (log tr))

@@ -10,7 +10,8 @@ use Rattle.xa_model.specs.Replies.Demanded.{Demanded, with_steps}
 use Rattle.xa_base.specs.Branch.{IsBranch, xid_of_branch}
 use Rattle.xa_base.specs.Recover.{IsInDoubtList}
 use Rattle.xa_model.specs.Facts.{branches, fate, origin, up}
-use Rattle.xa_model.specs.Protocol.{IsRun, OldOrigin}
+use Rattle.xa_model.specs.Protocol.{RightOrigin}
+use Rattle.xa_model.proofs.RecoveryLemmas.RecoveredStart.{origin_right}
 use Rattle.xa_model.proofs.Replies.Replies.{InBranches, started_in}
 use Rattle.xa_base.specs.Standing.{fate_of}
 use Rattle.xa_base.specs.Xid.{Xid}
@@ -54,11 +55,6 @@ origin_kept tr (x ∷ xs) = origin_kept (Then tr (happened x.0 x.1)) xs
 pub origin_is : (o : Origin) (events : List Event) → origin (history o events) ≡ o
 origin_is o events = origin_kept (From o) (map read events)
 
--- the start of a run
-origin_old : (tr : Trace) → IsRun tr → OldOrigin (origin tr)
-origin_old (From o) run = run
-origin_old (Then tr e) run = origin_old tr run.0
-
 -- an element of a mapped list comes from one of the list
 mapped_at : {A B : Type 0} (f : A → B) (xs : List A) (k : ℕ) (y : B) → slice_get (map f xs) k ≡ Some y → (x : A) × (slice_get xs k ≡ Some x) × (f x ≡ y)
 mapped_at f xs k y e = from_option (slice_get xs k) refl (sym (slice_get-map f xs k) ∙ e)
@@ -77,9 +73,9 @@ module _ {R L : Type 0} (see : Sees R (Slot L)) (moment : L → Moment) where
   pub holds : (a : Inside R L) → IsSound see moment a → HoldsItsTrace (observed see moment) (seen a)
   holds a sound = record {
     demanded = sound.demanded;
-    old = subst OldOrigin (origin_is o a.events.items) (origin_old (history o a.events.items) sound.stands.kept.run);
-    listed = λ r. subst (λ p. IsInDoubtList (p.held r) (p.in_doubt r)) (origin_is o a.events.items)
-        (sound.stands.over.listed r);
+    right = subst RightOrigin (origin_is o a.events.items) (origin_right (history o a.events.items) sound.stands.kept.right);
+    listed = λ r few. subst (λ p. IsInDoubtList (p.held r) (p.in_doubt r)) (origin_is o a.events.items)
+        (sound.stands.clear.listed r (subst (λ p. r < p.rms) (sym (origin_is o a.events.items)) few));
     numbers = λ b is. numbers_in (branches (history o a.events.items)) b sound.stands.kept.numbers (started_in (history o a.events.items) b is);
     count = length-map a.parts.sites.items (λ (site : Site R). site.rm) ∙ sym a.parts.sites.ok.0 ∙ sound.stands.count
         ∙ ap (λ (p : Origin). p.rms) (origin_is o a.events.items);

@@ -183,7 +183,7 @@ module _ {R L : Type 0} (see : Sees R L) where
       origin = stands.origin ∙ sym (λ i. origin_of see (follows.threads i) (follows.start i).value.items (follows.began i).value);
       some_thread = stands.some_thread;
       kept = kept_then tr step (reply_of reply) stands.kept has demanded;
-      over = stands.over;
+      clear = stands.clear;
       apart = stands.apart;
       began = stands.began;
       room = stands.room;

@@ -234,7 +234,8 @@ module _ {R L : Type 0} (see : Sees R L) where
       let waits = waiting_call tr l (line_at parts.lines t r) call x.calls.waiting here took.taken.oldest in
       let k = waits.0 in
       let site_here = stands.sites r site at in
-      let right = took_rightly see.look tr l site.rm after stands.kept stands.over site_here.rm call k a took.has_xid waits.1 waits.2 took.applied in
+      let within : r < (facts.origin tr).rms = subst (λ n. r < n) stands.rms has.1 in
+      let right = took_rightly see.look tr l site.rm after stands.kept stands.clear within site_here.rm call k a took.has_xid waits.1 waits.2 took.applied in
       let e = Took l k (map_answer name_of a) in
       goes_as see tr (Steps.Take t r) (Replies.Took call a) (Replies.Took (map_call Ours k) (map_answer name_of a)) parts _ stands tt
       (ap (λ c. Replies.Took c (map_answer name_of a)) (ours_back (map_call name_of call) k waits.1))

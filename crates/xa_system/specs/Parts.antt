@@ -23,7 +23,7 @@ use Rattle.xa_log.specs.Content.{last_number}
 use Rattle.xa_line.specs.Histories.{LineStands}
 use Rattle.xa_log.specs.Contract.{Moment}
 use Rattle.xa_system.specs.Logged.{LogFollows}
-use Rattle.xa_system.specs.Sites.{BeginsOver, Looks, RmStands, looks, scan_by}
+use Rattle.xa_system.specs.Sites.{BeginsClear, Looks, RmStands, looks, scan_by}
 use Rattle.xa_system.specs.Steps.{IsSame}
 use Rattle.xa_system.specs.Trace.{IsKept}
 use Rattle.xa_rm.specs.declared.fault.RmFault.{RmFault}
@@ -115,7 +115,7 @@ module _ {R L : Type 0} (see : Sees R L) where
     pub origin : facts.origin tr ≡ origin_of see parts.lines.threads parts.start.value.items parts.began.value
     pub some_thread : 0 < (facts.origin tr).threads
     pub kept : IsKept tr
-    pub over : BeginsOver (facts.origin tr)
+    pub clear : BeginsClear (facts.origin tr)
     pub apart : ApartRows (facts.origin tr).rows
     pub began : IsSound (book_of (From (facts.origin tr)))
     pub room : HasRoomForRun (book_of (From (facts.origin tr)))

@@ -4,7 +4,7 @@ use Rattle.std.specs.Vec.{vec_capacity}
 use Rattle.xa_base.specs.Xid.{Xid}
 use Rattle.xa_model.specs.Facts.{started}
 use Rattle.xa_model.specs.Facts.Distinct.{ApartRows}
-use Rattle.xa_model.specs.Protocol.{OldOrigin}
+use Rattle.xa_model.specs.Protocol.{RightOrigin}
 use Rattle.xa_model.specs.Replies.History.{AreDemanded, history}
 use Rattle.xa_model.specs.Trace.{Origin, Recorded, Row, Trace, Trace.From, line}
 use Rattle.xa_base.specs.Branch.{IsBranch, own_format}
@@ -106,9 +106,10 @@ module _ {R L : Type 0} (see : Observes R L) where
   -- each reply is the one that the history before it demands, and the parts are where the history leaves them
   pub record HoldsItsTrace (s : Seen R L) : Type 0 where
     pub demanded : AreDemanded (origin_in see.look s) s.events
-    -- no row, no record and no branch of the start is of a transaction that may still be begun, and what was in doubt is listed
-    pub old : OldOrigin (origin_in see.look s)
-    pub listed : (r : ℕ) → IsInDoubtList ((origin_in see.look s).held r) ((origin_in see.look s).in_doubt r)
+    -- the start was right, and what was in doubt there is listed
+    pub right : RightOrigin (origin_in see.look s)
+    pub listed : (r : ℕ) → r < length s.start
+        → IsInDoubtList ((origin_in see.look s).held r) ((origin_in see.look s).in_doubt r)
     -- each branch that was started since has an identifier
     pub numbers : (b : Branch) → started (trace_in see.look s) b ≡ true → IsBranch b
     -- no resource manager and no line is missing

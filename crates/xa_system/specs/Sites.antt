@@ -1,10 +1,9 @@
 -- What a resource manager holds, as the history knows it.
-use Rattle.std.specs.Prelude.{◌≡◌, ◌≤◌, ◌⊎◌, ℕ, Contains, List, None}
+use Rattle.std.specs.Prelude.{◌≡◌, ◌⊎◌, ◌<◌, ℕ, List}
 use Rattle.std.specs.Option.{option_map}
-use Rattle.xa_base.specs.Branch.{IsBranch, branch_of_xid, xid_of_branch}
+use Rattle.xa_base.specs.Branch.{IsBranch, own_format, xid_of_branch}
 use Rattle.xa_model.specs.Facts as facts
 use Rattle.xa_base.specs.HeldBranch.{HeldBranch}
-use Rattle.xa_model.specs.Facts.{held_of}
 use Rattle.xa_model.specs.Facts.InDoubt.{scan, xid_of_name}
 use Rattle.xa_base.specs.Recover.{IsInDoubtList}
 use Rattle.xa_base.specs.Scan.{Scan, Scan.NotOpen, Scan.Behind}
@@ -13,7 +12,6 @@ use Rattle.xa_base.specs.StateTable.{broken}
 use Rattle.xa_base.specs.declared.state.Standing.TheVariants.{Unstarted}
 use Rattle.xa_model.specs.Trace.{Origin, Trace}
 use Rattle.xa_base.specs.declared.branch.Branch.{Branch}
-use Rattle.xa_log.specs.Content.{last_number}
 use Rattle.xa_base.specs.Xid.{Xid}
 
 -- what a contract sees of a resource manager: the branch of each identifier, the scan of each thread, and what is in
@@ -55,17 +53,10 @@ scan_by f (Behind last) = Behind (option_map f last)
 
 -- ** the start
 
--- the identifier is that of a branch of this manager at this resource manager
-abbrev pub IsOwnAt : (rm : ℕ) → Xid → Type 0
-IsOwnAt r x = (b : Branch) × IsBranch b × (b.rm ≡ r) × (x ≡ xid_of_branch b)
-
--- No branch that the start found is at work, and a log can hold the numbers of each. What is in doubt at a resource manager is
--- listed, and a branch of this manager that is listed is one of this resource manager.
-pub record BeginsOver (o : Origin) : Type 0 where
-  pub still : (b : Branch) → broken (held_of o b).standing ≡ (held_of o b).standing
-  pub numbers : (b : Branch) → ((held_of o b).standing ≡ Unstarted) ⊎ (b.gtrid.sequence ≤ last_number)
-  pub listed : (r : ℕ) → IsInDoubtList (o.held r) (o.in_doubt r)
-  pub home : (r : ℕ) (x : Xid) → Contains (o.in_doubt r) x → IsOwnAt r x ⊎ (branch_of_xid x ≡ None)
+-- at the start no branch of this manager's format was there, and what is in doubt is listed
+pub record BeginsClear (o : Origin) : Type 0 where
+  pub unstarted : (r : ℕ) (x : Xid) → x.format ≡ own_format → (o.held r x).standing ≡ Unstarted
+  pub listed : (r : ℕ) → r < o.rms → IsInDoubtList (o.held r) (o.in_doubt r)
 
 -- ** the whole
 

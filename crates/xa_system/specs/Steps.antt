@@ -65,11 +65,6 @@ module _ {R : Type 0} (look : Looks R) where
     pub each : (r : ℕ) (before : Site R) → slice_get old r ≡ Some before
         → (after : Site R) × (slice_get new r ≡ Some after) × (after.is_up ≡ before.is_up) × Crashes before.rm after.rm
 
-  -- each resource manager of a list crashed
-  pub record AreCrashed (old new : List R) : Type 0 where
-    pub count : length new ≡ length old
-    pub each : (r : ℕ) (before : R) → slice_get old r ≡ Some before → (after : R) × (slice_get new r ≡ Some after) × Crashes before after
-
 -- an answer was heard
 pub record HearsOne (pair : Call Xid × Answer Xid) (before after : Traffic) (reply : Reply Xid) : Type 0 where
   pub reply_is : reply ≡ Replies.Heard pair.0 pair.1

@@ -120,10 +120,7 @@ fn start_manager<L: DecisionLog + Drop>(
 }
 
 impl<R: ResourceManager + Drop, L: DecisionLog + Drop> System<R, L> {
-    ghost use Rattle.xa_model.specs.Promises.Headline.{Headline, HeadlineSince};
-    ghost use Rattle.xa_model.specs.Promises.Processes.{Resumes, resumed};
-    ghost use Rattle.xa_model.specs.Protocol.{AllRight, RightOrigin};
-    ghost use Rattle.xa_model.specs.Trace.{Trace};
+    ghost use Rattle.xa_model.specs.Promises.Headline.{Headline};
     ghost use Rattle.xa_system.specs.Seen.{HasWrongSize, HoldsItsTrace, MayRestart, MayRestartAfterCrash};
     ghost use Rattle.xa_system.specs.Seen.{observes, origin_in};
     ghost use Rattle.xa_system.specs.declared.system.TheConstants.{EVENT_LIMIT};
@@ -151,8 +148,6 @@ impl<R: ResourceManager + Drop, L: DecisionLog + Drop> System<R, L> {
             (λ system. (system.events ≡ []) × (system.start ≡ rms.items) × (system.rms ≡ rms.items)
             × (system.lines.threads ≡ threads) × HoldsItsTrace
             (observes R.held_of R.scan_of R.in_doubt_of L.moment) system) }
-        ensures right { IfOk result (λ system.
-            RightOrigin (origin_in (looks R.held_of R.scan_of R.in_doubt_of) system)) }
         // Its log.
         ensures handed { IfOk result (λ system. (system.handed ≡ log) × (system.first ≡ log)) }
         ensures held { IfOk result
@@ -226,16 +221,10 @@ impl<R: ResourceManager + Drop, L: DecisionLog + Drop> System<R, L> {
     pub fn agree(&self)
         ensures parts { HoldsItsTrace
             (observes R.held_of R.scan_of R.in_doubt_of L.moment) self.now }
-        ensures headline {
-            RightOrigin (origin_in (looks R.held_of R.scan_of R.in_doubt_of) self.now) → Headline
+        ensures headline { Headline
             (origin_in (looks R.held_of R.scan_of R.in_doubt_of) self.now) self.now.events }
-        ensures resumed { (past : Trace) → AllRight past →
-            Resumes past (origin_in (looks R.held_of R.scan_of R.in_doubt_of) self.now) →
-            HeadlineSince (resumed past
-            (origin_in (looks R.held_of R.scan_of R.in_doubt_of) self.now)) self.now.events }
     {
         let _ = &self.events;
         xa_model::headline_holds();
-        xa_model::across_processes();
     }
 }

@@ -25,7 +25,7 @@ use Rattle.xa_log.specs.Contract.{FitsRow, Makes}
 use Rattle.xa_log.specs.KeySet.{KeySet, contains, contains-from_list, contains-items, from_list, items, same_set}
 use Rattle.xa_model.specs.Facts.{how_in}
 use Rattle.xa_tm.specs.Book.{Book, Waiting, row_in}
-use Rattle.xa_tm.specs.Held.{IsSound, numbered_by, held, no_branch, transaction_at}
+use Rattle.xa_tm.specs.Held.{IsSound, begun_by, held, no_branch, transaction_at}
 use Rattle.xa_tm.specs.declared.ledger.Ledger.{Ledger}
 use Rattle.xa_tm.specs.declared.notes.BranchNotes.{BranchNotes}
 use Rattle.xa_tm.proofs.Deals.{deal_is}
@@ -108,17 +108,17 @@ module _ (ends : List (Branch × How)) (i : ℕ) (d : Branch × How) (old new : 
 
 -- ** the incarnation is put in
 
-none_numbered : (u : Bool) (i s : ℕ) (g : Gtrid) → s ≡ 0 → numbered_by u i s g ≡ false
-none_numbered u i s g e = grind (arith, and-false)
+none_begun : (u : Bool) (i s : ℕ) (g : Gtrid) → s ≡ 0 → begun_by u i s g ≡ false
+none_begun u i s g e = grind (arith, and-false)
 
 pub in_incarnation : (l : Ledger) (i t r : ℕ) (row : Gtrid → Option Waiting) (rows : ℕ) (how : Branch → Option How) (records : ℕ)
     → held l ≡ start_book t r 0 row rows how records → held (record l { incarnation = i }) ≡ start_book t r i row rows how records
 in_incarnation l i t r row rows how records e = book_is _ _
     (ap (λ (k : Book). k.threads) e) (ap (λ (k : Book). k.rms) e) (ap (λ (k : Book). k.up) e) refl (ap (λ (k : Book). k.sequence) e)
     (ap (λ (k : Book). k.begins) e) (ap (λ (k : Book). k.failed_restarts) e)
-    (λ g. let none = none_numbered l.is_up i l.sequence g (ap (λ (k : Book). k.sequence) e) in
-    deal_is _ _ (ap (λ b. b && (transaction_at l.transactions g).is_begun) none) (ap (λ (k : Book). (k.deal g).committed) e) (ap (λ (k : Book). (k.deal g).rolled_back) e) (ap (λ (k : Book). (k.deal g).handed_over) e)
-    (ap (λ b. b && ((transaction_at l.transactions g).is_begun && (transaction_at l.transactions g).is_claimed)) none)
+    (λ g. let none = none_begun l.is_up i l.sequence g (ap (λ (k : Book). k.sequence) e) in
+    deal_is _ _ none (ap (λ (k : Book). (k.deal g).committed) e) (ap (λ (k : Book). (k.deal g).rolled_back) e) (ap (λ (k : Book). (k.deal g).handed_over) e)
+    (ap (λ b. b && (transaction_at l.transactions g).is_claimed) none)
     (ap (λ (k : Book). (k.deal g).has_yes) e) (ap (λ (k : Book). (k.deal g).branches) e) (ap (λ (k : Book). (k.deal g).unvoted) e)
     (ap (λ (k : Book). (k.deal g).unsettled) e))
     (λ b. ap (λ (k : Book). k.notes b) e) (ap (λ (k : Book). k.known) e) (λ m. ap (λ (k : Book). k.page m) e)

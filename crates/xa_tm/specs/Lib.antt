@@ -1,9 +1,6 @@
-pub mod Ascending
 pub mod Asked
-pub mod Begins
 pub mod Book
 pub mod Counts
-pub mod Headroom
 pub mod Held
 pub mod Kept
 pub mod Laws
@@ -13,9 +10,10 @@ pub mod Merged
 pub mod News
 pub mod Outcomes
 pub mod Refusing
-pub mod Released
 pub mod Resolving
-pub mod Slots
-pub mod Starting
-pub mod Swaps
 pub mod Tied
+pub mod Starting
+pub mod Ascending
+pub mod Begins
+pub mod Slots
+pub mod Swaps

@@ -13,11 +13,9 @@ ghost use Rattle.xa_tm.specs.Laws.{DecisionsAskTheRow, DonesAskTheRow, DropsAreO
 ghost use Rattle.xa_tm.specs.Laws.{ManagersRefusalsAreAll, OpenHasNoRow, OpenResolvesAreRead};
 ghost use Rattle.xa_tm.specs.Laws.{RecoveriesCloseNone, RefusalsAreRead, ResolvesAreRead, RightBooksFollow};
 ghost use Rattle.xa_tm.specs.Laws.{RowsAreCounted, SettlementsAreCounted, StartRowsAreApart, VotesAreCounted};
-ghost use Rattle.xa_tm.specs.Headroom.{HeadroomIsSound, HeadroomIsUsedUpByOne, StartsHaveHeadroom};
 ghost use Rattle.xa_tm.specs.Limits.{AnswersAreCodes, BooksAreSound, EventsAreHappenings, FoundIsDemanded};
 ghost use Rattle.xa_tm.specs.Limits.{FoundIsThere, LimitsAreKept, OldStartsAreRight, RecordsFit};
 ghost use Rattle.xa_tm.specs.Merged.{RefusalsAreMerged};
-ghost use Rattle.xa_tm.specs.Released.{BooksAreWhole, ReleasesLeaveTheWhole, WholesFollow, WholesRefuseNoMore, WholesResolveAlike};
 ghost use Rattle.xa_tm.specs.Starting.{StartsAreHistories, StartsHaveContent};
 
 use xa_log::DecisionLog;
@@ -146,30 +144,4 @@ pub fn crashes_leave_the_book<L: DecisionLog>()
     ensures crash { (near : Bool) (k : Book) (part : Crashing) (log : L) →
         IsLeft near k (L.moment log).may_leave →
         IsLeft near (after k (Crashed part)) (L.moment log).may_leave }
-{}
-
-/// So much more may happen after a start before a number of the book is too great, whatever the resource managers answer:
-///
-/// - `kept`: one happening more leaves headroom for one less;
-/// - `sound`: a book with headroom is sound, as each call of the manager requires;
-/// - `starts`: a start that [`Manager::new`](crate::Manager::new) gives has headroom for 4,611,686,018,427,387,904.
-pub fn books_have_headroom()
-    ensures kept { HeadroomIsUsedUpByOne }
-    ensures sound { HeadroomIsSound }
-    ensures starts { StartsHaveHeadroom }
-{}
-
-/// A book that has released transactions ([`Manager::release`](crate::Manager::release)) goes on as the whole book does:
-///
-/// - `start`: a book that has released none is its own whole;
-/// - `released`: one more that is over may be released;
-/// - `follows`: both go on alike with each happening;
-/// - `refuses`: what is not refused by the one is not refused by the whole;
-/// - `resolves`: and a recovery ends the same branches.
-pub fn released_books_go_on()
-    ensures start { BooksAreWhole }
-    ensures released { ReleasesLeaveTheWhole }
-    ensures follows { WholesFollow }
-    ensures refuses { WholesRefuseNoMore }
-    ensures resolves { WholesResolveAlike }
 {}

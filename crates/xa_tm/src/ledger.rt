@@ -4,7 +4,7 @@ ghost use Rattle.std.specs.Prelude.{true, false, ◌≡◌, ◌<◌, ◌-◌, �
 ghost use Rattle.xa_base.specs.declared.call.Call.TheVariants as Calls;
 ghost use Rattle.xa_model.specs.Trace.{Happening.Begun, Happening.Claimed, Happening.Issued, Line};
 ghost use Rattle.xa_tm.specs.Book.{after, settled_in};
-ghost use Rattle.xa_tm.specs.Held.{HasBranch, HasTransaction, numbered_by, notes_at, held, known_in, transaction_at};
+ghost use Rattle.xa_tm.specs.Held.{HasBranch, HasTransaction, begun_by, notes_at, held, known_in, transaction_at};
 
 use crate::change::Change;
 use crate::notes::{BranchNotes, Transaction};
@@ -58,21 +58,14 @@ impl Ledger {
         self.branches.get(&b).copied().unwrap_or(BranchNotes::NEW)
     }
 
-    /// Whether a number was given in this incarnation, which ends as the manager falls.
-    fn is_numbered(&self, g: Gtrid) -> bool
-        ensures { result ≡ numbered_by self.now.is_up self.now.incarnation self.now.sequence g }
+    /// Whether a transaction was begun in this incarnation, which ends as the manager falls.
+    pub(crate) fn is_begun(&self, g: Gtrid) -> bool
+        ensures { result ≡ begun_by self.now.is_up self.now.incarnation self.now.sequence g }
     {
         self.is_up
             && g.incarnation == self.incarnation
             && 1 <= g.sequence
             && g.sequence <= self.sequence
-    }
-
-    /// Whether a transaction was begun in this incarnation, and is not released.
-    pub(crate) fn is_begun(&self, g: Gtrid) -> bool
-        ensures { result ≡ ((held self.now).deal g).begun }
-    {
-        self.is_numbered(g) && self.transaction(g).is_begun
     }
 
     /// Begins a transaction.
@@ -96,7 +89,6 @@ impl Ledger {
             &mut self.transactions,
             g,
             Transaction {
-                is_begun: true,
                 is_claimed: false,
                 ..transaction
             },
@@ -108,7 +100,7 @@ impl Ledger {
 
     /// Notes a claim.
     pub(crate) fn claim(&mut self, g: Gtrid) -> Result<(), AllocError>
-        requires { ((held self.old).deal g).begun ≡ Bool.true }
+        requires { begun_by self.old.is_up self.old.incarnation self.old.sequence g ≡ Bool.true }
         ensures ok { OnOk result (held self.new ≡ after (held self.old) (Claimed g)) }
         ensures err { OnErr result (held self.new ≡ held self.old) }
     {

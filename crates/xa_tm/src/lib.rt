@@ -20,7 +20,6 @@ mod manager;
 mod news;
 mod notes;
 mod opening;
-mod releasing;
 mod resolving;
 mod restarting;
 mod room;

@@ -38,13 +38,6 @@ impl<L: DecisionLog + Drop> Manager<L> {
         self.ledger.is_up
     }
 
-    /// The incarnation of the transactions that may be begun.
-    pub fn incarnation(&self) -> u64
-        ensures { result ≡ (book_in self.now).incarnation }
-    {
-        self.ledger.incarnation
-    }
-
     /// Begins a transaction of a thread.
     pub fn begin(&mut self, thread: u32) -> Result<Gtrid, Refusal>
         requires { IsSound (book_in self.old) }

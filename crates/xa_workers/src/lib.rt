@@ -16,7 +16,6 @@ mod deal;
 mod docket;
 mod fault;
 mod gate;
-mod halts;
 mod jobs;
 mod journal;
 mod kept;

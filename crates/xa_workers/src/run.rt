@@ -1,10 +1,9 @@
 //! Runs of jobs.
-ghost use Rattle.std.specs.Prelude.{◌≡◌, ◌≤◌, ◌<◌, ◌∷◌, [], IfErr, IfOk, IsOk, Ok, false, vec_len};
+ghost use Rattle.std.specs.Prelude.{◌≡◌, ◌≤◌, ◌<◌, IfOk, false, vec_len};
 ghost use Rattle.xa_log.specs.Content.{last_number};
-ghost use Rattle.xa_workers.specs.Faults.{end_of, first_told};
 ghost use Rattle.xa_workers.specs.Fates.{AreInOrder, HaveFates, fates_of};
 ghost use Rattle.xa_workers.specs.Jobs.{AreEndsOf, IsRunnable, ends_of, is_xid_of};
-ghost use Rattle.xa_workers.specs.Outcomes.{AreLinesOf, IsOutcomeOf};
+ghost use Rattle.xa_workers.specs.Outcomes.{IsOutcomeOf};
 ghost use Rattle.xa_workers.specs.Rows.{HasRowsOf, Logs, no_rows, rows_of_jobs};
 ghost use Rattle.xa_workers.specs.Tied.{ArePaired};
 
@@ -13,7 +12,6 @@ use crate::crew::Crew;
 use crate::deal::{by_rm, by_thread, new_ends};
 use crate::docket::Docket;
 use crate::fault::Halt;
-use crate::halts::{end_of, first_fault};
 use crate::journal::{Journal, write_rows};
 use crate::limits::JOB_LIMIT;
 use crate::roll::Run;
@@ -30,42 +28,23 @@ use std::time::Clock;
 use xa_line::{Issuer, Taker};
 use xa_log::DecisionLog;
 
-/// What the workers left, where none ended before its work was done. Else the fault that comes first.
-fn work_of<J: Run, L: Drop>(
-    started: Result<(), Halt>,
-    logged: Result<(), Halt>,
-    joined: Joined<J>,
-    journal: Journal<L>,
-) -> Result<Work<J, L>, WorkFault>
-    // All ended well, those too that left nothing to work with.
-    ensures started { IfOk result (λ _. IsOk started × IsOk logged) }
-    ensures swept { IfOk result (λ _. IsOk joined.swept) }
-    ensures left { IfOk result (λ work. (joined.controlled ≡ Ok work.controlled)
-        × (joined.served ≡ Ok work.served) × (work.journal ≡ journal)) }
-
-    ensures fault { IfErr result (λ fault. fault ≡ first_told (started ∷ logged
-        ∷ end_of joined.controlled ∷ end_of joined.swept ∷ end_of joined.served ∷ [])) }
-{
-    let Joined {
-        controlled,
-        swept,
-        served,
-    } = joined;
-    let fault = first_fault(&[
-        started,
-        logged,
-        end_of(&controlled),
-        end_of(&swept),
-        end_of(&served),
-    ]);
-    match (started, logged, controlled, swept, served) {
-        (Ok(()), Ok(()), Ok(controlled), Ok(_), Ok(served)) => Ok(Work {
-            controlled,
-            served,
-            journal,
-        }),
-        _ => Err(fault),
+/// Why workers left nothing, if they did.
+fn halt_of<T>(end: &Result<T, Halt>) -> Option<Halt> {
+    match end {
+        Ok(_) => None,
+        Err(halt) => Some(*halt),
     }
+}
+
+/// The fault that comes first. It is `Mixed` where workers were told to end, and none of them said why.
+fn first_fault(halts: &[Option<Halt>]) -> WorkFault {
+    let mut first = WorkFault::Mixed;
+    for halt in halts {
+        if let Some(Halt::Fault(fault)) = halt {
+            first = first.min(*fault);
+        }
+    }
+    first
 }
 
 /// Starts all workers, writes the log in this thread, and joins all workers.
@@ -100,8 +79,26 @@ fn run_crew<
     if logged.is_err() {
         crew.signals.stop();
     }
-    let joined = team.joined(rt, alloc, crew);
-    work_of(started, logged, joined, journal)
+    let Joined {
+        controlled,
+        swept,
+        served,
+    } = team.joined(rt, alloc, crew);
+    let fault = first_fault(&[
+        halt_of(&started),
+        halt_of(&logged),
+        halt_of(&controlled),
+        halt_of(&swept),
+        halt_of(&served),
+    ]);
+    match (started, logged, controlled, swept, served) {
+        (Ok(()), Ok(()), Ok(controlled), Ok(_), Ok(served)) => Ok(Work {
+            controlled,
+            served,
+            journal,
+        }),
+        _ => Err(fault),
+    }
 }
 
 /// Runs all workers, and returns once all have ended.
@@ -171,7 +168,6 @@ fn run_named<
         ≡ fates_of jobs.now begun.incarnation o.ends.items) }
     ensures rms { IfOk result (λ o. HaveFates jobs.now begun.incarnation
         o.rms.items o.fates.items) }
-    ensures lines { IfOk result (λ o. AreLinesOf jobs.now o.lines.items) }
     ensures rows { IfOk result (λ o. Logs L.DecisionLog begun.incarnation
         (rows_of_jobs jobs.now begun.incarnation o.ends.items) begun.first.value o.log) }
 {
@@ -219,8 +215,7 @@ fn run_named<
 /// votes say, or was rolled back by the recovery; `plain`, that without a recovery each ended as its votes say;
 /// `outcome`, the fates of all branches, that the resource managers have these and no other branch, and that the log has
 /// the rows that it came with and one for each committed job with a yes, with these branches as its participants;
-/// `order`, that the fates are listed in the order of the identifiers; `lines`, that on each line each call was taken, and
-/// each answer heard. After a fault nothing is said of the log.
+/// `order`, that the fates are listed in the order of the identifiers. After a fault nothing is said of the log.
 ///
 /// - [`WorkFault::Memory`]: a request for memory outside of the log, or for a thread, was refused.
 /// - [`WorkFault::Log`]: the log failed, for want of memory too, or no system starts over it: it has no incarnation left, or
@@ -240,7 +235,6 @@ pub fn run_jobs<R: Threads + Wait + Clock + Sync, L: DecisionLog + Drop, G: Gate
     ensures ends { IfOk result (λ o. AreEndsOf jobs.now o.ends.items) }
     ensures plain { jobs.now.sweep ≡ false → IfOk result (λ o. o.ends.items ≡ ends_of jobs.now) }
     ensures order { IfOk result (λ o. AreInOrder o.fates.items) }
-    ensures lines { IfOk result (λ o. AreLinesOf jobs.now o.lines.items) }
     ensures outcome { IfOk result (IsOutcomeOf L.DecisionLog jobs.now log) }
 {
     let begun = begin(log)?;

@@ -1,9 +1,8 @@
 //! What is looked at once all workers have ended.
-ghost use Rattle.std.specs.Prelude.{◌≡◌, ◌≤◌, ◌<◌, ◌*◌, ℕ, All, IfOk, IsTrue, length, vec_len, slice_get, slice_index_or};
+ghost use Rattle.std.specs.Prelude.{◌≡◌, ◌≤◌, ◌<◌, ℕ, All, IfOk, IsTrue, length, vec_len, slice_get, slice_index_or};
 ghost use Rattle.std.specs.Prelude.{Some, false};
 ghost use Rattle.xa_workers.specs.Fates.{HasFate, HasOnly, HaveFates, fates_of};
 ghost use Rattle.xa_workers.specs.Jobs.{AreEndsOf, MayAllEnd, MayEndAs, is_xid_of};
-ghost use Rattle.xa_workers.specs.Outcomes.{AreLinesOf};
 ghost use Rattle.xa_workers.specs.Rows.{HasRowsOf, Logs, job_has_row, rows_of_jobs};
 
 use crate::control::Controlled;
@@ -16,7 +15,6 @@ use crate::serve::Served;
 use crate::{Jobs, Outcomes, WorkFault};
 use std::alloc::{AllocError, Global};
 use xa_base::{Fate, Outcome, Xid};
-use xa_line::Line;
 use xa_log::DecisionLog;
 use xa_rm::{MemRm, ResourceManager};
 
@@ -155,13 +153,6 @@ fn rms_agree(jobs: &Jobs, rms: &[MemRm], fates: &[(Xid, Fate)]) -> bool
     rms.len() == jobs.rms as usize && have_fates(rms, fates)
 }
 
-/// Whether there is a line of each thread of control to each resource manager.
-fn are_all_lines(jobs: &Jobs, lines: &[Line]) -> bool
-    ensures { IsTrue result → length lines.now ≡ jobs.now.threads * jobs.now.rms }
-{
-    lines.len() as u64 == u64::from(jobs.threads) * u64::from(jobs.rms)
-}
-
 /// What the jobs came to, where all that the workers left agrees with it.
 pub(crate) fn settled<J: Run, L: DecisionLog + Drop>(
     alloc: Global,
@@ -176,7 +167,6 @@ pub(crate) fn settled<J: Run, L: DecisionLog + Drop>(
     ensures ends { IfOk result (λ o. AreEndsOf jobs.now o.ends.items) }
     ensures fates { IfOk result (λ o. o.fates.items ≡ fates_of jobs.now incarnation o.ends.items) }
     ensures rms { IfOk result (λ o. HaveFates jobs.now incarnation o.rms.items o.fates.items) }
-    ensures lines { IfOk result (λ o. AreLinesOf jobs.now o.lines.items) }
     ensures rows { IfOk result (λ o. Logs L.DecisionLog incarnation
         (rows_of_jobs jobs.now incarnation o.ends.items) work.journal.first.value o.log) }
 {
@@ -191,10 +181,7 @@ pub(crate) fn settled<J: Run, L: DecisionLog + Drop>(
     let issuers = taken_ends(alloc, controlled)?;
     let mut takers = Vec::new(alloc);
     let rms = taken_rms(alloc, served, &mut takers)?;
-    let lines = all_met(alloc, issuers, &mut takers)?;
-    if !are_all_lines(jobs, &lines) {
-        return Err(WorkFault::Mixed);
-    }
+    all_met(alloc, issuers, &mut takers)?;
     let Journal { log, written, .. } = journal;
     if may_all_end(jobs.sweep, &planned, &ends)
         && have_rows(jobs, &ends, &written)
@@ -204,7 +191,6 @@ pub(crate) fn settled<J: Run, L: DecisionLog + Drop>(
             ends,
             fates,
             rms,
-            lines,
             log,
         })
     } else {

@@ -5,9 +5,8 @@ use Rattle.xa_line.specs.Grid.{Grid, new_grid}
 use Rattle.xa_system.specs.Logged.{IsStartedOver}
 use Rattle.xa_system.specs.declared.site.Site.{Site}
 use Rattle.xa_system.specs.Seen.{IsStarted, Observes, observes}
-use Rattle.xa_system.proofs.Fresh.{IsInSlot, back_again, in_slot, new_may_restart, new_sound, not_both, started_in_slot, starts_clear, starts_old, starts_right, starts_up}
-use Rattle.xa_model.specs.Protocol.{RightOrigin}
-use Rattle.xa_system.specs.Parts.{Sees, origin_of, sees}
+use Rattle.xa_system.proofs.Fresh.{IsInSlot, back_again, in_slot, new_may_restart, new_sound, not_both, starts_up}
+use Rattle.xa_system.specs.Parts.{Sees, sees}
 use Rattle.xa_tm.specs.Slots.{slot_moment}
 use Rattle.xa_tm.specs.declared.slot.Slot.{Slot}
 use Rattle.xa_system.proofs.Logging.{slot_durable}
@@ -16,8 +15,6 @@ use Rattle.xa_system.proofs.system.System.new.Goals as goal
 
 pub invariant_of-result : goal.invariant_of-result
 invariant_of-result g c =
-    let see : Sees g.row.R.Denot (Slot g.row.L.Denot) =
-    sees g.R.ResourceManager.held_of g.R.ResourceManager.scan_of g.R.ResourceManager.in_doubt_of (slot_moment g.L.DecisionLog.moment) in
     let clear = rw c.as_slice.ensures.value at (c.if-not-are_clear.ensures.clear refl) in
     let started = c.in_ok-manager.manager in
     let moment = g.L.DecisionLog.moment in
@@ -33,9 +30,7 @@ invariant_of-result g c =
     let slot : IsInSlot (slot_moment moment) moment started manager =
     in_slot moment started manager c.into_slot-manager.ensures.log c.into_slot-manager.ensures.book c.into_slot-manager.ensures.rows
     c.into_slot-manager.ensures.records in
-    let now = started_in_slot (slot_moment moment) moment c.args.threads (length c.args.rms.items) started manager slot first in
-    new_sound see moment c.args.threads c.args.rms.items started manager slot first
-    (starts_clear see c.args.threads c.args.rms.items manager clear now) (starts_old see c.args.threads c.args.rms.items manager clear now)
+    new_sound _ moment c.args.threads c.args.rms.items started manager clear slot first
     (record {
       first = c.of-first.result;
       handed = c.of-handed.result;
@@ -62,27 +57,6 @@ returns-clause-ok g c =
       ap (λ (q : Grid). q.threads) lines,
       holds _ _ _ (invariant_of-result g c),
     )
-
-pub returns-clause-right : goal.returns-clause-right
-returns-clause-right g c =
-    let see : Sees g.row.R.Denot (Slot g.row.L.Denot) =
-    sees g.R.ResourceManager.held_of g.R.ResourceManager.scan_of g.R.ResourceManager.in_doubt_of (slot_moment g.L.DecisionLog.moment) in
-    let clear = rw c.as_slice.ensures.value at (c.if-not-are_clear.ensures.clear refl) in
-    let started = c.in_ok-manager.manager in
-    let moment = g.L.DecisionLog.moment in
-    let lines : c.in-Ok-new.lines ≡ new_grid c.args.threads (length c.args.rms.items) =
-    c.in-Ok-new.ensures ∙ ap (new_grid c.args.threads) (c.len-2.ensures ∙ c.args.rms.ok.0) in
-    let rms = c.rms.ensures.value ∙ ap (λ (g : Grid). g.rms) lines in
-    let first : IsStarted c.args.threads (length c.args.rms.items) started =
-    subst (λ n. IsStarted c.args.threads n started) rms c.in_ok-manager.ensures.manager in
-    let manager = c.into_slot-manager.result in
-    let slot : IsInSlot (slot_moment moment) moment started manager =
-    in_slot moment started manager c.into_slot-manager.ensures.log c.into_slot-manager.ensures.book c.into_slot-manager.ensures.rows
-    c.into_slot-manager.ensures.records in
-    let threads : c.in-Ok-new.lines.threads ≡ c.args.threads = ap (λ (q : Grid). q.threads) lines in
-    subst RightOrigin (sym (λ i. origin_of see (threads i) (ap (λ (v : Vec g.row.R.Denot Global). v.items) c.of-start.ensures i) (c.of-began.ensures i)))
-    (starts_right see c.args.threads c.args.rms.items manager clear
-    (started_in_slot (slot_moment moment) moment c.args.threads (length c.args.rms.items) started manager slot first))
 
 pub returns-in_default-clause-not_clear : goal.returns-in_default-clause-not_clear
 returns-in_default-clause-not_clear g c size un =
@@ -145,6 +119,7 @@ returns-clause-past g c order h =
 
 pub returns-clause-near : goal.returns-clause-near
 returns-clause-near g c order h =
+    let clear = rw c.as_slice.ensures.value at (c.if-not-are_clear.ensures.clear refl) in
     let started = c.in_ok-manager.manager in
     let moment = g.L.DecisionLog.moment in
     let lines : c.in-Ok-new.lines ≡ new_grid c.args.threads (length c.args.rms.items) =
@@ -158,12 +133,13 @@ returns-clause-near g c order h =
     let slot : IsInSlot (slot_moment moment) moment started manager =
     in_slot moment started manager c.into_slot-manager.ensures.log c.into_slot-manager.ensures.book c.into_slot-manager.ensures.rows
     c.into_slot-manager.ensures.records in
-    new_may_restart _ moment c.args.threads c.args.rms.items started manager slot first _ (invariant_of-result g c) refl c.args.log over order h
+    new_may_restart _ moment c.args.threads c.args.rms.items started manager clear slot first _ (invariant_of-result g c) refl c.args.log over order h
 
 pub returns-clause-crash : goal.returns-clause-crash
 returns-clause-crash g c order h =
     let see : Sees g.row.R.Denot (Slot g.row.L.Denot) =
     sees g.R.ResourceManager.held_of g.R.ResourceManager.scan_of g.R.ResourceManager.in_doubt_of (slot_moment g.L.DecisionLog.moment) in
+    let clear = rw c.as_slice.ensures.value at (c.if-not-are_clear.ensures.clear refl) in
     let started = c.in_ok-manager.manager in
     let moment = g.L.DecisionLog.moment in
     let lines : c.in-Ok-new.lines ≡ new_grid c.args.threads (length c.args.rms.items) =
@@ -177,4 +153,4 @@ returns-clause-crash g c order h =
     c.into_slot-manager.ensures.records in
     let in_order = subst (λ l. (moment l).is_in_order) (sym c.of-handed.ensures) order in
     follows_a_crash _ moment _ (invariant_of-result g c) (slot_durable moment g.met.L.DecisionLog.durable)
-    (starts_up see moment c.args.threads c.args.rms.items started manager slot first) in_order h (returns-clause-near g c order h)
+    (starts_up see moment c.args.threads c.args.rms.items started manager clear slot first) in_order h (returns-clause-near g c order h)
