@@ -2,7 +2,7 @@
 
 use crate::files::{Stops, VERSION_1, copy_of, files_after, files_with, stopping};
 use crate::runs::{Change, Reached, crash_after, run_in};
-use crate::seen::{MIGRATED, Seen};
+use crate::shown_tables::{MIGRATED, Seen};
 use sqlite::Files;
 use sqlite_disk::Memory;
 use std::alloc::Global;

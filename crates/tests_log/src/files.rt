@@ -4,7 +4,7 @@
 //! at one kind of file. So such calls stand in few functions over any kind of file, which close what they open or hand
 //! it to a function over any store.
 
-use crate::seen::{Seen, look};
+use crate::shown_tables::{Seen, look};
 use sqlite::{Connection, Error, FileStore, Files, Options};
 use sqlite_disk::{Crash, Disk, Fuse, Memory};
 use std::alloc::Global;
@@ -176,7 +176,7 @@ pub(crate) fn stopping(files: Files<Memory>, which: Stops, calls: u64) -> Files<
 }
 
 /// The same file, all of which is on the disk.
-fn copied(alloc: Global, file: &Memory) -> Result<Memory, Fail> {
+pub(crate) fn copied(alloc: Global, file: &Memory) -> Result<Memory, Fail> {
     let mut copy = Memory::new(alloc);
     copy.write_at(0, file.bytes())?;
     copy.sync()?;

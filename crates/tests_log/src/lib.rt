@@ -1,6 +1,7 @@
 //! Tests of the decision logs, of what no clause says: rows of each of them, in which a call that is refused memory once is
-//! made again; and of the one in files over disks in memory that stop, alone and under a whole system: at each call of either
-//! file a crash leaves what was there before or all that the one change makes.
+//! made again; and of the one in files over disks in memory that stop, alone, under a whole system, and under ten processes
+//! of the manager one after another: at each call of either file a crash leaves what was there before or all that the one
+//! change makes.
 #![tactic(auto)]
 
 #[cfg(test)]
@@ -18,9 +19,11 @@ mod memory;
 #[cfg(test)]
 mod paths;
 #[cfg(test)]
+mod processes;
+#[cfg(test)]
 mod runs;
 #[cfg(test)]
-mod seen;
+mod shown_tables;
 #[cfg(test)]
 mod system;
 #[cfg(test)]

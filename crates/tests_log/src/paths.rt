@@ -2,7 +2,7 @@
 //! a function over any files, as `files` says.
 
 use crate::files::{VERSION_1, execute_and_close, look_and_close};
-use crate::seen::{EMPTY, MIGRATED, OLD, Seen};
+use crate::shown_tables::{EMPTY, MIGRATED, OLD, Seen};
 use sqlite::{Alter, Connection, FileStore};
 use sqlite_disk::Disk;
 use std::fs;

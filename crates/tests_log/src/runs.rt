@@ -4,7 +4,7 @@ ghost use Rattle.std.specs.Prelude.{◌≡◌, ◌≤◌};
 ghost use Rattle.xa_log.specs.Contract.{FitsRow};
 
 use crate::files::{closed, crashed, look_in, open};
-use crate::seen::Seen;
+use crate::shown_tables::Seen;
 use sqlite::{Alter, Connection, Files};
 use sqlite_disk::{Crash, Disk};
 use std::alloc::Global;

@@ -2,7 +2,7 @@
 
 use crate::files::{Stops, VERSION_1, files_after, files_with, look_in, open, stopping};
 use crate::runs::{Reached, crash_after, run_in, run_on};
-use crate::seen::{BLANK, EMPTY, MIGRATED, OLD, Seen, look};
+use crate::shown_tables::{BLANK, EMPTY, MIGRATED, OLD, Seen, look};
 use sqlite::{Alter, Connection, Error, FileStore, Files};
 use sqlite_disk::{Disk, Memory};
 use std::alloc::Global;

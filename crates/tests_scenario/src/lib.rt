@@ -11,6 +11,6 @@ mod failing;
 #[cfg(test)]
 mod logs;
 #[cfg(test)]
-mod refused;
+mod refused_files;
 #[cfg(test)]
 mod stories;

@@ -22,10 +22,10 @@ mod play;
 #[cfg(test)]
 mod ready;
 #[cfg(test)]
-mod refused;
+mod refused_memory;
+#[cfg(test)]
+mod reply_words;
 #[cfg(test)]
 mod scans;
-#[cfg(test)]
-mod told;
 #[cfg(test)]
 mod words;

@@ -6,7 +6,7 @@
 //! fails.
 
 use crate::full::FullRm;
-use crate::{told, words};
+use crate::{reply_words, words};
 use std::alloc::{AllocError, Global};
 use std::env::Env;
 use std::process::Abort;
@@ -111,11 +111,11 @@ impl Run {
                     let _taken = self.step(rt, &Step::Take { thread, rm }, want);
                     reply = self.step(rt, &Step::Hear { thread, rm }, want);
                 }
-                told::reply(self.alloc, &reply)
+                reply_words::reply(self.alloc, &reply)
             }
             _ => {
                 let reply = self.step(rt, &step, want);
-                told::reply(self.alloc, &reply)
+                reply_words::reply(self.alloc, &reply)
             }
         }
     }

@@ -55,12 +55,43 @@ fn call(name: &str, x: &str, flag: &str) -> Call {
 
 /// The step that these words ask for.
 pub(crate) fn step(words: &[&str; 6]) -> Step {
+    let [verb, first, second, ..] = *words;
+    let (thread, gtrid) = (number(first), branch(first).gtrid);
+    match verb {
+        "begin" => Step::Begin { thread },
+        "commit" => Step::Decide {
+            gtrid,
+            outcome: Outcome::Commit,
+        },
+        "roll-back" => Step::Decide {
+            gtrid,
+            outcome: Outcome::Rollback,
+        },
+        "claim" => Step::Claim { gtrid },
+        "settle" => Step::Settle { gtrid },
+        "abandon" => Step::Abandon { gtrid },
+        "done" => Step::Done { gtrid },
+        "resolve" => Step::Resolve { rm: thread },
+        "resolve-open" => Step::ResolveOpen { rm: thread },
+        "crash-line" => Step::Crash(Part::Line {
+            thread,
+            rm: number(second),
+        }),
+        "crash-rm" => Step::Crash(Part::Rm { rm: thread }),
+        "crash-manager" => Step::Crash(Part::Manager),
+        "restart-rm" => Step::Restart(Side::Rm { rm: thread }),
+        "restart-manager" => Step::Restart(Side::Manager),
+        _ => step_of_line(words),
+    }
+}
+
+/// The step that these words ask for on a line, or at its resource manager.
+fn step_of_line(words: &[&str; 6]) -> Step {
     let [verb, first, second, third, fourth, fifth] = *words;
     let (thread, rm) = (number(first), number(second));
     let branch = branch(first);
-    let (gtrid, xid) = (branch.gtrid, branch.xid());
+    let xid = branch.xid();
     match verb {
-        "begin" => Step::Begin { thread },
         "take" => Step::Take { thread, rm },
         "hear" => Step::Hear { thread, rm },
         "vote" => Step::Vote {
@@ -78,31 +109,12 @@ pub(crate) fn step(words: &[&str; 6]) -> Step {
             xid,
             times: rm,
         },
-        "commit" => Step::Decide {
-            gtrid,
-            outcome: Outcome::Commit,
-        },
-        "roll-back" => Step::Decide {
-            gtrid,
-            outcome: Outcome::Rollback,
-        },
-        "claim" => Step::Claim { gtrid },
-        "settle" => Step::Settle { gtrid },
-        "abandon" => Step::Abandon { gtrid },
-        "done" => Step::Done { gtrid },
         "recover" => Step::Recover {
             rm: thread,
             count: if second == "-1" { -1 } else { i64::from(rm) },
             start_scan: third == "TMSTARTRSCAN",
             end_scan: third == "TMENDRSCAN" || fourth == "TMENDRSCAN",
         },
-        "resolve" => Step::Resolve { rm: thread },
-        "resolve-open" => Step::ResolveOpen { rm: thread },
-        "crash-line" => Step::Crash(Part::Line { thread, rm }),
-        "crash-rm" => Step::Crash(Part::Rm { rm: thread }),
-        "crash-manager" => Step::Crash(Part::Manager),
-        "restart-rm" => Step::Restart(Side::Rm { rm: thread }),
-        "restart-manager" => Step::Restart(Side::Manager),
         _ => Step::Issue {
             thread,
             rm,

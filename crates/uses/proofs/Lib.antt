@@ -1,8 +1,10 @@
 mod Alike
 mod Branches
+mod Crashes
 mod Decisions
 mod JobRows
 mod LogSwaps
 mod OwnLogs
 mod Recoveries
+mod Results
 mod StartRows

@@ -1,6 +1,6 @@
 -- A log that is put in where one was taken out.
 use Rattle.std.proofs.Common.{◌≡◌, ◌≢◌, ◌<◌, ◌≤◌, ◌+◌, ◌++◌, ◌⊎◌, inl, inr, ℕ, Bool, true, false, List, [], ◌∷◌, arith, refl, sym, ap, subst, ◌∙◌}
-use Rattle.std.specs.Prelude.{if◌then◌else◌, length, Option, Some, None, IsSome, IsSomeAnd, IfErr, Result, Ok, Err}
+use Rattle.std.specs.Prelude.{length, Option, Some, None, IsSome, IsSomeAnd, IfErr, Result, Ok, Err}
 use Rattle.std.proofs.lemmas.Bool.{cases_lt, true≢false}
 use Rattle.xa_base.specs.HeldBranch.{HeldBranch}
 use Rattle.xa_base.specs.Scan.{Scan}
@@ -14,14 +14,16 @@ use Rattle.xa_log.specs.Content.{Content, unchanged}
 use Rattle.xa_log.specs.Contract.{Makes, Moment}
 use Rattle.xa_model.specs.Facts.{up}
 use Rattle.xa_model.specs.Trace.{Trace}
-use Rattle.xa_system.proofs.FaultCounts.{faults_push}
-use Rattle.xa_system.specs.Logged.{IsBeforeNext, LeftBy, LogStands, LogStandsBy, MayBeLeft, MayHoldRows, MayRestartOver, greatest_count, log_faults}
+use Rattle.xa_system.proofs.Log.FaultCounts.{faults_push}
+use Rattle.xa_system.specs.LogInHistory.{IsBeforeNext, LeftBy, LogStands, LogStandsBy, MayBeLeft, MayHoldRows, MayRestartOver, greatest_count, log_faults}
 use Rattle.xa_log.specs.declared.decision_log.DecisionLog as DecisionLog
-use Rattle.xa_system.specs.Seen.{FaultsHaveCauses, HoldsItsTrace, MayRestart, MayRestartAfterCrash, Observes, Seen, observes, trace_in}
+use Rattle.xa_system.specs.SystemView.{FaultsHaveCauses, HoldsItsTrace, MayRestart, MayRestartAfterCrash, Observes, SystemView, observes, origin_in, trace_in}
 use Rattle.xa_system.specs.declared.system.TheConstants.{EVENT_LIMIT}
 use Rattle.xa_tm.specs.Slots.{LooksAt, TakesIn, content_in, faults_in, honest_in, last_out, leaves_in, log_held, order_in, slot_moment}
 use Rattle.xa_tm.specs.declared.swap_fault.SwapFault.{SwapFault}
 use Rattle.xa_tm.specs.declared.swap_fault.SwapFault.TheVariants as Faults
+use Rattle.uses.proofs.Results.{there_is}
+use Rattle.uses.specs.Crashes.{IsLeft}
 
 -- a fault that is neither of these two
 abbrev pub IsItsOwn : SwapFault → Type 0
@@ -82,7 +84,7 @@ module _ {R L : Type 0} (held_of : R → Xid → HeldBranch) (scan_of : R → �
   see = observes held_of scan_of in_doubt_of moment
 
   -- a log that was taken out and is given straight back
-  pub given_back : {A : Type 0} (old taken : Seen R L) (log : L) (out : Option L) (result : Result A (SwapFault × L)) → HoldsItsTrace see old
+  pub given_back : {A : Type 0} (old taken : SystemView R L) (log : L) (out : Option L) (result : Result A (SwapFault × L)) → HoldsItsTrace see old
       → (up (trace_in see.look old) ≡ true → (out ≡ None) × (taken ≡ old)) → (up (trace_in see.look old) ≡ false → out ≡ log_held old.log)
       → (up (trace_in see.look old) ≡ false → log_held taken.log ≡ None) → taken ≡ record old { log = taken.log } → Some log ≡ out
       → IfErr result (λ e. LooksAt (moment log) (moment e.1))
@@ -121,7 +123,7 @@ module _ {R L : Type 0} (held_of : R → Xid → HeldBranch) (scan_of : R → �
   sees_of = observes held_of scan_of in_doubt_of logs.moment
 
   -- a restart over what a crash left isn't refused for the log's sake where that counted no failure
-  pub not_blamed : (old given new : Seen R L) (left : L) (c : Content) (step : Step Xid) (reply : Reply Xid)
+  pub not_blamed : (old given new : SystemView R L) (left : L) (c : Content) (step : Step Xid) (reply : Reply Xid)
       → given ≡ record old { handed = left; log = given.log } → TakesIn logs left (log_held given.log)
       → (logs.moment left).is_in_order → (logs.moment left).content ≡ Some c → IsBeforeNext (trace_in sees_of.look old) c
       → (EVENT_LIMIT ≤ length given.events → (reply ≡ Replies.Refused Refusals.Limit) × (new ≡ given))
@@ -146,7 +148,7 @@ module _ {R L : Type 0} (held_of : R → Xid → HeldBranch) (scan_of : R → �
       same_count = ap (λ o. faults_in (λ l. (logs.moment l).fault_count) o (given.log).faults) takes.is ∙ takes.faults
 
       in_order : (logs.moment given.handed).is_in_order
-      in_order = subst (λ l. (logs.moment l).is_in_order) (sym (ap (λ (s : Seen R L). s.handed) others)) order
+      in_order = subst (λ l. (logs.moment l).is_in_order) (sym (ap (λ (s : SystemView R L). s.handed) others)) order
 
       by : (length given.events < EVENT_LIMIT) ⊎ (EVENT_LIMIT ≤ length given.events) → ⊥
       by (inr past) = let two : Replies.Refused Refusals.Limit ≡ Replies.Refused Refusals.LogFault = sym (full past).0 ∙ fails in absurd (cc)
@@ -155,7 +157,7 @@ module _ {R L : Type 0} (held_of : R → Xid → HeldBranch) (scan_of : R → �
           (adds more) (faults in_order honest may) (count ∙ sym same_count) (subst (λ n. n < greatest_count) (sym same_count) few) fails
 
   -- where a restart may follow over what a crash may leave of a log, it may so once that is taken out
-  pub near_taken : (old taken : Seen R L) (log : L) → taken ≡ record old { log = taken.log } → Some log ≡ log_held old.log → log_held taken.log ≡ None
+  pub near_taken : (old taken : SystemView R L) (log : L) → taken ≡ record old { log = taken.log } → Some log ≡ log_held old.log → log_held taken.log ≡ None
       → last_out taken.log ≡ log → MayRestartAfterCrash sees_of old → MayRestartAfterCrash sees_of taken
   near_taken old taken log others here gone was may c left =
       let leaves : L → Content → Type 0 = λ l. (logs.moment l).may_leave in
@@ -164,15 +166,68 @@ module _ {R L : Type 0} (held_of : R → Xid → HeldBranch) (scan_of : R → �
       (may c (subst (λ o. leaves_in leaves (last_out old.log) o c) here (subst (λ l. leaves l c) was out)))
 
   -- the log that was taken out was in order
-  pub order_taken : (old : Seen R L) (log : L) → HoldsItsTrace sees_of old → (logs.moment old.handed).is_in_order → Some log ≡ log_held old.log
+  pub order_taken : (old : SystemView R L) (log : L) → HoldsItsTrace sees_of old → (logs.moment old.handed).is_in_order → Some log ≡ log_held old.log
       → (logs.moment log).is_in_order
   order_taken old log holds order here = subst (order_in (λ l. (logs.moment l).is_in_order)) (sym here) (holds.log.order order)
 
   -- the manager was down where a log came out
-  pub down_taken : (old taken : Seen R L) (log : L) (out : Option L) → (up (trace_in sees_of.look old) ≡ true → (out ≡ None) × (taken ≡ old)) → Some log ≡ out
+  pub down_taken : (old taken : SystemView R L) (log : L) (out : Option L) → (up (trace_in sees_of.look old) ≡ true → (out ≡ None) × (taken ≡ old))
+      → Some log ≡ out
       → up (trace_in sees_of.look old) ≡ false
   down_taken old taken log out is_up some = by (up (trace_in sees_of.look old)) refl
     where
       by : (u : Bool) → up (trace_in sees_of.look old) ≡ u → u ≡ false
       by true is = absurd (let no : Some log ≡ None = some ∙ (is_up is).0 in cc)
       by false is = refl
+
+  -- the start stays where a log is put in
+  pub same_start : (old given : SystemView R L) (left : L) → given ≡ record old { handed = left; log = given.log }
+      → origin_in sees_of.look given ≡ origin_in sees_of.look old
+  same_start old given left others = ap (origin_in sees_of.look) others
+
+  -- a log that a system holds honest was so as it was handed in
+  pub was_honest : (given : SystemView R L) (left : L) → TakesIn logs left (log_held given.log) → (slot_moment logs.moment given.log).is_honest
+      → (logs.moment left).is_honest
+  was_honest given left takes honest =
+      takes.looks.honest (subst (honest_in (λ l. (logs.moment l).is_honest) (last_out given.log)) takes.is honest)
+
+  -- what a crash left of a log that came out
+  pub is_left : (old taken : SystemView R L) (log left : L) (c : Content) → HoldsItsTrace sees_of old → up (trace_in sees_of.look old) ≡ false
+      → taken ≡ record old { log = taken.log } → Some log ≡ log_held old.log → log_held taken.log ≡ None → last_out taken.log ≡ log
+      → (logs.moment old.handed).is_in_order → MayRestartAfterCrash sees_of old → (logs.moment log).is_honest → (logs.moment log).may_leave c
+      → (logs.moment left).is_in_order → (logs.moment left).content ≡ Some c → IsLeft sees_of taken left c
+  is_left old taken log left c holds down others here gone was order may honest leaves left_order content = record {
+    down = ap (λ s. up (trace_in sees_of.look s)) others ∙ down;
+    out = gone;
+    was_in_order = subst (λ l. (logs.moment l).is_in_order) (sym (ap (λ (s : SystemView R L). s.handed) others)) order;
+    was_honest = subst (honest_in (λ l. (logs.moment l).is_honest) (last_out taken.log)) (sym gone) (subst (λ l. (logs.moment l).is_honest) (sym was) honest);
+    near = near_taken old taken log others here gone was may;
+    leaves = subst (λ o. leaves_in (λ l. (logs.moment l).may_leave) (last_out taken.log) o c) (sym gone)
+        (subst (λ l. (logs.moment l).may_leave c) (sym was) leaves);
+    order = left_order;
+    content = content;
+  }
+
+  -- a log that came out honest was so in its place
+  pub held_honest : (old : SystemView R L) (log : L) → Some log ≡ log_held old.log → (logs.moment log).is_honest
+      → (slot_moment logs.moment old.log).is_honest
+  held_honest old log here honest = subst (honest_in (λ l. (logs.moment l).is_honest) (last_out old.log)) here honest
+
+  -- what is found of a log that came out, where it is honest, is what a crash left of that
+  pub found_left : (old taken : SystemView R L) (log left : L) (out : Option L) → HoldsItsTrace sees_of old
+      → (up (trace_in sees_of.look old) ≡ true → (out ≡ None) × (taken ≡ old)) → (up (trace_in sees_of.look old) ≡ false → out ≡ log_held old.log)
+      → (up (trace_in sees_of.look old) ≡ false → log_held taken.log ≡ None) → ((l : L) → out ≡ Some l → last_out taken.log ≡ l)
+      → taken ≡ record old { log = taken.log } → out ≡ Some log → ((logs.moment left).is_honest → (logs.moment log).is_honest)
+      → ((logs.moment log).is_in_order → (logs.moment left).is_in_order)
+      → ((logs.moment log).is_in_order → (logs.moment left).is_honest → IsSomeAnd (logs.moment left).content (logs.moment log).may_leave)
+      → (logs.moment old.handed).is_in_order → MayRestartAfterCrash sees_of old → (logs.moment left).is_honest
+      → (c : Content) × IsLeft sees_of taken left c
+  found_left old taken log left out holds is_up is_taken empty was others some was_honest_so order_left leaves order near honest =
+      let down = down_taken old taken log out is_up (sym some) in
+      let here : Some log ≡ log_held old.log = sym some ∙ is_taken down in
+      let log_order = order_taken old log holds order here in
+      let found = there_is (logs.moment left).content (logs.moment log).may_leave (leaves log_order honest) in (
+        found.0,
+        is_left old taken log left found.0 holds down others here (empty down) (was log some) order near (was_honest_so honest)
+            found.2 (order_left log_order) found.1,
+      )

@@ -11,7 +11,7 @@ use Rattle.xa_log.specs.Content.{Content, nothing, with_bump, with_commit, with_
 use Rattle.xa_log.specs.Contract.{Moment}
 use Rattle.xa_log.specs.KeySet.{from_list}
 use Rattle.xa_scenario.specs.Runs.{Prints}
-use Rattle.xa_system.specs.Logged.{StartsOver}
+use Rattle.xa_system.specs.LogInHistory.{StartsOver}
 use Rattle.uses.specs.Starts.{PrintsAfter}
 
 -- a log with one row
@@ -44,8 +44,10 @@ prints_after moment log g participants text out honest order holds prints =
       run = prints.run;
     }
 
-pub prints_if_ok : {L V E : Type 0} (moment : L → Moment) (log : L) (g : Gtrid) (participants : List Branch) (text : List ℕ) (bytes : V → List ℕ) (r : Result V E)
+pub prints_if_ok : {L V E : Type 0} (moment : L → Moment) (log : L) (g : Gtrid) (participants : List Branch) (text : List ℕ) (bytes : V
+    → List ℕ) (r : Result V E)
     → ((l : L) → (moment l).is_honest) → (moment log).is_in_order → (moment log).content ≡ Some (one_row g participants)
     → IfOk r (λ out. Prints moment log text true (Some []) (Some (bytes out))) → IfOk r (λ out. PrintsAfter g participants text (bytes out))
-prints_if_ok moment log g participants text bytes (Ok out) honest order holds prints = prints_after moment log g participants text (bytes out) honest order holds prints
+prints_if_ok moment log g participants text bytes (Ok out) honest order holds prints = prints_after moment log g participants text
+    (bytes out) honest order holds prints
 prints_if_ok moment log g participants text bytes (Err e) honest order holds prints = tt

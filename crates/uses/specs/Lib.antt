@@ -1,1 +1,2 @@
+pub mod Crashes
 pub mod Starts

@@ -1,12 +1,12 @@
 -- What a run of a scenario prints over a log that holds a row.
-use Rattle.std.specs.Prelude.{◌≡◌, ℕ, true, List, [], Option, Some, Ok}
+use Rattle.std.specs.Prelude.{◌≡◌, ℕ, true, List, [], Some, Ok}
 use Rattle.xa_base.specs.declared.branch.Branch.{Branch}
 use Rattle.xa_base.specs.declared.branch.Gtrid.{Gtrid}
 use Rattle.xa_log.specs.KeySet.{from_list}
 use Rattle.xa_model.specs.Trace.{Origin, Trace.From}
 use Rattle.xa_scenario.specs.Runs.{PrintsRun}
 use Rattle.xa_scenario.specs.Scenarios.{Plan, scenario_of}
-use Rattle.xa_system.specs.Logged.{participants_of_row}
+use Rattle.xa_system.specs.LogInHistory.{participants_of_row}
 
 -- the text of a run of the scenario that starts in the second incarnation, with the row of this transaction
 pub record PrintsAfter (g : Gtrid) (participants : List Branch) (text out : List ℕ) : Type 0 where

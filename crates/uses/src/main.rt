@@ -1,8 +1,12 @@
 //! One caller of each library, each proved to do what its contract says, and run here. A file is named after its
-//! library, without the `xa_`; `own_log`, `recovery` and `swaps` are further callers of `xa_system`.
+//! library, without the `xa_`; `own_log`, `recovery`, `swaps` and `crash` are further callers of `xa_system`, and
+//! `sql_jobs` of `xa_workers`.
 #![tactic(auto)]
 
+ghost use Rattle.std.specs.Prelude.{IsTrue};
+
 mod base;
+mod crash;
 mod files;
 mod jobs;
 mod line;
@@ -13,6 +17,7 @@ mod own_log;
 mod recovery;
 mod rm;
 mod scenario;
+mod sql_jobs;
 mod sql_log;
 mod swaps;
 mod system;
@@ -20,7 +25,7 @@ mod tm;
 mod workers;
 
 use sqlite::Files;
-use sqlite_disk::Memory;
+use sqlite_disk::{Disk, Memory};
 use std::alloc::Global;
 use std::sync::Wait;
 use std::thread::Threads;
@@ -75,6 +80,17 @@ fn show_parts(rt: &HostRuntime) -> anyhow::Result<()> {
     Ok(())
 }
 
+/// Two empty files, in memory.
+fn new_files(alloc: Global) -> Files<Memory>
+    ensures log { IsTrue (⟦<Memory as Disk>⟧.is_usable result.log) }
+    ensures db { IsTrue (⟦<Memory as Disk>⟧.is_usable result.db) }
+{
+    Files {
+        log: Memory::new(alloc),
+        db: Memory::new(alloc),
+    }
+}
+
 /// Whether a decision is found again, and the list of the log that then has it.
 fn show_log(rt: &HostRuntime) -> anyhow::Result<()> {
     let alloc = rt.alloc();
@@ -83,11 +99,7 @@ fn show_log(rt: &HostRuntime) -> anyhow::Result<()> {
     println!(rt; "xa_log: {found}")?;
     let found = sql_log::found_in_new_log(alloc, BRANCH.gtrid, &[BRANCH])?;
     println!(rt; "xa_sql_log: {found:?}")?;
-    let files = Files {
-        log: Memory::new(alloc),
-        db: Memory::new(alloc),
-    };
-    let found = sql_log::is_found_again(alloc, files, BRANCH.gtrid, &[BRANCH])?;
+    let found = sql_log::is_found_again(alloc, new_files(alloc), BRANCH.gtrid, &[BRANCH])?;
     println!(rt; "xa_sql_log, in files: {found}")?;
     let listed = listing::listed(&mut log, alloc)?;
     println!(rt; "xa_listing: {}", String::from_utf8(listed)?)?;
@@ -108,8 +120,8 @@ fn events_and_fate(alloc: Global) -> anyhow::Result<(usize, Fate)> {
 /// follows.
 fn show_own_log(rt: &HostRuntime) -> anyhow::Result<()> {
     let alloc = rt.alloc();
-    let crash = [Step::Begin { thread: 0 }, Step::Crash(Part::Manager)];
-    let mut system = own_log::run_in_memory(alloc, &crash)??;
+    let steps = [Step::Begin { thread: 0 }, Step::Crash(Part::Manager)];
+    let mut system = own_log::run_in_memory(alloc, &steps)??;
     let is_back = swaps::give_back(&mut system).is_ok();
     let restart = [
         Step::Restart(Side::Manager),
@@ -136,9 +148,19 @@ fn show_own_log(rt: &HostRuntime) -> anyhow::Result<()> {
     let is_run = recovery::recover(&mut system, &scan).is_ok();
     let events = system.trace().len();
     println!(rt; "xa_system, its own log: {events} events, {is_back}, {is_run}")?;
-    let reply = swaps::restart_in_memory(alloc);
-    let is_up = matches!(&reply, Some(Reply::Restarted { .. }));
+    Ok(())
+}
+
+/// Whether the manager comes up over what a crash left of its log, and over what a crash of that log's store left.
+fn show_crashes(rt: &HostRuntime) -> anyhow::Result<()> {
+    let alloc = rt.alloc();
+    let restarted = swaps::restart_in_memory(alloc);
+    let is_up = matches!(&restarted, Some((Ok(Reply::Restarted { .. }), _)));
     println!(rt; "xa_system, what a crash left: {is_up}")?;
+    let steps = [Step::Begin { thread: 0 }, Step::Crash(Part::Manager)];
+    let (restarted, _system) = crash::restart_in_memory(alloc, &steps)?;
+    let is_up = matches!(&restarted, Ok(Ok(Reply::Restarted { .. })));
+    println!(rt; "xa_system, what a crash of the log's store left: {is_up}")?;
     Ok(())
 }
 
@@ -154,6 +176,12 @@ fn show_jobs<T: Threads + Wait + Clock + Sync>(
         let mut done = workers::logged(threads, alloc, &jobs)?;
         let listed = listing::listed(&mut done.log, alloc)?;
         println!(rt; "{}", String::from_utf8(listed)?)?;
+        let mut done = sql_jobs::logged_in_memory(threads, alloc, &jobs)?;
+        let listed = listing::listed(&mut done.log, alloc)?;
+        println!(rt; "xa_workers, a database: {}", String::from_utf8(listed)?)?;
+        let mut done = sql_jobs::logged_in_files(threads, alloc, &jobs, new_files(alloc))?;
+        let listed = listing::listed(&mut done.log, alloc)?;
+        println!(rt; "xa_workers, in files: {}", String::from_utf8(listed)?)?;
     }
     let printed = jobs::printed(threads, alloc, JOBS.as_bytes())?;
     println!(rt; "xa_jobs:\n{}", String::from_utf8(printed)?)?;
@@ -178,6 +206,7 @@ fn main(rt: HostRuntime) -> anyhow::Result<()> {
     let (events, fate) = events_and_fate(rt.alloc())?;
     println!(rt; "xa_system: {events} events, {fate:?}")?;
     show_own_log(&rt)?;
+    show_crashes(&rt)?;
     show_jobs(&rt, &rt)?;
     show_scenario(&rt)
 }

@@ -2,7 +2,7 @@
 
 ghost use Rattle.std.specs.Prelude.{◌≡◌};
 ghost use Rattle.xa_model.specs.Promises.Agreement.{AreAlike};
-ghost use Rattle.xa_model.specs.Replies.History.{AreDemanded, history};
+ghost use Rattle.xa_model.specs.Replies.History.{AreAllowed, history};
 ghost use Rattle.xa_model.specs.Protocol.{RightOrigin};
 ghost use Rattle.xa_model.specs.Trace.{Origin};
 
@@ -12,7 +12,7 @@ use xa_model::headline_holds;
 /// After these events no branch of a transaction is committed beside one that is rolled back or lost. Nothing is done.
 #[tactic(auto, using(crate::proofs::Alike::at_end))]
 pub(crate) fn end_alike(events: &[Event])
-    ensures { (o : Origin) → RightOrigin o → AreDemanded o events.now
+    ensures { (o : Origin) → RightOrigin o → AreAllowed o events.now
         → AreAlike (history o events.now) }
 {
     let _ = events.len();

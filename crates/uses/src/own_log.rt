@@ -2,9 +2,9 @@
 
 ghost use Rattle.std.specs.Prelude.{IfOk, IsSomeAnd};
 ghost use Rattle.xa_log.specs.Content.{Content};
-ghost use Rattle.xa_system.specs.Logged.{LogStands, MayBeLeft, StartsOver};
-ghost use Rattle.xa_system.specs.Seen.{origin_in, trace_in};
-ghost use Rattle.xa_system.specs.Sites.{looks};
+ghost use Rattle.xa_system.specs.LogInHistory.{LogStands, MayBeLeft, StartsOver};
+ghost use Rattle.xa_system.specs.SystemView.{origin_in, trace_in};
+ghost use Rattle.xa_system.specs.RmInHistory.{looks};
 ghost use Rattle.xa_tm.specs.Slots.{slot_moment};
 
 use std::alloc::{AllocError, Global};

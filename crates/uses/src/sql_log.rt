@@ -5,7 +5,7 @@ ghost use Rattle.std.specs.Prelude.{◌≡◌, false, true, IfOk, IsTrue};
 ghost use Rattle.std.specs.List.{AllByRecursion};
 ghost use Rattle.sqlite.specs.Files.{image_of};
 ghost use Rattle.xa_log.specs.Contract.{FitsRow};
-ghost use Rattle.xa_sql_log.specs.Opened.{HoldsLog};
+ghost use Rattle.xa_sql_log.specs.OpenedDatabase.{HoldsLog};
 
 use sqlite::{FileStore, Files, Options};
 use sqlite_disk::Disk;

@@ -1,16 +1,17 @@
 //! `xa_system`: a log that is taken out and given back, and one that a crash left, put in its place.
 
-ghost use Rattle.std.specs.Prelude.{◌≡◌, ◌≢◌, ◌<◌, ◌⊎◌, Bool, Some, None, IfErr, IfOk};
+ghost use Rattle.std.specs.Prelude.{◌≡◌, ◌≢◌, ◌<◌, ◌⊎◌, Some, IfErr, IfOk, IfSome};
 ghost use Rattle.xa_base.specs.declared.refusal.Refusal.TheVariants as Refusals;
 ghost use Rattle.xa_base.specs.declared.reply.Reply.TheVariants as Replies;
 ghost use Rattle.xa_log.specs.Content.{Content};
-ghost use Rattle.xa_model.specs.Facts.{up};
 ghost use Rattle.xa_model.specs.Promises.Headline.{Headline};
-ghost use Rattle.xa_system.specs.Logged.{greatest_count};
-ghost use Rattle.xa_system.specs.Seen.{MayRestartAfterCrash, observes, origin_in, trace_in};
-ghost use Rattle.xa_system.specs.Sites.{looks};
-ghost use Rattle.xa_tm.specs.Slots.{log_held, slot_moment};
+ghost use Rattle.xa_model.specs.Protocol.{RightOrigin};
+ghost use Rattle.xa_system.specs.LogInHistory.{greatest_count};
+ghost use Rattle.xa_system.specs.SystemView.{observes, origin_in};
+ghost use Rattle.xa_system.specs.RmInHistory.{looks};
+ghost use Rattle.xa_tm.specs.Slots.{slot_moment};
 ghost use Rattle.xa_tm.specs.declared.swap_fault.SwapFault.TheVariants as SwapFault;
+ghost use Rattle.uses.specs.Crashes.{IsLeft};
 
 use std::alloc::Global;
 use xa_base::{Part, Reply, Side, Step};
@@ -37,29 +38,27 @@ pub(crate) fn give_back<R: ResourceManager + Drop, L: DecisionLog + Drop>(
 
 /// Puts in what a crash left of the log that was taken out, and restarts the manager. That log is refused for want of
 /// memory or for a failure of its own, and for nothing else; and where it counts no failure, the restart isn't refused
-/// for its sake. Agreement holds of the whole.
+/// for its sake. The headline holds of the whole, where the system had a right start, as a new one has.
 pub(crate) fn restart_over<R: ResourceManager + Drop, L: DecisionLog + Drop>(
     system: &mut System<R, L>,
     left: L,
 ) -> Result<Reply, (SwapFault, L)>
-    requires down { up (trace_in (looks R.held_of R.scan_of R.in_doubt_of) system.old)
-        ≡ Bool.false }
-    requires out { log_held system.old.log ≡ None }
-    requires order { (L.moment system.old.handed).is_in_order }
-    requires honest { (slot_moment L.moment system.old.log).is_honest }
-    requires near { MayRestartAfterCrash
-        (observes R.held_of R.scan_of R.in_doubt_of L.moment) system.old }
-    requires left { (L.moment left).is_in_order }
-    requires leaves { (c : Content) → (L.moment left).content ≡ Some c →
-        (slot_moment L.moment system.old.log).may_leave c }
-    ensures given { (c : Content) → (L.moment left).content ≡ Some c →
-        IfErr result (λ e. (L.moment e.1).is_honest →
-        (e.0 ≡ SwapFault.Memory) ⊎ (e.0 ≡ SwapFault.Log)) }
-    ensures restarted { (c : Content) → (L.moment left).content ≡ Some c →
-        IfOk result (λ reply. (slot_moment L.moment system.new.log).is_honest →
+    ensures given { IfErr result (λ e. (c : Content) →
+        IsLeft (observes R.held_of R.scan_of R.in_doubt_of L.moment) system.old left c →
+        (L.moment e.1).is_honest → (e.0 ≡ SwapFault.Memory) ⊎ (e.0 ≡ SwapFault.Log)) }
+    ensures restarted { IfOk result (λ reply. (c : Content) →
+        IsLeft (observes R.held_of R.scan_of R.in_doubt_of L.moment) system.old left c →
+        (slot_moment L.moment system.new.log).is_honest →
         (slot_moment L.moment system.new.log).fault_count ≡ (L.moment left).fault_count →
         (L.moment left).fault_count < greatest_count → reply ≢ Replies.Refused Refusals.LogFault) }
-    ensures headline { Headline
+    // What it rests on was honest where it is so in the end.
+    ensures back { IfErr result (λ e. (L.moment e.1).is_honest → (L.moment left).is_honest) }
+    ensures honest { IfOk result (λ reply. (slot_moment L.moment system.new.log).is_honest →
+        (L.moment left).is_honest) }
+    ensures start { origin_in (looks R.held_of R.scan_of R.in_doubt_of) system.new
+        ≡ origin_in (looks R.held_of R.scan_of R.in_doubt_of) system.old }
+    ensures headline { RightOrigin
+        (origin_in (looks R.held_of R.scan_of R.in_doubt_of) system.new) → Headline
         (origin_in (looks R.held_of R.scan_of R.in_doubt_of) system.new) system.new.events }
 {
     system.agree();
@@ -71,7 +70,15 @@ pub(crate) fn restart_over<R: ResourceManager + Drop, L: DecisionLog + Drop>(
 
 /// The same over a log in memory: no premise is left. The manager crashes, and comes up over the log that was taken out,
 /// which is what a crash leaves of it.
-pub(crate) fn restart_in_memory(alloc: Global) -> Option<Reply> {
+pub(crate) fn restart_in_memory(
+    alloc: Global,
+) -> Option<(Result<Reply, (SwapFault, MemLog)>, System<MemRm, MemLog>)>
+    ensures given { IfSome result (λ it. IfErr it.0 (λ e.
+        (e.0 ≡ SwapFault.Memory) ⊎ (e.0 ≡ SwapFault.Log))) }
+    ensures headline { IfSome result (λ it. Headline
+        (origin_in (looks ⟦<MemRm as ResourceManager>⟧.held_of ⟦<MemRm as ResourceManager>⟧.scan_of
+        ⟦<MemRm as ResourceManager>⟧.in_doubt_of) it.1) it.1.events) }
+{
     let mut rms = Vec::new(alloc);
     let Ok(()) = rms.push(MemRm::new(alloc)) else {
         return None;
@@ -83,8 +90,6 @@ pub(crate) fn restart_in_memory(alloc: Global) -> Option<Reply> {
     let Some(log) = system.take_log() else {
         return None;
     };
-    match restart_over(&mut system, log) {
-        Ok(reply) => Some(reply),
-        Err(_) => None,
-    }
+    let restarted = restart_over(&mut system, log);
+    Some((restarted, system))
 }

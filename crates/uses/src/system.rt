@@ -2,8 +2,11 @@
 
 ghost use Rattle.std.specs.Prelude.{◌≡◌};
 ghost use Rattle.xa_model.specs.Promises.Agreement.{AreAlike};
-ghost use Rattle.xa_system.specs.Seen.{trace_in};
-ghost use Rattle.xa_system.specs.Sites.{looks};
+ghost use Rattle.xa_model.specs.Promises.Processes.{Resumes, joined};
+ghost use Rattle.xa_model.specs.Protocol.{AllRight, RightOrigin};
+ghost use Rattle.xa_model.specs.Trace.{Trace};
+ghost use Rattle.xa_system.specs.SystemView.{origin_in, trace_in};
+ghost use Rattle.xa_system.specs.RmInHistory.{looks};
 
 use xa_base::{Branch, Call, Gtrid, Outcome, Refusal, Step};
 use xa_log::DecisionLog;
@@ -16,13 +19,18 @@ const FIRST: Gtrid = Gtrid {
     sequence: 1,
 };
 
-/// Runs steps. However they go, no branch of a transaction is committed then beside one that is rolled back or lost.
-#[tactic(auto, using(crate::proofs::Alike::at_end))]
+/// Runs steps. However they go, no branch of a transaction is committed then beside one that is rolled back or lost: of
+/// all that happened since a right start, as that of a new system is, and of what earlier processes did and this one.
 pub(crate) fn run_alike<R: ResourceManager + Drop, L: DecisionLog + Drop>(
     system: &mut System<R, L>,
     steps: &[Step],
 ) -> Result<(), Refusal>
-    ensures { AreAlike (trace_in (looks R.held_of R.scan_of R.in_doubt_of) system.new) }
+    ensures alike { RightOrigin (origin_in (looks R.held_of R.scan_of R.in_doubt_of) system.new) →
+        AreAlike (trace_in (looks R.held_of R.scan_of R.in_doubt_of) system.new) }
+    ensures resumed { (past : Trace) → AllRight past →
+        Resumes past (origin_in (looks R.held_of R.scan_of R.in_doubt_of) system.new) →
+        AreAlike (joined past (origin_in (looks R.held_of R.scan_of R.in_doubt_of) system.new)
+        system.new.events) }
 {
     system.run(steps)
 }

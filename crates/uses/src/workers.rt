@@ -14,7 +14,7 @@ use xa_log::{DecisionLog, MemLog};
 use xa_workers::{Gate, Jobs, Outcomes, Point, WorkFault, run_jobs};
 
 /// A gate that holds nobody back.
-struct Open;
+pub(crate) struct Open;
 
 impl Gate for Open {
     fn at(&self, _point: Point) -> bool {

@@ -1,6 +1,6 @@
 pub mod DocumentLemmas
 pub mod FieldLemmas
-pub mod ListedLemmas
+pub mod TablesInTurnLemmas
 pub mod OutputLemmas
 pub mod ReadingLemmas
 pub mod TextFaults

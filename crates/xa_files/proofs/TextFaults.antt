@@ -4,9 +4,9 @@ use Rattle.std.specs.Option.{ok_or}
 use Rattle.std.specs.Prelude.{if◌then◌else◌}
 use Rattle.std.specs.Str.{is_utf8}
 use Rattle.toml.specs.Parse.{parse_document}
-use Rattle.xa_files.proofs.ListedLemmas.{ok_not_err, same_err}
+use Rattle.xa_files.proofs.TablesInTurnLemmas.{ok_not_err, same_err}
 use Rattle.xa_files.specs.Documents.{document_of}
-use Rattle.xa_files.specs.Listed.{IsTextFault}
+use Rattle.xa_files.specs.TablesInTurn.{IsTextFault}
 use Rattle.xa_files.specs.Reading.{◌>>=◌}
 use Rattle.xa_files.specs.declared.fault.RunFault.{RunFault}
 use Rattle.xa_files.specs.declared.fault.RunFault.TheVariants.{NotToml, Header, Output}

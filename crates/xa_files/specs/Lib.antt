@@ -3,7 +3,7 @@ pub mod Fates
 pub mod Faults
 pub mod Fields
 pub mod Gtrids
-pub mod Listed
+pub mod TablesInTurn
 pub mod Outputs
 pub mod Reading
 pub mod Words

@@ -1,10 +1,10 @@
 -- Reading in turn, seen table by table.
 use Rattle.std.proofs.Common.{◌≡◌, ℕ, ◌+◌, refl, ap, arith}
 use Rattle.toml.specs.Data.{Data, Items}
-use Rattle.xa_files.proofs.ListedLemmas as listed
-use Rattle.xa_files.specs.Listed.{EachIsRead, FirstIsFaulty}
+use Rattle.xa_files.proofs.TablesInTurnLemmas as listed
+use Rattle.xa_files.specs.TablesInTurn.{EachIsRead, FirstIsFaulty}
 use Rattle.xa_jobs.specs.JobFiles.{job_at, jobs_from}
-use Rattle.xa_jobs.specs.Listed.{asked_at}
+use Rattle.xa_jobs.specs.JobTables.{asked_at}
 
 -- nothing goes on from one table to the next
 asked : (rms : ℕ) (items : Items) (k : ℕ) (value : Data) → asked_at rms items k value ≡ job_at rms (1 + k) value

@@ -10,8 +10,8 @@ use Rattle.xa_files.specs.declared.fault.RunFault.TheVariants.{Header, Job, Log,
 use Rattle.xa_jobs.specs.Headers.{header_at, header_of}
 use Rattle.xa_workers.specs.declared.limits.TheConstants.{JOB_LIMIT}
 use Rattle.xa_jobs.specs.JobFiles.{Plan, Votes, job_at, jobs_from, jobs_of}
-use Rattle.xa_files.specs.Listed.{IsTextFault, FaultsAreOfTexts}
-use Rattle.xa_files.proofs.ListedLemmas.{ok_not_err, same_err}
+use Rattle.xa_files.specs.TablesInTurn.{IsTextFault, FaultsAreOfTexts}
+use Rattle.xa_files.proofs.TablesInTurnLemmas.{ok_not_err, same_err}
 use Rattle.xa_files.proofs.TextFaults.{document_fault, in_turn, missing, no_text_fault}
 use Rattle.xa_jobs.proofs.ListedLemmas.{first_is_faulty}
 

@@ -2,4 +2,4 @@ pub mod Headers
 pub mod JobFiles
 pub mod JobRuns
 pub mod Lines
-pub mod Listed
+pub mod JobTables

@@ -5,9 +5,9 @@ ghost use Rattle.toml.specs.View.{items_view, table_view, view};
 ghost use Rattle.xa_files.specs.Reading.{Gives};
 ghost use Rattle.xa_jobs.specs.JobFiles.{vote_in, branch_named, job_at, jobs_from, jobs_of};
 ghost use Rattle.xa_jobs.specs.JobFiles.{plan_of, votes_in_table, rows_in, votes_in};
-ghost use Rattle.xa_files.specs.Listed.{EachIsRead, FaultsAreOfTexts, FirstIsFaulty};
+ghost use Rattle.xa_files.specs.TablesInTurn.{EachIsRead, FaultsAreOfTexts, FirstIsFaulty};
 ghost use Rattle.xa_files.specs.declared.fault.RunFault.TheVariants.{Job};
-ghost use Rattle.xa_jobs.specs.Listed.{asked_at};
+ghost use Rattle.xa_jobs.specs.JobTables.{asked_at};
 ghost use Rattle.xa_workers.specs.Jobs.{IsRunnable};
 
 use crate::header::header_of;

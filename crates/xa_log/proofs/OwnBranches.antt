@@ -16,7 +16,7 @@ use Rattle.xa_log.specs.Contract.{AllFit, Changes, FitsRow, faults_after}
 use Rattle.xa_log.specs.Memory.{IsInOrder, content_held, memory_moment}
 use Rattle.xa_log.specs.declared.log_fault.LogFault.{LogFault}
 use Rattle.xa_log.specs.declared.mem_log.MemLog.{MemLog}
-use Rattle.xa_log.proofs.Rising.{equal_is}
+use Rattle.xa_base.proofs.Orders.{equal_is}
 
 own_nothing : AreOwn nothing
 own_nothing g set b is has = let no : None ≡ Some set = sym (get-empty gtrid_cmp g) ∙ is in absurd (cc)

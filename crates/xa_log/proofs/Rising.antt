@@ -6,11 +6,7 @@ use Rattle.std.specs.List.{AllByRecursion}
 use Rattle.std.specs.List.Sorted.{IsStrictlySortedBy}
 use Rattle.std.specs.FinMap.{IsAntisymmetric, find, is_sorted}
 use Rattle.std.proofs.lemmas.Bool.{cases_Bool}
-
-pub equal_is : (o : Ordering) → is_eq o ≡ true → o ≡ Equal
-equal_is Less h = absurd (cc)
-equal_is Equal h = refl
-equal_is Greater h = absurd (cc)
+use Rattle.xa_base.proofs.Orders.{equal_is}
 
 pub less : (o : Ordering) → T (is_lt o) → o ≡ Less
 less Less h = refl

@@ -11,7 +11,7 @@ use Rattle.xa_log.specs.Content.{Content, logged_as, logged_each, with_commits, 
 use Rattle.xa_log.specs.KeySet.{KeySet}
 use Rattle.xa_log.specs.declared.decision.Decision.{Decision}
 use Rattle.xa_log.specs.declared.decision_log.Logged.{Logged}
-use Rattle.xa_log.proofs.Rising.{equal_is}
+use Rattle.xa_base.proofs.Orders.{equal_is}
 use Rattle.xa_log.proofs.Together.{waiting, with_one}
 
 -- ** the row of a transaction

@@ -23,7 +23,7 @@ use Rattle.xa_log.specs.declared.log_fault.LogFault.{LogFault}
 use Rattle.xa_log.specs.declared.log_fault.LogFault.TheVariants.{Store}
 use Rattle.xa_log.specs.declared.mem_log.MemLog.{MemLog}
 use Rattle.xa_log.proofs.OwnBranches.{order_after_commit}
-use Rattle.xa_log.proofs.Rising.{equal_is}
+use Rattle.xa_base.proofs.Orders.{equal_is}
 use Rattle.xa_log.proofs.Alike.{same_content}
 use Rattle.xa_log.proofs.Parts.{no_some}
 

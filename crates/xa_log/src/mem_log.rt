@@ -4,7 +4,7 @@ ghost use Rattle.std.specs.Prelude.{◌≡◌, IfOk};
 ghost use Rattle.xa_log.specs.KeySet.{from_list};
 ghost use Rattle.xa_base.specs.Branch.{branch_cmp};
 
-mod grouped;
+mod groups;
 
 use crate::decision::Decision;
 use crate::decision_log::{DecisionLog, LAST_NUMBER, Logged};

@@ -1,16 +1,16 @@
 -- What holds after every list of right events.
-pub mod Heard
+pub mod HeardAnswers
 pub mod RowLists
 pub mod WaitedCalls
 pub mod WaitingCalls
-pub mod Carried
+pub mod AtEachMoment
 pub mod Grows
-pub mod Kept
+pub mod OneMore
 pub mod Lines
 pub mod Moves
 pub mod NewFacts
 pub mod Now
-pub mod Preserved
+pub mod Preservation
 pub mod PreservedRows
 pub mod Records
 pub mod Rows
@@ -24,7 +24,7 @@ use Rattle.xa_model.specs.Trace.{Gtrid, Branch, Line, Name, Name.Ours, Name.Fore
 use Rattle.xa_base.specs.declared.code.Code.TheVariants as Codes
 use Rattle.xa_base.specs.declared.state.Standing.{Standing}
 use Rattle.xa_base.specs.declared.state.Standing.TheVariants.{Unstarted, Active, Idle, Prepared, RollbackOnly, Completed, Committed, RolledBack, Lost, ReadOnly, Forgotten}
-use Rattle.xa_model.specs.Facts.{origin, up, incarnation, sequence, begun, decided_so, handed_over, claimed, live, started, told, says_yes, says_read_only, acknowledges, has_branch, participants, has_row, recorded, recorded_as, had_row, doubt, Change, Change.AddRow, Change.DropRow, Change.AddRecord, Change.NoChange, taken, issued, page, standing}
+use Rattle.xa_model.specs.Facts.{origin, up, incarnation, sequence, begun, decided_so, handed_over, claimed, live, started, was_told, says_yes, says_read_only, acknowledges, has_branch, participants, has_row, recorded, recorded_as, had_row, doubt, Change, Change.AddRow, Change.DropRow, Change.AddRecord, Change.NoChange, taken, issued, page, standing}
 use Rattle.xa_model.specs.Promises.AgreementInvariant.{Starts}
 use Rattle.xa_model.specs.Protocol.{Lists, AllHaveVoted, AllAreSettled}
 
@@ -142,7 +142,7 @@ pub record RowFact (tr : Trace) (g : Gtrid) : Type 0 where
 
 -- each branch of the transaction is among these, or only read
 abbrev pub Covers : Trace → List Branch → Gtrid → Type 0
-Covers tr bs g = (b : Branch) → b.gtrid ≡ g → started tr b ≡ true → (has_branch bs b ≡ true) ⊎ (told tr (says_read_only b) ≡ true)
+Covers tr bs g = (b : Branch) → b.gtrid ≡ g → started tr b ≡ true → (has_branch bs b ≡ true) ⊎ (was_told tr (says_read_only b) ≡ true)
 
 abbrev pub DoubtFact : Trace → Change → Type 0
 DoubtFact tr (AddRow x) = RowFact tr x.gtrid × Covers tr x.participants x.gtrid
@@ -180,10 +180,10 @@ pub record Inv (tr : Trace) : Type 0 where
       → slice_get (issued tr l) j ≡ Some (on x b) → slice_get (issued tr l) k ≡ Some (on y b) → j ≡ k
   pub start_issued : (l : Line) (b : Branch) (x : Kind) (j : ℕ) → Starts x → slice_get (issued tr l) j ≡ Some (on x b) → started tr b ≡ true
   pub answered : (l : Line) (k : ℕ) (c : Call) (a : Answer) → slice_get (taken tr l) k ≡ Some (c, a) → AnswerFact tr c a
-  pub voted_yes : (b : Branch) → told tr (says_yes b) ≡ true → YesFact tr b
-  pub voted_read_only : (b : Branch) → told tr (says_read_only b) ≡ true → standing tr b ≡ ReadOnly
-  pub acknowledged : (b : Branch) → told tr (acknowledges b) ≡ true → started tr b ≡ true → IsAtRest (standing tr b)
-  pub acknowledged_fixed : (b : Branch) → told tr (acknowledges b) ≡ true → IsFixed tr b
+  pub voted_yes : (b : Branch) → was_told tr (says_yes b) ≡ true → YesFact tr b
+  pub voted_read_only : (b : Branch) → was_told tr (says_read_only b) ≡ true → standing tr b ≡ ReadOnly
+  pub acknowledged : (b : Branch) → was_told tr (acknowledges b) ≡ true → started tr b ≡ true → IsAtRest (standing tr b)
+  pub acknowledged_fixed : (b : Branch) → was_told tr (acknowledges b) ≡ true → IsFixed tr b
   pub recorded_closed : (b : Branch) → recorded tr b ≡ true → Closed tr b.gtrid
   pub heuristic : (b : Branch) (how : How) → recorded_as tr b ≡ Some how → started tr b ≡ true → IsHeuristic how (standing tr b)
   pub forgotten : (b : Branch) (how : How) → standing tr b ≡ Forgotten how → (recorded_as tr b ≡ Some how) ⊎ IsOlder tr b

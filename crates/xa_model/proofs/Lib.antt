@@ -5,4 +5,4 @@ pub mod NameLemmas
 pub mod ProcessLemmas
 pub mod RecoveryLemmas
 pub mod Replies
-pub mod Worked
+pub mod WorkedHistories

@@ -1,5 +1,5 @@
 -- What a page lists, and what a whole recovery does.
 pub mod Pages
-pub mod Recovered
+pub mod WholeRecovery
 pub mod RecoveredNext
 pub mod RecoveredStart

@@ -1,7 +1,7 @@
 -- From demanded replies to right histories.
 pub mod ByStep
-pub mod Computed
-pub mod Determined
-pub mod Needed
+pub mod ComputedReplies
+pub mod DeterminedReplies
+pub mod NeededRefusals
 pub mod Pushes
 pub mod Replies

@@ -1,4 +1,4 @@
--- When a happening may come after a history: the protocol, without the refusals and their order. A reply that `Demanded` allows is
+-- When a happening may come after a history: the protocol, without the refusals and their order. A reply that `Allowed` allows is
 -- right in this sense.
 use Rattle.std.specs.Prelude.{ℕ, ◌||◌, ◌+◌, ◌<◌, ◌≡◌, ◌⊎◌, List, length, true, false, Option, Some, None, IfSome, Contains, slice_get}
 use Rattle.xa_base.specs.declared.call.Call.TheVariants as Calls
@@ -7,14 +7,14 @@ use Rattle.xa_model.specs.Trace.{Gtrid, Branch, Code, Line, Name, Name.Ours, Kin
 use Rattle.xa_base.specs.declared.code.Code.TheVariants as Codes
 use Rattle.xa_base.specs.StateTable.{state_of, asks_of, answer}
 use Rattle.xa_base.specs.declared.state.Standing.TheVariants.{Prepared, Unstarted}
-use Rattle.xa_model.specs.Facts.{up, incarnation, sequence, begun, decided_so, handed_over, claimed, live, started, told, says_yes, says_read_only, says_yes_in, outlived, participants_settled, lists_row, has_record, heuristic_rows, held_of, log, has_row, recorded, settled, next_answer, next_call, standing, vote, retries, is_closed}
+use Rattle.xa_model.specs.Facts.{up, incarnation, sequence, begun, decided_so, handed_over, claimed, live, started, was_told, says_yes, says_read_only, says_yes_in, outlived, participants_settled, lists_row, has_record, heuristic_rows, held_of, log, has_row, recorded, is_settled, next_answer, next_call, standing, vote, retries, is_closed}
 use Rattle.xa_base.specs.Branch.{branch_of_xid}
 use Rattle.xa_base.specs.Xid.{Xid}
 use Rattle.xa_model.specs.Facts.InDoubt.{is_in_doubt_at, scan_answer}
 
 -- the branch answered its xa_prepare with a vote for commit, and it was heard
 abbrev pub HasVoted : Trace → Branch → Type 0
-HasVoted tr b = (told tr (says_yes b) ≡ true) ⊎ (told tr (says_read_only b) ≡ true)
+HasVoted tr b = (was_told tr (says_yes b) ≡ true) ⊎ (was_told tr (says_read_only b) ≡ true)
 
 -- so has each branch of the transaction
 abbrev pub AllHaveVoted : Trace → Gtrid → Type 0
@@ -22,7 +22,7 @@ AllHaveVoted tr g = (b : Branch) → b.gtrid ≡ g → started tr b ≡ true →
 
 -- each branch of the transaction is settled
 abbrev pub AllAreSettled : Trace → Gtrid → Type 0
-AllAreSettled tr g = (b : Branch) → b.gtrid ≡ g → started tr b ≡ true → settled tr b ≡ true
+AllAreSettled tr g = (b : Branch) → b.gtrid ≡ g → started tr b ≡ true → is_settled tr b ≡ true
 
 -- its transaction has this branch and no other
 abbrev pub IsOnlyBranch : Trace → Branch → Type 0
@@ -115,7 +115,7 @@ pub record RightDone (tr : Trace) (g : Gtrid) : Type 0 where
 
 -- the log may have failed there
 abbrev pub RightFault : Trace → Fault → Type 0
-RightFault tr (InDecide g) = RightDecision tr g Outcome.Commit × (told tr (says_yes_in g) ≡ true)
+RightFault tr (InDecide g) = RightDecision tr g Outcome.Commit × (was_told tr (says_yes_in g) ≡ true)
 RightFault tr (InDone g) = RightDone tr g
 RightFault tr (InHear l) = up tr ≡ true
 RightFault tr InResolve = up tr ≡ true

@@ -7,24 +7,24 @@ ghost use Rattle.xa_model.specs.Promises.AgreementInvariant.{NoStartAfterCommit,
 ghost use Rattle.xa_model.specs.Promises.Commitment.{Phase};
 ghost use Rattle.xa_model.specs.Facts.{issued, standing, taken};
 ghost use Rattle.xa_model.specs.Promises.Headline.{Headline};
-ghost use Rattle.xa_model.specs.Replies.History.{AreDemanded};
+ghost use Rattle.xa_model.specs.Replies.History.{AreAllowed};
 ghost use Rattle.xa_model.specs.Protocol.{AllRight, RightOrigin};
 ghost use Rattle.xa_model.specs.Trace.{Branch, Happening, Line, Origin, Trace, Trace.From};
 ghost use Rattle.xa_base.specs.declared.reply.Event.{Event};
 
-use crate::histories::{demanded, one_more_event};
+use crate::histories::{one_more_event, replies_are_allowed};
 
 /// The headline, all of it at once: agreement and its invariant, as [`agreement`] and [`agreement_invariant`] state
 /// them, hold at every moment of a list of events, if its start is right and each event's reply is one that the history
-/// before it allows (`AreDemanded`).
+/// before it allows (`AreAllowed`).
 ///
 /// A start is right if its rows and records are of earlier incarnations, no branch of this manager was ever started,
 /// and all that it lists in doubt is another manager's.
 pub fn headline_holds()
-    ensures { (o : Origin) (events : List Event) → RightOrigin o → AreDemanded o events
+    ensures { (o : Origin) (events : List Event) → RightOrigin o → AreAllowed o events
         → Headline o events }
 {
-    demanded();
+    replies_are_allowed();
     one_more_event();
     agreement();
     agreement_invariant();

@@ -2,17 +2,17 @@
 ghost use Rattle.std.specs.Prelude.{◌≡◌, ◌++◌, [], ◌∷◌, List};
 ghost use Rattle.xa_base.specs.declared.reply.Event.{Event};
 ghost use Rattle.xa_model.specs.Promises.Agreement.{IsMoment};
-ghost use Rattle.xa_model.specs.Replies.Demanded.{AllDemanded, Demanded, IsDetermined, IsValue, with_steps};
+ghost use Rattle.xa_model.specs.Replies.Allowed.{AllAllowed, Allowed, IsDetermined, IsValue, with_steps};
 ghost use Rattle.xa_model.specs.Replies.Guards.{refused_by_guards};
 ghost use Rattle.xa_model.specs.Replies.Rules.{must_refuse};
-ghost use Rattle.xa_model.specs.Replies.History.{AreDemanded, IsDemanded, happening_of, history};
+ghost use Rattle.xa_model.specs.Replies.History.{AreAllowed, IsAllowedEvent, happening_of, history};
 ghost use Rattle.xa_model.specs.Protocol.{AllRight, RightOrigin};
 ghost use Rattle.xa_model.specs.Facts.Distinct.{ApartBranches, ApartRecords, ApartRows};
 ghost use Rattle.xa_model.specs.Facts.{branches, heuristic_rows, log, origin};
 ghost use Rattle.xa_model.specs.Replies.Steps.{Reply, Step};
 ghost use Rattle.xa_model.specs.Trace.{Origin, Trace, Trace.Then};
 
-/// The replies that a history allows (`Demanded`):
+/// The replies that a history allows (`Allowed`):
 ///
 /// - `replies`, `events`: if the history before each reply allows it, then each happening is right after those before
 ///   it: `replies` of steps and replies that name branches, `events` of the events that a system keeps;
@@ -21,13 +21,13 @@ ghost use Rattle.xa_model.specs.Trace.{Origin, Trace, Trace.Then};
 /// - `valued`: every step has a value: its reply where nothing refuses it, memory is there and the log doesn't fail;
 /// - `determined`: that value is the only one, except for a restart of the manager, which may come up in more than one
 ///   incarnation, and finds the change in doubt made or not.
-pub fn demanded()
+pub fn replies_are_allowed()
     ensures replies { (tr : Trace) (xs : List (Step × Reply)) →
-        AllRight tr → AllDemanded tr xs → AllRight (with_steps tr xs) }
+        AllRight tr → AllAllowed tr xs → AllRight (with_steps tr xs) }
     ensures events { (o : Origin) (events : List Event) →
-        RightOrigin o → AreDemanded o events → AllRight (history o events) }
+        RightOrigin o → AreAllowed o events → AllRight (history o events) }
     ensures guards { (tr : Trace) (s : Step) → must_refuse tr s ≡ refused_by_guards tr s }
-    ensures answered { (tr : Trace) (s : Step) → (r : Reply) × Demanded tr s r }
+    ensures answered { (tr : Trace) (s : Step) → (r : Reply) × Allowed tr s r }
     ensures valued { (tr : Trace) (s : Step) → (r : Reply) × IsValue tr s r }
     ensures determined { (tr : Trace) (s : Step) (q r : Reply) →
         IsDetermined s → IsValue tr s q → IsValue tr s r → q ≡ r }
@@ -36,16 +36,17 @@ pub fn demanded()
 /// Appending an event to the stored list:
 ///
 /// - `history`: it appends the event's happening to the history;
-/// - `demanded`: all replies are allowed, if those before were and the new one is;
+/// - `allowed`: all replies are allowed, if those before were and the new one is;
 /// - `before`: if all replies of a list are allowed, so are those of each beginning of it;
 /// - `moment`: each event of a list is a moment of its history.
 pub fn one_more_event()
     ensures history { (o : Origin) (events : List Event) (e : Event) →
         history o (events ++ e ∷ []) ≡ Then (history o events) (happening_of e) }
-    ensures demanded { (o : Origin) (events : List Event) (e : Event) →
-        AreDemanded o events → IsDemanded (history o events) e → AreDemanded o (events ++ e ∷ []) }
+    ensures allowed { (o : Origin) (events : List Event) (e : Event) →
+        AreAllowed o events → IsAllowedEvent (history o events) e →
+        AreAllowed o (events ++ e ∷ []) }
     ensures before { (o : Origin) (events later : List Event) →
-        AreDemanded o (events ++ later) → AreDemanded o events }
+        AreAllowed o (events ++ later) → AreAllowed o events }
     ensures moment { (o : Origin) (events later : List Event) (e : Event) →
         IsMoment (history o events) (happening_of e) (history o (events ++ e ∷ later)) }
 {}

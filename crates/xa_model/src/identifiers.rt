@@ -6,7 +6,7 @@ ghost use Rattle.xa_base.specs.Xid.{IsXid, Xid, xid_cmp};
 ghost use Rattle.xa_base.specs.declared.reply.Reply.{Reply};
 ghost use Rattle.xa_base.specs.declared.step.Step.{Step};
 ghost use Rattle.xa_model.specs.Facts.InDoubt.{name_cmp, xid_of_name};
-ghost use Rattle.xa_model.specs.Replies.Demanded.{Demanded};
+ghost use Rattle.xa_model.specs.Replies.Allowed.{Allowed};
 ghost use Rattle.xa_model.specs.Replies.History.{name_of, reply_of, step_of};
 ghost use Rattle.xa_model.specs.Replies.ReadBack.{AnswersOurs, ReplyHasXids, StepHasXids};
 ghost use Rattle.xa_model.specs.Replies.ReadBack.{reply_back, step_back};
@@ -38,5 +38,5 @@ pub fn names()
 pub fn read_back()
     ensures steps { (s : Step Xid) → StepHasXids s → step_back (step_of s) ≡ s }
     ensures replies { (r : Reply Xid) → ReplyHasXids r → reply_back (reply_of r) ≡ r }
-    ensures ours { (tr : Trace) (s : Step Name) (r : Reply Name) → Demanded tr s r → AnswersOurs r }
+    ensures ours { (tr : Trace) (s : Step Name) (r : Reply Name) → Allowed tr s r → AnswersOurs r }
 {}

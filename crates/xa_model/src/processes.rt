@@ -7,8 +7,8 @@ ghost use Rattle.xa_model.specs.Promises.Processes.{AllAreNamed, IsLeft, ListsFo
 ghost use Rattle.xa_model.specs.Promises.Processes.{Resumes, joined, next_start, resumed};
 ghost use Rattle.xa_model.specs.Promises.Recovery.{IsRecovered, MayComplete, recovery};
 ghost use Rattle.xa_model.specs.Protocol.{AllRight, IsRun, OldOrigin};
-ghost use Rattle.xa_model.specs.Replies.Demanded.{AllDemanded, with_steps};
-ghost use Rattle.xa_model.specs.Replies.History.{AreDemanded, history};
+ghost use Rattle.xa_model.specs.Replies.Allowed.{AllAllowed, with_steps};
+ghost use Rattle.xa_model.specs.Replies.History.{AreAllowed, history};
 ghost use Rattle.xa_model.specs.Trace.{Answer, Call, Name, Origin, Recorded, Row, Trace};
 
 /// The promises hold through any number of processes of the manager, one after another, over the same resource managers
@@ -35,12 +35,12 @@ ghost use Rattle.xa_model.specs.Trace.{Answer, Call, Name, Origin, Recorded, Row
 pub fn across_processes()
     // One process more.
     ensures right { (past : Trace) (o : Origin) (events : List Event) →
-        AllRight past → Resumes past o → AreDemanded o events → AllRight (joined past o events) }
+        AllRight past → Resumes past o → AreAllowed o events → AllRight (joined past o events) }
     ensures headline { (past : Trace) (o : Origin) (events : List Event) →
-        AllRight past → Resumes past o → AreDemanded o events →
+        AllRight past → Resumes past o → AreAllowed o events →
         HeadlineSince (resumed past o) events }
     ensures passes_on { (past : Trace) (o : Origin) (events : List Event) (next : Origin) →
-        AllRight past → Resumes past o → AreDemanded o events → Resumes (history o events) next
+        AllRight past → Resumes past o → AreAllowed o events → Resumes (history o events) next
         → Resumes (joined past o events) next }
     // All of them.
     ensures all { (whole : Trace) → OfProcesses whole → AllRight whole }
@@ -50,9 +50,9 @@ pub fn across_processes()
         → Resumes past (next_start past i rows records) }
     ensures recovers { (past : Trace) (o : Origin) (events : List Event)
         (r count : ℕ) (names : List Name) (answers : List (Call × Answer)) →
-        AllRight past → Resumes past o → OldOrigin o → ListsFound o → AreDemanded o events →
+        AllRight past → Resumes past o → OldOrigin o → ListsFound o → AreAllowed o events →
         MayComplete (history o events) r count answers →
-        AllDemanded (history o events) (recovery r count names answers) →
+        AllAllowed (history o events) (recovery r count names answers) →
         IsRecovered (with_steps (history o events) (recovery r count names answers)) r }
     // Over anything else that was found.
     ensures own { (tr : Trace) → IsRun tr → OwnAreAlike tr }

@@ -1,6 +1,6 @@
 //! What a whole recovery does.
 ghost use Rattle.std.specs.Prelude.{ℕ, List};
-ghost use Rattle.xa_model.specs.Replies.Demanded.{AllDemanded, with_steps};
+ghost use Rattle.xa_model.specs.Replies.Allowed.{AllAllowed, with_steps};
 ghost use Rattle.xa_model.specs.Promises.Recovery.{IsRecovered, MayComplete, recovery};
 ghost use Rattle.xa_model.specs.Protocol.{AllRight};
 ghost use Rattle.xa_model.specs.Trace.{Answer, Call, Name, Trace};
@@ -14,6 +14,6 @@ ghost use Rattle.xa_model.specs.Trace.{Answer, Call, Name, Trace};
 pub fn recovery_completes()
     ensures { (tr : Trace) (r count : ℕ) (names : List Name) (answers : List (Call × Answer)) →
         AllRight tr → MayComplete tr r count answers
-        → AllDemanded tr (recovery r count names answers) →
+        → AllAllowed tr (recovery r count names answers) →
         IsRecovered (with_steps tr (recovery r count names answers)) r }
 {}

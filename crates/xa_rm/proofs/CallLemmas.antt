@@ -15,7 +15,7 @@ use Rattle.xa_base.specs.declared.vote.Vote.{Vote}
 use Rattle.xa_base.specs.declared.vote.Vote.TheVariants as Votes
 use Rattle.xa_rm.specs.Branches.{branch_or_new}
 use Rattle.xa_rm.specs.ResourceManager.{recover_of}
-use Rattle.xa_rm.specs.declared.held.Held.{Held}
+use Rattle.xa_rm.specs.declared.table_entry.TableEntry.{TableEntry}
 
 -- what is asked, or else k
 kind_in : Kind → Option (Kind × Xid) → Kind
@@ -62,7 +62,7 @@ not_at_once thread Start = refl
 not_at_once thread _ = refl
 
 -- a branch that a call leaves in doubt is in the table
-pub known_in_doubt : (o : Option Held) (thread : ℕ) (kind : Kind) → is_in_doubt (called thread kind (branch_or_new o)).standing ≡ true → IsSome o
+pub known_in_doubt : (o : Option TableEntry) (thread : ℕ) (kind : Kind) → is_in_doubt (called thread kind (branch_or_new o)).standing ≡ true → IsSome o
 known_in_doubt None thread kind e = let never = not_at_once thread kind in let no : ⊥ = cc in absurd no
 known_in_doubt (Some h) thread kind e = refl
 

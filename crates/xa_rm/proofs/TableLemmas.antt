@@ -1,22 +1,25 @@
 -- The table of branches and its index.
 use Rattle.std.proofs.Common.{◌≡◌, ◌==◌, ℕ, ℤ, ◌&&◌, Bool, true, false, if◌then◌else◌, cond, List, [], ◌∷◌, map, Option, Some, None, IsSome, Result, Ok, Err, OnOk, OnErr, refl, sym, ◌∙◌, ap, subst}
-use Rattle.std.specs.Prelude.{Contains, ◌↔◌, ◌≢◌}
+use Rattle.std.specs.Prelude.{Contains, ◌↔◌, ◌≢◌, ◌^◌, nat_lt, not}
 use Rattle.std.specs.List.{list_any}
 use Rattle.std.specs.BTreeMap as tree
 use Rattle.std.specs.BTreeMap.{BTreeMap, is_at}
 use Rattle.std.specs.BTreeSet as sorted
 use Rattle.std.specs.BTreeSet.{BTreeSet, contains}
 use Rattle.std.specs.Map.{lookup}
-use Rattle.std.specs.Option.{option_map}
+use Rattle.std.specs.Option.{option_map, option_map_or}
 use Rattle.std.specs.Ordering.{int_eq}
 use Rattle.std.proofs.lemmas.Map.Made.{lookup-map_values}
 use Rattle.std.proofs.lemmas.Map.Views.{All-found, btree_set_contains_iff}
 use Rattle.std.proofs.lemmas.Bool.Decides.{Decides-int_eq}
 use Rattle.std.proofs.lemmas.List.Elements.{All-contains}
 use Rattle.std.proofs.lemmas.List.Folds.{Any-from_list_any}
-use Rattle.std.proofs.lemmas.Bool.{and_parts, or_parts}
-use Rattle.xa_base.proofs.XidOrder.{xid_cmp_exact, xid_eq-same}
-use Rattle.xa_base.specs.Xid.{xid_cmp_total, Xid, xid_cmp}
+use Rattle.std.proofs.lemmas.Bool.{and_parts, lt-ltb, or_parts}
+use Rattle.xa_base.proofs.XidOrder.{xid_cmp_exact, xid_eq-refl, xid_eq-same}
+use Rattle.xa_base.proofs.BranchLemmas.{numbers_fit}
+use Rattle.xa_base.specs.Branch.{branch_of_xid, xid_of_branch}
+use Rattle.xa_base.specs.Xid.{IsXid, xid_cmp_total, Xid, xid_cmp, xid_eq}
+use Rattle.xa_base.specs.declared.branch.Branch.{Branch}
 use Rattle.xa_base.specs.HeldBranch.{HeldBranch, new_branch, broken_by, crashed}
 use Rattle.xa_base.specs.Recover.{IsInDoubtList}
 use Rattle.xa_base.specs.Standing.{is_in_doubt, fate_of}
@@ -26,9 +29,9 @@ use Rattle.xa_base.specs.declared.state.Standing.{Standing}
 use Rattle.xa_base.specs.declared.state.Standing.TheVariants.{Unstarted, Active, Idle, Prepared, RollbackOnly, Completed, Committed, RolledBack, Lost, ReadOnly, Forgotten}
 use Rattle.xa_base.proofs.StateLemmas.{broken_in_doubt}
 use Rattle.xa_rm.specs.Branches.{IsIndex, held_at, branch_or_new}
-use Rattle.xa_rm.specs.Held.{held_branch, was_started}
-use Rattle.xa_rm.specs.ResourceManager.{HoldsFormat, HoldsNewer, HoldsNoFormat, HoldsPast, names_newer}
-use Rattle.xa_rm.specs.declared.held.Held.{Held}
+use Rattle.xa_rm.specs.TableEntries.{held_branch, was_started}
+use Rattle.xa_rm.specs.ResourceManager.{HoldsFormat, HoldsNewer, HoldsNoFormat, HoldsPast, is_past, is_past_as, names_newer}
+use Rattle.xa_rm.specs.declared.table_entry.TableEntry.{TableEntry}
 
 -- ** the list of the index
 
@@ -36,7 +39,7 @@ flipped : {A B : Type 0} → A ↔ B → B ↔ A
 flipped e = (e.1, e.0)
 
 -- an index in order lists what is in doubt
-pub index_list : (table : BTreeMap Xid Held) (index : BTreeSet Xid) → IsIndex table index → sorted.IsOrdered xid_cmp index
+pub index_list : (table : BTreeMap Xid TableEntry) (index : BTreeSet Xid) → IsIndex table index → sorted.IsOrdered xid_cmp index
     → IsInDoubtList (held_at table) index.keys
 index_list table index is_index ordered = record {
   in_order = ordered;
@@ -47,20 +50,20 @@ index_list table index is_index ordered = record {
 
 -- ** one branch is put in the table
 
-put_at : (t b : Bool) (had : Bool) (h : Held) (o : Option Held) → b ≡ is_in_doubt h.standing → had ≡ is_in_doubt (branch_or_new o).standing
+put_at : (t b : Bool) (had : Bool) (h : TableEntry) (o : Option TableEntry) → b ≡ is_in_doubt h.standing → had ≡ is_in_doubt (branch_or_new o).standing
     → cond t b had ≡ is_in_doubt (branch_or_new (cond t (Some h) o)).standing
 put_at true b had h o e f = e
 put_at false b had h o e f = f
 
 -- the index goes along
-pub index_after_put : (table new_table : BTreeMap Xid Held) (index new_index : BTreeSet Xid) (x : Xid) (h : Held) (b : Bool) → IsIndex table index
+pub index_after_put : (table new_table : BTreeMap Xid TableEntry) (index new_index : BTreeSet Xid) (x : Xid) (h : TableEntry) (b : Bool) → IsIndex table index
     → tree.Updates xid_cmp table new_table x (Some h) → sorted.Updates xid_cmp index new_index x b → b ≡ is_in_doubt h.standing
     → IsIndex new_table new_index
 index_after_put table new_table index new_index x h b is_index put listed e = record {
   indexed = λ q.
       listed.0 q
       ∙ put_at (is_at (xid_cmp x) q) b (contains xid_cmp index q) h (tree.get xid_cmp table q) e (is_index.indexed q)
-      ∙ ap (λ (o : Option Held). is_in_doubt (branch_or_new o).standing) (sym (put.0 q));
+      ∙ ap (λ (o : Option TableEntry). is_in_doubt (branch_or_new o).standing) (sym (put.0 q));
 }
 
 -- what can't fail was done
@@ -74,23 +77,24 @@ found (Some x) some none = let no : ⊥ = cc in no
 
 -- ** every branch is changed
 
-at_entry : (g : Held → Held) (f : HeldBranch → HeldBranch) → ((h : Held) → held_branch (g h) ≡ f (held_branch h)) → new_branch ≡ f new_branch
-    → (o : Option Held) → branch_or_new (option_map g o) ≡ f (branch_or_new o)
+at_entry : (g : TableEntry → TableEntry) (f : HeldBranch → HeldBranch) → ((h : TableEntry) → held_branch (g h) ≡ f (held_branch h)) → new_branch ≡ f new_branch
+    → (o : Option TableEntry) → branch_or_new (option_map g o) ≡ f (branch_or_new o)
 at_entry g f same none None = none
 at_entry g f same none (Some h) = same h
 
 -- a change of all entries is a change of all branches
-pub held_after_map : (g : Held → Held) (f : HeldBranch → HeldBranch) → ((h : Held) → held_branch (g h) ≡ f (held_branch h)) → new_branch ≡ f new_branch
-    → (table new_table : BTreeMap Xid Held) → new_table.entries ≡ map (λ (e : Xid × Held). (e.0, g e.1)) table.entries
+pub held_after_map : (g : TableEntry → TableEntry) (f : HeldBranch → HeldBranch) → ((h : TableEntry) → held_branch (g h) ≡ f (held_branch h))
+    → new_branch ≡ f new_branch
+    → (table new_table : BTreeMap Xid TableEntry) → new_table.entries ≡ map (λ (e : Xid × TableEntry). (e.0, g e.1)) table.entries
     → (x : Xid) → held_at new_table x ≡ f (held_at table x)
 held_after_map g f same none table new_table e x =
-    ap (λ (es : List (Xid × Held)). branch_or_new (lookup (is_at (xid_cmp x)) es)) e
+    ap (λ (es : List (Xid × TableEntry)). branch_or_new (lookup (is_at (xid_cmp x)) es)) e
     ∙ ap branch_or_new (lookup-map_values g (is_at (xid_cmp x)) table.entries)
     ∙ at_entry g f same none (lookup (is_at (xid_cmp x)) table.entries)
 
 -- a change that moves no branch in or out of doubt leaves the index
 pub index_after_map : (f : HeldBranch → HeldBranch) → ((b : HeldBranch) → is_in_doubt (f b).standing ≡ is_in_doubt b.standing)
-    → (table new_table : BTreeMap Xid Held) (index : BTreeSet Xid) → ((x : Xid) → held_at new_table x ≡ f (held_at table x))
+    → (table new_table : BTreeMap Xid TableEntry) (index : BTreeSet Xid) → ((x : Xid) → held_at new_table x ≡ f (held_at table x))
     → IsIndex table index → IsIndex new_table index
 index_after_map f keeps table new_table index changed is_index = record {
   indexed = λ x.
@@ -111,14 +115,14 @@ broken_by_in_doubt thread b =
     ]
 
 -- an entry after all lines broke
-abbrev pub crashed_held : Held → Held
+abbrev pub crashed_held : TableEntry → TableEntry
 crashed_held h = record h { standing = broken h.standing }
 
 -- an entry after a line of this thread broke
-abbrev pub broken_held : ℕ → Held → Held
+abbrev pub broken_held : ℕ → TableEntry → TableEntry
 broken_held thread h = if h.starter == thread then crashed_held h else h
 
-pub broken_held-branch : (thread : ℕ) (h : Held) → held_branch (broken_held thread h) ≡ broken_by thread (held_branch h)
+pub broken_held-branch : (thread : ℕ) (h : TableEntry) → held_branch (broken_held thread h) ≡ broken_by thread (held_branch h)
 broken_held-branch thread h =
     elim (h.starter == thread) as
     (λ t. held_branch (if t then crashed_held h else h) ≡ (if t then crashed (held_branch h) else held_branch h)) [ true ↦ refl | false ↦ refl ]
@@ -130,7 +134,7 @@ broken_new thread =
 -- ** formats
 
 -- whether an entry is of this format, and its branch ever was
-abbrev pub is_of_format : ℤ → Xid × Held → Bool
+abbrev pub is_of_format : ℤ → Xid × TableEntry → Bool
 is_of_format z e = int_eq e.0.format z && was_started e.1.standing
 
 started_fate : (s : Standing) → was_started s ≡ true → fate_of s ≢ Fates.Unstarted
@@ -155,22 +159,23 @@ and-second true b h e = e
 and-second false b h e = let no : ⊥ = cc in absurd no
 
 -- an entry of the format that was started is of a branch that was
-pub format_held : (table : BTreeMap Xid Held) → tree.IsOrdered xid_cmp table → (z : ℤ)
+pub format_held : (table : BTreeMap Xid TableEntry) → tree.IsOrdered xid_cmp table → (z : ℤ)
     → list_any (is_of_format z) table.entries ≡ true → HoldsFormat (held_at table) z
 format_held table ordered z e =
     let some = Any-from_list_any (is_of_format z) table.entries e in
     let entry = some.1 in
     let found_there =
-    All-contains (λ (p : Xid × Held). tree.get xid_cmp table p.0 ≡ Some p.1) table.entries entry (All-found xid_cmp_total table ordered)
+    All-contains (λ (p : Xid × TableEntry). tree.get xid_cmp table p.0 ≡ Some p.1) table.entries entry (All-found xid_cmp_total table ordered)
     (some.0, some.2, some.3) in
     let both = and_parts (int_eq entry.0.format z) (was_started entry.1.standing) some.4 in
     record {
       xid = entry.0;
       format = (Decides-int_eq entry.0.format z).0 both.0;
-      started = subst (λ (o : Option Held). fate_of (branch_or_new o).standing ≢ Fates.Unstarted) (sym found_there) (started_fate entry.1.standing both.1);
+      started = subst (λ (o : Option TableEntry). fate_of (branch_or_new o).standing ≢ Fates.Unstarted) (sym found_there)
+          (started_fate entry.1.standing both.1);
     }
 
-unstarted_at : (x : Xid) (z : ℤ) → x.format ≡ z → (es : List (Xid × Held)) → list_any (is_of_format z) es ≡ false
+unstarted_at : (x : Xid) (z : ℤ) → x.format ≡ z → (es : List (Xid × TableEntry)) → list_any (is_of_format z) es ≡ false
     → fate_of (branch_or_new (lookup (is_at (xid_cmp x)) es)).standing ≡ Fates.Unstarted
 unstarted_at x z of [] none = refl
 unstarted_at x z of (e ∷ es) none =
@@ -184,31 +189,42 @@ unstarted_at x z of (e ∷ es) none =
     ] refl
 
 -- where there is no such entry, no branch of the format ever was
-pub format_not_held : (table : BTreeMap Xid Held) (z : ℤ) → list_any (is_of_format z) table.entries ≡ false → HoldsNoFormat (held_at table) z
+pub format_not_held : (table : BTreeMap Xid TableEntry) (z : ℤ) → list_any (is_of_format z) table.entries ≡ false → HoldsNoFormat (held_at table) z
 format_not_held table z none = record { unstarted = λ x of. unstarted_at x z of table.entries none }
 
 -- ** what earlier processes left
 
+-- an identifier that names a branch is that branch's
+pub newer_by_branch : (r i : ℕ) (x : Xid) (b : Branch) → IsXid x → Some b ≡ branch_of_xid x → x ≡ xid_of_branch b
+    → not (is_past r i b) ≡ names_newer r i x
+newer_by_branch r i x b valid read is = sym (λ j. not (own j && is_past r i b)) ∙ ap (λ o. option_map_or (λ c. not (is_past_as r i x c)) o false) read
+  where
+    own : (nat_lt b.thread (2 ^ 32) && xid_eq x (xid_of_branch b)) ≡ true
+    own = let fits = numbers_fit x b valid (sym read) in
+        let same : xid_eq x (xid_of_branch b) ≡ true = ap (xid_eq x) (sym is) ∙ xid_eq-refl x in
+        (λ j. lt-ltb _ _ fits.thread j && same j)
+
 -- whether an entry is of a branch of this manager that isn't past, and that ever was
-abbrev pub is_newer_entry : (rm incarnation : ℕ) → Xid × Held → Bool
+abbrev pub is_newer_entry : (rm incarnation : ℕ) → Xid × TableEntry → Bool
 is_newer_entry r i e = names_newer r i e.0 && was_started e.1.standing
 
-pub newer_held : (table : BTreeMap Xid Held) → tree.IsOrdered xid_cmp table → (r i : ℕ)
+pub newer_held : (table : BTreeMap Xid TableEntry) → tree.IsOrdered xid_cmp table → (r i : ℕ)
     → list_any (is_newer_entry r i) table.entries ≡ true → HoldsNewer (held_at table) r i
 newer_held table ordered r i e =
     let some = Any-from_list_any (is_newer_entry r i) table.entries e in
     let entry = some.1 in
     let found_there =
-    All-contains (λ (p : Xid × Held). tree.get xid_cmp table p.0 ≡ Some p.1) table.entries entry (All-found xid_cmp_total table ordered)
+    All-contains (λ (p : Xid × TableEntry). tree.get xid_cmp table p.0 ≡ Some p.1) table.entries entry (All-found xid_cmp_total table ordered)
     (some.0, some.2, some.3) in
     let both = and_parts (names_newer r i entry.0) (was_started entry.1.standing) some.4 in
     record {
       xid = entry.0;
       newer = both.0;
-      started = subst (λ (o : Option Held). fate_of (branch_or_new o).standing ≢ Fates.Unstarted) (sym found_there) (started_fate entry.1.standing both.1);
+      started = subst (λ (o : Option TableEntry). fate_of (branch_or_new o).standing ≢ Fates.Unstarted) (sym found_there)
+          (started_fate entry.1.standing both.1);
     }
 
-past_at : (x : Xid) (r i : ℕ) → names_newer r i x ≡ true → (es : List (Xid × Held)) → list_any (is_newer_entry r i) es ≡ false
+past_at : (x : Xid) (r i : ℕ) → names_newer r i x ≡ true → (es : List (Xid × TableEntry)) → list_any (is_newer_entry r i) es ≡ false
     → fate_of (branch_or_new (lookup (is_at (xid_cmp x)) es)).standing ≡ Fates.Unstarted
 past_at x r i of [] none = refl
 past_at x r i of (e ∷ es) none =
@@ -221,5 +237,5 @@ past_at x r i of (e ∷ es) none =
       | false ↦ λ at. past_at x r i of es neither.1
     ] refl
 
-pub newer_not_held : (table : BTreeMap Xid Held) (r i : ℕ) → list_any (is_newer_entry r i) table.entries ≡ false → HoldsPast (held_at table) r i
+pub newer_not_held : (table : BTreeMap Xid TableEntry) (r i : ℕ) → list_any (is_newer_entry r i) table.entries ≡ false → HoldsPast (held_at table) r i
 newer_not_held table r i none = record { unstarted = λ x of. past_at x r i of table.entries none }

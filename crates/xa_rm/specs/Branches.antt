@@ -5,18 +5,18 @@ use Rattle.std.specs.BTreeSet.{BTreeSet, contains}
 use Rattle.xa_base.specs.HeldBranch.{HeldBranch, new_branch}
 use Rattle.xa_base.specs.Standing.{is_in_doubt}
 use Rattle.xa_base.specs.Xid.{Xid, xid_cmp}
-use Rattle.xa_rm.specs.Held.{held_branch}
-use Rattle.xa_rm.specs.declared.held.Held.{Held}
+use Rattle.xa_rm.specs.TableEntries.{held_branch}
+use Rattle.xa_rm.specs.declared.table_entry.TableEntry.{TableEntry}
 
 -- the branch of an entry that may be missing
-abbrev pub branch_or_new : Option Held → HeldBranch
+abbrev pub branch_or_new : Option TableEntry → HeldBranch
 branch_or_new None = new_branch
 branch_or_new (Some h) = held_branch h
 
 -- the branch that a table holds of an identifier
-abbrev pub held_at : BTreeMap Xid Held → Xid → HeldBranch
+abbrev pub held_at : BTreeMap Xid TableEntry → Xid → HeldBranch
 held_at table x = branch_or_new (get xid_cmp table x)
 
 -- the index has just the identifiers in doubt
-pub record IsIndex (table : BTreeMap Xid Held) (index : BTreeSet Xid) : Type 0 where
+pub record IsIndex (table : BTreeMap Xid TableEntry) (index : BTreeSet Xid) : Type 0 where
   pub indexed : (x : Xid) → contains xid_cmp index x ≡ is_in_doubt (held_at table x).standing

@@ -1,5 +1,5 @@
 pub mod Branches
-pub mod Held
+pub mod TableEntries
 pub mod Pages
 pub mod ResourceManager
 pub mod Scans

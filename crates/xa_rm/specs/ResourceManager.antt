@@ -1,7 +1,7 @@
 -- What calls, scripts and scans do at a resource manager: to the branch of each identifier, and to the scan of each thread.
 use Rattle.std.specs.Prelude.{◌≡◌, ◌≢◌, ◌==◌, ◌-◌, ◌^◌, ◌&&◌, ℕ, ℤ, Bool, true, false, not, nat_eq, nat_le, nat_lt, if◌then◌else◌, List, Option, Some, None}
 use Rattle.std.specs.Option.{option_map_or}
-use Rattle.xa_base.specs.Branch.{branch_of_xid}
+use Rattle.xa_base.specs.Branch.{branch_of_xid, xid_of_branch}
 use Rattle.xa_base.specs.Call.{call_with}
 use Rattle.xa_base.specs.declared.branch.Branch.{Branch}
 use Rattle.xa_base.specs.HeldBranch.{HeldBranch, code_for}
@@ -86,9 +86,13 @@ pub record HoldsNoFormat (held : Xid → HeldBranch) (z : ℤ) : Type 0 where
 abbrev pub is_past : (rm incarnation : ℕ) → Branch → Bool
 is_past r i b = nat_eq b.rm r && (nat_lt b.gtrid.incarnation i && nat_le b.gtrid.sequence (2 ^ 63 - 1))
 
--- whether an identifier names a branch of this manager that isn't so
+-- the identifier is this branch's, and the branch is so
+abbrev pub is_past_as : (rm incarnation : ℕ) → Xid → Branch → Bool
+is_past_as r i x b = (nat_lt b.thread (2 ^ 32) && xid_eq x (xid_of_branch b)) && is_past r i b
+
+-- whether an identifier has the shape of this manager's, and isn't that of such a branch
 abbrev pub names_newer : (rm incarnation : ℕ) → Xid → Bool
-names_newer r i x = option_map_or (λ b. not (is_past r i b)) (branch_of_xid x) false
+names_newer r i x = option_map_or (λ b. not (is_past_as r i x b)) (branch_of_xid x) false
 
 -- some such branch was ever started
 pub record HoldsNewer (held : Xid → HeldBranch) (r i : ℕ) : Type 0 where

@@ -4,8 +4,8 @@ ghost use Rattle.std.specs.Prelude.{◌≡◌};
 ghost use Rattle.xa_rm.specs.Branches.{IsIndex};
 ghost use Rattle.xa_rm.specs.ResourceManager.{names_newer};
 
-use crate::held::Held;
 use crate::scans::Cursor;
+use crate::table_entry::TableEntry;
 use std::alloc::Global;
 use std::collections::{BTreeMap, BTreeSet};
 use std::ops::Bound;
@@ -15,12 +15,14 @@ use xa_base::{Call, Code, Memory, Xid};
 const LAST_NUMBER: u64 = i64::MAX as u64;
 
 /// Whether an identifier names a branch of this manager that is of another resource manager, or of no earlier
-/// incarnation, or whose numbers no row of a log can hold.
+/// incarnation, or whose numbers no row of a log can hold. It is then the identifier of that branch.
 fn names_newer(xid: &Xid, rm: u32, incarnation: u64) -> bool
     ensures { result ≡ names_newer rm incarnation xid.now }
 {
     match xid.branch() {
         Some(branch) => {
+            // Only for the proof: the bytes of an identifier are bytes.
+            let _ = xid.format();
             !(branch.rm == rm
                 && branch.gtrid.incarnation < incarnation
                 && branch.gtrid.sequence <= LAST_NUMBER)
@@ -32,7 +34,7 @@ fn names_newer(xid: &Xid, rm: u32, incarnation: u64) -> bool
 /// The branches that were ever named, with an index of those in doubt: the prepared and the heuristically completed.
 #[derive(Drop)]
 pub(crate) struct Branches {
-    table: BTreeMap<Xid, Held>,
+    table: BTreeMap<Xid, TableEntry>,
     index: BTreeSet<Xid>,
     ghost indexed: { IsIndex table index },
 }
@@ -47,7 +49,7 @@ impl Branches {
     ghost use Rattle.xa_base.specs.Xid.{Xid, xid_cmp, xid_eq};
     ghost use Rattle.xa_base.specs.declared.code.Code.TheVariants.{NotAnXid};
     ghost use Rattle.xa_rm.specs.Branches.{held_at};
-    ghost use Rattle.xa_rm.specs.Held.{held_branch};
+    ghost use Rattle.xa_rm.specs.TableEntries.{held_branch};
     ghost use Rattle.xa_rm.specs.ResourceManager.{HoldsFormat, HoldsNewer, HoldsNoFormat, HoldsPast, is_of_line};
     ghost use Rattle.xa_rm.specs.Scans.{place_of};
 
@@ -62,19 +64,19 @@ impl Branches {
     }
 
     /// What is held of a branch.
-    pub(crate) fn get(&self, xid: &Xid) -> Held
+    pub(crate) fn get(&self, xid: &Xid) -> TableEntry
         ensures { held_branch result ≡ held_at self.now.table xid.now }
     {
         match self.table.get(xid) {
             Some(held) => *held,
-            None => Held::NEW,
+            None => TableEntry::NEW,
         }
     }
 
     /// Puts this in the place of what is held of a branch.
     ///
     /// A branch that isn't in the table can't go in doubt at once. So at most one of the table and the index grows.
-    pub(crate) fn set(&mut self, xid: &Xid, held: Held) -> Result<(), Memory>
+    pub(crate) fn set(&mut self, xid: &Xid, held: TableEntry) -> Result<(), Memory>
         requires { is_in_doubt held.standing ≡ true → IsSome (get xid_cmp self.old.table xid.now) }
         ensures ok { OnOk result ((x : Xid) → held_at self.new.table x ≡
             (if xid_eq xid.now x then held_branch held else held_at self.old.table x)) }

@@ -6,11 +6,11 @@
 
 mod branches;
 mod fault;
-mod held;
 mod mem_rm;
 mod pages;
 mod resource_manager;
 mod scans;
+mod table_entry;
 
 pub use fault::RmFault;
 pub use mem_rm::MemRm;

@@ -1,8 +1,8 @@
 //! A resource manager in memory.
 
 use crate::branches::Branches;
-use crate::held::Held;
 use crate::scans::Scans;
+use crate::table_entry::TableEntry;
 use crate::{ResourceManager, RmFault};
 use std::alloc::Global;
 use xa_base::{
@@ -115,7 +115,7 @@ impl ResourceManager for MemRm {
         if held.is_in_doubt() {
             return Err(RmFault::Script);
         }
-        self.branches.set(xid, Held { vote, ..held })?;
+        self.branches.set(xid, TableEntry { vote, ..held })?;
         Ok(())
     }
 
@@ -123,7 +123,7 @@ impl ResourceManager for MemRm {
         let held = self.branches.get(xid);
         self.branches.set(
             xid,
-            Held {
+            TableEntry {
                 retries: times,
                 ..held
             },
@@ -138,7 +138,7 @@ impl ResourceManager for MemRm {
         }
         self.branches.set(
             xid,
-            Held {
+            TableEntry {
                 standing: Standing::Completed(how),
                 ..held
             },

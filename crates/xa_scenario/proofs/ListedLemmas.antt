@@ -1,11 +1,11 @@
 -- Reading in turn, seen table by table.
 use Rattle.std.proofs.Common.{◌≡◌, ◌∙◌, ℕ, zero, suc, ◌+◌, List, [], ◌∷◌, ◌++◌, Option, Some, None, refl, sym, ap, append_assoc, append-nil, arith}
 use Rattle.toml.specs.Data.{Data, Items, no_items, item}
-use Rattle.xa_files.proofs.ListedLemmas as listed
-use Rattle.xa_files.proofs.ListedLemmas.{state_before}
-use Rattle.xa_files.specs.Listed.{EachIsRead, FirstIsFaulty}
+use Rattle.xa_files.proofs.TablesInTurnLemmas as listed
+use Rattle.xa_files.proofs.TablesInTurnLemmas.{state_before}
+use Rattle.xa_files.specs.TablesInTurn.{EachIsRead, FirstIsFaulty}
 use Rattle.xa_scenario.specs.Branches.{Names}
-use Rattle.xa_scenario.specs.Listed.{names_before, asked_at}
+use Rattle.xa_scenario.specs.StepTables.{names_before, asked_at}
 use Rattle.xa_scenario.specs.Scenarios.{name_in, names_after, entry_at, entries_from}
 
 by_name : (begun : Names) (name : Option (List ℕ)) (rest : Names)

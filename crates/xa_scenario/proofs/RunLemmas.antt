@@ -1,14 +1,14 @@
 -- Why a run ended.
 use Rattle.std.proofs.Common.{◌≡◌, Bool, List, [], ℕ, Option, Result, Ok, Err, IfOk, IfErr, OnErr, String, Global, string_bytes, ap, sym, subst, ◌∙◌, ◌≢◌, ◌⊎◌, ⊎_elim}
 use Rattle.xa_model.specs.Promises.Headline.{Headline}
-use Rattle.xa_model.specs.Replies.History.{AreDemanded}
+use Rattle.xa_model.specs.Replies.History.{AreAllowed}
 use Rattle.xa_model.specs.Trace.{Origin}
 use Rattle.xa_base.specs.Xid.{Xid}
 use Rattle.xa_log.specs.Contract.{Moment}
 use Rattle.xa_base.specs.declared.reply.Event.{Event}
 use Rattle.xa_base.specs.declared.state.Fate.{Fate}
 use Rattle.xa_files.specs.Outputs.{AppendsBeginning}
-use Rattle.xa_files.proofs.ListedLemmas.{same_err}
+use Rattle.xa_files.proofs.TablesInTurnLemmas.{same_err}
 use Rattle.xa_files.proofs.ReadingLemmas.{explained}
 use Rattle.xa_files.specs.Reading.{Explains, Fails}
 use Rattle.xa_files.specs.declared.fault.RunFault.{RunFault}
@@ -38,7 +38,8 @@ not_of_log fault text fails e = texts.not_of_log text (subst (λ (f : RunFault).
 -- a fault of memory or of the output is none of the log
 pub not_log : (result : Result (Unit {0}) RunFault) (P : Type 0) → IfErr result (λ e. (e ≡ Memory) ⊎ (e ≡ Output)) → result ≡ Err Log → P
 not_log (Ok done) P why is = absurd (cc)
-not_log (Err e) P why is = absurd (⊎_elim (λ (m : e ≡ Memory). let no : Memory ≡ Log = sym m ∙ same_err e Log is in cc) (λ (o : e ≡ Output). let no : Output ≡ Log = sym o ∙ same_err e Log is in cc) why)
+not_log (Err e) P why is = absurd (⊎_elim (λ (m : e ≡ Memory). let no : Memory ≡ Log = sym m
+    ∙ same_err e Log is in cc) (λ (o : e ≡ Output). let no : Output ≡ Log = sym o ∙ same_err e Log is in cc) why)
 
 -- what a fault of the output leaves
 pub on_output : (result : Result (Unit {0}) RunFault) (P Q : Type 0) → (P → Q)
@@ -59,11 +60,11 @@ begins_check text plan old new reads written = record { plan = plan; reads = rea
 
 -- what was played is a run of the scenario
 pub is_run : (plan : Plan) (start end : Origin) (begun events : List Event) → end ≡ start → IsStartOf plan start → begun ≡ []
-    → Performs (IsPlay [] plan.entries) begun events → AreDemanded end events → Headline end events → IsRunOf plan start events
-is_run plan start end begun events same starts none played demanded headline = record {
+    → Performs (IsPlay [] plan.entries) begun events → AreAllowed end events → Headline end events → IsRunOf plan start events
+is_run plan start end begun events same starts none played allowed headline = record {
   start = starts;
   played = subst (λ old. Performs (IsPlay [] plan.entries) old events) none played;
-  demanded = subst (λ o. AreDemanded o events) same demanded;
+  allowed = subst (λ o. AreAllowed o events) same allowed;
   headline = subst (λ o. Headline o events) same headline;
 }
 

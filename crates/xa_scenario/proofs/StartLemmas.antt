@@ -9,9 +9,9 @@ use Rattle.xa_log.specs.Contract.{Moment}
 use Rattle.xa_model.specs.Trace.{Name.Foreign, Origin}
 use Rattle.xa_scenario.specs.Runs.{IsNewRm, StartsOverLog}
 use Rattle.xa_scenario.specs.Scenarios.{IsSize}
-use Rattle.xa_system.specs.Logged.{StartsOver}
-use Rattle.xa_system.specs.Seen.{HasWrongSize}
-use Rattle.xa_system.specs.Sites.{Looks, scan_by}
+use Rattle.xa_system.specs.LogInHistory.{StartsOver}
+use Rattle.xa_system.specs.SystemView.{HasWrongSize}
+use Rattle.xa_system.specs.RmInHistory.{Looks, scan_by}
 use Rattle.xa_tm.specs.Slots.{honest_in, log_held, slot_moment}
 use Rattle.xa_tm.specs.declared.slot.Slot.{Slot}
 

@@ -4,8 +4,8 @@ use Rattle.std.specs.Option.{ok_or}
 use Rattle.std.specs.Prelude.{nat_lt, if◌then◌else◌}
 use Rattle.toml.specs.Data.{Data, Items, Members}
 use Rattle.xa_scenario.specs.Headers.{header_at}
-use Rattle.xa_files.specs.Listed.{IsTextFault, FaultsAreOfTexts}
-use Rattle.xa_scenario.specs.Listed.{names_before}
+use Rattle.xa_files.specs.TablesInTurn.{IsTextFault, FaultsAreOfTexts}
+use Rattle.xa_scenario.specs.StepTables.{names_before}
 use Rattle.xa_scenario.specs.Scenarios.{Plan, entry_at, entries_from, header_of, scenario_of}
 use Rattle.xa_files.specs.Reading.{◌>>=◌}
 use Rattle.xa_files.specs.Documents.{document_of}
@@ -13,7 +13,7 @@ use Rattle.xa_scenario.specs.Branches.{Names}
 use Rattle.xa_scenario.specs.declared.entry.Entry.{Entry}
 use Rattle.xa_files.specs.declared.fault.RunFault.{RunFault}
 use Rattle.xa_files.specs.declared.fault.RunFault.TheVariants.{Header, Step, Log, Work, Output}
-use Rattle.xa_files.proofs.ListedLemmas.{ok_not_err, same_err}
+use Rattle.xa_files.proofs.TablesInTurnLemmas.{ok_not_err, same_err}
 use Rattle.xa_files.proofs.TextFaults.{document_fault, in_turn, missing, no_text_fault}
 use Rattle.xa_scenario.proofs.ListedLemmas.{first_is_faulty}
 

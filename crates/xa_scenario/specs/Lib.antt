@@ -5,7 +5,7 @@ pub mod Crashes
 pub mod Endings
 pub mod Flags
 pub mod Headers
-pub mod Listed
+pub mod StepTables
 pub mod Moves
 pub mod Plays
 pub mod Recoveries

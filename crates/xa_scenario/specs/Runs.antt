@@ -8,7 +8,7 @@ use Rattle.xa_model.specs.Promises.Headline.{Headline}
 use Rattle.xa_base.specs.HeldBranch.{new_branch}
 use Rattle.xa_base.specs.Scan.{Scan.NotOpen}
 use Rattle.xa_log.specs.Contract.{Moment}
-use Rattle.xa_model.specs.Replies.History.{AreDemanded, history}
+use Rattle.xa_model.specs.Replies.History.{AreAllowed, history}
 use Rattle.xa_model.specs.Trace.{Origin}
 use Rattle.xa_base.specs.Xid.{Xid, xid_cmp}
 use Rattle.xa_base.specs.declared.reply.Event.{Event}
@@ -20,9 +20,9 @@ use Rattle.xa_files.specs.declared.fault.RunFault.TheVariants.{Log, Memory}
 use Rattle.xa_scenario.specs.Plays.{IsPlay, Performs}
 use Rattle.xa_scenario.specs.Replies.{trace_lines}
 use Rattle.xa_scenario.specs.Scenarios.{Plan, scenario_of}
-use Rattle.xa_system.specs.Logged.{StartsOver}
+use Rattle.xa_system.specs.LogInHistory.{StartsOver}
 use Rattle.xa_system.specs.Report.{IsReported}
-use Rattle.xa_system.specs.Sites.{Looks}
+use Rattle.xa_system.specs.RmInHistory.{Looks}
 
 -- ** runs
 
@@ -52,7 +52,7 @@ pub record StartsOverLog {L : Type 0} (moment : L → Moment) (log : L) (o : Ori
 pub record IsRunOf (plan : Plan) (o : Origin) (events : List Event) : Type 0 where
   pub start : IsStartOf plan o
   pub played : Performs (IsPlay [] plan.entries) [] events
-  pub demanded : AreDemanded o events
+  pub allowed : AreAllowed o events
   pub headline : Headline o events
 
 -- the branches with an accepted xa_start, each once and in the order of their identifiers, with their fates

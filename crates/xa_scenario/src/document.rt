@@ -7,9 +7,9 @@ ghost use Rattle.xa_files.specs.Documents.{size_at, tables_at};
 ghost use Rattle.xa_scenario.specs.Scenarios.{IsSize, IsSized, plan_of, entry_at, name_in, entries_from, header_of, scenario_of};
 ghost use Rattle.xa_files.specs.Reading.{Gives};
 ghost use Rattle.xa_files.specs.Documents.{document_of};
-ghost use Rattle.xa_files.specs.Listed.{EachIsRead, FirstIsFaulty, FaultsAreOfTexts};
+ghost use Rattle.xa_files.specs.TablesInTurn.{EachIsRead, FirstIsFaulty, FaultsAreOfTexts};
 ghost use Rattle.xa_files.specs.declared.fault.RunFault.TheVariants.{Step};
-ghost use Rattle.xa_scenario.specs.Listed.{asked_at};
+ghost use Rattle.xa_scenario.specs.StepTables.{asked_at};
 
 use crate::begins::name_begun;
 use crate::entry::Entry;

@@ -3,8 +3,8 @@
 ghost use Rattle.std.specs.Prelude.{◌≡◌, ◌||◌, ◌∷◌, [], OnOk};
 ghost use Rattle.std.specs.Option.{option_to_list};
 ghost use Rattle.xa_scenario.specs.Plays.{HaveSteps, IsAnswered, IsDrain, IsPlay, MakesEvents, Performs, events_after, gtrids_of, moves};
-ghost use Rattle.xa_system.specs.Seen.{origin_in};
-ghost use Rattle.xa_system.specs.Sites.{looks};
+ghost use Rattle.xa_system.specs.SystemView.{origin_in};
+ghost use Rattle.xa_system.specs.RmInHistory.{looks};
 
 use crate::entry::Entry;
 use crate::names::{begins, gtrid_in, issue_of, step_of};

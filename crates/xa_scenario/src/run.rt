@@ -6,11 +6,12 @@ ghost use Rattle.std.specs.String.{string_bytes};
 ghost use Rattle.xa_files.specs.Reading.{EndsWith, Explains};
 ghost use Rattle.xa_files.specs.declared.fault.RunFault.{RunFault};
 ghost use Rattle.xa_files.specs.declared.fault.RunFault.TheVariants.{Log, Memory, Output, Work};
+ghost use Rattle.xa_model.specs.Protocol.{RightOrigin};
 ghost use Rattle.xa_scenario.specs.Runs.{Begins, BeginsCheck, BeginsRun, IsNewRm, IsStartFault, IsStartOf, StartsOverLog, IsTextOf, Prints, PrintsCheck, PrintsRun};
 ghost use Rattle.xa_scenario.specs.Scenarios.{IsSized, plan_of, scenario_of};
-ghost use Rattle.xa_system.specs.Seen.{origin_in};
-ghost use Rattle.xa_system.specs.Sites.{looks};
-ghost use Rattle.xa_system.specs.Unmade.{IsToBlame};
+ghost use Rattle.xa_system.specs.SystemView.{origin_in};
+ghost use Rattle.xa_system.specs.RmInHistory.{looks};
+ghost use Rattle.xa_system.specs.StartFaults.{IsToBlame};
 
 use crate::document::{Scenario, read_scenario};
 use crate::play::play;
@@ -51,6 +52,8 @@ fn system_of<R: ResourceManager + Drop, L: DecisionLog + Drop>(
     ensures start { IfOk result (λ system.
         IsStartOf (plan_of scenario.now)
         (origin_in (looks R.held_of R.scan_of R.in_doubt_of) system)) }
+    ensures right { IfOk result (λ system.
+        RightOrigin (origin_in (looks R.held_of R.scan_of R.in_doubt_of) system)) }
     ensures over { IfOk result (λ system. StartsOverLog L.moment log
         (origin_in (looks R.held_of R.scan_of R.in_doubt_of) system)) }
     // Why there is none.
@@ -93,6 +96,7 @@ fn run<R: ResourceManager + Drop, L: DecisionLog + Drop, W: Write>(
     requires empty { system.events ≡ [] }
     requires start { IsStartOf (plan_of scenario.now)
         (origin_in (looks R.held_of R.scan_of R.in_doubt_of) system) }
+    requires right { RightOrigin (origin_in (looks R.held_of R.scan_of R.in_doubt_of) system) }
     ensures prints { OnOk result (PrintsRun (plan_of scenario.now) with_trace
         (origin_in (looks R.held_of R.scan_of R.in_doubt_of) system)
         (W.contents out.old) (W.contents out.new)) }

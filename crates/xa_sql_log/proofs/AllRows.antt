@@ -27,14 +27,16 @@ use Rattle.xa_sql_log.specs.Rows.{IsLog, HasDecision, branch_from, branch_of_row
 use Rattle.xa_sql_log.specs.Sql.{IsOrderly, content_in}
 use Rattle.xa_sql_log.proofs.Texts.{all_decisions, all_decisions_is, all_decisions_plain, all_decisions_unlisted, all_participants, all_participants_is, all_participants_plain, all_participants_unlisted, all_heuristics, all_heuristics_is, all_heuristics_plain, all_heuristics_unlisted}
 use Rattle.xa_sql_log.proofs.Plain.{chosen, shown, plain_rows}
-use Rattle.xa_sql_log.proofs.Contents.{any_mapped, is_itself, permuted_has}
+use Rattle.xa_base.proofs.Lists.{list_any-map}
+use Rattle.xa_sql_log.proofs.Contents.{is_itself, permuted_has}
 use Rattle.xa_sql_log.proofs.Maps.{booked, contains_part, get_booked, is_there, names, some_is}
 use Rattle.xa_sql_log.proofs.DecisionReads.{some_of}
 use Rattle.xa_sql_log.proofs.HeuristicReads.{entries_once, entry_in}
-use Rattle.xa_sql_log.proofs.Keyed.{append_rises, find_has, has_find, items_rise, rising_once, same_entries_in, same_items_in}
+use Rattle.xa_sql_log.proofs.SameEntries.{append_rises, find_has, has_find, items_rise, rising_once, same_entries_in, same_items_in}
 use Rattle.xa_log.proofs.KeySets.{items-from_list}
 use Rattle.xa_sql_log.proofs.States.{answered}
-use Rattle.xa_log.proofs.Rising.{equal_is, risen}
+use Rattle.xa_log.proofs.Rising.{risen}
+use Rattle.xa_base.proofs.Orders.{equal_is}
 
 -- with no WHERE each row passes
 all_pass : (params : Row) (rows : List Row) → chosen [] params rows ≡ rows
@@ -59,7 +61,7 @@ keys_booked : (parts : Gtrid → KeySet branch_cmp) (rows : List Row) → items 
 keys_booked parts rows =
     let m = booked parts rows in
     ap items (same_set gtrids_total exact_gtrids (from_list (map gtrid_of_row rows)) (from_list (keys m)) (λ q.
-    contains-from_list gtrids_total (map gtrid_of_row rows) q ∙ any_mapped (eq_by_cmp gtrid_cmp q) gtrid_of_row rows
+    contains-from_list gtrids_total (map gtrid_of_row rows) q ∙ list_any-map (eq_by_cmp gtrid_cmp q) gtrid_of_row rows
     ∙ sym (some_of (is_there rows q) (parts q)) ∙ ap is_some (sym (get_booked parts rows q))
     ∙ contains_key-keys m q ∙ sym (contains-from_list gtrids_total (keys m) q)))
     ∙ items-from_list gtrids_total (keys m) (risen gtrid_cmp (entries m) (entries_sorted m))

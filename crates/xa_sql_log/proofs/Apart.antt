@@ -32,7 +32,7 @@ use Rattle.xa_sql_log.proofs.Texts.{insert_decision, insert_decision_is, insert_
 use Rattle.xa_sql_log.proofs.Maps.{get_booked, is_there}
 use Rattle.xa_sql_log.proofs.Parents.{agree_is, decision_carries, key_places, plain_order}
 use Rattle.xa_sql_log.proofs.Values.{same_id}
-use Rattle.xa_log.proofs.Rising.{equal_is}
+use Rattle.xa_base.proofs.Orders.{equal_is}
 
 known : (b : Bool) → is_true (from_truth (Some b)) ≡ b
 known true = refl

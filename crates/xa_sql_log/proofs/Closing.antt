@@ -9,8 +9,8 @@ use Rattle.sqlite.specs.State.{State, IsLive, Opens}
 use Rattle.sqlite_trees.specs.Props.{Trees-set}
 use Rattle.xa_log.specs.Content.{Content}
 use Rattle.xa_sql_log.proofs.Lasting.{as_log}
-use Rattle.xa_sql_log.specs.Closed.{HoldsWhole}
-use Rattle.xa_sql_log.specs.Opened.{IsTaken, HoldsLog}
+use Rattle.xa_sql_log.specs.ClosedFiles.{HoldsWhole}
+use Rattle.xa_sql_log.specs.OpenedDatabase.{IsTaken, HoldsLog}
 use Rattle.xa_sql_log.specs.Rows.{content_of}
 use Rattle.xa_sql_log.specs.Sql.{AreLogTrees, IsLasting, IsReadyWith, content_in}
 

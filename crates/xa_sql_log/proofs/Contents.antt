@@ -27,7 +27,7 @@ use Rattle.std.proofs.lemmas.Int.{to_z_pos}
 use Rattle.xa_log.specs.Contract.{FitsRow}
 use Rattle.xa_sql_log.specs.Rows.{decision_row, IsDecisionRow, gtrid_of_row}
 use Rattle.xa_sql_log.proofs.Texts.{is}
-use Rattle.xa_log.proofs.Rising.{equal_is}
+use Rattle.xa_base.proofs.Orders.{equal_is}
 use Rattle.xa_sql_log.proofs.Plain.{chosen, shown}
 use Rattle.xa_sql_log.proofs.Values.{equal_to, equal_numbers, same_id}
 
@@ -67,10 +67,6 @@ put_keeps new (r ∷ rows) x free h =
     go Less apart (inr there) later = inr (later there)
     go Equal apart here later = absurd (true≢false apart)
     go Greater apart here later = inr here
-
-pub any_mapped : {X Y : Type 0} (p : Y → Bool) (f : X → Y) (xs : List X) → list_any p (map f xs) ≡ list_any (λ x. p (f x)) xs
-any_mapped p f [] = refl
-any_mapped p f (x ∷ xs) = ap (λ b. p (f x) || b) (any_mapped p f xs)
 
 -- ---- the rows of a gtrid
 

@@ -50,7 +50,7 @@ use Rattle.xa_sql_log.proofs.Deletes.{Takes, takes_decision}
 use Rattle.xa_sql_log.proofs.Inserts.{Puts, puts_decision}
 use Rattle.xa_sql_log.proofs.Contents.{bound_number, gtrid_params, gtrid_tests, all_left, table_left, any_gone, has_gone, has_own}
 use Rattle.xa_sql_log.proofs.States.{Did, wrote, commits_as}
-use Rattle.xa_log.proofs.Rising.{equal_is}
+use Rattle.xa_base.proofs.Orders.{equal_is}
 use Rattle.xa_log.proofs.Alike.{same_content}
 
 -- ---- one more

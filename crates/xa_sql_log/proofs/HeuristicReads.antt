@@ -29,9 +29,9 @@ use Rattle.xa_sql_log.proofs.Texts.{is, find_heuristic, find_heuristic_is, find_
 use Rattle.xa_sql_log.proofs.Plain.{chosen, shown, plain_rows}
 use Rattle.xa_sql_log.proofs.Contents.{same_number, both_parts, permuted_has}
 use Rattle.xa_sql_log.proofs.DecisionRows.{branch_params}
-use Rattle.xa_sql_log.proofs.Keyed.{IsOnce, find_has, has_find}
+use Rattle.xa_sql_log.proofs.SameEntries.{IsOnce, find_has, has_find}
 use Rattle.xa_sql_log.proofs.States.{answered}
-use Rattle.xa_log.proofs.Rising.{equal_is}
+use Rattle.xa_base.proofs.Orders.{equal_is}
 
 -- ---- the map that the rows stand for
 

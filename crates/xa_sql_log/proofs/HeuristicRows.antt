@@ -40,10 +40,10 @@ use Rattle.xa_sql_log.proofs.Texts.{is, insert_heuristic, insert_heuristic_is, i
 use Rattle.xa_sql_log.proofs.Contents.{bound_number, put_keeps}
 use Rattle.xa_sql_log.proofs.Inserts.{Puts, at_once, puts_heuristic}
 use Rattle.xa_sql_log.proofs.DecisionRows.{booked_as, meta_stays}
-use Rattle.xa_sql_log.proofs.Keyed.{has_find, same_entries_in}
+use Rattle.xa_sql_log.proofs.SameEntries.{has_find, same_entries_in}
 use Rattle.xa_sql_log.proofs.States.{Did, wrote, commits_as}
 use Rattle.xa_sql_log.proofs.HeuristicReads.{entry_in, how_read, differ, entries_once}
-use Rattle.xa_log.proofs.Rising.{equal_is}
+use Rattle.xa_base.proofs.Orders.{equal_is}
 use Rattle.xa_log.proofs.Alike.{same_content}
 
 -- ---- the write

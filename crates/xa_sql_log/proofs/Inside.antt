@@ -24,7 +24,7 @@ use Rattle.xa_sql_log.specs.Sql.{AreLogTrees, HasLogTables, IsOrderly, content_i
 use Rattle.xa_sql_log.proofs.States.{Did, did_makes, changes_then}
 use Rattle.xa_sql_log.proofs.Lasting.{as_log}
 use Rattle.xa_log.proofs.Alike.{same_content}
-use Rattle.xa_log.proofs.Rising.{equal_is}
+use Rattle.xa_base.proofs.Orders.{equal_is}
 use Rattle.xa_log.proofs.Parts.{no_some}
 
 -- ---- the loop

@@ -9,7 +9,7 @@ use Rattle.sqlite_trees.specs.Objects.{catalog_tree}
 use Rattle.xa_log.specs.Content.{Content, unchanged}
 use Rattle.xa_log.specs.Contract.{Changes, Makes, Reads, faults_after}
 use Rattle.xa_log.specs.declared.log_fault.LogFault.{LogFault}
-use Rattle.xa_sql_log.specs.Opened.{IsFoundLog}
+use Rattle.xa_sql_log.specs.OpenedDatabase.{IsFoundLog}
 use Rattle.xa_sql_log.specs.Rows.{IsLog}
 use Rattle.xa_sql_log.specs.Sql.{AreLogTrees, IsLasting, IsOrderly, IsReadyWith, HasLogTables, MayChange, OnlyReads, content_in, sql_moment}
 use Rattle.xa_sql_log.specs.Tables.{log_schema}

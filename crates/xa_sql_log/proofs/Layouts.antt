@@ -5,7 +5,7 @@ use Rattle.sqlite_tied.specs.Compute.{everything}
 use Rattle.sqlite.specs.State.{State, IsUnchanged}
 use Rattle.xa_sql_log.specs.Tables.{old_schema, log_schema}
 use Rattle.xa_sql_log.specs.Rows.{IsOldLog, content_of, old_content_of}
-use Rattle.xa_sql_log.specs.Opened.{HasRow}
+use Rattle.xa_sql_log.specs.OpenedDatabase.{HasRow}
 use Rattle.xa_sql_log.specs.Sql.{IsOldReady, HasLogTables, IsShutOrAsBefore, Rests}
 
 pub meta_in_old : is_some (table_named old_schema (codes "tm_meta")) ≡ true

@@ -19,8 +19,9 @@ use Rattle.xa_base.specs.declared.branch.Branch.{Branch}
 use Rattle.xa_base.specs.Branch.{gtrid_cmp, branch_cmp, gtrid_eq}
 use Rattle.xa_base.proofs.BranchOrder.{gtrids_total, exact_gtrids, branches_total, exact_branches}
 use Rattle.xa_sql_log.specs.Rows.{gtrid_of_row, branch_of_row, participants_of_rows, HasDecision}
-use Rattle.xa_sql_log.proofs.Contents.{any_put, any_mapped, has_left, left_has, is_itself}
-use Rattle.xa_log.proofs.Rising.{equal_is}
+use Rattle.xa_base.proofs.Lists.{list_any-map}
+use Rattle.xa_sql_log.proofs.Contents.{any_put, has_left, left_has, is_itself}
+use Rattle.xa_base.proofs.Orders.{equal_is}
 
 -- ---- the map, as lookups
 
@@ -56,7 +57,7 @@ names q x r = gtrid_eq q (gtrid_of_row r) && eq_by_cmp branch_cmp x (branch_of_r
 pub contains_part : (rows : List Row) (q : Gtrid) (x : Branch) → contains (participants_of_rows rows q) x ≡ list_any (names q x) rows
 contains_part rows q x =
     contains-from_list branches_total _ x ∙ any_filtered (eq_by_cmp branch_cmp x) (λ b. gtrid_eq q b.gtrid) (map branch_of_row rows)
-    ∙ any_mapped (λ b. gtrid_eq q b.gtrid && eq_by_cmp branch_cmp x b) branch_of_row rows
+    ∙ list_any-map (λ b. gtrid_eq q b.gtrid && eq_by_cmp branch_cmp x b) branch_of_row rows
 
 pub parts_put : (new : Row) (rows : List Row) → is_taken rows new ≡ false → (q : Gtrid)
     → participants_of_rows (put_row new rows) q

@@ -22,7 +22,7 @@ use Rattle.xa_sql_log.specs.Tables.{log_schema}
 use Rattle.xa_sql_log.specs.Rows.{gtrid_of_row, IsDecisionRow, IsParticipantRow, HasDecision}
 use Rattle.xa_sql_log.proofs.Contents.{both_parts, is_itself}
 use Rattle.xa_sql_log.proofs.Values.{alike_numbers}
-use Rattle.xa_log.proofs.Rising.{equal_is}
+use Rattle.xa_base.proofs.Orders.{equal_is}
 
 abbrev pub plain_order : Order
 plain_order = record { digits = 0 }

@@ -16,7 +16,7 @@ use Rattle.sqlite.specs.State.{State, IsUnchanged, Survives, CommitsShowing, Sho
 use Rattle.sqlite.proofs.Callers.{IsPlain, command_of, never_commits, reads_as, one_permutation}
 use Rattle.sqlite_tied.specs.Compute.{everything}
 use Rattle.xa_sql_log.specs.Tables.{old_schema, log_schema}
-use Rattle.xa_sql_log.specs.Opened.{HasTables, HasRow, IsNatural, NamesVersion}
+use Rattle.xa_sql_log.specs.OpenedDatabase.{HasTables, HasRow, IsNatural, NamesVersion}
 use Rattle.xa_sql_log.proofs.Texts.{over}
 use Rattle.xa_sql_log.proofs.Plain.{chosen, shown, plain_rows}
 

@@ -1,6 +1,6 @@
-pub mod Closed
+pub mod ClosedFiles
 pub mod Faults
-pub mod Opened
+pub mod OpenedDatabase
 pub mod Rows
 pub mod Sql
 pub mod SqlLaws

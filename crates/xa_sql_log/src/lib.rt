@@ -4,14 +4,14 @@
 
 mod decisions;
 mod fields;
-mod grouped;
+mod groups;
 mod heuristics;
-mod incarnation;
+mod meta;
+mod participants;
 mod rows;
 mod sql_log;
 mod statements;
 mod tables;
 mod version;
-mod waiting;
 
 pub use sql_log::{SqlLog, memory_is_honest};

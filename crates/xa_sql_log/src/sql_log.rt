@@ -7,13 +7,13 @@ ghost use Rattle.xa_log.specs.Contract.{IsStoreFault};
 ghost use Rattle.xa_sql_log.specs.Rows.{content_of, old_content_of};
 ghost use Rattle.xa_sql_log.specs.Tables.{log_schema};
 ghost use Rattle.xa_sql_log.specs.Sql.{IsOrderly, IsReadyWith, IsShutOrAsBefore, IsOldReady};
-ghost use Rattle.xa_sql_log.specs.Opened.{IsBlank, IsFoundLog, IsTakeable, IsKnownDatabase, HasTables, NamesKnown, LeavesTables, LeavesSame, IsUntouched};
+ghost use Rattle.xa_sql_log.specs.OpenedDatabase.{IsBlank, IsFoundLog, IsTakeable, IsKnownDatabase, HasTables, NamesKnown, LeavesTables, LeavesSame, IsUntouched};
 
 mod closing;
 mod looking;
 mod opening;
 
-use crate::{decisions, grouped, heuristics, incarnation, rows, tables, waiting};
+use crate::{decisions, groups, heuristics, meta, participants, rows, tables};
 pub use opening::memory_is_honest;
 use sqlite::{Alter, Connection};
 use std::alloc::Global;
@@ -157,7 +157,7 @@ impl<S: Alter> DecisionLog for SqlLog<S> {
         alloc: Global,
         decisions: &[Decision],
     ) -> Result<Vec<Logged>, LogFault> {
-        let answers = grouped::commit_all(&mut self.conn, alloc, decisions);
+        let answers = groups::commit_all(&mut self.conn, alloc, decisions);
         counted(&mut self.faults, answers)
     }
 
@@ -167,7 +167,7 @@ impl<S: Alter> DecisionLog for SqlLog<S> {
     }
 
     fn participants(&mut self, g: Gtrid) -> Result<Vec<Branch>, LogFault> {
-        let list = waiting::participants(&mut self.conn, g);
+        let list = participants::participants(&mut self.conn, g);
         counted(&mut self.faults, list)
     }
 
@@ -187,7 +187,7 @@ impl<S: Alter> DecisionLog for SqlLog<S> {
     }
 
     fn bump(&mut self) -> Result<u64, LogFault> {
-        let bumped = incarnation::bump(&mut self.conn);
+        let bumped = meta::bump(&mut self.conn);
         counted(&mut self.faults, bumped)
     }
 

@@ -7,7 +7,7 @@ ghost use Rattle.xa_log.specs.Contract.{IsStoreFault};
 ghost use Rattle.xa_sql_log.specs.Rows.{content_of, old_content_of, IsOldLog};
 ghost use Rattle.xa_sql_log.specs.Tables.{old_schema, log_schema};
 ghost use Rattle.xa_sql_log.specs.Sql.{IsOrderly, IsReadyWith, IsShutOrAsBefore, IsNewLog, AreNewTrees, IsOldReady, Rests};
-ghost use Rattle.xa_sql_log.specs.Opened.{IsBlank, HasTables, IsTakeable, IsKnownDatabase, NamesVersion, NamesKnown, RunsInside, LeavesOr, LeavesTables, LeavesSame, IsUntouched};
+ghost use Rattle.xa_sql_log.specs.OpenedDatabase.{IsBlank, HasTables, IsTakeable, IsKnownDatabase, NamesVersion, NamesKnown, RunsInside, LeavesOr, LeavesTables, LeavesSame, IsUntouched};
 
 use crate::statements::of_store;
 use crate::version::check_version;

@@ -8,7 +8,7 @@ ghost use Rattle.sqlite.specs.State.{HasCleanDisk, IsUnchanged, Survives};
 ghost use Rattle.sqlite.specs.Held.{state};
 ghost use Rattle.xa_log.specs.Contract.{IsStoreFault};
 ghost use Rattle.xa_sql_log.specs.Sql.{Rests};
-ghost use Rattle.xa_sql_log.specs.Opened.{HasTables, HasRow, IsNatural, NamesVersion};
+ghost use Rattle.xa_sql_log.specs.OpenedDatabase.{HasTables, HasRow, IsNatural, NamesVersion};
 
 use crate::fields::number;
 use crate::statements::of_store;

@@ -2,7 +2,7 @@
 use Rattle.xa_base.specs.declared.limits.TheConstants.{LINE_LIMIT}
 use Rattle.std.specs.Prelude.{◌≡◌, ◌≢◌, ◌<◌, ◌≤◌, ◌+◌, ℕ, Bool, not, nat_lt, if◌then◌else◌, List, [], length, Option, Some, None, slice_get, vec_len, Result, Ok, Err}
 use Rattle.std.specs.Option.{option_map_or}
-use Rattle.xa_model.specs.Replies.Demanded.{Demanded}
+use Rattle.xa_model.specs.Replies.Allowed.{Allowed}
 use Rattle.xa_model.specs.Facts.Distinct.{ApartRows}
 use Rattle.xa_model.specs.Facts as facts
 use Rattle.xa_base.specs.HeldBranch.{HeldBranch, new_branch}
@@ -22,8 +22,8 @@ use Rattle.xa_line.specs.Grid.{HasLine, IsWhole, line_at}
 use Rattle.xa_log.specs.Content.{last_number}
 use Rattle.xa_line.specs.Histories.{LineStands}
 use Rattle.xa_log.specs.Contract.{Moment}
-use Rattle.xa_system.specs.Logged.{LogFollows}
-use Rattle.xa_system.specs.Sites.{BeginsClear, Looks, RmStands, looks, scan_by}
+use Rattle.xa_system.specs.LogInHistory.{LogFollows}
+use Rattle.xa_system.specs.RmInHistory.{BeginsOver, Looks, RmStands, looks, scan_by}
 use Rattle.xa_system.specs.Steps.{IsSame}
 use Rattle.xa_system.specs.Trace.{IsKept}
 use Rattle.xa_rm.specs.declared.fault.RmFault.{RmFault}
@@ -33,8 +33,8 @@ use Rattle.xa_system.specs.declared.system.TheConstants.{EVENT_LIMIT}
 use Rattle.xa_system.specs.declared.site.Site.{Site}
 use Rattle.xa_tm.specs.Begins.{records_begun, rows_begun}
 use Rattle.xa_tm.specs.Book.{book_of}
-use Rattle.xa_tm.specs.Held.{IsSound}
-use Rattle.xa_tm.specs.Kept.{book_in, log_in}
+use Rattle.xa_tm.specs.LedgerBook.{IsSound}
+use Rattle.xa_tm.specs.Calls.{book_in, log_in}
 use Rattle.xa_tm.specs.Limits.{HasRoomForRun, happenings}
 use Rattle.xa_tm.specs.declared.manager.Manager.{Manager}
 
@@ -115,7 +115,7 @@ module _ {R L : Type 0} (see : Sees R L) where
     pub origin : facts.origin tr ≡ origin_of see parts.lines.threads parts.start.value.items parts.began.value
     pub some_thread : 0 < (facts.origin tr).threads
     pub kept : IsKept tr
-    pub clear : BeginsClear (facts.origin tr)
+    pub over : BeginsOver (facts.origin tr)
     pub apart : ApartRows (facts.origin tr).rows
     pub began : IsSound (book_of (From (facts.origin tr)))
     pub room : HasRoomForRun (book_of (From (facts.origin tr)))
@@ -140,7 +140,7 @@ module _ {R L : Type 0} (see : Sees R L) where
 
   -- the step was answered as the history demands, and the parts then stand where one happening more leaves them
   pub record OneMore (step : Step Xid) (reply : Reply Xid) (tr : Trace) (old new : Parts R L) : Type 0 where
-    pub demanded : Demanded tr (step_of step) (reply_of reply)
+    pub allowed : Allowed tr (step_of step) (reply_of reply)
     pub stands : Stands (Then tr (happened (step_of step) (reply_of reply))) new
     pub began : new.began ≡ old.began
     pub log : LogFollows see.moment tr (happened (step_of step) (reply_of reply)) old.manager new.manager

@@ -14,7 +14,7 @@ use Rattle.xa_base.specs.declared.reply.Reply.{Reply}
 use Rattle.xa_base.specs.declared.reply.Reply.TheVariants as Replies
 use Rattle.xa_line.specs.Traffic.{PassesOn, Traffic, with_one_more}
 use Rattle.xa_rm.specs.ResourceManager.{answer_to, scan_after_call}
-use Rattle.xa_system.specs.Sites.{Looks}
+use Rattle.xa_system.specs.RmInHistory.{Looks}
 
 -- how many identifiers an answer lists
 abbrev pub page_len : Answer Xid → ℕ
@@ -64,6 +64,11 @@ module _ {R : Type 0} (look : Looks R) where
     pub count : length new ≡ length old
     pub each : (r : ℕ) (before : Site R) → slice_get old r ≡ Some before
         → (after : Site R) × (slice_get new r ≡ Some after) × (after.is_up ≡ before.is_up) × Crashes before.rm after.rm
+
+  -- each resource manager of a list crashed
+  pub record AreCrashed (old new : List R) : Type 0 where
+    pub count : length new ≡ length old
+    pub each : (r : ℕ) (before : R) → slice_get old r ≡ Some before → (after : R) × (slice_get new r ≡ Some after) × Crashes before after
 
 -- an answer was heard
 pub record HearsOne (pair : Call Xid × Answer Xid) (before after : Traffic) (reply : Reply Xid) : Type 0 where

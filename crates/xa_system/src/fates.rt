@@ -3,7 +3,7 @@ ghost use Rattle.std.specs.Prelude.{◌≡◌, ◌↔◌, Contains, IfOk};
 ghost use Rattle.std.specs.List.Sorted.{IsStrictlySortedBy};
 ghost use Rattle.std.specs.Map.{keys_of};
 ghost use Rattle.xa_base.specs.Xid.{xid_cmp};
-ghost use Rattle.xa_system.specs.Sites.{looks};
+ghost use Rattle.xa_system.specs.RmInHistory.{looks};
 
 use crate::system::System;
 use std::alloc::Global;
@@ -17,7 +17,7 @@ impl<R: ResourceManager + Drop, L: DecisionLog + Drop> System<R, L> {
     ghost use Rattle.xa_base.specs.declared.state.Fate.TheVariants as Fates;
     ghost use Rattle.xa_model.specs.Facts.{fate};
     ghost use Rattle.xa_system.specs.Report.{IsReported};
-    ghost use Rattle.xa_system.specs.Seen.{IsOwnIn, trace_in};
+    ghost use Rattle.xa_system.specs.SystemView.{IsOwnIn, trace_in};
 
     /// What became of a branch; `Unstarted` where the identifier names no branch of this system.
     pub fn fate(&self, xid: &Xid) -> Fate

@@ -3,8 +3,8 @@ ghost use Rattle.std.specs.Prelude.{◌≡◌, ℕ, ◌&&◌, nat_lt};
 ghost use Rattle.xa_base.specs.declared.reply.Reply.TheVariants as Replies;
 ghost use Rattle.xa_base.specs.declared.step.Side.TheVariants as Sides;
 ghost use Rattle.xa_base.specs.declared.step.Step.TheVariants as Steps;
-ghost use Rattle.xa_tm.specs.Kept.{log_in};
-ghost use Rattle.xa_tm.specs.Tied.{IsReadFrom};
+ghost use Rattle.xa_tm.specs.Calls.{log_in};
+ghost use Rattle.xa_tm.specs.BookAndLog.{IsReadFrom};
 ghost use Rattle.xa_model.specs.Replies.ReadBack.{StepHasXids};
 ghost use Rattle.xa_system.specs.Parts.{GoesOn, StandsSomewhere, sees};
 

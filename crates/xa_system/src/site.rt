@@ -9,8 +9,8 @@ ghost use Rattle.xa_base.specs.declared.refusal.Refusal.TheVariants as Refusals;
 ghost use Rattle.xa_line.specs.Grid.{new_grid};
 ghost use Rattle.xa_line.specs.Traffic.{barred, issued, places};
 ghost use Rattle.xa_system.specs.Lines.{with_more};
-ghost use Rattle.xa_system.specs.Sites.{looks};
-ghost use Rattle.xa_system.specs.Steps.{AllCrash, Applies, HearsOne, IsSame, Takes};
+ghost use Rattle.xa_system.specs.RmInHistory.{looks};
+ghost use Rattle.xa_system.specs.Steps.{AllCrash, Applies, AreCrashed, HearsOne, IsSame, Takes};
 
 use crate::spare::Spare;
 use crate::twin::Twin;
@@ -90,6 +90,15 @@ pub(crate) fn crash_all<R: ResourceManager + Drop>(sites: &mut Vec<Site<R>>)
 {
     for rm in 0..sites.len() {
         sites[rm].rm.crash();
+    }
+}
+
+/// All lines of resource managers that aren't part of a system yet break.
+pub(crate) fn crash_rms<R: ResourceManager>(rms: &mut Vec<R>)
+    ensures { AreCrashed (looks R.held_of R.scan_of R.in_doubt_of) rms.old.items rms.new.items }
+{
+    for rm in 0..rms.len() {
+        rms[rm].crash();
     }
 }
 

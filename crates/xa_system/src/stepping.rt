@@ -7,16 +7,18 @@ ghost use Rattle.xa_base.specs.declared.step.Side.TheVariants as Sides;
 ghost use Rattle.xa_base.specs.declared.step.Step.TheVariants as Steps;
 ghost use Rattle.xa_log.specs.Content.{Content};
 ghost use Rattle.xa_model.specs.Facts.{up};
-ghost use Rattle.xa_model.specs.Promises.Headline.{Headline};
-ghost use Rattle.xa_model.specs.Replies.Demanded.{Demanded};
+ghost use Rattle.xa_model.specs.Promises.Headline.{Headline, HeadlineSince};
+ghost use Rattle.xa_model.specs.Promises.Processes.{Resumes, resumed};
+ghost use Rattle.xa_model.specs.Protocol.{AllRight, RightOrigin};
+ghost use Rattle.xa_model.specs.Replies.Allowed.{Allowed};
 ghost use Rattle.xa_model.specs.Replies.History.{reply_of, step_of};
 ghost use Rattle.xa_model.specs.Replies.ReadBack.{StepHasXids};
 ghost use Rattle.xa_model.specs.Replies.Steps.{happened, log_failed};
-ghost use Rattle.xa_model.specs.Trace.{Happening.Nothing};
-ghost use Rattle.xa_system.specs.Logged.{IsBeforeNext, MayHaveFailed};
-ghost use Rattle.xa_system.specs.Seen.{AddsSteps, FaultsHaveCauses, HoldsItsTrace, IsAsBefore, IsFailed, MayRestart};
-ghost use Rattle.xa_system.specs.Seen.{MayRestartAfterCrash, OtherFaultsHaveCauses, observes, origin_in, trace_in};
-ghost use Rattle.xa_system.specs.Sites.{looks};
+ghost use Rattle.xa_model.specs.Trace.{Happening.Nothing, Trace};
+ghost use Rattle.xa_system.specs.LogInHistory.{IsBeforeNext, MayHaveFailed};
+ghost use Rattle.xa_system.specs.SystemView.{AddsSteps, FaultsHaveCauses, HoldsItsTrace, IsAsBefore, IsFailed, MayRestart};
+ghost use Rattle.xa_system.specs.SystemView.{MayRestartAfterCrash, OtherFaultsHaveCauses, observes, origin_in, trace_in};
+ghost use Rattle.xa_system.specs.RmInHistory.{looks};
 ghost use Rattle.xa_tm.specs.Slots.{log_held, slot_moment};
 
 use crate::system::{EVENT_LIMIT, System};
@@ -55,12 +57,17 @@ impl<R: ResourceManager + Drop, L: DecisionLog + Drop> System<R, L> {
             (result ≡ Replies.Refused Refusals.Limit) × (self.new ≡ self.old) }
         ensures adds { length self.old.events < EVENT_LIMIT →
             self.new.events ≡ self.old.events ++ record { step = step; reply = result } ∷ [] }
-        ensures demanded { length self.old.events < EVENT_LIMIT →
-            Demanded (trace_in (looks R.held_of R.scan_of R.in_doubt_of) self.old)
+        ensures allowed { length self.old.events < EVENT_LIMIT →
+            Allowed (trace_in (looks R.held_of R.scan_of R.in_doubt_of) self.old)
             (step_of step) (reply_of result) }
         // What all events then say, and where the parts are.
-        ensures headline { Headline
+        ensures headline { RightOrigin
+            (origin_in (looks R.held_of R.scan_of R.in_doubt_of) self.new) → Headline
             (origin_in (looks R.held_of R.scan_of R.in_doubt_of) self.new) self.new.events }
+        ensures resumed { (past : Trace) → AllRight past →
+            Resumes past (origin_in (looks R.held_of R.scan_of R.in_doubt_of) self.new) →
+            HeadlineSince (resumed past
+            (origin_in (looks R.held_of R.scan_of R.in_doubt_of) self.new)) self.new.events }
         ensures parts { HoldsItsTrace
             (observes R.held_of R.scan_of R.in_doubt_of L.moment) self.new }
         ensures start { origin_in (looks R.held_of R.scan_of R.in_doubt_of) self.new
@@ -133,8 +140,13 @@ impl<R: ResourceManager + Drop, L: DecisionLog + Drop> System<R, L> {
         ensures err { OnErr result (self.new ≡ self.old) }
         ensures adds { OnOk result (AddsSteps steps.now self.old.events self.new.events) }
         // What they then say, and where the parts are.
-        ensures headline { Headline
+        ensures headline { RightOrigin
+            (origin_in (looks R.held_of R.scan_of R.in_doubt_of) self.new) → Headline
             (origin_in (looks R.held_of R.scan_of R.in_doubt_of) self.new) self.new.events }
+        ensures resumed { (past : Trace) → AllRight past →
+            Resumes past (origin_in (looks R.held_of R.scan_of R.in_doubt_of) self.new) →
+            HeadlineSince (resumed past
+            (origin_in (looks R.held_of R.scan_of R.in_doubt_of) self.new)) self.new.events }
         ensures parts { HoldsItsTrace
             (observes R.held_of R.scan_of R.in_doubt_of L.moment) self.new }
         ensures start { origin_in (looks R.held_of R.scan_of R.in_doubt_of) self.new

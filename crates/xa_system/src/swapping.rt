@@ -4,10 +4,13 @@ ghost use Rattle.xa_log.specs.Content.{Content};
 ghost use Rattle.xa_log.specs.Contract.{one_more_fault};
 ghost use Rattle.xa_log.specs.declared.log_fault.LogFault.{LogFault};
 ghost use Rattle.xa_model.specs.Facts.{up};
-ghost use Rattle.xa_model.specs.Promises.Headline.{Headline};
-ghost use Rattle.xa_system.specs.Logged.{MayHoldRows};
-ghost use Rattle.xa_system.specs.Seen.{HoldsItsTrace, observes, origin_in, trace_in};
-ghost use Rattle.xa_system.specs.Sites.{looks};
+ghost use Rattle.xa_model.specs.Promises.Headline.{Headline, HeadlineSince};
+ghost use Rattle.xa_model.specs.Promises.Processes.{Resumes, resumed};
+ghost use Rattle.xa_model.specs.Protocol.{AllRight, RightOrigin};
+ghost use Rattle.xa_model.specs.Trace.{Trace};
+ghost use Rattle.xa_system.specs.LogInHistory.{MayHoldRows};
+ghost use Rattle.xa_system.specs.SystemView.{HoldsItsTrace, observes, origin_in, trace_in};
+ghost use Rattle.xa_system.specs.RmInHistory.{looks};
 ghost use Rattle.xa_tm.specs.Slots.{FailsToRead, LooksAt, ReadsRows, TakesIn, last_out, log_held};
 ghost use Rattle.xa_tm.specs.declared.swap_fault.SwapFault.TheVariants as SwapFault;
 
@@ -36,8 +39,13 @@ impl<R: ResourceManager + Drop, L: DecisionLog + Drop> System<R, L> {
         ensures others { self.new ≡ record self.old { log = self.new.log } }
         ensures parts { HoldsItsTrace
             (observes R.held_of R.scan_of R.in_doubt_of L.moment) self.new }
-        ensures headline { Headline
+        ensures headline { RightOrigin
+            (origin_in (looks R.held_of R.scan_of R.in_doubt_of) self.new) → Headline
             (origin_in (looks R.held_of R.scan_of R.in_doubt_of) self.new) self.new.events }
+        ensures resumed { (past : Trace) → AllRight past →
+            Resumes past (origin_in (looks R.held_of R.scan_of R.in_doubt_of) self.new) →
+            HeadlineSince (resumed past
+            (origin_in (looks R.held_of R.scan_of R.in_doubt_of) self.new)) self.new.events }
     {
         let log = self.parts.manager.take_log();
         self.agree();
@@ -87,8 +95,13 @@ impl<R: ResourceManager + Drop, L: DecisionLog + Drop> System<R, L> {
             (self.new ≡ record self.old { handed = log; log = self.new.log }) }
         ensures parts { HoldsItsTrace
             (observes R.held_of R.scan_of R.in_doubt_of L.moment) self.new }
-        ensures headline { Headline
+        ensures headline { RightOrigin
+            (origin_in (looks R.held_of R.scan_of R.in_doubt_of) self.new) → Headline
             (origin_in (looks R.held_of R.scan_of R.in_doubt_of) self.new) self.new.events }
+        ensures resumed { (past : Trace) → AllRight past →
+            Resumes past (origin_in (looks R.held_of R.scan_of R.in_doubt_of) self.new) →
+            HeadlineSince (resumed past
+            (origin_in (looks R.held_of R.scan_of R.in_doubt_of) self.new)) self.new.events }
     {
         let handed = Snapshot::of(&log);
         let given = self.parts.manager.give_log(log);

@@ -1,25 +1,21 @@
 //! The system: its parts, with the events that left them where they stand.
-ghost use Rattle.std.specs.Prelude.{◌≡◌, ◌+◌, true, false, [], ◌⊎◌, length, map, Err, IfErr, IfOk, IsSome, IsSomeAnd, vec_len};
-ghost use Rattle.xa_system.specs.Parts.{sees};
-ghost use Rattle.xa_system.specs.Logged.{IsStartedOver};
-ghost use Rattle.xa_system.specs.Sites.{looks};
-ghost use Rattle.xa_system.specs.Seen.{AreClear, IsStarted, IsUnclear, new_site};
-ghost use Rattle.xa_system.specs.Unmade.{IsToBlame};
+ghost use Rattle.std.specs.Prelude.{◌≡◌, ◌+◌, true, false, [], length, Err, IfOk, IsSome, IsSomeAnd, vec_len};
+ghost use Rattle.xa_system.specs.RmInHistory.{looks};
+ghost use Rattle.xa_system.specs.SystemView.{AreClear, IsUnclear};
+ghost use Rattle.xa_system.specs.StartFaults.{IsToBlame};
 ghost use Rattle.xa_system.specs.declared.system.NewFault.{NewFault};
-ghost use Rattle.xa_tm.specs.Kept.{log_in};
 ghost use Rattle.xa_tm.specs.Starting.{IsPast};
 
 use crate::parts::Parts;
-use crate::site::Site;
-use std::alloc::{AllocFailed, Global};
+use crate::start::start_parts;
+use std::alloc::Global;
 use std::marker::Model;
 use std::snapshot::Snapshot;
 use thiserror::Error;
 use xa_base::Event;
-use xa_line::Lines;
 use xa_log::DecisionLog;
 use xa_rm::ResourceManager;
-use xa_tm::{Manager, Slot, StartFault};
+use xa_tm::{Slot, StartFault};
 
 /// The most events of a run.
 pub const EVENT_LIMIT: usize = 10_000;
@@ -28,7 +24,7 @@ pub const EVENT_LIMIT: usize = 10_000;
 #[derive(Drop)]
 pub struct System<R: ResourceManager + Drop, L: DecisionLog + Drop> {
     /// The log as it was handed in at the start, without a byte.
-    first: Snapshot<L>,
+    pub(crate) first: Snapshot<L>,
     /// The log as it was handed in last.
     pub(crate) handed: Snapshot<L>,
     pub(crate) parts: Parts<R, Slot<L>>,
@@ -37,12 +33,12 @@ pub struct System<R: ResourceManager + Drop, L: DecisionLog + Drop> {
 
 impl<R: ResourceManager + Drop, L: DecisionLog + Drop> Model for System<R, L> {
     ghost use Rattle.xa_system.specs.Parts.{sees};
-    ghost use Rattle.xa_system.specs.Seen.{Seen, seen, IsSound};
+    ghost use Rattle.xa_system.specs.SystemView.{SystemView, view_of, IsSound};
     ghost use Rattle.xa_tm.specs.Slots.{slot_moment};
 
-    ghost Value = { Seen R L };
+    ghost Value = { SystemView R L };
 
-    ghost view = { seen };
+    ghost view = { view_of };
 
     ghost invariant = { IsSound
         (sees R.held_of R.scan_of R.in_doubt_of (slot_moment L.moment)) L.moment };
@@ -83,46 +79,13 @@ fn are_clear<R: ResourceManager>(rms: &[R]) -> bool
     true
 }
 
-/// The resource managers, each up.
-fn sites_of<R: ResourceManager + Drop>(
-    alloc: Global,
-    rms: Vec<R>,
-) -> Result<Vec<Site<R>>, AllocFailed<Site<R>>>
-    ensures { IfOk result (λ sites. sites.items ≡ map new_site rms.items) }
-{
-    let mut sites = Vec::new(alloc);
-    for rm in rms {
-        sites.push(Site { rm, is_up: true })?;
-    }
-    Ok(sites)
-}
-
-/// A manager that starts over a log.
-fn start_manager<L: DecisionLog + Drop>(
-    alloc: Global,
-    threads: u32,
-    rms: u32,
-    log: L,
-) -> Result<Manager<L>, NewFault>
-    ensures manager { IfOk result (IsStarted threads rms) }
-    ensures log { IfOk result (IsStartedOver L.moment threads rms log) }
-    ensures past { (L.moment log).is_in_order →
-        IfOk result (λ manager. (L.moment (log_in manager)).is_honest →
-        IsSomeAnd (L.moment log).content IsPast) }
-    ensures log_fault { result ≡ Err NewFault.Log → IsToBlame L.DecisionLog log }
-    ensures fault { IfErr result (λ e. (e ≡ NewFault.Log) ⊎ (e ≡ NewFault.Memory)) }
-{
-    match Manager::new(alloc, threads, rms, log) {
-        Ok(manager) => Ok(manager),
-        Err(StartFault::Log) => Err(NewFault::Log),
-        Err(StartFault::Memory) => Err(NewFault::Memory),
-    }
-}
-
 impl<R: ResourceManager + Drop, L: DecisionLog + Drop> System<R, L> {
-    ghost use Rattle.xa_model.specs.Promises.Headline.{Headline};
-    ghost use Rattle.xa_system.specs.Seen.{HasWrongSize, HoldsItsTrace, MayRestart, MayRestartAfterCrash};
-    ghost use Rattle.xa_system.specs.Seen.{observes, origin_in};
+    ghost use Rattle.xa_model.specs.Promises.Headline.{Headline, HeadlineSince};
+    ghost use Rattle.xa_model.specs.Promises.Processes.{Resumes, resumed};
+    ghost use Rattle.xa_model.specs.Protocol.{AllRight, RightOrigin};
+    ghost use Rattle.xa_model.specs.Trace.{Trace};
+    ghost use Rattle.xa_system.specs.SystemView.{HasWrongSize, HoldsItsTrace, MayRestart, MayRestartAfterCrash};
+    ghost use Rattle.xa_system.specs.SystemView.{observes, origin_in};
     ghost use Rattle.xa_system.specs.declared.system.TheConstants.{EVENT_LIMIT};
     ghost use Rattle.xa_tm.specs.Slots.{log_held, slot_moment};
 
@@ -148,6 +111,8 @@ impl<R: ResourceManager + Drop, L: DecisionLog + Drop> System<R, L> {
             (λ system. (system.events ≡ []) × (system.start ≡ rms.items) × (system.rms ≡ rms.items)
             × (system.lines.threads ≡ threads) × HoldsItsTrace
             (observes R.held_of R.scan_of R.in_doubt_of L.moment) system) }
+        ensures right { IfOk result (λ system.
+            RightOrigin (origin_in (looks R.held_of R.scan_of R.in_doubt_of) system)) }
         // Its log.
         ensures handed { IfOk result (λ system. (system.handed ≡ log) × (system.first ≡ log)) }
         ensures held { IfOk result
@@ -175,32 +140,18 @@ impl<R: ResourceManager + Drop, L: DecisionLog + Drop> System<R, L> {
         let Ok(events) = Vec::with_capacity(alloc, EVENT_LIMIT) else {
             return Err(NewFault::Memory);
         };
-        let Ok(lines) = Lines::new(alloc, threads, rms.len() as u32) else {
-            return Err(NewFault::Memory);
-        };
-        let start = Snapshot::of(&rms);
-        let Ok(sites) = sites_of(alloc, rms) else {
-            return Err(NewFault::Memory);
-        };
         let first = Snapshot::of(&log);
         let handed = Snapshot::of(&log);
-        let manager = start_manager(alloc, threads, lines.rms(), log)?;
-        let manager = manager.into_slot();
-        let began = Snapshot::of(&manager);
-        let parts = Parts {
-            alloc,
-            start,
-            began,
-            sites,
-            lines,
-            manager,
-        };
-        Ok(System {
-            first,
-            handed,
-            parts,
-            events,
-        })
+        match start_parts(alloc, threads, rms, log) {
+            Ok(parts) => Ok(System {
+                first,
+                handed,
+                parts,
+                events,
+            }),
+            Err(StartFault::Log) => Err(NewFault::Log),
+            Err(StartFault::Memory) => Err(NewFault::Memory),
+        }
     }
 
     /// The events so far, oldest first.
@@ -221,10 +172,16 @@ impl<R: ResourceManager + Drop, L: DecisionLog + Drop> System<R, L> {
     pub fn agree(&self)
         ensures parts { HoldsItsTrace
             (observes R.held_of R.scan_of R.in_doubt_of L.moment) self.now }
-        ensures headline { Headline
+        ensures headline { RightOrigin
+            (origin_in (looks R.held_of R.scan_of R.in_doubt_of) self.now) → Headline
             (origin_in (looks R.held_of R.scan_of R.in_doubt_of) self.now) self.now.events }
+        ensures resumed { (past : Trace) → AllRight past →
+            Resumes past (origin_in (looks R.held_of R.scan_of R.in_doubt_of) self.now) →
+            HeadlineSince (resumed past
+            (origin_in (looks R.held_of R.scan_of R.in_doubt_of) self.now)) self.now.events }
     {
         let _ = &self.events;
         xa_model::headline_holds();
+        xa_model::across_processes();
     }
 }

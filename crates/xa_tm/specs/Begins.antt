@@ -4,7 +4,7 @@ use Rattle.xa_model.specs.Trace.{Origin, Recorded, Row}
 use Rattle.xa_base.specs.declared.branch.Branch.{Branch}
 use Rattle.xa_base.specs.declared.branch.Gtrid.{Gtrid}
 use Rattle.xa_base.specs.declared.code.How.{How}
-use Rattle.xa_tm.specs.Kept.{book_in}
+use Rattle.xa_tm.specs.Calls.{book_in}
 use Rattle.xa_tm.specs.Starting.{run_of}
 use Rattle.xa_tm.specs.declared.manager.Manager.{Manager}
 

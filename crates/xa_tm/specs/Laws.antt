@@ -7,14 +7,14 @@ use Rattle.xa_base.specs.declared.branch.Gtrid.{Gtrid}
 use Rattle.xa_base.specs.declared.step.Outcome.TheVariants as Outcome
 use Rattle.xa_base.specs.declared.step.Part.TheVariants as Part
 use Rattle.xa_base.specs.declared.step.Side.TheVariants as Side
-use Rattle.xa_model.specs.Facts.{Change.DropRow, begun, branches, decided_so, doubt, has_row, heuristic_rows, log, next_answer, origin, page, record_of, resolving_calls, settled, without, has_voted}
+use Rattle.xa_model.specs.Facts.{Change.DropRow, begun, branches, decided_so, doubt, has_row, heuristic_rows, log, next_answer, origin, page, record_of, resolving_calls, is_settled, without, has_voted}
 use Rattle.xa_base.specs.Opening.{has_closed}
 use Rattle.xa_model.specs.Protocol.{IsRun, Right}
 use Rattle.xa_model.specs.Replies.Rules.{must_refuse}
 use Rattle.xa_model.specs.Replies.Steps.{Step}
 use Rattle.xa_model.specs.Trace.{Answer, Call, Fault.InDecide, Fault.InDone, Fault.InHear, Happening, Happening.Done, Happening.Failed, Happening.ResolvedOpen, Happening.Restarted, Line, Trace, Trace.Then}
 use Rattle.xa_log.specs.Content.{Content}
-use Rattle.xa_tm.specs.Book.{Book, Doubt.Adds, Doubt.Drops, asked_in, book_after, book_of, doubt_of, voted_yes}
+use Rattle.xa_tm.specs.Book.{Book, Doubt.Adds, Doubt.Drops, doubt_of_happening, book_after, book_of, doubt_of, voted_yes}
 use Rattle.xa_tm.specs.Refusing.{managers_refusal, refusal_in, resolved_in, resolved_open_in}
 use Rattle.xa_tm.specs.Starting.{rows_from}
 
@@ -28,7 +28,7 @@ CountsRows tr _ = Unit
 -- the book of a history with one happening more is what the happening makes of the book
 abbrev pub BooksFollowHistories : Type 0
 BooksFollowHistories = (tr : Trace) (e : Happening) → CountsRows tr e
-    → book_of (Then tr e) ≡ book_after (book_of tr) (asked_in tr e) e
+    → book_of (Then tr e) ≡ book_after (book_of tr) (doubt_of_happening tr e) e
 
 -- of a right history over a start whose rows are of different transactions nothing more is asked: the row that a Done
 -- takes away is one, and the numbers that a restart tells are those of the rows
@@ -37,7 +37,7 @@ RowsAreCounted = (tr : Trace) (e : Happening) → IsRun tr → Right tr e → Ap
 
 abbrev pub RightBooksFollow : Type 0
 RightBooksFollow = (tr : Trace) (e : Happening) → IsRun tr → Right tr e → ApartRows (origin tr).rows
-    → book_of (Then tr e) ≡ book_after (book_of tr) (asked_in tr e) e
+    → book_of (Then tr e) ≡ book_after (book_of tr) (doubt_of_happening tr e) e
 
 -- the rows of a log are, so that a start with them has such rows
 abbrev pub StartRowsAreApart : Type 0
@@ -56,15 +56,15 @@ DropsAreOne = (tr : Trace) (g : Gtrid) → IsRun tr → ApartRows (origin tr).ro
 -- for commit and, while it is begun, of those that are not settled
 abbrev pub BranchesAreCounted : Type 0
 BranchesAreCounted = (tr : Trace) (g : Gtrid)
-    → ((book_of tr).deal g).branches ≡ length (filter (λ b. gtrid_eq b.gtrid g) (branches tr))
+    → ((book_of tr).transaction g).branches ≡ length (filter (λ b. gtrid_eq b.gtrid g) (branches tr))
 
 abbrev pub VotesAreCounted : Type 0
 VotesAreCounted = (tr : Trace) (g : Gtrid) → IsRun tr
-    → ((book_of tr).deal g).unvoted ≡ length (filter (λ b. gtrid_eq b.gtrid g && not (has_voted tr b)) (branches tr))
+    → ((book_of tr).transaction g).unvoted ≡ length (filter (λ b. gtrid_eq b.gtrid g && not (has_voted tr b)) (branches tr))
 
 abbrev pub SettlementsAreCounted : Type 0
 SettlementsAreCounted = (tr : Trace) (g : Gtrid) → IsRun tr → begun tr g ≡ true
-    → ((book_of tr).deal g).unsettled ≡ length (filter (λ b. gtrid_eq b.gtrid g && not (settled tr b)) (branches tr))
+    → ((book_of tr).transaction g).unsettled ≡ length (filter (λ b. gtrid_eq b.gtrid g && not (is_settled tr b)) (branches tr))
 
 -- the step names no thread and no resource manager that only others look at
 abbrev pub IsLookedAt : Step → Type 0
@@ -106,16 +106,16 @@ OpenHasNoRow = (tr : Trace) (g : Gtrid) → IsRun tr → begun tr g ≡ true
 
 -- where a decision to commit fails, the row that the book says is in doubt is the row that the history says
 abbrev pub DecisionsAskTheRow : Type 0
-DecisionsAskTheRow = (tr : Trace) (g : Gtrid) → Adds g (voted_yes (book_of tr) g) ≡ asked_in tr (Failed (InDecide g))
+DecisionsAskTheRow = (tr : Trace) (g : Gtrid) → Adds g (voted_yes (book_of tr) g) ≡ doubt_of_happening tr (Failed (InDecide g))
 
 -- where a Done fails, its row
 abbrev pub DonesAskTheRow : Type 0
-DonesAskTheRow = (tr : Trace) (g : Gtrid) → Drops g ≡ asked_in tr (Failed (InDone g))
+DonesAskTheRow = (tr : Trace) (g : Gtrid) → Drops g ≡ doubt_of_happening tr (Failed (InDone g))
 
 -- where the answer that waits first isn't heard, the record that it makes
 abbrev pub AnswersAskTheRecord : Type 0
 AnswersAskTheRecord = (tr : Trace) (l : Line) (c : Call) (a : Answer) → next_answer tr l ≡ Some (c, a)
-    → doubt_of (record_of c a) ≡ asked_in tr (Failed (InHear l))
+    → doubt_of (record_of c a) ≡ doubt_of_happening tr (Failed (InHear l))
 
 -- ** recoveries
 

@@ -2,7 +2,7 @@
 use Rattle.xa_log.specs.Content.{Content}
 use Rattle.std.specs.Prelude.{Bool}
 use Rattle.xa_tm.specs.Book.{Book}
-use Rattle.xa_tm.specs.Tied.{IsTiedDown}
+use Rattle.xa_tm.specs.BookAndLog.{IsTiedDown}
 
 -- each content that a crash may leave has what the book says, with or without the change in doubt
 abbrev pub IsLeft : (near : Bool) → Book → (Content → Type 0) → Type 0

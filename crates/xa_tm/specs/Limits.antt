@@ -1,7 +1,7 @@
 -- What bounds the numbers of a book: how much has happened, and what the start had.
 use Rattle.std.specs.Prelude.{ℕ, ◌+◌, ◌<◌, ◌≡◌, ◌≤◌, ◌⊎◌, List, length, Contains, Some, None}
 use Rattle.xa_base.specs.Branch.{branch_of_xid}
-use Rattle.xa_model.specs.Replies.Demanded.{Restarts}
+use Rattle.xa_model.specs.Replies.Allowed.{Restarts}
 use Rattle.xa_model.specs.Facts.Distinct.{ApartRows}
 use Rattle.xa_model.specs.Facts.{held_of, heuristic_rows, incarnation, log, next_answer, origin}
 use Rattle.xa_model.specs.Replies.History.{history}
@@ -14,12 +14,12 @@ use Rattle.xa_base.specs.declared.reply.Event.{Event}
 use Rattle.xa_base.specs.declared.reply.Reply.TheVariants as Replies
 use Rattle.xa_base.specs.declared.state.Standing.TheVariants.{Unstarted}
 use Rattle.xa_log.specs.Content.{last_number}
-use Rattle.xa_tm.specs.Asked.{FitsRecord, IsAnswerTo}
+use Rattle.xa_tm.specs.Answering.{FitsRecord, IsAnswerTo}
 use Rattle.xa_tm.specs.Book.{Book, book_of}
-use Rattle.xa_tm.specs.Held.{IsSound}
+use Rattle.xa_tm.specs.LedgerBook.{IsSound}
 use Rattle.xa_tm.specs.News.{Asked}
 use Rattle.xa_tm.specs.Starting.{IsOld}
-use Rattle.xa_tm.specs.Tied.{IsFound}
+use Rattle.xa_tm.specs.BookAndLog.{IsFound}
 
 -- how many things happened
 abbrev pub happenings : Trace → ℕ
@@ -84,6 +84,6 @@ FoundIsThere = (tr : Trace) (i d h : ℕ) → IsRun tr → ApartRows (origin tr)
     → (d ≡ length (log (Then tr (Restarted i d h)))) × (h ≡ length (heuristic_rows (Then tr (Restarted i d h))))
 
 -- so that the history demands the reply that says it
-abbrev pub FoundIsDemanded : Type 0
-FoundIsDemanded = (tr : Trace) (i d h : ℕ) → IsRun tr → ApartRows (origin tr).rows → IsFound (book_of tr) i d h
+abbrev pub FoundIsAllowed : Type 0
+FoundIsAllowed = (tr : Trace) (i d h : ℕ) → IsRun tr → ApartRows (origin tr).rows → IsFound (book_of tr) i d h
     → Restarts tr (Replies.Restarted i d h)

@@ -35,7 +35,7 @@ call_for k x = call_by k x (branch_of_xid x)
 
 -- the same, with what is open and listed decided before: only what is claimed stays live
 abbrev pub open_call_by : Book → Xid → Option Branch → Option (RustCall.Call Xid)
-open_call_by k x (Some b) = if live_in k b.gtrid && (k.deal b.gtrid).claimed then None else Some (ending_call k x b)
+open_call_by k x (Some b) = if live_in k b.gtrid && (k.transaction b.gtrid).claimed then None else Some (ending_call k x b)
 open_call_by k x None = None
 
 abbrev pub open_call_for : Book → Xid → Option (RustCall.Call Xid)
@@ -45,7 +45,7 @@ open_call_for k x = open_call_by k x (branch_of_xid x)
 
 -- it is begun and neither claimed, committed nor handed over
 abbrev pub open_in : Book → Gtrid → Bool
-open_in k g = (k.deal g).begun && not ((k.deal g).claimed || ((k.deal g).committed || (k.deal g).handed_over))
+open_in k g = (k.transaction g).begun && not ((k.transaction g).claimed || ((k.transaction g).committed || (k.transaction g).handed_over))
 
 abbrev pub open_gtrid_by : Book → Option Branch → Option Gtrid
 open_gtrid_by k (Some b) = if open_in k b.gtrid then Some b.gtrid else None

@@ -9,7 +9,7 @@ use Rattle.xa_base.specs.declared.branch.Gtrid.{Gtrid}
 use Rattle.xa_base.specs.declared.code.How.{How}
 use Rattle.xa_base.specs.declared.code.How.TheVariants.{Haz, Com, Rb, Mix}
 use Rattle.xa_log.specs.declared.log_rows.LogRows.{LogRows}
-use Rattle.xa_tm.specs.Held.{notes_at, held}
+use Rattle.xa_tm.specs.LedgerBook.{notes_at, as_book}
 use Rattle.xa_tm.specs.Starting.{ended_among, loaded, start_book}
 use Rattle.xa_tm.specs.declared.change.Change.{Change}
 use Rattle.xa_tm.specs.declared.change.Change.TheVariants.{AddRow, DropRow, AddRecord, Nothing}
@@ -129,6 +129,6 @@ agrees is_made k n =
 -- whether the rows that were read are those of the book, with its change in doubt or without it
 pub record ReadsOf (k : Ledger) (rows : LogRows) (may : Bool) : Type 0 where
   pub read : Ledger
-  pub book : held read ≡ start_book k.threads k.rms 0 (loaded rows.decisions.items rows.participants.items)
+  pub book : as_book read ≡ start_book k.threads k.rms 0 (loaded rows.decisions.items rows.participants.items)
       (length rows.decisions.items) (ended_among rows.heuristics.items) (length rows.heuristics.items)
   pub agree : may ≡ (agrees false k read || agrees true k read)

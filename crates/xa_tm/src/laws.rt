@@ -5,17 +5,17 @@ ghost use Rattle.xa_model.specs.Trace.{Fault, Fault.InRestart, Happening.Crashed
 ghost use Rattle.xa_base.specs.declared.step.Part.{Part as Crashing};
 ghost use Rattle.xa_log.specs.Content.{with_bump};
 ghost use Rattle.xa_log.specs.Contract.{LeavesAlso};
-ghost use Rattle.xa_tm.specs.Book.{Book, Doubt, Doubt.Settled, after, book_after, failed_restarts_after};
+ghost use Rattle.xa_tm.specs.Book.{Book, Doubt, Doubt.NoDoubt, after, book_after, failed_restarts_after};
 ghost use Rattle.xa_tm.specs.Leaving.{IsLeft};
-ghost use Rattle.xa_tm.specs.Tied.{IsTied, made};
+ghost use Rattle.xa_tm.specs.BookAndLog.{IsTied, changed_by};
 ghost use Rattle.xa_tm.specs.Laws.{AnswersAskTheRecord, BooksFollowHistories, BranchesAreCounted};
 ghost use Rattle.xa_tm.specs.Laws.{DecisionsAskTheRow, DonesAskTheRow, DropsAreOne, DroppedRowsAreThere};
 ghost use Rattle.xa_tm.specs.Laws.{ManagersRefusalsAreAll, OpenHasNoRow, OpenResolvesAreRead};
 ghost use Rattle.xa_tm.specs.Laws.{RecoveriesCloseNone, RefusalsAreRead, ResolvesAreRead, RightBooksFollow};
 ghost use Rattle.xa_tm.specs.Laws.{RowsAreCounted, SettlementsAreCounted, StartRowsAreApart, VotesAreCounted};
-ghost use Rattle.xa_tm.specs.Limits.{AnswersAreCodes, BooksAreSound, EventsAreHappenings, FoundIsDemanded};
+ghost use Rattle.xa_tm.specs.Limits.{AnswersAreCodes, BooksAreSound, EventsAreHappenings, FoundIsAllowed};
 ghost use Rattle.xa_tm.specs.Limits.{FoundIsThere, LimitsAreKept, OldStartsAreRight, RecordsFit};
-ghost use Rattle.xa_tm.specs.Merged.{RefusalsAreMerged};
+ghost use Rattle.xa_tm.specs.RefusalOrder.{RefusalsAreMerged};
 ghost use Rattle.xa_tm.specs.Starting.{StartsAreHistories, StartsHaveContent};
 
 use xa_log::DecisionLog;
@@ -91,10 +91,10 @@ pub fn recoveries_are_read()
 {}
 
 /// What a restart of the manager finds, where its book allows it (`IsFound`): the numbers of rows that the history says
-/// are then there (`there`), and so a reply that the history demands (`demanded`).
+/// are then there (`there`), and so a reply that the history demands (`allowed`).
 pub fn restarts_find_what_is_there()
     ensures there { FoundIsThere }
-    ensures demanded { FoundIsDemanded }
+    ensures allowed { FoundIsAllowed }
 {}
 
 /// The refusals that are read off the book are those that the history forces.
@@ -132,7 +132,7 @@ pub fn crashes_leave_the_book<L: DecisionLog>()
         k.up ≡ true →
         failed_restarts_after (Failed f) k.failed_restarts ≡ k.failed_restarts →
         (L.moment old).is_in_order → IsTied near k (L.moment old).content →
-        LeavesAlso (made asked) (L.moment old).content (L.moment old).may_leave
+        LeavesAlso (changed_by asked) (L.moment old).content (L.moment old).may_leave
         (L.moment new).may_leave →
         IsLeft near (book_after k asked (Failed f)) (L.moment new).may_leave }
     ensures restart { (near : Bool) (k : Book) (old new : L) → k.up ≡ false →
@@ -140,7 +140,7 @@ pub fn crashes_leave_the_book<L: DecisionLog>()
         IsLeft near k (L.moment old).may_leave →
         LeavesAlso with_bump (L.moment old).content (L.moment old).may_leave
         (L.moment new).may_leave →
-        IsLeft near (book_after k Settled (Failed InRestart)) (L.moment new).may_leave }
+        IsLeft near (book_after k NoDoubt (Failed InRestart)) (L.moment new).may_leave }
     ensures crash { (near : Bool) (k : Book) (part : Crashing) (log : L) →
         IsLeft near k (L.moment log).may_leave →
         IsLeft near (after k (Crashed part)) (L.moment log).may_leave }

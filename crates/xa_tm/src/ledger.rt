@@ -3,12 +3,26 @@
 ghost use Rattle.std.specs.Prelude.{true, false, ◌≡◌, ◌<◌, ◌-◌, ◌^◌, ◌+◌, Bool, ◌&&◌, Option, IfOk, OnOk, OnErr};
 ghost use Rattle.xa_base.specs.declared.call.Call.TheVariants as Calls;
 ghost use Rattle.xa_model.specs.Trace.{Happening.Begun, Happening.Claimed, Happening.Issued, Line};
-ghost use Rattle.xa_tm.specs.Book.{after, settled_in};
-ghost use Rattle.xa_tm.specs.Held.{HasBranch, HasTransaction, begun_by, notes_at, held, known_in, transaction_at};
+ghost use Rattle.xa_tm.specs.Book.{after, is_settled_in};
+ghost use Rattle.xa_tm.specs.LedgerBook.{HasBranch, HasTransaction, begun_by, notes_at, as_book, known_in, transaction_at};
+
+mod compare;
+mod crash;
+mod decide;
+mod hear;
+mod issue;
+pub(crate) mod load;
+pub(crate) mod order;
+mod resolve;
+mod resolve_open;
+mod restart;
+pub(crate) mod room;
+mod rules;
+mod started_branches;
 
 use crate::change::Change;
+use crate::ledger::room::{reserve_branch, reserve_transaction, set_branch, set_transaction};
 use crate::notes::{BranchNotes, Transaction};
-use crate::room::{reserve_branch, reserve_transaction, set_branch, set_transaction};
 use std::alloc::{AllocError, Global};
 use std::collections::BTreeMap;
 use xa_base::{Branch, Gtrid, Page};
@@ -75,8 +89,8 @@ impl Ledger {
         requires begins { self.old.begins < 2 ^ 64 - 1 }
         ensures value { IfOk result (λ g. g ≡
             record { incarnation = self.old.incarnation; sequence = self.old.sequence + 1 }) }
-        ensures ok { IfOk result (λ g. held self.new ≡ after (held self.old) (Begun g)) }
-        ensures err { OnErr result (held self.new ≡ held self.old) }
+        ensures ok { IfOk result (λ g. as_book self.new ≡ after (as_book self.old) (Begun g)) }
+        ensures err { OnErr result (as_book self.new ≡ as_book self.old) }
     {
         let g = Gtrid {
             incarnation: self.incarnation,
@@ -101,8 +115,8 @@ impl Ledger {
     /// Notes a claim.
     pub(crate) fn claim(&mut self, g: Gtrid) -> Result<(), AllocError>
         requires { begun_by self.old.is_up self.old.incarnation self.old.sequence g ≡ Bool.true }
-        ensures ok { OnOk result (held self.new ≡ after (held self.old) (Claimed g)) }
-        ensures err { OnErr result (held self.new ≡ held self.old) }
+        ensures ok { OnOk result (as_book self.new ≡ after (as_book self.old) (Claimed g)) }
+        ensures err { OnErr result (as_book self.new ≡ as_book self.old) }
     {
         reserve_transaction(&mut self.transactions, g)?;
         let transaction = self.transaction(g);
@@ -120,8 +134,8 @@ impl Ledger {
     /// Notes that a transaction is its resource manager's to end.
     pub(crate) fn hand_over(&mut self, g: Gtrid) -> Result<(), AllocError>
         ensures ok { OnOk result ((l : Line) (b : _) → b.gtrid ≡ g →
-            held self.new ≡ after (held self.old) (Issued l (Calls.Commit b true))) }
-        ensures err { OnErr result (held self.new ≡ held self.old) }
+            as_book self.new ≡ after (as_book self.old) (Issued l (Calls.Commit b true))) }
+        ensures err { OnErr result (as_book self.new ≡ as_book self.old) }
     {
         reserve_transaction(&mut self.transactions, g)?;
         let transaction = self.transaction(g);
@@ -138,7 +152,7 @@ impl Ledger {
 
     /// Whether a branch is settled: recorded, or by an answer of its own.
     pub(crate) fn is_settled(&self, b: Branch) -> bool
-        ensures { result ≡ settled_in (held self.now) b }
+        ensures { result ≡ is_settled_in (as_book self.now) b }
     {
         self.branch(b).is_settled()
     }
@@ -155,7 +169,7 @@ impl Ledger {
 
     /// Makes room for a branch and its transaction.
     pub(crate) fn reserve(&mut self, b: Branch) -> Result<(), AllocError>
-        ensures book { held self.new ≡ held self.old }
+        ensures book { as_book self.new ≡ as_book self.old }
         ensures others { self.new ≡
             record self.old { transactions = self.new.transactions; branches = self.new.branches } }
         ensures transactions { (q : _) →
@@ -174,10 +188,10 @@ impl Ledger {
         requires unvoted { (transaction_at self.old.transactions b.gtrid).unvoted < 2 ^ 64 - 1 }
         requires unsettled { (transaction_at self.old.transactions b.gtrid).unsettled < 2 ^ 64 - 1 }
         ensures start { OnOk result ((l : Line) →
-            held self.new ≡ after (held self.old) (Issued l (Calls.Start b false))) }
+            as_book self.new ≡ after (as_book self.old) (Issued l (Calls.Start b false))) }
         ensures join { OnOk result ((l : Line) →
-            held self.new ≡ after (held self.old) (Issued l (Calls.Start b true))) }
-        ensures err { OnErr result (held self.new ≡ held self.old) }
+            as_book self.new ≡ after (as_book self.old) (Issued l (Calls.Start b true))) }
+        ensures err { OnErr result (as_book self.new ≡ as_book self.old) }
     {
         let notes = self.branch(b);
         let transaction = self.transaction(b.gtrid);

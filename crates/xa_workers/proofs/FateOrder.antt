@@ -9,6 +9,7 @@ use Rattle.std.specs.Ordering.{nat_cmp}
 use Rattle.std.specs.declared.cmp.Ordering.TheVariants.{Less, Equal}
 use Rattle.std.proofs.Math.Nat.{mod-lt}
 use Rattle.xa_base.proofs.BytesOrder.{branch_order}
+use Rattle.xa_base.proofs.Lists.{all_append, all_map}
 use Rattle.xa_base.specs.Branch.{IsBranch, xid_of_branch}
 use Rattle.xa_base.specs.Xid.{Xid, xid_cmp}
 use Rattle.xa_base.specs.declared.state.Fate.{Fate}
@@ -22,14 +23,6 @@ use Rattle.xa_workers.specs.declared.limits.TheConstants.{JOB_LIMIT}
 
 abbrev Listed : Type 0
 Listed = Xid × Fate
-
-all_of : {X : Type 0} (P Q : X → Type 0) → ((x : X) → P x → Q x) → (xs : List X) → AllByRecursion P xs → AllByRecursion Q xs
-all_of P Q step [] all = tt
-all_of P Q step (x ∷ xs) all = (step x all.0, all_of P Q step xs all.1)
-
-pub all_append : {X : Type 0} (P : X → Type 0) (xs ys : List X) → AllByRecursion P xs → AllByRecursion P ys → AllByRecursion P (xs ++ ys)
-all_append P [] ys all more = more
-all_append P (x ∷ xs) ys all more = (all.0, all_append P xs ys all.1 more)
 
 abbrev Below : Listed → Listed → Type 0
 Below f g = xid_cmp f.0 g.0 ≡ Less
@@ -102,11 +95,11 @@ module _ (jobs : Jobs) (n : ℕ) (ends : List Outcome) (few : vec_len jobs.votes
 
   one_more : (i r : ℕ) (o : Option Listed) (fs : List Listed) → i < JOB_LIMIT → r < 8 → IfSome o (λ f. f.0 ≡ xid_at i r)
       → AllByRecursion (IsOf i (r + 1)) fs × Ascends fs → AllByRecursion (IsOf i r) (cons_option o fs) × Ascends (cons_option o fs)
-  one_more i r None fs job rm is all = (all_of (IsOf i (r + 1)) (IsOf i r) (earlier i r) fs all.0, all.1)
+  one_more i r None fs job rm is all = (all_map (IsOf i (r + 1)) (IsOf i r) (earlier i r) fs all.0, all.1)
   one_more i r (Some f) fs job rm is all =
       let here : IsOf i r f = record { place = r; behind = omega arith; within = rm; is = is } in (
-        (here, all_of (IsOf i (r + 1)) (IsOf i r) (earlier i r) fs all.0),
-        (all_of (IsOf i (r + 1)) (Below f) (λ g h. below_later i r f g job is h) fs all.0, all.1),
+        (here, all_map (IsOf i (r + 1)) (IsOf i r) (earlier i r) fs all.0),
+        (all_map (IsOf i (r + 1)) (Below f) (λ g h. below_later i r f g job is h) fs all.0, all.1),
       )
 
   at_rms : (i r count : ℕ) → i < JOB_LIMIT → r + count ≤ 8
@@ -143,11 +136,11 @@ module _ (jobs : Jobs) (n : ℕ) (ends : List Outcome) (few : vec_len jobs.votes
       let later = from (i + 1) count (omega (arith, within)) in
       let rest = flat_map (job_fates jobs n ends) (range_with_len (i + 1) count) in (
         all_append (IsFrom i) (job_fates jobs n ends i) rest
-            (all_of (IsOf i 0) (IsFrom i) (λ f h. record { job = i; behind = omega arith; within = job; is = h }) (job_fates jobs n ends i) here.0)
-            (all_of (IsFrom (i + 1)) (IsFrom i) (from_later i) rest later.0),
+            (all_map (IsOf i 0) (IsFrom i) (λ f h. record { job = i; behind = omega arith; within = job; is = h }) (job_fates jobs n ends i) here.0)
+            (all_map (IsFrom (i + 1)) (IsFrom i) (from_later i) rest later.0),
         ascends_append (job_fates jobs n ends i) rest here.1 later.1
-            (all_of (IsOf i 0) (λ f. AllByRecursion (Below f) rest)
-            (λ f h. all_of (IsFrom (i + 1)) (Below f) (λ g k. below_next i f g h k) rest later.0) (job_fates jobs n ends i) here.0),
+            (all_map (IsOf i 0) (λ f. AllByRecursion (Below f) rest)
+            (λ f h. all_map (IsFrom (i + 1)) (Below f) (λ g k. below_next i f g h k) rest later.0) (job_fates jobs n ends i) here.0),
       )
 
   all_ascend : Ascends (fates_of jobs n ends)

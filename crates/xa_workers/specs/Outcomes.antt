@@ -1,5 +1,6 @@
 -- What a run of jobs comes to.
-use Rattle.std.specs.Prelude.{◌≡◌, ℕ}
+use Rattle.std.specs.Prelude.{◌≡◌, ℕ, ◌*◌, All, List, length}
+use Rattle.xa_line.specs.Traffic.{Traffic, answered, heard, issued, taken}
 use Rattle.xa_log.specs.declared.decision_log.DecisionLog as DecisionLog
 use Rattle.xa_workers.specs.Fates.{HaveFates, fates_of}
 use Rattle.xa_workers.specs.Rows.{Logs, rows_of_jobs}
@@ -13,3 +14,12 @@ pub record IsOutcomeOf {L : Type 0} (g : DecisionLog.Ghosts L) (jobs : Jobs) (lo
   pub fates : o.fates.items ≡ fates_of jobs incarnation o.ends.items
   pub rms : HaveFates jobs incarnation o.rms.items o.fates.items
   pub logs : Logs g incarnation (rows_of_jobs jobs incarnation o.ends.items) log o.log
+
+-- each call that was issued on a line was taken, and each answer heard
+abbrev pub IsThrough : Traffic → Type 0
+IsThrough line = (taken line ≡ issued line) × (heard line ≡ answered line)
+
+-- the lines that come back: one of each thread of control to each resource manager, and nothing waits on them
+pub record AreLinesOf (jobs : Jobs) (lines : List Traffic) : Type 0 where
+  pub number : length lines ≡ jobs.threads * jobs.rms
+  pub through : All IsThrough lines

@@ -5,13 +5,13 @@ ghost use Rattle.xa_log.specs.Contract.{FitsRow};
 ghost use Rattle.std.specs.List.{AllByRecursion};
 ghost use Rattle.xa_workers.specs.Rows.{Adds, HasRowsOf, Logs, no_rows};
 
+use crate::brand::Run;
 use crate::crew::Crew;
 use crate::docket::Asked;
 use crate::fault::Halt;
 use crate::jobs::gtrid;
 use crate::limits::JOB_LIMIT;
 use crate::patience::Idle;
-use crate::roll::Run;
 use crate::{Gate, Jobs, WorkFault};
 use std::alloc::{AllocError, Global};
 use std::snapshot::Snapshot;
@@ -80,7 +80,7 @@ impl<L: DecisionLog> Journal<L> {
     }
 
     /// The decisions on the jobs that threads ask for, which are noted as written.
-    #[tactic(auto, using(crate::proofs::Grouped::adds_none))]
+    #[tactic(auto, using(crate::proofs::RowGroups::adds_none))]
     fn gather(
         &mut self,
         alloc: Global,

@@ -10,29 +10,30 @@
 
 mod beginning;
 mod board;
+mod brand;
 mod control;
 mod crew;
 mod deal;
 mod docket;
 mod fault;
 mod gate;
+mod halts;
+mod job_rm;
 mod jobs;
 mod journal;
-mod kept;
 mod limits;
-mod meet;
 mod numbered;
 mod outcomes;
 mod patience;
-mod roll;
+mod reunite;
 mod rule;
 mod run;
 mod serve;
-mod settle;
 mod signals;
 mod start;
 mod sweep;
-mod talk;
+mod thread_lines;
+mod verify;
 mod view;
 mod word;
 

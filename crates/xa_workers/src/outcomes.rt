@@ -9,6 +9,7 @@ use crate::jobs::{has_no, has_yes};
 use crate::limits::JOB_LIMIT;
 use std::alloc::{AllocError, Global};
 use xa_base::{Fate, Outcome, Vote, Xid};
+use xa_line::Line;
 use xa_rm::MemRm;
 
 /// What a run of jobs came to.
@@ -20,6 +21,8 @@ pub struct Outcomes<L> {
     pub fates: Vec<(Xid, Fate)>,
     /// The resource managers, by number, from 0.
     pub rms: Vec<MemRm>,
+    /// The line of each thread of control to each resource manager, in any order.
+    pub lines: Vec<Line>,
     /// The log that the run was given, with the rows of this run.
     pub log: L,
 }

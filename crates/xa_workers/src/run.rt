@@ -1,23 +1,25 @@
 //! Runs of jobs.
-ghost use Rattle.std.specs.Prelude.{◌≡◌, ◌≤◌, ◌<◌, IfOk, false, vec_len};
+ghost use Rattle.std.specs.Prelude.{◌≡◌, ◌≤◌, ◌<◌, ◌∷◌, [], IfErr, IfOk, IsOk, Ok, false, vec_len};
 ghost use Rattle.xa_log.specs.Content.{last_number};
+ghost use Rattle.xa_workers.specs.Faults.{end_of, first_told};
 ghost use Rattle.xa_workers.specs.Fates.{AreInOrder, HaveFates, fates_of};
 ghost use Rattle.xa_workers.specs.Jobs.{AreEndsOf, IsRunnable, ends_of, is_xid_of};
-ghost use Rattle.xa_workers.specs.Outcomes.{IsOutcomeOf};
+ghost use Rattle.xa_workers.specs.Outcomes.{AreLinesOf, IsOutcomeOf};
 ghost use Rattle.xa_workers.specs.Rows.{HasRowsOf, Logs, no_rows, rows_of_jobs};
-ghost use Rattle.xa_workers.specs.Tied.{ArePaired};
+ghost use Rattle.xa_workers.specs.EndPairs.{ArePaired};
 
 use crate::beginning::{Begun, begin};
+use crate::brand::Run;
 use crate::crew::Crew;
 use crate::deal::{by_rm, by_thread, new_ends};
 use crate::docket::Docket;
 use crate::fault::Halt;
+use crate::halts::{end_of, first_fault};
 use crate::journal::{Journal, write_rows};
 use crate::limits::JOB_LIMIT;
-use crate::roll::Run;
-use crate::settle::{Work, settled};
 use crate::signals::Signals;
 use crate::start::{Hands, Joined, Team, start_all};
+use crate::verify::{Work, verified_outcomes};
 use crate::{Board, Gate, Jobs, Outcomes, WorkFault};
 use std::alloc::Global;
 use std::marker::{Brand, PhantomData};
@@ -28,23 +30,42 @@ use std::time::Clock;
 use xa_line::{Issuer, Taker};
 use xa_log::DecisionLog;
 
-/// Why workers left nothing, if they did.
-fn halt_of<T>(end: &Result<T, Halt>) -> Option<Halt> {
-    match end {
-        Ok(_) => None,
-        Err(halt) => Some(*halt),
-    }
-}
+/// What the workers left, where none ended before its work was done. Else the fault that comes first.
+fn work_of<J: Run, L: Drop>(
+    started: Result<(), Halt>,
+    logged: Result<(), Halt>,
+    joined: Joined<J>,
+    journal: Journal<L>,
+) -> Result<Work<J, L>, WorkFault>
+    // All ended well, those too that left nothing to work with.
+    ensures started { IfOk result (λ _. IsOk started × IsOk logged) }
+    ensures swept { IfOk result (λ _. IsOk joined.swept) }
+    ensures left { IfOk result (λ work. (joined.controlled ≡ Ok work.controlled)
+        × (joined.served ≡ Ok work.served) × (work.journal ≡ journal)) }
 
-/// The fault that comes first. It is `Mixed` where workers were told to end, and none of them said why.
-fn first_fault(halts: &[Option<Halt>]) -> WorkFault {
-    let mut first = WorkFault::Mixed;
-    for halt in halts {
-        if let Some(Halt::Fault(fault)) = halt {
-            first = first.min(*fault);
-        }
+    ensures fault { IfErr result (λ fault. fault ≡ first_told (started ∷ logged
+        ∷ end_of joined.controlled ∷ end_of joined.swept ∷ end_of joined.served ∷ [])) }
+{
+    let Joined {
+        controlled,
+        swept,
+        served,
+    } = joined;
+    let fault = first_fault(&[
+        started,
+        logged,
+        end_of(&controlled),
+        end_of(&swept),
+        end_of(&served),
+    ]);
+    match (started, logged, controlled, swept, served) {
+        (Ok(()), Ok(()), Ok(controlled), Ok(_), Ok(served)) => Ok(Work {
+            controlled,
+            served,
+            journal,
+        }),
+        _ => Err(fault),
     }
-    first
 }
 
 /// Starts all workers, writes the log in this thread, and joins all workers.
@@ -79,26 +100,8 @@ fn run_crew<
     if logged.is_err() {
         crew.signals.stop();
     }
-    let Joined {
-        controlled,
-        swept,
-        served,
-    } = team.joined(rt, alloc, crew);
-    let fault = first_fault(&[
-        halt_of(&started),
-        halt_of(&logged),
-        halt_of(&controlled),
-        halt_of(&swept),
-        halt_of(&served),
-    ]);
-    match (started, logged, controlled, swept, served) {
-        (Ok(()), Ok(()), Ok(controlled), Ok(_), Ok(served)) => Ok(Work {
-            controlled,
-            served,
-            journal,
-        }),
-        _ => Err(fault),
-    }
+    let joined = team.joined(rt, alloc, crew);
+    work_of(started, logged, joined, journal)
 }
 
 /// Runs all workers, and returns once all have ended.
@@ -168,6 +171,7 @@ fn run_named<
         ≡ fates_of jobs.now begun.incarnation o.ends.items) }
     ensures rms { IfOk result (λ o. HaveFates jobs.now begun.incarnation
         o.rms.items o.fates.items) }
+    ensures lines { IfOk result (λ o. AreLinesOf jobs.now o.lines.items) }
     ensures rows { IfOk result (λ o. Logs L.DecisionLog begun.incarnation
         (rows_of_jobs jobs.now begun.incarnation o.ends.items) begun.first.value o.log) }
 {
@@ -195,7 +199,7 @@ fn run_named<
     };
     let journal = Journal::new(alloc, jobs, incarnation, first, log)?;
     let work = run_all(rt, alloc, &crew, hands, journal)?;
-    settled(alloc, jobs, incarnation, work)
+    verified_outcomes(alloc, jobs, incarnation, work)
 }
 
 /// Runs the jobs by two-phase commit with presumed rollback (XA, section 2.3): one worker for each thread of control, one
@@ -215,7 +219,8 @@ fn run_named<
 /// votes say, or was rolled back by the recovery; `plain`, that without a recovery each ended as its votes say;
 /// `outcome`, the fates of all branches, that the resource managers have these and no other branch, and that the log has
 /// the rows that it came with and one for each committed job with a yes, with these branches as its participants;
-/// `order`, that the fates are listed in the order of the identifiers. After a fault nothing is said of the log.
+/// `order`, that the fates are listed in the order of the identifiers; `lines`, that on each line each call was taken, and
+/// each answer heard. After a fault nothing is said of the log.
 ///
 /// - [`WorkFault::Memory`]: a request for memory outside of the log, or for a thread, was refused.
 /// - [`WorkFault::Log`]: the log failed, for want of memory too, or no system starts over it: it has no incarnation left, or
@@ -235,6 +240,7 @@ pub fn run_jobs<R: Threads + Wait + Clock + Sync, L: DecisionLog + Drop, G: Gate
     ensures ends { IfOk result (λ o. AreEndsOf jobs.now o.ends.items) }
     ensures plain { jobs.now.sweep ≡ false → IfOk result (λ o. o.ends.items ≡ ends_of jobs.now) }
     ensures order { IfOk result (λ o. AreInOrder o.fates.items) }
+    ensures lines { IfOk result (λ o. AreLinesOf jobs.now o.lines.items) }
     ensures outcome { IfOk result (IsOutcomeOf L.DecisionLog jobs.now log) }
 {
     let begun = begin(log)?;

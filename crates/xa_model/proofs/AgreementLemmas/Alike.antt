@@ -15,7 +15,7 @@ use Rattle.xa_model.proofs.Invariant.{IsAtRest, IsGood, IsOlder, HasBegun, Inv}
 use Rattle.xa_model.proofs.Invariant.Moves.{Move, Move.Commits as Commits_now}
 use Rattle.xa_base.proofs.Lists.{get_none}
 use Rattle.xa_model.proofs.Invariant.Now.{begun_or_older, older_not_started, row_fact_ever, settled_at_rest, step_move}
-use Rattle.xa_model.proofs.Invariant.Preserved.{always, begun_is_started, run_always}
+use Rattle.xa_model.proofs.Invariant.Preservation.{always, begun_is_started, run_always}
 use Rattle.xa_model.specs.Promises.Agreement.{followed_by, IsFinal, IsUndone, AreAlike, HeuristicsAreHeld, AsLogged, DoubtIsDown}
 use Rattle.xa_model.proofs.AgreementLemmas.Ends.{right_before, final}
 

@@ -7,13 +7,13 @@ use Rattle.xa_base.specs.declared.answer.Answer.TheVariants.{Ret}
 use Rattle.xa_model.specs.Trace.{Gtrid, Branch, Call, Answer, Outcome, Fault, Fault.InDecide, Fault.InHear, Row, Recorded, Happening, Happening.Issued, Happening.Heard, Happening.Decided, Happening.Done, Happening.Failed, Happening.Restarted, Trace, Trace.From, Trace.Then}
 use Rattle.xa_base.specs.declared.code.Code.TheVariants as Codes
 use Rattle.xa_base.specs.Branch.{gtrid_eq, branch_eq}
-use Rattle.xa_model.specs.Facts.{origin, up, live, started, branches, told, says_yes_in, log, heuristic_rows, doubt, fault_change, record_of, record_of_next, row_for, lists_row, without, has_branch, has_record, rows_changed, heuristics_changed, adds_row, next_answer, Change, Change.AddRow, Change.DropRow, Change.AddRecord, Change.NoChange}
+use Rattle.xa_model.specs.Facts.{origin, up, live, started, branches, was_told, says_yes_in, log, heuristic_rows, doubt, fault_change, record_of, record_of_next, row_for, lists_row, without, has_branch, has_record, rows_changed, heuristics_changed, adds_row, next_answer, Change, Change.AddRow, Change.DropRow, Change.AddRecord, Change.NoChange}
 use Rattle.xa_model.specs.Facts.Distinct.{ApartRows, ApartRecords, ApartBranches}
 use Rattle.xa_model.specs.Protocol.{Right, RightFault, IsRun}
 use Rattle.xa_model.proofs.Invariant.Grows.{both}
 use Rattle.xa_model.proofs.Invariant.{Inv}
 use Rattle.xa_base.proofs.BranchKeys.{gtrid_eq-true, gtrid_eq-refl}
-use Rattle.xa_model.proofs.Invariant.Preserved.{run_always}
+use Rattle.xa_model.proofs.Invariant.Preservation.{run_always}
 use Rattle.xa_model.proofs.Invariant.RowLists.{without_keeps}
 
 -- ** rows
@@ -75,7 +75,7 @@ doubt_is_new (Then tr (Done h)) r g e = absurd (none_in_doubt tr g (run_always t
 doubt_is_new (Then tr _) r g e = doubt_is_new tr r.0 g e
 
 rows_step : (tr : Trace) (e : Happening) → IsRun tr → Right tr e → ApartRows (log tr) → ApartRows (log (Then tr e))
-rows_step tr (Decided g Outcome.Commit) a r h = by_test (told tr (says_yes_in g))
+rows_step tr (Decided g Outcome.Commit) a r h = by_test (was_told tr (says_yes_in g))
   where
     by_test : (t : Bool) → ApartRows (if t then row_for tr g ∷ log tr else log tr)
     by_test true = (live_no_row tr g (run_always tr a) r.is_live, h)

@@ -8,8 +8,8 @@ use Rattle.xa_model.specs.Protocol.{AllRight}
 use Rattle.xa_model.proofs.Invariant.{IsEnded}
 use Rattle.xa_model.proofs.Invariant.Moves.{Move, Move.Stays, Move.Starts, Move.Completes, Move.Rolls_back, CanRollBack, Move.Ends, Move.Fails, Move.Prepares, Move.Only_reads, Move.Refuses, Move.In_one_phase, Move.Commits as Commits_now, Move.Forgets, Move.Loses_active, Move.Loses_idle, Move.Loses_rollback_only}
 use Rattle.xa_model.proofs.Invariant.Now.{step_move}
-use Rattle.xa_model.proofs.Invariant.Kept.{ended_kept}
-use Rattle.xa_model.proofs.Invariant.Preserved.{always}
+use Rattle.xa_model.proofs.Invariant.OneMore.{ended_kept}
+use Rattle.xa_model.proofs.Invariant.Preservation.{always}
 use Rattle.xa_model.specs.Promises.Agreement.{followed_by, end_in, ends, IsFinal}
 
 -- ** ends

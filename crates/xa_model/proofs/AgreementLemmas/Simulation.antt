@@ -15,8 +15,8 @@ use Rattle.xa_model.proofs.Invariant.Moves.{Move, Move.Stays, Move.Starts, Move.
 use Rattle.xa_model.proofs.Invariant.Grows.{closed_kept, started_kept, handed_kept}
 use Rattle.xa_model.proofs.Invariant.Rows.{rowed_kept}
 use Rattle.xa_model.proofs.Invariant.Now.{step_move, started_back}
-use Rattle.xa_model.proofs.Invariant.Kept.{ended_kept}
-use Rattle.xa_model.proofs.Invariant.Preserved.{always}
+use Rattle.xa_model.proofs.Invariant.OneMore.{ended_kept}
+use Rattle.xa_model.proofs.Invariant.Preservation.{always}
 use Rattle.xa_model.specs.Promises.Commitment.{Phase, Phase.Working, Phase.Prepared as Willing, Phase.Committed as Kept, Phase.Aborted, phase_of}
 use Rattle.xa_model.specs.Promises.Agreement.{followed_by, IsUndone, IsBranchOf, phases, IsCommitment}
 use Rattle.xa_model.proofs.AgreementLemmas.Alike.{are_alike}

@@ -12,8 +12,8 @@ use Rattle.xa_model.proofs.AgreementLemmas.Alike.{are_alike, held, as_logged, do
 use Rattle.xa_model.proofs.AgreementLemmas.Ends.{ends_once, final}
 use Rattle.xa_model.proofs.AgreementLemmas.Prefix.{prefix, closes_last}
 use Rattle.xa_model.proofs.AgreementLemmas.Simulation.{commitment}
-use Rattle.xa_model.proofs.Invariant.Carried.{commit_has_row, rollback_has_no_row, no_start_after_commit, rows_were_prepared, settled_is_over, fresh_gtrids, handed_over_alone, claimed_is_prepared}
-use Rattle.xa_model.proofs.Invariant.Preserved.{always, run_of}
+use Rattle.xa_model.proofs.Invariant.AtEachMoment.{commit_has_row, rollback_has_no_row, no_start_after_commit, rows_were_prepared, settled_is_over, fresh_gtrids, handed_over_alone, claimed_is_prepared}
+use Rattle.xa_model.proofs.Invariant.Preservation.{always, run_of}
 use Rattle.xa_model.proofs.RecoveryLemmas.RecoveredStart.{origin_right}
 
 -- the beginnings of a right history are right

@@ -8,7 +8,7 @@ use Rattle.xa_model.specs.Trace.{Kind, Gtrid, Branch, Line, Kind.Start, Kind.Joi
 use Rattle.xa_base.specs.declared.step.Part.TheVariants as Part
 use Rattle.xa_base.specs.Branch.{gtrid_eq, branch_eq}
 use Rattle.xa_model.specs.Promises.AgreementInvariant.{Starts}
-use Rattle.xa_model.specs.Facts.{claimed, begun, decided_so, handed_over, live, started, told}
+use Rattle.xa_model.specs.Facts.{claimed, begun, decided_so, handed_over, live, started, was_told}
 use Rattle.xa_model.specs.Protocol.{Right}
 use Rattle.xa_model.proofs.Invariant.{Old, Closed}
 use Rattle.xa_base.proofs.BranchKeys.{gtrid_eq-true, branch_eq-true}
@@ -162,16 +162,16 @@ live_kept tr (Failed f) g r c k l = absurd (cc)
 live_kept tr (Restarted i d n) g r c k l = absurd (cc)
 live_kept tr _ g r c k l = l
 
-pub told_kept : (tr : Trace) (e : Happening) (test : Call → Answer → Bool) → told tr test ≡ true → told (Then tr e) test ≡ true
+pub told_kept : (tr : Trace) (e : Happening) (test : Call → Answer → Bool) → was_told tr test ≡ true → was_told (Then tr e) test ≡ true
 told_kept tr (Heard l c a) test h = or_right _ _ h
 told_kept tr _ test h = h
 
-pub told_new : (tr : Trace) (e : Happening) (test : Call → Answer → Bool) → told (Then tr e) test ≡ true
-    → (told tr test ≡ true) ⊎ ((l : Line) × (c : Call) × (a : Answer) × (e ≡ Heard l c a) × (test c a ≡ true))
+pub told_new : (tr : Trace) (e : Happening) (test : Call → Answer → Bool) → was_told (Then tr e) test ≡ true
+    → (was_told tr test ≡ true) ⊎ ((l : Line) × (c : Call) × (a : Answer) × (e ≡ Heard l c a) × (test c a ≡ true))
 told_new tr (Heard l c a) test h = new_case (test c a) refl h
   where
-    new_case : (t : Bool) → test c a ≡ t → (t || told tr test) ≡ true
-        → (told tr test ≡ true) ⊎ ((m : Line) × (d : Call) × (b : Answer) × (Heard l c a ≡ Heard m d b) × (test d b ≡ true))
+    new_case : (t : Bool) → test c a ≡ t → (t || was_told tr test) ≡ true
+        → (was_told tr test ≡ true) ⊎ ((m : Line) × (d : Call) × (b : Answer) × (Heard l c a ≡ Heard m d b) × (test d b ≡ true))
     new_case true s h = inr (l, c, a, refl, s)
     new_case false s h = inl h
 told_new tr _ test h = inl h

@@ -11,7 +11,7 @@ use Rattle.xa_base.specs.Branch.{branch_eq}
 use Rattle.xa_base.specs.declared.state.Standing.{Standing}
 use Rattle.xa_base.specs.declared.state.Standing.TheVariants.{Unstarted, Prepared, Completed, Forgotten}
 use Rattle.xa_model.specs.Promises.AgreementInvariant.{Starts}
-use Rattle.xa_model.specs.Facts.{up, begun, decided_so, handed_over, claimed, live, started, told, says_read_only, acknowledges, recorded, had_row, ever, doubt, Change.AddRow, adds_row, settled, breaks, taken, next_call, standing, vote, retries}
+use Rattle.xa_model.specs.Facts.{up, begun, decided_so, handed_over, claimed, live, started, was_told, says_read_only, acknowledges, recorded, had_row, ever, doubt, Change.AddRow, adds_row, is_settled, breaks, taken, next_call, standing, vote, retries}
 use Rattle.xa_model.specs.Protocol.{MayBeCalled, Right, RightIssue, RightCall}
 use Rattle.xa_model.proofs.Invariant.{Closed, HasBegun, IsAtRest, IsHeuristic, IsOlder, Waits, RowFact, DoubtFact, IsFixed, Inv}
 use Rattle.xa_model.proofs.Invariant.Records.{recorded_how}
@@ -43,14 +43,14 @@ at_rest_of_heuristic k (Completed how) h = tt
 at_rest_of_heuristic k (Forgotten how) h = tt
 at_rest_of_heuristic k _ h = absurd h
 
-pub settled_at_rest : (tr : Trace) (b : Branch) → Inv tr → started tr b ≡ true → settled tr b ≡ true → IsAtRest (standing tr b)
+pub settled_at_rest : (tr : Trace) (b : Branch) → Inv tr → started tr b ≡ true → is_settled tr b ≡ true → IsAtRest (standing tr b)
 settled_at_rest tr b inv s t = by_case (or_cases _ _ t)
   where
-    by_told : (told tr (says_read_only b) ≡ true) ⊎ (told tr (acknowledges b) ≡ true) → IsAtRest (standing tr b)
+    by_told : (was_told tr (says_read_only b) ≡ true) ⊎ (was_told tr (acknowledges b) ≡ true) → IsAtRest (standing tr b)
     by_told (inl h) = subst IsAtRest (sym (inv.voted_read_only b h)) tt
     by_told (inr h) = inv.acknowledged b h s
 
-    by_case : (recorded tr b ≡ true) ⊎ ((told tr (says_read_only b) || told tr (acknowledges b)) ≡ true) → IsAtRest (standing tr b)
+    by_case : (recorded tr b ≡ true) ⊎ ((was_told tr (says_read_only b) || was_told tr (acknowledges b)) ≡ true) → IsAtRest (standing tr b)
     by_case (inl h) = let k = recorded_how tr b h in at_rest_of_heuristic k.0 _ (inv.heuristic b k.0 k.1 s)
     by_case (inr h) = by_told (or_cases _ _ h)
 

@@ -11,7 +11,7 @@ use Rattle.xa_base.specs.declared.code.Code.TheVariants as Codes
 use Rattle.xa_base.specs.declared.step.Part.TheVariants as Part
 use Rattle.xa_base.specs.Branch.{gtrid_eq, branch_eq}
 use Rattle.xa_base.specs.declared.state.Standing.TheVariants.{Unstarted, Committed}
-use Rattle.xa_model.specs.Facts.{origin, up, incarnation, begun, decided_so, handed_over, live, started, told, says_read_only, has_branch, participants, settled, settled_lately, each, each_of_some, branches, takes_part, row_for, has_row, had_row, ever, doubt, fault_change, record_of, adds_row, record_of, Change.AddRow, Change.NoChange, record_of_next, heard, next_answer, standing}
+use Rattle.xa_model.specs.Facts.{origin, up, incarnation, begun, decided_so, handed_over, live, started, was_told, says_read_only, has_branch, participants, is_settled, is_settled_lately, each, each_of_some, branches, takes_part, row_for, has_row, had_row, ever, doubt, fault_change, record_of, adds_row, record_of, Change.AddRow, Change.NoChange, record_of_next, heard, next_answer, standing}
 use Rattle.xa_model.specs.Protocol.{HasVoted, AllHaveVoted, AllAreSettled, RightCall, IsRowSettled, RightDecision, RightDone, Right}
 use Rattle.xa_model.proofs.Invariant.{Old, Closed, IsGood, IsOlder, AnswerFact, RowFact, Covers, DoubtFact, Inv}
 use Rattle.xa_base.proofs.BranchKeys.{gtrid_eq-true, branch_eq-true, gtrid_eq-refl, branch_eq-refl}
@@ -20,7 +20,7 @@ use Rattle.xa_model.proofs.Invariant.Grows.{NewBranch, old_kept, closed_kept, st
 use Rattle.xa_model.proofs.Invariant.Rows.{RowNow, RowNow.Before, RowNow.Decided_now, RowNow.Restarted_now, row_back, settled_lately_settled, rowed_kept, NewRow, NewRow.Had, NewRow.By_decision, NewRow.By_restart, rowed_new, LeftRow, LeftRow.By_done, LeftRow.By_doubt, row_lost}
 use Rattle.xa_model.proofs.Invariant.RowLists.{or_map}
 use Rattle.xa_model.proofs.Invariant.Now.{row_fact_ever, closed_handed, live_begun, step_move, starting_live, started_back, right_on}
-use Rattle.xa_model.proofs.Invariant.Kept.{heuristic_fact_kept, decided_voted, row_fact_kept, covers_kept, all_settled_kept, doubt_kept}
+use Rattle.xa_model.proofs.Invariant.OneMore.{heuristic_fact_kept, decided_voted, row_fact_kept, covers_kept, all_settled_kept, doubt_kept}
 
 -- ** transactions and branches
 
@@ -183,15 +183,16 @@ rows_after tr e g inv r h = by_case (rowed_new tr e g h)
     by_case (By_restart i d n q x w) = let v : ever tr g ≡ true = or_left _ _ x in row_fact_kept tr e g inv r v (row_fact_ever tr g inv v)
 
 -- a row waits for its participants: what they have settled, all branches have
-each_settled : (tr : Trace) (b : Branch) (bs : List Branch) → each (settled_lately tr) bs ≡ true → has_branch bs b ≡ true → settled tr b ≡ true
+each_settled : (tr : Trace) (b : Branch) (bs : List Branch) → each (is_settled_lately tr) bs ≡ true → has_branch bs b ≡ true → is_settled tr b ≡ true
 each_settled tr b [] h k = cc
 each_settled tr b (x ∷ bs) h k = by_place (or_cases _ _ k) (each_settled tr b bs (and_parts _ _ h).1)
   where
-    by_place : (branch_eq x b ≡ true) ⊎ (has_branch bs b ≡ true) → (has_branch bs b ≡ true → settled tr b ≡ true) → settled tr b ≡ true
-    by_place (inl s) f = subst (λ y. settled tr y ≡ true) (branch_eq-true x b s) (settled_lately_settled tr x (and_parts _ _ h).0)
+    by_place : (branch_eq x b ≡ true) ⊎ (has_branch bs b ≡ true) → (has_branch bs b ≡ true → is_settled tr b ≡ true) → is_settled tr b ≡ true
+    by_place (inl s) f = subst (λ y. is_settled tr y ≡ true) (branch_eq-true x b s) (settled_lately_settled tr x (and_parts _ _ h).0)
     by_place (inr s) f = f s
 
-each_of_some_settled : (tr : Trace) (b : Branch) (bs : List Branch) → each_of_some (settled_lately tr) bs ≡ true → has_branch bs b ≡ true → settled tr b ≡ true
+each_of_some_settled : (tr : Trace) (b : Branch) (bs : List Branch) → each_of_some (is_settled_lately tr) bs ≡ true → has_branch bs b ≡ true
+    → is_settled tr b ≡ true
 each_of_some_settled tr b [] h k = cc
 each_of_some_settled tr b (x ∷ bs) h k = each_settled tr b (x ∷ bs) h k
 
@@ -199,7 +200,7 @@ row_settled_all : (tr : Trace) (g : Gtrid) → Inv tr → has_row tr g ≡ true 
 row_settled_all tr g inv w (inl h) b q s = h.1 b q s
 row_settled_all tr g inv w (inr h) b q s = by_case (inv.covered g w b q s)
   where
-    by_case : (has_branch (participants tr g) b ≡ true) ⊎ (told tr (says_read_only b) ≡ true) → settled tr b ≡ true
+    by_case : (has_branch (participants tr g) b ≡ true) ⊎ (was_told tr (says_read_only b) ≡ true) → is_settled tr b ≡ true
     by_case (inl k) = each_of_some_settled tr b (participants tr g) h.1 k
     by_case (inr k) = or_right _ _ (or_left _ _ k)
 
@@ -252,7 +253,7 @@ started_listed (Then tr _) b s = started_listed tr b s
 row_for_covers : (tr : Trace) (g : Gtrid) → AllHaveVoted tr g → Covers tr (row_for tr g).participants g
 row_for_covers tr g v b q s = by_vote (v b q s)
   where
-    by_vote : HasVoted tr b → (has_branch (row_for tr g).participants b ≡ true) ⊎ (told tr (says_read_only b) ≡ true)
+    by_vote : HasVoted tr b → (has_branch (row_for tr g).participants b ≡ true) ⊎ (was_told tr (says_read_only b) ≡ true)
     by_vote (inl h) = inl (in_filter (takes_part tr g) (branches tr) b (started_listed tr b s) (and_both (ap (λ y. gtrid_eq y g) q ∙ gtrid_eq-refl g) h))
       where
         and_both : {x y : Bool} → x ≡ true → y ≡ true → (x && y) ≡ true

@@ -6,7 +6,7 @@ use Rattle.std.proofs.lemmas.Bool.{and_parts, or_cases, or_left, or_right}
 use Rattle.xa_model.specs.Trace.{Gtrid, Branch, Call, Answer, Row, Happening, Happening.Heard, Happening.Decided, Happening.Done, Happening.Restarted, Trace, Trace.From, Trace.Then}
 use Rattle.xa_base.specs.declared.step.Outcome.TheVariants as Outcome
 use Rattle.xa_base.specs.Branch.{gtrid_eq}
-use Rattle.xa_model.specs.Facts.{told, told_lately, row_for, participants_in, participants, settled_lately, says_yes_in, says_read_only, acknowledges, has_row, recorded, had_row, doubt, log, settled, lists_row, without, rows_changed, adds_row, Change, Change.AddRow, Change.DropRow, Change.AddRecord, Change.NoChange}
+use Rattle.xa_model.specs.Facts.{was_told, was_told_lately, row_for, participants_in, participants, is_settled_lately, says_yes_in, says_read_only, acknowledges, has_row, recorded, had_row, doubt, log, is_settled, lists_row, without, rows_changed, adds_row, Change, Change.AddRow, Change.DropRow, Change.AddRecord, Change.NoChange}
 use Rattle.xa_base.proofs.BranchKeys.{gtrid_eq-true}
 use Rattle.xa_model.proofs.Invariant.Grows.{told_kept}
 use Rattle.xa_model.proofs.Invariant.Records.{recorded_kept}
@@ -52,7 +52,7 @@ restarted_row g false NoChange rows s e = absurd (cc)
 pub rowed_new : (tr : Trace) (e : Happening) (g : Gtrid) → had_row (Then tr e) g ≡ true → NewRow tr e g
 rowed_new tr (Decided h Outcome.Commit) g r = by_case (or_cases _ _ r)
   where
-    by_case : ((gtrid_eq h g && told tr (says_yes_in h)) ≡ true) ⊎ (had_row tr g ≡ true) → NewRow tr (Decided h Outcome.Commit) g
+    by_case : ((gtrid_eq h g && was_told tr (says_yes_in h)) ≡ true) ⊎ (had_row tr g ≡ true) → NewRow tr (Decided h Outcome.Commit) g
     by_case (inl k) =
         let p = and_parts _ _ k in By_decision (ap (λ x. Decided x Outcome.Commit) (gtrid_eq-true h g p.0)) (decided_row (row_for tr h) g _ (log tr) p.0 p.1)
     by_case (inr k) = Had k
@@ -169,7 +169,7 @@ pub data RowNow (tr : Trace) (e : Happening) (g : Gtrid) : Type 0 where
   Decided_now : e ≡ Decided g Outcome.Commit → participants (Then tr e) g ≡ (row_for tr g).participants → RowNow tr e g
   Restarted_now : (i d n : ℕ) → e ≡ Restarted i d n → (a : Adds (doubt tr) g) → participants (Then tr e) g ≡ a.added.participants → RowNow tr e g
 
-row_decided_back : (tr : Trace) (h g : Gtrid) → (t : Bool) → told tr (says_yes_in h) ≡ t
+row_decided_back : (tr : Trace) (h g : Gtrid) → (t : Bool) → was_told tr (says_yes_in h) ≡ t
     → lists_row (if t then row_for tr h ∷ log tr else log tr) g ≡ true → RowNow tr (Decided h Outcome.Commit) g
 row_decided_back tr h g false k r = Before r (ap (λ t. participants_in (if t then row_for tr h ∷ log tr else log tr) g) k)
 row_decided_back tr h g true k r = by_place (front (row_for tr h) (log tr) g r)
@@ -207,13 +207,13 @@ row_back tr _ g r = Before r refl
 
 -- ** settled
 
-told_lately_told : (tr : Trace) (test : Call → Answer → Bool) → told_lately tr test ≡ true → told tr test ≡ true
+told_lately_told : (tr : Trace) (test : Call → Answer → Bool) → was_told_lately tr test ≡ true → was_told tr test ≡ true
 told_lately_told (From o) test h = absurd (cc)
 told_lately_told (Then tr (Restarted i d n)) test h = absurd (cc)
 told_lately_told (Then tr (Heard l c a)) test h = or_map (test c a) _ _ (told_lately_told tr test) h
 told_lately_told (Then tr _) test h = told_lately_told tr test h
 
-pub settled_lately_settled : (tr : Trace) (b : Branch) → settled_lately tr b ≡ true → settled tr b ≡ true
+pub settled_lately_settled : (tr : Trace) (b : Branch) → is_settled_lately tr b ≡ true → is_settled tr b ≡ true
 settled_lately_settled tr b h = or_map (recorded tr b) _ _ (λ k. or_right _ _ (told_lately_told tr (acknowledges b) k)) h
 
 or_three : (a b c x y z : Bool) → (a ≡ true → x ≡ true) → (b ≡ true → y ≡ true) → (c ≡ true → z ≡ true) → (a || (b || c)) ≡ true → (x || (y || z)) ≡ true
@@ -221,5 +221,5 @@ or_three true b c x y z f g h e = or_left _ _ (f refl)
 or_three false true c x y z f g h e = or_right _ _ (or_left _ _ (g refl))
 or_three false false c x y z f g h e = or_right _ _ (or_right _ _ (h e))
 
-pub settled_kept : (tr : Trace) (e : Happening) (b : Branch) → settled tr b ≡ true → settled (Then tr e) b ≡ true
+pub settled_kept : (tr : Trace) (e : Happening) (b : Branch) → is_settled tr b ≡ true → is_settled (Then tr e) b ≡ true
 settled_kept tr e b s = or_three _ _ _ _ _ _ (recorded_kept tr e b) (told_kept tr e (says_read_only b)) (told_kept tr e (acknowledges b)) s

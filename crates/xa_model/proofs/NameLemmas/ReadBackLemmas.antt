@@ -11,7 +11,7 @@ use Rattle.xa_base.specs.declared.step.Step.TheVariants as Steps
 use Rattle.xa_base.specs.Answer.{map_answer}
 use Rattle.xa_base.specs.Call.{map_call}
 use Rattle.xa_base.specs.declared.step.Side.TheVariants as Side
-use Rattle.xa_model.specs.Replies.Demanded.{Takes, Takes_one, Takes_none, Hears, Hears_one, Hears_none, Restarts, Restarts_as, IsValue, Demanded, By_rule, As_value, For_memory, For_log}
+use Rattle.xa_model.specs.Replies.Allowed.{Takes, Takes_one, Takes_none, Hears, Hears_one, Hears_none, Restarts, Restarts_as, IsValue, Allowed, By_rule, As_value, For_memory, For_log}
 use Rattle.xa_model.specs.Replies.Steps.{Step, Reply}
 use Rattle.xa_model.specs.Trace.{Line, Trace}
 use Rattle.xa_model.specs.Replies.History.{name_of, step_of, reply_of}
@@ -64,8 +64,8 @@ value_ours tr (Steps.Hear t r) reply h = hears_ours tr _ reply h
 value_ours tr (Steps.Restart Side.Manager) reply h = restarts_none tr reply h
 value_ours tr _ reply h = subst AnswersOurs (sym h) tt
 
-pub demanded_ours : (tr : Trace) (s : Step) (reply : Reply) → Demanded tr s reply → AnswersOurs reply
-demanded_ours tr s reply (By_rule n m e) = subst AnswersOurs (sym e) tt
-demanded_ours tr s reply (As_value m v) = value_ours tr s reply v
-demanded_ours tr s reply (For_memory m l e) = subst AnswersOurs (sym e) tt
-demanded_ours tr s reply (For_log m l e) = subst AnswersOurs (sym e) tt
+pub allowed_ours : (tr : Trace) (s : Step) (reply : Reply) → Allowed tr s reply → AnswersOurs reply
+allowed_ours tr s reply (By_rule n m e) = subst AnswersOurs (sym e) tt
+allowed_ours tr s reply (As_value m v) = value_ours tr s reply v
+allowed_ours tr s reply (For_memory m l e) = subst AnswersOurs (sym e) tt
+allowed_ours tr s reply (For_log m l e) = subst AnswersOurs (sym e) tt

@@ -9,7 +9,7 @@ use Rattle.xa_base.specs.declared.answer.Answer.TheVariants.{Page, Ret}
 use Rattle.xa_base.specs.declared.call.Call.TheVariants as Calls
 use Rattle.xa_base.specs.declared.code.Code.TheVariants as Codes
 use Rattle.xa_base.specs.declared.step.Part.TheVariants as Part
-use Rattle.xa_model.specs.Facts.{up, incarnation, sequence, begun, decided_so, handed_over, claimed, live, started, branches, told, told_lately, says_yes, says_yes_in, has_branch, has_row, recorded, record_of, record_of_next, row_for, takes_part, fault_change, doubt, log, heuristic_rows, rows_changed, heuristics_changed, Change.AddRow, page, page_after, lists_one_of, resolving_calls, new_calls, new_taken, new_heard, issued, taken, heard, next_answer, breaks, standing, vote, retries}
+use Rattle.xa_model.specs.Facts.{up, incarnation, sequence, begun, decided_so, handed_over, claimed, live, started, branches, was_told, was_told_lately, says_yes, says_yes_in, has_branch, has_row, recorded, record_of, record_of_next, row_for, takes_part, fault_change, doubt, log, heuristic_rows, rows_changed, heuristics_changed, Change.AddRow, page, page_after, lists_one_of, resolving_calls, new_calls, new_taken, new_heard, issued, taken, heard, next_answer, breaks, standing, vote, retries}
 use Rattle.xa_model.specs.Protocol.{Right, RightFault}
 use Rattle.xa_model.specs.Promises.Processes.{SameRows, SameRecords}
 use Rattle.xa_model.specs.Trace.{Gtrid, Branch, Line, Name, Name.Ours, Name.Foreign, Call, Answer, Outcome, Fault, Fault.InDecide, Fault.InDone, Fault.InHear, Fault.InResolve, Fault.InRestart, Happening, Happening.Begun, Happening.Issued, Happening.Resolved, Happening.ResolvedOpen, Happening.Took, Happening.Heard, Happening.CompletedAlone, Happening.Voted, Happening.PutOff, Happening.Claimed, Happening.Decided, Happening.Done, Happening.Crashed, Happening.Failed, Happening.Restarted, Trace, Trace.Then, line, line_of, line_eq}
@@ -38,8 +38,8 @@ pub record SameDeals (past tr ur : Trace) : Type 0 where
 pub record SameSayings (past tr ur : Trace) : Type 0 where
   pub started_is : (b : Branch) → started tr b ≡ (started ur b || started past b)
   pub branches_are : branches tr ≡ branches ur ++ branches past
-  pub told_is : (test : Call → Answer → Bool) → told tr test ≡ (told ur test || told past test)
-  pub lately_is : (test : Call → Answer → Bool) → told_lately tr test ≡ told_lately ur test
+  pub told_is : (test : Call → Answer → Bool) → was_told tr test ≡ (was_told ur test || was_told past test)
+  pub lately_is : (test : Call → Answer → Bool) → was_told_lately tr test ≡ was_told_lately ur test
 
 -- of the log
 pub record SameLog (tr ur : Trace) : Type 0 where
@@ -247,11 +247,11 @@ module _ (past : Trace) (inv : Inv past) where
     branches_after s _ = s.branches_are
 
     told_after : SameSayings past tr ur → (e : Happening) (test : Call → Answer → Bool)
-        → told (Then tr e) test ≡ (told (Then ur e) test || told past test)
+        → was_told (Then tr e) test ≡ (was_told (Then ur e) test || was_told past test)
     told_after s (Heard l c a) test = or_more (test c a) _ _ _ (s.told_is test)
     told_after s _ test = s.told_is test
 
-    lately_after : SameSayings past tr ur → (e : Happening) (test : Call → Answer → Bool) → told_lately (Then tr e) test ≡ told_lately (Then ur e) test
+    lately_after : SameSayings past tr ur → (e : Happening) (test : Call → Answer → Bool) → was_told_lately (Then tr e) test ≡ was_told_lately (Then ur e) test
     lately_after s (Restarted i n h) test = refl
     lately_after s (Heard l c a) test = ap (λ t. test c a || t) (s.lately_is test)
     lately_after s _ test = s.lately_is test
@@ -266,16 +266,16 @@ module _ (past : Trace) (inv : Inv past) where
 
     -- ** the row of a transaction
 
-    yes_is : SameSayings past tr ur → (b : Branch) → IsLater past b.gtrid → told tr (says_yes b) ≡ told ur (says_yes b)
+    yes_is : SameSayings past tr ur → (b : Branch) → IsLater past b.gtrid → was_told tr (says_yes b) ≡ was_told ur (says_yes b)
     yes_is s b n = or_false _ _ _ (s.told_is (says_yes b)) (none_said_yes past b inv n)
 
-    yes_in_is : SameSayings past tr ur → (g : Gtrid) → IsLater past g → told tr (says_yes_in g) ≡ told ur (says_yes_in g)
+    yes_in_is : SameSayings past tr ur → (g : Gtrid) → IsLater past g → was_told tr (says_yes_in g) ≡ was_told ur (says_yes_in g)
     yes_in_is s g n = or_false _ _ _ (s.told_is (says_yes_in g)) (none_said_yes_in past g inv n)
 
     part_is : SameSayings past tr ur → (g : Gtrid) → IsLater past g → (b : Branch) → takes_part tr g b ≡ takes_part ur g b
     part_is s g n b = by_test (gtrid_eq b.gtrid g) refl
       where
-        by_test : (t : Bool) → gtrid_eq b.gtrid g ≡ t → (t && told tr (says_yes b)) ≡ (t && told ur (says_yes b))
+        by_test : (t : Bool) → gtrid_eq b.gtrid g ≡ t → (t && was_told tr (says_yes b)) ≡ (t && was_told ur (says_yes b))
         by_test true q = yes_is s b (subst (IsLater past) (sym (gtrid_eq-true b.gtrid g q)) n)
         by_test false q = refl
 
@@ -285,7 +285,7 @@ module _ (past : Trace) (inv : Inv past) where
         clash : {t : Bool} → t ≡ true → t ≡ false → ⊥
         clash p q = cc
 
-        by_test : (t : Bool) → gtrid_eq b.gtrid g ≡ t → (t && told tr (says_yes b)) ≡ false
+        by_test : (t : Bool) → gtrid_eq b.gtrid g ≡ t → (t && was_told tr (says_yes b)) ≡ false
         by_test true q = absurd (clash h (none_listed past b inv (subst (IsLater past) (sym (gtrid_eq-true b.gtrid g q)) n)))
         by_test false q = refl
 
@@ -318,8 +318,8 @@ module _ (past : Trace) (inv : Inv past) where
         → SameRows (log (Then ur (Decided g Outcome.Commit))) (log (Then tr (Decided g Outcome.Commit)))
     decided_rows s k g n =
         subst (λ t. SameRows (log (Then ur (Decided g Outcome.Commit))) (if t then row_for tr g ∷ log tr else log tr)) (sym (yes_in_is s g n))
-        (subst (λ x. SameRows (log (Then ur (Decided g Outcome.Commit))) (if told ur (says_yes_in g) then x ∷ log tr else log tr))
-        (sym (row_for_is s g n)) (by_test (told ur (says_yes_in g))))
+        (subst (λ x. SameRows (log (Then ur (Decided g Outcome.Commit))) (if was_told ur (says_yes_in g) then x ∷ log tr else log tr))
+        (sym (row_for_is s g n)) (by_test (was_told ur (says_yes_in g))))
       where
         by_test : (t : Bool) → SameRows (if t then row_for ur g ∷ log ur else log ur) (if t then row_for ur g ∷ log tr else log tr)
         by_test true = rows_cons (row_for ur g) (log ur) (log tr) k.rows

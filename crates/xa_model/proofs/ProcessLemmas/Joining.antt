@@ -9,17 +9,17 @@ use Rattle.xa_base.specs.declared.answer.Answer.TheVariants.{Page, Ret}
 use Rattle.xa_base.specs.declared.call.Call.TheVariants as Calls
 use Rattle.xa_base.specs.declared.reply.Event.{Event}
 use Rattle.xa_base.specs.declared.step.Part.TheVariants as Part
-use Rattle.xa_model.specs.Facts.{begun, decided_so, claimed, live, started, told, says_yes, says_read_only, acknowledges, settled, settled_lately, participants, has_row, outlived, next_call, next_answer, is_closed, standing}
+use Rattle.xa_model.specs.Facts.{begun, decided_so, claimed, live, started, was_told, says_yes, says_read_only, acknowledges, is_settled, is_settled_lately, participants, has_row, outlived, next_call, next_answer, is_closed, standing}
 use Rattle.xa_model.specs.Facts.InDoubt.{is_in_doubt_at}
 use Rattle.xa_model.specs.Protocol.{HasVoted, AllHaveVoted, AllAreSettled, IsOnlyBranch, IsOpen, IsKnown, MayBeCalled, RightCall, SoundAnswer, IsSoundPage, call_code, RightClaim, RightDecision, IsRowSettled, RightDone, RightFault, Right, AllRight}
 use Rattle.xa_model.specs.Promises.Processes.{gone, resumed, Resumes, joined, OfProcesses, OfProcesses.Alone, OfProcesses.First, OfProcesses.Next}
-use Rattle.xa_model.specs.Replies.Demanded.{AllDemanded, with_steps}
-use Rattle.xa_model.specs.Replies.History.{AreDemanded, history}
+use Rattle.xa_model.specs.Replies.Allowed.{AllAllowed, with_steps}
+use Rattle.xa_model.specs.Replies.History.{AreAllowed, history}
 use Rattle.xa_model.specs.Replies.Steps.{Step, Reply, happened}
 use Rattle.xa_model.specs.Trace.{Gtrid, Branch, Line, Call, Answer, Outcome, Fault, Fault.InDecide, Fault.InDone, Fault.InHear, Fault.InResolve, Fault.InRestart, Happening, Happening.Begun, Happening.Issued, Happening.Resolved, Happening.ResolvedOpen, Happening.Took, Happening.Heard, Happening.CompletedAlone, Happening.Claimed, Happening.Decided, Happening.Done, Happening.Crashed, Happening.Failed, Happening.Restarted, Origin, Trace, Trace.From, Trace.Then}
 use Rattle.xa_model.proofs.Invariant.{Inv}
-use Rattle.xa_model.proofs.Invariant.Preserved.{always}
-use Rattle.xa_model.proofs.Replies.Replies.{all_right, demanded_right}
+use Rattle.xa_model.proofs.Invariant.Preservation.{always}
+use Rattle.xa_model.proofs.Replies.Replies.{all_right, allowed_right}
 use Rattle.xa_model.proofs.ProcessLemmas.Facing.{Faces, SameBranches, faces_after, live_is, live_later, or_false, record_is, row_is, rows_after, records_after}
 use Rattle.xa_model.proofs.ProcessLemmas.SameLogs.{each_of_some_same, rows_again, records_again}
 use Rattle.xa_model.proofs.ProcessLemmas.SameStates.{prepared_by_state, same_in_doubt}
@@ -45,7 +45,7 @@ module _ (past : Trace) (inv : Inv past) (tr ur : Trace) (f : Faces past tr ur) 
   started_same : (b : Branch) → IsLater past b.gtrid → started tr b ≡ started ur b
   started_same b n = or_false _ _ _ (f.sayings.started_is b) (none_started past b inv n)
 
-  told_more : (test : Call → Answer → Bool) → told ur test ≡ true → told tr test ≡ true
+  told_more : (test : Call → Answer → Bool) → was_told ur test ≡ true → was_told tr test ≡ true
   told_more test h = f.sayings.told_is test ∙ or_left _ _ h
 
   has_voted_same : (b : Branch) → HasVoted ur b → HasVoted tr b
@@ -55,7 +55,7 @@ module _ (past : Trace) (inv : Inv past) (tr ur : Trace) (f : Faces past tr ur) 
   all_voted_same : (g : Gtrid) → IsLater past g → AllHaveVoted ur g → AllHaveVoted tr g
   all_voted_same g n v b q s = has_voted_same b (v b q (sym (started_same b (subst (IsLater past) (sym q) n)) ∙ s))
 
-  settled_same : (b : Branch) → settled ur b ≡ true → settled tr b ≡ true
+  settled_same : (b : Branch) → is_settled ur b ≡ true → is_settled tr b ≡ true
   settled_same b h =
       or_three (λ k. record_is past inv tr ur f.deals f.logs b ∙ k) (told_more (says_read_only b)) (told_more (acknowledges b)) h
     where
@@ -167,7 +167,7 @@ module _ (past : Trace) (inv : Inv past) (tr ur : Trace) (f : Faces past tr ur) 
     votes = all_voted_same g (live_later past inv tr ur f.deals g r.is_live) r.votes;
   }
 
-  lately_same : (b : Branch) → settled_lately ur b ≡ settled_lately tr b
+  lately_same : (b : Branch) → is_settled_lately ur b ≡ is_settled_lately tr b
   lately_same b = sym (λ i. record_is past inv tr ur f.deals f.logs b i || f.sayings.lately_is (acknowledges b) i)
 
   row_settled_same : (g : Gtrid) → IsRowSettled ur g → IsRowSettled tr g
@@ -175,7 +175,7 @@ module _ (past : Trace) (inv : Inv past) (tr ur : Trace) (f : Faces past tr ur) 
   row_settled_same g (inr h) =
       inr (
         older_same g h.0,
-        each_of_some_same (settled_lately ur) (settled_lately tr) (participants ur g) (participants tr g) lately_same (f.logs.rows.participants g) h.1,
+        each_of_some_same (is_settled_lately ur) (is_settled_lately tr) (participants ur g) (participants tr g) lately_same (f.logs.rows.participants g) h.1,
       )
 
   done_same : (g : Gtrid) → RightDone ur g → RightDone tr g
@@ -248,15 +248,15 @@ faces_first past o a r = record {
 
 -- ** all events
 
-pub facing_all : (past tr ur : Trace) (xs : List (Step × Reply)) → AllRight past → AllRight tr → Faces past tr ur → AllDemanded ur xs
+pub facing_all : (past tr ur : Trace) (xs : List (Step × Reply)) → AllRight past → AllRight tr → Faces past tr ur → AllAllowed ur xs
     → AllRight (with_steps tr xs) × Faces past (with_steps tr xs) (with_steps ur xs)
 facing_all past tr ur [] a r f d = (r, f)
 facing_all past tr ur (x ∷ xs) a r f d =
     let e = happened x.0 x.1 in
-    let now : Right ur e = demanded_right ur x.0 x.1 d.0 in
+    let now : Right ur e = allowed_right ur x.0 x.1 d.0 in
     facing_all past (Then tr e) (Then ur e) xs a (r, right_same past (always past a) tr ur f e now) (faces_after past (always past a) tr ur f.deals f e now) d.1
 
-pub joined_faces : (past : Trace) (o : Origin) (events : List Event) → AllRight past → Resumes past o → AreDemanded o events
+pub joined_faces : (past : Trace) (o : Origin) (events : List Event) → AllRight past → Resumes past o → AreAllowed o events
     → AllRight (joined past o events) × Faces (gone past) (joined past o events) (history o events)
 joined_faces past o events a r d =
     facing_all (gone past) (resumed past o) (From o) _ (gone_right past a) (resumed_right past o a r) (faces_first past o a r) d

@@ -6,7 +6,7 @@ use Rattle.xa_base.proofs.BranchKeys.{gtrid_eq-true, branch_eq-refl}
 use Rattle.xa_base.specs.declared.answer.Answer.TheVariants.{Ret}
 use Rattle.xa_base.specs.declared.call.Call.TheVariants as Calls
 use Rattle.xa_base.specs.declared.code.Code.TheVariants as Codes
-use Rattle.xa_model.specs.Facts.{incarnation, decided_so, handed_over, started, told, says_yes, says_yes_in, standing, branches, has_branch}
+use Rattle.xa_model.specs.Facts.{incarnation, decided_so, handed_over, started, was_told, says_yes, says_yes_in, standing, branches, has_branch}
 use Rattle.xa_model.specs.Trace.{Gtrid, Branch, Call, Answer, Outcome, Happening.Heard, Trace, Trace.From, Trace.Then}
 use Rattle.xa_model.proofs.Invariant.{HasBegun, IsOlder, Old, Inv}
 use Rattle.xa_model.proofs.Invariant.Now.{begun_or_older, older_closed}
@@ -39,7 +39,7 @@ none_has_begun past b inv n h = by_case (begun_or_older past b inv h)
     by_case (inl s) = not_old past b.gtrid n (inv.started_old b s)
     by_case (inr o) = not_old past b.gtrid n (older_closed past b inv o).old
 
-pub none_said_yes : (past : Trace) (b : Branch) → Inv past → IsLater past b.gtrid → told past (says_yes b) ≡ false
+pub none_said_yes : (past : Trace) (b : Branch) → Inv past → IsLater past b.gtrid → was_told past (says_yes b) ≡ false
 none_said_yes past b inv n = false_from_ne_true _ (λ h. none_has_begun past b inv n (inv.voted_yes b h).has_begun)
 
 -- a yes in a transaction is of one of its branches
@@ -47,7 +47,7 @@ yes_by : (g : Gtrid) (c : Call) (a : Answer) → says_yes_in g c a ≡ true → 
 yes_by g (Calls.Prepare c) (Ret Codes.Success) h = (c, gtrid_eq-true c.gtrid g h, branch_eq-refl c)
 yes_by g _ _ h = absurd (cc)
 
-yes_of : (tr : Trace) (g : Gtrid) → told tr (says_yes_in g) ≡ true → (b : Branch) × (b.gtrid ≡ g) × (told tr (says_yes b) ≡ true)
+yes_of : (tr : Trace) (g : Gtrid) → was_told tr (says_yes_in g) ≡ true → (b : Branch) × (b.gtrid ≡ g) × (was_told tr (says_yes b) ≡ true)
 yes_of (From o) g h = absurd (cc)
 yes_of (Then tr (Heard l c a)) g h = by_case (or_cases _ _ h) (yes_of tr g)
   where
@@ -56,14 +56,14 @@ yes_of (Then tr (Heard l c a)) g h = by_case (or_cases _ _ h) (yes_of tr g)
     more b false t (inl k) = absurd (cc)
     more b false t (inr k) = k
 
-    by_case : (says_yes_in g c a ≡ true) ⊎ (told tr (says_yes_in g) ≡ true)
-        → (told tr (says_yes_in g) ≡ true → (b : Branch) × (b.gtrid ≡ g) × (told tr (says_yes b) ≡ true))
-        → (b : Branch) × (b.gtrid ≡ g) × ((says_yes b c a || told tr (says_yes b)) ≡ true)
+    by_case : (says_yes_in g c a ≡ true) ⊎ (was_told tr (says_yes_in g) ≡ true)
+        → (was_told tr (says_yes_in g) ≡ true → (b : Branch) × (b.gtrid ≡ g) × (was_told tr (says_yes b) ≡ true))
+        → (b : Branch) × (b.gtrid ≡ g) × ((says_yes b c a || was_told tr (says_yes b)) ≡ true)
     by_case (inl k) f = let y = yes_by g c a k in (y.0, y.1, more y.0 _ _ (inl y.2))
     by_case (inr k) f = let y = f k in (y.0, y.1, more y.0 _ _ (inr y.2))
 yes_of (Then tr _) g h = yes_of tr g h
 
-pub none_said_yes_in : (past : Trace) (g : Gtrid) → Inv past → IsLater past g → told past (says_yes_in g) ≡ false
+pub none_said_yes_in : (past : Trace) (g : Gtrid) → Inv past → IsLater past g → was_told past (says_yes_in g) ≡ false
 none_said_yes_in past g inv n =
     false_from_ne_true _ (λ h. let y = yes_of past g h in both _ y.2 (none_said_yes past y.0 inv (subst (IsLater past) (sym y.1) n)))
   where

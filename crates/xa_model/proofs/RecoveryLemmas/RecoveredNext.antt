@@ -15,15 +15,15 @@ use Rattle.xa_model.specs.Facts.InDoubt.{in_doubt, is_in_doubt_at, is_still_in_d
 use Rattle.xa_model.specs.Promises.Processes.{ListsFound, Resumes, gone, joined}
 use Rattle.xa_model.specs.Promises.Recovery.{IsRecovered, MayComplete, recovery}
 use Rattle.xa_model.specs.Protocol.{AllRight, IsRun, OldOrigin}
-use Rattle.xa_model.specs.Replies.Demanded.{AllDemanded, with_steps}
+use Rattle.xa_model.specs.Replies.Allowed.{AllAllowed, with_steps}
 use Rattle.xa_base.specs.declared.reply.Event.{Event}
-use Rattle.xa_model.specs.Replies.History.{AreDemanded, history, read}
+use Rattle.xa_model.specs.Replies.History.{AreAllowed, history, read}
 use Rattle.xa_model.specs.Replies.Steps.{Reply, Step, happened}
 use Rattle.xa_model.specs.Trace.{Answer, Branch, Call, Name, Name.Foreign, Name.Ours, Origin, Trace, Trace.From, Trace.Then}
 use Rattle.xa_model.proofs.Invariant.{HasBegun}
 use Rattle.xa_model.proofs.Invariant.Moves.{Move, Move.Stays, Move.Starts, Move.Completes, Move.Rolls_back, Move.Ends, Move.Fails, Move.Prepares, Move.Only_reads, Move.Refuses, Move.In_one_phase, Move.Commits, Move.Forgets, Move.Loses_active, Move.Loses_idle, Move.Loses_rollback_only}
 use Rattle.xa_model.proofs.Invariant.Now.{step_move}
-use Rattle.xa_model.proofs.Invariant.Preserved.{always, begun_is_started, never_found, run_always}
+use Rattle.xa_model.proofs.Invariant.Preservation.{always, begun_is_started, never_found, run_always}
 use Rattle.xa_model.proofs.Invariant.PreservedRows.{not_started_before, started_listed}
 use Rattle.xa_model.proofs.NameLemmas.OwnNames.{foreign_name, own_name}
 use Rattle.xa_model.proofs.ProcessLemmas.Facing.{Faces, record_is}
@@ -31,9 +31,9 @@ use Rattle.xa_model.proofs.ProcessLemmas.Joining.{gone_right, joined_faces}
 use Rattle.xa_model.proofs.ProcessLemmas.Leaving.{fits_branch}
 use Rattle.xa_model.proofs.ProcessLemmas.SameStates.{prepared_by_state}
 use Rattle.xa_model.proofs.RecoveryLemmas.Pages.{Each, each_append, each_in_order}
-use Rattle.xa_model.proofs.RecoveryLemmas.Recovered.{In}
+use Rattle.xa_model.proofs.RecoveryLemmas.WholeRecovery.{In}
 use Rattle.xa_model.proofs.RecoveryLemmas.RecoveredStart.{HasXid, each_in, has_in, in_behind, in_filtered, in_mapped, in_order_has, not_recorded, recovered_by}
-use Rattle.xa_model.proofs.Replies.Replies.{demanded_right}
+use Rattle.xa_model.proofs.Replies.Replies.{allowed_right}
 
 -- ** lists
 
@@ -202,14 +202,14 @@ pub origin_after : (t : Trace) (xs : List (Step × Reply)) → origin (with_step
 origin_after t [] = refl
 origin_after t (x ∷ xs) = origin_after (Then t (happened x.0 x.1)) xs
 
-pub run_all : (t : Trace) (xs : List (Step × Reply)) → IsRun t → AllDemanded t xs → IsRun (with_steps t xs)
+pub run_all : (t : Trace) (xs : List (Step × Reply)) → IsRun t → AllAllowed t xs → IsRun (with_steps t xs)
 run_all t [] r d = r
-run_all t (x ∷ xs) r d = run_all (Then t (happened x.0 x.1)) xs (r, demanded_right t x.0 x.1 d.0) d.1
+run_all t (x ∷ xs) r d = run_all (Then t (happened x.0 x.1)) xs (r, allowed_right t x.0 x.1 d.0) d.1
 
 facing_recovers : (past tr ur : Trace) (r count : ℕ) (names : List Name) (answers : List (Call × Answer)) → AllRight past → AllRight tr
     → Faces past tr ur → IsRun ur → ListsFound (origin ur)
     → ((b : Branch) → broken (held_of (origin ur) b).standing ≡ (held_of (origin ur) b).standing)
-    → MayComplete ur r count answers → AllDemanded ur (recovery r count names answers) → IsRecovered (with_steps ur (recovery r count names answers)) r
+    → MayComplete ur r count answers → AllAllowed ur (recovery r count names answers) → IsRecovered (with_steps ur (recovery r count names answers)) r
 facing_recovers past tr ur r count names answers a w f run lists still m d =
     recovered_by ur r count names answers (λ b q s. unrecorded b s)
     (λ b q s. doubtful_listed ur run m.numbers r b lists (still b) q (ap is_in_doubt s)) m d
@@ -221,14 +221,14 @@ facing_recovers past tr ur r count names answers a w f run lists still m d =
         ∙ not_recorded tr b (always tr w) (begun_is_started tr b w (subst HasBegun (sym p) tt)) p
 
 pub next_recovers : (past : Trace) (o : Origin) (events : List Event) (r count : ℕ) (names : List Name) (answers : List (Call × Answer)) → AllRight past
-    → Resumes past o → OldOrigin o → ListsFound o → AreDemanded o events → MayComplete (history o events) r count answers
-    → AllDemanded (history o events) (recovery r count names answers)
+    → Resumes past o → OldOrigin o → ListsFound o → AreAllowed o events → MayComplete (history o events) r count answers
+    → AllAllowed (history o events) (recovery r count names answers)
     → IsRecovered (with_steps (history o events) (recovery r count names answers)) r
-next_recovers past o events r count names answers a resumes old lists demanded m d =
-    let both = joined_faces past o events a resumes demanded in
+next_recovers past o events r count names answers a resumes old lists allowed m d =
+    let both = joined_faces past o events a resumes allowed in
     let is = origin_after (From o) (map read events) in
     facing_recovers (gone past) (joined past o events) (history o events) r count names answers (gone_right past a) both.0 both.1
-    (run_all (From o) (map read events) old demanded)
+    (run_all (From o) (map read events) old allowed)
     (subst ListsFound (sym is) lists)
     (subst (λ x. (b : Branch) → broken (held_of x b).standing ≡ (held_of x b).standing) (sym is)
     (λ b. still_by_state (held_of o b).standing (standing past b) (resumes.states b))) m d

@@ -13,7 +13,7 @@ use Rattle.xa_base.specs.Standing.{is_in_doubt}
 use Rattle.xa_base.specs.Xid.{Xid}
 use Rattle.xa_base.specs.declared.state.Standing.TheVariants.{Prepared}
 use Rattle.xa_base.proofs.XidOrder.{xid_cmp_exact}
-use Rattle.xa_model.specs.Replies.Demanded.{Demanded, Demanded.By_rule, Demanded.As_value, Demanded.For_memory, Demanded.For_log, Takes, Takes.Takes_none, Takes.Takes_one, with_steps, AllDemanded}
+use Rattle.xa_model.specs.Replies.Allowed.{Allowed, Allowed.By_rule, Allowed.As_value, Allowed.For_memory, Allowed.For_log, Takes, Takes.Takes_none, Takes.Takes_one, with_steps, AllAllowed}
 use Rattle.xa_model.specs.Facts.{origin, branches, started, live, has_branch, has_row, recorded, taken, issued, page, resolving_kind, resolving_calls, standing}
 use Rattle.xa_model.specs.Replies.History.{name_of}
 use Rattle.xa_model.specs.Facts.InDoubt.{xid_of_name, name_cmp, in_order, is_in_doubt_at, is_still_in_doubt, in_doubt, scan_answer}
@@ -32,10 +32,10 @@ use Rattle.xa_base.proofs.BranchKeys.{branch_eq-true}
 use Rattle.xa_model.proofs.Keys.{line_eq-refl}
 use Rattle.xa_model.proofs.NameLemmas.OwnNames.{own_name, foreign_name}
 use Rattle.xa_model.proofs.RecoveryLemmas.Pages.{Each, each_append, each_in_order}
-use Rattle.xa_model.proofs.Invariant.Preserved.{always, never_started}
+use Rattle.xa_model.proofs.Invariant.Preservation.{always, never_started}
 use Rattle.xa_model.proofs.Invariant.PreservedRows.{started_listed}
 use Rattle.xa_model.proofs.Invariant.Records.{recorded_how}
-use Rattle.xa_model.proofs.RecoveryLemmas.Recovered.{In, Pending, EndsBranch, AllEnd, IsToEnd, Left, all_taken}
+use Rattle.xa_model.proofs.RecoveryLemmas.WholeRecovery.{In, Pending, EndsBranch, AllEnd, IsToEnd, Left, all_taken}
 
 -- ** what is in doubt is listed
 
@@ -295,7 +295,7 @@ pending_calls t r count names e = record { at = λ k c h. at k c h }
 
 -- ** the whole recovery
 
-pub number_of : (t : Trace) (r n : ℕ) → Demanded t (Steps.Resolve r) (Replies.Resolved n) → n ≡ length (resolving_calls t (page t r))
+pub number_of : (t : Trace) (r n : ℕ) → Allowed t (Steps.Resolve r) (Replies.Resolved n) → n ≡ length (resolving_calls t (page t r))
 number_of t r n (By_rule x e q) = absurd (cc)
 number_of t r n (As_value e q) = cc
 number_of t r n (For_memory e m q) = absurd (cc)
@@ -321,23 +321,23 @@ page_taken_by : (t : Trace) (l : Line) (q : Reply) (k : ℤ) (x y : Bool) (names
 page_taken_by t l q k x y names (Takes_one c a h r) e = page_given t l c a k x y names r e
 page_taken_by t l q k x y names (Takes_none h) e = absurd (cc)
 
-page_demanded : (t : Trace) (r : ℕ) (k : ℤ) (x y : Bool) (names : List Name)
-    → Demanded t (Steps.Take 0 r) (Replies.Took (Calls.Recover k x y) (Page names)) → Page names ≡ scan_answer t r k x
-page_demanded t r k x y names (By_rule n e q) = absurd (cc)
-page_demanded t r k x y names (As_value e v) = page_taken_by t (line 0 r) _ k x y names v refl
-page_demanded t r k x y names (For_memory e m q) = absurd (cc)
-page_demanded t r k x y names (For_log e m q) = absurd (cc)
+page_allowed : (t : Trace) (r : ℕ) (k : ℤ) (x y : Bool) (names : List Name)
+    → Allowed t (Steps.Take 0 r) (Replies.Took (Calls.Recover k x y) (Page names)) → Page names ≡ scan_answer t r k x
+page_allowed t r k x y names (By_rule n e q) = absurd (cc)
+page_allowed t r k x y names (As_value e v) = page_taken_by t (line 0 r) _ k x y names v refl
+page_allowed t r k x y names (For_memory e m q) = absurd (cc)
+page_allowed t r k x y names (For_log e m q) = absurd (cc)
 
 -- where each branch that is prepared there is listed, and not recorded
 pub recovered_by : (t : Trace) (r count : ℕ) (names : List Name) (answers : List (Call × Answer))
     → ((b : Branch) → b.rm ≡ r → standing t b ≡ Prepared → recorded t b ≡ false)
     → ((b : Branch) → b.rm ≡ r → standing t b ≡ Prepared → In (in_doubt t r) (Ours b))
-    → MayComplete t r count answers → AllDemanded t (recovery r count names answers) → IsRecovered (with_steps t (recovery r count names answers)) r
+    → MayComplete t r count answers → AllAllowed t (recovery r count names answers) → IsRecovered (with_steps t (recovery r count names answers)) r
 recovered_by t r count names answers unrecorded is_listed m d =
     all_taken (Then (paged t r count names) (Resolved r)) r (resolving_calls (paged t r count names) names) answers left number m.none_put_off d.1.1.1.1
   where
     listed_now : Page names ≡ Page (take count (in_doubt t r))
-    listed_now = page_demanded (Then t (Issued (line 0 r) (Calls.Recover (pos count) true true))) r (pos count) true true names d.1.0
+    listed_now = page_allowed (Then t (Issued (line 0 r) (Calls.Recover (pos count) true true))) r (pos count) true true names d.1.0
 
     page_taken : Page names ≡ Page (take count (in_doubt t r)) → names ≡ take count (in_doubt t r)
     page_taken e = cc
@@ -365,7 +365,7 @@ recovered_by t r count names answers unrecorded is_listed m d =
     }
 
 pub recovered : (t : Trace) (r count : ℕ) (names : List Name) (answers : List (Call × Answer)) → AllRight t
-    → MayComplete t r count answers → AllDemanded t (recovery r count names answers) → IsRecovered (with_steps t (recovery r count names answers)) r
+    → MayComplete t r count answers → AllAllowed t (recovery r count names answers) → IsRecovered (with_steps t (recovery r count names answers)) r
 recovered t r count names answers a m d =
     recovered_by t r count names answers
     (λ b q s. not_recorded t b (always t a) (in_doubt_started t b a (ap is_in_doubt s)) s) (λ b q s. listed t r b a m.numbers q s) m d

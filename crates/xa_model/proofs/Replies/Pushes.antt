@@ -3,12 +3,12 @@ use Rattle.std.proofs.Common.{◌≡◌, List, [], ◌∷◌, ◌++◌, refl, sy
 use Rattle.std.specs.Prelude.{map}
 use Rattle.xa_base.specs.declared.reply.Event.{Event}
 use Rattle.xa_model.specs.Promises.Agreement.{followed_by, IsMoment}
-use Rattle.xa_model.specs.Replies.Demanded.{Demanded, with_steps, AllDemanded}
-use Rattle.xa_model.specs.Replies.History.{read, happening_of, history, IsDemanded, AreDemanded}
+use Rattle.xa_model.specs.Replies.Allowed.{Allowed, with_steps, AllAllowed}
+use Rattle.xa_model.specs.Replies.History.{read, happening_of, history, IsAllowedEvent, AreAllowed}
 use Rattle.xa_model.specs.Replies.Steps.{Step, Reply, happened}
 use Rattle.xa_model.specs.Trace.{Happening, Origin, Trace, Trace.From, Trace.Then}
 
-with_steps_append : (tr : Trace) (xs ys : List (Step × Reply)) → with_steps tr (xs ++ ys) ≡ with_steps (with_steps tr xs) ys
+pub with_steps_append : (tr : Trace) (xs ys : List (Step × Reply)) → with_steps tr (xs ++ ys) ≡ with_steps (with_steps tr xs) ys
 with_steps_append tr [] ys = refl
 with_steps_append tr (x ∷ xs) ys = with_steps_append (Then tr (happened x.0 x.1)) xs ys
 
@@ -22,19 +22,19 @@ history_append o xs ys = ap (with_steps (From o)) (read_append xs ys) ∙ with_s
 pub history_push : (o : Origin) (xs : List Event) (e : Event) → history o (xs ++ e ∷ []) ≡ Then (history o xs) (happening_of e)
 history_push o xs e = history_append o xs (e ∷ [])
 
-all_push : (tr : Trace) (xs : List (Step × Reply)) (x : Step × Reply) → AllDemanded tr xs → Demanded (with_steps tr xs) x.0 x.1 → AllDemanded tr (xs ++ x ∷ [])
+all_push : (tr : Trace) (xs : List (Step × Reply)) (x : Step × Reply) → AllAllowed tr xs → Allowed (with_steps tr xs) x.0 x.1 → AllAllowed tr (xs ++ x ∷ [])
 all_push tr [] x a d = (d, tt)
 all_push tr (y ∷ xs) x a d = (a.0, all_push (Then tr (happened y.0 y.1)) xs x a.1 d)
 
-pub demanded_push : (o : Origin) (xs : List Event) (e : Event) → AreDemanded o xs → IsDemanded (history o xs) e → AreDemanded o (xs ++ e ∷ [])
-demanded_push o xs e a d = subst (AllDemanded (From o)) (sym (read_append xs (e ∷ []))) (all_push (From o) (map read xs) (read e) a d)
+pub allowed_push : (o : Origin) (xs : List Event) (e : Event) → AreAllowed o xs → IsAllowedEvent (history o xs) e → AreAllowed o (xs ++ e ∷ [])
+allowed_push o xs e a d = subst (AllAllowed (From o)) (sym (read_append xs (e ∷ []))) (all_push (From o) (map read xs) (read e) a d)
 
-all_before : (tr : Trace) (xs ys : List (Step × Reply)) → AllDemanded tr (xs ++ ys) → AllDemanded tr xs
+all_before : (tr : Trace) (xs ys : List (Step × Reply)) → AllAllowed tr (xs ++ ys) → AllAllowed tr xs
 all_before tr [] ys a = tt
 all_before tr (x ∷ xs) ys a = (a.0, all_before (Then tr (happened x.0 x.1)) xs ys a.1)
 
-pub demanded_before : (o : Origin) (xs ys : List Event) → AreDemanded o (xs ++ ys) → AreDemanded o xs
-demanded_before o xs ys a = all_before (From o) (map read xs) (map read ys) (subst (AllDemanded (From o)) (read_append xs ys) a)
+pub allowed_before : (o : Origin) (xs ys : List Event) → AreAllowed o (xs ++ ys) → AreAllowed o xs
+allowed_before o xs ys a = all_before (From o) (map read xs) (map read ys) (subst (AllAllowed (From o)) (read_append xs ys) a)
 
 -- what happened in these events
 happenings : List Event → List Happening

@@ -9,8 +9,8 @@ use Rattle.xa_base.specs.Standing.{is_prepared}
 use Rattle.xa_base.specs.declared.state.Standing.{Standing}
 use Rattle.xa_base.specs.declared.state.Standing.TheVariants.{Prepared}
 use Rattle.xa_base.specs.declared.step.Side.TheVariants as Side
-use Rattle.xa_model.specs.Replies.Demanded.{Takes, Takes.Takes_one, Takes.Takes_none, Hears, Hears.Hears_one, Hears.Hears_none, Restarts, Restarts.Restarts_as, IsValue, UsesLog, Demanded, Demanded.By_rule, Demanded.As_value, Demanded.For_memory, Demanded.For_log, with_steps, AllDemanded}
-use Rattle.xa_model.specs.Facts.{branches, outlived, participants_settled, decided_so, claimed, up, begun, live, started, settled, all_of, has_voted, is_taken_up, is_shut}
+use Rattle.xa_model.specs.Replies.Allowed.{Takes, Takes.Takes_one, Takes.Takes_none, Hears, Hears.Hears_one, Hears.Hears_none, Restarts, Restarts.Restarts_as, IsValue, UsesLog, Allowed, Allowed.By_rule, Allowed.As_value, Allowed.For_memory, Allowed.For_log, with_steps, AllAllowed}
+use Rattle.xa_model.specs.Facts.{branches, outlived, participants_settled, decided_so, claimed, up, begun, live, started, is_settled, all_of, has_voted, is_taken_up, is_shut}
 use Rattle.xa_model.specs.Protocol.{IsKnown, IsRowSettled, HasVoted, MayBeCalled, IsOpen, RightCall, IsOnOwnThread, RightClaim, RightDecision, RightDone, Right, AllRight}
 use Rattle.xa_model.specs.Replies.Rules.{is_own, asks_manager, applies, rules, first_of, is_there, must_refuse, forces_wrong_thread}
 use Rattle.xa_base.specs.declared.reply.Reply.TheVariants as Replies
@@ -280,8 +280,8 @@ right_done tr g e = record {
 }
   where
     by_begun : (t : Bool) → begun tr g ≡ t → not (t || outlived tr g) ≡ false
-        → not (if t then all_of g (settled tr) (branches tr) else participants_settled tr g) ≡ false → IsRowSettled tr g
-    by_begun true q u h = inl (q, λ b k s. each_started tr g (settled tr) h b k s)
+        → not (if t then all_of g (is_settled tr) (branches tr) else participants_settled tr g) ≡ false → IsRowSettled tr g
+    by_begun true q u h = inl (q, λ b k s. each_started tr g (is_settled tr) h b k s)
     by_begun false q u h = inr (not-false _ u, not-false _ h)
 
 -- ** replies
@@ -417,14 +417,14 @@ pub rule_right : (tr : Trace) (s : Step) (n : Refusal) → IsForced n → Right 
 rule_right tr s Refusal.LogFault f = absurd f
 rule_right tr s _ f = tt
 
-pub demanded_right : (tr : Trace) (s : Step) (r : Reply) → Demanded tr s r → Right tr (happened s r)
-demanded_right tr s r (By_rule n e q) = by tr s r _ q (rule_right tr s n (forced tr s n e))
-demanded_right tr s r (As_value e v) = value_right tr s r e v
-demanded_right tr s r (For_memory e m q) = by tr s r _ q tt
-demanded_right tr s r (For_log e u q) = by tr s r _ q (fault_right tr s e u)
+pub allowed_right : (tr : Trace) (s : Step) (r : Reply) → Allowed tr s r → Right tr (happened s r)
+allowed_right tr s r (By_rule n e q) = by tr s r _ q (rule_right tr s n (forced tr s n e))
+allowed_right tr s r (As_value e v) = value_right tr s r e v
+allowed_right tr s r (For_memory e m q) = by tr s r _ q tt
+allowed_right tr s r (For_log e u q) = by tr s r _ q (fault_right tr s e u)
 
 -- ** a whole history
 
-pub all_right : (tr : Trace) (xs : List (Step × Reply)) → AllRight tr → AllDemanded tr xs → AllRight (with_steps tr xs)
+pub all_right : (tr : Trace) (xs : List (Step × Reply)) → AllRight tr → AllAllowed tr xs → AllRight (with_steps tr xs)
 all_right tr [] r d = r
-all_right tr (x ∷ xs) r d = all_right (Then tr (happened x.0 x.1)) xs (r, demanded_right tr x.0 x.1 d.0) d.1
+all_right tr (x ∷ xs) r d = all_right (Then tr (happened x.0 x.1)) xs (r, allowed_right tr x.0 x.1 d.0) d.1

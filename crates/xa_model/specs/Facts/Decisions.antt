@@ -3,7 +3,7 @@
 use Rattle.std.specs.Prelude.{List, [], ◌∷◌, Bool, false, not, ◌&&◌, ◌||◌, true}
 use Rattle.xa_base.specs.Branch.{gtrid_eq, branch_eq}
 use Rattle.xa_base.specs.declared.step.Part.TheVariants as Part
-use Rattle.xa_model.specs.Facts.Heard.{page, lists_one_of, told, says_yes, says_read_only}
+use Rattle.xa_model.specs.Facts.HeardAnswers.{page, lists_one_of, was_told, says_yes, says_read_only}
 use Rattle.xa_model.specs.Facts.Manager.{begun}
 use Rattle.xa_base.specs.declared.call.Call.TheVariants as Calls
 use Rattle.xa_model.specs.Trace.{Gtrid, Branch, Outcome, Happening.Issued, Happening.ResolvedOpen, Happening.Claimed, Happening.Decided, Happening.Crashed, Happening.Failed, Happening.Restarted, Trace, Trace.From, Trace.Then}
@@ -59,4 +59,4 @@ all_of g test (b ∷ bs) = (not (gtrid_eq b.gtrid g) || test b) && all_of g test
 
 -- XA_OK or XA_RDONLY was heard to the branch's xa_prepare
 abbrev pub has_voted : Trace → Branch → Bool
-has_voted tr b = told tr (says_yes b) || told tr (says_read_only b)
+has_voted tr b = was_told tr (says_yes b) || was_told tr (says_read_only b)

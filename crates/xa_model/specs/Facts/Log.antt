@@ -4,9 +4,9 @@ use Rattle.std.specs.Prelude.{List, [], ◌∷◌, length, Bool, false, not, ◌
 use Rattle.xa_base.specs.Branch.{gtrid_eq, branch_eq}
 use Rattle.xa_base.specs.declared.code.Code.TheVariants as Codes
 use Rattle.xa_base.specs.declared.step.Outcome.TheVariants as Outcome
-use Rattle.xa_model.specs.Facts.Answered.{next_answer}
+use Rattle.xa_model.specs.Facts.LineAnswers.{next_answer}
 use Rattle.xa_model.specs.Facts.Decisions.{branches, decided_so, handed_over, claimed}
-use Rattle.xa_model.specs.Facts.Heard.{told, says_yes, says_yes_in}
+use Rattle.xa_model.specs.Facts.HeardAnswers.{was_told, says_yes, says_yes_in}
 use Rattle.xa_model.specs.Facts.Manager.{up, incarnation}
 use Rattle.xa_base.specs.declared.call.Call.TheVariants as Calls
 use Rattle.xa_base.specs.declared.answer.Answer.TheVariants.{Ret}
@@ -70,7 +70,7 @@ heuristics_changed _ xs = xs
 
 -- a branch is one of the transaction, and a yes of it was heard
 abbrev pub takes_part : Trace → Gtrid → Branch → Bool
-takes_part tr g b = gtrid_eq b.gtrid g && told tr (says_yes b)
+takes_part tr g b = gtrid_eq b.gtrid g && was_told tr (says_yes b)
 
 -- the row that a decision to commit makes
 abbrev pub row_for : Trace → Gtrid → Row
@@ -109,7 +109,7 @@ doubt (Then tr _) = doubt tr
 -- tells that the change in doubt was made
 abbrev pub log : Trace → List Row
 log (From o) = o.rows
-log (Then tr (Decided g Outcome.Commit)) = if told tr (says_yes_in g) then row_for tr g ∷ log tr else log tr
+log (Then tr (Decided g Outcome.Commit)) = if was_told tr (says_yes_in g) then row_for tr g ∷ log tr else log tr
 log (Then tr (Done g)) = without g (log tr)
 log (Then tr (Restarted i d h)) = if d == length (log tr) then log tr else rows_changed (doubt tr) (log tr)
 log (Then tr _) = log tr
@@ -130,7 +130,7 @@ adds_row _ g = false
 -- a row was there at some time, even if it has left since
 abbrev pub had_row : Trace → Gtrid → Bool
 had_row (From o) g = lists_row o.rows g
-had_row (Then tr (Decided h Outcome.Commit)) g = (gtrid_eq h g && told tr (says_yes_in h)) || had_row tr g
+had_row (Then tr (Decided h Outcome.Commit)) g = (gtrid_eq h g && was_told tr (says_yes_in h)) || had_row tr g
 had_row (Then tr (Restarted i d h)) g = (not (d == length (log tr)) && adds_row (doubt tr) g) || had_row tr g
 had_row (Then tr _) g = had_row tr g
 

@@ -6,7 +6,7 @@ use Rattle.xa_base.specs.declared.state.Standing.{Standing}
 use Rattle.xa_base.specs.declared.state.Standing.TheVariants.{Prepared, Completed, ReadOnly}
 use Rattle.xa_model.specs.Promises.Agreement.{phases}
 use Rattle.xa_model.specs.Promises.Commitment.{Phase}
-use Rattle.xa_model.specs.Facts.{incarnation, sequence, counts_as_committed, claimed, handed_over, started, has_row, ever, had_row, settled, taken, issued, standing}
+use Rattle.xa_model.specs.Facts.{incarnation, sequence, counts_as_committed, claimed, handed_over, started, has_row, ever, had_row, is_settled, taken, issued, standing}
 use Rattle.xa_model.specs.Protocol.{AllAreSettled}
 use Rattle.xa_base.specs.declared.call.Call.TheVariants as Calls
 use Rattle.xa_model.specs.Trace.{Gtrid, Branch, Line, Kind, Kind.Start, Kind.Join, Call, How, Trace}
@@ -21,7 +21,7 @@ IsWaiting tr l c = (i : ℕ) × (length (taken tr l) ≤ i) × (slice_get (issue
 abbrev pub CommitHasRow : Trace → Type 0
 CommitHasRow tr =
     (l : Line) (b : Branch) → started tr b ≡ true → IsWaiting tr l (Calls.Commit b false)
-    → (has_row tr b.gtrid ≡ true) ⊎ (settled tr b ≡ true)
+    → (has_row tr b.gtrid ≡ true) ⊎ (is_settled tr b ≡ true)
 
 -- a waiting xa_rollback of a branch never had a row, or all branches of its transaction are settled
 abbrev pub RollbackHasNoRow : Trace → Type 0
@@ -63,7 +63,7 @@ ClaimedIsPrepared tr = (b : Branch) → started tr b ≡ true → claimed tr b.g
 -- a settled branch has ended, and a row leaves only when all branches of its transaction are settled
 pub record SettledIsOver (tr : Trace) : Type 0 where
   pub over :
-      (b : Branch) → started tr b ≡ true → settled tr b ≡ true
+      (b : Branch) → started tr b ≡ true → is_settled tr b ≡ true
       → (state_of (standing tr b) ≡ S0) ⊎ ((how : How) × (state_of (standing tr b) ≡ S5 how))
   pub rows_leave : (g : Gtrid) → had_row tr g ≡ true → has_row tr g ≡ false → AllAreSettled tr g
 

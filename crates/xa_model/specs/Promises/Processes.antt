@@ -14,7 +14,7 @@ use Rattle.xa_model.specs.Facts.{doubt, fits, has_branch, has_record, held_of, h
 use Rattle.xa_model.specs.Facts.InDoubt.{in_doubt, name_of, xid_of_name}
 use Rattle.xa_model.specs.Promises.Agreement.{IsUndone}
 use Rattle.xa_model.specs.Protocol.{RightOrigin}
-use Rattle.xa_model.specs.Replies.History.{AreDemanded, and_then, history}
+use Rattle.xa_model.specs.Replies.History.{AreAllowed, and_then, history}
 use Rattle.xa_model.specs.Trace.{Gtrid, Branch, Name, Name.Ours, Name.Foreign, How, Happening.CompletedAlone, Happening.Crashed, Happening.Restarted, Row, Recorded, Origin, Trace, Trace.Then}
 
 -- ** the same log
@@ -102,9 +102,9 @@ joined past o events = and_then (resumed past o) events
 -- histories of several processes: the first started where none had been before, and a resource manager may end a branch alone also
 -- while no process is there
 pub data OfProcesses : Trace → Type 0 where
-  First : (o : Origin) (events : List Event) → RightOrigin o → AreDemanded o events → OfProcesses (history o events)
+  First : (o : Origin) (events : List Event) → RightOrigin o → AreAllowed o events → OfProcesses (history o events)
   Next :
-      (past : Trace) (o : Origin) (events : List Event) → OfProcesses past → Resumes past o → AreDemanded o events
+      (past : Trace) (o : Origin) (events : List Event) → OfProcesses past → Resumes past o → AreAllowed o events
       → OfProcesses (joined past o events)
   Alone :
       (past : Trace) (b : Branch) (how : How) → OfProcesses past → standing past b ≡ Prepared

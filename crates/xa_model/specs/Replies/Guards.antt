@@ -1,5 +1,5 @@
 -- The refusals by step: what each step is refused for, in the order in which this is checked. `Rules` says the same by refusal, and
--- the manager is proved against that; the clause `guards` of `demanded` proves that the two agree.
+-- the manager is proved against that; the clause `guards` of `allowed` proves that the two agree.
 use Rattle.xa_base.specs.declared.limits.TheConstants.{BEGIN_LIMIT, LINE_LIMIT}
 use Rattle.std.specs.Prelude.{ℕ, ◌+◌, List, [], ◌∷◌, ◌++◌, length, Bool, true, false, not, ◌&&◌, ◌||◌, if◌then◌else◌, Option, Some, None, nat_eq, nat_le, nat_lt}
 use Rattle.xa_base.specs.Branch.{branch_eq}
@@ -12,7 +12,7 @@ use Rattle.xa_base.specs.declared.step.Side.TheVariants as Side
 use Rattle.xa_base.specs.declared.step.Step.TheVariants as Steps
 use Rattle.xa_base.specs.Opening.{comes_unopened}
 use Rattle.xa_base.specs.StateTable.{asks_of}
-use Rattle.xa_model.specs.Facts.{all_of, answers_start, begins, begun, branches, claimed, decided_so, handed_over, has_row, has_unfinished, has_voted, is_closed, is_open, is_shut, is_taken_up, issued, live, on_line, outlived, page, recorded, resolving_calls, rm_up, row_settled, standing, started, told, unheard, up, waiting}
+use Rattle.xa_model.specs.Facts.{all_of, answers_start, begins, begun, branches, claimed, decided_so, handed_over, has_row, has_unfinished, has_voted, is_closed, is_open, is_shut, is_taken_up, issued, live, on_line, outlived, page, recorded, resolving_calls, rm_up, row_settled, standing, started, was_told, unheard, up, waiting}
 use Rattle.xa_model.specs.Replies.Rules.{is_at, is_elsewhere, is_there}
 use Rattle.xa_model.specs.Replies.Steps.{Refusal, Step}
 use Rattle.xa_model.specs.Trace.{Gtrid, Name, Name.Foreign, Name.Ours, Happening.ResolvedOpen, Trace, Trace.Then, line}
@@ -56,7 +56,7 @@ call_guards tr t r (Calls.Rollback (Ours b)) =
     (Refusal.UnknownTransaction, not (begun tr b.gtrid))
     ∷ (Refusal.WrongThread, is_elsewhere t r (asks_of (Calls.Rollback (Ours b))))
     ∷ (Refusal.NotDecided, not (decided_so Outcome.Rollback tr b.gtrid || handed_over tr b.gtrid))
-    ∷ (Refusal.Busy, on_line tr b && not (told tr (answers_start b))) ∷ []
+    ∷ (Refusal.Busy, on_line tr b && not (was_told tr (answers_start b))) ∷ []
 call_guards tr t r (Calls.Forget (Ours b)) =
     (Refusal.UnknownTransaction, not (begun tr b.gtrid))
     ∷ (Refusal.WrongThread, is_elsewhere t r (asks_of (Calls.Forget (Ours b))))

@@ -4,7 +4,7 @@ use Rattle.xa_base.specs.Xid.{Xid}
 use Rattle.xa_base.specs.declared.reply.Event.{Event}
 use Rattle.xa_base.specs.declared.reply.Reply as Replied
 use Rattle.xa_base.specs.declared.step.Step as Asked
-use Rattle.xa_model.specs.Replies.Demanded.{Demanded, with_steps, AllDemanded}
+use Rattle.xa_model.specs.Replies.Allowed.{Allowed, with_steps, AllAllowed}
 use Rattle.xa_model.specs.Replies.Steps.{Step, Reply, map_step, map_reply, happened}
 pub use Rattle.xa_model.specs.Facts.InDoubt.{name_by, name_of}
 use Rattle.xa_model.specs.Trace.{Happening, Origin, Trace, Trace.From}
@@ -37,12 +37,12 @@ abbrev pub history : Origin → List Event → Trace
 history o events = and_then (From o) events
 
 -- the event's reply is one that the history allows
-abbrev pub IsDemanded : Trace → Event → Type 0
-IsDemanded tr e = Demanded tr (step_of e.step) (reply_of e.reply)
+abbrev pub IsAllowedEvent : Trace → Event → Type 0
+IsAllowedEvent tr e = Allowed tr (step_of e.step) (reply_of e.reply)
 
 -- each event's reply is one that the history before it allows
-abbrev pub AreDemanded : Origin → List Event → Type 0
-AreDemanded o events = AllDemanded (From o) (map read events)
+abbrev pub AreAllowed : Origin → List Event → Type 0
+AreAllowed o events = AllAllowed (From o) (map read events)
 
 -- ** moments
 

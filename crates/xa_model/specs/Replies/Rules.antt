@@ -6,7 +6,7 @@ use Rattle.xa_base.specs.Standing.{is_in_doubt, is_prepared}
 use Rattle.xa_base.specs.declared.step.Outcome.TheVariants as Outcome
 use Rattle.xa_base.specs.declared.step.Part.TheVariants as Part
 use Rattle.xa_base.specs.declared.step.Side.TheVariants as Side
-use Rattle.xa_model.specs.Facts.{origin, up, begun, decided_so, handed_over, claimed, live, started, told, has_row, recorded, branches, outlived, page, resolving_calls, standing, issued, is_open, is_closed, rm_up, begins, waiting, unheard, all_of, has_voted, is_taken_up, is_shut, row_settled, on_line, answers_start, has_unfinished}
+use Rattle.xa_model.specs.Facts.{origin, up, begun, decided_so, handed_over, claimed, live, started, was_told, has_row, recorded, branches, outlived, page, resolving_calls, standing, issued, is_open, is_closed, rm_up, begins, waiting, unheard, all_of, has_voted, is_taken_up, is_shut, row_settled, on_line, answers_start, has_unfinished}
 use Rattle.xa_base.specs.declared.step.Step.TheVariants as Steps
 use Rattle.xa_model.specs.Replies.Steps.{Step, Refusal}
 use Rattle.xa_base.specs.declared.call.Call.TheVariants as Calls
@@ -142,7 +142,7 @@ forces_votes tr _ = false
 -- a restart of what is up
 abbrev pub forces_busy : Trace → Step → Bool
 forces_busy tr (Steps.Issue t r Calls.CloseRm) = has_unfinished tr (line t r) (branches tr)
-forces_busy tr (Steps.Issue t r (Calls.Rollback (Ours b))) = on_line tr b && not (told tr (answers_start b))
+forces_busy tr (Steps.Issue t r (Calls.Rollback (Ours b))) = on_line tr b && not (was_told tr (answers_start b))
 forces_busy tr (Steps.Done g) = not (row_settled tr g)
 forces_busy tr (Steps.Restart (Side.Rm r)) = rm_up tr r
 forces_busy tr (Steps.Restart Side.Manager) = up tr

@@ -1,12 +1,12 @@
 //! The files of a log: copied into one and closed, and opened again.
-ghost use Rattle.std.specs.Prelude.{◌≡◌, false, Some, IsTrue, IfOk, IfErr};
+ghost use Rattle.std.specs.Prelude.{◌≡◌, Some, IsTrue, IfOk, IfErr};
 ghost use Rattle.sqlite.specs.State.{HasCleanDisk};
 ghost use Rattle.sqlite.specs.Files.{file_state, image_of};
 ghost use Rattle.sqlite_wal.specs.Reads.{AreClean};
 ghost use Rattle.xa_log.specs.Content.{Content};
 ghost use Rattle.xa_log.specs.Contract.{IsStoreFault};
-ghost use Rattle.xa_sql_log.specs.Closed.{HoldsWhole};
-ghost use Rattle.xa_sql_log.specs.Opened.{HoldsLog, IsOver};
+ghost use Rattle.xa_sql_log.specs.ClosedFiles.{HoldsWhole};
+ghost use Rattle.xa_sql_log.specs.OpenedDatabase.{HoldsLog, IsOver};
 
 use super::SqlLog;
 use crate::statements::store_fault;

@@ -10,7 +10,7 @@ ghost use Rattle.xa_log.specs.Content.{nothing};
 ghost use Rattle.xa_log.specs.Contract.{IsStoreFault};
 ghost use Rattle.xa_sql_log.specs.Sql.{IsLasting, IsReadyWith};
 ghost use Rattle.xa_sql_log.specs.declared.sql_log.SqlLog.{SqlLog as Log};
-ghost use Rattle.xa_sql_log.specs.Opened.{IsTaken, IsOver, IsKnownDatabase, HoldsLog, FindsLog};
+ghost use Rattle.xa_sql_log.specs.OpenedDatabase.{IsTaken, IsOver, IsKnownDatabase, HoldsLog, FindsLog};
 
 use super::SqlLog;
 use crate::statements::store_fault;

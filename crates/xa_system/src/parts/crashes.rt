@@ -5,8 +5,8 @@ ghost use Rattle.xa_base.specs.declared.step.Part.TheVariants as KnownParts;
 ghost use Rattle.xa_base.specs.declared.step.Side.TheVariants as Sides;
 ghost use Rattle.xa_base.specs.declared.step.Step.TheVariants as Steps;
 ghost use Rattle.xa_system.specs.Parts.{GoesOn, StandsSomewhere, sees};
-ghost use Rattle.xa_tm.specs.Kept.{log_in};
-ghost use Rattle.xa_tm.specs.Tied.{IsReadFrom};
+ghost use Rattle.xa_tm.specs.Calls.{log_in};
+ghost use Rattle.xa_tm.specs.BookAndLog.{IsReadFrom};
 
 use super::Parts;
 use crate::site::crash_all;

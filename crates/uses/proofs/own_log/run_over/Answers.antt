@@ -1,8 +1,8 @@
 use Rattle.std.proofs.Common.{◌∙◌, subst, sym}
 use Rattle.std.specs.Prelude.{IsSomeAnd}
-use Rattle.xa_system.specs.Logged.{StartsOver}
-use Rattle.xa_system.specs.Seen.{origin_in}
-use Rattle.xa_system.specs.Sites.{looks}
+use Rattle.xa_system.specs.LogInHistory.{StartsOver}
+use Rattle.xa_system.specs.SystemView.{origin_in}
+use Rattle.xa_system.specs.RmInHistory.{looks}
 use Rattle.xa_tm.specs.Slots.{slot_moment}
 use Rattle.uses.proofs.own_log.run_over.Goals as goal
 

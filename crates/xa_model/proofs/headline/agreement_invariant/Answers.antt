@@ -1,5 +1,5 @@
-use Rattle.xa_model.proofs.Invariant.Carried.{commit_has_row, rollback_has_no_row, no_start_after_commit, rows_were_prepared, settled_is_over, fresh_gtrids, handed_over_alone, claimed_is_prepared}
-use Rattle.xa_model.proofs.Invariant.Preserved.{always, run_of}
+use Rattle.xa_model.proofs.Invariant.AtEachMoment.{commit_has_row, rollback_has_no_row, no_start_after_commit, rows_were_prepared, settled_is_over, fresh_gtrids, handed_over_alone, claimed_is_prepared}
+use Rattle.xa_model.proofs.Invariant.Preservation.{always, run_of}
 use Rattle.xa_model.proofs.headline.agreement_invariant.Goals as goal
 
 pub returns-clause-commit_has_row : goal.returns-clause-commit_has_row

@@ -1,12 +1,12 @@
 use Rattle.std.proofs.Common.{◌≡◌, ◌∷◌, ◌++◌, List, sym, subst}
 use Rattle.xa_model.specs.Promises.Agreement.{IsMoment}
-use Rattle.xa_model.specs.Replies.History.{AreDemanded, happening_of, history}
+use Rattle.xa_model.specs.Replies.History.{AreAllowed, happening_of, history}
 use Rattle.xa_model.specs.Protocol.{AllRight}
 use Rattle.xa_base.specs.declared.reply.Event.{Event}
 use Rattle.xa_model.proofs.headline.headline_holds.Goals as goal
 
 pub returns : goal.returns
-returns c o events start demanded = record {
+returns c o events start allowed = record {
   prefix = λ before later is l. c.agreement.ensures.prefix _ l (right before later is);
   nothing_after_close = λ before later is l. c.agreement.ensures.nothing_after_close _ l (right before later is);
   ends_once = λ before later is b. c.agreement.ensures.ends_once _ b (right before later is);
@@ -28,13 +28,13 @@ returns c o events start demanded = record {
 }
   where
     whole : AllRight (history o events)
-    whole = c.demanded.ensures.events o events start demanded
+    whole = c.replies_are_allowed.ensures.events o events start allowed
 
     -- each beginning of the events is a right history
     right : (before later : List Event) → before ++ later ≡ events → AllRight (history o before)
     right before later is =
-        c.demanded.ensures.events o before start
-        (c.one_more_event.ensures.before o before later (subst (AreDemanded o) (sym is) demanded))
+        c.replies_are_allowed.ensures.events o before start
+        (c.one_more_event.ensures.before o before later (subst (AreAllowed o) (sym is) allowed))
 
     -- each event is a moment of the whole
     moment : (before later : List Event) (e : Event) → before ++ e ∷ later ≡ events → IsMoment (history o before) (happening_of e) (history o events)

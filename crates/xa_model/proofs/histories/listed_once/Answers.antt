@@ -1,5 +1,5 @@
 use Rattle.xa_model.proofs.AgreementLemmas.Distinct.{rows_apart, records_apart, branches_apart}
-use Rattle.xa_model.proofs.Invariant.Preserved.{run_of}
+use Rattle.xa_model.proofs.Invariant.Preservation.{run_of}
 use Rattle.xa_model.proofs.histories.listed_once.Goals as goal
 
 pub returns-clause-rows : goal.returns-clause-rows

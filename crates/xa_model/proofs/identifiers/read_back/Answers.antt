@@ -1,4 +1,4 @@
-use Rattle.xa_model.proofs.NameLemmas.ReadBackLemmas.{step_is_back, reply_is_back, demanded_ours}
+use Rattle.xa_model.proofs.NameLemmas.ReadBackLemmas.{step_is_back, reply_is_back, allowed_ours}
 use Rattle.xa_model.proofs.identifiers.read_back.Goals as goal
 
 pub returns-clause-steps : goal.returns-clause-steps
@@ -8,4 +8,4 @@ pub returns-clause-replies : goal.returns-clause-replies
 returns-clause-replies c = reply_is_back
 
 pub returns-clause-ours : goal.returns-clause-ours
-returns-clause-ours c = demanded_ours
+returns-clause-ours c = allowed_ours

@@ -1,8 +1,8 @@
 use Rattle.std.proofs.Common.{◌≡◌, ◌-◌, length}
 use Rattle.xa_scenario.specs.Plays.{IsDrain}
 use Rattle.xa_scenario.proofs.PlayLemmas.{GoesOn}
-use Rattle.xa_system.specs.Seen.{origin_in}
-use Rattle.xa_system.specs.Sites.{looks}
+use Rattle.xa_system.specs.SystemView.{origin_in}
+use Rattle.xa_system.specs.RmInHistory.{looks}
 use Rattle.xa_scenario.proofs.play.drain.Given as goal
 
 abbrev pub invariant-pairs : goal.invariant-pairs

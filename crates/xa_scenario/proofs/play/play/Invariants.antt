@@ -1,8 +1,8 @@
 use Rattle.std.proofs.Common.{◌≡◌, [], drop}
 use Rattle.xa_scenario.specs.Plays.{IsPlay}
 use Rattle.xa_scenario.proofs.PlayLemmas.{Leads}
-use Rattle.xa_system.specs.Seen.{origin_in}
-use Rattle.xa_system.specs.Sites.{looks}
+use Rattle.xa_system.specs.SystemView.{origin_in}
+use Rattle.xa_system.specs.RmInHistory.{looks}
 use Rattle.xa_scenario.proofs.play.play.Given as goal
 
 abbrev pub invariant-loop-entry : goal.invariant-loop-entry

@@ -2,7 +2,7 @@ use Rattle.std.proofs.Common.{◌≡◌, All, vec_len}
 use Rattle.xa_rm.specs.contracts.mem_rm.MemRmResourceManager.TheImpl as memory
 use Rattle.xa_scenario.specs.Runs.{IsNewRm}
 use Rattle.xa_scenario.proofs.run.rms_of.Given as goal
-use Rattle.xa_system.specs.Sites.{looks}
+use Rattle.xa_system.specs.RmInHistory.{looks}
 
 abbrev pub invariant-loop-rm : goal.invariant-loop-rm
 invariant-loop-rm l = record {

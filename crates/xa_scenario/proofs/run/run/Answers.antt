@@ -1,11 +1,12 @@
-use Rattle.std.proofs.Common.{[], string_bytes, subst}
+use Rattle.std.proofs.Common.{[], string_bytes, subst, sym}
 use Rattle.std.proofs.lemmas.Result.{on_ok_weaker}
+use Rattle.xa_model.specs.Protocol.{RightOrigin}
 use Rattle.xa_scenario.specs.Plays.{IsPlay, Performs}
 use Rattle.xa_scenario.specs.Runs.{IsRunOf, IsTextOf}
 use Rattle.xa_scenario.specs.Scenarios.{plan_of}
 use Rattle.xa_scenario.proofs.RunLemmas.{is_run, on_output_of}
-use Rattle.xa_system.specs.Seen.{origin_in}
-use Rattle.xa_system.specs.Sites.{looks}
+use Rattle.xa_system.specs.SystemView.{origin_in}
+use Rattle.xa_system.specs.RmInHistory.{looks}
 use Rattle.xa_scenario.proofs.run.run.Goals as goal
 
 pub returns-clause-prints : goal.returns-clause-prints
@@ -16,9 +17,10 @@ returns-clause-prints g c =
     let system = c.play.new.system in
     let played = subst (λ entries. Performs (IsPlay [] entries) c.args.system.events system.events) c.deref.ensures.value c.in_ok-play.ensures.performs in
     let start = origin_in look c.args.system in
+    let headline = c.agree.ensures.headline (subst RightOrigin (sym c.in_ok-play.ensures.start) c.requires.right) in
     let run : IsRunOf plan start system.events =
     is_run plan start (origin_in look system) c.args.system.events system.events
-    c.in_ok-play.ensures.start c.requires.start c.requires.empty played c.agree.ensures.parts.demanded c.agree.ensures.headline in
+    c.in_ok-play.ensures.start c.requires.start c.requires.empty played c.agree.ensures.parts.allowed headline in
     on_ok_weaker c.write_text.result
     (λ written. record {
       events = system.events;
@@ -37,9 +39,10 @@ returns-clause-begun g c =
     let system = c.play.new.system in
     let played = subst (λ entries. Performs (IsPlay [] entries) c.args.system.events system.events) c.deref.ensures.value c.in_ok-play.ensures.performs in
     let start = origin_in look c.args.system in
+    let headline = c.agree.ensures.headline (subst RightOrigin (sym c.in_ok-play.ensures.start) c.requires.right) in
     let run : IsRunOf plan start system.events =
     is_run plan start (origin_in look system) c.args.system.events system.events
-    c.in_ok-play.ensures.start c.requires.start c.requires.empty played c.agree.ensures.parts.demanded c.agree.ensures.headline in
+    c.in_ok-play.ensures.start c.requires.start c.requires.empty played c.agree.ensures.parts.allowed headline in
     on_output_of c.write_text.result _ _
     (λ written. record {
       events = system.events;

@@ -2,9 +2,9 @@ use Rattle.std.proofs.Common.{◌≡◌, All, Err, IsSomeAnd, ap, arith, length,
 use Rattle.xa_scenario.proofs.StartLemmas.{new_at, none_in_doubt, none_open, not_wrong, over, unstarted}
 use Rattle.xa_scenario.specs.Runs.{IsNewRm}
 use Rattle.xa_scenario.proofs.run.system_of.Goals as goal
-use Rattle.xa_system.specs.Logged.{StartsOver}
-use Rattle.xa_system.specs.Seen.{HasWrongSize, origin_in}
-use Rattle.xa_system.specs.Sites.{looks}
+use Rattle.xa_system.specs.LogInHistory.{StartsOver}
+use Rattle.xa_system.specs.SystemView.{HasWrongSize, origin_in}
+use Rattle.xa_system.specs.RmInHistory.{looks}
 use Rattle.xa_system.specs.declared.system.NewFault.TheVariants as faults
 
 pub returns-in-Ok-clause-start : goal.returns-in-Ok-clause-start

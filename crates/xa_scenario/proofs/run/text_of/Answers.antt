@@ -1,6 +1,6 @@
 use Rattle.xa_scenario.proofs.RunLemmas.{told}
-use Rattle.xa_system.specs.Seen.{origin_in}
-use Rattle.xa_system.specs.Sites.{looks}
+use Rattle.xa_system.specs.SystemView.{origin_in}
+use Rattle.xa_system.specs.RmInHistory.{looks}
 use Rattle.xa_scenario.proofs.run.text_of.Goals as goal
 
 pub returns-clause-text : goal.returns-clause-text

@@ -4,7 +4,7 @@ use Rattle.xa_base.proofs.BranchOrder.{branches_total, exact_branches}
 use Rattle.xa_base.specs.Branch.{branch_cmp}
 use Rattle.xa_sql_log.specs.Rows.{branch_from}
 use Rattle.xa_log.specs.KeySet.{from_list}
-use Rattle.xa_sql_log.proofs.Keyed.{set_more, set_listed}
+use Rattle.xa_sql_log.proofs.SameEntries.{set_more, set_listed}
 use Rattle.xa_sql_log.proofs.rows.branches.Goals as goal
 
 pub loop-row-preserved : goal.loop-row-preserved

@@ -5,7 +5,7 @@ use Rattle.xa_base.proofs.BranchOrder.{branches_total, exact_branches}
 use Rattle.xa_base.specs.Branch.{branch_cmp}
 use Rattle.xa_sql_log.specs.Rows.{heuristic_from}
 use Rattle.xa_sql_log.proofs.HeuristicReads.{entry_read}
-use Rattle.xa_sql_log.proofs.Keyed.{map_more, map_listed}
+use Rattle.xa_sql_log.proofs.SameEntries.{map_more, map_listed}
 use Rattle.xa_sql_log.proofs.rows.ends.Goals as goal
 
 pub loop-row-preserved : goal.loop-row-preserved

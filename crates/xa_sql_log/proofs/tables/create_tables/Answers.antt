@@ -1,7 +1,7 @@
 use Rattle.std.proofs.Common.{arith}
 use Rattle.sqlite.specs.Held.{state}
 use Rattle.sqlite.specs.State.{HasCleanDisk}
-use Rattle.xa_sql_log.proofs.Made.{made}
+use Rattle.xa_sql_log.proofs.MadeTables.{made}
 use Rattle.xa_sql_log.proofs.tables.create_tables.Goals as goal
 
 pub returns-clause-written : goal.returns-clause-written

@@ -3,7 +3,8 @@ use Rattle.std.specs.List.{Contains}
 use Rattle.sqlite.specs.declared.types.Value.TheVariants.{Int}
 use Rattle.sqlite.specs.Held.{state}
 use Rattle.xa_log.specs.Contract.{IsStoreFault}
-use Rattle.xa_log.proofs.Parts.{if_on_ok, on_err, on_ok}
+use Rattle.xa_base.proofs.Options.{on_ok as if_on_ok}
+use Rattle.xa_log.proofs.Parts.{on_err, on_ok}
 use Rattle.xa_sql_log.proofs.States.{rests_query}
 use Rattle.xa_sql_log.proofs.Versions.{read_meta, looks, looks_at, number_of_one, names, look_survives}
 use Rattle.xa_sql_log.proofs.version.check_version.Goals as goal

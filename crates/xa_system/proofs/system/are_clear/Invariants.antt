@@ -1,6 +1,6 @@
 use Rattle.std.proofs.Common.{◌≡◌, ◌<◌, ℕ, Some, slice_get}
-use Rattle.xa_system.specs.Sites.{looks}
-use Rattle.xa_system.specs.Seen.{IsClear}
+use Rattle.xa_system.specs.RmInHistory.{looks}
+use Rattle.xa_system.specs.SystemView.{IsClear}
 use Rattle.xa_system.proofs.system.are_clear.Given as goal
 
 -- those so far are clear

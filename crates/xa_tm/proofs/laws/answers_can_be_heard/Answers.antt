@@ -1,4 +1,4 @@
-use Rattle.xa_tm.proofs.Given.{answer_is_code, record_fits}
+use Rattle.xa_tm.proofs.History.NextAnswer.{answer_is_code, record_fits}
 use Rattle.xa_tm.proofs.laws.answers_can_be_heard.Goals as goal
 
 pub returns-clause-codes : goal.returns-clause-codes

@@ -1,4 +1,4 @@
-use Rattle.xa_tm.proofs.Limits.{book_is_sound, events_happen, limits_kept, old_start_is_right}
+use Rattle.xa_tm.proofs.History.Limits.{book_is_sound, events_happen, limits_kept, old_start_is_right}
 use Rattle.xa_tm.proofs.laws.books_are_sound.Goals as goal
 
 pub returns-clause-sound : goal.returns-clause-sound

@@ -1,5 +1,5 @@
-use Rattle.xa_tm.proofs.OneMore.{one_more}
-use Rattle.xa_tm.proofs.RowCounts.{right_book}
+use Rattle.xa_tm.proofs.History.OneMore.{one_more}
+use Rattle.xa_tm.proofs.History.RowCounts.{right_book}
 use Rattle.xa_tm.proofs.laws.books_follow_histories.Goals as goal
 
 pub returns-clause-any : goal.returns-clause-any

@@ -1,4 +1,4 @@
-use Rattle.xa_tm.proofs.Counted.{branches_counted, settlements_counted, votes_counted}
+use Rattle.xa_tm.proofs.History.CountsAsLengths.{branches_counted, settlements_counted, votes_counted}
 use Rattle.xa_tm.proofs.laws.branches_are_counted.Goals as goal
 
 pub returns-clause-branches : goal.returns-clause-branches

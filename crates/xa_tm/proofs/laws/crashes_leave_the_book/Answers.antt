@@ -1,4 +1,4 @@
-use Rattle.xa_tm.proofs.Leaves.{left_by_a_crash, left_by_a_fault, left_by_a_restart, left_while_up}
+use Rattle.xa_tm.proofs.Log.Leaves.{left_by_a_crash, left_by_a_fault, left_by_a_restart, left_while_up}
 use Rattle.xa_tm.proofs.laws.crashes_leave_the_book.Goals as goal
 
 pub returns-clause-up : goal.returns-clause-up

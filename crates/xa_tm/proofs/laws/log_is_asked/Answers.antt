@@ -1,4 +1,4 @@
-use Rattle.xa_tm.proofs.Recovering.{answer_asks, decision_asks}
+use Rattle.xa_tm.proofs.History.Recovery.{answer_asks, decision_asks}
 use Rattle.xa_tm.proofs.laws.log_is_asked.Goals as goal
 
 pub returns-clause-decide : goal.returns-clause-decide

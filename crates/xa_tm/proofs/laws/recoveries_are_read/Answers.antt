@@ -1,4 +1,4 @@
-use Rattle.xa_tm.proofs.Recovering.{recoveries_close_none, resolved_is, resolved_open_is}
+use Rattle.xa_tm.proofs.History.Recovery.{recoveries_close_none, resolved_is, resolved_open_is}
 use Rattle.xa_tm.proofs.laws.recoveries_are_read.Goals as goal
 
 pub returns-clause-resolve : goal.returns-clause-resolve

@@ -1,4 +1,4 @@
-use Rattle.xa_tm.proofs.RowCounts.{counts_rows, dropped_is_there, drops_one}
+use Rattle.xa_tm.proofs.History.RowCounts.{counts_rows, dropped_is_there, drops_one}
 use Rattle.xa_tm.proofs.laws.rows_are_counted.Goals as goal
 
 pub returns-clause-counted : goal.returns-clause-counted

@@ -1,5 +1,5 @@
-use Rattle.xa_tm.proofs.StartRows.{start_rows_apart}
-use Rattle.xa_tm.proofs.Starts.{has_content, starts}
+use Rattle.xa_tm.proofs.History.StartRows.{start_rows_apart}
+use Rattle.xa_tm.proofs.History.Starts.{has_content, starts}
 use Rattle.xa_tm.proofs.laws.starts_are_histories.Goals as goal
 
 pub returns-clause-book : goal.returns-clause-book

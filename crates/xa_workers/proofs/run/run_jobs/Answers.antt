@@ -1,5 +1,5 @@
 use Rattle.xa_workers.proofs.FateOrder.{in_order_if_ok}
-use Rattle.xa_workers.proofs.Settled.{outcome_if_ok, plain_if_ok}
+use Rattle.xa_workers.proofs.Verification.{outcome_if_ok, plain_if_ok}
 use Rattle.xa_workers.proofs.run.run_jobs.Goals as goal
 
 pub returns-clause-plain : goal.returns-clause-plain

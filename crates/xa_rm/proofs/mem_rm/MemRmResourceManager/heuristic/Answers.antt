@@ -5,7 +5,7 @@ use Rattle.xa_base.specs.declared.state.Standing.{Standing}
 use Rattle.xa_base.specs.declared.state.Standing.TheVariants.{Prepared, Completed}
 use Rattle.xa_rm.proofs.CallLemmas.{changed_there}
 use Rattle.xa_rm.specs.Branches.{held_at}
-use Rattle.xa_rm.specs.Held.{held_branch}
+use Rattle.xa_rm.specs.TableEntries.{held_branch}
 use Rattle.xa_rm.proofs.mem_rm.MemRmResourceManager.heuristic.Goals as goal
 
 pub returns-clause-held : goal.returns-clause-held

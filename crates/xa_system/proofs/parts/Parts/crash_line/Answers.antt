@@ -3,10 +3,10 @@ use Rattle.xa_base.specs.declared.refusal.Refusal.TheVariants as Refusals
 use Rattle.xa_base.specs.declared.step.Part.TheVariants as KnownParts
 use Rattle.xa_base.specs.declared.step.Step.TheVariants as Steps
 use Rattle.xa_model.specs.Trace.{Happening.Crashed}
-use Rattle.xa_system.proofs.Logging.{log_kept}
+use Rattle.xa_system.proofs.Log.Changes.{log_kept}
 use Rattle.xa_system.specs.Parts.{Sees, sees}
-use Rattle.xa_system.proofs.CrashLeads.{crash_line_down, crash_line_leads, crash_line_limit, crash_line_rm_down, same_up}
-use Rattle.xa_system.proofs.Standing.{refused_goes, site_read}
+use Rattle.xa_system.proofs.Steps.Crash.{crash_line_down, crash_line_leads, crash_line_limit, crash_line_rm_down, same_up}
+use Rattle.xa_system.proofs.Histories.Standing.{refused_goes, site_read}
 use Rattle.xa_system.proofs.parts.Parts.crash_line.Goals as goal
 
 pub returns-then-not-has_line : goal.returns-then-not-has_line

@@ -3,10 +3,10 @@ use Rattle.xa_base.specs.declared.refusal.Refusal.TheVariants as Refusals
 use Rattle.xa_base.specs.declared.step.Part.TheVariants as KnownParts
 use Rattle.xa_base.specs.declared.step.Step.TheVariants as Steps
 use Rattle.xa_model.specs.Trace.{Happening.Crashed}
-use Rattle.xa_system.proofs.Logging.{log_kept}
+use Rattle.xa_system.proofs.Log.Changes.{log_kept}
 use Rattle.xa_system.specs.Parts.{Sees, sees}
-use Rattle.xa_system.proofs.CrashLeads.{crash_manager_down, crash_manager_leads}
-use Rattle.xa_system.proofs.Standing.{refused_goes}
+use Rattle.xa_system.proofs.Steps.Crash.{crash_manager_down, crash_manager_leads}
+use Rattle.xa_system.proofs.Histories.Standing.{refused_goes}
 use Rattle.xa_system.proofs.parts.Parts.crash_manager.Goals as goal
 
 pub returns-then-not-is_up : goal.returns-then-not-is_up

@@ -3,10 +3,10 @@ use Rattle.xa_base.specs.declared.refusal.Refusal.TheVariants as Refusals
 use Rattle.xa_base.specs.declared.step.Part.TheVariants as KnownParts
 use Rattle.xa_base.specs.declared.step.Step.TheVariants as Steps
 use Rattle.xa_model.specs.Trace.{Happening.Crashed}
-use Rattle.xa_system.proofs.Logging.{log_kept}
+use Rattle.xa_system.proofs.Log.Changes.{log_kept}
 use Rattle.xa_system.specs.Parts.{Sees, sees}
-use Rattle.xa_system.proofs.CrashLeads.{crash_rm_down, crash_rm_leads, crash_rm_limit, rm_read, same_up}
-use Rattle.xa_system.proofs.Standing.{refused_goes}
+use Rattle.xa_system.proofs.Steps.Crash.{crash_rm_down, crash_rm_leads, crash_rm_limit, rm_read, same_up}
+use Rattle.xa_system.proofs.Histories.Standing.{refused_goes}
 use Rattle.xa_system.proofs.parts.Parts.crash_rm.Goals as goal
 
 pub returns-then-rm-rms : goal.returns-then-rm-rms

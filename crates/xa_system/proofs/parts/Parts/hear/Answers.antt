@@ -9,10 +9,10 @@ use Rattle.xa_base.specs.declared.refusal.Refusal.TheVariants as Refusals
 use Rattle.xa_base.specs.declared.step.Step.TheVariants as Steps
 use Rattle.xa_line.specs.Traffic.{Traffic}
 use Rattle.xa_system.specs.Parts.{Sees, sees}
-use Rattle.xa_system.proofs.HearLeads.{book_up, hear_answers, hear_did, hear_fits, hear_found, hear_lacks, hear_limit, hear_nothing, hear_undone, recorded_answer, some_and}
-use Rattle.xa_system.proofs.Managing.{sound_book}
-use Rattle.xa_system.proofs.Standing.{refused_goes, site_read}
-use Rattle.xa_system.proofs.Logging.{log_undone}
+use Rattle.xa_system.proofs.Steps.Hear.{book_up, hear_answers, hear_did, hear_fits, hear_found, hear_lacks, hear_limit, hear_nothing, hear_undone, recorded_answer, some_and}
+use Rattle.xa_system.proofs.Steps.OfManager.{sound_book}
+use Rattle.xa_system.proofs.Histories.Standing.{refused_goes, site_read}
+use Rattle.xa_system.proofs.Log.Changes.{log_undone}
 use Rattle.xa_system.proofs.parts.Parts.hear.Goals as goal
 
 pub returns-then-not-has_line : goal.returns-then-not-has_line

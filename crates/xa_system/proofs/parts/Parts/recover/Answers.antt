@@ -5,7 +5,7 @@ use Rattle.xa_base.specs.declared.call.Call.TheVariants as Calls
 use Rattle.xa_base.specs.declared.step.Step.TheVariants as Steps
 use Rattle.xa_system.specs.Parts.{GoesOn}
 use Rattle.xa_system.specs.Parts.{Sees, sees}
-use Rattle.xa_system.proofs.Recovering.{recover_goes}
+use Rattle.xa_system.proofs.Steps.Recover.{recover_goes}
 use Rattle.xa_system.proofs.parts.Parts.recover.Goals as goal
 
 pub returns : goal.returns

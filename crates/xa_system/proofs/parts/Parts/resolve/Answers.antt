@@ -1,9 +1,9 @@
 use Rattle.std.proofs.Common.{sym, ap, ◌∙◌}
 use Rattle.xa_line.specs.Traffic.{Traffic}
-use Rattle.xa_tm.specs.Kept.{book_in}
+use Rattle.xa_tm.specs.Calls.{book_in}
 use Rattle.xa_system.specs.Lines.{with_more}
 use Rattle.xa_system.specs.Parts.{Sees, sees}
-use Rattle.xa_system.proofs.ResolveLeads.{resolved_closes_none, recovery_open, recovery_room, recovery_unclosed, resolve_did, resolve_hindered, resolve_lacks}
+use Rattle.xa_system.proofs.Steps.Resolve.{resolved_closes_none, recovery_open, recovery_room, recovery_unclosed, resolve_did, resolve_hindered, resolve_lacks}
 use Rattle.xa_tm.specs.Refusing.{resolved_in}
 use Rattle.xa_system.proofs.parts.Parts.resolve.Goals as goal
 

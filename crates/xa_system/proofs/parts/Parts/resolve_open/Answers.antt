@@ -1,11 +1,11 @@
 use Rattle.std.proofs.Common.{refl, sym, ap, ◌∙◌}
 use Rattle.xa_line.specs.Traffic.{Traffic}
-use Rattle.xa_tm.specs.Kept.{book_in}
+use Rattle.xa_tm.specs.Calls.{book_in}
 use Rattle.xa_model.specs.Trace.{Happening.ResolvedOpen}
-use Rattle.xa_system.proofs.Logging.{log_kept}
+use Rattle.xa_system.proofs.Log.Changes.{log_kept}
 use Rattle.xa_system.specs.Lines.{with_more}
 use Rattle.xa_system.specs.Parts.{Sees, sees}
-use Rattle.xa_system.proofs.ResolveLeads.{open_closes_none, recovery_open, recovery_room, recovery_unclosed, open_did, open_hindered, open_lacks}
+use Rattle.xa_system.proofs.Steps.Resolve.{open_closes_none, recovery_open, recovery_room, recovery_unclosed, open_did, open_hindered, open_lacks}
 use Rattle.xa_tm.specs.Refusing.{resolved_open_in}
 use Rattle.xa_system.proofs.parts.Parts.resolve_open.Goals as goal
 

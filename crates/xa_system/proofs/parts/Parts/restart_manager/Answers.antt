@@ -1,16 +1,16 @@
 use Rattle.std.proofs.Common.{◌≡◌, ◌∙◌, refl, sym, ap, subst}
 use Rattle.xa_base.specs.declared.reply.Reply.TheVariants as Replies
 use Rattle.xa_tm.specs.Book.{Book}
-use Rattle.xa_tm.specs.Kept.{book_in, log_in}
-use Rattle.xa_tm.specs.Tied.{IsReadFrom}
+use Rattle.xa_tm.specs.Calls.{book_in, log_in}
+use Rattle.xa_tm.specs.BookAndLog.{IsReadFrom}
 use Rattle.std.specs.Prelude.{Result, Ok, Err}
 use Rattle.xa_model.specs.Trace.{Happening.Restarted}
 use Rattle.xa_base.specs.declared.refusal.Refusal.{Refusal}
-use Rattle.xa_system.proofs.Logging.{log_done, restart_counts}
+use Rattle.xa_system.proofs.Log.Changes.{log_done, restart_counts}
 use Rattle.xa_system.specs.Parts.{Sees, sees}
-use Rattle.xa_system.proofs.Managing.{err_is, sound_book}
-use Rattle.xa_system.proofs.RestartLeads.{restart_did, restart_undone}
-use Rattle.xa_tm.specs.declared.coming_up.Found.{Found}
+use Rattle.xa_system.proofs.Steps.OfManager.{err_is, sound_book}
+use Rattle.xa_system.proofs.Steps.Restart.{restart_did, restart_undone}
+use Rattle.xa_tm.specs.declared.manager.restart.Found.{Found}
 use Rattle.xa_system.proofs.parts.Parts.restart_manager.Goals as goal
 
 pub restart-requires : goal.restart-requires

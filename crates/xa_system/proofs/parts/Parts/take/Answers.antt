@@ -2,8 +2,8 @@ use Rattle.std.proofs.Common.{sym, ◌∙◌}
 use Rattle.xa_base.specs.declared.refusal.Refusal.TheVariants as Refusals
 use Rattle.xa_base.specs.declared.step.Step.TheVariants as Steps
 use Rattle.xa_system.specs.Parts.{Sees, sees}
-use Rattle.xa_system.proofs.Standing.{refused_goes, site_read}
-use Rattle.xa_system.proofs.TakeLeads.{take_down, take_full, take_leads, take_limit, take_may}
+use Rattle.xa_system.proofs.Histories.Standing.{refused_goes, site_read}
+use Rattle.xa_system.proofs.Steps.Take.{take_down, take_full, take_leads, take_limit, take_may}
 use Rattle.xa_system.proofs.parts.Parts.take.Goals as goal
 
 pub returns-then-not-has_line : goal.returns-then-not-has_line

@@ -6,8 +6,8 @@ use Rattle.xa_model.specs.Trace.{Happening.Voted}
 use Rattle.xa_base.specs.declared.step.Step.TheVariants as Steps
 use Rattle.xa_rm.specs.ResourceManager.{voting}
 use Rattle.xa_system.specs.Parts.{Sees, sees}
-use Rattle.xa_system.proofs.CrashLeads.{rm_read}
-use Rattle.xa_system.proofs.ScriptLeads.{held_here, script_hinders, script_told, vote_bad, vote_elsewhere, vote_fine, voted, voted_script}
+use Rattle.xa_system.proofs.Steps.Crash.{rm_read}
+use Rattle.xa_system.proofs.Steps.Script.{held_here, script_hinders, script_told, vote_bad, vote_elsewhere, vote_fine, voted, voted_script}
 use Rattle.xa_system.proofs.parts.Parts.vote.Goals as goal
 
 pub returns-in-Some : goal.returns-in-Some

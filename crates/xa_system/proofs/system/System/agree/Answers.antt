@@ -1,7 +1,10 @@
 use Rattle.std.proofs.Common.{subst}
-use Rattle.xa_model.specs.Promises.Headline.{Headline}
-use Rattle.xa_system.specs.Seen.{HoldsItsTrace, Observes, observes, origin_in, seen}
-use Rattle.xa_system.proofs.Seeing.{holds}
+use Rattle.xa_model.specs.Promises.Headline.{Headline, HeadlineSince}
+use Rattle.xa_model.specs.Promises.Processes.{Resumes, resumed}
+use Rattle.xa_model.specs.Protocol.{AllRight, RightOrigin}
+use Rattle.xa_model.specs.Trace.{Trace}
+use Rattle.xa_system.specs.SystemView.{HoldsItsTrace, Observes, observes, origin_in, view_of}
+use Rattle.xa_system.proofs.Histories.SystemView.{holds}
 use Rattle.xa_system.proofs.system.System.agree.Goals as goal
 
 pub returns-clause-parts : goal.returns-clause-parts
@@ -14,6 +17,14 @@ pub returns-clause-headline : goal.returns-clause-headline
 returns-clause-headline g c =
     let see : Observes g.row.R.Denot g.row.L.Denot =
     observes g.R.ResourceManager.held_of g.R.ResourceManager.scan_of g.R.ResourceManager.in_doubt_of g.L.DecisionLog.moment in
-    subst (λ v. Headline (origin_in see.look v) v.events) c.self.view_is
-    (c.headline_holds.ensures (origin_in see.look (seen c.self.inside)) (seen c.self.inside).events
-    (holds _ _ c.self.inside c.self.invariant).right c.self.invariant.demanded)
+    subst (λ v. RightOrigin (origin_in see.look v) → Headline (origin_in see.look v) v.events) c.self.view_is
+    (λ right. c.headline_holds.ensures (origin_in see.look (view_of c.self.inside)) (view_of c.self.inside).events right c.self.invariant.allowed)
+
+pub returns-clause-resumed : goal.returns-clause-resumed
+returns-clause-resumed g c =
+    let see : Observes g.row.R.Denot g.row.L.Denot =
+    observes g.R.ResourceManager.held_of g.R.ResourceManager.scan_of g.R.ResourceManager.in_doubt_of g.L.DecisionLog.moment in
+    subst (λ v. (past : Trace) → AllRight past → Resumes past (origin_in see.look v)
+    → HeadlineSince (resumed past (origin_in see.look v)) v.events) c.self.view_is
+    (λ past right resumes. c.across_processes.ensures.headline past (origin_in see.look (view_of c.self.inside)) (view_of c.self.inside).events right resumes
+    c.self.invariant.allowed)

@@ -1,8 +1,8 @@
 use Rattle.std.proofs.Common.{◌≡◌, sym, subst, ◌∙◌}
 use Rattle.xa_model.specs.Facts.{fate}
-use Rattle.xa_system.specs.Seen.{Observes, observes, trace_in}
-use Rattle.xa_system.proofs.Seeing.{fate_is}
-use Rattle.xa_system.proofs.Standing.{site_read}
+use Rattle.xa_system.specs.SystemView.{Observes, observes, trace_in}
+use Rattle.xa_system.proofs.Histories.SystemView.{fate_is}
+use Rattle.xa_system.proofs.Histories.Standing.{site_read}
 use Rattle.xa_system.proofs.system.System.fate.Goals as goal
 
 pub returns-in_Some-branch-clause-own : goal.returns-in_Some-branch-clause-own

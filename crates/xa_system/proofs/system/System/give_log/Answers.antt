@@ -1,25 +1,25 @@
 use Rattle.std.proofs.Common.{◌≡◌, ◌∙◌, subst, sym, ap, refl, true, false}
 use Rattle.std.specs.Prelude.{is_ok}
-use Rattle.xa_system.proofs.Given.{keeps_given, not_refused, on_ok}
-use Rattle.xa_system.proofs.Logging.{slot_durable}
+use Rattle.xa_system.proofs.Log.GiveLog.{keeps_given, not_refused, on_ok}
+use Rattle.xa_system.proofs.Log.Changes.{slot_durable}
 use Rattle.xa_system.specs.Parts.{Sees, sees}
 use Rattle.xa_system.specs.declared.system.System.TheInside.{Inside}
 use Rattle.xa_tm.specs.Book.{Book}
-use Rattle.xa_tm.specs.Kept.{book_in, log_in}
+use Rattle.xa_tm.specs.Calls.{book_in, log_in}
 use Rattle.xa_tm.specs.Slots.{TakesIn, honest_in, last_out, log_held, order_in, slot_moment}
 use Rattle.xa_tm.specs.declared.slot.Slot.{Slot}
-use Rattle.xa_system.specs.Logged.{MayHoldRows}
-use Rattle.xa_system.specs.Seen.{Observes, observes, seen, trace_in}
-use Rattle.xa_system.proofs.LogLaws.{rows_may_hold}
-use Rattle.xa_tm.specs.Tied.{MayHold}
-use Rattle.xa_tm.proofs.HeardBy.{if_err}
+use Rattle.xa_system.specs.LogInHistory.{MayHoldRows}
+use Rattle.xa_system.specs.SystemView.{Observes, observes, view_of, trace_in}
+use Rattle.xa_system.proofs.Log.Laws.{rows_may_hold}
+use Rattle.xa_tm.specs.BookAndLog.{MayHold}
+use Rattle.xa_tm.proofs.History.HeardAnswers.{if_err}
 use Rattle.xa_system.proofs.system.System.give_log.Goals as goal
 
 pub returns-clause-only_other_rows : goal.returns-clause-only_other_rows
 returns-clause-only_other_rows g c =
     let see : Observes g.row.R.Denot g.row.L.Denot =
     observes g.R.ResourceManager.held_of g.R.ResourceManager.scan_of g.R.ResourceManager.in_doubt_of g.L.DecisionLog.moment in
-    let tr = trace_in see.look (seen c.self.inside) in
+    let tr = trace_in see.look (view_of c.self.inside) in
     if_err c.give_log-given.result _ _ (λ e only is order honest content held may.
     only is order honest content held
     (subst (λ k. MayHold k content) (sym c.self.invariant.stands.book)
@@ -58,7 +58,7 @@ invariant_of-self g c =
         origin = stands.origin;
         some_thread = stands.some_thread;
         kept = stands.kept;
-        clear = stands.clear;
+        over = stands.over;
         apart = stands.apart;
         began = stands.began;
         room = stands.room;
@@ -70,7 +70,7 @@ invariant_of-self g c =
         lines = stands.lines;
         book = gave.book ∙ stands.book;
       };
-      demanded = c.self.invariant.demanded;
+      allowed = c.self.invariant.allowed;
       log = keeps_given see moment _ a now c.args.log (slot_durable moment g.met.L.DecisionLog.durable) c.self.invariant.log refl refl c.of-handed.ensures down
           (λ order. subst (order_in (λ l. (moment l).is_in_order)) (sym taken.is) (taken.looks.order order))
           (λ honest. taken.looks.honest (subst (honest_in (λ l. (moment l).is_honest) (last_out (log_in manager))) taken.is honest))

@@ -1,9 +1,9 @@
 use Rattle.std.proofs.Common.{◌≡◌, ◌≤◌, length, map, take}
 use Rattle.std.specs.Prelude.{vec_len}
 use Rattle.std.specs.Vec.{vec_capacity}
-use Rattle.xa_system.specs.Seen.{trace_in}
-use Rattle.xa_system.specs.Sites.{looks}
-use Rattle.xa_system.proofs.Reporting.{reported}
+use Rattle.xa_system.specs.SystemView.{trace_in}
+use Rattle.xa_system.specs.RmInHistory.{looks}
+use Rattle.xa_system.proofs.Histories.Report.{reported}
 use Rattle.xa_system.proofs.system.System.report.Given as goal
 
 -- the branches so far are listed, and the rest has room

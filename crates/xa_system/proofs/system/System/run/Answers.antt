@@ -1,8 +1,8 @@
 use Rattle.std.proofs.Common.{◌<◌, ◌∙◌, ap, arith, length, subst, sym}
 use Rattle.std.specs.Prelude.{slice_index_or}
 use Rattle.xa_system.specs.declared.system.TheConstants.{EVENT_LIMIT}
-use Rattle.xa_system.proofs.FaultCounts.{causes_chain, is_fault_event, is_other_fault}
-use Rattle.xa_system.proofs.Running.{adds_more, room_more}
+use Rattle.xa_system.proofs.Log.FaultCounts.{causes_chain, is_fault_event, is_other_fault}
+use Rattle.xa_system.proofs.Steps.InTurn.{adds_more, room_more}
 use Rattle.xa_tm.specs.Slots.{slot_moment}
 use Rattle.xa_system.proofs.system.System.run.Goals as goal
 

@@ -1,7 +1,7 @@
 use Rattle.std.proofs.Common.{◌≡◌, ◌≤◌, ◌+◌, length, take}
 use Rattle.xa_system.specs.declared.system.TheConstants.{EVENT_LIMIT}
-use Rattle.xa_system.specs.Sites.{looks}
-use Rattle.xa_system.specs.Seen.{AddsSteps, FaultsHaveCauses, MayRestart, MayRestartAfterCrash, OtherFaultsHaveCauses, observes, origin_in}
+use Rattle.xa_system.specs.RmInHistory.{looks}
+use Rattle.xa_system.specs.SystemView.{AddsSteps, FaultsHaveCauses, MayRestart, MayRestartAfterCrash, OtherFaultsHaveCauses, observes, origin_in}
 use Rattle.xa_tm.specs.Slots.{slot_moment}
 use Rattle.xa_system.proofs.system.System.run.Given as goal
 

@@ -1,16 +1,16 @@
 use Rattle.std.proofs.Common.{◌≡◌, false, Some, None, inr, refl, subst, sym, ap, ◌∙◌, arith}
-use Rattle.xa_model.specs.Replies.Demanded.{Demanded}
+use Rattle.xa_model.specs.Replies.Allowed.{Allowed}
 use Rattle.xa_model.specs.Replies.History.{reply_of, step_of}
 use Rattle.xa_model.specs.Replies.Steps.{happened, log_failed}
 use Rattle.xa_model.specs.Facts.{up}
-use Rattle.xa_system.specs.Logged.{IsBeforeNext, MayHaveFailed}
-use Rattle.xa_system.proofs.Logging.{slot_durable}
-use Rattle.xa_system.proofs.Restarting.{empty_fails, followed, found_in, not_restarted}
+use Rattle.xa_system.specs.LogInHistory.{IsBeforeNext, MayHaveFailed}
+use Rattle.xa_system.proofs.Log.Changes.{slot_durable}
+use Rattle.xa_system.proofs.Steps.RestartRefusals.{empty_fails, followed, found_in, not_restarted}
 use Rattle.xa_tm.specs.Slots.{log_held}
-use Rattle.xa_system.proofs.Standing.{refused_as_nothing, stays_same}
-use Rattle.xa_system.specs.Seen.{FaultsHaveCauses, HoldsItsTrace, IsAsBefore, IsFailed, MayRestart, MayRestartAfterCrash, Observes, OtherFaultsHaveCauses, observes, origin_in, seen, trace_in}
-use Rattle.xa_system.proofs.Seeing.{as_before, began_kept, down_after, failed_so, fault_has_cause, holds, honest_before, other_fault_has_cause, restart_may_follow, restart_may_follow_a_crash, somewhere, sound_then, start_kept, was_demanded}
-use Rattle.xa_tm.specs.Kept.{log_in}
+use Rattle.xa_system.proofs.Histories.Standing.{refused_as_nothing, stays_same}
+use Rattle.xa_system.specs.SystemView.{FaultsHaveCauses, HoldsItsTrace, IsAsBefore, IsFailed, MayRestart, MayRestartAfterCrash, Observes, OtherFaultsHaveCauses, observes, origin_in, view_of, trace_in}
+use Rattle.xa_system.proofs.Histories.SystemView.{as_before, began_kept, down_after, failed_so, fault_has_cause, holds, honest_before, other_fault_has_cause, restart_may_follow, restart_may_follow_a_crash, somewhere, sound_then, start_kept, was_allowed}
+use Rattle.xa_tm.specs.Calls.{log_in}
 use Rattle.xa_system.proofs.system.System.step.Goals as goal
 
 pub returns-then-len-ge-EVENT_LIMIT-clause-parts :
@@ -34,13 +34,13 @@ invariant_of-self g c =
     (slot_durable g.L.DecisionLog.moment g.met.L.DecisionLog.durable) c.self.invariant c.step.ensures.goes (ap (λ p. p.1) c.split-reply.ensures)
     (rw c.len.ensures at c.if-len-ge-EVENT_LIMIT.false) c.push_reserved.ensures.len c.push_reserved.ensures.items c.push_reserved.ensures.capacity
 
-pub returns-clause-demanded : goal.returns-clause-demanded
-returns-clause-demanded g c few =
+pub returns-clause-allowed : goal.returns-clause-allowed
+returns-clause-allowed g c few =
     let see : Observes g.row.R.Denot g.row.L.Denot =
     observes g.R.ResourceManager.held_of g.R.ResourceManager.scan_of g.R.ResourceManager.in_doubt_of g.L.DecisionLog.moment in
-    subst (λ r. Demanded (trace_in see.look c.args.self.now) (step_of c.args.step) (reply_of r)) (sym (ap (λ p. p.0) c.split-reply.ensures))
-    (subst (λ v. Demanded (trace_in see.look v) (step_of c.args.step) (reply_of c.step.result)) c.self.view_is
-    (was_demanded _ _ c.self.inside c.step.new.self c.args.step c.step.result c.self.invariant c.step.ensures.goes
+    subst (λ r. Allowed (trace_in see.look c.args.self.now) (step_of c.args.step) (reply_of r)) (sym (ap (λ p. p.0) c.split-reply.ensures))
+    (subst (λ v. Allowed (trace_in see.look v) (step_of c.args.step) (reply_of c.step.result)) c.self.view_is
+    (was_allowed _ _ c.self.inside c.step.new.self c.args.step c.step.result c.self.invariant c.step.ensures.goes
     (rw c.len.ensures at c.if-len-ge-EVENT_LIMIT.false)))
 
 pub returns-clause-parts : goal.returns-clause-parts
@@ -56,7 +56,7 @@ pub returns-clause-start : goal.returns-clause-start
 returns-clause-start g c =
     let see : Observes g.row.R.Denot g.row.L.Denot =
     observes g.R.ResourceManager.held_of g.R.ResourceManager.scan_of g.R.ResourceManager.in_doubt_of g.L.DecisionLog.moment in
-    subst (λ v. origin_in see.look (seen (record {
+    subst (λ v. origin_in see.look (view_of (record {
       first = c.self.inside.first;
       handed = c.self.inside.handed;
       parts = c.step.new.self;
@@ -78,7 +78,7 @@ returns-clause-faults g c =
     let see : Observes g.row.R.Denot g.row.L.Denot =
     observes g.R.ResourceManager.held_of g.R.ResourceManager.scan_of g.R.ResourceManager.in_doubt_of g.L.DecisionLog.moment in
     subst (λ v. (see.moment v.handed).is_in_order → (see.place (log_in c.step.new.self.manager)).is_honest
-    → MayRestart see v → FaultsHaveCauses see v (seen (record {
+    → MayRestart see v → FaultsHaveCauses see v (view_of (record {
       first = c.self.inside.first;
       handed = c.self.inside.handed;
       parts = c.step.new.self;
@@ -91,7 +91,7 @@ pub returns-clause-other_faults : goal.returns-clause-other_faults
 returns-clause-other_faults g c =
     let see : Observes g.row.R.Denot g.row.L.Denot =
     observes g.R.ResourceManager.held_of g.R.ResourceManager.scan_of g.R.ResourceManager.in_doubt_of g.L.DecisionLog.moment in
-    subst (λ v. OtherFaultsHaveCauses see v (seen (record {
+    subst (λ v. OtherFaultsHaveCauses see v (view_of (record {
       first = c.self.inside.first;
       handed = c.self.inside.handed;
       parts = c.step.new.self;
@@ -133,7 +133,7 @@ pub returns-clause-refused : goal.returns-clause-refused
 returns-clause-refused g c n is other =
     let see : Observes g.row.R.Denot g.row.L.Denot =
     observes g.R.ResourceManager.held_of g.R.ResourceManager.scan_of g.R.ResourceManager.in_doubt_of g.L.DecisionLog.moment in
-    subst (λ v. IsAsBefore see v (seen (record {
+    subst (λ v. IsAsBefore see v (view_of (record {
       first = c.self.inside.first;
       handed = c.self.inside.handed;
       parts = c.step.new.self;
@@ -169,7 +169,8 @@ returns-clause-near g c =
     let see : Observes g.row.R.Denot g.row.L.Denot =
     observes g.R.ResourceManager.held_of g.R.ResourceManager.scan_of g.R.ResourceManager.in_doubt_of g.L.DecisionLog.moment in
     subst (λ v. (see.moment v.handed).is_in_order → (see.place (log_in c.step.new.self.manager)).is_honest → MayRestart see v → MayRestart see
-    (seen (record { first = c.self.inside.first; handed = c.self.inside.handed; parts = c.step.new.self; events = c.push_reserved.new.self }))) c.self.view_is
+    (view_of (record { first = c.self.inside.first; handed = c.self.inside.handed; parts = c.step.new.self; events = c.push_reserved.new.self })))
+    c.self.view_is
     (restart_may_follow _ _ c.self.inside c.step.new.self c.push_reserved.new.self c.args.step c.step.result c.split-reply.result.1 c.self.invariant
     c.step.ensures.goes
     (ap (λ p. p.1) c.split-reply.ensures) (rw c.len.ensures at c.if-len-ge-EVENT_LIMIT.false) c.push_reserved.ensures.items)
@@ -180,7 +181,8 @@ returns-clause-crash g c =
     observes g.R.ResourceManager.held_of g.R.ResourceManager.scan_of g.R.ResourceManager.in_doubt_of g.L.DecisionLog.moment in
     subst (λ v. (see.moment v.handed).is_in_order → (see.place (log_in c.step.new.self.manager)).is_honest → MayRestart see v
     → MayRestartAfterCrash see v → MayRestartAfterCrash see
-    (seen (record { first = c.self.inside.first; handed = c.self.inside.handed; parts = c.step.new.self; events = c.push_reserved.new.self }))) c.self.view_is
+    (view_of (record { first = c.self.inside.first; handed = c.self.inside.handed; parts = c.step.new.self; events = c.push_reserved.new.self })))
+    c.self.view_is
     (restart_may_follow_a_crash _ _ c.self.inside c.step.new.self c.push_reserved.new.self c.args.step c.step.result c.split-reply.result.1
     (slot_durable g.L.DecisionLog.moment g.met.L.DecisionLog.durable) c.self.invariant
     c.step.ensures.goes (ap (λ p. p.1) c.split-reply.ensures) (rw c.len.ensures at c.if-len-ge-EVENT_LIMIT.false) c.push_reserved.ensures.items)
@@ -190,11 +192,11 @@ returns-clause-out g c none is few down =
     let see : Observes g.row.R.Denot g.row.L.Denot =
     observes g.R.ResourceManager.held_of g.R.ResourceManager.scan_of g.R.ResourceManager.in_doubt_of g.L.DecisionLog.moment in
     let same = ap (λ p. p.0) c.split-reply.ensures in
-    let demanded = was_demanded _ _ c.self.inside c.step.new.self c.args.step c.step.result c.self.invariant c.step.ensures.goes
+    let allowed = was_allowed _ _ c.self.inside c.step.new.self c.args.step c.step.result c.self.invariant c.step.ensures.goes
     (rw c.len.ensures at c.if-len-ge-EVENT_LIMIT.false) in
     subst IsFailed (sym same)
-    (not_restarted (trace_in see.look (seen c.self.inside)) c.step.result
-    (subst (λ s. Demanded (trace_in see.look (seen c.self.inside)) (step_of s) (reply_of c.step.result)) is demanded)
+    (not_restarted (trace_in see.look (view_of c.self.inside)) c.step.result
+    (subst (λ s. Allowed (trace_in see.look (view_of c.self.inside)) (step_of s) (reply_of c.step.result)) is allowed)
     (subst (λ v. up (trace_in see.look v) ≡ false) (sym c.self.view_is) down)
     (λ i d h restarted. empty_fails g.L.DecisionLog.says _ _ (log_held (log_in c.self.inside.parts.manager)) _
     (subst (λ v. log_held v.log ≡ None) (sym c.self.view_is) none) (c.step.ensures.read i d h is restarted).rows))
@@ -204,14 +206,14 @@ returns-clause-other_incarnation g c content is few down order honest holds othe
     let see : Observes g.row.R.Denot g.row.L.Denot =
     observes g.R.ResourceManager.held_of g.R.ResourceManager.scan_of g.R.ResourceManager.in_doubt_of g.L.DecisionLog.moment in
     let same = ap (λ p. p.0) c.split-reply.ensures in
-    let demanded = was_demanded _ _ c.self.inside c.step.new.self c.args.step c.step.result c.self.invariant c.step.ensures.goes
+    let allowed = was_allowed _ _ c.self.inside c.step.new.self c.args.step c.step.result c.self.invariant c.step.ensures.goes
     (rw c.len.ensures at c.if-len-ge-EVENT_LIMIT.false) in
-    let as_restart = subst (λ s. Demanded (trace_in see.look (seen c.self.inside)) (step_of s) (reply_of c.step.result)) is demanded in
+    let as_restart = subst (λ s. Allowed (trace_in see.look (view_of c.self.inside)) (step_of s) (reply_of c.step.result)) is allowed in
     let in_order = c.self.invariant.log.order (subst (λ v. (see.moment v.handed).is_in_order) (sym c.self.view_is) order) in
     let held = subst (λ v. (see.place v.log).content ≡ Some content) (sym c.self.view_is) holds in
     subst IsFailed (sym same)
-    (not_restarted (trace_in see.look (seen c.self.inside)) c.step.result as_restart
+    (not_restarted (trace_in see.look (view_of c.self.inside)) c.step.result as_restart
     (subst (λ v. up (trace_in see.look v) ≡ false) (sym c.self.view_is) down)
     (λ i d h restarted. subst (λ v. IsBeforeNext (trace_in see.look v) content → ⊥) (sym c.self.view_is) other
-    (followed (trace_in see.look (seen c.self.inside)) c.step.result as_restart i d h restarted content
+    (followed (trace_in see.look (view_of c.self.inside)) c.step.result as_restart i d h restarted content
     (found_in (see.place (log_in c.self.inside.parts.manager)).content content i d h held ((c.step.ensures.read i d h is restarted).found in_order honest)))))

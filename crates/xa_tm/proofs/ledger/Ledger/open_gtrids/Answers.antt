@@ -4,15 +4,15 @@ use Rattle.std.proofs.lemmas.Iterator.Consumers.{YieldsList-from_filter_map, Yie
 use Rattle.std.proofs.lemmas.Result.{IfOk-weaker}
 use Rattle.std.specs.List.{filter_map}
 use Rattle.std.specs.Vec.{vec_items}
-use Rattle.xa_model.specs.Facts.Heard.{lists_one_of}
-use Rattle.xa_tm.specs.Held.{held}
+use Rattle.xa_model.specs.Facts.HeardAnswers.{lists_one_of}
+use Rattle.xa_tm.specs.LedgerBook.{as_book}
 use Rattle.xa_tm.specs.Resolving.{is_one_of, open_gtrid_for, open_in}
-use Rattle.xa_tm.proofs.Opens.{opens_are}
+use Rattle.xa_tm.proofs.Maps.ResolveOpen.{opens_are}
 use Rattle.xa_tm.proofs.ledger.Ledger.open_gtrids.Goals as goal
 
 pub returns : goal.returns
 returns c =
-    let k = held c.args.self.now in
+    let k = as_book c.args.self.now in
     let xids = c.page.result.now in
     let run = items_from_collect _ c.collect.ensures.ran
     (YieldsList-from_filter_map _ (open_gtrid_for k)

@@ -6,9 +6,9 @@ use Rattle.std.specs.List.Sorted.{IsStrictlySortedBy}
 use Rattle.std.specs.Vec.{vec_items}
 use Rattle.xa_base.specs.Branch.{branch_cmp}
 use Rattle.xa_base.specs.declared.branch.Branch.{Branch}
-use Rattle.xa_tm.specs.Held.{started_keys}
+use Rattle.xa_tm.specs.LedgerBook.{started_keys}
 use Rattle.xa_tm.specs.declared.notes.BranchNotes.{BranchNotes}
-use Rattle.xa_tm.proofs.InOrder.{started_in_order}
+use Rattle.xa_tm.proofs.Maps.Order.{started_in_order}
 use Rattle.xa_tm.proofs.ledger.Ledger.started.Goals as goal
 
 pub returns-clause-all : goal.returns-clause-all

@@ -8,8 +8,8 @@ use Rattle.std.specs.declared.ops.Bound.TheVariants.{Included, Excluded}
 use Rattle.xa_base.specs.Branch.{branch_cmp, gtrid_eq}
 use Rattle.xa_base.specs.declared.branch.Branch.{Branch}
 use Rattle.xa_tm.specs.declared.notes.BranchNotes.{BranchNotes}
-use Rattle.xa_tm.proofs.Known.{voters_are, own_listed}
-use Rattle.xa_tm.proofs.Ranges.{forward, in_turn, within}
+use Rattle.xa_tm.proofs.Maps.StartedBranches.{voters_are, own_listed}
+use Rattle.xa_tm.proofs.Maps.Ranges.{forward, in_turn, within}
 use Rattle.xa_tm.proofs.ledger.Ledger.voters.Goals as goal
 
 pub range-requires : goal.range-requires

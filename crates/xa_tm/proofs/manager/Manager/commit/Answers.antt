@@ -5,21 +5,21 @@ use Rattle.xa_log.specs.Content.{with_commit}
 use Rattle.xa_log.specs.Contract.{MayMake}
 use Rattle.xa_log.specs.KeySet.{from_list}
 use Rattle.xa_tm.specs.Book.{Book, Doubt.Adds, after, book_after, voted_yes}
-use Rattle.xa_tm.specs.Held.{held, waiting_of}
-use Rattle.xa_tm.specs.Tied.{IsTied}
-use Rattle.xa_tm.proofs.Asking.{adds_no_row, adds_row}
-use Rattle.xa_tm.proofs.Decides.{undecided}
-use Rattle.xa_tm.proofs.Ties.{tied_commit, tied_fault}
+use Rattle.xa_tm.specs.LedgerBook.{as_book, waiting_of}
+use Rattle.xa_tm.specs.BookAndLog.{IsTied}
+use Rattle.xa_tm.proofs.Log.Asks.{adds_no_row, adds_row}
+use Rattle.xa_tm.proofs.Maps.Decide.{undecided}
+use Rattle.xa_tm.proofs.Log.Ties.{tied_commit, tied_fault}
 use Rattle.xa_tm.proofs.manager.Manager.commit.Goals as goal
 
 pub commit-requires-in-Ok-commit-clause-undecided : goal.commit-requires-in-Ok-commit-clause-undecided
 commit-requires-in-Ok-commit-clause-undecided g c =
     let same = c.prepare_row.ensures.book in
-    undecided _ (ap (λ (b : Book). (b.deal c.args.g).committed) same ∙ c.requires.open.uncommitted)
-    (ap (λ (b : Book). (b.deal c.args.g).rolled_back) same ∙ c.requires.open.not_rolled_back)
+    undecided _ (ap (λ (b : Book). (b.transaction c.args.g).committed) same ∙ c.requires.open.uncommitted)
+    (ap (λ (b : Book). (b.transaction c.args.g).rolled_back) same ∙ c.requires.open.not_rolled_back)
 
 pub commit-requires-in-Ok-commit-clause-agreed : goal.commit-requires-in-Ok-commit-clause-agreed
-commit-requires-in-Ok-commit-clause-agreed g c = ap (λ (b : Book). (b.deal c.args.g).has_yes) c.prepare_row.ensures.book ∙ c.requires.yes
+commit-requires-in-Ok-commit-clause-agreed g c = ap (λ (b : Book). (b.transaction c.args.g).has_yes) c.prepare_row.ensures.book ∙ c.requires.yes
 
 pub commit-requires-in-Ok-commit-clause-all : goal.commit-requires-in-Ok-commit-clause-all
 commit-requires-in-Ok-commit-clause-all g c = c.in-Ok.ensures.all ∙ ap (λ b. voted_yes b c.args.g) (sym c.prepare_row.ensures.book)
@@ -32,7 +32,7 @@ returns-in-Ok-commit-clause-ok g c = c.commit-in-Ok-commit.ensures ∙ ap (λ b.
 
 pub returns-in-Ok-commit-clause-tied : goal.returns-in-Ok-commit-clause-tied
 returns-in-Ok-commit-clause-tied g c = λ near order honest tied.
-    let k = held c.args.self.now.ledger in
+    let k = as_book c.args.self.now.ledger in
     let none = c.requires.sound.no_row c.args.g c.requires.open.begun c.requires.open.uncommitted in
     let new = (g.L.DecisionLog.moment c.commit.new.self).content in
     subst (λ b. IsTied near b new) (sym (c.commit-in-Ok-commit.ensures ∙ ap (λ b. after b (Decided c.args.g Outcomes.Commit)) c.prepare_row.ensures.book))
@@ -46,12 +46,12 @@ returns-in-Err-commit-clause-err g c =
       refl,
       c.fail.ensures (InDecide c.args.g) refl
           ∙ ap (λ b. book_after b (Adds c.args.g (waiting_of c.in-Ok.participants)) (Failed (InDecide c.args.g))) c.prepare_row.ensures.book
-          ∙ ap (λ w. book_after (held c.args.self.now.ledger) (Adds c.args.g w) (Failed (InDecide c.args.g))) c.in-Ok.ensures.all,
+          ∙ ap (λ w. book_after (as_book c.args.self.now.ledger) (Adds c.args.g w) (Failed (InDecide c.args.g))) c.in-Ok.ensures.all,
     )
 
 pub returns-in-Err-commit-clause-tied : goal.returns-in-Err-commit-clause-tied
 returns-in-Err-commit-clause-tied g c = λ near order honest tied.
-    let k = held c.args.self.now.ledger in
+    let k = as_book c.args.self.now.ledger in
     let made = c.fail.ensures (InDecide c.args.g) refl
     ∙ ap (λ b. book_after b (Adds c.args.g (waiting_of c.in-Ok.participants)) (Failed (InDecide c.args.g))) c.prepare_row.ensures.book
     ∙ ap (λ w. book_after k (Adds c.args.g w) (Failed (InDecide c.args.g))) c.in-Ok.ensures.all in

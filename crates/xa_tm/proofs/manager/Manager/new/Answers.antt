@@ -10,11 +10,11 @@ use Rattle.xa_log.specs.declared.log_rows.LogRows.{LogRows}
 use Rattle.xa_log.specs.Contract.{one_more_fault}
 use Rattle.xa_tm.specs.Begins.{records_listed, rows_listed}
 use Rattle.xa_tm.specs.Book.{Book}
-use Rattle.xa_tm.proofs.Begins.{begun_apart, begun_book}
-use Rattle.xa_tm.specs.Held.{IsSound}
+use Rattle.xa_tm.proofs.Log.Begins.{begun_apart, begun_book}
+use Rattle.xa_tm.specs.LedgerBook.{IsSound}
 use Rattle.xa_tm.specs.Starting.{IsOld, ended_among, fits_before, loaded, book_at_start}
-use Rattle.xa_tm.proofs.Starts.{in_incarnation, raised_over, start_old, start_sound, start_tied, started_over}
-use Rattle.xa_tm.proofs.Pasts.{not_past, past_of}
+use Rattle.xa_tm.proofs.History.Starts.{in_incarnation, raised_over, start_old, start_sound, start_tied, started_over}
+use Rattle.xa_tm.proofs.Log.Pasts.{not_past, past_of}
 use Rattle.xa_tm.proofs.manager.Manager.new.Goals as goal
 
 pub returns-then-can_start-clause-book : goal.returns-then-can_start-clause-book

@@ -1,14 +1,14 @@
 use Rattle.std.proofs.Common.{inr, refl, sym, ap, ◌∙◌, subst}
 use Rattle.xa_model.specs.Trace.{Fault.InRestart, Happening.Failed, Happening.Restarted}
-use Rattle.xa_tm.specs.Book.{Doubt.Settled, after, book_after}
-use Rattle.xa_tm.specs.Held.{held}
-use Rattle.xa_tm.specs.Tied.{IsTied, may_find}
-use Rattle.xa_tm.proofs.Restarts.{is_found, never_found, tied_restart, tied_no_restart}
+use Rattle.xa_tm.specs.Book.{Doubt.NoDoubt, after, book_after}
+use Rattle.xa_tm.specs.LedgerBook.{as_book}
+use Rattle.xa_tm.specs.BookAndLog.{IsTied, may_find}
+use Rattle.xa_tm.proofs.Log.Restart.{is_found, never_found, tied_restart, tied_no_restart}
 use Rattle.xa_tm.proofs.manager.Manager.restart.Goals as goal
 
 pub returns-then-try_restart-clause-tied : goal.returns-then-try_restart-clause-tied
 returns-then-try_restart-clause-tied g c = λ near order honest tied.
-    let k = held c.args.self.now.ledger in
+    let k = as_book c.args.self.now.ledger in
     let f = c.in-Ok-find_and_raise.found in
     let new = (g.L.DecisionLog.moment c.find_and_raise.new.log).content in
     subst (λ b. IsTied near b new) (sym
@@ -18,16 +18,16 @@ returns-then-try_restart-clause-tied g c = λ near order honest tied.
 
 pub returns-else-try_restart-clause-tied : goal.returns-else-try_restart-clause-tied
 returns-else-try_restart-clause-tied g c = λ near order honest tied.
-    let k = held c.args.self.now.ledger in
+    let k = as_book c.args.self.now.ledger in
     let new = (g.L.DecisionLog.moment c.find_and_raise.new.log).content in
     subst (λ b. IsTied near b new) (sym
-    (c.if-try_restart.ensures.down refl Settled ∙ ap (λ b. book_after b Settled (Failed InRestart)) c.prepare_restart.ensures.book))
+    (c.if-try_restart.ensures.down refl NoDoubt ∙ ap (λ b. book_after b NoDoubt (Failed InRestart)) c.prepare_restart.ensures.book))
     (tied_no_restart near k (g.L.DecisionLog.moment c.args.self.now.log).content new c.if-self.false
     (inr (inr (c.in-Ok-find_and_raise.ensures.ok order honest))) tied)
 
 pub returns-else-try_restart-clause-faults : goal.returns-else-try_restart-clause-faults
 returns-else-try_restart-clause-faults g c = λ order honest tied.
-    let k = held c.args.self.now.ledger in
+    let k = as_book c.args.self.now.ledger in
     let f = c.in-Ok-find_and_raise.found in
     absurd (never_found k f.incarnation f.decisions f.heuristics
     (ap (λ b. may_find b f.incarnation f.decisions f.heuristics) (sym c.prepare_restart.ensures.book) ∙ sym c.if-try_restart.ensures.value)
@@ -36,9 +36,9 @@ returns-else-try_restart-clause-faults g c = λ order honest tied.
 
 pub returns-in-Err-find_and_raise-clause-tied : goal.returns-in-Err-find_and_raise-clause-tied
 returns-in-Err-find_and_raise-clause-tied g c = λ near order honest tied.
-    let k = held c.args.self.now.ledger in
+    let k = as_book c.args.self.now.ledger in
     let new = (g.L.DecisionLog.moment c.find_and_raise.new.log).content in
-    subst (λ b. IsTied near b new) (sym (c.fail_restart.ensures Settled ∙ ap (λ b. book_after b Settled (Failed InRestart)) c.prepare_restart.ensures.book))
+    subst (λ b. IsTied near b new) (sym (c.fail_restart.ensures NoDoubt ∙ ap (λ b. book_after b NoDoubt (Failed InRestart)) c.prepare_restart.ensures.book))
     (tied_no_restart near k (g.L.DecisionLog.moment c.args.self.now.log).content new c.if-self.false (c.in-Err-find_and_raise.ensures.err order honest) tied)
 
 pub returns-else-try_restart-clause-fault : goal.returns-else-try_restart-clause-fault

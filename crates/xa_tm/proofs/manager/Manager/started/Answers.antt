@@ -3,7 +3,7 @@ use Rattle.std.specs.List.Sorted.{IsStrictlySortedBy}
 use Rattle.xa_base.specs.Branch.{branch_cmp}
 use Rattle.xa_base.proofs.BranchOrder.{branches_total}
 use Rattle.xa_log.proofs.KeySets.{items-from_list}
-use Rattle.xa_tm.specs.Held.{started_keys}
+use Rattle.xa_tm.specs.LedgerBook.{started_keys}
 use Rattle.xa_tm.proofs.manager.Manager.started.Goals as goal
 
 pub returns-clause-all : goal.returns-clause-all

@@ -1,6 +1,6 @@
 use Rattle.std.proofs.Common.{rules, [], ◌∷◌}
-use Rattle.xa_workers.proofs.FateOrder.{all_append}
-use Rattle.xa_workers.proofs.Grouped.{adds_more}
+use Rattle.xa_base.proofs.Lists.{all_append}
+use Rattle.xa_workers.proofs.RowGroups.{adds_more}
 use Rattle.xa_workers.proofs.RowLaws.{own_branches}
 use Rattle.xa_workers.proofs.journal.Journal.gather.Goals as goal
 

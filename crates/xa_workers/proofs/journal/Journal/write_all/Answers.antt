@@ -1,4 +1,4 @@
-use Rattle.xa_workers.proofs.Grouped.{logs_all}
+use Rattle.xa_workers.proofs.RowGroups.{logs_all}
 use Rattle.xa_workers.proofs.journal.Journal.write_all.Goals as goal
 
 pub returns-clause-kept : goal.returns-clause-kept

@@ -1,7 +1,7 @@
 use Rattle.xa_log.proofs.Parts.{both_ok, if_ok}
 use Rattle.sqlite.specs.Files.{file_state}
 use Rattle.xa_sql_log.proofs.Closing.{found_whole}
-use Rattle.xa_sql_log.proofs.Found.{known_held}
+use Rattle.xa_sql_log.proofs.FoundDatabase.{known_held}
 use Rattle.xa_sql_log.proofs.sql_log.closing.SqlLog+FileStore+D.open_files.Goals as goal
 
 pub returns-clause-honest : goal.returns-clause-honest

@@ -1,6 +1,6 @@
 use Rattle.xa_log.proofs.Parts.{both_ok, if_ok}
 use Rattle.sqlite.specs.Files.{file_state}
-use Rattle.xa_sql_log.proofs.Found.{known_found, known_held}
+use Rattle.xa_sql_log.proofs.FoundDatabase.{known_found, known_held}
 use Rattle.xa_sql_log.proofs.sql_log.opening.SqlLog+FileStore+FileFrom+S.open_from.Goals as goal
 
 pub returns-clause-opened : goal.returns-clause-opened

@@ -1,0 +1,117 @@
+//! What the steps of all processes have told.
+
+use std::alloc::Global;
+use std::process::Abort;
+use std::test::Fail;
+use xa_base::{Branch, Fate, Gtrid, Outcome, Reply, Step};
+use xa_log::DecisionLog;
+use xa_rm::MemRm;
+use xa_system::System;
+
+/// How many threads and resource managers each process has.
+pub(crate) const THREADS: u32 = 2;
+
+pub(crate) const RMS: u32 = 2;
+
+/// The transactions that were begun, and those that a log ever had a row of.
+#[derive(Drop)]
+pub(crate) struct Told {
+    pub begun: Vec<Gtrid>,
+    pub logged: Vec<Gtrid>,
+}
+
+/// How many branches ended so, and how many didn't end.
+#[derive(Clone, Copy, Debug, PartialEq, Eq)]
+pub(crate) struct Ends {
+    pub committed: u32,
+    pub rolled_back: u32,
+    pub prepared: u32,
+}
+
+/// The transaction that a step commits, if it is done.
+fn commits(step: &Step) -> Option<Gtrid> {
+    match *step {
+        Step::Decide {
+            gtrid,
+            outcome: Outcome::Commit,
+        } => Some(gtrid),
+        Step::Settle { gtrid } => Some(gtrid),
+        _ => None,
+    }
+}
+
+impl Told {
+    /// Nothing yet.
+    pub(crate) fn new(alloc: Global) -> Told {
+        Told {
+            begun: Vec::new(alloc),
+            logged: Vec::new(alloc),
+        }
+    }
+
+    /// Does a step, and keeps what its reply tells.
+    pub(crate) fn step<L: DecisionLog + Drop>(
+        &mut self,
+        system: &mut System<MemRm, L>,
+        step: Step,
+    ) -> Result<Reply, Fail> {
+        let commits = commits(&step);
+        let reply = system.step(step);
+        match (&reply, commits) {
+            (Reply::Begun(gtrid), _) => self.begun.push(*gtrid)?,
+            (Reply::Decided, Some(gtrid)) => self.logged.push(gtrid)?,
+            _ => {}
+        }
+        Ok(reply)
+    }
+
+    /// Keeps the rows of a log.
+    pub(crate) fn read<L: DecisionLog>(&mut self, log: &mut L) -> Result<(), Fail> {
+        let rows = log.rows()?;
+        for gtrid in &rows.decisions {
+            self.logged.push(*gtrid)?;
+        }
+        Ok(())
+    }
+
+    /// Looks at a branch: it is committed only where its transaction has had a row, and rolled back or lost only where it
+    /// never had one.
+    fn look_at(&self, rt: &impl Abort, branch: Branch, fate: Fate, ends: &mut Ends) {
+        let has_row = self.logged.contains(&branch.gtrid);
+        match fate {
+            Fate::Committed => {
+                assert!(rt; has_row, "{branch:?} is committed without a row");
+                ends.committed = ends.committed.saturating_add(1);
+            }
+            Fate::RolledBack | Fate::Lost => {
+                assert!(rt; !has_row, "{branch:?} is {fate:?} with a row");
+                ends.rolled_back = ends.rolled_back.saturating_add(1);
+            }
+            Fate::Prepared => ends.prepared = ends.prepared.saturating_add(1),
+            _ => {}
+        }
+    }
+
+    /// Looks at all branches of all processes.
+    pub(crate) fn look<L: DecisionLog + Drop>(
+        &self,
+        rt: &impl Abort,
+        system: &System<MemRm, L>,
+    ) -> Ends {
+        let mut ends = Ends {
+            committed: 0,
+            rolled_back: 0,
+            prepared: 0,
+        };
+        for gtrid in &self.begun {
+            for thread in 0..THREADS {
+                for rm in 0..RMS {
+                    let gtrid = *gtrid;
+                    let branch = Branch { gtrid, thread, rm };
+                    self.look_at(rt, branch, system.fate(&branch.xid()), &mut ends);
+                }
+            }
+        }
+        ends
+    }
+}

@@ -1,0 +1,6 @@
+-- The log of a system in its history.
+pub mod FaultCounts
+pub mod GiveLog
+pub mod Laws
+pub mod Changes
+pub mod NextLog

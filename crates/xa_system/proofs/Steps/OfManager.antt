@@ -1,0 +1,315 @@
+-- Steps that the manager does or refuses.
+use Rattle.std.proofs.Common.{◌≡◌, ◌≤◌, ◌<◌, ◌+◌, ◌≢◌, ℕ, [], Bool, true, false, refl, sym, ap, ◌∙◌, subst, arith}
+use Rattle.std.specs.Prelude.{not, ◌&&◌, Option, Some, None, Result, Ok, Err}
+use Rattle.xa_base.specs.Xid.{Xid}
+use Rattle.xa_model.specs.Replies.Allowed.{Allowed.As_value, IsValue, MayLackMemory}
+use Rattle.xa_model.specs.Facts as facts
+use Rattle.xa_model.specs.Replies.History.{reply_of, step_of}
+use Rattle.xa_model.specs.Replies.ReadBack.{StepHasXids}
+use Rattle.xa_model.specs.Protocol.{Right}
+use Rattle.xa_model.specs.Replies.Rules.{asks_manager, must_refuse}
+use Rattle.xa_model.specs.Replies.Steps as known
+use Rattle.xa_model.specs.Replies.Steps.{happened}
+use Rattle.xa_model.specs.Trace.{Happening, Happening.Begun, Happening.Claimed, Happening.Decided, Happening.Done, Trace, Trace.Then, line}
+use Rattle.xa_base.specs.declared.branch.Gtrid.{Gtrid}
+use Rattle.xa_base.specs.declared.refusal.Refusal.{Refusal}
+use Rattle.xa_base.specs.declared.refusal.Refusal.TheVariants as Refusals
+use Rattle.xa_base.specs.declared.reply.Reply.{Reply}
+use Rattle.xa_base.specs.declared.reply.Reply.TheVariants as Replies
+use Rattle.xa_base.specs.declared.step.Outcome.{Outcome}
+use Rattle.xa_base.specs.declared.step.Outcome.TheVariants as Outcomes
+use Rattle.xa_base.specs.declared.step.Step.{Step}
+use Rattle.xa_base.specs.declared.step.Step.TheVariants as Steps
+use Rattle.xa_model.proofs.Replies.Replies.{IsForced, allowed_right, forced, none_applies}
+use Rattle.xa_line.specs.Grid.{line_at}
+use Rattle.xa_tm.specs.declared.manager.Manager.{Manager}
+use Rattle.xa_log.specs.Content.{last_number}
+use Rattle.xa_tm.specs.LedgerBook.{IsSound}
+use Rattle.xa_tm.specs.Calls.{book_in, log_in}
+use Rattle.xa_tm.specs.BookAndLog.{IsTied}
+use Rattle.xa_system.specs.LogInHistory.{LogFollows}
+use Rattle.xa_system.proofs.Log.Changes.{LogCalled, log_done, log_kept, tied_begun, tied_claimed}
+use Rattle.xa_tm.specs.Laws.{IsLookedAt}
+use Rattle.xa_tm.specs.Limits.{IsWithinLimits, happenings}
+use Rattle.xa_tm.proofs.History.Limits.{book_is_sound}
+use Rattle.xa_tm.proofs.History.Refusals.{refusal_is}
+use Rattle.xa_tm.proofs.History.RowCounts.{right_book}
+use Rattle.xa_system.specs.Parts.{GoesOn, OneMore, Sees, Stands, StandsSomewhere}
+use Rattle.xa_system.specs.declared.system.TheConstants.{EVENT_LIMIT}
+use Rattle.xa_system.specs.declared.parts.Parts.{Parts}
+use Rattle.xa_system.proofs.LineLaws.{line_stays}
+use Rattle.xa_system.proofs.Histories.Standing.{Follows, IsEvent, IsNothingTo, goes_as, lacking_goes, rule_goes, site_stays}
+use Rattle.xa_tm.specs.Book.{Book, Doubt, after, doubt_of_happening, book_after, book_of}
+use Rattle.xa_tm.specs.Refusing.{managers_refusal, refusal_in}
+
+pub err_is : {A : Type 0} (m n : Refusal) → (let x : Result A Refusal = Err m in x) ≡ Err n → m ≡ n
+err_is m n e = cc
+
+-- a refusal that a history forces is no fault of the log
+pub not_fault : (n : Refusal) → IsForced n → n ≢ Refusals.LogFault
+not_fault n f e = subst IsForced e f
+
+-- a step that asks the manager is refused while that is down
+pub up_where : (tr : Trace) (s : known.Step) → asks_manager s ≡ true → must_refuse tr s ≡ None → facts.up tr ≡ true
+up_where tr s asks none = by_up (facts.up tr) (asks_manager s) asks (none_applies tr s Refusals.ManagerDown none)
+  where
+    by_up : (u a : Bool) → a ≡ true → (a && not u) ≡ false → u ≡ true
+    by_up true a e h = refl
+    by_up false true e h = absurd (cc)
+    by_up false false e h = absurd (cc)
+
+module _ {R L : Type 0} (see : Sees R L) where
+  -- the history is within the limits
+  pub within : (tr : Trace) (parts : Parts R L) → Stands see tr parts → happenings tr < EVENT_LIMIT → IsWithinLimits tr
+  within tr parts stands few = record {
+    right = stands.kept.run;
+    events = omega (arith, few);
+    fits = stands.fits;
+    found = stands.over.numbers;
+  }
+
+  -- the book that the manager holds is sound
+  pub sound_book : (parts : Parts R L) → StandsSomewhere see parts → IsSound (book_in parts.manager)
+  sound_book parts at = subst IsSound (sym at.1.book) (book_is_sound at.0 (within at.0 parts at.1 at.2) at.1.began at.1.room)
+
+  -- what the manager would refuse, the history does
+  pub judged : (tr : Trace) (parts : Parts R L) (s : known.Step) → IsLookedAt s → Stands see tr parts
+      → refusal_in (book_in parts.manager) s ≡ managers_refusal tr s
+  judged tr parts s looked stands = ap (λ k. refusal_in k s) stands.book ∙ refusal_is tr s stands.kept.run looked
+
+  -- while it is up
+  up_in : (tr : Trace) (parts : Parts R L) (s : known.Step) → IsLookedAt s → managers_refusal tr s ≡ must_refuse tr s → asks_manager s ≡ true
+      → Stands see tr parts → refusal_in (book_in parts.manager) s ≡ None → (book_in parts.manager).up ≡ true
+  up_in tr parts s looked same asks stands none =
+      ap (λ (k : Book). k.up) stands.book ∙ up_where tr s asks (sym same ∙ sym (judged tr parts s looked stands) ∙ none)
+
+  -- the book of one happening more
+  pub book_then : (tr : Trace) (e : Happening) (parts : Parts R L) (manager : Manager L) → Stands see tr parts → Right tr e
+      → book_in manager ≡ book_after (book_in parts.manager) (doubt_of_happening tr e) e → book_in manager ≡ book_of (Then tr e)
+  book_then tr e parts manager stands right is =
+      is ∙ ap (λ k. book_after k (doubt_of_happening tr e) e) stands.book ∙ sym (right_book tr e stands.kept.run right stands.apart)
+
+  -- a happening of the manager alone is nothing to the lines and the resource managers
+  pub record IsOwn (tr : Trace) (e : Happening) : Type 0 where
+    pub sites : (r : ℕ) → IsNothingTo see tr e r
+    pub unbroken : (t r : ℕ) → facts.breaks tr e (line t r) ≡ false
+    pub calls : (t r : ℕ) → facts.new_calls tr e (line t r) ≡ []
+    pub taken : (t r : ℕ) → facts.new_taken e (line t r) ≡ []
+    pub heard : (t r : ℕ) → facts.new_heard e (line t r) ≡ []
+    pub fits : facts.incarnation tr ≤ last_number → facts.incarnation (Then tr e) ≤ last_number
+    pub event : IsEvent e
+
+  -- the parts with another manager
+  abbrev pub with_manager : Parts R L → Manager L → Parts R L
+  with_manager parts manager =
+      record { alloc = parts.alloc; start = parts.start; began = parts.began; sites = parts.sites; lines = parts.lines; manager = manager }
+
+  pub own_follows : (tr : Trace) (e : Happening) (parts : Parts R L) (manager : Manager L) → IsOwn tr e → Stands see tr parts
+      → book_in manager ≡ book_of (Then tr e)
+      → LogFollows see.moment tr e parts.manager manager → Follows see tr e parts (with_manager parts manager)
+  own_follows tr e parts manager own stands book log = record {
+    start = refl;
+    began = refl;
+    threads = refl;
+    rms = refl;
+    whole = stands.whole;
+    count = refl;
+    fits = own.fits stands.fits;
+    sites = λ r site at. site_stays see tr e r site (own.sites r) (stands.sites r site at);
+    lines =
+        λ t r has. line_stays tr e (line t r) (line_at parts.lines t r) (own.unbroken t r) (own.calls t r) (own.taken t r) (own.heard t r)
+        (stands.lines t r has);
+    book = book;
+    log = log;
+    unchanged = λ q. absurd (subst IsEvent q own.event);
+  }
+
+  -- ** steps of the manager alone
+
+  -- it did the step
+  pub did_goes : (tr : Trace) (step : Step Xid) (reply : Reply Xid) (seen : known.Reply) (parts : Parts R L) (manager : Manager L)
+      → Stands see tr parts → StepHasXids step → IsLookedAt (step_of step) → reply_of reply ≡ seen
+      → managers_refusal tr (step_of step) ≡ must_refuse tr (step_of step)
+      → refusal_in (book_in parts.manager) (step_of step) ≡ None → IsValue tr (step_of step) seen
+      → IsOwn tr (happened (step_of step) seen) → doubt_of_happening tr (happened (step_of step) seen) ≡ Doubt.NoDoubt
+      → book_in manager ≡ after (book_in parts.manager) (happened (step_of step) seen)
+      → LogFollows see.moment tr (happened (step_of step) seen) parts.manager manager
+      → OneMore see step reply tr parts (with_manager parts manager)
+  did_goes tr step reply seen parts manager stands has looked is same none value own asked book log =
+      let allowed = As_value (sym same ∙ sym (judged tr parts (step_of step) looked stands) ∙ none) value in
+      let e = happened (step_of step) seen in
+      goes_as see tr step reply seen parts (with_manager parts manager) stands has is allowed
+      (own_follows tr e parts manager own stands
+      (book_then tr e parts manager stands (allowed_right tr (step_of step) seen allowed)
+      (book ∙ ap (λ d. book_after (book_in parts.manager) d e) (sym asked))) log)
+
+  -- it refused the step by a rule, or memory was refused to it
+  pub refused_or_lacking : (tr : Trace) (step : Step Xid) (reply : Reply Xid) (parts : Parts R L) (manager : Manager L) (n : Refusal)
+      → Stands see tr parts → StepHasXids step → IsLookedAt (step_of step) → reply ≡ Replies.Refused n
+      → managers_refusal tr (step_of step) ≡ must_refuse tr (step_of step) → MayLackMemory tr (step_of step)
+      → ((m : Refusal) → refusal_in (book_in parts.manager) (step_of step) ≡ Some m → (m ≡ n) × (book_in manager ≡ book_in parts.manager))
+      → (refusal_in (book_in parts.manager) (step_of step) ≡ None → (n ≡ Refusals.Memory) × (book_in manager ≡ book_in parts.manager))
+      → (n ≢ Refusals.LogFault → log_in manager ≡ log_in parts.manager)
+      → OneMore see step reply tr parts (with_manager parts manager)
+  refused_or_lacking tr step reply parts manager n stands has looked is same may refused lacking log =
+      by_rule (refusal_in (book_in parts.manager) (step_of step)) refl
+    where
+      why : (o : Option Refusal) → refusal_in (book_in parts.manager) (step_of step) ≡ o → must_refuse tr (step_of step) ≡ o
+      why o e = sym same ∙ sym (judged tr parts (step_of step) looked stands) ∙ e
+
+      by_rule : (o : Option Refusal) → refusal_in (book_in parts.manager) (step_of step) ≡ o → OneMore see step reply tr parts (with_manager parts manager)
+      by_rule (Some m) e =
+          rule_goes see tr step reply parts manager m stands has (is ∙ ap (λ k. Replies.Refused k) (sym (refused m e).0)) (why (Some m) e) (refused m e).1
+          (log (not_fault n (subst IsForced (refused m e).0 (forced tr (step_of step) m (why (Some m) e)))))
+      by_rule None e = lacking_goes see tr step parts manager reply stands has (is ∙ ap (λ k. Replies.Refused k) (lacking e).0) (why None e) may (lacking e).1
+          (log (λ q. absurd (let two : Refusals.Memory ≡ Refusals.LogFault = sym (lacking e).0 ∙ q in cc)))
+
+  -- ** its happenings
+
+  pub own_begun : (tr : Trace) (g : Gtrid) → IsOwn tr (Begun g)
+  own_begun tr g =
+      record {
+        sites = λ r. record {
+          quiet = record {
+            branches = record { standing = λ b at. refl; vote = λ b at. refl; retries = λ b at. refl };
+            scan_stays = refl;
+          };
+          is_up = refl;
+        };
+        unbroken = λ t r. refl;
+        calls = λ t r. refl;
+        taken = λ t r. refl;
+        heard = λ t r. refl;
+        fits = λ h. h;
+        event = tt;
+      }
+
+  pub own_claimed : (tr : Trace) (g : Gtrid) → IsOwn tr (Claimed g)
+  own_claimed tr g =
+      record {
+        sites = λ r. record {
+          quiet = record {
+            branches = record { standing = λ b at. refl; vote = λ b at. refl; retries = λ b at. refl };
+            scan_stays = refl;
+          };
+          is_up = refl;
+        };
+        unbroken = λ t r. refl;
+        calls = λ t r. refl;
+        taken = λ t r. refl;
+        heard = λ t r. refl;
+        fits = λ h. h;
+        event = tt;
+      }
+
+  pub own_decided : (tr : Trace) (g : Gtrid) (o : Outcome) → IsOwn tr (Decided g o)
+  own_decided tr g o =
+      record {
+        sites = λ r. record {
+          quiet = record {
+            branches = record { standing = λ b at. refl; vote = λ b at. refl; retries = λ b at. refl };
+            scan_stays = refl;
+          };
+          is_up = refl;
+        };
+        unbroken = λ t r. refl;
+        calls = λ t r. refl;
+        taken = λ t r. refl;
+        heard = λ t r. refl;
+        fits = λ h. h;
+        event = tt;
+      }
+
+  pub own_done : (tr : Trace) (g : Gtrid) → IsOwn tr (Done g)
+  own_done tr g =
+      record {
+        sites = λ r. record {
+          quiet = record {
+            branches = record { standing = λ b at. refl; vote = λ b at. refl; retries = λ b at. refl };
+            scan_stays = refl;
+          };
+          is_up = refl;
+        };
+        unbroken = λ t r. refl;
+        calls = λ t r. refl;
+        taken = λ t r. refl;
+        heard = λ t r. refl;
+        fits = λ h. h;
+        event = tt;
+      }
+
+  -- a Begin
+  pub begin_did : (parts : Parts R L) (manager : Manager L) (t : ℕ) (g : Gtrid) (reply : Reply Xid) → reply ≡ Replies.Begun g
+      → refusal_in (book_in parts.manager) (Steps.Begin t) ≡ None
+      → g ≡ record { incarnation = (book_in parts.manager).incarnation; sequence = (book_in parts.manager).sequence + 1 }
+      → book_in manager ≡ after (book_in parts.manager) (Begun g)
+      → log_in manager ≡ log_in parts.manager → GoesOn see (Steps.Begin t) reply parts (with_manager parts manager)
+  begin_did parts manager t g reply is none next book log tr stands few =
+      did_goes tr (Steps.Begin t) reply (Replies.Begun g) parts manager stands tt tt (ap reply_of is) refl none
+      (ap (λ h. Replies.Begun h) (next ∙ ap (λ (k : Book). record { incarnation = k.incarnation; sequence = k.sequence + 1 }) stands.book))
+      (own_begun tr g) refl book
+      (log_kept see.moment (Begun g) parts.manager manager (λ k. refl) log
+      (λ near held h. subst (λ k. IsTied near k held) (sym book) (tied_begun near (book_in parts.manager) g held h)))
+
+  -- a refusal of the manager, or want of memory
+  pub manager_refused : {A : Type 0} (step : Step Xid) (parts : Parts R L) (manager : Manager L) (n : Refusal) (reply : Reply Xid)
+      → StepHasXids step → IsLookedAt (step_of step) → ((tr : Trace) → managers_refusal tr (step_of step) ≡ must_refuse tr (step_of step))
+      → ((tr : Trace) → MayLackMemory tr (step_of step)) → reply ≡ Replies.Refused n
+      → ((m : Refusal) → refusal_in (book_in parts.manager) (step_of step) ≡ Some m
+      → ((let x : Result A Refusal = Err n in x) ≡ Err m) × (manager ≡ parts.manager))
+      → (refusal_in (book_in parts.manager) (step_of step) ≡ None → (n ≡ Refusals.Memory) × (book_in manager ≡ book_in parts.manager))
+      → (n ≢ Refusals.LogFault → log_in manager ≡ log_in parts.manager)
+      → GoesOn see step reply parts (with_manager parts manager)
+  manager_refused step parts manager n reply has looked same may is refused lacking log tr stands few =
+      refused_or_lacking tr step reply parts manager n stands has looked is (same tr) (may tr)
+      (λ m e. (sym (err_is n m (refused m e).0), ap book_in (refused m e).1)) lacking log
+
+  -- a Claim and an Abandon
+  pub claim_did : (parts : Parts R L) (manager : Manager L) (g : Gtrid) (reply : Reply Xid) → reply ≡ Replies.Claimed
+      → refusal_in (book_in parts.manager) (Steps.Claim g) ≡ None
+      → book_in manager ≡ after (book_in parts.manager) (Claimed g) → log_in manager ≡ log_in parts.manager
+      → GoesOn see (Steps.Claim g) reply parts (with_manager parts manager)
+  claim_did parts manager g reply is none book log tr stands few =
+      did_goes tr (Steps.Claim g) reply Replies.Claimed parts manager stands tt tt (ap reply_of is) refl none refl (own_claimed tr g) refl book
+      (log_kept see.moment (Claimed g) parts.manager manager (λ k. refl) log
+      (λ near held h. subst (λ k. IsTied near k held) (sym book) (tied_claimed near (book_in parts.manager) g held h)))
+
+  pub abandon_did : (parts : Parts R L) (manager : Manager L) (g : Gtrid) (reply : Reply Xid) → reply ≡ Replies.Decided
+      → refusal_in (book_in parts.manager) (Steps.Abandon g) ≡ None
+      → book_in manager ≡ after (book_in parts.manager) (Decided g Outcomes.Rollback)
+      → LogCalled see.moment (let x : Result (Unit {0}) Refusal = Ok tt in x) parts.manager manager
+      → GoesOn see (Steps.Abandon g) reply parts (with_manager parts manager)
+  abandon_did parts manager g reply is none book did tr stands few =
+      did_goes tr (Steps.Abandon g) reply Replies.Decided parts manager stands tt tt (ap reply_of is) refl none refl
+      (own_decided tr g Outcomes.Rollback) refl book
+      (log_done see.moment (Decided g Outcomes.Rollback) tt parts.manager manager (λ k. refl)
+      (ap (λ (k : Book). k.up) book ∙ up_in tr parts (Steps.Abandon g) tt refl refl stands none) did)
+
+  pub decide_did : (parts : Parts R L) (manager : Manager L) (g : Gtrid) (o : Outcome) (reply : Reply Xid)
+      → reply ≡ Replies.Decided → refusal_in (book_in parts.manager) (Steps.Decide g o) ≡ None
+      → book_in manager ≡ after (book_in parts.manager) (Decided g o)
+      → LogCalled see.moment (let x : Result (Unit {0}) Refusal = Ok tt in x) parts.manager manager
+      → GoesOn see (Steps.Decide g o) reply parts (with_manager parts manager)
+  decide_did parts manager g o reply is none book did tr stands few =
+      did_goes tr (Steps.Decide g o) reply Replies.Decided parts manager stands tt tt (ap reply_of is) refl none refl (own_decided tr g o) refl book
+      (log_done see.moment (Decided g o) tt parts.manager manager (λ k. refl)
+      (ap (λ (k : Book). k.up) book ∙ up_in tr parts (Steps.Decide g o) tt refl refl stands none) did)
+
+  pub settle_did : (parts : Parts R L) (manager : Manager L) (g : Gtrid) (reply : Reply Xid) → reply ≡ Replies.Decided
+      → refusal_in (book_in parts.manager) (Steps.Settle g) ≡ None
+      → book_in manager ≡ after (book_in parts.manager) (Decided g Outcomes.Commit)
+      → LogCalled see.moment (let x : Result (Unit {0}) Refusal = Ok tt in x) parts.manager manager
+      → GoesOn see (Steps.Settle g) reply parts (with_manager parts manager)
+  settle_did parts manager g reply is none book did tr stands few =
+      did_goes tr (Steps.Settle g) reply Replies.Decided parts manager stands tt tt (ap reply_of is) refl none refl (own_decided tr g Outcomes.Commit) refl book
+      (log_done see.moment (Decided g Outcomes.Commit) tt parts.manager manager (λ k. refl)
+      (ap (λ (k : Book). k.up) book ∙ up_in tr parts (Steps.Settle g) tt refl refl stands none) did)
+
+  pub done_did : (parts : Parts R L) (manager : Manager L) (g : Gtrid) (reply : Reply Xid) → reply ≡ Replies.Noted
+      → refusal_in (book_in parts.manager) (Steps.Done g) ≡ None
+      → book_in manager ≡ after (book_in parts.manager) (Done g) → LogCalled see.moment (let x : Result (Unit {0}) Refusal = Ok tt in x) parts.manager manager
+      → GoesOn see (Steps.Done g) reply parts (with_manager parts manager)
+  done_did parts manager g reply is none book did tr stands few =
+      did_goes tr (Steps.Done g) reply Replies.Noted parts manager stands tt tt (ap reply_of is) refl none refl (own_done tr g) refl book
+      (log_done see.moment (Done g) tt parts.manager manager (λ k. refl)
+      (ap (λ (k : Book). k.up) book ∙ up_in tr parts (Steps.Done g) tt refl refl stands none) did)

@@ -1,0 +1,299 @@
+-- The book of a right history is sound: its numbers are bounded by how much happened.
+use Rattle.std.proofs.Common.{◌≡◌, ◌≤◌, ◌<◌, ◌+◌, ◌-◌, ◌^◌, ◌==◌, ℕ, suc, List, [], ◌∷◌, length, map, Bool, true, false, not, ◌&&◌, ◌||◌, ◌⊎◌, inl, inr, refl, sym, ap, ◌∙◌, subst, arith}
+use Rattle.std.specs.Prelude.{if◌then◌else◌, Contains, IsSome, None}
+use Rattle.std.proofs.lemmas.Bool.{and_parts}
+use Rattle.xa_base.specs.declared.branch.Branch.{Branch}
+use Rattle.xa_base.specs.declared.branch.Gtrid.{Gtrid}
+use Rattle.xa_base.specs.declared.call.Call.TheVariants as Calls
+use Rattle.xa_base.specs.declared.reply.Event.{Event}
+use Rattle.xa_base.specs.declared.state.Standing.TheVariants.{Unstarted}
+use Rattle.xa_base.specs.declared.step.Outcome.TheVariants as Outcome
+use Rattle.xa_base.specs.declared.step.Part.TheVariants as Part
+use Rattle.xa_base.specs.Branch.{branch_eq, branch_of_xid, gtrid_eq}
+use Rattle.xa_model.specs.Replies.Allowed.{failed_restarts, with_steps}
+use Rattle.xa_model.specs.Facts.{Change, Change.AddRow, Change.DropRow, Change.AddRecord, Change.NoChange, adds_row, begun, doubt, fault_change, had_row, has_record, held_of, heuristic_rows, heuristics_changed, incarnation, lists_row, live, log, next_answer, origin, record_of, record_of_next, row_for, rows_changed, says_yes_in, sequence, started, was_told, up, without, begins, has_voted}
+use Rattle.xa_model.specs.Replies.History.{history, read}
+use Rattle.xa_model.specs.Protocol.{IsRun, Right, RightFault, RightOrigin}
+use Rattle.xa_model.specs.Replies.Steps.{Reply, Step, happened}
+use Rattle.xa_model.specs.Trace.{Fault, Fault.InDecide, Fault.InHear, Fault.InRestart, Happening, Happening.Begun, Happening.Crashed, Happening.Decided, Happening.Done, Happening.Failed, Happening.Heard, Happening.Issued, Happening.Restarted, Origin, Recorded, Row, Trace, Trace.From, Trace.Then}
+use Rattle.xa_base.specs.Xid.{Xid}
+use Rattle.xa_model.proofs.Invariant.{Inv, Old}
+use Rattle.xa_base.proofs.BranchKeys.{branch_eq-true, gtrid_eq-true}
+use Rattle.xa_model.proofs.Invariant.Preservation.{run_always}
+use Rattle.xa_model.proofs.Invariant.Rows.{NewRow, NewRow.Had, NewRow.By_decision, NewRow.By_restart, rowed_new}
+use Rattle.xa_log.specs.Content.{last_number}
+use Rattle.xa_log.specs.Contract.{FitsRow}
+use Rattle.xa_tm.specs.Book.{book_of, row_in}
+use Rattle.xa_tm.specs.Counts.{branch_count, is_counted, counts_as_settled, is_unsettled, lacks_vote, settler, unsettled, unvoted, voter}
+use Rattle.xa_tm.specs.LedgerBook.{IsSound}
+use Rattle.xa_tm.specs.Limits.{FitsIncarnation, HasRoomForRun, IsWithinLimits, happenings, most_events}
+use Rattle.xa_tm.specs.Starting.{IsOld}
+use Rattle.xa_tm.proofs.History.Refusals.{has_row_is, recorded_is}
+use Rattle.xa_tm.proofs.History.RowCounts.{next_or_none}
+use Rattle.xa_tm.proofs.History.Soundness.{no_row}
+
+-- ** events
+
+steps_happen : (tr : Trace) (xs : List (Step × Reply)) → happenings (with_steps tr xs) ≡ happenings tr + length xs
+steps_happen tr [] = omega arith
+steps_happen tr (x ∷ xs) = let rest = steps_happen (Then tr (happened x.0 x.1)) xs in rest ∙ omega arith
+
+as_many : (events : List Event) → length (map read events) ≡ length events
+as_many [] = refl
+as_many (e ∷ es) = ap (λ n. suc n) (as_many es)
+
+pub events_happen : (o : Origin) (events : List Event) → happenings (history o events) ≡ length events
+events_happen o events = let all = steps_happen (From o) (map read events) in let many = as_many events in omega (arith, all, many)
+
+-- ** numbers
+
+begins_cover : (tr : Trace) → sequence tr ≤ begins tr
+begins_cover (From o) = omega arith
+begins_cover (Then tr (Begun g)) = let h = begins_cover tr in omega (arith, h)
+begins_cover (Then tr (Restarted i d h)) = omega arith
+begins_cover (Then tr _) = begins_cover tr
+
+begins_few : (tr : Trace) → begins tr ≤ happenings tr
+begins_few (From o) = omega arith
+begins_few (Then tr (Begun g)) = let h = begins_few tr in omega (arith, h)
+begins_few (Then tr _) = let h = begins_few tr in omega (arith, h)
+
+failed_few : (tr : Trace) → failed_restarts tr ≤ happenings tr
+failed_few (From o) = omega arith
+failed_few (Then tr (Restarted i d h)) = omega arith
+failed_few (Then tr (Failed InRestart)) = let h = failed_few tr in omega (arith, h)
+failed_few (Then tr _) = let h = failed_few tr in omega (arith, h)
+
+one_up : (t : Bool) (n m : ℕ) → n ≤ m → (if t then n + 1 else n) ≤ m + 1
+one_up true n m h = omega (arith, h)
+one_up false n m h = omega (arith, h)
+
+one_down : (t : Bool) (n m : ℕ) → n ≤ m → (if t then n - 1 else n) ≤ m + 1
+one_down true n m h = omega (arith, h)
+one_down false n m h = omega (arith, h)
+
+as_before : (n m : ℕ) → n ≤ m → n ≤ m + 1
+as_before n m h = omega (arith, h)
+
+branches_few : (tr : Trace) (g : Gtrid) → branch_count tr g ≤ happenings tr
+branches_few (From o) g = omega arith
+branches_few (Then tr (Issued l (Calls.Start b false))) g = one_up (gtrid_eq b.gtrid g) _ _ (branches_few tr g)
+branches_few (Then tr (Issued l (Calls.Start b true))) g = one_up (gtrid_eq b.gtrid g) _ _ (branches_few tr g)
+branches_few (Then tr _) g = as_before _ _ (branches_few tr g)
+
+unvoted_few : (tr : Trace) (g : Gtrid) → unvoted tr g ≤ happenings tr
+unvoted_few (From o) g = omega arith
+unvoted_few (Then tr (Issued l (Calls.Start b false))) g = one_up (gtrid_eq b.gtrid g && not (has_voted tr b)) _ _ (unvoted_few tr g)
+unvoted_few (Then tr (Issued l (Calls.Start b true))) g = one_up (gtrid_eq b.gtrid g && not (has_voted tr b)) _ _ (unvoted_few tr g)
+unvoted_few (Then tr (Heard l c a)) g = one_down (is_counted (lacks_vote tr) g (voter c a)) _ _ (unvoted_few tr g)
+unvoted_few (Then tr _) g = as_before _ _ (unvoted_few tr g)
+
+unsettled_few : (tr : Trace) (g : Gtrid) → unsettled tr g ≤ happenings tr
+unsettled_few (From o) g = omega arith
+unsettled_few (Then tr (Issued l (Calls.Start b false))) g = one_up (gtrid_eq b.gtrid g && not (counts_as_settled tr b)) _ _ (unsettled_few tr g)
+unsettled_few (Then tr (Issued l (Calls.Start b true))) g = one_up (gtrid_eq b.gtrid g && not (counts_as_settled tr b)) _ _ (unsettled_few tr g)
+unsettled_few (Then tr (Heard l c a)) g = one_down (is_counted (is_unsettled tr) g (settler c a)) _ _ (unsettled_few tr g)
+unsettled_few (Then tr _) g = as_before _ _ (unsettled_few tr g)
+
+-- ** numbers of rows
+
+without_fewer : (g : Gtrid) (xs : List Row) → length (without g xs) ≤ length xs
+without_fewer g [] = omega arith
+without_fewer g (x ∷ xs) = by (gtrid_eq x.gtrid g) (without_fewer g xs)
+  where
+    by : (t : Bool) → length (without g xs) ≤ length xs → length (if t then without g xs else x ∷ without g xs) ≤ length (x ∷ xs)
+    by true h = omega (arith, h)
+    by false h = omega (arith, h)
+
+changed_few : (c : Change) (xs : List Row) (n : ℕ) → length xs ≤ n → length (rows_changed c xs) ≤ n + 1
+changed_few (AddRow x) xs n h = omega (arith, h)
+changed_few (DropRow g) xs n h = let less = without_fewer g xs in omega (arith, h, less)
+changed_few (AddRecord x) xs n h = omega (arith, h)
+changed_few NoChange xs n h = omega (arith, h)
+
+recorded_few : (c : Change) (xs : List Recorded) (n : ℕ) → length xs ≤ n → length (heuristics_changed c xs) ≤ n + 1
+recorded_few (AddRecord x) xs n h = by (has_record xs x.branch)
+  where
+    by : (t : Bool) → length (if t then xs else x ∷ xs) ≤ n + 1
+    by true = omega (arith, h)
+    by false = omega (arith, h)
+recorded_few (AddRow x) xs n h = omega (arith, h)
+recorded_few (DropRow g) xs n h = omega (arith, h)
+recorded_few NoChange xs n h = omega (arith, h)
+
+shifted : (n a m : ℕ) → n ≤ a + m + 1 → n ≤ a + (m + 1)
+shifted n a m h = omega (arith, h)
+
+rows_few : (tr : Trace) → length (log tr) ≤ length (origin tr).rows + happenings tr
+rows_few (From o) = omega arith
+rows_few (Then tr (Decided g Outcome.Commit)) = by (was_told tr (says_yes_in g)) (rows_few tr)
+  where
+    by : (t : Bool) → length (log tr) ≤ length (origin tr).rows + happenings tr
+        → length (if t then row_for tr g ∷ log tr else log tr) ≤ length (origin tr).rows + (happenings tr + 1)
+    by true h = omega (arith, h)
+    by false h = omega (arith, h)
+rows_few (Then tr (Done g)) = let less = without_fewer g (log tr) in let h = rows_few tr in omega (arith, less, h)
+rows_few (Then tr (Restarted i d n)) = by (d == length (log tr)) (rows_few tr)
+  where
+    by : (t : Bool) → length (log tr) ≤ length (origin tr).rows + happenings tr
+        → length (if t then log tr else rows_changed (doubt tr) (log tr)) ≤ length (origin tr).rows + (happenings tr + 1)
+    by true h = omega (arith, h)
+    by false h = shifted _ (length (origin tr).rows) (happenings tr) (changed_few (doubt tr) (log tr) _ h)
+rows_few (Then tr _) = let h = rows_few tr in omega (arith, h)
+
+records_few : (tr : Trace) → length (heuristic_rows tr) ≤ length (origin tr).heuristic_rows + happenings tr
+records_few (From o) = omega arith
+records_few (Then tr (Heard l c a)) =
+    shifted _ (length (origin tr).heuristic_rows) (happenings tr) (recorded_few (record_of c a) (heuristic_rows tr) _ (records_few tr))
+records_few (Then tr (Restarted i d n)) = by (n == length (heuristic_rows tr)) (records_few tr)
+  where
+    by : (t : Bool) → length (heuristic_rows tr) ≤ length (origin tr).heuristic_rows + happenings tr
+        → length (if t then heuristic_rows tr else heuristics_changed (doubt tr) (heuristic_rows tr)) ≤ length (origin tr).heuristic_rows + (happenings tr + 1)
+    by true h = omega (arith, h)
+    by false h = shifted _ (length (origin tr).heuristic_rows) (happenings tr) (recorded_few (doubt tr) (heuristic_rows tr) _ h)
+records_few (Then tr _) = let h = records_few tr in omega (arith, h)
+
+-- ** what is begun fits a row
+
+pub begun_fits : (tr : Trace) (g : Gtrid) → begun tr g ≡ true → IsRun tr → g.sequence ≤ happenings tr
+begun_fits (From o) g e r = absurd (cc)
+begun_fits (Then tr (Begun h)) g e r = by (gtrid_eq h g) refl e (λ k. begun_fits tr g k r.0)
+  where
+    by : (t : Bool) → gtrid_eq h g ≡ t → (t || begun tr g) ≡ true → (begun tr g ≡ true → g.sequence ≤ happenings tr) → g.sequence ≤ happenings tr + 1
+    by true is e rest =
+        let at : g.sequence ≡ sequence tr + 1 = ap (λ (x : Gtrid). x.sequence) (sym (gtrid_eq-true h g is)) ∙ r.1.2 in
+        let few = begins_few tr in
+        let cover = begins_cover tr in
+        omega (arith, at, few, cover)
+    by false is e rest = as_before _ _ (rest e)
+begun_fits (Then tr (Crashed Part.Manager)) g e r = absurd (cc)
+begun_fits (Then tr (Failed f)) g e r = absurd (cc)
+begun_fits (Then tr (Restarted i d h)) g e r = absurd (cc)
+begun_fits (Then tr _) g e r = as_before _ _ (begun_fits tr g e r.0)
+
+live_fits : (tr : Trace) (g : Gtrid) → IsRun tr → live tr g ≡ true → g.sequence ≤ happenings tr
+live_fits tr g r l = begun_fits tr g (and_parts _ _ l).0 r
+
+pub started_fits : (tr : Trace) (b : Branch) → started tr b ≡ true → IsRun tr → b.gtrid.sequence ≤ happenings tr
+started_fits (From o) b e r = absurd (cc)
+started_fits (Then tr (Issued l (Calls.Start c false))) b e r = by (branch_eq c b) refl e (λ k. started_fits tr b k r.0)
+  where
+    by : (t : Bool) → branch_eq c b ≡ t → (t || started tr b) ≡ true → (started tr b ≡ true → b.gtrid.sequence ≤ happenings tr)
+        → b.gtrid.sequence ≤ happenings tr + 1
+    by true is e rest =
+        as_before _ _ (subst (λ (x : Branch). x.gtrid.sequence ≤ happenings tr) (branch_eq-true c b is) (live_fits tr c.gtrid r.0 r.1.1.may_be.1.is_live))
+    by false is e rest = as_before _ _ (rest e)
+started_fits (Then tr (Issued l (Calls.Start c true))) b e r = by (branch_eq c b) refl e (λ k. started_fits tr b k r.0)
+  where
+    by : (t : Bool) → branch_eq c b ≡ t → (t || started tr b) ≡ true → (started tr b ≡ true → b.gtrid.sequence ≤ happenings tr)
+        → b.gtrid.sequence ≤ happenings tr + 1
+    by true is e rest =
+        as_before _ _ (subst (λ (x : Branch). x.gtrid.sequence ≤ happenings tr) (branch_eq-true c b is) (live_fits tr c.gtrid r.0 r.1.1.may_be.1.is_live))
+    by false is e rest = as_before _ _ (rest e)
+started_fits (Then tr _) b e r = as_before _ _ (started_fits tr b e r.0)
+
+-- ** rows fit the log
+
+fault_fits : (tr : Trace) (f : Fault) (g : Gtrid) → IsRun tr → RightFault tr f → adds_row (fault_change tr f) g ≡ true → g.sequence ≤ happenings tr
+fault_fits tr (InDecide h) g r right e = subst (λ (x : Gtrid). x.sequence ≤ happenings tr) (gtrid_eq-true h g e) (live_fits tr h r right.0.is_live)
+fault_fits tr (InHear l) g r right e = by (next_or_none (next_answer tr l))
+  where
+    by : ((x : Recorded) × (record_of_next (next_answer tr l) ≡ AddRecord x)) ⊎ (record_of_next (next_answer tr l) ≡ NoChange) → g.sequence ≤ happenings tr
+    by (inl w) = let no : false ≡ true = sym (ap (λ c. adds_row c g) w.1) ∙ e in absurd (cc)
+    by (inr w) = let no : false ≡ true = sym (ap (λ c. adds_row c g) w) ∙ e in absurd (cc)
+fault_fits tr _ g r right e = absurd (cc)
+
+doubt_fits : (tr : Trace) (g : Gtrid) → IsRun tr → adds_row (doubt tr) g ≡ true → g.sequence ≤ happenings tr
+doubt_fits (From o) g r e = absurd (cc)
+doubt_fits (Then tr (Failed f)) g r e = by (up tr) (λ k. doubt_fits tr g r.0 k) e
+  where
+    by : (t : Bool) → (adds_row (doubt tr) g ≡ true → g.sequence ≤ happenings tr)
+        → adds_row (if t then fault_change tr f else doubt tr) g ≡ true → g.sequence ≤ happenings tr + 1
+    by true before k = as_before _ _ (fault_fits tr f g r.0 r.1 k)
+    by false before k = as_before _ _ (before k)
+doubt_fits (Then tr (Restarted i d h)) g r e = absurd (cc)
+doubt_fits (Then tr _) g r e = as_before _ _ (doubt_fits tr g r.0 e)
+
+-- a row is of the start, or of a transaction that was begun since
+pub row_fits : (tr : Trace) (g : Gtrid) → IsRun tr → had_row tr g ≡ true → (lists_row (origin tr).rows g ≡ true) ⊎ (g.sequence ≤ happenings tr)
+row_fits (From o) g r h = inl h
+row_fits (Then tr e) g r h = by (rowed_new tr e g h) (λ k. row_fits tr g r.0 k)
+  where
+    later : (lists_row (origin tr).rows g ≡ true) ⊎ (g.sequence ≤ happenings tr) → (lists_row (origin tr).rows g ≡ true) ⊎ (g.sequence ≤ happenings tr + 1)
+    later (inl k) = inl k
+    later (inr k) = inr (as_before _ _ k)
+
+    by : NewRow tr e g → (had_row tr g ≡ true → (lists_row (origin tr).rows g ≡ true) ⊎ (g.sequence ≤ happenings tr))
+        → (lists_row (origin tr).rows g ≡ true) ⊎ (g.sequence ≤ happenings tr + 1)
+    by (Had k) before = later (before k)
+    by (By_decision q has) before = let d : Right tr (Decided g Outcome.Commit) = subst (Right tr) q r.1 in later (inr (live_fits tr g r.0 d.is_live))
+    by (By_restart i d n q adds has) before = later (inr (doubt_fits tr g r.0 adds))
+
+-- ** the whole
+
+-- a transaction that is old has no greater incarnation
+pub old_fits : (tr : Trace) (g : Gtrid) → Old tr g → incarnation tr ≤ last_number → g.incarnation ≤ last_number
+old_fits tr g (inl less) fits = omega (arith, less, fits)
+old_fits tr g (inr same) fits = let at = same.0 in omega (arith, at, fits)
+
+module _ (tr : Trace) (limits : IsWithinLimits tr) (sound : IsSound (book_of (From (origin tr)))) where
+  rows_fit : (g : Gtrid) → IsSome (row_in (log tr) g) → FitsRow g
+  rows_fit g some = (old_fits tr g (inv.rows g had).closed.old limits.fits, by (row_fits tr g limits.right had))
+    where
+      inv : Inv tr
+      inv = run_always tr limits.right
+
+      had : had_row tr g ≡ true
+      had = inv.row_rowed g (sym (has_row_is tr g) ∙ some)
+
+      by : (lists_row (origin tr).rows g ≡ true) ⊎ (g.sequence ≤ happenings tr) → g.sequence ≤ last_number
+      by (inl listed) = (sound.rows_fit g (has_row_is (From (origin tr)) g ∙ listed)).1
+      by (inr few) = let events = limits.events in omega (arith, few, events)
+
+  few_below : (n : ℕ) → n ≤ happenings tr → n < 2 ^ 64 - 1
+  few_below n few = let events = limits.events in omega (arith, few, events)
+
+  room_below : (n m : ℕ) → n ≤ m + happenings tr → m ≤ last_number → n < 2 ^ 64 - 1
+  room_below n m few room = let events = limits.events in omega (arith, few, events, room)
+
+  pub book_is_sound : HasRoomForRun (book_of (From (origin tr))) → IsSound (book_of tr)
+  book_is_sound room = record {
+    begins = begins_cover tr;
+    restarts = few_below (failed_restarts tr) (failed_few tr);
+    rows = room_below _ (length (origin tr).rows) (rows_few tr) room.rows;
+    records = room_below _ (length (origin tr).heuristic_rows) (records_few tr) room.records;
+    fits = limits.fits;
+    fits_begins = begins_fit;
+    branches = λ g. few_below _ (branches_few tr g);
+    unvoted = λ g. few_below _ (unvoted_few tr g);
+    unsettled = λ g. few_below _ (unsettled_few tr g);
+    rows_fit = rows_fit;
+    no_row = λ g is_begun undecided. no_row tr g limits.right is_begun undecided;
+  }
+    where
+      begins_fit : begins tr < last_number
+      begins_fit = let few = begins_few tr in let events = limits.events in omega (arith, few, events)
+
+-- one right happening more
+pub limits_kept : (tr : Trace) (e : Happening) → IsWithinLimits tr → Right tr e → happenings tr < most_events → FitsIncarnation e → IsWithinLimits (Then tr e)
+limits_kept tr e limits right room fit = record {
+  right = (limits.right, right);
+  events = let more : happenings tr + 1 ≤ most_events = omega (arith, room) in more;
+  fits = incarnation_fits e fit;
+  found = limits.found;
+}
+  where
+    incarnation_fits : (e : Happening) → FitsIncarnation e → incarnation (Then tr e) ≤ last_number
+    incarnation_fits (Restarted i d h) fit = fit
+    incarnation_fits _ fit = limits.fits
+
+-- ** starts
+
+pub old_start_is_right : (o : Origin) → IsOld (book_of (From o)) → ((b : Branch) → (held_of o b).standing ≡ Unstarted)
+    → ((r : ℕ) (x : Xid) → Contains (o.in_doubt r) x → branch_of_xid x ≡ None) → RightOrigin o
+old_start_is_right o old clear foreign = record {
+  rows_old = λ g h. old.rows g (has_row_is (From o) g ∙ h);
+  record_old = λ b h. old.records b (recorded_is (From o) b ∙ h);
+  clear = clear;
+  foreign = foreign;
+}

@@ -1,0 +1,311 @@
+-- The book of a history with one happening more is what the happening makes of the book.
+use Rattle.std.proofs.Common.{◌≡◌, ℕ, ◌+◌, ◌==◌, List, [], ◌∷◌, length, filter, Bool, true, false, ◌&&◌, ◌||◌, cond, Option, Some, None, is_some, add-one, refl, sym, ap, ◌∙◌, subst}
+use Rattle.std.specs.Prelude.{if◌then◌else◌}
+use Rattle.std.specs.Ordering.{eq_by_cmp}
+use Rattle.std.specs.List.{list_any}
+use Rattle.std.proofs.lemmas.Bool.{true≢false}
+use Rattle.xa_base.specs.declared.call.Call.TheVariants as Calls
+use Rattle.xa_base.specs.Branch.{gtrid_eq, branch_eq, branch_cmp}
+use Rattle.xa_base.specs.declared.branch.Branch.{Branch}
+use Rattle.xa_base.specs.declared.branch.Gtrid.{Gtrid}
+use Rattle.xa_base.specs.declared.code.How.{How}
+use Rattle.xa_base.specs.declared.step.Outcome.TheVariants as Outcome
+use Rattle.xa_base.specs.declared.step.Part.TheVariants as Part
+use Rattle.xa_model.specs.Replies.Allowed.{failed_restarts}
+use Rattle.xa_model.specs.Facts.{up, incarnation, sequence, breaks, branches, was_told, says_yes_in, page, page_after, log, heuristic_rows, without, row_for, takes_part, how_in, has_record, heuristics_changed, recorded, recorded_as, record_of, doubt, fault_change, rows_changed, Change, Change.AddRow, Change.DropRow, Change.AddRecord, Change.NoChange, begins}
+use Rattle.xa_model.specs.Trace.{Line, Fault.InRestart, Happening, Happening.Begun, Happening.Issued, Happening.ResolvedOpen, Happening.Heard, Happening.Claimed, Happening.Decided, Happening.Done, Happening.Crashed, Happening.Failed, Happening.Restarted, Row, Recorded, Trace, Trace.Then, line}
+use Rattle.xa_base.proofs.BranchOrder.{branches_total, exact_branches}
+use Rattle.xa_base.proofs.BranchKeys.{branch_eq-true, gtrid_eq-true}
+use Rattle.xa_base.proofs.Orders.{equal_is}
+use Rattle.xa_log.specs.KeySet.{from_list, items, contains-items, contains-from_list, same_set}
+use Rattle.xa_tm.specs.Laws.{CountsRows}
+use Rattle.xa_tm.specs.Book.{Doubt.Adds, Doubt.Drops, Doubt.Records, Book, Waiting, row_in, doubt_of, transaction_in, notes_in, book_of, up_after, incarnation_after, sequence_after, begins_after, failed_restarts_after, breaks_in, transaction_after, notes_after, known_after, pages_after, voted_yes, row_with, row_after, rows_after, recorded_with, recorded_after, records_with, records_after, doubt_after, book_after, doubt_of_happening}
+
+-- two books that say the same
+pub book_is : (k l : Book) → k.threads ≡ l.threads → k.rms ≡ l.rms → k.up ≡ l.up → k.incarnation ≡ l.incarnation → k.sequence ≡ l.sequence
+    → k.begins ≡ l.begins → k.failed_restarts ≡ l.failed_restarts → ((g : Gtrid) → k.transaction g ≡ l.transaction g) → ((b : Branch) → k.notes b ≡ l.notes b)
+    → k.known ≡ l.known → ((r : ℕ) → k.page r ≡ l.page r) → ((g : Gtrid) → k.row g ≡ l.row g) → k.rows ≡ l.rows
+    → ((b : Branch) → k.recorded b ≡ l.recorded b) → k.records ≡ l.records → k.doubt ≡ l.doubt → k ≡ l
+book_is k l threads rms up inc seq begins failed transaction notes known page row rows recorded records doubt = λ i. record {
+  threads = threads i;
+  rms = rms i;
+  up = up i;
+  incarnation = inc i;
+  sequence = seq i;
+  begins = begins i;
+  failed_restarts = failed i;
+  transaction = λ g. transaction g i;
+  notes = λ b. notes b i;
+  known = known i;
+  page = λ r. page r i;
+  row = λ g. row g i;
+  rows = rows i;
+  recorded = λ b. recorded b i;
+  records = records i;
+  doubt = doubt i;
+}
+
+-- ** numbers and flags
+
+up_more : (tr : Trace) (e : Happening) → up (Then tr e) ≡ up_after e (up tr)
+up_more tr (Crashed Part.Manager) = refl
+up_more tr (Failed f) = refl
+up_more tr (Restarted i d h) = refl
+up_more tr _ = refl
+
+incarnation_more : (tr : Trace) (e : Happening) → incarnation (Then tr e) ≡ incarnation_after e (incarnation tr)
+incarnation_more tr (Restarted i d h) = refl
+incarnation_more tr _ = refl
+
+sequence_more : (tr : Trace) (e : Happening) → sequence (Then tr e) ≡ sequence_after e (sequence tr)
+sequence_more tr (Begun g) = refl
+sequence_more tr (Restarted i d h) = refl
+sequence_more tr _ = refl
+
+begins_more : (tr : Trace) (e : Happening) → begins (Then tr e) ≡ begins_after e (begins tr)
+begins_more tr (Begun g) = refl
+begins_more tr _ = refl
+
+failed_more : (tr : Trace) (e : Happening) → failed_restarts (Then tr e) ≡ failed_restarts_after e (failed_restarts tr)
+failed_more tr (Restarted i d h) = refl
+failed_more tr (Failed InRestart) = refl
+failed_more tr _ = refl
+
+pub breaks_is : (tr : Trace) (e : Happening) (l : Line) → breaks tr e l ≡ breaks_in (up tr) e l
+breaks_is tr (Crashed (Part.Line t r)) l = refl
+breaks_is tr (Crashed (Part.Rm r)) l = refl
+breaks_is tr (Crashed Part.Manager) l = refl
+breaks_is tr (Failed f) l = refl
+breaks_is tr _ l = refl
+
+-- ** transactions and branches
+
+transaction_more : (tr : Trace) (e : Happening) (g : Gtrid) → transaction_in (Then tr e) g ≡ transaction_after (book_of tr) e g (transaction_in tr g)
+transaction_more tr (Begun h) g = refl
+transaction_more tr (Issued l (Calls.Start b false)) g = refl
+transaction_more tr (Issued l (Calls.Start b true)) g = refl
+transaction_more tr (Issued l (Calls.Commit b true)) g = refl
+transaction_more tr (Heard l c a) g = refl
+transaction_more tr (Claimed h) g = refl
+transaction_more tr (Decided h Outcome.Commit) g = refl
+transaction_more tr (Decided h Outcome.Rollback) g = refl
+transaction_more tr (ResolvedOpen r) g = refl
+transaction_more tr (Crashed Part.Manager) g = refl
+transaction_more tr (Failed f) g = refl
+transaction_more tr (Restarted i d h) g = refl
+transaction_more tr _ g = refl
+
+notes_more : (tr : Trace) (e : Happening) (b : Branch) → notes_in (Then tr e) b ≡ notes_after (up tr) e b (notes_in tr b)
+notes_more tr (Issued l (Calls.Start c false)) b = refl
+notes_more tr (Issued l (Calls.Start c true)) b = refl
+notes_more tr (Heard l c a) b = refl
+notes_more tr (Crashed (Part.Line t r)) b = refl
+notes_more tr (Crashed (Part.Rm r)) b = refl
+notes_more tr (Crashed Part.Manager) b = refl
+notes_more tr (Failed f) b = refl
+notes_more tr (Restarted i d h) b = refl
+notes_more tr _ b = refl
+
+known_more : (tr : Trace) (e : Happening) → from_list {R = branch_cmp} (branches (Then tr e)) ≡ known_after e (from_list (branches tr))
+known_more tr (Issued l (Calls.Start b false)) = refl
+known_more tr (Issued l (Calls.Start b true)) = refl
+known_more tr _ = refl
+
+page_more : (tr : Trace) (e : Happening) (r : ℕ) → page (Then tr e) r ≡ pages_after (up tr) e (page tr) r
+page_more tr e r = ap (λ (t : Bool). if t then [] else page_after (page tr r) e r) (breaks_is tr e (line 0 r))
+
+-- ** rows
+
+-- one of those that pass a test
+pub any_filter : (p : Branch → Bool) (q : Branch) (xs : List Branch)
+    → list_any (eq_by_cmp branch_cmp q) (filter p xs) ≡ (p q && list_any (eq_by_cmp branch_cmp q) xs)
+any_filter p q [] = none (p q)
+  where
+    none : (t : Bool) → false ≡ (t && false)
+    none true = refl
+    none false = refl
+any_filter p q (x ∷ xs) = by (p x) (eq_by_cmp branch_cmp q x) refl refl (any_filter p q xs)
+  where
+    here : (t s u : Bool) → t ≡ true → (s || (t && u)) ≡ (t && (s || u))
+    here true s u e = refl
+    here false s u e = absurd (cc)
+
+    away : (t u : Bool) (s : Bool) → s ≡ false → (t && u) ≡ (t && (s || u))
+    away t u true e = absurd (cc)
+    away t u false e = refl
+
+    gone : (t : Bool) → t ≡ false → (u : Bool) → false ≡ (t && u)
+    gone true e u = absurd (cc)
+    gone false e u = refl
+
+    by : (t s : Bool) → p x ≡ t → eq_by_cmp branch_cmp q x ≡ s → list_any (eq_by_cmp branch_cmp q) (filter p xs) ≡ (p q && list_any (eq_by_cmp branch_cmp q) xs)
+        → list_any (eq_by_cmp branch_cmp q) (cond t (x ∷ filter p xs) (filter p xs))
+        ≡ (p q && (eq_by_cmp branch_cmp q x || list_any (eq_by_cmp branch_cmp q) xs))
+    by true true is same rest =
+        let at : p q ≡ true = ap p (exact_branches q x (equal_is _ same)) ∙ is in
+        ap (λ b. eq_by_cmp branch_cmp q x || b) rest ∙ here (p q) (eq_by_cmp branch_cmp q x) (list_any (eq_by_cmp branch_cmp q) xs) at
+    by true false is apart rest =
+        ap (λ (s : Bool). s || list_any (eq_by_cmp branch_cmp q) (filter p xs)) apart ∙ rest
+        ∙ away (p q) (list_any (eq_by_cmp branch_cmp q) xs) (eq_by_cmp branch_cmp q x) apart
+    by false true is same rest =
+        let at : p q ≡ false = ap p (exact_branches q x (equal_is _ same)) ∙ is in
+        rest ∙ sym (gone (p q) at (list_any (eq_by_cmp branch_cmp q) xs)) ∙ gone (p q) at (eq_by_cmp branch_cmp q x || list_any (eq_by_cmp branch_cmp q) xs)
+    by false false is apart rest = rest ∙ away (p q) (list_any (eq_by_cmp branch_cmp q) xs) (eq_by_cmp branch_cmp q x) apart
+
+-- a choice from a set, and from a list of which it is
+pub chosen : (p : Branch → Bool) (xs : List Branch) → from_list {R = branch_cmp} (filter p (items (from_list {R = branch_cmp} xs))) ≡ from_list (filter p xs)
+chosen p xs = same_set branches_total exact_branches _ _ (λ q.
+    contains-from_list branches_total _ q ∙ any_filter p q (items (from_list xs))
+    ∙ ap (λ b. p q && b) (sym (contains-items (from_list xs) q) ∙ contains-from_list branches_total xs q)
+    ∙ sym (any_filter p q xs) ∙ sym (contains-from_list branches_total _ q))
+
+pub voted_yes_is : (tr : Trace) (g : Gtrid) → from_list (row_for tr g).participants ≡ voted_yes (book_of tr) g
+voted_yes_is tr g = sym (chosen (takes_part tr g) (branches tr))
+
+row_dropped : (h g : Gtrid) (xs : List Row) → row_in (without h xs) g ≡ row_with (Drops h) g (row_in xs g)
+row_dropped h g [] = none (gtrid_eq h g)
+  where
+    empty : Option Waiting
+    empty = None
+
+    none : (t : Bool) → empty ≡ (if t then empty else empty)
+    none true = refl
+    none false = refl
+row_dropped h g (x ∷ xs) = by (gtrid_eq x.gtrid h) (gtrid_eq x.gtrid g) refl refl (row_dropped h g xs)
+  where
+    by : (s t : Bool) → gtrid_eq x.gtrid h ≡ s → gtrid_eq x.gtrid g ≡ t → row_in (without h xs) g ≡ row_with (Drops h) g (row_in xs g)
+        → row_in (if s then without h xs else x ∷ without h xs) g
+        ≡ (if gtrid_eq h g then None else (if t then Some (from_list x.participants) else row_in xs g))
+    by true true same here rest =
+        let is : gtrid_eq h g ≡ true = subst (λ y. gtrid_eq y g ≡ true) (gtrid_eq-true x.gtrid h same) here in
+        rest ∙ ap (λ (u : Bool). if u then None else row_in xs g) is ∙ sym (ap (λ (u : Bool). if u then None else Some (from_list x.participants)) is)
+    by true false same away rest = rest
+    by false true other here rest =
+        let at = ap (λ (u : Bool). if u then Some (from_list {R = branch_cmp} x.participants) else row_in (without h xs) g) here in
+        at ∙ sym (ap (λ (u : Bool). if u then None else Some (from_list x.participants)) (apart (gtrid_eq h g) refl))
+      where
+        apart : (u : Bool) → gtrid_eq h g ≡ u → gtrid_eq h g ≡ false
+        apart true e = absurd (true≢false (sym here ∙ ap (gtrid_eq x.gtrid) (sym (gtrid_eq-true h g e)) ∙ other))
+        apart false e = e
+    by false false other away rest = ap (λ (u : Bool). if u then Some (from_list {R = branch_cmp} x.participants) else row_in (without h xs) g) away ∙ rest
+
+-- the rows after a change
+pub row_changed : (c : Change) (xs : List Row) (g : Gtrid) → row_in (rows_changed c xs) g ≡ row_with (doubt_of c) g (row_in xs g)
+row_changed (AddRow x) xs g = refl
+row_changed (DropRow h) xs g = row_dropped h g xs
+row_changed (AddRecord x) xs g = refl
+row_changed NoChange xs g = refl
+
+row_more : (tr : Trace) (e : Happening) (g : Gtrid) → row_in (log (Then tr e)) g ≡ row_after (book_of tr) e g (row_in (log tr) g)
+row_more tr (Decided h Outcome.Commit) g = by (was_told tr (says_yes_in h))
+  where
+    by : (t : Bool) → row_in (if t then row_for tr h ∷ log tr else log tr) g
+        ≡ (if t then row_with (Adds h (voted_yes (book_of tr) h)) g (row_in (log tr) g) else row_in (log tr) g)
+    by true = ap (λ set. if gtrid_eq h g then Some set else row_in (log tr) g) (voted_yes_is tr h)
+    by false = refl
+row_more tr (Done h) g = row_dropped h g (log tr)
+row_more tr (Restarted i d h) g = by (d == length (log tr))
+  where
+    by : (t : Bool) → row_in (if t then log tr else rows_changed (doubt tr) (log tr)) g
+        ≡ (if t then row_in (log tr) g else row_with (doubt_of (doubt tr)) g (row_in (log tr) g))
+    by true = refl
+    by false = row_changed (doubt tr) (log tr) g
+row_more tr _ g = refl
+
+-- ** records
+
+pub has_record_is : (xs : List Recorded) (b : Branch) → has_record xs b ≡ is_some (how_in xs b)
+has_record_is [] b = refl
+has_record_is (x ∷ xs) b = by (branch_eq x.branch b) (has_record_is xs b)
+  where
+    by : (t : Bool) → has_record xs b ≡ is_some (how_in xs b) → (t || has_record xs b) ≡ is_some (if t then Some x.how else how_in xs b)
+    by true rest = refl
+    by false rest = rest
+
+how_with : (x : Recorded) (xs : List Recorded) (b : Branch) (t : Bool) → has_record xs x.branch ≡ t
+    → how_in (if t then xs else x ∷ xs) b ≡ recorded_with (Records x.branch x.how) b (how_in xs b)
+how_with x xs b true e = by (how_in xs b) refl
+  where
+    no : (o : Option How) → o ≡ None → is_some o ≡ true → (h : Option How) → None ≡ h
+    no None p q h = absurd (cc)
+    no (Some w) p q h = absurd (cc)
+
+    here : (t : Bool) → branch_eq x.branch b ≡ t → how_in xs b ≡ None → None ≡ (if t then Some x.how else None)
+    here true s none = no (how_in xs x.branch) (ap (how_in xs) (branch_eq-true x.branch b s) ∙ none) (sym (has_record_is xs x.branch) ∙ e) (Some x.how)
+    here false s none = refl
+
+    by : (o : Option How) → how_in xs b ≡ o → o ≡ recorded_with (Records x.branch x.how) b o
+    by None none = here (branch_eq x.branch b) refl none
+    by (Some h) some = refl
+how_with x xs b false e = by (how_in xs b) (branch_eq x.branch b) refl refl
+  where
+    no : (o : Option How) (h w : How) → o ≡ Some h → is_some o ≡ false → Some w ≡ Some h
+    no None h w p q = absurd (cc)
+    no (Some v) h w p q = absurd (cc)
+
+    by : (o : Option How) (t : Bool) → how_in xs b ≡ o → branch_eq x.branch b ≡ t → (if t then Some x.how else o) ≡ recorded_with (Records x.branch x.how) b o
+    by None t none is = ap (λ (u : Bool). if u then Some x.how else None) (sym is)
+    by (Some h) true some is = no (how_in xs x.branch) h x.how (ap (how_in xs) (branch_eq-true x.branch b is) ∙ some) (sym (has_record_is xs x.branch) ∙ e)
+    by (Some h) false some is = refl
+
+-- the record after a change
+pub how_changed : (c : Change) (xs : List Recorded) (b : Branch) → how_in (heuristics_changed c xs) b ≡ recorded_with (doubt_of c) b (how_in xs b)
+how_changed (AddRecord x) xs b = how_with x xs b _ refl
+how_changed (AddRow x) xs b = refl
+how_changed (DropRow h) xs b = refl
+how_changed NoChange xs b = refl
+
+recorded_more : (tr : Trace) (e : Happening) (b : Branch) → recorded_as (Then tr e) b ≡ recorded_after (book_of tr) e b (recorded_as tr b)
+recorded_more tr (Heard l c a) b = how_changed (record_of c a) (heuristic_rows tr) b
+recorded_more tr (Restarted i d h) b = by (h == length (heuristic_rows tr))
+  where
+    by : (t : Bool) → how_in (if t then heuristic_rows tr else heuristics_changed (doubt tr) (heuristic_rows tr)) b
+        ≡ (if t then recorded_as tr b else recorded_with (doubt_of (doubt tr)) b (recorded_as tr b))
+    by true = refl
+    by false = how_changed (doubt tr) (heuristic_rows tr) b
+recorded_more tr _ b = refl
+
+records_changed : (k : Book) (c : Change) (xs : List Recorded) → ((b : Branch) → k.recorded b ≡ how_in xs b)
+    → length (heuristics_changed c xs) ≡ records_with k (doubt_of c) (length xs)
+records_changed k (AddRecord x) xs is = by (has_record xs x.branch) refl
+  where
+    by : (t : Bool) → has_record xs x.branch ≡ t → length (if t then xs else x ∷ xs) ≡ (if is_some (k.recorded x.branch) then length xs else length xs + 1)
+    by true e = sym (ap (λ (u : Bool). if u then length xs else length xs + 1) (ap is_some (is x.branch) ∙ sym (has_record_is xs x.branch) ∙ e))
+    by false e =
+        sym (ap (λ (u : Bool). if u then length xs else length xs + 1) (ap is_some (is x.branch) ∙ sym (has_record_is xs x.branch) ∙ e) ∙ add-one (length xs))
+records_changed k (AddRow x) xs is = refl
+records_changed k (DropRow h) xs is = refl
+records_changed k NoChange xs is = refl
+
+-- ** numbers of rows, and doubt
+
+rows_more : (tr : Trace) (e : Happening) → CountsRows tr e → length (log (Then tr e)) ≡ rows_after (book_of tr) e (length (log tr))
+rows_more tr (Decided h Outcome.Commit) n = by (was_told tr (says_yes_in h))
+  where
+    by : (t : Bool) → length (if t then row_for tr h ∷ log tr else log tr) ≡ (if t then length (log tr) + 1 else length (log tr))
+    by true = sym (add-one (length (log tr)))
+    by false = refl
+rows_more tr (Done h) n = n
+rows_more tr (Restarted i d h) n = sym n.0
+rows_more tr _ n = refl
+
+records_more : (tr : Trace) (e : Happening) → CountsRows tr e → length (heuristic_rows (Then tr e)) ≡ records_after (book_of tr) e (length (heuristic_rows tr))
+records_more tr (Heard l c a) n = records_changed (book_of tr) (record_of c a) (heuristic_rows tr) (λ b. refl)
+records_more tr (Restarted i d h) n = sym n.1
+records_more tr _ n = refl
+
+doubt_more : (tr : Trace) (e : Happening) → doubt_of (doubt (Then tr e)) ≡ doubt_after (up tr) (doubt_of_happening tr e) e (doubt_of (doubt tr))
+doubt_more tr (Failed f) = by (up tr)
+  where
+    by : (u : Bool) → doubt_of (if u then fault_change tr f else doubt tr) ≡ (if u then doubt_of (fault_change tr f) else doubt_of (doubt tr))
+    by true = refl
+    by false = refl
+doubt_more tr (Restarted i d h) = refl
+doubt_more tr _ = refl
+
+-- ** the whole
+
+pub one_more : (tr : Trace) (e : Happening) → CountsRows tr e → book_of (Then tr e) ≡ book_after (book_of tr) (doubt_of_happening tr e) e
+one_more tr e n = book_is _ _ refl refl (up_more tr e) (incarnation_more tr e) (sequence_more tr e) (begins_more tr e) (failed_more tr e)
+    (transaction_more tr e) (notes_more tr e) (known_more tr e) (page_more tr e) (row_more tr e) (rows_more tr e n) (recorded_more tr e)
+    (records_more tr e n) (doubt_more tr e)

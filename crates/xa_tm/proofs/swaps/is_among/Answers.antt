@@ -1,6 +1,0 @@
-use Rattle.std.proofs.Common.{◌∙◌}
-use Rattle.xa_tm.proofs.SameBranches.{among}
-use Rattle.xa_tm.proofs.swaps.is_among.Goals as goal
-
-pub returns : goal.returns
-returns c = c.contains.ensures.value ∙ among c.args.branch c.args.branches.now

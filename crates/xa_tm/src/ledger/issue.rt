@@ -1,0 +1,290 @@
+//! The refusals of calls, and what is noted of a call that is issued.
+
+ghost use Rattle.std.specs.Prelude.{true, false, ◌≡◌, Bool, nat_eq, if◌then◌else◌, Option, Some, None, OnOk, OnErr};
+ghost use Rattle.xa_tm.specs.Book.{after};
+ghost use Rattle.xa_base.specs.declared.call.Call.TheVariants as Calls;
+ghost use Rattle.xa_base.specs.declared.step.Step.TheVariants as Steps;
+ghost use Rattle.xa_model.specs.Trace.{Line, Call as KnownCall, Happening.Issued};
+ghost use Rattle.xa_base.specs.declared.refusal.Refusal.TheVariants.{WrongThread};
+ghost use Rattle.std.specs.List.{list_any};
+ghost use Rattle.xa_base.specs.Call.{map_call};
+ghost use Rattle.xa_model.specs.Replies.Steps.{accepted};
+ghost use Rattle.xa_model.specs.Replies.History.{name_of};
+ghost use Rattle.xa_model.specs.Replies.Rules.{first_of};
+ghost use Rattle.xa_model.specs.Trace.{Kind.Start, Kind.End, Kind.Prepare, Kind.Commit, Kind.Rollback, Kind.Forget};
+ghost use Rattle.xa_model.specs.Trace.{Name.Ours, line};
+ghost use Rattle.xa_log.specs.KeySet.{items};
+ghost use Rattle.xa_tm.specs.Answering.{branch_handed_over, branch_started};
+ghost use Rattle.xa_tm.specs.LedgerBook.{IsSound, as_book};
+ghost use Rattle.xa_tm.specs.Refusing.{applies_in, is_unfinished, manager_rules, refusal_in};
+
+use crate::ledger::Ledger;
+use std::alloc::AllocError;
+use xa_base::{Branch, Call, Refusal};
+
+impl Ledger {
+    /// Whether a branch that was started on a line, since that last broke, isn't finished.
+    fn has_unfinished(&self, thread: u32, rm: u32) -> bool
+        ensures { result ≡ list_any (is_unfinished (as_book self.now) (line thread rm))
+            (items (as_book self.now).known) }
+    {
+        self.branches.iter().any(|(b, notes)| {
+            notes.is_started
+                && b.thread == thread
+                && b.rm == rm
+                && notes.is_on_line
+                && !notes.is_finished
+        })
+    }
+
+    /// The refusal of a call on a line, but for those that the line and the resource manager find.
+    pub(crate) fn may_issue(&self, thread: u32, rm: u32, call: &Call) -> Option<Refusal>
+        ensures { result ≡ refusal_in (as_book self.now)
+            (Steps.Issue thread rm (map_call name_of call.now)) }
+    {
+        if thread >= self.threads || rm >= self.rms {
+            return Some(Refusal::Limit);
+        }
+        if !self.is_up {
+            return Some(Refusal::ManagerDown);
+        }
+        self.may_call(thread, rm, call)
+    }
+
+    /// The same on a line of the system, while the manager is up.
+    fn may_call(&self, thread: u32, rm: u32, call: &Call) -> Option<Refusal>
+        requires { self.now.is_up ≡ Bool.true }
+        ensures { result ≡ first_of (applies_in (as_book self.now)
+            (Steps.Issue thread rm (map_call name_of call.now))) manager_rules }
+    {
+        match call {
+            Call::OpenRm => None,
+            Call::CloseRm => self.may_close(thread, rm),
+            Call::Recover { .. } => may_recover(thread),
+            Call::Start { xid, join: true } | Call::Start { xid, join: false } =>
+                match xid.branch() {
+                    Some(b) => self.may_start(thread, rm, b),
+                    None => Some(Refusal::UnknownTransaction),
+                },
+            Call::End { xid, .. } => match xid.branch() {
+                Some(b) => self.may_end(thread, rm, b),
+                None => Some(Refusal::UnknownTransaction),
+            },
+            Call::Prepare { xid } => match xid.branch() {
+                Some(b) => self.may_prepare(thread, rm, b),
+                None => Some(Refusal::UnknownTransaction),
+            },
+            Call::Commit { xid, one_phase } => match xid.branch() {
+                Some(b) if *one_phase => self.may_hand_over(thread, rm, b),
+                Some(b) => self.may_commit(rm, b),
+                None => Some(Refusal::UnknownTransaction),
+            },
+            Call::Rollback { xid } => match xid.branch() {
+                Some(b) => self.may_roll_back(rm, b),
+                None => Some(Refusal::UnknownTransaction),
+            },
+            Call::Forget { xid } => match xid.branch() {
+                Some(b) => self.may_forget(rm, b),
+                None => Some(Refusal::UnknownTransaction),
+            },
+        }
+    }
+
+    /// Notes a call that is issued: xa_start makes a branch, and xa_commit in one phase hands a transaction over.
+    pub(crate) fn note_issued(&mut self, call: &Call) -> Result<(), AllocError>
+        requires { IsSound (as_book self.old) }
+        ensures ok { OnOk result
+            ((l : Line) (c : KnownCall) → accepted (map_call name_of call.now) ≡ Some c →
+            as_book self.new ≡ after (as_book self.old) (Issued l c)) }
+        ensures err { OnErr result (as_book self.new ≡ as_book self.old) }
+    {
+        match started_by(call) {
+            Some(b) => self.start(b),
+            None => match handed_over_by(call) {
+                Some(b) => self.hand_over(b.gtrid),
+                None => Ok(()),
+            },
+        }
+    }
+
+    /// The refusal of xa_close.
+    fn may_close(&self, thread: u32, rm: u32) -> Option<Refusal>
+        requires { self.now.is_up ≡ Bool.true }
+        ensures { result ≡ first_of
+            (applies_in (as_book self.now) (Steps.Issue thread rm Calls.CloseRm)) manager_rules }
+    {
+        if self.has_unfinished(thread, rm) {
+            return Some(Refusal::Busy);
+        }
+        None
+    }
+
+    /// The refusal of xa_start.
+    fn may_start(&self, thread: u32, rm: u32, b: Branch) -> Option<Refusal>
+        requires { self.now.is_up ≡ Bool.true }
+        ensures start { result ≡ first_of
+            (applies_in (as_book self.now) (Steps.Issue thread rm (Calls.Start (Ours b) false)))
+            manager_rules }
+        ensures join { result ≡ first_of
+            (applies_in (as_book self.now) (Steps.Issue thread rm (Calls.Start (Ours b) true)))
+            manager_rules }
+    {
+        if !self.is_begun(b.gtrid) {
+            return Some(Refusal::UnknownTransaction);
+        }
+        if rm != b.rm || thread != b.thread {
+            return Some(Refusal::WrongThread);
+        }
+        if self.branch(b).is_started {
+            return Some(Refusal::AlreadyStarted);
+        }
+        if self.is_shut(b.gtrid) {
+            return Some(Refusal::Decided);
+        }
+        None
+    }
+
+    /// The refusal of xa_end.
+    fn may_end(&self, thread: u32, rm: u32, b: Branch) -> Option<Refusal>
+        requires { self.now.is_up ≡ Bool.true }
+        ensures { (fail : Bool) →
+            result ≡ first_of (applies_in (as_book self.now)
+            (Steps.Issue thread rm (Calls.End (Ours b) fail))) manager_rules }
+    {
+        if !self.is_begun(b.gtrid) {
+            return Some(Refusal::UnknownTransaction);
+        }
+        if rm != b.rm || thread != b.thread {
+            return Some(Refusal::WrongThread);
+        }
+        None
+    }
+
+    /// The refusal of xa_prepare.
+    fn may_prepare(&self, thread: u32, rm: u32, b: Branch) -> Option<Refusal>
+        requires { self.now.is_up ≡ Bool.true }
+        ensures { result ≡ first_of
+            (applies_in (as_book self.now) (Steps.Issue thread rm (Calls.Prepare (Ours b))))
+            manager_rules }
+    {
+        if !self.is_begun(b.gtrid) {
+            return Some(Refusal::UnknownTransaction);
+        }
+        if rm != b.rm || thread != b.thread {
+            return Some(Refusal::WrongThread);
+        }
+        if self.is_shut(b.gtrid) {
+            return Some(Refusal::Decided);
+        }
+        None
+    }
+
+    /// The refusal of xa_commit in one phase.
+    fn may_hand_over(&self, thread: u32, rm: u32, b: Branch) -> Option<Refusal>
+        requires { self.now.is_up ≡ Bool.true }
+        ensures { result ≡ first_of
+            (applies_in (as_book self.now) (Steps.Issue thread rm (Calls.Commit (Ours b) true)))
+            manager_rules }
+    {
+        if let Some(refusal) = self.may_prepare(thread, rm, b) {
+            return Some(refusal);
+        }
+        if !self.branch(b).is_started || self.transaction(b.gtrid).branches != 1 {
+            return Some(Refusal::Votes);
+        }
+        None
+    }
+
+    /// The refusal of xa_commit in two phases.
+    fn may_commit(&self, rm: u32, b: Branch) -> Option<Refusal>
+        requires { self.now.is_up ≡ Bool.true }
+        ensures { (thread : _) →
+            result ≡ first_of (applies_in (as_book self.now)
+            (Steps.Issue thread rm (Calls.Commit (Ours b) false))) manager_rules }
+    {
+        if !self.is_begun(b.gtrid) && !self.is_outlived(b.gtrid) {
+            return Some(Refusal::UnknownTransaction);
+        }
+        if rm != b.rm {
+            return Some(Refusal::WrongThread);
+        }
+        if !self.has_row(b.gtrid) {
+            return Some(Refusal::NotDecided);
+        }
+        None
+    }
+
+    /// The refusal of xa_rollback.
+    fn may_roll_back(&self, rm: u32, b: Branch) -> Option<Refusal>
+        requires { self.now.is_up ≡ Bool.true }
+        ensures { (thread : _) →
+            result ≡ first_of (applies_in (as_book self.now)
+            (Steps.Issue thread rm (Calls.Rollback (Ours b)))) manager_rules }
+    {
+        if !self.is_begun(b.gtrid) {
+            return Some(Refusal::UnknownTransaction);
+        }
+        if rm != b.rm {
+            return Some(Refusal::WrongThread);
+        }
+        if !self.transaction(b.gtrid).may_roll_back() {
+            return Some(Refusal::NotDecided);
+        }
+        if self.branch(b).may_still_start() {
+            return Some(Refusal::Busy);
+        }
+        None
+    }
+
+    /// The refusal of xa_forget.
+    fn may_forget(&self, rm: u32, b: Branch) -> Option<Refusal>
+        requires { self.now.is_up ≡ Bool.true }
+        ensures { (thread : _) →
+            result ≡ first_of (applies_in (as_book self.now)
+            (Steps.Issue thread rm (Calls.Forget (Ours b)))) manager_rules }
+    {
+        if !self.is_begun(b.gtrid) {
+            return Some(Refusal::UnknownTransaction);
+        }
+        if rm != b.rm {
+            return Some(Refusal::WrongThread);
+        }
+        if self.branch(b).recorded.is_none() {
+            return Some(Refusal::NotDecided);
+        }
+        None
+    }
+}
+
+/// The refusal of xa_recover: it is the first thread's alone.
+fn may_recover(thread: u32) -> Option<Refusal>
+    ensures { result ≡ (if nat_eq thread 0 then None else Some WrongThread) }
+{
+    if thread != 0 {
+        return Some(Refusal::WrongThread);
+    }
+    None
+}
+
+/// The branch of this manager that a call starts.
+fn started_by(call: &Call) -> Option<Branch>
+    ensures { result ≡ branch_started (map_call name_of call.now) }
+{
+    match call {
+        Call::Start { xid, join: true } | Call::Start { xid, join: false } => xid.branch(),
+        _ => None,
+    }
+}
+
+/// The branch of this manager that a call commits in one phase.
+fn handed_over_by(call: &Call) -> Option<Branch>
+    ensures { result ≡ branch_handed_over (map_call name_of call.now) }
+{
+    match call {
+        Call::Commit {
+            xid,
+            one_phase: true,
+        } => xid.branch(),
+        _ => None,
+    }
+}

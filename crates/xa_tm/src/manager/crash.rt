@@ -1,0 +1,24 @@
+//! A part crashes.
+
+ghost use Rattle.std.specs.Prelude.{◌≡◌, Bool, Option};
+ghost use Rattle.xa_log.specs.Content.{Content};
+ghost use Rattle.xa_model.specs.Trace.{Happening.Crashed};
+ghost use Rattle.xa_tm.specs.Book.{after};
+ghost use Rattle.xa_tm.specs.BookAndLog.{IsTied};
+ghost use Rattle.xa_tm.specs.Calls.{book_in, log_in};
+
+use crate::manager::Manager;
+use xa_base::Part;
+use xa_log::DecisionLog;
+
+impl<L: DecisionLog + Drop> Manager<L> {
+    /// A part crashes: a line, a resource manager with all its lines, or the manager with all lines.
+    pub fn crash(&mut self, part: Part)
+        ensures book { book_in self.new ≡ after (book_in self.old) (Crashed part) }
+        ensures log { log_in self.new ≡ log_in self.old }
+        ensures tied { (near : Bool) (log : Option Content) →
+            IsTied near (book_in self.old) log → IsTied near (book_in self.new) log }
+    {
+        self.ledger.crash(part);
+    }
+}

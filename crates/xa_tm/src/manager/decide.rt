@@ -1,0 +1,143 @@
+//! A transaction is decided: the step, and what settling and abandoning share with it (XA, section 2.3, Transaction
+//! Completion and Recovery).
+
+ghost use Rattle.std.specs.Prelude.{◌≡◌, ◌≢◌, ◌&&◌, Bool, Option, Some, None, Err, IfErr, OnOk};
+ghost use Rattle.xa_base.specs.declared.refusal.Refusal.TheVariants as Refusals;
+ghost use Rattle.xa_base.specs.declared.step.Outcome.TheVariants as Outcomes;
+ghost use Rattle.xa_base.specs.declared.step.Step.TheVariants as Steps;
+ghost use Rattle.xa_log.specs.Content.{Content};
+ghost use Rattle.xa_model.specs.Trace.{Fault.InDecide, Happening.Decided};
+ghost use Rattle.xa_tm.specs.Book.{Doubt.Adds, after, voted_yes};
+ghost use Rattle.xa_tm.specs.BookAndLog.{changed_by, IsTied};
+ghost use Rattle.xa_tm.specs.Calls.{AddsRow, AsksFor, FailsBy, IsOpenIn, book_in, log_in};
+ghost use Rattle.xa_tm.specs.LedgerBook.{IsSound};
+ghost use Rattle.xa_tm.specs.Outcomes.{is_commit};
+ghost use Rattle.xa_tm.specs.Refusing.{refusal_in};
+
+use crate::change::Change;
+use crate::manager::Manager;
+use xa_base::{Gtrid, Outcome, Refusal};
+use xa_log::DecisionLog;
+
+impl<L: DecisionLog + Drop> Manager<L> {
+    /// Decides a transaction. A commit writes its row where some branch voted XA_OK. No other decision asks the log.
+    pub fn decide(&mut self, g: Gtrid, outcome: Outcome) -> Result<(), Refusal>
+        requires { IsSound (book_in self.old) }
+        // A rule that refuses changes nothing.
+        ensures refused { (n : Refusal) →
+            refusal_in (book_in self.old) (Steps.Decide g outcome) ≡ Some n →
+            (result ≡ Err n) × (self.new ≡ self.old) }
+        ensures allowed { OnOk result
+            (refusal_in (book_in self.old) (Steps.Decide g outcome) ≡ None) }
+        // What the book then says.
+        ensures ok { OnOk result (book_in self.new ≡ after (book_in self.old) (Decided g outcome)) }
+        ensures err { refusal_in (book_in self.old) (Steps.Decide g outcome) ≡ None →
+            IfErr result (FailsBy (Adds g (voted_yes (book_in self.old) g)) (InDecide g)
+            (book_in self.old) (book_in self.new)) }
+        ensures asked { refusal_in (book_in self.old) (Steps.Decide g outcome) ≡ None →
+            result ≡ Err Refusals.LogFault →
+            AddsRow outcome ((book_in self.old).transaction g) }
+        // What becomes of the log.
+        ensures tied { (near : Bool) → (L.moment (log_in self.old)).is_in_order →
+            (L.moment (log_in self.new)).is_honest →
+            IsTied near (book_in self.old) (L.moment (log_in self.old)).content →
+            IsTied near (book_in self.new) (L.moment (log_in self.new)).content }
+        ensures kept { IfErr result
+            (λ n. n ≢ Refusals.LogFault → log_in self.new ≡ log_in self.old) }
+        ensures without_row { ¬ AddsRow outcome ((book_in self.old).transaction g) →
+            log_in self.new ≡ log_in self.old }
+        ensures asks { AsksFor (changed_by (Adds g (voted_yes (book_in self.old) g)))
+            (L.moment (log_in self.old)) (L.moment (log_in self.new)) result }
+    {
+        match self.ledger.may_decide(g, outcome) {
+            Some(refusal) => Err(refusal),
+            None => self.conclude(g, outcome),
+        }
+    }
+
+    /// Decides what no rule refuses to decide.
+    pub(super) fn conclude(&mut self, g: Gtrid, outcome: Outcome) -> Result<(), Refusal>
+        requires sound { IsSound (book_in self.old) }
+        requires open { IsOpenIn (book_in self.old) g }
+        // What the book then says.
+        ensures ok { OnOk result (book_in self.new ≡ after (book_in self.old) (Decided g outcome)) }
+        ensures err { IfErr result
+            (FailsBy (Adds g (voted_yes (book_in self.old) g)) (InDecide g) (book_in self.old)
+            (book_in self.new)) }
+        ensures asked { result ≡ Err Refusals.LogFault →
+            AddsRow outcome ((book_in self.old).transaction g) }
+        // What becomes of the log.
+        ensures tied { (near : Bool) → (L.moment (log_in self.old)).is_in_order →
+            (L.moment (log_in self.new)).is_honest →
+            IsTied near (book_in self.old) (L.moment (log_in self.old)).content →
+            IsTied near (book_in self.new) (L.moment (log_in self.new)).content }
+        ensures kept { IfErr result
+            (λ n. n ≢ Refusals.LogFault → log_in self.new ≡ log_in self.old) }
+        ensures without_row { ¬ AddsRow outcome ((book_in self.old).transaction g) →
+            log_in self.new ≡ log_in self.old }
+        ensures asks { AsksFor (changed_by (Adds g (voted_yes (book_in self.old) g)))
+            (L.moment (log_in self.old)) (L.moment (log_in self.new)) result }
+    {
+        if self.ledger.transaction(g).adds_row(outcome) {
+            self.commit(g)
+        } else {
+            self.decide_without_row(g, outcome)
+        }
+    }
+
+    /// Decides a transaction of which no row is written.
+    pub(super) fn decide_without_row(&mut self, g: Gtrid, outcome: Outcome) -> Result<(), Refusal>
+        requires open { IsOpenIn (book_in self.old) g }
+        requires no_row { (is_commit (Some outcome)
+            && ((book_in self.old).transaction g).has_yes) ≡ Bool.false }
+        ensures ok { OnOk result (book_in self.new ≡ after (book_in self.old) (Decided g outcome)) }
+        ensures err { IfErr result
+            (λ n. (n ≡ Refusals.Memory) × (book_in self.new ≡ book_in self.old)) }
+        ensures log { log_in self.new ≡ log_in self.old }
+        ensures tied { (near : Bool) (log : Option Content) →
+            IsTied near (book_in self.old) log → IsTied near (book_in self.new) log }
+    {
+        match self.ledger.decide(g, outcome) {
+            Ok(()) => Ok(()),
+            Err(_) => Err(Refusal::Memory),
+        }
+    }
+
+    /// Commits a transaction of which some branch voted XA_OK: its row names those that did.
+    ///
+    /// All room is made before the log is asked.
+    fn commit(&mut self, g: Gtrid) -> Result<(), Refusal>
+        requires sound { IsSound (book_in self.old) }
+        requires open { IsOpenIn (book_in self.old) g }
+        requires yes { ((book_in self.old).transaction g).has_yes ≡ Bool.true }
+        // What the book then says.
+        ensures ok { OnOk result
+            (book_in self.new ≡ after (book_in self.old) (Decided g Outcomes.Commit)) }
+        ensures err { IfErr result
+            (FailsBy (Adds g (voted_yes (book_in self.old) g)) (InDecide g) (book_in self.old)
+            (book_in self.new)) }
+        // What becomes of the log.
+        ensures tied { (near : Bool) → (L.moment (log_in self.old)).is_in_order →
+            (L.moment (log_in self.new)).is_honest →
+            IsTied near (book_in self.old) (L.moment (log_in self.old)).content →
+            IsTied near (book_in self.new) (L.moment (log_in self.new)).content }
+        ensures kept { IfErr result
+            (λ n. n ≢ Refusals.LogFault → log_in self.new ≡ log_in self.old) }
+        ensures asks { AsksFor (changed_by (Adds g (voted_yes (book_in self.old) g)))
+            (L.moment (log_in self.old)) (L.moment (log_in self.new)) result }
+    {
+        match self.ledger.prepare_row(g) {
+            Err(_) => Err(Refusal::Memory),
+            Ok(participants) => match self.log.commit(g, participants.as_slice()) {
+                Ok(_) => {
+                    self.ledger.commit(g, participants);
+                    Ok(())
+                }
+                Err(_) => {
+                    self.ledger.fail(Change::AddRow(g, participants));
+                    Err(Refusal::LogFault)
+                }
+            },
+        }
+    }
+}
