@@ -25,6 +25,8 @@ mod runs;
 #[cfg(test)]
 mod shown_tables;
 #[cfg(test)]
+mod starts;
+#[cfg(test)]
 mod system;
 #[cfg(test)]
 mod tables;

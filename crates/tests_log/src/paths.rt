@@ -29,13 +29,13 @@ fn drop_in_files<D: Disk + Drop>(log: SqlLog<FileStore<D>>) {
 }
 
 /// Runs statements on the database at a path, which is made where there is none.
-fn run_at(rt: &HostRuntime, path: &str, sql: &str) -> Result<(), Fail> {
+pub(crate) fn run_at(rt: &HostRuntime, path: &str, sql: &str) -> Result<(), Fail> {
     execute_and_close(Connection::open(rt, path)?, sql)?;
     Ok(())
 }
 
 /// What the tables of the database at a path hold.
-fn seen_at(rt: &HostRuntime, path: &str) -> Result<Seen, Fail> {
+pub(crate) fn seen_at(rt: &HostRuntime, path: &str) -> Result<Seen, Fail> {
     let (seen, _) = look_and_close(Connection::open(rt, path)?);
     Ok(seen)
 }
@@ -67,7 +67,7 @@ fn make_at(rt: &HostRuntime, path: &str) -> Result<(), LogFault> {
 }
 
 /// A folder with no files.
-fn make_folder(rt: &HostRuntime, folder: &str) -> Result<(), Fail> {
+pub(crate) fn make_folder(rt: &HostRuntime, folder: &str) -> Result<(), Fail> {
     let _ = fs::remove_dir_all(rt, folder);
     fs::create_dir(rt, folder)?;
     Ok(())

@@ -165,7 +165,7 @@ fn have_ended(rt: &impl Abort, ends: Ends) {
 
 #[test]
 fn over_a_log_in_memory(rt: HostRuntime) -> Result<(), Fail> {
-    for seed in 1..40u32 {
+    for seed in 1..9u32 {
         let (ends, _) = ten_processes(&rt, rt.alloc(), MemLog::new(rt.alloc()), seed)?;
         have_ended(&rt, ends);
     }
