@@ -18,7 +18,7 @@ use xa_base::{Side, Step};
 use xa_log::{DecisionLog, MemLog};
 use xa_rm::MemRm;
 use xa_sql_log::SqlLog;
-use xa_system::System;
+use xa_system::{Remains, System};
 
 const PROCESSES: u32 = 10;
 
@@ -104,16 +104,16 @@ impl<L: Found> Player<L> {
     /// The next process, over what this one leaves.
     fn next(self, alloc: Global) -> Result<Player<L>, Fail> {
         let (mut told, mut chance) = (self.told, self.chance);
-        let Ok(remains) = self.system.into_parts() else {
+        let Ok(Remains { rms, log }) = self.system.into_parts() else {
             return Err(Fail::from("out of memory"));
         };
-        let Some(log) = remains.log else {
+        let Some(log) = log else {
             return Err(Fail::from("the log is out"));
         };
         let mut log = log.found(alloc, calls_by(&mut chance))?;
         told.read(&mut log)?;
         Ok(Player {
-            system: System::resume(alloc, THREADS, remains.rms, log)?,
+            system: System::resume(alloc, THREADS, rms, log)?,
             told,
             chance,
         })

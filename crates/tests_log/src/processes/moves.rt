@@ -40,7 +40,7 @@ impl<L: DecisionLog + Drop> Player<L> {
     fn some_gtrid(&mut self) -> Gtrid {
         let begun = self.told.begun.len();
         let back = if self.chance.once_in(4) {
-            self.chance.below(begun as u32)
+            self.chance.below(u32::try_from(begun).unwrap_or(u32::MAX))
         } else {
             self.chance.below(4)
         };
@@ -178,23 +178,8 @@ impl<L: DecisionLog + Drop> Player<L> {
     /// A resource manager votes, is busy, or ends a branch alone.
     fn vote(&mut self) -> Result<Reply, Fail> {
         let branch = self.some_branch();
-        let (rm, xid) = (branch.rm, branch.xid());
-        let step = match self.chance.below(4) {
-            0 => {
-                let vote = Vote::No(RbCode::Rollback);
-                Step::Vote { rm, xid, vote }
-            }
-            1 => {
-                let vote = Vote::ReadOnly;
-                Step::Vote { rm, xid, vote }
-            }
-            2 => Step::Busy { rm, xid, times: 2 },
-            _ => {
-                let how = How::Rb;
-                Step::Heuristic { rm, xid, how }
-            }
-        };
-        self.step(step)
+        let script = self.chance.below(4);
+        self.step(script_of(script, branch))
     }
 
     /// A part crashes, and is started again.
@@ -230,6 +215,26 @@ impl<L: DecisionLog + Drop> Player<L> {
         };
         Ok(())
     }
+}
+
+/// What a resource manager is told to do with a branch, by a number.
+fn script_of(number: u32, branch: Branch) -> Step {
+    let rm = branch.rm;
+    let xid = branch.xid();
+    if number == 0 {
+        let vote = Vote::No(RbCode::Rollback);
+        return Step::Vote { rm, xid, vote };
+    }
+    if number == 1 {
+        let vote = Vote::ReadOnly;
+        return Step::Vote { rm, xid, vote };
+    }
+    if number == 2 {
+        let times = 2;
+        return Step::Busy { rm, xid, times };
+    }
+    let how = How::Rb;
+    Step::Heuristic { rm, xid, how }
 }
 
 /// The call that ends a branch.
