@@ -3,6 +3,7 @@ mod Branches
 mod Crashes
 mod Decisions
 mod JobRows
+mod LaterProcesses
 mod LogSwaps
 mod OwnLogs
 mod Recoveries

@@ -1,6 +1,6 @@
 //! One caller of each library, each proved to do what its contract says, and run here. A file is named after its
-//! library, without the `xa_`; `own_log`, `recovery`, `swaps` and `crash` are further callers of `xa_system`, and
-//! `sql_jobs` of `xa_workers`.
+//! library, without the `xa_`; `own_log`, `processes`, `recovery`, `swaps` and `crash` are further callers of
+//! `xa_system`, and `sql_jobs` of `xa_workers`.
 #![tactic(auto)]
 
 ghost use Rattle.std.specs.Prelude.{IsTrue};
@@ -14,6 +14,7 @@ mod listing;
 mod log;
 mod model;
 mod own_log;
+mod processes;
 mod recovery;
 mod rm;
 mod scenario;
@@ -26,11 +27,11 @@ mod workers;
 
 use sqlite::Files;
 use sqlite_disk::{Disk, Memory};
-use std::alloc::Global;
+use std::alloc::{AllocError, Global};
 use std::sync::Wait;
 use std::thread::Threads;
 use std::time::Clock;
-use xa_base::{Branch, Call, Fate, Gtrid, Part, Reply, Side, Step};
+use xa_base::{Branch, Call, Fate, Gtrid, Outcome, Part, Reply, Side, Step};
 use xa_log::MemLog;
 use xa_rm::MemRm;
 use xa_system::System;
@@ -164,6 +165,89 @@ fn show_crashes(rt: &HostRuntime) -> anyhow::Result<()> {
     Ok(())
 }
 
+/// Has a call issued, taken and heard.
+fn push_call(steps: &mut Vec<Step>, call: Call) -> Result<(), AllocError> {
+    steps.push(Step::Issue {
+        thread: 0,
+        rm: 0,
+        call,
+    })?;
+    steps.push(Step::Take { thread: 0, rm: 0 })?;
+    steps.push(Step::Hear { thread: 0, rm: 0 })
+}
+
+/// The first transaction is prepared and decided.
+fn decide_first(alloc: Global) -> Result<Vec<Step>, AllocError> {
+    let mut steps = Vec::new(alloc);
+    let xid = BRANCH.xid();
+    push_call(&mut steps, Call::OpenRm)?;
+    steps.push(Step::Begin { thread: 0 })?;
+    push_call(
+        &mut steps,
+        Call::Start {
+            xid: xid.copy(),
+            join: false,
+        },
+    )?;
+    push_call(
+        &mut steps,
+        Call::End {
+            xid: xid.copy(),
+            fail: false,
+        },
+    )?;
+    push_call(&mut steps, Call::Prepare { xid })?;
+    steps.push(Step::Decide {
+        gtrid: BRANCH.gtrid,
+        outcome: Outcome::Commit,
+    })?;
+    Ok(steps)
+}
+
+/// A whole recovery of one branch.
+fn recover_one(alloc: Global) -> Result<Vec<Step>, AllocError> {
+    let mut steps = Vec::new(alloc);
+    push_call(&mut steps, Call::OpenRm)?;
+    steps.push(Step::Recover {
+        rm: 0,
+        count: 1,
+        start_scan: true,
+        end_scan: true,
+    })?;
+    steps.push(Step::Take { thread: 0, rm: 0 })?;
+    steps.push(Step::Hear { thread: 0, rm: 0 })?;
+    steps.push(Step::Resolve { rm: 0 })?;
+    steps.push(Step::Take { thread: 0, rm: 0 })?;
+    steps.push(Step::Hear { thread: 0, rm: 0 })?;
+    Ok(steps)
+}
+
+/// What becomes of a branch that a process leaves prepared: the next one commits it, and the one after finds nothing in
+/// doubt.
+fn show_processes(rt: &HostRuntime) -> anyhow::Result<()> {
+    let alloc = rt.alloc();
+    let xid = BRANCH.xid();
+    let first = decide_first(alloc)?;
+    let mut later = Vec::new(alloc);
+    later.push(recover_one(alloc)?)?;
+    later.push(Vec::new(alloc))?;
+    if let Ok(left) = processes::processes(alloc, &first, &[]) {
+        println!(rt; "xa_system, the first process: {:?}", left.fate(&xid))?;
+        if let Ok(remains) = left.into_parts() {
+            if let Ok(system) = processes::recovered(alloc, 1, remains, &later[0]) {
+                println!(rt; "xa_system, its recovery: {:?}", system.fate(&xid))?;
+            }
+        }
+    }
+    if let Ok(system) = processes::two_processes(alloc, &first, &later[0]) {
+        println!(rt; "xa_system, two processes: {:?}", system.fate(&xid))?;
+    }
+    if let Ok(system) = processes::processes(alloc, &first, &later) {
+        println!(rt; "xa_system, three processes: {:?}", system.fate(&xid))?;
+    }
+    Ok(())
+}
+
 /// What jobs come to, by their votes and as a file.
 fn show_jobs<T: Threads + Wait + Clock + Sync>(
     rt: &HostRuntime,
@@ -207,6 +291,7 @@ fn main(rt: HostRuntime) -> anyhow::Result<()> {
     println!(rt; "xa_system: {events} events, {fate:?}")?;
     show_own_log(&rt)?;
     show_crashes(&rt)?;
+    show_processes(&rt)?;
     show_jobs(&rt, &rt)?;
     show_scenario(&rt)
 }
