@@ -130,3 +130,9 @@ pub lists_more : {A B : Type 0} (f : A → B) (xs : List A) (i : ℕ) (x : A) �
 lists_more f xs i x low is =
     let next : suc i ≡ i + 1 = omega arith in
     sym (map_more f (take i xs) x) ∙ ap (λ y. map f (take i xs ++ y ∷ [])) is ∙ ap (map f) (sym (take_more xs i x low) ∙ ap (λ n. take n xs) next)
+
+pub all_taken : {A : Type 0} (xs : List A) (i : ℕ) → length xs ≤ i → take i xs ≡ xs
+all_taken [] zero many = refl
+all_taken [] (suc i) many = refl
+all_taken (x ∷ xs) zero many = absurd (omega (arith, many))
+all_taken (x ∷ xs) (suc i) many = ap (λ l. x ∷ l) (all_taken xs i (omega (arith, many)))
