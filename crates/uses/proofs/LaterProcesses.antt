@@ -35,17 +35,23 @@ pub are_done : {R L : Type 0} (steps : List (Step Xid)) (old new : SystemView R 
     → (length old.events + length steps ≤ EVENT_LIMIT → IsOk result) → OnOk result (AddsSteps steps old.events new.events)
     → (EVENT_LIMIT < length old.events + length steps → result ≡ Err Refusals.Limit) → OnErr result (new ≡ old) → AreDone steps new.events
 are_done {R} {L} steps old new result empty room adds limit same = record {
-  all = λ few. done result (room (let a : length old.events + length steps ≤ EVENT_LIMIT = omega (arith, few, no_events) in a)) adds;
-  none = λ many. ap (λ (s : SystemView R L). s.events) (as_before (limit (let a : EVENT_LIMIT < length old.events + length steps = omega (arith, many, no_events) in a))) ∙ empty;
+  all = λ few. each_done result (room (fits few)) adds;
+  none = λ many. ap (λ (s : SystemView R L). s.events) (as_before (limit (fits_not many))) ∙ empty;
 }
   where
     no_events : length old.events ≡ 0
     no_events = ap length empty
 
-    done : (r : Result (Unit {0}) Refusal) → IsOk r → OnOk r (AddsSteps steps old.events new.events)
+    fits : length steps ≤ EVENT_LIMIT → length old.events + length steps ≤ EVENT_LIMIT
+    fits few = omega (arith, few, no_events)
+
+    fits_not : EVENT_LIMIT < length steps → EVENT_LIMIT < length old.events + length steps
+    fits_not many = omega (arith, many, no_events)
+
+    each_done : (r : Result (Unit {0}) Refusal) → IsOk r → OnOk r (AddsSteps steps old.events new.events)
         → map (λ (event : Event). event.step) new.events ≡ steps
-    done (Ok u) ok added = ap (map (λ (event : Event). event.step)) (added.2 ∙ ap (λ xs. xs ++ added.0) empty) ∙ added.1
-    done (Err e) ok added = absurd (cc)
+    each_done (Ok u) ok added = ap (map (λ (event : Event). event.step)) (added.2 ∙ ap (λ xs. xs ++ added.0) empty) ∙ added.1
+    each_done (Err e) ok added = absurd (cc)
 
     as_before : result ≡ Err Refusals.Limit → new ≡ old
     as_before is = subst (λ r. OnErr r (new ≡ old)) is same
@@ -66,9 +72,9 @@ module _ {R L : Type 0} (see : Observes R L) where
   -- the first of the processes
   pub first : (steps : List (Step Xid)) (s : SystemView R L) → RightOrigin (origin_in see.look s) → HoldsItsTrace see s → AreDone steps s.events
       → AllRight (trace_in see.look s) → (see.moment s.handed).is_in_order → MayRestart see s → AreProcesses see (steps ∷ []) s
-  first steps s start holds done right order near = record {
+  first steps s start holds does right order near = record {
     whole = trace_in see.look s;
-    ran = First (origin_in see.look s) steps s.events start holds.allowed done;
+    ran = First (origin_in see.look s) steps s.events start holds.allowed does;
     last = record { right = right; passes_on = λ next r. r; order = order; near = near };
   }
 
@@ -78,12 +84,12 @@ module _ {R L : Type 0} (see : Observes R L) where
       → IfOk r (λ s. (see.place s.log).is_honest → Resumes so_far.whole (origin_in see.look s))
       → IfOk r (λ s. (see.place s.log).is_honest → IsLastOf see (joined so_far.whole (origin_in see.look s) s.events) s)
       → IfOk r (λ s. (see.place s.log).is_honest → AreProcesses see (lists ++ steps ∷ []) s)
-  one_more lists steps old so_far (Ok s) done holds resumes last = λ honest. record {
+  one_more lists steps old so_far (Ok s) does holds resumes last = λ honest. record {
     whole = joined so_far.whole (origin_in see.look s) s.events;
-    ran = Next lists so_far.whole (origin_in see.look s) steps s.events so_far.ran (resumes honest) holds.allowed done;
+    ran = Next lists so_far.whole (origin_in see.look s) steps s.events so_far.ran (resumes honest) holds.allowed does;
     last = last honest;
   }
-  one_more lists steps old so_far (Err e) done holds resumes last = tt
+  one_more lists steps old so_far (Err e) does holds resumes last = tt
 
 module _ {R L : Type 0} (held_of : R → Xid → HeldBranch) (scan_of : R → ℕ → Scan Xid) (in_doubt_of : R → List Xid) (moment : L → Moment) where
   abbrev sees_of : Observes R L

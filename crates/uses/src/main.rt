@@ -234,7 +234,7 @@ fn show_processes(rt: &HostRuntime) -> anyhow::Result<()> {
     if let Ok(left) = processes::processes(alloc, &first, &[]) {
         println!(rt; "xa_system, the first process: {:?}", left.fate(&xid))?;
         if let Ok(remains) = left.into_parts() {
-            if let Ok(system) = processes::recovered(alloc, 1, remains, &later[0]) {
+            if let Ok(system) = processes::recover_next(alloc, 1, remains, &later[0]) {
                 println!(rt; "xa_system, its recovery: {:?}", system.fate(&xid))?;
             }
         }

@@ -1,6 +1,6 @@
 //! `xa_system`: processes of the manager one after another, each over what the ones before it left.
 
-ghost use Rattle.std.specs.Prelude.{◌≡◌, ◌++◌, [], ◌∷◌, List, map, vec_len};
+ghost use Rattle.std.specs.Prelude.{◌≡◌, ◌++◌, [], ◌∷◌, List, length, map, vec_len};
 ghost use Rattle.std.specs.Prelude.{Err, IfOk, IfSome, IsSome, None};
 ghost use Rattle.xa_base.specs.Xid.{Xid};
 ghost use Rattle.xa_base.specs.declared.reply.Event.{Event};
@@ -13,7 +13,7 @@ ghost use Rattle.xa_system.specs.RmInHistory.{looks};
 ghost use Rattle.xa_system.specs.StartFaults.{IsToBlame};
 ghost use Rattle.xa_system.specs.SystemView.{HasWrongSize, HoldsItsTrace, MayRestart, observes, origin_in};
 ghost use Rattle.xa_system.specs.declared.resume.ResumeFault.TheVariants as ResumeFault;
-ghost use Rattle.xa_tm.specs.Slots.{slot_moment};
+ghost use Rattle.xa_tm.specs.Slots.{log_held, slot_moment};
 ghost use Rattle.uses.specs.Processes.{AreDone, AreProcesses, EndsRecovered, HaveRun, IsEndOf, IsLastOf};
 ghost use Rattle.uses.specs.declared.processes.NextFault.TheVariants as NextFault;
 
@@ -102,6 +102,10 @@ pub(crate) fn next_process<R: ResourceManager + Drop, L: DecisionLog + Drop>(
     system: System<R, L>,
     steps: &[Step],
 ) -> Result<System<R, L>, NextFault>
+    ensures only_no_log { result ≡ Err NextFault.NoLog → log_held system.log ≡ None }
+    ensures only_limit { result ≡ Err (NextFault.Resume ResumeFault.Limit) →
+        HasWrongSize threads (length system.rms) }
+    ensures does { IfOk result (λ next. AreDone steps.now next.events) }
     ensures headline { (past : Trace) →
         IsLastOf (observes R.held_of R.scan_of R.in_doubt_of L.moment) past system →
         IfOk result (λ next. (slot_moment L.moment next.log).is_honest → HeadlineSince
@@ -149,6 +153,7 @@ pub(crate) fn two_processes(
         × HeadlineSince (resumed past (origin_in (looks ⟦<MemRm as ResourceManager>⟧.held_of
         ⟦<MemRm as ResourceManager>⟧.scan_of ⟦<MemRm as ResourceManager>⟧.in_doubt_of) system))
         system.events) }
+    ensures does { IfOk result (λ system. AreDone second_steps.now system.events) }
     ensures together { IfOk result (AreProcesses (observes ⟦<MemRm as ResourceManager>⟧.held_of
         ⟦<MemRm as ResourceManager>⟧.scan_of ⟦<MemRm as ResourceManager>⟧.in_doubt_of
         ⟦<MemLog as DecisionLog>⟧.moment) (first_steps.now ∷ second_steps.now ∷ [])) }
@@ -179,12 +184,18 @@ pub(crate) fn processes(
 /// prepared there is of its own live transactions: what the processes before it left prepared there is ended. The
 /// premises on the recovery: no call waited on its line before, the page had room for all that was in doubt, and no
 /// call was put off.
-pub(crate) fn recovered<R: ResourceManager + Drop, L: DecisionLog + Drop>(
+pub(crate) fn recover_next<R: ResourceManager + Drop, L: DecisionLog + Drop>(
     alloc: Global,
     threads: u32,
     remains: Remains<R, L>,
     steps: &[Step],
 ) -> Result<System<R, L>, NextFault>
+    ensures no_log { remains.log ≡ None → result ≡ Err NextFault.NoLog }
+    ensures only_no_log { result ≡ Err NextFault.NoLog → remains.log ≡ None }
+    ensures limit { IsSome remains.log → HasWrongSize threads (vec_len remains.rms) →
+        result ≡ Err (NextFault.Resume ResumeFault.Limit) }
+    ensures only_limit { result ≡ Err (NextFault.Resume ResumeFault.Limit) →
+        HasWrongSize threads (vec_len remains.rms) }
     ensures does { IfOk result (λ system. AreDone steps.now system.events) }
     ensures recovers { (past : Trace) →
         IsEndOf (observes R.held_of R.scan_of R.in_doubt_of L.moment) past remains →

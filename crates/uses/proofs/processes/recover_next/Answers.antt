@@ -2,7 +2,7 @@ use Rattle.xa_system.proofs.Rms.InDoubt.{lists_found}
 use Rattle.xa_system.specs.RmInHistory.{looks}
 use Rattle.xa_system.specs.SystemView.{origin_in}
 use Rattle.uses.proofs.Recoveries.{ends_recovered}
-use Rattle.uses.proofs.processes.recovered.Goals as goal
+use Rattle.uses.proofs.processes.recover_next.Goals as goal
 
 pub returns-clause-recovers : goal.returns-clause-recovers
 returns-clause-recovers g c past ends honest before =
