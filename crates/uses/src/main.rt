@@ -173,7 +173,8 @@ fn push_call(steps: &mut Vec<Step>, call: Call) -> Result<(), AllocError> {
         call,
     })?;
     steps.push(Step::Take { thread: 0, rm: 0 })?;
-    steps.push(Step::Hear { thread: 0, rm: 0 })
+    steps.push(Step::Hear { thread: 0, rm: 0 })?;
+    Ok(())
 }
 
 /// The first transaction is prepared and decided.
