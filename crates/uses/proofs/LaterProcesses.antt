@@ -19,7 +19,7 @@ use Rattle.xa_system.specs.declared.remains.Remains.{Remains}
 use Rattle.xa_system.specs.declared.system.TheConstants.{EVENT_LIMIT}
 use Rattle.xa_tm.specs.Slots.{honest_in, last_out, log_held, slot_moment}
 use Rattle.uses.proofs.Results.{there_is}
-use Rattle.uses.specs.Processes.{AreDone, AreProcesses, HaveRun, HaveRun.First, HaveRun.Next, IsEndOf, IsLastOf}
+use Rattle.uses.specs.Processes.{AreDone, AreProcesses, HaveRun.First, HaveRun.Next, IsEndOf, IsLastOf}
 
 -- ** what there is
 

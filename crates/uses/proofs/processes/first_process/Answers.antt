@@ -1,4 +1,4 @@
-use Rattle.std.proofs.Common.{◌∙◌, subst, sym}
+use Rattle.std.proofs.Common.{subst, sym}
 use Rattle.xa_log.specs.contracts.mem_log.MemLogDecisionLog.TheImpl as memory
 use Rattle.xa_model.specs.Protocol.{RightOrigin}
 use Rattle.xa_rm.specs.contracts.mem_rm.MemRmResourceManager.TheImpl as mem_rm
