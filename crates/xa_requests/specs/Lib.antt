@@ -1,0 +1,10 @@
+pub mod Answers
+pub mod Calls
+pub mod Decisions
+pub mod Names
+pub mod Numbers
+pub mod Recoveries
+pub mod Requests
+pub mod Responses
+pub mod Verbs
+pub mod Words

@@ -1,0 +1,83 @@
+//! The requests that begin and end transactions.
+
+ghost use Rattle.std.specs.Prelude.{◌≡◌, map, IfOk};
+ghost use Rattle.xa_requests.specs.Decisions.{abandon_request, begin_request, claim_request, decide_request, done_request, only_gtrid, settle_request};
+
+use crate::names::{gtrid_named, gtrids_named};
+use crate::numbers::index_of;
+use crate::request::Request;
+use crate::verbs::outcome_named;
+use std::alloc::{AllocError, Global};
+use xa_base::Gtrid;
+
+/// What `begin` asks for.
+pub(crate) fn begin_request(words: &[&str]) -> Option<Request>
+    ensures { result ≡ begin_request (map (λ word. word.now) words.now) }
+{
+    let [thread] = words else {
+        return None;
+    };
+    let thread = index_of(thread)?;
+    Some(Request::Begin { thread })
+}
+
+/// What `decide` asks for.
+#[tactic(auto, unfolding(crate::specs::Decisions::decide_request))]
+pub(crate) fn decide_request(words: &[&str]) -> Option<Request>
+    ensures { result ≡ decide_request (map (λ word. word.now) words.now) }
+{
+    let [gtrid, outcome] = words else {
+        return None;
+    };
+    let gtrid = gtrid_named(gtrid)?;
+    let outcome = outcome_named(outcome)?;
+    Some(Request::Decide { gtrid, outcome })
+}
+
+/// The transaction that the only word names.
+fn only_gtrid(words: &[&str]) -> Option<Gtrid>
+    ensures { result ≡ only_gtrid (map (λ word. word.now) words.now) }
+{
+    let [gtrid] = words else {
+        return None;
+    };
+    gtrid_named(gtrid)
+}
+
+/// What `claim` asks for.
+pub(crate) fn claim_request(words: &[&str]) -> Option<Request>
+    ensures { result ≡ claim_request (map (λ word. word.now) words.now) }
+{
+    let gtrid = only_gtrid(words)?;
+    Some(Request::Claim { gtrid })
+}
+
+/// What `settle` asks for.
+pub(crate) fn settle_request(words: &[&str]) -> Option<Request>
+    ensures { result ≡ settle_request (map (λ word. word.now) words.now) }
+{
+    let gtrid = only_gtrid(words)?;
+    Some(Request::Settle { gtrid })
+}
+
+/// What `abandon` asks for.
+pub(crate) fn abandon_request(words: &[&str]) -> Option<Request>
+    ensures { result ≡ abandon_request (map (λ word. word.now) words.now) }
+{
+    let gtrid = only_gtrid(words)?;
+    Some(Request::Abandon { gtrid })
+}
+
+/// What `done` asks for: one transaction or more.
+pub(crate) fn done_request(alloc: Global, words: &[&str]) -> Result<Option<Request>, AllocError>
+    ensures { IfOk result (λ request. request
+        ≡ done_request (map (λ word. word.now) words.now)) }
+{
+    if words.is_empty() {
+        return Ok(None);
+    }
+    Ok(match gtrids_named(alloc, words)? {
+        Some(gtrids) => Some(Request::Done { gtrids }),
+        None => None,
+    })
+}

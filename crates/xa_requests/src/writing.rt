@@ -1,0 +1,207 @@
+//! The text of replies.
+
+ghost use Rattle.std.specs.Prelude.{◌≡◌, ◌++◌, IfOk, OnOk};
+ghost use Rattle.std.specs.List.{flat_map};
+ghost use Rattle.std.specs.String.{string_bytes};
+ghost use Rattle.xa_requests.specs.Responses.{branch_text, call_text, fault_text, heard_text, kind_text, listed_xid, owed_text, recover_text, refused_text, response_text, restarted_text, status_text, begun_text};
+
+use crate::response::{RequestFault, Response};
+use std::alloc::Global;
+use xa_base::{Call, CallKind, Gtrid, Memory, Refusal, Xid};
+use xa_files::gtrid_text;
+
+/// The name of a call (XA, chapter 5).
+fn kind_text(kind: CallKind) -> &'static str
+    ensures { result.now ≡ kind_text kind }
+{
+    match kind {
+        CallKind::OpenRm => "xa_open",
+        CallKind::CloseRm => "xa_close",
+        CallKind::Start => "xa_start",
+        CallKind::End => "xa_end",
+        CallKind::Prepare => "xa_prepare",
+        CallKind::Commit => "xa_commit",
+        CallKind::Rollback => "xa_rollback",
+        CallKind::Forget => "xa_forget",
+        CallKind::Recover => "xa_recover",
+    }
+}
+
+/// A call on a branch: its name, the branch's identifier, and the flag if it has one, behind a space.
+#[tactic(auto, using(crate::proofs::Pieces::four_pieces))]
+fn branch_text(alloc: Global, kind: CallKind, xid: &Xid, flag: &str) -> Result<String, Memory>
+    ensures { IfOk result (λ text. string_bytes text ≡ branch_text kind xid.now flag.now) }
+{
+    let name = kind_text(kind);
+    let xid = xid.text(alloc)?;
+    Ok(format!(in alloc; "{name} {xid}{flag}")?)
+}
+
+/// An xa_recover: its name, its count and its flags.
+#[tactic(auto, using(crate::proofs::Pieces::four_pieces))]
+fn recover_text(
+    alloc: Global,
+    count: i64,
+    start_scan: bool,
+    end_scan: bool,
+) -> Result<String, Memory>
+    ensures { IfOk result (λ text. string_bytes text ≡ recover_text count start_scan end_scan) }
+{
+    let start = if start_scan { " TMSTARTRSCAN" } else { "" };
+    let end = if end_scan { " TMENDRSCAN" } else { "" };
+    Ok(format!(in alloc; "xa_recover {count}{start}{end}")?)
+}
+
+/// A call in words: its name, the branch's identifier or the count, and its flags.
+pub fn call_text(alloc: Global, call: &Call) -> Result<String, Memory>
+    ensures { IfOk result (λ text. string_bytes text ≡ call_text call.now) }
+{
+    match call {
+        Call::OpenRm => Ok(String::from_str(alloc, "xa_open")?),
+        Call::CloseRm => Ok(String::from_str(alloc, "xa_close")?),
+        Call::Start { xid, join } => {
+            let flag = if *join { " TMJOIN" } else { "" };
+            branch_text(alloc, CallKind::Start, xid, flag)
+        }
+        Call::End { xid, fail } => {
+            let flag = if *fail { " TMFAIL" } else { " TMSUCCESS" };
+            branch_text(alloc, CallKind::End, xid, flag)
+        }
+        Call::Prepare { xid } => branch_text(alloc, CallKind::Prepare, xid, ""),
+        Call::Commit { xid, one_phase } => {
+            let flag = if *one_phase { " TMONEPHASE" } else { "" };
+            branch_text(alloc, CallKind::Commit, xid, flag)
+        }
+        Call::Rollback { xid } => branch_text(alloc, CallKind::Rollback, xid, ""),
+        Call::Forget { xid } => branch_text(alloc, CallKind::Forget, xid, ""),
+        Call::Recover {
+            count,
+            start_scan,
+            end_scan,
+        } => recover_text(alloc, *count, *start_scan, *end_scan),
+    }
+}
+
+/// Adds each identifier behind a space.
+fn push_xids(text: &mut String, alloc: Global, xids: &[Xid]) -> Result<(), Memory>
+    ensures { OnOk result (string_bytes text.new ≡ string_bytes text.old
+        ++ flat_map listed_xid xids.now) }
+{
+    for xid in xids {
+        let name = xid.text(alloc)?;
+        let listed = format!(in alloc; " {name}")?;
+        text.push_str(listed.as_str())?;
+    }
+    Ok(())
+}
+
+/// How many branches there are, and their identifiers.
+fn owed_text(alloc: Global, xids: &[Xid]) -> Result<String, Memory>
+    ensures { IfOk result (λ text. string_bytes text ≡ owed_text xids.now) }
+{
+    let count = xids.len();
+    let mut text = format!(in alloc; "owed {count}")?;
+    push_xids(&mut text, alloc, xids)?;
+    Ok(text)
+}
+
+/// That the session is up, its incarnation, and how many rows of either kind it found.
+#[tactic(auto, using(crate::proofs::Pieces::six_pieces))]
+fn restarted_text(
+    alloc: Global,
+    incarnation: u64,
+    decisions: usize,
+    heuristics: usize,
+) -> Result<String, Memory>
+    ensures { IfOk result (λ text. string_bytes text
+        ≡ restarted_text incarnation decisions heuristics) }
+{
+    Ok(format!(in alloc; "restarted {incarnation} {decisions} {heuristics}")?)
+}
+
+/// A transaction that was begun.
+fn begun_text(alloc: Global, gtrid: Gtrid) -> Result<String, Memory>
+    ensures { IfOk result (λ text. string_bytes text ≡ begun_text gtrid) }
+{
+    match gtrid_text(alloc, gtrid) {
+        Ok(gtrid) => Ok(format!(in alloc; "begun {gtrid}")?),
+        Err(_) => Err(Memory),
+    }
+}
+
+/// A call that was answered, by its name, and the number of the answer.
+#[tactic(auto, using(crate::proofs::Pieces::four_pieces))]
+fn heard_text(alloc: Global, kind: CallKind, number: i128) -> Result<String, Memory>
+    ensures { IfOk result (λ text. string_bytes text ≡ heard_text kind number) }
+{
+    let name = kind_text(kind);
+    Ok(format!(in alloc; "heard {name} {number}")?)
+}
+
+/// How the session stands.
+#[tactic(auto, using(crate::proofs::Pieces::four_pieces))]
+fn status_text(alloc: Global, up: bool, happened: usize) -> Result<String, Memory>
+    ensures { IfOk result (λ text. string_bytes text ≡ status_text up happened) }
+{
+    let standing = if up { "up" } else { "down" };
+    Ok(format!(in alloc; "status {standing} {happened}")?)
+}
+
+/// A refusal, by its number and its name.
+#[tactic(auto, using(crate::proofs::Pieces::four_pieces))]
+fn refused_text(alloc: Global, refusal: Refusal) -> Result<String, Memory>
+    ensures { IfOk result (λ text. string_bytes text ≡ refused_text refusal) }
+{
+    let number = refusal.number();
+    let name = refusal.name();
+    Ok(format!(in alloc; "refused {number} {name}")?)
+}
+
+/// A fault in words.
+fn fault_text(fault: RequestFault) -> &'static str
+    ensures { result.now ≡ fault_text fault }
+{
+    match fault {
+        RequestFault::NoRequest => "error not a request",
+        RequestFault::NothingWaits => "error nothing waits",
+        RequestFault::OtherCall => "error another call waits first",
+        RequestFault::NoSuchAnswer => "error no such answer",
+        RequestFault::NoSuchState => "error the branch is in no such state",
+    }
+}
+
+/// A word, or two, and a call.
+fn with_call(alloc: Global, word: &str, call: &Call) -> Result<String, Memory>
+    ensures { IfOk result (λ text. string_bytes text ≡ word.now ++ call_text call.now) }
+{
+    let call = call_text(alloc, call)?;
+    Ok(format!(in alloc; "{word}{call}")?)
+}
+
+/// The line of a reply, without its line feed.
+pub fn response_text(alloc: Global, response: &Response) -> Result<String, Memory>
+    ensures { IfOk result (λ text. string_bytes text ≡ response_text response.now) }
+{
+    match response {
+        Response::Restarted {
+            incarnation,
+            decisions,
+            heuristics,
+        } => restarted_text(alloc, *incarnation, *decisions, *heuristics),
+        Response::Begun(gtrid) => begun_text(alloc, *gtrid),
+        Response::Issued(call) => with_call(alloc, "issued ", call),
+        Response::Heard { kind, number } => heard_text(alloc, *kind, *number),
+        Response::Waits(call) => with_call(alloc, "waits ", call),
+        Response::Nothing => Ok(String::from_str(alloc, "nothing")?),
+        Response::Decided => Ok(String::from_str(alloc, "decided")?),
+        Response::Claimed => Ok(String::from_str(alloc, "claimed")?),
+        Response::Noted => Ok(String::from_str(alloc, "noted")?),
+        Response::Resolved(calls) => Ok(format!(in alloc; "resolved {calls}")?),
+        Response::Owed(xids) => owed_text(alloc, xids.as_slice()),
+        Response::Crashed => Ok(String::from_str(alloc, "crashed")?),
+        Response::Status { up, happened } => status_text(alloc, *up, *happened),
+        Response::Bye => Ok(String::from_str(alloc, "bye")?),
+        Response::Refused(refusal) => refused_text(alloc, *refusal),
+        Response::Fault(fault) => Ok(String::from_str(alloc, fault_text(*fault))?),
+    }
+}
