@@ -1,1 +1,7 @@
+mod Chosen
+mod EachLemmas
+mod NumberLemmas
 mod Pieces
+mod ReadBackLemmas
+mod SpaceLemmas
+mod XidLemmas

@@ -15,12 +15,16 @@ use Rattle.xa_requests.specs.Words.{Word}
 use Rattle.xa_requests.specs.declared.request.Request.{Request}
 use Rattle.xa_requests.specs.declared.request.Request.TheVariants as requests
 
--- flags: none, one, or the two of a whole scan
+-- the flags of a whole scan
+abbrev pub scan_flags : Word → Word → Option ℕ
+scan_flags start end =
+    if bytes_eq start (codes "TMSTARTRSCAN") && bytes_eq end (codes "TMENDRSCAN") then Some (TMSTARTRSCAN + TMENDRSCAN) else None
+
+-- flags: none, one, or those of a whole scan
 abbrev pub flags_in : List Word → Option ℕ
 flags_in [] = Some TMNOFLAGS
 flags_in (flag ∷ []) = flag_named flag
-flags_in (start ∷ end ∷ []) =
-    if bytes_eq start (codes "TMSTARTRSCAN") && bytes_eq end (codes "TMENDRSCAN") then Some (TMSTARTRSCAN + TMENDRSCAN) else None
+flags_in (start ∷ end ∷ []) = scan_flags start end
 flags_in _ = None
 
 -- [FLAG ..]

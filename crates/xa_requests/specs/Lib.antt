@@ -3,6 +3,7 @@ pub mod Calls
 pub mod Decisions
 pub mod Names
 pub mod Numbers
+pub mod ReadBack
 pub mod Recoveries
 pub mod Requests
 pub mod Responses

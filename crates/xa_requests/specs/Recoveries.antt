@@ -40,8 +40,8 @@ waiting_request words = only_line words >>= λ line. Some (requests.Waiting line
 abbrev pub crash_request : List Word → Option Request
 crash_request [] = None
 crash_request (part ∷ words) =
-    if bytes_eq part (codes "line") then only_line words >>= λ line. Some (requests.CrashLine line.0 line.1)
-    else if bytes_eq part (codes "rm") then only_index words >>= λ rm. Some (requests.CrashRm rm)
+    if bytes_eq part (codes "line") then (only_line words >>= λ line. Some (requests.CrashLine line.0 line.1))
+    else if bytes_eq part (codes "rm") then (only_index words >>= λ rm. Some (requests.CrashRm rm))
     else None
 
 -- a request of one word

@@ -25,12 +25,7 @@ fn bare_answer(kind: CallKind, words: &[&str]) -> Option<(CallName, Answer)>
 
 /// An answer to a call on a branch: the branch and a code.
 #[tactic(auto, unfolding(crate::specs::Answers::branch_answer))]
-fn branch_answer(
-    kind: CallKind,
-    thread: u32,
-    rm: u32,
-    words: &[&str],
-) -> Option<(CallName, Answer)>
+fn branch_answer(kind: CallKind, thread: u32, rm: u32, words: &[&str]) -> Option<(CallName, Answer)>
     ensures { result ≡ branch_answer kind thread rm (map (λ word. word.now) words.now) }
 {
     let [branch, number] = words else {
@@ -64,10 +59,8 @@ fn page_answer(alloc: Global, words: &[&str]) -> Result<Option<(CallName, Answer
 }
 
 /// An answer to an xa_recover: how many identifiers the page lists, and these; or a code below 0.
-fn recover_answer(
-    alloc: Global,
-    words: &[&str],
-) -> Result<Option<(CallName, Answer)>, AllocError>
+#[tactic(auto, unfolding(crate::specs::Answers::recover_answer))]
+fn recover_answer(alloc: Global, words: &[&str]) -> Result<Option<(CallName, Answer)>, AllocError>
     ensures { IfOk result (λ answer. answer
         ≡ recover_answer (map (λ word. word.now) words.now)) }
 {
@@ -105,10 +98,8 @@ fn answer_behind(
 }
 
 /// What `answer` asks for.
-pub(crate) fn answer_request(
-    alloc: Global,
-    words: &[&str],
-) -> Result<Option<Request>, AllocError>
+#[tactic(auto, unfolding(crate::specs::Answers::answer_request))]
+pub(crate) fn answer_request(alloc: Global, words: &[&str]) -> Result<Option<Request>, AllocError>
     ensures { IfOk result (λ request. request
         ≡ answer_request (map (λ word. word.now) words.now)) }
 {

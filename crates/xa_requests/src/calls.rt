@@ -1,13 +1,24 @@
 //! The requests to make calls.
 
 ghost use Rattle.std.specs.Prelude.{◌≡◌, map};
-ghost use Rattle.xa_requests.specs.Calls.{bare_call, branch_call, call_behind, call_in, flags_in, issue_request, recover_call};
+ghost use Rattle.xa_requests.specs.Calls.{bare_call, branch_call, call_behind, call_in, flags_in, issue_request, recover_call, scan_flags};
 
 use crate::names::branch_named;
 use crate::numbers::{index_of, integer_of};
 use crate::request::Request;
 use xa_base::{Call, CallKind, TMENDRSCAN, TMNOFLAGS, TMSTARTRSCAN};
 use xa_files::{call_named, flag_named};
+
+/// The flags of a whole scan, if these are they.
+fn scan_flags(start: &str, end: &str) -> Option<u32>
+    ensures { result ≡ scan_flags start.now end.now }
+{
+    if start == "TMSTARTRSCAN" && end == "TMENDRSCAN" {
+        Some(TMSTARTRSCAN + TMENDRSCAN)
+    } else {
+        None
+    }
+}
 
 /// The flags that the words name: none, one, or the two of a whole scan.
 fn flags_in(words: &[&str]) -> Option<u32>
@@ -16,9 +27,7 @@ fn flags_in(words: &[&str]) -> Option<u32>
     match words {
         [] => Some(TMNOFLAGS),
         [flag] => flag_named(flag),
-        [start, end] if *start == "TMSTARTRSCAN" && *end == "TMENDRSCAN" => {
-            Some(TMSTARTRSCAN + TMENDRSCAN)
-        }
+        [start, end] => scan_flags(start, end),
         _ => None,
     }
 }

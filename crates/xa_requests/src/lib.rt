@@ -1,5 +1,5 @@
 //! The lines between a driver of real databases and the coordinator: what each line of the driver asks for, and the line
-//! that it is replied.
+//! that it is replied. [`calls_are_read_back`] does nothing: its contract is a law on the two.
 //!
 //! "XA" in these pages is X/Open CAE Specification C193, "Distributed Transaction Processing: The XA Specification"
 //! (1991).
@@ -18,7 +18,7 @@ mod verbs;
 mod words;
 mod writing;
 
-pub use reading::read_request;
+pub use reading::{calls_are_read_back, read_request};
 pub use request::{CallName, Gtrids, Request};
 pub use response::{RequestFault, Response};
 pub use writing::{call_text, response_text};

@@ -49,6 +49,7 @@ fn gtrid_of_bytes(bytes: &[u8]) -> Option<Gtrid>
 }
 
 /// The transaction that a word names by 32 hexadecimal digits.
+#[tactic(auto, unfolding(crate::specs::Names::gtrid_named))]
 pub(crate) fn gtrid_named(word: &str) -> Option<Gtrid>
     ensures { result ≡ gtrid_named word.now }
 {
@@ -70,6 +71,7 @@ fn xid_named(word: &str) -> Option<Xid>
 
 /// The identifier that a word spells; or, where it names a transaction, that of its branch of the thread at the resource
 /// manager.
+#[tactic(auto, unfolding(crate::specs::Names::branch_named))]
 pub(crate) fn branch_named(thread: u32, rm: u32, word: &str) -> Option<Xid>
     ensures { result ≡ branch_named thread rm word.now }
 {

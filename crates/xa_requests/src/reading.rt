@@ -1,6 +1,7 @@
 //! How a line of the driver is read.
 
 ghost use Rattle.std.specs.Prelude.{◌≡◌, map, IfOk};
+ghost use Rattle.xa_requests.specs.ReadBack.{CallsAreReadBack};
 ghost use Rattle.xa_requests.specs.Requests.{request_in, request_of, request_with};
 
 use crate::answers::answer_request;
@@ -18,11 +19,7 @@ use std::alloc::{AllocError, Global};
 use xa_base::Memory;
 
 /// What a request of a kind asks for, by the words behind the first.
-fn request_with(
-    alloc: Global,
-    verb: Verb,
-    words: &[&str],
-) -> Result<Option<Request>, AllocError>
+fn request_with(alloc: Global, verb: Verb, words: &[&str]) -> Result<Option<Request>, AllocError>
     ensures { IfOk result (λ request. request
         ≡ request_with verb (map (λ word. word.now) words.now)) }
 {
@@ -69,3 +66,8 @@ pub fn read_request(alloc: Global, line: &str) -> Result<Option<Request>, Memory
     let words = words_of(alloc, line)?;
     Ok(request_in(alloc, words.as_slice())?)
 }
+
+/// A call that is written as in a reply, behind `issue` and a line, is read as that call.
+pub fn calls_are_read_back()
+    ensures { CallsAreReadBack }
+{}

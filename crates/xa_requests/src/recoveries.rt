@@ -85,5 +85,9 @@ pub(crate) fn crash_request(words: &[&str]) -> Option<Request>
 pub(crate) fn alone(request: Request, words: &[&str]) -> Option<Request>
     ensures { result ≡ alone request (map (λ word. word.now) words.now) }
 {
-    if words.is_empty() { Some(request) } else { None }
+    if words.is_empty() {
+        Some(request)
+    } else {
+        None
+    }
 }

@@ -31,7 +31,10 @@ pub enum Response {
     /// The call waits on its line.
     Issued(Call),
     /// The call was answered by this number: a code's, or how many identifiers a page lists.
-    Heard { kind: CallKind, number: i128 },
+    Heard {
+        kind: CallKind,
+        number: i128,
+    },
     /// The call waits first on its line.
     Waits(Call),
     /// Nothing waits on the line.
@@ -49,7 +52,10 @@ pub enum Response {
     /// What waited on the lines is lost.
     Crashed,
     /// Whether the manager is up, and how much has happened in the session.
-    Status { up: bool, happened: usize },
+    Status {
+        up: bool,
+        happened: usize,
+    },
     /// The session ends.
     Bye,
     /// A rule refuses the step.

@@ -1,6 +1,6 @@
 //! The text of replies.
 
-ghost use Rattle.std.specs.Prelude.{◌≡◌, ◌++◌, IfOk, OnOk};
+ghost use Rattle.std.specs.Prelude.{◌≡◌, ◌++◌, [], if◌then◌else◌, IfOk, OnOk};
 ghost use Rattle.std.specs.List.{flat_map};
 ghost use Rattle.std.specs.String.{string_bytes};
 ghost use Rattle.xa_requests.specs.Responses.{branch_text, call_text, fault_text, heard_text, kind_text, listed_xid, owed_text, recover_text, refused_text, response_text, restarted_text, status_text, begun_text};
@@ -27,6 +27,13 @@ fn kind_text(kind: CallKind) -> &'static str
     }
 }
 
+/// A flag, if it is set.
+fn flag_if(is_set: bool, flag: &'static str) -> &'static str
+    ensures { result.now ≡ (if is_set then flag.now else []) }
+{
+    if is_set { flag } else { "" }
+}
+
 /// A call on a branch: its name, the branch's identifier, and the flag if it has one, behind a space.
 #[tactic(auto, using(crate::proofs::Pieces::four_pieces))]
 fn branch_text(alloc: Global, kind: CallKind, xid: &Xid, flag: &str) -> Result<String, Memory>
@@ -47,8 +54,8 @@ fn recover_text(
 ) -> Result<String, Memory>
     ensures { IfOk result (λ text. string_bytes text ≡ recover_text count start_scan end_scan) }
 {
-    let start = if start_scan { " TMSTARTRSCAN" } else { "" };
-    let end = if end_scan { " TMENDRSCAN" } else { "" };
+    let start = flag_if(start_scan, " TMSTARTRSCAN");
+    let end = flag_if(end_scan, " TMENDRSCAN");
     Ok(format!(in alloc; "xa_recover {count}{start}{end}")?)
 }
 
@@ -60,8 +67,7 @@ pub fn call_text(alloc: Global, call: &Call) -> Result<String, Memory>
         Call::OpenRm => Ok(String::from_str(alloc, "xa_open")?),
         Call::CloseRm => Ok(String::from_str(alloc, "xa_close")?),
         Call::Start { xid, join } => {
-            let flag = if *join { " TMJOIN" } else { "" };
-            branch_text(alloc, CallKind::Start, xid, flag)
+            branch_text(alloc, CallKind::Start, xid, flag_if(*join, " TMJOIN"))
         }
         Call::End { xid, fail } => {
             let flag = if *fail { " TMFAIL" } else { " TMSUCCESS" };
@@ -69,7 +75,7 @@ pub fn call_text(alloc: Global, call: &Call) -> Result<String, Memory>
         }
         Call::Prepare { xid } => branch_text(alloc, CallKind::Prepare, xid, ""),
         Call::Commit { xid, one_phase } => {
-            let flag = if *one_phase { " TMONEPHASE" } else { "" };
+            let flag = flag_if(*one_phase, " TMONEPHASE");
             branch_text(alloc, CallKind::Commit, xid, flag)
         }
         Call::Rollback { xid } => branch_text(alloc, CallKind::Rollback, xid, ""),
