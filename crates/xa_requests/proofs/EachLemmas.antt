@@ -17,30 +17,29 @@ module _ {A : Type 0} (named : Word → Option A) where
   joined front first None = refl
   joined front first (Some others) = ap Some (sym (append_assoc front (first ∷ []) others))
 
-  at_word : (words : List (Bor (List ℕ))) (i : ℕ) (word : Bor (List ℕ)) → i < length words → word ≡ get_or words i word
-      → each named (texts (drop i words)) ≡ each named (word.now ∷ texts (drop (i + 1) words))
-  at_word words i word within is =
-      let step : drop i words ≡ get_or words i word ∷ drop (i + 1) words = rw (add-one, drop-cons words i word) in
+  at_word : (words : List (Bor (List ℕ))) (i : ℕ) (d : Bor (List ℕ)) → i < length words
+      → each named (texts (drop i words)) ≡ each named ((get_or words i d).now ∷ texts (drop (i + 1) words))
+  at_word words i d within =
+      let step : drop i words ≡ get_or words i d ∷ drop (i + 1) words = rw (add-one, drop-cons words i d) in
       ap (λ ws. each named (texts ws)) step
-      ∙ ap (λ (w : Bor (List ℕ)). each named (w.now ∷ texts (drop (i + 1) words))) (sym is)
 
-  pub goes_on : (front : List A) (first : A) (words : List (Bor (List ℕ))) (i : ℕ) (word : Bor (List ℕ)) (all : Option (List A))
-      → i < length words → word ≡ get_or words i word → named word.now ≡ Some first
+  pub goes_on : (front : List A) (first : A) (words : List (Bor (List ℕ))) (i : ℕ) (d : Bor (List ℕ)) (all : Option (List A))
+      → i < length words → named (get_or words i d).now ≡ Some first
       → with_front front (each named (texts (drop i words))) ≡ all
       → with_front (front ++ first ∷ []) (each named (texts (drop (i + 1) words))) ≡ all
   unfolding each
-  goes_on front first words i word all within is names so_far =
+  goes_on front first words i d all within names so_far =
       let others = each named (texts (drop (i + 1) words)) in
-      let step : each named (word.now ∷ texts (drop (i + 1) words)) ≡ option_and_then (λ more. Some (first ∷ more)) others = rw names refl in
-      sym (joined front first others) ∙ ap (with_front front) (sym step) ∙ sym (ap (with_front front) (at_word words i word within is)) ∙ so_far
+      let step : each named ((get_or words i d).now ∷ texts (drop (i + 1) words)) ≡ option_and_then (λ more. Some (first ∷ more)) others = rw names refl in
+      sym (joined front first others) ∙ ap (with_front front) (sym step) ∙ sym (ap (with_front front) (at_word words i d within)) ∙ so_far
 
-  pub stops : (front : List A) (words : List (Bor (List ℕ))) (i : ℕ) (word : Bor (List ℕ)) (all : Option (List A))
-      → i < length words → word ≡ get_or words i word → named word.now ≡ None
+  pub stops : (front : List A) (words : List (Bor (List ℕ))) (i : ℕ) (d : Bor (List ℕ)) (all : Option (List A))
+      → i < length words → named (get_or words i d).now ≡ None
       → with_front front (each named (texts (drop i words))) ≡ all → all ≡ None
   unfolding each
-  stops front words i word all within is names so_far =
-      let step : each named (word.now ∷ texts (drop (i + 1) words)) ≡ None = rw names refl in
-      sym so_far ∙ ap (with_front front) (at_word words i word within is ∙ step)
+  stops front words i d all within names so_far =
+      let step : each named ((get_or words i d).now ∷ texts (drop (i + 1) words)) ≡ None = rw names refl in
+      sym so_far ∙ ap (with_front front) (at_word words i d within ∙ step)
 
   pub ends : (front : List A) (words : List (Bor (List ℕ))) (i : ℕ) (all : Option (List A))
       → length words ≤ i → with_front front (each named (texts (drop i words))) ≡ all → all ≡ Some front

@@ -35,8 +35,8 @@ lower_text (c ∷ text) h =
 pub decimal_text : (n : ℕ) → n < 2 ^ 64 → NoSpace (decimal n)
 decimal_text n fits =
     All-from_get_or (λ c. (c == 32) ≡ false) (decimal n) 0 (λ i below.
-      let digit = digit_at (decimal n) i (digits_decimal numerals n fits) below in
-      ne_eqb (get_or (decimal n) i 0) 32 (λ e. omega (arith, digit.0)))
+    let digit = digit_at (decimal n) i (digits_decimal numerals n fits) below in
+    ne_eqb (get_or (decimal n) i 0) 32 (λ e. omega (arith, digit.0)))
 
 pub signed_text : (z : ℤ) → FitsSigned w64 z → NoSpace (signed_decimal z)
 signed_text (pos n) fits = decimal_text n (omega arith)
