@@ -1,5 +1,5 @@
 -- A call that is written behind `issue` is read as that call.
-use Rattle.std.proofs.Common.{◌≡◌, ◌∙◌, ℕ, ◌<◌, ◌^◌, ◌==◌, ◌&&◌, ◌%◌, not, Bool, true, false, List, [], ◌∷◌, ◌++◌, length, Option, Some, None, ℤ, refl, sym, ap, append-nil, arith, w64, FitsSigned}
+use Rattle.std.proofs.Common.{◌≡◌, ◌∙◌, ℕ, ◌<◌, ◌^◌, ◌==◌, ◌&&◌, ◌%◌, not, Bool, true, false, List, [], ◌∷◌, ◌++◌, length, Option, Some, None, ℤ, refl, sym, ap, append_assoc, arith, w64, FitsSigned}
 use Rattle.std.specs.Fmt.{decimal, signed_decimal}
 use Rattle.std.specs.List.{list_all}
 use Rattle.std.specs.Prelude.{codes, if◌then◌else◌, IfSome, option_and_then}
@@ -81,19 +81,16 @@ flagged name flag x is h k = three name (text_of x) flag (spaceless name h) (xid
 recover_words : (n : ℤ) (start_scan end_scan : Bool) → FitsSigned w64 n
     → words_of (recover_text n start_scan end_scan)
     ≡ codes "xa_recover" ∷ signed_decimal n ∷ ((if start_scan then codes "TMSTARTRSCAN" ∷ [] else []) ++ (if end_scan then codes "TMENDRSCAN" ∷ [] else []))
-recover_words n false false fits =
-    ap words_of (append-nil (codes "xa_recover " ++ signed_decimal n ++ []))
-    ∙ two (codes "xa_recover") (signed_decimal n) (spaceless (codes "xa_recover") refl) (signed_text n fits)
+recover_words n false false fits = two (codes "xa_recover") (signed_decimal n) (spaceless (codes "xa_recover") refl) (signed_text n fits)
 recover_words n true false fits =
-    ap words_of (append-nil (codes "xa_recover " ++ signed_decimal n ++ codes " TMSTARTRSCAN"))
-    ∙ three (codes "xa_recover") (signed_decimal n) (codes "TMSTARTRSCAN") (spaceless (codes "xa_recover") refl) (signed_text n fits)
+    three (codes "xa_recover") (signed_decimal n) (codes "TMSTARTRSCAN") (spaceless (codes "xa_recover") refl) (signed_text n fits)
     (spaceless (codes "TMSTARTRSCAN") refl)
 recover_words n false true fits =
-    ap (λ text. words_of (text ++ codes " TMENDRSCAN")) (append-nil (codes "xa_recover " ++ signed_decimal n))
-    ∙ three (codes "xa_recover") (signed_decimal n) (codes "TMENDRSCAN") (spaceless (codes "xa_recover") refl) (signed_text n fits)
+    three (codes "xa_recover") (signed_decimal n) (codes "TMENDRSCAN") (spaceless (codes "xa_recover") refl) (signed_text n fits)
     (spaceless (codes "TMENDRSCAN") refl)
 recover_words n true true fits =
-    four (codes "xa_recover") (signed_decimal n) (codes "TMSTARTRSCAN") (codes "TMENDRSCAN") (spaceless (codes "xa_recover") refl) (signed_text n fits)
+    ap words_of (sym (append_assoc (codes "xa_recover " ++ signed_decimal n) (codes " TMSTARTRSCAN") (codes " TMENDRSCAN")))
+    ∙ four (codes "xa_recover") (signed_decimal n) (codes "TMSTARTRSCAN") (codes "TMENDRSCAN") (spaceless (codes "xa_recover") refl) (signed_text n fits)
     (spaceless (codes "TMSTARTRSCAN") refl) (spaceless (codes "TMENDRSCAN") refl)
 
 read_call : (thread rm : ℕ) (call : Call Xid) → IfSome (xid_in call) IsXid → IfSome (count_in call) (FitsSigned w64)

@@ -32,11 +32,13 @@ kind_text kinds.Recover = codes "xa_recover"
 abbrev pub branch_text : CallKind → Xid → (flag : List ℕ) → List ℕ
 branch_text kind xid flag = kind_text kind ++ codes " " ++ text_of xid ++ flag
 
--- an xa_recover, with its flags
+-- the flags of an xa_recover
+abbrev pub scan_text : (start_scan end_scan : Bool) → List ℕ
+scan_text start_scan end_scan = (if start_scan then codes " TMSTARTRSCAN" else []) ++ (if end_scan then codes " TMENDRSCAN" else [])
+
+-- an xa_recover, with its count and its flags
 abbrev pub recover_text : (count : ℤ) (start_scan end_scan : Bool) → List ℕ
-recover_text count start_scan end_scan =
-    codes "xa_recover " ++ signed_decimal count
-    ++ (if start_scan then codes " TMSTARTRSCAN" else []) ++ (if end_scan then codes " TMENDRSCAN" else [])
+recover_text count start_scan end_scan = codes "xa_recover " ++ signed_decimal count ++ scan_text start_scan end_scan
 
 -- a call, as a driver is to do it: its name, its branch or its count, and its flags
 abbrev pub call_text : Call Xid → List ℕ

@@ -3,7 +3,7 @@
 ghost use Rattle.std.specs.Prelude.{◌≡◌, ◌++◌, [], if◌then◌else◌, IfOk, OnOk};
 ghost use Rattle.std.specs.List.{flat_map};
 ghost use Rattle.std.specs.String.{string_bytes};
-ghost use Rattle.xa_requests.specs.Responses.{branch_text, call_text, fault_text, heard_text, kind_text, listed_xid, owed_text, recover_text, refused_text, response_text, restarted_text, status_text, begun_text};
+ghost use Rattle.xa_requests.specs.Responses.{begun_text, branch_text, call_text, fault_text, heard_text, kind_text, listed_xid, owed_text, recover_text, refused_text, response_text, restarted_text, scan_text, status_text};
 
 use crate::response::{RequestFault, Response};
 use std::alloc::Global;
@@ -44,8 +44,19 @@ fn branch_text(alloc: Global, kind: CallKind, xid: &Xid, flag: &str) -> Result<S
     Ok(format!(in alloc; "{name} {xid}{flag}")?)
 }
 
+/// The flags of an xa_recover, each behind a space.
+fn scan_text(start_scan: bool, end_scan: bool) -> &'static str
+    ensures { result.now ≡ scan_text start_scan end_scan }
+{
+    match (start_scan, end_scan) {
+        (false, false) => "",
+        (false, true) => " TMENDRSCAN",
+        (true, false) => " TMSTARTRSCAN",
+        (true, true) => " TMSTARTRSCAN TMENDRSCAN",
+    }
+}
+
 /// An xa_recover: its name, its count and its flags.
-#[tactic(auto, using(crate::proofs::Pieces::four_pieces))]
 fn recover_text(
     alloc: Global,
     count: i64,
@@ -54,9 +65,8 @@ fn recover_text(
 ) -> Result<String, Memory>
     ensures { IfOk result (λ text. string_bytes text ≡ recover_text count start_scan end_scan) }
 {
-    let start = flag_if(start_scan, " TMSTARTRSCAN");
-    let end = flag_if(end_scan, " TMENDRSCAN");
-    Ok(format!(in alloc; "xa_recover {count}{start}{end}")?)
+    let flags = scan_text(start_scan, end_scan);
+    Ok(format!(in alloc; "xa_recover {count}{flags}")?)
 }
 
 /// A call in words: its name, the branch's identifier or the count, and its flags.
