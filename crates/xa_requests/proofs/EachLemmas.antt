@@ -12,10 +12,10 @@ module _ {A : Type 0} (named : Word → Option A) where
   abbrev pub with_front : List A → Option (List A) → Option (List A)
   with_front front more = option_map (λ others. front ++ others) more
 
-  joined : (front : List A) (first : A) (more : Option (List A))
+  front_more : (front : List A) (first : A) (more : Option (List A))
       → with_front front (option_and_then (λ others. Some (first ∷ others)) more) ≡ with_front (front ++ first ∷ []) more
-  joined front first None = refl
-  joined front first (Some others) = ap Some (sym (append_assoc front (first ∷ []) others))
+  front_more front first None = refl
+  front_more front first (Some others) = ap Some (sym (append_assoc front (first ∷ []) others))
 
   at_word : (words : List (Bor (List ℕ))) (i : ℕ) (d : Bor (List ℕ)) → i < length words
       → each named (texts (drop i words)) ≡ each named ((get_or words i d).now ∷ texts (drop (i + 1) words))
@@ -31,7 +31,7 @@ module _ {A : Type 0} (named : Word → Option A) where
   goes_on front first words i d all within names so_far =
       let others = each named (texts (drop (i + 1) words)) in
       let step : each named ((get_or words i d).now ∷ texts (drop (i + 1) words)) ≡ option_and_then (λ more. Some (first ∷ more)) others = rw names refl in
-      sym (joined front first others) ∙ ap (with_front front) (sym step) ∙ sym (ap (with_front front) (at_word words i d within)) ∙ so_far
+      sym (front_more front first others) ∙ ap (with_front front) (sym step) ∙ sym (ap (with_front front) (at_word words i d within)) ∙ so_far
 
   pub stops : (front : List A) (words : List (Bor (List ℕ))) (i : ℕ) (d : Bor (List ℕ)) (all : Option (List A))
       → i < length words → named (get_or words i d).now ≡ None

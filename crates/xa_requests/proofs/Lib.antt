@@ -1,7 +1,8 @@
-mod Chosen
+mod Choices
 mod EachLemmas
 mod NumberLemmas
 mod Pieces
 mod ReadBackLemmas
 mod SpaceLemmas
+mod SpellingLemmas
 mod XidLemmas

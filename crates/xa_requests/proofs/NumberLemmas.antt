@@ -1,8 +1,8 @@
 -- The words of numbers.
-use Rattle.std.proofs.Common.{◌≡◌, ◌≢◌, ◌∙◌, ℕ, zero, suc, ◌<◌, ◌≤◌, ◌^◌, ◌&&◌, Bool, true, false, inl, inr, List, [], ◌∷◌, length, get_or, drop, Option, Some, None, Result, Ok, Err, ℤ, pos, negsuc, refl, sym, ap, subst, arith, w64, FitsSigned, nat_lt, if◌then◌else◌}
+use Rattle.std.proofs.Common.{◌≡◌, ◌≢◌, ◌∙◌, ℕ, zero, suc, ◌<◌, ◌≤◌, ◌^◌, ◌&&◌, true, false, inl, inr, List, [], ◌∷◌, length, get_or, Some, None, Ok, Err, ℤ, pos, negsuc, refl, sym, ap, subst, arith, w64, FitsSigned, nat_lt, if◌then◌else◌}
 use Rattle.std.specs.Fmt.{decimal, signed_decimal}
 use Rattle.std.specs.Str.{bytes_eq}
-use Rattle.std.specs.Str.Parse.{ParsesSigned, ParsesUnsigned, AllDigits, digits_value, signed_digits_value, without_leading_sign, without_leading_plus, starts_with_minus}
+use Rattle.std.specs.Str.Parse.{ParsesSigned, ParsesUnsigned, digits_value, signed_digits_value, without_leading_plus, starts_with_minus}
 use Rattle.std.proofs.lemmas.Bool.{and_parts, and_from, cases_eq, leb-true, lt-ltb, ltb-true, ne_eqb}
 use Rattle.std.proofs.lemmas.Bool.Decides.{nat_tests}
 use Rattle.std.proofs.lemmas.Fmt.{decimal_digit, decimal_nonempty, first_decimal, digits_decimal, digits_value-decimal, decimal-digits_value, parse-decimal, parse-signed_decimal}
@@ -10,11 +10,10 @@ use Rattle.std.proofs.lemmas.Slice.Eq.{bytes_eq-Decides}
 use Rattle.std.proofs.lemmas.Str.Parse.{digit_at, parse_plain, parse_signed_minus, parse_signed_plain, without_leading_plus_none}
 use lib.Dec.{leb}
 use lib.IntN.{neg_ℤ}
-use lib.Signed.{mag}
 use Rattle.xa_base.proofs.DecimalLemmas.{numerals}
 use Rattle.xa_base.specs.XidText.{is_canonical_decimal}
 use Rattle.xa_requests.specs.Numbers.{index_of, is_within, signed_of}
-use Rattle.xa_requests.proofs.Chosen.{chosen, choice, none_left}
+use Rattle.xa_requests.proofs.Choices.{choice_true, choice_parts, none_left}
 
 -- ** canonical texts
 
@@ -67,13 +66,13 @@ index_of-text word n fits e =
     let value : digits_value 10 word ≡ n = ap (digits_value 10) e ∙ digits_value-decimal numerals n (omega arith) in
     let same : bytes_eq (decimal n) word ≡ true = (bytes_eq-Decides (decimal n) word).1 (sym e) in
     ap (λ v. if nat_lt v (2 ^ 32) && bytes_eq (decimal v) word then Some v else None) value
-    ∙ chosen (nat_lt n (2 ^ 32) && bytes_eq (decimal n) word) n (and_from (nat_lt n (2 ^ 32)) (bytes_eq (decimal n) word) (lt-ltb n (2 ^ 32) fits) same)
+    ∙ choice_true (nat_lt n (2 ^ 32) && bytes_eq (decimal n) word) n (and_from (nat_lt n (2 ^ 32)) (bytes_eq (decimal n) word) (lt-ltb n (2 ^ 32) fits) same)
 
 pub index_of-some : (word : List ℕ) (n : ℕ) → index_of word ≡ Some n → (n < 2 ^ 32) × (word ≡ decimal n)
 unfolding index_of
 index_of-some word n h =
     let v = digits_value 10 word in
-    let c = choice (nat_lt v (2 ^ 32) && bytes_eq (decimal v) word) v n h in
+    let c = choice_parts (nat_lt v (2 ^ 32) && bytes_eq (decimal v) word) v n h in
     let both = and_parts (nat_lt v (2 ^ 32)) (bytes_eq (decimal v) word) c.0 in
     let fits : v < 2 ^ 32 = ltb-true v (2 ^ 32) both.0 in
     let text : decimal v ≡ word = (bytes_eq-Decides (decimal v) word).0 both.1 in
@@ -116,7 +115,7 @@ value_back : (z : ℤ) → FitsSigned w64 z → signed_digits_value 10 (signed_d
 value_back (pos n) fits = value_of_pos n (decimal n) (omega arith) refl
 value_back (negsuc n) fits = ap (λ v. neg_ℤ (pos v)) (digits_value-decimal numerals (suc n) (omega arith))
 
-fits_within : (limit : ℕ) (z : ℤ) → limit ≤ 2 ^ 63 → is_within limit z ≡ true → FitsSigned w64 z
+pub fits_within : (limit : ℕ) (z : ℤ) → limit ≤ 2 ^ 63 → is_within limit z ≡ true → FitsSigned w64 z
 fits_within limit (pos n) most h = let small = ltb-true n limit h in record { sfits = omega arith }
 fits_within limit (negsuc n) most h = let small = ltb-true n limit h in record { sfits = omega arith }
 
@@ -130,13 +129,13 @@ signed_of-text limit word z most within e =
     let value : signed_digits_value 10 word ≡ z = ap (signed_digits_value 10) e ∙ value_back z (fits_within limit z most within) in
     let same : bytes_eq (signed_decimal z) word ≡ true = (bytes_eq-Decides (signed_decimal z) word).1 (sym e) in
     ap (λ v. if is_within limit v && bytes_eq (signed_decimal v) word then Some v else None) value
-    ∙ chosen (is_within limit z && bytes_eq (signed_decimal z) word) z (and_from (is_within limit z) (bytes_eq (signed_decimal z) word) within same)
+    ∙ choice_true (is_within limit z && bytes_eq (signed_decimal z) word) z (and_from (is_within limit z) (bytes_eq (signed_decimal z) word) within same)
 
 pub signed_of-some : (limit : ℕ) (word : List ℕ) (z : ℤ) → signed_of limit word ≡ Some z → (is_within limit z ≡ true) × (word ≡ signed_decimal z)
 unfolding signed_of
 signed_of-some limit word z h =
     let v = signed_digits_value 10 word in
-    let c = choice (is_within limit v && bytes_eq (signed_decimal v) word) v z h in
+    let c = choice_parts (is_within limit v && bytes_eq (signed_decimal v) word) v z h in
     let both = and_parts (is_within limit v) (bytes_eq (signed_decimal v) word) c.0 in
     let text : signed_decimal v ≡ word = (bytes_eq-Decides (signed_decimal v) word).0 both.1 in
     (subst (λ (k : ℤ). is_within limit k ≡ true) c.1 both.0, sym text ∙ ap signed_decimal c.1)

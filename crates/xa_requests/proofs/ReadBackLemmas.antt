@@ -1,5 +1,5 @@
 -- A call that is written behind `issue` is read as that call.
-use Rattle.std.proofs.Common.{◌≡◌, ◌∙◌, ℕ, ◌<◌, ◌^◌, ◌==◌, ◌&&◌, ◌%◌, not, Bool, true, false, List, [], ◌∷◌, ◌++◌, length, Option, Some, None, ℤ, refl, sym, ap, append_assoc, arith, w64, FitsSigned}
+use Rattle.std.proofs.Common.{◌≡◌, ◌∙◌, ℕ, ◌^◌, ◌==◌, ◌&&◌, ◌%◌, not, Bool, true, false, List, [], ◌∷◌, ◌++◌, length, Option, Some, None, ℤ, refl, sym, ap, append_assoc, arith, w64, FitsSigned}
 use Rattle.std.specs.Fmt.{decimal, signed_decimal}
 use Rattle.std.specs.List.{list_all}
 use Rattle.std.specs.Prelude.{codes, if◌then◌else◌, IfSome, option_and_then}
@@ -18,15 +18,14 @@ use Rattle.xa_base.specs.declared.call.CallKind.{CallKind}
 use Rattle.xa_base.specs.declared.call.CallKind.TheVariants as kinds
 use Rattle.xa_requests.specs.Calls.{branch_call, call_in, flags_in, issue_request, recover_call}
 use Rattle.xa_requests.specs.Names.{branch_named, gtrid_named, xid_named}
-use Rattle.xa_requests.specs.Numbers.{index_of, integer_of}
-use Rattle.xa_requests.specs.ReadBack.{CallsAreReadBack, issue_line}
-use Rattle.xa_requests.specs.Requests.{request_in, request_of}
+use Rattle.xa_requests.specs.Numbers.{index_of}
+use Rattle.xa_requests.specs.ReadBack.{CallsAreReadBack}
+use Rattle.xa_requests.specs.Requests.{request_in}
 use Rattle.xa_requests.specs.Responses.{call_text, recover_text}
 use Rattle.xa_requests.specs.Words.{words_of}
-use Rattle.xa_requests.specs.declared.request.Request.{Request}
 use Rattle.xa_requests.specs.declared.request.Request.TheVariants as requests
 use Rattle.xa_requests.proofs.NumberLemmas.{index_of-text, signed_of-text, within_fits}
-use Rattle.xa_requests.proofs.SpaceLemmas.{decimal_text, four, issued, last, signed_text, spaceless, three, two, xid_text}
+use Rattle.xa_requests.proofs.SpaceLemmas.{decimal_text, four_words, issue_words, last_word, signed_text, spaceless, three_words, two_words, xid_text}
 use Rattle.xa_requests.proofs.XidLemmas.{named_if_spelled}
 
 -- ** a branch's identifier is no transaction's name
@@ -70,48 +69,48 @@ by_count n words fits =
     (signed_of-text (2 ^ 63) (signed_decimal n) n (omega arith) (within_fits n fits) refl)
 
 -- the words of a call on a branch, without a flag and with one
-plain : (name : List ℕ) (x : Xid) → IsXid x → list_all (λ c. not (c == 32)) name ≡ true
+plain_words : (name : List ℕ) (x : Xid) → IsXid x → list_all (λ c. not (c == 32)) name ≡ true
     → words_of (name ++ codes " " ++ text_of x ++ []) ≡ name ∷ text_of x ∷ []
-plain name x is h = two name (text_of x) (spaceless name h) (xid_text x is.in_range)
+plain_words name x is h = two_words name (text_of x) (spaceless name h) (xid_text x is.in_range)
 
-flagged : (name flag : List ℕ) (x : Xid) → IsXid x → list_all (λ c. not (c == 32)) name ≡ true → list_all (λ c. not (c == 32)) flag ≡ true
+flag_words : (name flag : List ℕ) (x : Xid) → IsXid x → list_all (λ c. not (c == 32)) name ≡ true → list_all (λ c. not (c == 32)) flag ≡ true
     → words_of (name ++ codes " " ++ text_of x ++ (32 ∷ flag)) ≡ name ∷ text_of x ∷ flag ∷ []
-flagged name flag x is h k = three name (text_of x) flag (spaceless name h) (xid_text x is.in_range) (spaceless flag k)
+flag_words name flag x is h k = three_words name (text_of x) flag (spaceless name h) (xid_text x is.in_range) (spaceless flag k)
 
 recover_words : (n : ℤ) (start_scan end_scan : Bool) → FitsSigned w64 n
     → words_of (recover_text n start_scan end_scan)
     ≡ codes "xa_recover" ∷ signed_decimal n ∷ ((if start_scan then codes "TMSTARTRSCAN" ∷ [] else []) ++ (if end_scan then codes "TMENDRSCAN" ∷ [] else []))
-recover_words n false false fits = two (codes "xa_recover") (signed_decimal n) (spaceless (codes "xa_recover") refl) (signed_text n fits)
+recover_words n false false fits = two_words (codes "xa_recover") (signed_decimal n) (spaceless (codes "xa_recover") refl) (signed_text n fits)
 recover_words n true false fits =
-    three (codes "xa_recover") (signed_decimal n) (codes "TMSTARTRSCAN") (spaceless (codes "xa_recover") refl) (signed_text n fits)
+    three_words (codes "xa_recover") (signed_decimal n) (codes "TMSTARTRSCAN") (spaceless (codes "xa_recover") refl) (signed_text n fits)
     (spaceless (codes "TMSTARTRSCAN") refl)
 recover_words n false true fits =
-    three (codes "xa_recover") (signed_decimal n) (codes "TMENDRSCAN") (spaceless (codes "xa_recover") refl) (signed_text n fits)
+    three_words (codes "xa_recover") (signed_decimal n) (codes "TMENDRSCAN") (spaceless (codes "xa_recover") refl) (signed_text n fits)
     (spaceless (codes "TMENDRSCAN") refl)
 recover_words n true true fits =
     ap words_of (sym (append_assoc (codes "xa_recover " ++ signed_decimal n) (codes " TMSTARTRSCAN") (codes " TMENDRSCAN")))
-    ∙ four (codes "xa_recover") (signed_decimal n) (codes "TMSTARTRSCAN") (codes "TMENDRSCAN") (spaceless (codes "xa_recover") refl) (signed_text n fits)
+    ∙ four_words (codes "xa_recover") (signed_decimal n) (codes "TMSTARTRSCAN") (codes "TMENDRSCAN") (spaceless (codes "xa_recover") refl) (signed_text n fits)
     (spaceless (codes "TMSTARTRSCAN") refl) (spaceless (codes "TMENDRSCAN") refl)
 
 read_call : (thread rm : ℕ) (call : Call Xid) → IfSome (xid_in call) IsXid → IfSome (count_in call) (FitsSigned w64)
     → call_in thread rm (words_of (call_text call)) ≡ Some call
 unfolding call_in
-read_call thread rm OpenRm hx hn = ap (call_in thread rm) (last (codes "xa_open") (spaceless (codes "xa_open") refl))
-read_call thread rm CloseRm hx hn = ap (call_in thread rm) (last (codes "xa_close") (spaceless (codes "xa_close") refl))
+read_call thread rm OpenRm hx hn = ap (call_in thread rm) (last_word (codes "xa_open") (spaceless (codes "xa_open") refl))
+read_call thread rm CloseRm hx hn = ap (call_in thread rm) (last_word (codes "xa_close") (spaceless (codes "xa_close") refl))
 read_call thread rm (Start x true) hx hn =
-    ap (call_in thread rm) (flagged (codes "xa_start") (codes "TMJOIN") x hx refl refl) ∙ on_branch kinds.Start thread rm x (codes "TMJOIN" ∷ []) hx
-read_call thread rm (Start x false) hx hn = ap (call_in thread rm) (plain (codes "xa_start") x hx refl) ∙ on_branch kinds.Start thread rm x [] hx
+    ap (call_in thread rm) (flag_words (codes "xa_start") (codes "TMJOIN") x hx refl refl) ∙ on_branch kinds.Start thread rm x (codes "TMJOIN" ∷ []) hx
+read_call thread rm (Start x false) hx hn = ap (call_in thread rm) (plain_words (codes "xa_start") x hx refl) ∙ on_branch kinds.Start thread rm x [] hx
 read_call thread rm (End x true) hx hn =
-    ap (call_in thread rm) (flagged (codes "xa_end") (codes "TMFAIL") x hx refl refl) ∙ on_branch kinds.End thread rm x (codes "TMFAIL" ∷ []) hx
+    ap (call_in thread rm) (flag_words (codes "xa_end") (codes "TMFAIL") x hx refl refl) ∙ on_branch kinds.End thread rm x (codes "TMFAIL" ∷ []) hx
 read_call thread rm (End x false) hx hn =
-    ap (call_in thread rm) (flagged (codes "xa_end") (codes "TMSUCCESS") x hx refl refl) ∙ on_branch kinds.End thread rm x (codes "TMSUCCESS" ∷ []) hx
-read_call thread rm (Prepare x) hx hn = ap (call_in thread rm) (plain (codes "xa_prepare") x hx refl) ∙ on_branch kinds.Prepare thread rm x [] hx
+    ap (call_in thread rm) (flag_words (codes "xa_end") (codes "TMSUCCESS") x hx refl refl) ∙ on_branch kinds.End thread rm x (codes "TMSUCCESS" ∷ []) hx
+read_call thread rm (Prepare x) hx hn = ap (call_in thread rm) (plain_words (codes "xa_prepare") x hx refl) ∙ on_branch kinds.Prepare thread rm x [] hx
 read_call thread rm (Commit x true) hx hn =
-    ap (call_in thread rm) (flagged (codes "xa_commit") (codes "TMONEPHASE") x hx refl refl)
+    ap (call_in thread rm) (flag_words (codes "xa_commit") (codes "TMONEPHASE") x hx refl refl)
     ∙ on_branch kinds.Commit thread rm x (codes "TMONEPHASE" ∷ []) hx
-read_call thread rm (Commit x false) hx hn = ap (call_in thread rm) (plain (codes "xa_commit") x hx refl) ∙ on_branch kinds.Commit thread rm x [] hx
-read_call thread rm (Rollback x) hx hn = ap (call_in thread rm) (plain (codes "xa_rollback") x hx refl) ∙ on_branch kinds.Rollback thread rm x [] hx
-read_call thread rm (Forget x) hx hn = ap (call_in thread rm) (plain (codes "xa_forget") x hx refl) ∙ on_branch kinds.Forget thread rm x [] hx
+read_call thread rm (Commit x false) hx hn = ap (call_in thread rm) (plain_words (codes "xa_commit") x hx refl) ∙ on_branch kinds.Commit thread rm x [] hx
+read_call thread rm (Rollback x) hx hn = ap (call_in thread rm) (plain_words (codes "xa_rollback") x hx refl) ∙ on_branch kinds.Rollback thread rm x [] hx
+read_call thread rm (Forget x) hx hn = ap (call_in thread rm) (plain_words (codes "xa_forget") x hx refl) ∙ on_branch kinds.Forget thread rm x [] hx
 read_call thread rm (Recover n false false) hx hn = ap (call_in thread rm) (recover_words n false false hn) ∙ by_count n [] hn
 read_call thread rm (Recover n true false) hx hn =
     ap (call_in thread rm) (recover_words n true false hn) ∙ by_count n (codes "TMSTARTRSCAN" ∷ []) hn
@@ -124,7 +123,7 @@ pub read_back : CallsAreReadBack
 unfolding request_in issue_request
 read_back thread rm call ht hr hx hn =
     let rest = words_of (call_text call) in
-    ap request_in (issued (decimal thread) (decimal rm) (call_text call) (decimal_text thread (omega arith)) (decimal_text rm (omega arith)))
+    ap request_in (issue_words (decimal thread) (decimal rm) (call_text call) (decimal_text thread (omega arith)) (decimal_text rm (omega arith)))
     ∙ ap (option_and_then (λ t. option_and_then (λ r. option_and_then (λ c. Some (requests.Issue t r c)) (call_in t r rest)) (index_of (decimal rm))))
     (index_of-text (decimal thread) thread ht refl)
     ∙ ap (option_and_then (λ r. option_and_then (λ c. Some (requests.Issue thread r c)) (call_in thread r rest)))

@@ -1,14 +1,14 @@
 -- Texts without a space, and the words of a line of such texts.
-use Rattle.std.proofs.Common.{◌≡◌, ◌≢◌, ◌∙◌, ℕ, zero, suc, ◌<◌, ◌^◌, ◌==◌, ◌&&◌, not, Bool, true, false, List, [], ◌∷◌, ◌++◌, get_or, ℤ, pos, negsuc, refl, sym, ap, subst, arith, w64, w32, FitsSigned, append_assoc, append-nil}
+use Rattle.std.proofs.Common.{◌≡◌, ◌≢◌, ◌∙◌, ℕ, suc, ◌<◌, ◌^◌, ◌==◌, not, true, false, List, [], ◌∷◌, ◌++◌, get_or, ℤ, pos, negsuc, refl, ap, subst, arith, w64, w32, FitsSigned, append_assoc, append-nil}
 use Rattle.std.specs.Fmt.{decimal, signed_decimal}
-use Rattle.std.specs.List.{All, list_all, slice_split}
+use Rattle.std.specs.List.{All, list_all}
 use Rattle.std.specs.Prelude.{codes}
 use Rattle.std.proofs.lemmas.Bool.{and_parts, ne_eqb, not-true}
 use Rattle.std.proofs.lemmas.Fmt.{digits_decimal}
 use Rattle.std.proofs.lemmas.List.Elements.{All-append, All-cons, All-from_get_or, All-nil}
 use Rattle.std.proofs.lemmas.List.Splits.{slice_split_at, slice_split_none}
 use Rattle.std.proofs.lemmas.Str.Parse.{digit_at}
-use Rattle.hex.specs.Hex.{IsBytes, encode_lower}
+use Rattle.hex.specs.Hex.{encode_lower}
 use Rattle.xa_base.proofs.DecimalLemmas.{numerals}
 use Rattle.xa_base.proofs.HexText.{lower-encode}
 use Rattle.xa_base.specs.Xid.{Xid, IsInRange, text_of}
@@ -60,45 +60,45 @@ xid_text x fits =
 
 -- ** words
 
-pub cut : (word rest : List ℕ) → NoSpace word → words_of (word ++ (32 ∷ rest)) ≡ word ∷ words_of rest
+pub cut_word : (word rest : List ℕ) → NoSpace word → words_of (word ++ (32 ∷ rest)) ≡ word ∷ words_of rest
 unfolding words_of
-cut word rest h = slice_split_at (λ c. c == 32) word 32 rest h refl
+cut_word word rest h = slice_split_at (λ c. c == 32) word 32 rest h refl
 
-pub last : (word : List ℕ) → NoSpace word → words_of word ≡ word ∷ []
+pub last_word : (word : List ℕ) → NoSpace word → words_of word ≡ word ∷ []
 unfolding words_of
-last word h = slice_split_none (λ c. c == 32) word h
+last_word word h = slice_split_none (λ c. c == 32) word h
 
 -- a text behind a space, and with another behind it
-pub two : (name t : List ℕ) → NoSpace name → NoSpace t → words_of (name ++ codes " " ++ t ++ []) ≡ name ∷ t ∷ []
-two name t hn ht =
+pub two_words : (name t : List ℕ) → NoSpace name → NoSpace t → words_of (name ++ codes " " ++ t ++ []) ≡ name ∷ t ∷ []
+two_words name t hn ht =
     let pieces : name ++ codes " " ++ t ++ [] ≡ name ++ (32 ∷ t) = append-nil (name ++ codes " " ++ t) ∙ append_assoc name (codes " ") t in
-    ap words_of pieces ∙ cut name t hn ∙ ap (λ ws. name ∷ ws) (last t ht)
+    ap words_of pieces ∙ cut_word name t hn ∙ ap (λ ws. name ∷ ws) (last_word t ht)
 
-pub three : (name t flag : List ℕ) → NoSpace name → NoSpace t → NoSpace flag
+pub three_words : (name t flag : List ℕ) → NoSpace name → NoSpace t → NoSpace flag
     → words_of (name ++ codes " " ++ t ++ (32 ∷ flag)) ≡ name ∷ t ∷ flag ∷ []
-three name t flag hn ht hf =
+three_words name t flag hn ht hf =
     let pieces : name ++ codes " " ++ t ++ (32 ∷ flag) ≡ name ++ (32 ∷ (t ++ (32 ∷ flag))) =
     append_assoc (name ++ codes " ") t (32 ∷ flag) ∙ append_assoc name (codes " ") (t ++ (32 ∷ flag)) in
-    ap words_of pieces ∙ cut name (t ++ (32 ∷ flag)) hn ∙ ap (λ ws. name ∷ ws) (cut t flag ht ∙ ap (λ ws. t ∷ ws) (last flag hf))
+    ap words_of pieces ∙ cut_word name (t ++ (32 ∷ flag)) hn ∙ ap (λ ws. name ∷ ws) (cut_word t flag ht ∙ ap (λ ws. t ∷ ws) (last_word flag hf))
 
-pub four : (name t first second : List ℕ) → NoSpace name → NoSpace t → NoSpace first → NoSpace second
+pub four_words : (name t first second : List ℕ) → NoSpace name → NoSpace t → NoSpace first → NoSpace second
     → words_of (name ++ codes " " ++ t ++ (32 ∷ first) ++ (32 ∷ second)) ≡ name ∷ t ∷ first ∷ second ∷ []
-four name t first second hn ht hf hs =
+four_words name t first second hn ht hf hs =
     let pieces : name ++ codes " " ++ t ++ (32 ∷ first) ++ (32 ∷ second) ≡ name ++ (32 ∷ (t ++ (32 ∷ (first ++ (32 ∷ second))))) =
     append_assoc (name ++ codes " " ++ t) (32 ∷ first) (32 ∷ second)
     ∙ append_assoc (name ++ codes " ") t (32 ∷ (first ++ (32 ∷ second)))
     ∙ append_assoc name (codes " ") (t ++ (32 ∷ (first ++ (32 ∷ second)))) in
-    ap words_of pieces ∙ cut name (t ++ (32 ∷ (first ++ (32 ∷ second)))) hn
-    ∙ ap (λ ws. name ∷ ws) (cut t (first ++ (32 ∷ second)) ht ∙ ap (λ ws. t ∷ ws) (cut first second hf ∙ ap (λ ws. first ∷ ws) (last second hs)))
+    ap words_of pieces ∙ cut_word name (t ++ (32 ∷ (first ++ (32 ∷ second)))) hn
+    ∙ ap (λ ws. name ∷ ws) (cut_word t (first ++ (32 ∷ second)) ht ∙ ap (λ ws. t ∷ ws) (cut_word first second hf ∙ ap (λ ws. first ∷ ws) (last_word second hs)))
 
 -- the words of a line that issues a call
-pub issued : (t r rest : List ℕ) → NoSpace t → NoSpace r
+pub issue_words : (t r rest : List ℕ) → NoSpace t → NoSpace r
     → words_of (codes "issue " ++ t ++ codes " " ++ r ++ codes " " ++ rest) ≡ codes "issue" ∷ t ∷ r ∷ words_of rest
-issued t r rest ht hr =
+issue_words t r rest ht hr =
     let pieces : codes "issue " ++ t ++ codes " " ++ r ++ codes " " ++ rest ≡ codes "issue" ++ (32 ∷ (t ++ (32 ∷ (r ++ (32 ∷ rest))))) =
     append_assoc (codes "issue " ++ t ++ codes " " ++ r) (codes " ") rest
     ∙ append_assoc (codes "issue " ++ t ++ codes " ") r (32 ∷ rest)
     ∙ append_assoc (codes "issue " ++ t) (codes " ") (r ++ (32 ∷ rest))
     ∙ append_assoc (codes "issue ") t (32 ∷ (r ++ (32 ∷ rest))) in
-    ap words_of pieces ∙ cut (codes "issue") (t ++ (32 ∷ (r ++ (32 ∷ rest)))) (spaceless (codes "issue") refl)
-    ∙ ap (λ ws. codes "issue" ∷ ws) (cut t (r ++ (32 ∷ rest)) ht ∙ ap (λ ws. t ∷ ws) (cut r rest hr))
+    ap words_of pieces ∙ cut_word (codes "issue") (t ++ (32 ∷ (r ++ (32 ∷ rest)))) (spaceless (codes "issue") refl)
+    ∙ ap (λ ws. codes "issue" ∷ ws) (cut_word t (r ++ (32 ∷ rest)) ht ∙ ap (λ ws. t ∷ ws) (cut_word r rest hr))

@@ -1,5 +1,5 @@
 -- The words of identifiers.
-use Rattle.std.proofs.Common.{◌≡◌, ◌≢◌, ◌∙◌, ℕ, ◌<◌, ◌≤◌, ◌^◌, ◌==◌, ◌&&◌, Bool, true, false, List, [], ◌∷◌, ◌++◌, length, get_or, Option, Some, None, Result, Ok, Err, IfOk, ℤ, pos, negsuc, refl, sym, ap, subst, arith, w32, FitsSigned, nat_lt, if◌then◌else◌}
+use Rattle.std.proofs.Common.{◌≡◌, ◌∙◌, ℕ, ◌^◌, ◌==◌, ◌&&◌, Bool, true, false, List, [], ◌∷◌, ◌++◌, get_or, Option, Some, None, Result, Ok, Err, IfOk, ℤ, pos, negsuc, refl, sym, ap, subst, arith, w32, FitsSigned, if◌then◌else◌}
 use Rattle.std.specs.Fmt.{signed_decimal}
 use Rattle.std.specs.List.{All, join_with_byte, slice_split}
 use Rattle.std.specs.Prelude.{option_and_then}
@@ -11,12 +11,12 @@ use Rattle.hex.specs.Hex.{IsBytes, encode_lower, decode_of}
 use Rattle.hex.proofs.HexLemmas.{decode_of-encode_lower}
 use Rattle.xa_base.proofs.HexText.{encode-bytes_of, even_lower, not_hex}
 use Rattle.xa_base.proofs.TextLemmas.{no_colon-hex, no_colon-signed, one_xid, text_parts, xid_of_spells}
-use Rattle.xa_base.specs.Xid.{Xid, IsInRange, text_of, xid_of}
+use Rattle.xa_base.specs.Xid.{Xid, IsInRange, IsXid, text_of, xid_of}
 use Rattle.xa_base.specs.XidText.{HasNoColon, Spells, bytes_of, is_hex}
 use Rattle.xa_base.specs.declared.fault.XidFault.{XidFault}
 use Rattle.xa_requests.specs.Names.{xid_named, xid_of_texts}
 use Rattle.xa_requests.specs.Numbers.{is_within, signed_of}
-use Rattle.xa_requests.proofs.Chosen.{none_left}
+use Rattle.xa_requests.proofs.Choices.{none_left}
 use Rattle.xa_requests.proofs.NumberLemmas.{signed_of-some, signed_of-text}
 
 -- ** what spells an identifier is named by its texts
@@ -35,10 +35,10 @@ texts_of x fits text e =
     ∙ ap (λ ts. f ∷ ts) (slice_split_at (λ c. c == 58) g 58 b (plain g (no_colon-hex x.gtrid fits.gtrid)) refl)
     ∙ ap (λ ts. f ∷ g ∷ ts) (slice_split_none (λ c. c == 58) b (plain b (no_colon-hex x.bqual fits.bqual)))
 
-hex_of : (bytes : List ℕ) → IsBytes bytes → is_hex (encode_lower bytes) ≡ true
+pub hex_of : (bytes : List ℕ) → IsBytes bytes → is_hex (encode_lower bytes) ≡ true
 hex_of bytes h = true_from_ne_false (is_hex (encode_lower bytes)) (λ no. not_hex (encode_lower bytes) no bytes h refl)
 
-bytes_back : (bytes : List ℕ) → IsBytes bytes → bytes_of (encode_lower bytes) ≡ bytes
+pub bytes_back : (bytes : List ℕ) → IsBytes bytes → bytes_of (encode_lower bytes) ≡ bytes
 bytes_back bytes h =
     let parts = even_lower (encode_lower bytes) (hex_of bytes h) in
     let back = encode-bytes_of (encode_lower bytes) parts.0 parts.1 in
@@ -131,12 +131,16 @@ unfolding xid_named
 spelled_if_named word y is =
     subst (λ (text : List ℕ). IsNamed text y) (join_with_byte-slice_split 58 word) (of_texts (slice_split (λ c. c == 58) word) y is)
 
+pub xid_if_named : (word : List ℕ) (y : Xid) → xid_named word ≡ Some y → IsXid y × (word ≡ text_of y)
+xid_if_named word y is =
+    let named = spelled_if_named word y is in (record { in_range = named.0.0; faultless = named.1 }, named.0.1)
+
 -- ** what is parsed
 
-pub parsed : (word : List ℕ) (r : Result Xid XidFault) → ((x : Xid) → Spells word x → r ≡ xid_of x.format x.gtrid x.bqual) → IfOk r (Spells word)
+pub parse_names : (word : List ℕ) (r : Result Xid XidFault) → ((x : Xid) → Spells word x → r ≡ xid_of x.format x.gtrid x.bqual) → IfOk r (Spells word)
     → result_ok r ≡ xid_named word
-parsed word (Ok x) spelled read = ap result_ok (spelled x read) ∙ sym (named_if_spelled word x read)
-parsed word (Err e) spelled read = sym (none_left (xid_named word) (λ y is.
+parse_names word (Ok x) spelled read = ap result_ok (spelled x read) ∙ sym (named_if_spelled word x read)
+parse_names word (Err e) spelled read = sym (none_left (xid_named word) (λ y is.
     let named = spelled_if_named word y is in
     let no : Err e ≡ Ok y = spelled y named.0 ∙ named.1 in
     cc no))

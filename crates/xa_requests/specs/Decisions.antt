@@ -1,5 +1,5 @@
 -- The requests that begin and end transactions.
-use Rattle.std.specs.Prelude.{ℕ, List, [], ◌∷◌, Option, Some, None}
+use Rattle.std.specs.Prelude.{List, [], ◌∷◌, Option, Some, None}
 use Rattle.xa_base.specs.declared.branch.Gtrid.{Gtrid}
 use Rattle.xa_files.specs.Fields.{◌>>=◌}
 use Rattle.xa_requests.specs.Names.{gtrid_named, gtrids_named}

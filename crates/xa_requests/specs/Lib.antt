@@ -7,5 +7,6 @@ pub mod ReadBack
 pub mod Recoveries
 pub mod Requests
 pub mod Responses
+pub mod Spellings
 pub mod Verbs
 pub mod Words

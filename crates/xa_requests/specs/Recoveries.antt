@@ -45,6 +45,6 @@ crash_request (part ∷ words) =
     else None
 
 -- a request of one word
-abbrev pub alone : Request → List Word → Option Request
-alone request [] = Some request
-alone request _ = None
+abbrev pub bare_request : Request → List Word → Option Request
+bare_request request [] = Some request
+bare_request request _ = None

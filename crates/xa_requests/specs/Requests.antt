@@ -4,7 +4,7 @@ use Rattle.xa_files.specs.Fields.{◌>>=◌}
 use Rattle.xa_requests.specs.Answers.{answer_request}
 use Rattle.xa_requests.specs.Calls.{issue_request}
 use Rattle.xa_requests.specs.Decisions.{abandon_request, begin_request, claim_request, decide_request, done_request, settle_request}
-use Rattle.xa_requests.specs.Recoveries.{alone, crash_request, owed_request, resolve_open_request, resolve_request, waiting_request}
+use Rattle.xa_requests.specs.Recoveries.{bare_request, crash_request, owed_request, resolve_open_request, resolve_request, waiting_request}
 use Rattle.xa_requests.specs.Verbs.{verb_named}
 use Rattle.xa_requests.specs.Words.{Word, words_of}
 use Rattle.xa_requests.specs.declared.request.Request.{Request}
@@ -27,8 +27,8 @@ request_with verbs.ResolveOpen words = resolve_open_request words
 request_with verbs.Waiting words = waiting_request words
 request_with verbs.Owed words = owed_request words
 request_with verbs.Crash words = crash_request words
-request_with verbs.Status words = alone requests.Status words
-request_with verbs.Quit words = alone requests.Quit words
+request_with verbs.Status words = bare_request requests.Status words
+request_with verbs.Quit words = bare_request requests.Quit words
 
 -- a request, by its words
 unfoldable pub request_in : List Word → Option Request

@@ -1,7 +1,6 @@
 //! How a line of the driver is read.
 
 ghost use Rattle.std.specs.Prelude.{◌≡◌, map, IfOk};
-ghost use Rattle.xa_requests.specs.ReadBack.{CallsAreReadBack};
 ghost use Rattle.xa_requests.specs.Requests.{request_in, request_of, request_with};
 
 use crate::answers::answer_request;
@@ -10,7 +9,8 @@ use crate::decisions::{
     abandon_request, begin_request, claim_request, decide_request, done_request, settle_request,
 };
 use crate::recoveries::{
-    alone, crash_request, owed_request, resolve_open_request, resolve_request, waiting_request,
+    bare_request, crash_request, owed_request, resolve_open_request, resolve_request,
+    waiting_request,
 };
 use crate::request::Request;
 use crate::verbs::{Verb, verb_named};
@@ -37,8 +37,8 @@ fn request_with(alloc: Global, verb: Verb, words: &[&str]) -> Result<Option<Requ
         Verb::Waiting => Ok(waiting_request(words)),
         Verb::Owed => Ok(owed_request(words)),
         Verb::Crash => Ok(crash_request(words)),
-        Verb::Status => Ok(alone(Request::Status, words)),
-        Verb::Quit => Ok(alone(Request::Quit, words)),
+        Verb::Status => Ok(bare_request(Request::Status, words)),
+        Verb::Quit => Ok(bare_request(Request::Quit, words)),
     }
 }
 
@@ -66,8 +66,3 @@ pub fn read_request(alloc: Global, line: &str) -> Result<Option<Request>, Memory
     let words = words_of(alloc, line)?;
     Ok(request_in(alloc, words.as_slice())?)
 }
-
-/// A call that is written as in a reply, behind `issue` and a line, is read as that call.
-pub fn calls_are_read_back()
-    ensures { CallsAreReadBack }
-{}

@@ -1,7 +1,7 @@
 //! The requests of recovery, of crashes, and about the session.
 
 ghost use Rattle.std.specs.Prelude.{◌≡◌, map};
-ghost use Rattle.xa_requests.specs.Recoveries.{alone, crash_request, only_index, only_line, owed_request, resolve_open_request, resolve_request, waiting_request};
+ghost use Rattle.xa_requests.specs.Recoveries.{bare_request, crash_request, only_index, only_line, owed_request, resolve_open_request, resolve_request, waiting_request};
 
 use crate::numbers::index_of;
 use crate::request::Request;
@@ -82,8 +82,8 @@ pub(crate) fn crash_request(words: &[&str]) -> Option<Request>
 }
 
 /// What a request of one word asks for.
-pub(crate) fn alone(request: Request, words: &[&str]) -> Option<Request>
-    ensures { result ≡ alone request (map (λ word. word.now) words.now) }
+pub(crate) fn bare_request(request: Request, words: &[&str]) -> Option<Request>
+    ensures { result ≡ bare_request request (map (λ word. word.now) words.now) }
 {
     if words.is_empty() {
         Some(request)

@@ -1,4 +1,4 @@
-use Rattle.std.proofs.Common.{◌≡◌, drop, ◌+◌}
+use Rattle.std.proofs.Common.{◌≡◌, drop}
 use Rattle.xa_requests.specs.Names.{each, gtrid_named}
 use Rattle.xa_requests.proofs.EachLemmas.{texts, with_front}
 use Rattle.xa_requests.proofs.names.gtrids_named.Given as goal

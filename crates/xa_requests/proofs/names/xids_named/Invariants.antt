@@ -1,4 +1,4 @@
-use Rattle.std.proofs.Common.{◌≡◌, drop, ◌+◌}
+use Rattle.std.proofs.Common.{◌≡◌, drop}
 use Rattle.xa_requests.specs.Names.{each, xid_named}
 use Rattle.xa_requests.proofs.EachLemmas.{texts, with_front}
 use Rattle.xa_requests.proofs.names.xids_named.Given as goal
