@@ -2,6 +2,7 @@
 use Rattle.std.proofs.Common.{◌≡◌, ◌∙◌, ℕ, zero, suc, ◌<◌, ◌^◌, ◌==◌, ◌&&◌, Bool, true, false, List, [], ◌∷◌, ◌++◌, length, take, drop, Option, Some, None, option_map, refl, sym, ap, subst, arith, w64, nat_eq, if◌then◌else◌}
 use Rattle.std.specs.Fmt.{signed_decimal, digits}
 use Rattle.std.specs.Int.{byte_at, bytes_high_first, from_be_bytes, to_be_bytes}
+use Rattle.std.specs.List.{list_all}
 use Rattle.std.specs.Prelude.{codes}
 use Rattle.std.specs.Result.{result_ok}
 use Rattle.std.specs.Str.{bytes_eq}
@@ -124,8 +125,7 @@ xids word x = (xid_if_named word x, λ h. named_if_spelled word x (h.0.in_range,
 
 -- each word of a table is the text of its meaning
 abbrev AreTexts : {A : Type 0} → (A → List ℕ) → List (List ℕ × A) → Type 0
-AreTexts text [] = Unit {0}
-AreTexts text (entry ∷ entries) = (entry.0 ≡ text entry.1) × AreTexts text entries
+AreTexts text entries = list_all (λ entry. bytes_eq entry.0 (text entry.1)) entries ≡ true
 
 text_by : {A : Type 0} (text : A → List ℕ) (word here : List ℕ) (meaning : A) (t : Bool) (rest : Option A) (named : A) → bytes_eq word here ≡ t
     → here ≡ text meaning → (rest ≡ Some named → word ≡ text named) → (if t then Some meaning else rest) ≡ Some named → word ≡ text named
@@ -138,9 +138,12 @@ text_of_meaning : {A : Type 0} (text : A → List ℕ) (entries : List (List ℕ
     → meaning_in entries word ≡ Some named → word ≡ text named
 text_of_meaning text [] word named are h = absurd (cc)
 text_of_meaning text (entry ∷ entries) word named are h =
-    text_by text word entry.0 entry.1 (bytes_eq word entry.0) (meaning_in entries word) named refl are.0
-    (text_of_meaning text entries word named are.1) h
+    let both = and_parts (bytes_eq entry.0 (text entry.1)) (list_all (λ one. bytes_eq one.0 (text one.1)) entries) are in
+    let here : entry.0 ≡ text entry.1 = (bytes_eq-Decides entry.0 (text entry.1)).0 both.0 in
+    text_by text word entry.0 entry.1 (bytes_eq word entry.0) (meaning_in entries word) named refl here
+    (text_of_meaning text entries word named both.1) h
 
+-- the texts of kinds and codes are words of theirs
 kind_back : (kind : CallKind) → call_named (kind_text kind) ≡ Some kind
 kind_back kinds.OpenRm = refl
 kind_back kinds.CloseRm = refl
@@ -152,6 +155,7 @@ kind_back kinds.Rollback = refl
 kind_back kinds.Forget = refl
 kind_back kinds.Recover = refl
 
+-- the words of `call_named`
 abbrev kind_table : List (List ℕ × CallKind)
 kind_table =
     (codes "xa_open", kinds.OpenRm) ∷ (codes "xa_close", kinds.CloseRm) ∷ (codes "xa_start", kinds.Start) ∷ (codes "xa_end", kinds.End)
@@ -159,13 +163,10 @@ kind_table =
     ∷ (codes "xa_forget", kinds.Forget) ∷ (codes "xa_recover", kinds.Recover) ∷ []
 
 kind_texts : AreTexts kind_text kind_table
-kind_texts = (refl, (refl, (refl, (refl, (refl, (refl, (refl, (refl, (refl, tt)))))))))
+kind_texts = refl
 
 pub kinds_spelled : KindsHaveOneSpelling
-kinds_spelled word kind = (
-  text_of_meaning kind_text kind_table word kind kind_texts,
-  λ h. ap call_named h ∙ kind_back kind,
-)
+kinds_spelled word kind = (text_of_meaning kind_text kind_table word kind kind_texts, λ h. ap call_named h ∙ kind_back kind)
 
 code_back : (code : Code) → code_named (signed_decimal (code_number code)) ≡ Some code
 unfolding digits
@@ -196,8 +197,7 @@ code_text code = signed_decimal (code_number code)
 
 code_texts : AreTexts code_text code_table
 unfolding digits
-code_texts =
-    (refl, (refl, (refl, (refl, (refl, (refl, (refl, (refl, (refl, (refl, (refl, (refl, (refl, (refl, (refl, (refl, (refl, (refl, (refl, (refl, (refl, tt)))))))))))))))))))))
+code_texts = refl
 
 pub codes_spelled : CodesHaveOneSpelling
 codes_spelled word code = (text_of_meaning code_text code_table word code code_texts, λ h. ap code_named h ∙ code_back code)
