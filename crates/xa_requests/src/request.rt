@@ -5,7 +5,7 @@ ghost use Rattle.std.specs.Prelude.{◌≡◌};
 use std::marker::Model;
 use xa_base::{Answer, Call, CallKind, Gtrid, Outcome, Xid};
 
-/// One transaction or more, in the order in which a line names them.
+/// Transactions, in the order in which a line names them.
 #[derive(Drop)]
 pub struct Gtrids {
     gtrids: Vec<Gtrid>,
@@ -81,7 +81,7 @@ pub enum Request {
     Abandon {
         gtrid: Gtrid,
     },
-    /// `done`: the rows of transactions leave the log.
+    /// `done`: the rows of one transaction or more leave the log.
     Done {
         gtrids: Gtrids,
     },
