@@ -3,11 +3,13 @@ pub mod Branches
 pub mod Calls
 pub mod Crashes
 pub mod Endings
+pub mod Files
 pub mod Flags
 pub mod Headers
 pub mod StepTables
 pub mod Moves
 pub mod Plays
+pub mod Processes
 pub mod Recoveries
 pub mod Replies
 pub mod Runs

@@ -1,7 +1,9 @@
 //! A scenario file as a whole.
 
-ghost use Rattle.std.specs.Prelude.{◌≡◌, IfOk, IfSome, ◌+◌, [], map, option_map};
+ghost use Rattle.std.specs.Prelude.{◌≡◌, IfOk, IfSome, OnOk, ◌+◌, [], map, option_map};
+ghost use Rattle.std.specs.String.{string_bytes};
 ghost use Rattle.toml.specs.View.{view, table_view, items_view};
+ghost use Rattle.xa_scenario.specs.Files.{names_with};
 ghost use Rattle.xa_scenario.specs.Headers.{header_at};
 ghost use Rattle.xa_files.specs.Documents.{size_at, tables_at};
 ghost use Rattle.xa_scenario.specs.Scenarios.{IsSize, IsSized, plan_of, entry_at, name_in, entries_from, header_of, scenario_of};
@@ -14,7 +16,7 @@ ghost use Rattle.xa_scenario.specs.StepTables.{asked_at};
 use crate::begins::name_begun;
 use crate::entry::Entry;
 use crate::tables::entry_of;
-use std::alloc::Global;
+use std::alloc::{AllocError, Global};
 use toml::{Table, Value};
 use xa_files::{RunFault, document_of, has_only, size_at, tables_at};
 
@@ -55,7 +57,7 @@ fn header_at(document: &Table) -> Option<(u32, u32, &[Value])>
 }
 
 /// The same, with its fault.
-fn header_of(document: &Table) -> Result<(u32, u32, &[Value]), RunFault>
+pub fn header_of(document: &Table) -> Result<(u32, u32, &[Value]), RunFault>
     ensures value { Gives (λ h. (h.0, h.1, items_view h.2.now)) result
         (header_of (table_view document.now)) }
     ensures sized { IfOk result (λ h. IsSize h.0 × IsSize h.1) }
@@ -87,12 +89,25 @@ fn entry_at(number: usize, begun: &[&str], value: &Value) -> Result<Entry, RunFa
     }
 }
 
-/// What the tables ask for in turn.
-fn entries_of(alloc: Global, items: &[Value]) -> Result<Vec<Entry>, RunFault>
-    ensures { Gives (λ entries. entries.items) result (entries_from 1 [] (items_view items.now)) }
+/// The names as texts that are lent.
+fn lent<'a>(alloc: Global, names: &'a [String]) -> Result<Vec<&'a str>, AllocError>
+    ensures { IfOk result (λ texts. map (λ text. text.now) texts.items
+        ≡ map string_bytes names.now) }
+{
+    let mut texts = Vec::new(alloc);
+    for name in names {
+        texts.push(name.as_str())?;
+    }
+    Ok(texts)
+}
+
+/// What the tables ask for in turn, where these names were begun before.
+pub fn entries_of(alloc: Global, names: &[String], items: &[Value]) -> Result<Vec<Entry>, RunFault>
+    ensures { Gives (λ entries. entries.items) result
+        (entries_from 1 (map string_bytes names.now) (items_view items.now)) }
 {
     let mut entries = Vec::new(alloc);
-    let mut begun = Vec::new(alloc);
+    let mut begun = lent(alloc, names)?;
     for (i, value) in items.iter().enumerate() {
         entries.push(entry_at(i + 1, &begun, value)?)?;
         if let Some(name) = name_in(value) {
@@ -100,6 +115,19 @@ fn entries_of(alloc: Global, items: &[Value]) -> Result<Vec<Entry>, RunFault>
         }
     }
     Ok(entries)
+}
+
+/// Adds the names that the tables begin.
+pub fn add_names(alloc: Global, names: &mut Vec<String>, items: &[Value]) -> Result<(), AllocError>
+    ensures { OnOk result (map string_bytes names.new.items
+        ≡ names_with (map string_bytes names.old.items) (items_view items.now)) }
+{
+    for value in items {
+        if let Some(name) = name_in(value) {
+            names.push(String::from_str(alloc, name)?)?;
+        }
+    }
+    Ok(())
 }
 
 /// Reads a scenario file.
@@ -112,7 +140,7 @@ pub fn read_scenario(alloc: Global, text: &[u8]) -> Result<Scenario, RunFault>
 {
     let document = document_of(alloc, text)?;
     let (threads, rms, steps) = header_of(&document)?;
-    let entries = entries_of(alloc, steps)?;
+    let entries = entries_of(alloc, &[], steps)?;
     Ok(Scenario {
         threads,
         rms,

@@ -1,6 +1,6 @@
 //! What a run of a scenario does.
 
-ghost use Rattle.std.specs.Prelude.{◌≡◌, ◌||◌, ◌∷◌, [], OnOk};
+ghost use Rattle.std.specs.Prelude.{◌≡◌, ◌||◌, ◌∷◌, ◌++◌, [], OnOk};
 ghost use Rattle.std.specs.Option.{option_to_list};
 ghost use Rattle.xa_scenario.specs.Plays.{HaveSteps, IsAnswered, IsDrain, IsPlay, MakesEvents, Performs, events_after, gtrids_of, moves};
 ghost use Rattle.xa_system.specs.SystemView.{origin_in};
@@ -8,7 +8,7 @@ ghost use Rattle.xa_system.specs.RmInHistory.{looks};
 
 use crate::entry::Entry;
 use crate::names::{begins, gtrid_in, issue_of, step_of};
-use std::alloc::{AllocError, Global};
+use std::alloc::AllocError;
 use xa_base::{Gtrid, Reply, Step};
 use xa_log::DecisionLog;
 use xa_rm::ResourceManager;
@@ -109,20 +109,20 @@ fn play_entry<R: ResourceManager + Drop, L: DecisionLog + Drop>(
     }
 }
 
-/// Plays the entries in turn.
+/// Plays the entries in turn, where these transactions were begun before, and adds those that they begin.
 pub fn play<R: ResourceManager + Drop, L: DecisionLog + Drop>(
-    alloc: Global,
     system: &mut System<R, L>,
+    gtrids: &mut Vec<Gtrid>,
     entries: &[Entry],
 ) -> Result<(), AllocError>
-    ensures performs { OnOk result (Performs (IsPlay [] entries.now) system.old.events
-        system.new.events) }
+    ensures performs { OnOk result (Performs (λ steps. IsPlay gtrids.old.items entries.now steps
+        × (gtrids.new.items ≡ gtrids.old.items ++ gtrids_of steps))
+        system.old.events system.new.events) }
     ensures start { origin_in (looks R.held_of R.scan_of R.in_doubt_of) system.new
         ≡ origin_in (looks R.held_of R.scan_of R.in_doubt_of) system.old }
 {
-    let mut gtrids = Vec::new(alloc);
     for entry in entries {
-        if let Some(gtrid) = play_entry(system, &gtrids, entry) {
+        if let Some(gtrid) = play_entry(system, gtrids, entry) {
             gtrids.push(gtrid)?;
         }
     }

@@ -24,7 +24,7 @@ use xa_rm::{MemRm, ResourceManager};
 use xa_system::{NewFault, System};
 
 /// New resource managers.
-fn rms_of(alloc: Global, count: u32) -> Result<Vec<MemRm>, RunFault>
+pub fn rms_of(alloc: Global, count: u32) -> Result<Vec<MemRm>, RunFault>
     ensures count { IfOk result (λ rms. vec_len rms ≡ count) }
     ensures new { IfOk result (λ rms. All (IsNewRm (looks ⟦<MemRm as ResourceManager>⟧.held_of
         ⟦<MemRm as ResourceManager>⟧.scan_of ⟦<MemRm as ResourceManager>⟧.in_doubt_of)) rms.items) }
@@ -38,7 +38,7 @@ fn rms_of(alloc: Global, count: u32) -> Result<Vec<MemRm>, RunFault>
 }
 
 /// The system of a scenario over a log, at new resource managers.
-fn system_of<R: ResourceManager + Drop, L: DecisionLog + Drop>(
+pub fn system_of<R: ResourceManager + Drop, L: DecisionLog + Drop>(
     alloc: Global,
     scenario: &Scenario,
     rms: Vec<R>,
@@ -107,7 +107,7 @@ fn run<R: ResourceManager + Drop, L: DecisionLog + Drop, W: Write>(
         → Keeps (W.contents out.old) (W.contents out.new)) }
     ensures fault { IfErr result (λ e. (e ≡ Memory) ⊎ (e ≡ Output)) }
 {
-    play(alloc, &mut system, &scenario.entries)?;
+    play(&mut system, &mut Vec::new(alloc), &scenario.entries)?;
     let text = text_of(alloc, &system, with_trace)?;
     system.agree();
     write_text(text.as_bytes(), out)

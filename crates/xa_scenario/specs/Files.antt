@@ -1,0 +1,75 @@
+-- Scenario files that are read one after another, each for a process of one system.
+use Rattle.std.specs.Prelude.{◌≡◌, ℕ, ◌+◌, Bool, true, ◌&&◌, nat_eq, if◌then◌else◌, List, [], ◌∷◌, map, All, Option, Some, None, Result, Ok, Err}
+use Rattle.std.specs.String.{string_bytes}
+use Rattle.toml.specs.Data.{Items, no_items, item, Members}
+use Rattle.xa_files.specs.Documents.{document_of}
+use Rattle.xa_files.specs.Reading.{◌>>=◌}
+use Rattle.xa_files.specs.declared.fault.RunFault.{RunFault}
+use Rattle.xa_files.specs.declared.fault.RunFault.TheVariants.{Header}
+use Rattle.xa_scenario.specs.Branches.{Names}
+use Rattle.xa_scenario.specs.Scenarios.{IsSize, Plan, entries_from, header_of, names_after}
+use Rattle.xa_scenario.specs.declared.files.Before.{Before}
+use Rattle.xa_scenario.specs.declared.files.FileFault.{FileFault}
+
+-- ** one file
+
+-- what is before a file: how large the system is, where an earlier file said so, and the names begun so far
+pub record Earlier : Type 0 where
+  pub size : Option (ℕ × ℕ)
+  pub names : Names
+
+abbrev pub nothing_earlier : Earlier
+nothing_earlier = record { size = None; names = [] }
+
+-- the same, without where it lies in memory
+abbrev pub earlier_of : Before → Earlier
+earlier_of before = record { size = before.size; names = map string_bytes before.names.items }
+
+-- the size is that of the files before
+abbrev pub is_alike : Option (ℕ × ℕ) → (threads rms : ℕ) → Bool
+is_alike None threads rms = true
+is_alike (Some size) threads rms = nat_eq threads size.0 && nat_eq rms size.1
+
+-- its top
+abbrev pub header_after : Earlier → Members → Result (ℕ × ℕ × Items) RunFault
+header_after earlier document = header_of document >>= λ h. if is_alike earlier.size h.0 h.1 then Ok h else Err Header
+
+-- the names so far, with those that the items begin
+unfoldable pub names_with : Names → Items → Names
+names_with begun no_items = begun
+names_with begun (item value items) = names_with (names_after begun value) items
+
+-- the scenario that a text is behind all that, and what is then before the next one; or the first fault
+unfoldable pub file_after : Earlier → List ℕ → Result (Plan × Earlier) RunFault
+file_after earlier text = do
+  document ← document_of text
+  header ← header_after earlier document
+  entries ← entries_from 1 earlier.names header.2
+  Ok (
+    (let plan : Plan = record { threads = header.0; rms = header.1; entries = entries } in plan),
+    (let next : Earlier = record { size = Some (header.0, header.1); names = names_with earlier.names header.2 } in next),
+  )
+
+-- ** files in turn
+
+-- the scenarios that texts are in turn, or the first fault with the place of its text; the first of them has this place
+unfoldable pub files_from : ℕ → Earlier → List (List ℕ) → Result (List Plan) FileFault
+files_from place earlier [] = Ok []
+files_from place earlier (text ∷ texts) = elim (file_after earlier text) [
+  | Err fault ↦ Err (record { file = place; fault = fault })
+  | Ok read ↦ elim (files_from (place + 1) read.1 texts) [
+    | Err fault ↦ Err fault
+    | Ok plans ↦ Ok (read.0 ∷ plans)
+  ]
+]
+
+abbrev pub scenarios_of : List (List ℕ) → Result (List Plan) FileFault
+scenarios_of texts = files_from 0 nothing_earlier texts
+
+-- the scenarios are for a system of one size
+pub record AreAlike (plans : List Plan) : Type 0 where
+  pub threads : ℕ
+  pub rms : ℕ
+  pub some_threads : IsSize threads
+  pub some_rms : IsSize rms
+  pub each : All (λ plan. (plan.threads ≡ threads) × (plan.rms ≡ rms)) plans

@@ -1,0 +1,99 @@
+-- Processes of the manager, one for each of several scenario files: what they do over the same resource managers and the
+-- same log, and what is printed of them.
+use Rattle.std.specs.Prelude.{◌≡◌, ◌↔◌, ◌≢◌, ◌⊎◌, ℕ, ◌+◌, Bool, true, nat_lt, if◌then◌else◌, List, [], ◌∷◌, ◌++◌, length, codes, Contains, Option, Some, None}
+use Rattle.std.specs.Fmt.{decimal}
+use Rattle.std.specs.Io.KnownBytes.{Appends, Keeps}
+use Rattle.std.specs.List.Sorted.{IsStrictlySortedBy}
+use Rattle.std.specs.Map.{keys_of}
+use Rattle.xa_base.specs.Branch.{xid_of_branch}
+use Rattle.xa_base.specs.Xid.{Xid, xid_cmp}
+use Rattle.xa_base.specs.declared.branch.Branch.{Branch}
+use Rattle.xa_base.specs.declared.branch.Gtrid.{Gtrid}
+use Rattle.xa_base.specs.declared.reply.Event.{Event}
+use Rattle.xa_base.specs.declared.state.Fate.{Fate}
+use Rattle.xa_files.specs.Fates.{fate_lines}
+use Rattle.xa_files.specs.Outputs.{AppendsBeginning}
+use Rattle.xa_log.specs.Contract.{Moment}
+use Rattle.xa_model.specs.Facts.{fate, started}
+use Rattle.xa_model.specs.Promises.Headline.{Headline, HeadlineSince}
+use Rattle.xa_model.specs.Promises.Processes.{Resumes, joined, resumed}
+use Rattle.xa_model.specs.Replies.History.{AreAllowed, history}
+use Rattle.xa_model.specs.Trace.{Origin, Trace}
+use Rattle.xa_scenario.specs.Plays.{IsPlay, Performs, gtrids_of}
+use Rattle.xa_scenario.specs.Replies.{trace_lines}
+use Rattle.xa_scenario.specs.Runs.{IsStartOf, StartsOverLog}
+use Rattle.xa_scenario.specs.Scenarios.{Plan}
+
+-- ** one process
+
+-- what became of a process: where it started, its events, what the names of all files so far stand for, the branches whose
+-- xa_start was accepted in it and before, and the log that it leaves
+pub record Process (L : Type 0) : Type 0 where
+  pub origin : Origin
+  pub events : List Event
+  pub gtrids : List Gtrid
+  pub names : List Xid
+  pub log : Option L
+
+-- the branches whose xa_start was accepted in a history, each once and in the order of their identifiers
+pub record AreStarted (tr : Trace) (own : List Xid) : Type 0 where
+  pub in_order : IsStrictlySortedBy xid_cmp own
+  pub listed : (x : Xid) → Contains own x ↔ ((b : Branch) × (started tr b ≡ true) × (x ≡ xid_of_branch b))
+
+-- these are behind those of the earlier processes
+pub record AddsStarted (tr : Trace) (old new : List Xid) : Type 0 where
+  pub own : List Xid
+  pub started : AreStarted tr own
+  pub adds : new ≡ old ++ own
+
+-- the entries were played in turn: each name stands for what its begin was answered, here or in an earlier process
+abbrev pub Plays : Plan → (old new : List Gtrid) → (before after : List Event) → Type 0
+Plays plan old new before after =
+    Performs (λ steps. IsPlay old plan.entries steps × (new ≡ old ++ gtrids_of steps)) before after
+
+module _ {L : Type 0} (moment : L → Moment) where
+  -- A process plays a plan over this log. Its system is as large as the plan says. What its log rests on was honest as it
+  -- started where that is so of the log that it leaves, which is in order where this one is.
+  pub record IsProcess (log : L) (gtrids : List Gtrid) (names : List Xid) (plan : Plan) (p : Process L) : Type 0 where
+    pub over : StartsOverLog moment log p.origin
+    pub threads : p.origin.threads ≡ plan.threads
+    pub rms : p.origin.rms ≡ plan.rms
+    pub played : Plays plan gtrids p.gtrids [] p.events
+    pub allowed : AreAllowed p.origin p.events
+    pub names : AddsStarted (history p.origin p.events) names p.names
+    pub order : (left : L) → p.log ≡ Some left → (moment log).is_in_order → (moment left).is_in_order
+    pub honest : (left : L) → p.log ≡ Some left → (moment left).is_honest → (moment over.left).is_honest
+
+  -- the first one: no branch ever was at its resource managers
+  pub record IsFirst (log : L) (plan : Plan) (p : Process L) : Type 0 where
+    pub is : IsProcess log [] [] plan p
+    pub start : IsStartOf plan p.origin
+    pub headline : Headline p.origin p.events
+
+  -- One behind another, where the first of all has started over this log. It starts over the log that the one before it has
+  -- left; and where the first log was in order, and what the logs rest on was honest until this start, it resumes the whole
+  -- history of the earlier ones, so that the headline holds of what it does after that.
+  pub record IsNext (log : L) (past : Trace) (before : Process L) (plan : Plan) (p : Process L) : Type 0 where
+    pub found : L
+    pub left : before.log ≡ Some found
+    pub is : IsProcess found before.gtrids before.names plan p
+    pub resumes : (moment log).is_in_order → (moment is.over.left).is_honest → Resumes past p.origin
+    pub headline : (moment log).is_in_order → (moment is.over.left).is_honest → HeadlineSince (resumed past p.origin) p.events
+
+  -- ** processes in turn
+
+  -- the line in front of the trace of a process that is not the first
+  abbrev pub heading : ℕ → List ℕ
+  heading number = codes "process " ++ decimal number ++ codes "\n"
+
+  -- The processes of these plans over a log, up to this last one: their whole history, each having resumed what was left
+  -- before it, and the text of their traces.
+  pub data AreProcesses (log : L) : List Plan → (whole : Trace) → (last : Process L) → (traces : List ℕ) → Type 0 where
+    First :
+        (plan : Plan) (p : Process L) → IsFirst log plan p
+        → AreProcesses log (plan ∷ []) (history p.origin p.events) p (trace_lines 1 p.events)
+    Next :
+        (plans : List Plan) (past : Trace) (before : Process L) (traces : List ℕ) (plan : Plan) (p : Process L)
+        → AreProcesses log plans past before traces → IsNext log past before plan p
+        → AreProcesses log (plans ++ plan ∷ []) (joined past p.origin p.events) p
+        (traces ++ (heading (length plans + 1) ++ trace_lines 1 p.events))
