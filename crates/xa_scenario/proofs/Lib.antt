@@ -1,6 +1,8 @@
 pub mod BranchLemmas
 pub mod EntryLemmas
+pub mod FileLemmas
 pub mod FlagLemmas
+pub mod KeepingLemmas
 pub mod LineLemmas
 pub mod ListedLemmas
 pub mod PlayLemmas

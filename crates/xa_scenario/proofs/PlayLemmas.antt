@@ -1,6 +1,6 @@
 -- Events in turn.
 use Rattle.std.proofs.Common.{◌≡◌, ℕ, ◌+◌, ◌<◌, Bool, true, false, ◌||◌, cond, MatchBool, Some, None, List, [], ◌∷◌, ◌++◌, length, refl, sym, subst}
-use Rattle.std.proofs.Common.{get_or, drop}
+use Rattle.std.proofs.Common.{get_or, drop, Option, ◌∙◌, ap, append_assoc, append-nil}
 use Rattle.std.proofs.lemmas.List.{drop_more}
 use Rattle.std.specs.Option.{option_to_list}
 use Rattle.xa_base.specs.Xid.{Xid}
@@ -9,7 +9,7 @@ use Rattle.xa_base.specs.declared.reply.Event.{Event}
 use Rattle.xa_base.specs.declared.reply.Reply.{Reply}
 use Rattle.xa_base.specs.declared.step.Step.TheVariants as steps
 use Rattle.xa_scenario.specs.declared.entry.Entry.{Entry}
-use Rattle.xa_scenario.specs.Plays.{AreAnswered, IsAnswered, IsDrain, IsPlay, MakesEvents, Performs, events_after, begins_one, gtrid_answered, gtrids_of, moves, trace_after}
+use Rattle.xa_scenario.specs.Plays.{AreAnswered, IsAnswered, IsDrain, IsPlay, MakesEvents, Performs, events_after, begins_one, gtrid_answered, gtrid_begun, gtrids_of, moves, trace_after}
 
 -- From this trace on, events that P asks for at the end make the whole one that P asks for from the start.
 abbrev pub GoesOn : (List Event → Type 0) → List Event → List Event → Type 0
@@ -66,9 +66,13 @@ drain_names_none thread rm (a ∷ b ∷ rest) h =
     let others = names_none_after thread rm (moves a.reply || moves b.reply) rest (drain_names_none thread rm rest) h.2 in
     rw (h.0, h.1) others
 
--- From this trace on, events that Q asks for make, with those before them, what P asks for from the start.
-abbrev pub Leads : (List Event → Type 0) → (List Event → Type 0) → List Event → List Event → Type 0
-Leads Q P start trace = (others : List Event) → Q others → AreAnswered trace others → Performs P start (trace_after trace others)
+-- From this trace on, a play of these entries makes, with the events before it, a play of all entries from the start.
+abbrev pub PlaysOn : (first : List Gtrid) → (all : List Entry) → (start : List Event) → (gtrids : List Gtrid) → List Entry → (trace : List Event) → Type 0
+PlaysOn first all start gtrids entries trace = (others : List Event) → IsPlay gtrids entries others → AreAnswered trace others
+    → Performs (λ steps. IsPlay first all steps × (gtrids ++ gtrids_of others ≡ first ++ gtrids_of steps)) start (trace_after trace others)
+
+pub plays_on : (gtrids : List Gtrid) (entries : List Entry) (trace : List Event) → PlaysOn gtrids entries trace gtrids entries trace
+plays_on gtrids entries trace others wanted answered = record { events = others; wanted = (wanted, refl); answered = answered; leads = refl }
 
 trace_after-append : (trace here others : List Event) → trace_after trace (here ++ others) ≡ trace_after (trace_after trace here) others
 trace_after-append trace [] others = refl
@@ -78,30 +82,46 @@ answered_both : (trace here others : List Event) → AreAnswered trace here → 
 answered_both trace [] others first second = second
 answered_both trace (e ∷ here) others first second = (first.0, answered_both (events_after trace e) here others first.1 second)
 
+begun_by : (o : Option Gtrid) (event : Event) (others : List Event) → gtrid_begun event ≡ o
+    → gtrids_of (event ∷ others) ≡ option_to_list o ++ gtrids_of others
+begun_by (Some g) event others is = rw is refl
+begun_by None event others is = rw is refl
+
+gtrids_of-append : (here others : List Event) → gtrids_of (here ++ others) ≡ gtrids_of here ++ gtrids_of others
+gtrids_of-append [] others = refl
+gtrids_of-append (e ∷ here) others =
+    begun_by (gtrid_begun e) e (here ++ others) refl ∙ ap (λ gs. option_to_list (gtrid_begun e) ++ gs) (gtrids_of-append here others)
+    ∙ sym (append_assoc (option_to_list (gtrid_begun e)) (gtrids_of here) (gtrids_of others))
+    ∙ ap (λ gs. gs ++ gtrids_of others) (sym (begun_by (gtrid_begun e) e here refl))
+
 -- an entry that was played, and then those after it
-pub play_goes_on : (gtrids began after_gtrids : List Gtrid) (entry : Entry) (entries : List Entry) (P : List Event → Type 0) (start trace new : List Event)
-    → after_gtrids ≡ gtrids ++ began → Performs (λ here. MakesEvents gtrids entry here × (gtrids_of here ≡ began)) trace new
-    → Leads (IsPlay gtrids (entry ∷ entries)) P start trace → Leads (IsPlay after_gtrids entries) P start new
-play_goes_on gtrids began after_gtrids entry entries P start trace new grown played whole others wanted answered =
+play_goes_on : (first : List Gtrid) (all : List Entry) (gtrids began grown : List Gtrid) (entry : Entry) (entries : List Entry) (start trace new : List Event)
+    → grown ≡ gtrids ++ began → Performs (λ here. MakesEvents gtrids entry here × (gtrids_of here ≡ began)) trace new
+    → PlaysOn first all start gtrids (entry ∷ entries) trace → PlaysOn first all start grown entries new
+play_goes_on first all gtrids began grown entry entries start trace new more played whole others wanted answered =
     let here = played.events in
-    let next : IsPlay (gtrids ++ gtrids_of here) entries others = rw (played.wanted.1, ← grown) wanted in
-    let all =
+    let next : IsPlay (gtrids ++ gtrids_of here) entries others = rw (played.wanted.1, ← more) wanted in
+    let same : grown ++ gtrids_of others ≡ gtrids ++ gtrids_of (here ++ others) =
+    ap (λ gs. gs ++ gtrids_of others) (more ∙ ap (λ gs. gtrids ++ gs) (sym played.wanted.1))
+    ∙ append_assoc gtrids (gtrids_of here) (gtrids_of others) ∙ ap (λ gs. gtrids ++ gs) (sym (gtrids_of-append here others)) in
+    let both =
     whole (here ++ others) (here, (others, refl, played.wanted.0, next)) (answered_both trace here others played.answered (rw played.leads answered)) in
-    rw (← played.leads, ← trace_after-append trace here others) all
+    rw (← played.leads, ← trace_after-append trace here others) (performs_also (λ steps h. (h.0, same ∙ h.1)) both)
 
 -- no entry is left
-pub play_ends : (gtrids : List Gtrid) (P : List Event → Type 0) (start trace : List Event) → Leads (IsPlay gtrids []) P start trace → Performs P start trace
-play_ends gtrids P start trace whole = whole [] refl tt
+pub play_ends : (first : List Gtrid) (all : List Entry) (start : List Event) (gtrids : List Gtrid) (trace : List Event)
+    → PlaysOn first all start gtrids [] trace → Performs (λ steps. IsPlay first all steps × (gtrids ≡ first ++ gtrids_of steps)) start trace
+play_ends first all start gtrids trace whole = performs_also (λ steps h. (h.0, sym (append-nil gtrids) ∙ h.1)) (whole [] refl tt)
 
 -- one turn of a loop over the entries
-pub play_turn : (gtrids seen began grown : List Gtrid) (entries : List Entry) (i : ℕ) (d : Entry) (P : List Event → Type 0) (start trace new : List Event)
+pub play_turn : (first : List Gtrid) (all : List Entry) (gtrids seen began grown : List Gtrid) (entries : List Entry) (i : ℕ) (d : Entry) (start trace new : List Event)
     → i < length entries → seen ≡ gtrids → grown ≡ gtrids ++ began
     → Performs (λ here. MakesEvents seen (get_or entries i d) here × (gtrids_of here ≡ began)) trace new
-    → Leads (IsPlay gtrids (drop i entries)) P start trace → Leads (IsPlay grown (drop (i + 1) entries)) P start new
-play_turn gtrids seen began grown entries i d P start trace new within same more played whole =
+    → PlaysOn first all start gtrids (drop i entries) trace → PlaysOn first all start grown (drop (i + 1) entries) new
+play_turn first all gtrids seen began grown entries i d start trace new within same more played whole =
     let at_gtrids = subst (λ gs. Performs (λ here. MakesEvents gs (get_or entries i d) here × (gtrids_of here ≡ began)) trace new) same played in
-    let at_entries = subst (λ es. Leads (IsPlay gtrids es) P start trace) (drop_more entries i d within) whole in
-    play_goes_on gtrids began grown (get_or entries i d) (drop (i + 1) entries) P start trace new more at_gtrids at_entries
+    let at_entries = subst (λ es. PlaysOn first all start gtrids es trace) (drop_more entries i d within) whole in
+    play_goes_on first all gtrids began grown (get_or entries i d) (drop (i + 1) entries) start trace new more at_gtrids at_entries
 
 -- one event
 pub one : (P : List Event → Type 0) (a : Event) (old new : List Event) → IsAnswered old a.reply → new ≡ events_after old a → P (a ∷ []) → Performs P old new

@@ -7,10 +7,11 @@ use Rattle.xa_base.specs.Scan.{Scan.NotOpen}
 use Rattle.xa_base.specs.Xid.{Xid}
 use Rattle.xa_log.specs.Contract.{Moment}
 use Rattle.xa_model.specs.Trace.{Name.Foreign, Origin}
-use Rattle.xa_scenario.specs.Runs.{IsNewRm, StartsOverLog}
+use Rattle.xa_scenario.specs.LogKeeping.{HasStarted}
+use Rattle.xa_scenario.specs.Runs.{IsNewRm}
 use Rattle.xa_scenario.specs.Scenarios.{IsSize}
 use Rattle.xa_system.specs.LogInHistory.{StartsOver}
-use Rattle.xa_system.specs.SystemView.{HasWrongSize}
+use Rattle.xa_system.specs.SystemView.{HasWrongSize, MayRestart, Observes, SystemView, origin_in}
 use Rattle.xa_system.specs.RmInHistory.{Looks, scan_by}
 use Rattle.xa_tm.specs.Slots.{honest_in, log_held, slot_moment}
 use Rattle.xa_tm.specs.declared.slot.Slot.{Slot}
@@ -38,27 +39,34 @@ module _ {R : Type 0} (look : Looks R) where
   none_open None new = refl
   none_open (Some rm) new = ap (λ scan. scan_by (λ x. Foreign x) scan) (new.scans 0)
 
--- a system that has just begun over a log
-module _ {L : Type 0} (moment : L → Moment) (log : L) (o : Origin) where
-  over_held : (slot begun : Slot L) (held : Option L) → log_held slot ≡ held → begun ≡ slot → IsSome held
-      → ((slot_moment moment slot).is_honest → (moment log).is_honest)
-      → ((moment log).is_in_order → (slot_moment moment begun).is_honest → IsSomeAnd (moment log).content (StartsOver o))
-      → StartsOverLog moment log o
-  over_held slot begun None is same some honest starts = absurd (cc)
-  over_held slot begun (Some left) is same some honest starts = record {
-    left = left;
-    honest = λ h. honest (in_slot h);
-    held = λ order h. starts order (subst (λ s. (slot_moment moment s).is_honest) (sym same) (in_slot h));
-  }
-    where
-      in_slot : (moment left).is_honest → (slot_moment moment slot).is_honest
-      in_slot h = subst (λ (it : Option L). honest_in (λ l. (moment l).is_honest) slot.was.value it) (sym is) h
+-- a slot with a log in it is as honest as that
+module _ {L : Type 0} (moment : L → Moment) (slot : Slot L) (left : L) (is : log_held slot ≡ Some left) where
+  pub in_slot : (moment left).is_honest → (slot_moment moment slot).is_honest
+  in_slot h = subst (λ (it : Option L). honest_in (λ l. (moment l).is_honest) slot.was.value it) (sym is) h
 
-  pub over : (slot begun : Slot L) → begun ≡ slot → IsSome (log_held slot)
-      → ((slot_moment moment slot).is_honest → (moment log).is_honest)
-      → ((moment log).is_in_order → (slot_moment moment begun).is_honest → IsSomeAnd (moment log).content (StartsOver o))
-      → StartsOverLog moment log o
-  over slot begun same some honest starts = over_held slot begun (log_held slot) refl same some honest starts
+  pub out_of_slot : (slot_moment moment slot).is_honest → (moment left).is_honest
+  out_of_slot h = subst (λ (it : Option L). honest_in (λ l. (moment l).is_honest) slot.was.value it) is h
+
+-- a system that has just begun over a log
+module _ {R L : Type 0} (see : Observes R L) (log : L) (s : SystemView R L) (as_slot : see.place ≡ slot_moment see.moment) (same : s.begun ≡ s.log)
+    (handed : s.handed ≡ log) (honest : (slot_moment see.moment s.log).is_honest → (see.moment log).is_honest)
+    (starts : (see.moment log).is_in_order → (slot_moment see.moment s.begun).is_honest → IsSomeAnd (see.moment log).content (StartsOver (origin_in see.look s)))
+    (near : (see.moment log).is_in_order → (see.place s.log).is_honest → MayRestart see s) where
+  started_with : (held : Option L) → log_held s.log ≡ held → IsSome held → HasStarted see log s
+  started_with None is some = absurd (cc)
+  started_with (Some left) is some = record {
+    over = record {
+      left = left;
+      honest = λ h. honest (in_slot see.moment s.log left is h);
+      held = λ order h. starts order (subst (λ slot. (slot_moment see.moment slot).is_honest) (sym same) (in_slot see.moment s.log left is h));
+    };
+    is_left = is;
+    handed = handed;
+    near = near;
+  }
+
+  pub has_started : IsSome (log_held s.log) → HasStarted see log s
+  has_started some = started_with (log_held s.log) refl some
 
 -- a size that is right isn't wrong
 pub not_wrong : (threads rms : ℕ) → IsSize threads → IsSize rms → ¬ (HasWrongSize threads rms)

@@ -6,6 +6,7 @@ pub mod Endings
 pub mod Files
 pub mod Flags
 pub mod Headers
+pub mod LogKeeping
 pub mod StepTables
 pub mod Moves
 pub mod Plays

@@ -1,11 +1,11 @@
 -- Processes of the manager, one for each of several scenario files: what they do over the same resource managers and the
 -- same log, and what is printed of them.
-use Rattle.std.specs.Prelude.{◌≡◌, ◌↔◌, ◌≢◌, ◌⊎◌, ℕ, ◌+◌, Bool, true, nat_lt, if◌then◌else◌, List, [], ◌∷◌, ◌++◌, length, codes, Contains, Option, Some, None}
+use Rattle.std.specs.Prelude.{◌≡◌, ◌<◌, ◌↔◌, ◌⊎◌, ℕ, ◌+◌, Bool, if◌then◌else◌, List, [], ◌∷◌, ◌++◌, length, codes, All, Contains, Option, Some}
 use Rattle.std.specs.Fmt.{decimal}
 use Rattle.std.specs.Io.KnownBytes.{Appends, Keeps}
 use Rattle.std.specs.List.Sorted.{IsStrictlySortedBy}
 use Rattle.std.specs.Map.{keys_of}
-use Rattle.xa_base.specs.Branch.{xid_of_branch}
+use Rattle.xa_base.specs.Branch.{IsBranch, xid_of_branch}
 use Rattle.xa_base.specs.Xid.{Xid, xid_cmp}
 use Rattle.xa_base.specs.declared.branch.Branch.{Branch}
 use Rattle.xa_base.specs.declared.branch.Gtrid.{Gtrid}
@@ -17,6 +17,7 @@ use Rattle.xa_log.specs.Contract.{Moment}
 use Rattle.xa_model.specs.Facts.{fate, started}
 use Rattle.xa_model.specs.Promises.Headline.{Headline, HeadlineSince}
 use Rattle.xa_model.specs.Promises.Processes.{Resumes, joined, resumed}
+use Rattle.xa_model.specs.Protocol.{RightOrigin}
 use Rattle.xa_model.specs.Replies.History.{AreAllowed, history}
 use Rattle.xa_model.specs.Trace.{Origin, Trace}
 use Rattle.xa_scenario.specs.Plays.{IsPlay, Performs, gtrids_of}
@@ -51,6 +52,25 @@ abbrev pub Plays : Plan → (old new : List Gtrid) → (before after : List Even
 Plays plan old new before after =
     Performs (λ steps. IsPlay old plan.entries steps × (new ≡ old ++ gtrids_of steps)) before after
 
+-- the line in front of the trace of a process that is not the first
+abbrev pub heading : ℕ → List ℕ
+heading number = codes "process " ++ decimal number ++ codes "\n"
+
+-- a trace, where it is asked for
+abbrev pub shown : (with_trace : Bool) → List ℕ → List ℕ
+shown with_trace text = if with_trace then text else []
+
+-- what became of the branch of an identifier, if it is one of the process's threads and resource managers: as its resource
+-- manager has it in the end
+abbrev pub IsFateOf : Origin → List Event → Xid × Fate → Type 0
+IsFateOf o events line = (b : Branch) → IsBranch b → b.thread < o.threads → b.rm < o.rms → line.0 ≡ xid_of_branch b
+    → line.1 ≡ fate (history o events) b
+
+-- what became of these branches in the end
+pub record AreFates (o : Origin) (events : List Event) (names : List Xid) (fates : List (Xid × Fate)) : Type 0 where
+  pub names : keys_of fates ≡ names
+  pub each : All (IsFateOf o events) fates
+
 module _ {L : Type 0} (moment : L → Moment) where
   -- A process plays a plan over this log. Its system is as large as the plan says. What its log rests on was honest as it
   -- started where that is so of the log that it leaves, which is in order where this one is.
@@ -68,6 +88,7 @@ module _ {L : Type 0} (moment : L → Moment) where
   pub record IsFirst (log : L) (plan : Plan) (p : Process L) : Type 0 where
     pub is : IsProcess log [] [] plan p
     pub start : IsStartOf plan p.origin
+    pub right : RightOrigin p.origin
     pub headline : Headline p.origin p.events
 
   -- One behind another, where the first of all has started over this log. It starts over the log that the one before it has
@@ -82,10 +103,6 @@ module _ {L : Type 0} (moment : L → Moment) where
 
   -- ** processes in turn
 
-  -- the line in front of the trace of a process that is not the first
-  abbrev pub heading : ℕ → List ℕ
-  heading number = codes "process " ++ decimal number ++ codes "\n"
-
   -- The processes of these plans over a log, up to this last one: their whole history, each having resumed what was left
   -- before it, and the text of their traces.
   pub data AreProcesses (log : L) : List Plan → (whole : Trace) → (last : Process L) → (traces : List ℕ) → Type 0 where
@@ -97,3 +114,49 @@ module _ {L : Type 0} (moment : L → Moment) where
         → AreProcesses log plans past before traces → IsNext log past before plan p
         → AreProcesses log (plans ++ plan ∷ []) (joined past p.origin p.events) p
         (traces ++ (heading (length plans + 1) ++ trace_lines 1 p.events))
+
+  -- ** what is printed
+
+  -- the traces of processes of these plans, where they are asked for, and then what became of all their branches
+  pub record PrintsProcesses (log : L) (plans : List Plan) (with_trace : Bool) (old new : Option (List ℕ)) : Type 0 where
+    pub whole : Trace
+    pub last : Process L
+    pub traces : List ℕ
+    pub fates : List (Xid × Fate)
+    pub run : AreProcesses log plans whole last traces
+    pub told : AreFates last.origin last.events last.names fates
+    pub writes : Appends old new (shown with_trace traces ++ fate_lines fates)
+
+  -- a beginning of that
+  pub record BeginsProcesses (log : L) (plans : List Plan) (with_trace : Bool) (old new : Option (List ℕ)) : Type 0 where
+    pub whole : Trace
+    pub last : Process L
+    pub traces : List ℕ
+    pub fates : List (Xid × Fate)
+    pub run : AreProcesses log plans whole last traces
+    pub told : AreFates last.origin last.events last.names fates
+    pub begins : AppendsBeginning old new (shown with_trace traces ++ fate_lines fates)
+
+  -- these are the traces of processes of all these plans, where they are asked for; none is there where no plan is
+  abbrev pub HaveTraces : (log : L) → List Plan → (with_trace : Bool) → List ℕ → Type 0
+  HaveTraces log [] with_trace traces = traces ≡ []
+  HaveTraces log (plan ∷ plans) with_trace traces =
+      (whole : Trace) × (last : Process L) × (text : List ℕ) × AreProcesses log (plan ∷ plans) whole last text
+      × (traces ≡ shown with_trace text)
+
+  -- The first of the plans were processes, and these are their traces, where they are asked for.
+  pub record AreTraces (log : L) (plans : List Plan) (with_trace : Bool) (traces : List ℕ) : Type 0 where
+    pub first : List Plan
+    pub later : List Plan
+    pub are : first ++ later ≡ plans
+    pub traced : HaveTraces log first with_trace traces
+
+  -- Just the traces of the first of them were written.
+  abbrev pub StopsBetween : (log : L) → List Plan → (with_trace : Bool) → (old new : Option (List ℕ)) → Type 0
+  StopsBetween log plans with_trace old new = (traces : List ℕ) × AreTraces log plans with_trace traces × Appends old new traces
+
+  -- A beginning of these was written, or one of all that is to be printed.
+  abbrev pub StopsAnywhere : (log : L) → List Plan → (with_trace : Bool) → (old new : Option (List ℕ)) → Type 0
+  StopsAnywhere log plans with_trace old new =
+      ((traces : List ℕ) × AreTraces log plans with_trace traces × AppendsBeginning old new traces)
+      ⊎ BeginsProcesses log plans with_trace old new

@@ -1,6 +1,6 @@
 //! Scenario files that are read one after another, each for a process of one system.
 
-ghost use Rattle.std.specs.Prelude.{◌≡◌, ◌⊎◌, Err, IfErr, IfOk, Ok, map};
+ghost use Rattle.std.specs.Prelude.{◌≡◌, ◌⊎◌, Err, IfErr, IfOk, Ok, Some, true, map};
 ghost use Rattle.xa_files.specs.Reading.{Fails};
 ghost use Rattle.xa_files.specs.declared.fault.RunFault.TheVariants.{Memory};
 ghost use Rattle.xa_scenario.specs.Files.{AreAlike, earlier_of, file_after, is_alike, scenarios_of};
@@ -44,6 +44,10 @@ fn read_after(alloc: Global, before: &mut Before, text: &[u8]) -> Result<Scenari
     ensures read { IfOk result (λ scenario. file_after (earlier_of before.old) text.now
         ≡ Ok (plan_of scenario, earlier_of before.new)) }
     ensures sized { IfOk result (λ scenario. IsSized (plan_of scenario)) }
+    ensures size { IfOk result (λ scenario. before.new.size
+        ≡ Some (scenario.threads, scenario.rms)) }
+    ensures alike { IfOk result (λ scenario. is_alike before.old.size scenario.threads scenario.rms
+        ≡ true) }
     ensures fault { IfErr result (λ e. Fails e (file_after (earlier_of before.old) text.now)) }
 {
     let document = document_of(alloc, text)?;

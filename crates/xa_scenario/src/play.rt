@@ -3,7 +3,8 @@
 ghost use Rattle.std.specs.Prelude.{◌≡◌, ◌||◌, ◌∷◌, ◌++◌, [], OnOk};
 ghost use Rattle.std.specs.Option.{option_to_list};
 ghost use Rattle.xa_scenario.specs.Plays.{HaveSteps, IsAnswered, IsDrain, IsPlay, MakesEvents, Performs, events_after, gtrids_of, moves};
-ghost use Rattle.xa_system.specs.SystemView.{origin_in};
+ghost use Rattle.xa_scenario.specs.LogKeeping.{KeepsLog};
+ghost use Rattle.xa_system.specs.SystemView.{observes, origin_in};
 ghost use Rattle.xa_system.specs.RmInHistory.{looks};
 
 use crate::entry::Entry;
@@ -24,6 +25,8 @@ fn act<R: ResourceManager + Drop, L: DecisionLog + Drop>(
         ≡ events_after system.old.events (record { step = step; reply = result }) }
     ensures start { origin_in (looks R.held_of R.scan_of R.in_doubt_of) system.new
         ≡ origin_in (looks R.held_of R.scan_of R.in_doubt_of) system.old }
+    ensures log { KeepsLog (observes R.held_of R.scan_of R.in_doubt_of L.moment) system.old
+        system.new }
 {
     system.step(step)
 }
@@ -51,6 +54,8 @@ fn drain<R: ResourceManager + Drop, L: DecisionLog + Drop>(
     ensures performs { Performs (IsDrain thread rm) system.old.events system.new.events }
     ensures start { origin_in (looks R.held_of R.scan_of R.in_doubt_of) system.new
         ≡ origin_in (looks R.held_of R.scan_of R.in_doubt_of) system.old }
+    ensures log { KeepsLog (observes R.held_of R.scan_of R.in_doubt_of L.moment) system.old
+        system.new }
 {
     'pairs: loop {
         let took = act(system, Step::Take { thread, rm });
@@ -71,6 +76,8 @@ fn play_step<R: ResourceManager + Drop, L: DecisionLog + Drop>(
         system.old.events system.new.events }
     ensures start { origin_in (looks R.held_of R.scan_of R.in_doubt_of) system.new
         ≡ origin_in (looks R.held_of R.scan_of R.in_doubt_of) system.old }
+    ensures log { KeepsLog (observes R.held_of R.scan_of R.in_doubt_of L.moment) system.old
+        system.new }
 {
     let is_begin = begins(&step);
     let reply = act(system, step);
@@ -89,6 +96,8 @@ fn play_entry<R: ResourceManager + Drop, L: DecisionLog + Drop>(
         system.old.events system.new.events }
     ensures start { origin_in (looks R.held_of R.scan_of R.in_doubt_of) system.new
         ≡ origin_in (looks R.held_of R.scan_of R.in_doubt_of) system.old }
+    ensures log { KeepsLog (observes R.held_of R.scan_of R.in_doubt_of L.moment) system.old
+        system.new }
 {
     match *entry {
         Entry::Call {
@@ -120,6 +129,8 @@ pub fn play<R: ResourceManager + Drop, L: DecisionLog + Drop>(
         system.old.events system.new.events) }
     ensures start { origin_in (looks R.held_of R.scan_of R.in_doubt_of) system.new
         ≡ origin_in (looks R.held_of R.scan_of R.in_doubt_of) system.old }
+    ensures log { KeepsLog (observes R.held_of R.scan_of R.in_doubt_of L.moment) system.old
+        system.new }
 {
     for entry in entries {
         if let Some(gtrid) = play_entry(system, gtrids, entry) {

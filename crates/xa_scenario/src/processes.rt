@@ -1,5 +1,18 @@
 //! Several scenarios, each a process of the manager over what the one before it has left.
 
+ghost use Rattle.std.specs.Prelude.{◌≡◌, ◌≢◌, ◌⊎◌, ◌++◌, [], length, map, Err, IfErr, IfOk, OnOk};
+ghost use Rattle.std.specs.Io.KnownBytes.{Keeps};
+ghost use Rattle.std.specs.String.{string_bytes};
+ghost use Rattle.xa_files.specs.declared.fault.RunFault.TheVariants.{Log, Memory, Output};
+ghost use Rattle.xa_scenario.specs.Files.{AreAlike};
+ghost use Rattle.xa_scenario.specs.LogKeeping.{HasGoneOn, KeepsLog};
+ghost use Rattle.xa_scenario.specs.Processes.{AddsStarted, AreFates, Plays, PrintsProcesses, StopsAnywhere, StopsBetween, heading, shown};
+ghost use Rattle.xa_scenario.specs.Replies.{trace_lines};
+ghost use Rattle.xa_scenario.specs.Runs.{IsStartFault};
+ghost use Rattle.xa_scenario.specs.Scenarios.{plan_of};
+ghost use Rattle.xa_system.specs.RmInHistory.{looks};
+ghost use Rattle.xa_system.specs.SystemView.{HasWrongSize, observes, origin_in, trace_in};
+
 use crate::document::Scenario;
 use crate::play::play;
 use crate::replies::trace_lines;
@@ -12,20 +25,45 @@ use xa_log::DecisionLog;
 use xa_rm::ResourceManager;
 use xa_system::{ResumeFault, System};
 
-/// The trace of the process of a number, behind its heading where it isn't the first; nothing where no trace is asked for.
-fn process_text(
+/// The trace of a process, where it is asked for.
+fn trace_text(alloc: Global, with_trace: bool, events: &[Event]) -> Result<String, RunFault>
+    ensures text { IfOk result (λ text. string_bytes text
+        ≡ shown with_trace (trace_lines 1 events.now)) }
+    ensures fault { IfErr result (λ e. e ≡ Memory) }
+{
+    if with_trace {
+        trace_lines(alloc, events)
+    } else {
+        Ok(String::new(alloc))
+    }
+}
+
+/// The same behind the heading of the process of a number.
+fn next_text(
     alloc: Global,
     number: usize,
     with_trace: bool,
     events: &[Event],
-) -> Result<String, RunFault> {
-    if !with_trace {
-        return Ok(String::new(alloc));
+) -> Result<String, RunFault>
+    ensures text { IfOk result (λ text. string_bytes text
+        ≡ shown with_trace (heading number ++ trace_lines 1 events.now)) }
+    ensures fault { IfErr result (λ e. e ≡ Memory) }
+{
+    if with_trace {
+        headed(alloc, number, events)
+    } else {
+        Ok(String::new(alloc))
     }
+}
+
+/// A trace behind the heading of the process of a number.
+#[tactic(auto, using(crate::proofs::LineLemmas::four_pieces))]
+fn headed(alloc: Global, number: usize, events: &[Event]) -> Result<String, RunFault>
+    ensures text { IfOk result (λ text. string_bytes text
+        ≡ heading number ++ trace_lines 1 events.now) }
+    ensures fault { IfErr result (λ e. e ≡ Memory) }
+{
     let lines = trace_lines(alloc, events)?;
-    if number == 1 {
-        return Ok(lines);
-    }
     Ok(format!(in alloc; "process {number}\n{lines}")?)
 }
 
@@ -34,7 +72,12 @@ fn add_started<R: ResourceManager + Drop, L: DecisionLog + Drop>(
     alloc: Global,
     system: &System<R, L>,
     names: &mut Vec<Xid>,
-) -> Result<(), RunFault> {
+) -> Result<(), RunFault>
+    ensures added { OnOk result (AddsStarted
+        (trace_in (looks R.held_of R.scan_of R.in_doubt_of) system.now) names.old.items
+        names.new.items) }
+    ensures fault { IfErr result (λ e. e ≡ Memory) }
+{
     let report = system.report(alloc)?;
     for (xid, _) in report {
         names.push(xid)?;
@@ -47,7 +90,12 @@ fn fates_of<R: ResourceManager + Drop, L: DecisionLog + Drop>(
     alloc: Global,
     system: &System<R, L>,
     names: Vec<Xid>,
-) -> Result<Vec<(Xid, Fate)>, RunFault> {
+) -> Result<Vec<(Xid, Fate)>, RunFault>
+    ensures fates { IfOk result (λ fates. AreFates
+        (origin_in (looks R.held_of R.scan_of R.in_doubt_of) system.now) system.now.events
+        names.items fates.items) }
+    ensures fault { IfErr result (λ e. e ≡ Memory) }
+{
     let mut fates = Vec::new(alloc);
     for xid in names {
         let fate = system.fate(&xid);
@@ -61,7 +109,15 @@ fn next_system<R: ResourceManager + Drop, L: DecisionLog + Drop>(
     alloc: Global,
     threads: u32,
     system: System<R, L>,
-) -> Result<System<R, L>, RunFault> {
+) -> Result<System<R, L>, RunFault>
+    requires sized { HasWrongSize threads (length system.rms) → ⊥ }
+    ensures empty { IfOk result (λ next. next.events ≡ []) }
+    ensures threads { IfOk result (λ next. next.lines.threads ≡ threads) }
+    ensures rms { IfOk result (λ next. length next.start ≡ length system.rms) }
+    ensures goes_on { IfOk result (HasGoneOn
+        (observes R.held_of R.scan_of R.in_doubt_of L.moment) system) }
+    ensures fault { IfErr result IsStartFault }
+{
     let Ok(remains) = system.into_parts() else {
         return Err(RunFault::Memory);
     };
@@ -73,6 +129,7 @@ fn next_system<R: ResourceManager + Drop, L: DecisionLog + Drop>(
         Err(ResumeFault::Memory) => Err(RunFault::Memory),
         // Where a resource manager holds a branch that is newer than the log, that has lost what it had.
         Err(ResumeFault::Log | ResumeFault::Newer) => Err(RunFault::Log),
+        // As many resource managers are left as there were.
         Err(ResumeFault::Limit) => unreachable!(),
     }
 }
@@ -84,27 +141,57 @@ struct Known {
     names: Vec<Xid>,
 }
 
-/// Plays a scenario at a system that has just started, and gives the text of its trace.
+/// Plays a scenario at a system that has just started.
 fn play_process<R: ResourceManager + Drop, L: DecisionLog + Drop>(
     alloc: Global,
     system: &mut System<R, L>,
     known: &mut Known,
     scenario: &Scenario,
-) -> Result<(), RunFault> {
+) -> Result<(), RunFault>
+    ensures played { OnOk result (Plays (plan_of scenario.now) known.old.gtrids.items
+        known.new.gtrids.items system.old.events system.new.events) }
+    ensures started { OnOk result (AddsStarted
+        (trace_in (looks R.held_of R.scan_of R.in_doubt_of) system.new) known.old.names.items
+        known.new.names.items) }
+    ensures start { origin_in (looks R.held_of R.scan_of R.in_doubt_of) system.new
+        ≡ origin_in (looks R.held_of R.scan_of R.in_doubt_of) system.old }
+    ensures log { KeepsLog (observes R.held_of R.scan_of R.in_doubt_of L.moment) system.old
+        system.new }
+    ensures fault { IfErr result (λ e. e ≡ Memory) }
+{
     play(system, &mut known.gtrids, &scenario.entries)?;
-    add_started(alloc, system, &mut known.names)?;
-    Ok(())
+    add_started(alloc, system, &mut known.names)
 }
 
 /// Runs scenarios, each as a process of the manager: the first at new resource managers and over a decision log, and
-/// each later one over the resource managers and the log that the one before it has left.
+/// each later one over the resource managers and the log that the one before it has left. It prints their traces, where
+/// they are asked for, each but the first behind a line with its number; and then a line for each branch whose xa_start
+/// was accepted, those of the first process first and each process's in the order of their identifiers. No scenario
+/// prints nothing.
+///
+/// Log comes where a process can't be started over its log; that is so too where a resource manager holds a branch that
+/// is newer than the log, which has lost what it had. Memory comes where a request was refused outside of a step. Either
+/// leaves the traces of the processes before it. Output comes where a write failed: what was written before it is a
+/// beginning of what is printed otherwise.
 pub fn run_scenarios<L: DecisionLog + Drop, W: Write>(
     alloc: Global,
     scenarios: &[Scenario],
     log: L,
     with_trace: bool,
     out: &mut W,
-) -> Result<(), RunFault> {
+) -> Result<(), RunFault>
+    requires alike { AreAlike (map plan_of scenarios.now) }
+    // What is printed is a run of them in turn, from this log on.
+    ensures ok { OnOk result ((scenarios.now ≡ []) ⊎ PrintsProcesses L.moment log
+        (map plan_of scenarios.now) with_trace (W.contents out.old) (W.contents out.new)) }
+    ensures none { scenarios.now ≡ [] → Keeps (W.contents out.old) (W.contents out.new) }
+    // Why it ends early, and what is printed then.
+    ensures fault { IfErr result (λ e. IsStartFault e ⊎ (e ≡ Output)) }
+    ensures stopped { IfErr result (λ e. e ≢ Output → StopsBetween L.moment log
+        (map plan_of scenarios.now) with_trace (W.contents out.old) (W.contents out.new)) }
+    ensures begun { result ≡ Err Output → StopsAnywhere L.moment log
+        (map plan_of scenarios.now) with_trace (W.contents out.old) (W.contents out.new) }
+{
     let Some((first, later)) = scenarios.split_first() else {
         return Ok(());
     };
@@ -115,12 +202,12 @@ pub fn run_scenarios<L: DecisionLog + Drop, W: Write>(
     let rms = rms_of(alloc, first.rms)?;
     let mut system = system_of(alloc, first, rms, log)?;
     play_process(alloc, &mut system, &mut known, first)?;
-    let mut text = process_text(alloc, 1, with_trace, system.trace())?;
+    let mut text = trace_text(alloc, with_trace, system.trace())?;
     for (i, scenario) in later.iter().enumerate() {
         write_text(text.as_bytes(), out)?;
         system = next_system(alloc, scenario.threads, system)?;
         play_process(alloc, &mut system, &mut known, scenario)?;
-        text = process_text(alloc, i + 2, with_trace, system.trace())?;
+        text = next_text(alloc, i + 2, with_trace, system.trace())?;
     }
     let fates = fates_of(alloc, &system, known.names)?;
     push_fates(&mut text, alloc, &fates)?;

@@ -7,9 +7,10 @@ ghost use Rattle.xa_files.specs.Reading.{EndsWith, Explains};
 ghost use Rattle.xa_files.specs.declared.fault.RunFault.{RunFault};
 ghost use Rattle.xa_files.specs.declared.fault.RunFault.TheVariants.{Log, Memory, Output, Work};
 ghost use Rattle.xa_model.specs.Protocol.{RightOrigin};
-ghost use Rattle.xa_scenario.specs.Runs.{Begins, BeginsCheck, BeginsRun, IsNewRm, IsStartFault, IsStartOf, StartsOverLog, IsTextOf, Prints, PrintsCheck, PrintsRun};
+ghost use Rattle.xa_scenario.specs.LogKeeping.{HasStarted};
+ghost use Rattle.xa_scenario.specs.Runs.{Begins, BeginsCheck, BeginsRun, IsNewRm, IsStartFault, IsStartOf, IsTextOf, Prints, PrintsCheck, PrintsRun};
 ghost use Rattle.xa_scenario.specs.Scenarios.{IsSized, plan_of, scenario_of};
-ghost use Rattle.xa_system.specs.SystemView.{origin_in};
+ghost use Rattle.xa_system.specs.SystemView.{observes, origin_in};
 ghost use Rattle.xa_system.specs.RmInHistory.{looks};
 ghost use Rattle.xa_system.specs.StartFaults.{IsToBlame};
 
@@ -54,8 +55,8 @@ pub fn system_of<R: ResourceManager + Drop, L: DecisionLog + Drop>(
         (origin_in (looks R.held_of R.scan_of R.in_doubt_of) system)) }
     ensures right { IfOk result (λ system.
         RightOrigin (origin_in (looks R.held_of R.scan_of R.in_doubt_of) system)) }
-    ensures over { IfOk result (λ system. StartsOverLog L.moment log
-        (origin_in (looks R.held_of R.scan_of R.in_doubt_of) system)) }
+    ensures over { IfOk result (HasStarted
+        (observes R.held_of R.scan_of R.in_doubt_of L.moment) log) }
     // Why there is none.
     ensures log { result ≡ Err Log → IsToBlame L.DecisionLog log }
     ensures fault { IfErr result IsStartFault }

@@ -2,11 +2,13 @@
 use Rattle.std.specs.Prelude.{ℕ}
 use Rattle.xa_files.specs.Faults.{fault_status}
 use Rattle.xatm.specs.declared.failure.Failure.{Failure}
-use Rattle.xatm.specs.declared.failure.Failure.TheVariants.{CommandLine, Words, NotReadable, Run}
+use Rattle.xatm.specs.declared.failure.Failure.TheVariants.{CommandLine, Words, NotReadable, NotReadableAt, Run, RunAt}
 
 -- 3 where the command line is refused, 1 where the file can't be read, else the status of the fault
 abbrev pub failure_status : Failure → ℕ
 failure_status (CommandLine error) = 3
 failure_status Words = 3
 failure_status NotReadable = 1
+failure_status (NotReadableAt path) = 1
 failure_status (Run fault) = fault_status fault
+failure_status (RunAt fault path) = fault_status fault

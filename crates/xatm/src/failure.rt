@@ -4,7 +4,7 @@ ghost use Rattle.std.specs.Prelude.{◌≡◌};
 ghost use Rattle.xa_files.specs.declared.fault.RunFault.TheVariants as Faults;
 ghost use Rattle.xatm.specs.declared.failure.Failure.TheVariants.{Run};
 
-use std::alloc::AllocError;
+use std::alloc::{AllocError, AllocFailed};
 use std::io;
 use std::io::ErrorKind;
 use xa_files::RunFault;
@@ -20,8 +20,12 @@ pub enum Failure {
     Words,
     /// The file can't be read.
     NotReadable,
+    /// The same of the file at this path, one of several.
+    NotReadableAt(String),
     /// The work on the file ended early.
     Run(RunFault),
+    /// The file at this path, one of several, is refused.
+    RunAt(RunFault, String),
 }
 
 impl Failure {
@@ -40,6 +44,17 @@ impl Failure {
         }
     }
 
+    /// This failure, with the path of the file that is refused, where it is one.
+    pub fn at(self, path: String) -> Failure
+        ensures { failure_status result ≡ failure_status self }
+    {
+        match self {
+            Failure::NotReadable => Failure::NotReadableAt(path),
+            Failure::Run(fault) if fault.status() == 1 => Failure::RunAt(fault, path),
+            other => other,
+        }
+    }
+
     /// The status that the program ends with: 1 where the file is refused, 2 where the work on it fails, 3 where the
     /// command line is refused.
     pub fn status(&self) -> u8
@@ -48,7 +63,8 @@ impl Failure {
         match self {
             Failure::CommandLine(_) | Failure::Words => 3,
             Failure::NotReadable => 1,
-            Failure::Run(fault) => fault.status(),
+            Failure::NotReadableAt(_) => 1,
+            Failure::Run(fault) | Failure::RunAt(fault, _) => fault.status(),
         }
     }
 
@@ -58,7 +74,9 @@ impl Failure {
             Failure::CommandLine(error) => error.print(rt),
             Failure::Words => eprintln!(rt; "xatm: command line"),
             Failure::NotReadable => eprintln!(rt; "xatm: scenario: not readable"),
+            Failure::NotReadableAt(path) => eprintln!(rt; "xatm: scenario: not readable: {path}"),
             Failure::Run(fault) => eprintln!(rt; "{fault}"),
+            Failure::RunAt(fault, path) => eprintln!(rt; "{fault}: {path}"),
         }
     }
 }
@@ -75,6 +93,14 @@ impl From<AllocError> for Failure {
     ghost from_gives = { λ _ failure. failure ≡ Run Faults.Memory };
 
     fn from(_error: AllocError) -> Failure {
+        Failure::Run(RunFault::Memory)
+    }
+}
+
+impl<T: Drop> From<AllocFailed<T>> for Failure {
+    ghost from_gives = { λ _ failure. failure ≡ Run Faults.Memory };
+
+    fn from(_error: AllocFailed<T>) -> Failure {
         Failure::Run(RunFault::Memory)
     }
 }

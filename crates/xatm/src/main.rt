@@ -63,10 +63,10 @@ fn perform<T: Threads + Wait + Clock + Sync>(
     let mut out = io::writer(rt);
     match command {
         Command::Run {
-            file,
+            files,
             log,
             with_trace,
-        } => run(rt, &text_of(rt, file)?, log, with_trace, &mut out),
+        } => run(rt, files, log, with_trace, &mut out),
         Command::Check { file } => Ok(check_scenario(rt.alloc(), &text_of(rt, file)?, &mut out)?),
         Command::Threads { file, log } => run_threads(
             rt,
@@ -84,26 +84,59 @@ fn text_of(rt: &HostRuntime, file: &str) -> Result<Vec<u8>, Failure> {
     fs::read(rt, file).map_err(|error| Failure::NotReadable.caused_by(&error))
 }
 
-/// Runs a scenario over the log at a path, or over one in memory. The log is opened before the text is read as a
-/// scenario.
+/// What each of some files holds.
+fn texts_of(rt: &HostRuntime, files: &[&str]) -> Result<Vec<Vec<u8>>, Failure> {
+    let mut texts = Vec::new(rt.alloc());
+    for file in files {
+        let text = text_of(rt, file).map_err(|failure| in_file(rt, files, file, failure))?;
+        texts.push(text)?;
+    }
+    Ok(texts)
+}
+
+/// The failure of a file: where it is one of several, its path is told.
+fn in_file(rt: &HostRuntime, files: &[&str], path: &str, failure: Failure) -> Failure {
+    if files.len() < 2 {
+        return failure;
+    }
+    match String::from_str(rt.alloc(), path) {
+        Ok(path) => failure.at(path),
+        Err(error) => Failure::from(error),
+    }
+}
+
+/// Runs the scenarios in files over the log at a path, or over one in memory. All files are read before the log is
+/// opened, and that before their texts are read as scenarios.
 fn run<W: Write>(
     rt: &HostRuntime,
-    text: &[u8],
+    files: &[&str],
     log: Option<&str>,
     with_trace: bool,
     out: &mut W,
 ) -> Result<(), Failure> {
     let alloc = rt.alloc();
-    match log {
+    let texts = texts_of(rt, files)?;
+    let ran = match log {
         Some(path) => {
-            let ran = run_in_files(alloc, text, SqlLog::open(rt, path)?, with_trace, out);
+            let ran = run_in_files(alloc, &texts, SqlLog::open(rt, path)?, with_trace, out);
             let gathered = gather(rt, path);
-            ran?;
-            gathered?;
+            if ran.is_ok() {
+                gathered?;
+            }
+            ran
         }
-        None => run_over(alloc, text, SqlLog::open_in_memory(alloc)?, with_trace, out)?,
+        None => run_over(alloc, &texts, SqlLog::open_in_memory(alloc)?, with_trace, out),
+    };
+    match ran {
+        Ok(()) => Ok(()),
+        Err(fault) => {
+            let failure = Failure::Run(fault.fault);
+            Err(match files.get(fault.file) {
+                Some(path) => in_file(rt, files, path, failure),
+                None => failure,
+            })
+        }
     }
-    Ok(())
 }
 
 /// Runs the jobs of a file over the log at a path, or over one in memory. The log is opened before the text is read

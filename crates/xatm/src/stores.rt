@@ -13,29 +13,36 @@ use xa_files::RunFault;
 use xa_jobs::run_job_file;
 use xa_listing::list_log;
 use xa_log::LogFault;
-use xa_scenario::run_scenario;
+use xa_scenario::{FileFault, read_scenarios, run_scenarios};
 use xa_sql_log::SqlLog;
 
-/// Runs a scenario.
+/// Runs scenarios, each as a process. A fault that is none of a file is given the place behind the last one.
 pub(crate) fn run_over<S: Alter + Drop, W: Write>(
     alloc: Global,
-    text: &[u8],
+    texts: &[Vec<u8>],
     log: SqlLog<S>,
     with_trace: bool,
     out: &mut W,
-) -> Result<(), RunFault> {
-    run_scenario(alloc, text, log, with_trace, out)
+) -> Result<(), FileFault> {
+    let scenarios = read_scenarios(alloc, texts)?;
+    match run_scenarios(alloc, &scenarios, log, with_trace, out) {
+        Ok(()) => Ok(()),
+        Err(fault) => Err(FileFault {
+            file: texts.len(),
+            fault,
+        }),
+    }
 }
 
 /// The same over files.
 pub(crate) fn run_in_files<D: Disk + Drop, W: Write>(
     alloc: Global,
-    text: &[u8],
+    texts: &[Vec<u8>],
     log: SqlLog<FileStore<D>>,
     with_trace: bool,
     out: &mut W,
-) -> Result<(), RunFault> {
-    run_over(alloc, text, log, with_trace, out)
+) -> Result<(), FileFault> {
+    run_over(alloc, texts, log, with_trace, out)
 }
 
 /// Runs the jobs of a file.

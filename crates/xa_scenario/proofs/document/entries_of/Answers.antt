@@ -1,4 +1,4 @@
-use Rattle.std.proofs.Common.{◌≡◌, ◌+◌, ◌++◌, ◌∷◌, [], map, ap, sym, ◌∙◌}
+use Rattle.std.proofs.Common.{◌≡◌, ◌+◌, ◌++◌, ◌∷◌, [], map, ap, string_bytes, sym, ◌∙◌}
 use Rattle.std.proofs.lemmas.Result.{err_from_is_err_and}
 use Rattle.std.proofs.lemmas.List.{map_push}
 use Rattle.toml.specs.View.{view, items_view}
@@ -10,8 +10,8 @@ use Rattle.xa_scenario.proofs.document.entries_of.Goals.{in-Some+in_ok-push-2, i
 
 pub returns-in_err-entry_at : goal.returns-in_err-entry_at
 returns-in_err-entry_at c =
-    let p = err_from_is_err_and c.from_residual.result c.from_residual.ensures.1 in
-    let all = entries_from 1 [] (items_view c.args.items.now) in
+    let p = err_from_is_err_and c.from_residual-in_err-entry_at.result c.from_residual-in_err-entry_at.ensures.1 in
+    let all = entries_from 1 (map string_bytes c.args.names.now) (items_view c.args.items.now) in
     rw (p.1, p.2) (fails c.in_err-entry_at.field-0.0 all
     (stops c.loop-i.entries.items c.in_err-entry_at.field-0.0 (c.loop-i.i + 1)
     (map (λ name. name.now) c.loop-i.begun.items) c.args.items.now c.loop-i.i c.index-items-i.result all
@@ -28,10 +28,10 @@ loop-i-preserved c =
       | in_default w ↦ names_after-none names value (sym w.in_default.ensures) ∙ ap (λ names. map (λ name. name.now) names.items) (sym w.begun-is)
     ] in
     rw (grown, ← begun) (goes_on c.loop-i.entries.items c.in_ok-entry_at.field-0 (c.loop-i.i + 1) names c.args.items.now c.loop-i.i c.index-items-i.result
-    (entries_from 1 [] (items_view c.args.items.now))
+    (entries_from 1 (map string_bytes c.args.names.now) (items_view c.args.items.now))
     c.loop-i-test.true c.index-items-i.is (rw (← c.deref.ensures.value) (sym c.in_ok-entry_at.ensures)) c.loop-i.invariant)
 
 pub returns : goal.returns
 returns c =
     ends c.loop-i.entries.items (c.loop-i.i + 1) (map (λ name. name.now) c.loop-i.begun.items) c.args.items.now c.loop-i.i
-    (entries_from 1 [] (items_view c.args.items.now)) c.loop-i-test.false c.loop-i.invariant
+    (entries_from 1 (map string_bytes c.args.names.now) (items_view c.args.items.now)) c.loop-i-test.false c.loop-i.invariant

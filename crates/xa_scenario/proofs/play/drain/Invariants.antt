@@ -1,7 +1,8 @@
 use Rattle.std.proofs.Common.{◌≡◌, ◌-◌, length}
 use Rattle.xa_scenario.specs.Plays.{IsDrain}
 use Rattle.xa_scenario.proofs.PlayLemmas.{GoesOn}
-use Rattle.xa_system.specs.SystemView.{origin_in}
+use Rattle.xa_scenario.specs.LogKeeping.{KeepsLog}
+use Rattle.xa_system.specs.SystemView.{observes, origin_in}
 use Rattle.xa_system.specs.RmInHistory.{looks}
 use Rattle.xa_scenario.proofs.play.drain.Given as goal
 
@@ -10,6 +11,8 @@ invariant-pairs g l = record {
   goes_on : GoesOn (IsDrain l.thread l.rm) l.fn.system.events l.system.events;
   start : origin_in (looks g.R.ResourceManager.held_of g.R.ResourceManager.scan_of g.R.ResourceManager.in_doubt_of) l.system
       ≡ origin_in (looks g.R.ResourceManager.held_of g.R.ResourceManager.scan_of g.R.ResourceManager.in_doubt_of) l.fn.system;
+  log : KeepsLog (observes g.R.ResourceManager.held_of g.R.ResourceManager.scan_of g.R.ResourceManager.in_doubt_of g.L.DecisionLog.moment)
+      l.fn.system l.system;
 }
 
 abbrev pub decreases-pairs : goal.decreases-pairs

@@ -1,6 +1,7 @@
 use Rattle.std.proofs.Common.{refl}
 use Rattle.xa_base.specs.declared.step.Step.TheVariants as steps
 use Rattle.xa_scenario.proofs.PlayLemmas.{three, performs_also, drain_names_none}
+use Rattle.xa_scenario.proofs.KeepingLemmas.{twice}
 use Rattle.xa_scenario.proofs.play.play_entry.Goals as goal
 
 pub returns-in-Call-clause-performs : goal.returns-in-Call-clause-performs
@@ -17,3 +18,8 @@ returns-in-Call-clause-performs g c =
 pub returns-in-Drain-clause-performs : goal.returns-in-Drain-clause-performs
 returns-in-Drain-clause-performs g c =
     performs_also (λ here h. (rw c.in-Drain.is h, drain_names_none c.in-Drain.thread c.in-Drain.rm here h)) c.drain.ensures.performs
+
+pub returns-in-Call-clause-log : goal.returns-in-Call-clause-log
+returns-in-Call-clause-log g c =
+    twice c.args.system.now c.act-issued.new.system c.act-took.new.system c.act-heard.new.system c.act-issued.ensures.log c.act-took.ensures.log
+    c.act-heard.ensures.log

@@ -4,6 +4,7 @@ use Rattle.xa_model.specs.Protocol.{RightOrigin}
 use Rattle.xa_scenario.specs.Plays.{IsPlay, Performs}
 use Rattle.xa_scenario.specs.Runs.{IsRunOf, IsTextOf}
 use Rattle.xa_scenario.specs.Scenarios.{plan_of}
+use Rattle.xa_scenario.proofs.PlayLemmas.{performs_also}
 use Rattle.xa_scenario.proofs.RunLemmas.{is_run, on_output_of}
 use Rattle.xa_system.specs.SystemView.{origin_in}
 use Rattle.xa_system.specs.RmInHistory.{looks}
@@ -15,7 +16,8 @@ returns-clause-prints g c =
     let contents = g.W.Write.contents in
     let plan = plan_of c.args.scenario.now in
     let system = c.play.new.system in
-    let played = subst (λ entries. Performs (IsPlay [] entries) c.args.system.events system.events) c.deref.ensures.value c.in_ok-play.ensures.performs in
+    let played = subst (λ entries. Performs (IsPlay [] entries) c.args.system.events system.events) c.deref.ensures.value
+    (performs_also (λ steps h. h.0) c.in_ok-play.ensures.performs) in
     let start = origin_in look c.args.system in
     let headline = c.agree.ensures.headline (subst RightOrigin (sym c.in_ok-play.ensures.start) c.requires.right) in
     let run : IsRunOf plan start system.events =
@@ -37,7 +39,8 @@ returns-clause-begun g c =
     let contents = g.W.Write.contents in
     let plan = plan_of c.args.scenario.now in
     let system = c.play.new.system in
-    let played = subst (λ entries. Performs (IsPlay [] entries) c.args.system.events system.events) c.deref.ensures.value c.in_ok-play.ensures.performs in
+    let played = subst (λ entries. Performs (IsPlay [] entries) c.args.system.events system.events) c.deref.ensures.value
+    (performs_also (λ steps h. h.0) c.in_ok-play.ensures.performs) in
     let start = origin_in look c.args.system in
     let headline = c.agree.ensures.headline (subst RightOrigin (sym c.in_ok-play.ensures.start) c.requires.right) in
     let run : IsRunOf plan start system.events =

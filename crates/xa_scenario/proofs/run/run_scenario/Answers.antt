@@ -35,8 +35,8 @@ returns-clause-log g c = not_log c.run.result _ c.run.ensures.fault
 
 pub returns-clause-ok : goal.returns-clause-ok
 returns-clause-ok g c =
-    on_ok_weaker c.run.result (λ run. prints_text _ _ _ _ _ _ _ _ c.in_ok-scenario.ensures.read c.in_ok-system.ensures.over run) c.run.ensures.prints
+    on_ok_weaker c.run.result (λ run. prints_text _ _ _ _ _ _ _ _ c.in_ok-scenario.ensures.read c.in_ok-system.ensures.over.over run) c.run.ensures.prints
 
 pub returns-clause-begun : goal.returns-clause-begun
 returns-clause-begun g c =
-    on_output c.run.result _ _ (λ run. begins_text _ _ _ _ _ _ _ _ c.in_ok-scenario.ensures.read c.in_ok-system.ensures.over run) c.run.ensures.begun
+    on_output c.run.result _ _ (λ run. begins_text _ _ _ _ _ _ _ _ c.in_ok-scenario.ensures.read c.in_ok-system.ensures.over.over run) c.run.ensures.begun

@@ -1,9 +1,9 @@
-use Rattle.std.proofs.Common.{◌≡◌, All, Err, IsSomeAnd, ap, arith, length, rules, slice_get, subst, sym}
-use Rattle.xa_scenario.proofs.StartLemmas.{new_at, none_in_doubt, none_open, not_wrong, over, unstarted}
+use Rattle.std.proofs.Common.{◌≡◌, All, Err, IsSomeAnd, ap, arith, length, refl, rules, slice_get, subst, sym}
+use Rattle.xa_scenario.proofs.StartLemmas.{new_at, none_in_doubt, none_open, not_wrong, has_started, unstarted}
 use Rattle.xa_scenario.specs.Runs.{IsNewRm}
 use Rattle.xa_scenario.proofs.run.system_of.Goals as goal
 use Rattle.xa_system.specs.LogInHistory.{StartsOver}
-use Rattle.xa_system.specs.SystemView.{HasWrongSize, origin_in}
+use Rattle.xa_system.specs.SystemView.{HasWrongSize, observes, origin_in}
 use Rattle.xa_system.specs.RmInHistory.{looks}
 use Rattle.xa_system.specs.declared.system.NewFault.TheVariants as faults
 
@@ -25,10 +25,12 @@ returns-in-Ok-clause-over g c =
     let look = looks g.R.ResourceManager.held_of g.R.ResourceManager.scan_of g.R.ResourceManager.in_doubt_of in
     let moment = g.L.DecisionLog.moment in
     let system = c.in-Ok.system in
-    over moment c.args.log (origin_in look system) system.log system.begun c.in-Ok.ensures.held.0 c.in-Ok.ensures.held.1 c.in-Ok.ensures.honest
+    has_started (observes g.R.ResourceManager.held_of g.R.ResourceManager.scan_of g.R.ResourceManager.in_doubt_of moment) c.args.log system refl
+    c.in-Ok.ensures.held.0 c.in-Ok.ensures.handed.0 c.in-Ok.ensures.honest
     (λ order honest.
     subst (λ log. IsSomeAnd (moment log).content (StartsOver (origin_in look system))) c.in-Ok.ensures.handed.1
     (c.in-Ok.ensures.ok.4.log.start (subst (λ log. (moment log).is_in_order) (sym c.in-Ok.ensures.handed.1) order) honest))
+    c.in-Ok.ensures.near c.in-Ok.ensures.held.1
 
 pub unreachable-requires : goal.unreachable-requires
 unreachable-requires g c =
