@@ -11,6 +11,8 @@ mod failing;
 #[cfg(test)]
 mod logs;
 #[cfg(test)]
+mod processes;
+#[cfg(test)]
 mod refused_files;
 #[cfg(test)]
 mod stories;

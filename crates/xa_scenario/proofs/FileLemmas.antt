@@ -1,15 +1,18 @@
 -- Files that are read in turn.
-use Rattle.std.proofs.Common.{◌≡◌, ◌∙◌, ℕ, ◌+◌, ◌<◌, ◌≤◌, true, List, [], ◌∷◌, ◌++◌, length, get_or, drop, Option, Some, None, Result, Ok, Err, All, arith, refl, sym, ap, subst, append_assoc, append-nil, drop_of_length-le}
+use Rattle.std.proofs.Common.{◌≡◌, ◌∙◌, ℕ, ◌+◌, ◌<◌, ◌≤◌, true, List, [], ◌∷◌, ◌++◌, length, get_or, drop, Option, Some, None, Result, Ok, Err, All, arith, map, inl, inr, ◌⊎◌, refl, sym, ap, subst, append_assoc, append-nil, drop_of_length-le}
 use Rattle.std.proofs.lemmas.Bool.{and_parts, eqb-true}
+use Rattle.std.proofs.lemmas.List.{drop_more}
 use Rattle.std.proofs.lemmas.List.Elements.{All-cons, All-nil, All-push}
 use Rattle.toml.specs.Data.{item}
 use Rattle.toml.specs.View.{view, items_view}
 use Rattle.toml.specs.declared.value.Value.{Value}
 use Rattle.toml.proofs.Views.{items_view-drop}
 use Rattle.xa_scenario.specs.Branches.{Names}
-use Rattle.xa_scenario.specs.Files.{AreAlike, Earlier, file_after, files_from, is_alike, names_with}
+use Rattle.xa_scenario.specs.Files.{AreAlike, Earlier, file_after, file_then, files_from, is_alike, names_with, with_plan}
 use Rattle.xa_scenario.specs.Scenarios.{IsSize, IsSized, Plan, names_after}
+use Rattle.xa_files.specs.Reading.{Fails}
 use Rattle.xa_files.specs.declared.fault.RunFault.{RunFault}
+use Rattle.xa_files.specs.declared.fault.RunFault.TheVariants.{Memory}
 use Rattle.xa_scenario.specs.declared.files.FileFault.{FileFault}
 
 -- ** the names of one file
@@ -27,12 +30,21 @@ names_end begun vs i past = ap (λ ds. names_with begun (items_view ds)) (drop_o
 
 -- ** files in turn
 
+-- a text in the list, and those after it
+pub at_file : {X : Type 0} (f : X → List ℕ) (xs : List X) (i : ℕ) (x : X) → i < length xs → x ≡ get_or xs i x → map f (drop i xs) ≡ f x ∷ map f (drop (i + 1) xs)
+at_file f xs i x within is = ap (map f) (drop_more xs i x within) ∙ ap (λ y. f y ∷ map f (drop (i + 1) xs)) (sym is)
+
+-- what a fault tells of a text
+pub by_fault : (fault : RunFault) (read : Result (Plan × Earlier) RunFault) → Fails fault read → (fault ≡ Memory) ⊎ (read ≡ Err fault)
+by_fault Memory read h = inl refl
+by_fault fault read h = inr h
+
 abbrev pub with_plans : List Plan → Result (List Plan) FileFault → Result (List Plan) FileFault
 with_plans front (Ok plans) = Ok (front ++ plans)
 with_plans front (Err fault) = Err fault
 
 joined : (front : List Plan) (plan : Plan) (read : Result (List Plan) FileFault)
-    → with_plans front (elim read [ Err fault ↦ Err fault | Ok plans ↦ Ok (plan ∷ plans) ]) ≡ with_plans (front ++ plan ∷ []) read
+    → with_plans front (with_plan plan read) ≡ with_plans (front ++ plan ∷ []) read
 joined front plan (Ok plans) = ap Ok (sym (append_assoc front (plan ∷ []) plans))
 joined front plan (Err e) = refl
 
@@ -42,7 +54,8 @@ pub file_read : (front : List Plan) (plan : Plan) (place : ℕ) (earlier next : 
 unfolding files_from
 file_read front plan place earlier next text texts all is so_far =
     let others = files_from (place + 1) next texts in
-    let step : files_from place earlier (text ∷ texts) ≡ elim others [ Err fault ↦ Err fault | Ok plans ↦ Ok (plan ∷ plans) ] = rw is refl in
+    let step : files_from place earlier (text ∷ texts) ≡ with_plan plan others =
+    ap (λ r. file_then place r (λ after. files_from (place + 1) after texts)) is in
     sym (joined front plan others) ∙ ap (with_plans front) (sym step) ∙ so_far
 
 pub file_refused : (front : List Plan) (fault : RunFault) (place : ℕ) (earlier : Earlier) (text : List ℕ) (texts : List (List ℕ)) (all : Result (List Plan) FileFault)
@@ -50,7 +63,8 @@ pub file_refused : (front : List Plan) (fault : RunFault) (place : ℕ) (earlier
     → all ≡ Err (let e : FileFault = record { file = place; fault = fault } in e)
 unfolding files_from
 file_refused front fault place earlier text texts all is so_far =
-    let step : files_from place earlier (text ∷ texts) ≡ Err (let e : FileFault = record { file = place; fault = fault } in e) = rw is refl in
+    let step : files_from place earlier (text ∷ texts) ≡ Err (let e : FileFault = record { file = place; fault = fault } in e) =
+    ap (λ r. file_then place r (λ after. files_from (place + 1) after texts)) is in
     sym so_far ∙ ap (with_plans front) step
 
 pub files_end : (front : List Plan) (place : ℕ) (earlier : Earlier) (all : Result (List Plan) FileFault)

@@ -6,6 +6,9 @@ pub mod KeepingLemmas
 pub mod LineLemmas
 pub mod ListedLemmas
 pub mod PlayLemmas
+pub mod PrintLemmas
+pub mod ProcessLemmas
+pub mod ReportLemmas
 pub mod RunLemmas
 pub mod StartLemmas
 pub mod TextFaults

@@ -52,16 +52,20 @@ file_after earlier text = do
 
 -- ** files in turn
 
+-- a scenario in front of those that are read after it
+abbrev pub with_plan : Plan → Result (List Plan) FileFault → Result (List Plan) FileFault
+with_plan plan (Ok plans) = Ok (plan ∷ plans)
+with_plan plan (Err fault) = Err fault
+
+-- the file of a place, and those that are read behind it
+abbrev pub file_then : ℕ → Result (Plan × Earlier) RunFault → (Earlier → Result (List Plan) FileFault) → Result (List Plan) FileFault
+file_then place (Ok read) later = with_plan read.0 (later read.1)
+file_then place (Err fault) later = Err (record { file = place; fault = fault })
+
 -- the scenarios that texts are in turn, or the first fault with the place of its text; the first of them has this place
 unfoldable pub files_from : ℕ → Earlier → List (List ℕ) → Result (List Plan) FileFault
 files_from place earlier [] = Ok []
-files_from place earlier (text ∷ texts) = elim (file_after earlier text) [
-  | Err fault ↦ Err (record { file = place; fault = fault })
-  | Ok read ↦ elim (files_from (place + 1) read.1 texts) [
-    | Err fault ↦ Err fault
-    | Ok plans ↦ Ok (read.0 ∷ plans)
-  ]
-]
+files_from place earlier (text ∷ texts) = file_then place (file_after earlier text) (λ next. files_from (place + 1) next texts)
 
 abbrev pub scenarios_of : List (List ℕ) → Result (List Plan) FileFault
 scenarios_of texts = files_from 0 nothing_earlier texts

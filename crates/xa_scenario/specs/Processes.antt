@@ -1,6 +1,6 @@
 -- Processes of the manager, one for each of several scenario files: what they do over the same resource managers and the
 -- same log, and what is printed of them.
-use Rattle.std.specs.Prelude.{◌≡◌, ◌<◌, ◌↔◌, ◌⊎◌, ℕ, ◌+◌, Bool, if◌then◌else◌, List, [], ◌∷◌, ◌++◌, length, codes, All, Contains, Option, Some}
+use Rattle.std.specs.Prelude.{◌≡◌, ◌<◌, ◌↔◌, ◌⊎◌, ℕ, ◌+◌, Bool, true, if◌then◌else◌, List, [], ◌∷◌, ◌++◌, length, codes, All, Contains, Option, Some}
 use Rattle.std.specs.Fmt.{decimal}
 use Rattle.std.specs.Io.KnownBytes.{Appends, Keeps}
 use Rattle.std.specs.List.Sorted.{IsStrictlySortedBy}
@@ -17,13 +17,16 @@ use Rattle.xa_log.specs.Contract.{Moment}
 use Rattle.xa_model.specs.Facts.{fate, started}
 use Rattle.xa_model.specs.Promises.Headline.{Headline, HeadlineSince}
 use Rattle.xa_model.specs.Promises.Processes.{Resumes, joined, resumed}
-use Rattle.xa_model.specs.Protocol.{RightOrigin}
+use Rattle.xa_model.specs.Protocol.{AllRight, RightOrigin}
 use Rattle.xa_model.specs.Replies.History.{AreAllowed, history}
 use Rattle.xa_model.specs.Trace.{Origin, Trace}
+use Rattle.xa_scenario.specs.LogKeeping.{KeepsLog}
 use Rattle.xa_scenario.specs.Plays.{IsPlay, Performs, gtrids_of}
 use Rattle.xa_scenario.specs.Replies.{trace_lines}
 use Rattle.xa_scenario.specs.Runs.{IsStartOf, StartsOverLog}
 use Rattle.xa_scenario.specs.Scenarios.{Plan}
+use Rattle.xa_system.specs.SystemView.{HoldsItsTrace, MayRestart, Observes, SystemView, origin_in, trace_in}
+use Rattle.xa_tm.specs.Slots.{log_held}
 
 -- ** one process
 
@@ -68,8 +71,21 @@ IsFateOf o events line = (b : Branch) → IsBranch b → b.thread < o.threads �
 
 -- what became of these branches in the end
 pub record AreFates (o : Origin) (events : List Event) (names : List Xid) (fates : List (Xid × Fate)) : Type 0 where
-  pub names : keys_of fates ≡ names
+  pub listed : keys_of fates ≡ names
   pub each : All (IsFateOf o events) fates
+
+-- The entries were played at a system that had just started, and it is where its history leaves it, of which the headline
+-- holds.
+pub record HasPlayed {R L : Type 0} (see : Observes R L) (plan : Plan) (old_gtrids gtrids : List Gtrid) (old_names names : List Xid)
+    (old new : SystemView R L) : Type 0 where
+  pub played : Plays plan old_gtrids gtrids old.events new.events
+  pub listed : AddsStarted (trace_in see.look new) old_names names
+  pub start : origin_in see.look new ≡ origin_in see.look old
+  pub log : KeepsLog see old new
+  pub holds : HoldsItsTrace see new
+  pub headline : RightOrigin (origin_in see.look new) → Headline (origin_in see.look new) new.events
+  pub resumed : (past : Trace) → AllRight past → Resumes past (origin_in see.look new)
+      → HeadlineSince (resumed past (origin_in see.look new)) new.events
 
 module _ {L : Type 0} (moment : L → Moment) where
   -- A process plays a plan over this log. Its system is as large as the plan says. What its log rests on was honest as it
@@ -80,7 +96,7 @@ module _ {L : Type 0} (moment : L → Moment) where
     pub rms : p.origin.rms ≡ plan.rms
     pub played : Plays plan gtrids p.gtrids [] p.events
     pub allowed : AreAllowed p.origin p.events
-    pub names : AddsStarted (history p.origin p.events) names p.names
+    pub listed : AddsStarted (history p.origin p.events) names p.names
     pub order : (left : L) → p.log ≡ Some left → (moment log).is_in_order → (moment left).is_in_order
     pub honest : (left : L) → p.log ≡ Some left → (moment left).is_honest → (moment over.left).is_honest
 
@@ -160,3 +176,19 @@ module _ {L : Type 0} (moment : L → Moment) where
   StopsAnywhere log plans with_trace old new =
       ((traces : List ℕ) × AreTraces log plans with_trace traces × AppendsBeginning old new traces)
       ⊎ BeginsProcesses log plans with_trace old new
+
+-- ** a system as a process
+
+module _ {R L : Type 0} (see : Observes R L) (log : L) where
+  -- the process that a system is
+  abbrev pub process_of : List Gtrid → List Xid → SystemView R L → Process L
+  process_of gtrids names s =
+      record { origin = origin_in see.look s; events = s.events; gtrids = gtrids; names = names; log = log_held s.log }
+
+  -- The system is the last of processes of these plans, and as large as they say.
+  pub record IsLast (rms : ℕ) (plans : List Plan) (gtrids : List Gtrid) (names : List Xid) (s : SystemView R L) (traces : List ℕ) : Type 0 where
+    pub whole : Trace
+    pub are : AreProcesses see.moment log plans whole (process_of gtrids names s) traces
+    pub count : length s.rms ≡ rms
+    pub order : (see.moment log).is_in_order → (see.moment s.handed).is_in_order
+    pub near : (see.moment log).is_in_order → (see.place s.log).is_honest → MayRestart see s

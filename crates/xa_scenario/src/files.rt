@@ -1,10 +1,10 @@
 //! Scenario files that are read one after another, each for a process of one system.
 
-ghost use Rattle.std.specs.Prelude.{◌≡◌, ◌⊎◌, Err, IfErr, IfOk, Ok, Some, true, map};
+ghost use Rattle.std.specs.Prelude.{◌≡◌, ◌⊎◌, ◌++◌, ◌∷◌, [], Err, IfErr, IfOk, Ok, OnOk, Some, true, map};
 ghost use Rattle.xa_files.specs.Reading.{Fails};
 ghost use Rattle.xa_files.specs.declared.fault.RunFault.TheVariants.{Memory};
 ghost use Rattle.xa_scenario.specs.Files.{AreAlike, earlier_of, file_after, is_alike, scenarios_of};
-ghost use Rattle.xa_scenario.specs.Scenarios.{IsSized, plan_of};
+ghost use Rattle.xa_scenario.specs.Scenarios.{IsSized, Plan, plan_of};
 
 use crate::document::{Scenario, add_names, entries_of, header_of};
 use std::alloc::Global;
@@ -65,6 +65,25 @@ fn read_after(alloc: Global, before: &mut Before, text: &[u8]) -> Result<Scenari
     })
 }
 
+/// Reads a file behind others, and adds it to them.
+fn add_scenario(
+    alloc: Global,
+    before: &mut Before,
+    scenarios: &mut Vec<Scenario>,
+    text: &[u8],
+) -> Result<(), RunFault>
+    ensures read { OnOk result ((plan : Plan)
+        × (file_after (earlier_of before.old) text.now ≡ Ok (plan, earlier_of before.new))
+        × (map plan_of scenarios.new.items ≡ map plan_of scenarios.old.items ++ plan ∷ [])
+        × IsSized plan × (before.new.size ≡ Some (plan.threads, plan.rms))
+        × (is_alike before.old.size plan.threads plan.rms ≡ true)) }
+    ensures fault { IfErr result (λ e. Fails e (file_after (earlier_of before.old) text.now)) }
+{
+    let scenario = read_after(alloc, before, text)?;
+    scenarios.push(scenario)?;
+    Ok(())
+}
+
 /// Reads scenario files, each for a process of one system. A transaction that a file begins is known by its name in
 /// the later files, which begin no such name anew; and all have the first file's threads and resource managers.
 ///
@@ -83,15 +102,8 @@ pub fn read_scenarios(alloc: Global, texts: &[Vec<u8>]) -> Result<Vec<Scenario>,
     };
     let mut scenarios = Vec::new(alloc);
     for (file, text) in texts.iter().enumerate() {
-        match read_after(alloc, &mut before, text) {
-            Ok(scenario) => {
-                if scenarios.push(scenario).is_err() {
-                    return Err(FileFault {
-                        file,
-                        fault: RunFault::Memory,
-                    });
-                }
-            }
+        match add_scenario(alloc, &mut before, &mut scenarios, text) {
+            Ok(()) => {}
             Err(fault) => return Err(FileFault { file, fault }),
         }
     }

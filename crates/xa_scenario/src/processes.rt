@@ -1,15 +1,19 @@
 //! Several scenarios, each a process of the manager over what the one before it has left.
 
-ghost use Rattle.std.specs.Prelude.{◌≡◌, ◌≢◌, ◌⊎◌, ◌++◌, [], length, map, Err, IfErr, IfOk, OnOk};
+ghost use Rattle.std.specs.Prelude.{◌≡◌, ◌⊎◌, ◌+◌, ◌++◌, ◌∷◌, [], ℕ, All, List, length, map, vec_len, IfErr, IfOk, OnOk};
 ghost use Rattle.std.specs.Io.KnownBytes.{Keeps};
 ghost use Rattle.std.specs.String.{string_bytes};
-ghost use Rattle.xa_files.specs.declared.fault.RunFault.TheVariants.{Log, Memory, Output};
+ghost use Rattle.xa_base.specs.Xid.{Xid as KnownXid};
+ghost use Rattle.xa_base.specs.declared.state.Fate.{Fate};
+ghost use Rattle.xa_files.specs.Fates.{fate_lines};
+ghost use Rattle.xa_files.specs.declared.fault.RunFault.TheVariants.{Memory, Output};
 ghost use Rattle.xa_scenario.specs.Files.{AreAlike};
-ghost use Rattle.xa_scenario.specs.LogKeeping.{HasGoneOn, KeepsLog};
-ghost use Rattle.xa_scenario.specs.Processes.{AddsStarted, AreFates, Plays, PrintsProcesses, StopsAnywhere, StopsBetween, heading, shown};
+ghost use Rattle.xa_scenario.specs.LogKeeping.{HasGoneOn};
+ghost use Rattle.xa_scenario.specs.Processes.{AddsStarted, AreFates, HasPlayed, IsLast, PrintsProcesses};
+ghost use Rattle.xa_scenario.specs.Processes.{StopsAnywhere, StopsBetween, heading, shown};
 ghost use Rattle.xa_scenario.specs.Replies.{trace_lines};
-ghost use Rattle.xa_scenario.specs.Runs.{IsStartFault};
-ghost use Rattle.xa_scenario.specs.Scenarios.{plan_of};
+ghost use Rattle.xa_scenario.specs.Runs.{IsNewRm, IsStartFault};
+ghost use Rattle.xa_scenario.specs.Scenarios.{IsSized, Plan, plan_of};
 ghost use Rattle.xa_system.specs.RmInHistory.{looks};
 ghost use Rattle.xa_system.specs.SystemView.{HasWrongSize, observes, origin_in, trace_in};
 
@@ -121,10 +125,11 @@ fn next_system<R: ResourceManager + Drop, L: DecisionLog + Drop>(
     let Ok(remains) = system.into_parts() else {
         return Err(RunFault::Memory);
     };
+    let rms = remains.rms;
     let Some(log) = remains.log else {
         return Err(RunFault::Log);
     };
-    match System::resume(alloc, threads, remains.rms, log) {
+    match System::resume(alloc, threads, rms, log) {
         Ok(system) => Ok(system),
         Err(ResumeFault::Memory) => Err(RunFault::Memory),
         // Where a resource manager holds a branch that is newer than the log, that has lost what it had.
@@ -134,33 +139,117 @@ fn next_system<R: ResourceManager + Drop, L: DecisionLog + Drop>(
     }
 }
 
-/// What the names of all files so far stand for, and the branches whose xa_start was accepted so far.
+/// A process that has played its scenario: its system, what the names of all files so far stand for, the branches
+/// whose xa_start was accepted so far, and the text of its trace, which isn't written yet.
 #[derive(Drop)]
-struct Known {
+struct Process<R: ResourceManager + Drop, L: DecisionLog + Drop> {
+    system: System<R, L>,
     gtrids: Vec<Gtrid>,
     names: Vec<Xid>,
+    text: String,
 }
 
 /// Plays a scenario at a system that has just started.
 fn play_process<R: ResourceManager + Drop, L: DecisionLog + Drop>(
     alloc: Global,
     system: &mut System<R, L>,
-    known: &mut Known,
+    gtrids: &mut Vec<Gtrid>,
+    names: &mut Vec<Xid>,
     scenario: &Scenario,
 ) -> Result<(), RunFault>
-    ensures played { OnOk result (Plays (plan_of scenario.now) known.old.gtrids.items
-        known.new.gtrids.items system.old.events system.new.events) }
-    ensures started { OnOk result (AddsStarted
-        (trace_in (looks R.held_of R.scan_of R.in_doubt_of) system.new) known.old.names.items
-        known.new.names.items) }
-    ensures start { origin_in (looks R.held_of R.scan_of R.in_doubt_of) system.new
-        ≡ origin_in (looks R.held_of R.scan_of R.in_doubt_of) system.old }
-    ensures log { KeepsLog (observes R.held_of R.scan_of R.in_doubt_of L.moment) system.old
-        system.new }
+    ensures played { OnOk result (HasPlayed
+        (observes R.held_of R.scan_of R.in_doubt_of L.moment) (plan_of scenario.now)
+        gtrids.old.items gtrids.new.items names.old.items names.new.items system.old system.new) }
     ensures fault { IfErr result (λ e. e ≡ Memory) }
 {
-    play(system, &mut known.gtrids, &scenario.entries)?;
-    add_started(alloc, system, &mut known.names)
+    play(system, gtrids, &scenario.entries)?;
+    system.agree();
+    add_started(alloc, system, names)
+}
+
+/// The first process.
+fn first_process<R: ResourceManager + Drop, L: DecisionLog + Drop>(
+    alloc: Global,
+    scenario: &Scenario,
+    rms: Vec<R>,
+    log: L,
+    with_trace: bool,
+) -> Result<Process<R, L>, RunFault>
+    requires sized { IsSized (plan_of scenario.now) }
+    requires count { vec_len rms ≡ scenario.now.rms }
+    requires new { All (IsNewRm (looks R.held_of R.scan_of R.in_doubt_of)) rms.items }
+    ensures last { IfOk result (λ p. IsLast
+        (observes R.held_of R.scan_of R.in_doubt_of L.moment) log scenario.now.rms
+        (plan_of scenario.now ∷ []) p.gtrids.items p.names.items p.system
+        (trace_lines 1 p.system.events)) }
+    ensures text { IfOk result (λ p. string_bytes p.text
+        ≡ shown with_trace (trace_lines 1 p.system.events)) }
+    ensures fault { IfErr result IsStartFault }
+{
+    let mut gtrids = Vec::new(alloc);
+    let mut names = Vec::new(alloc);
+    let mut system = system_of(alloc, scenario, rms, log)?;
+    play_process(alloc, &mut system, &mut gtrids, &mut names, scenario)?;
+    let text = trace_text(alloc, with_trace, system.trace())?;
+    Ok(Process {
+        system,
+        gtrids,
+        names,
+        text,
+    })
+}
+
+/// The next process, over what the one before it has left.
+fn next_process<R: ResourceManager + Drop, L: DecisionLog + Drop>(
+    alloc: Global,
+    scenario: &Scenario,
+    before: Process<R, L>,
+    number: usize,
+    with_trace: bool,
+) -> Result<Process<R, L>, RunFault>
+    requires sized { IsSized (plan_of scenario.now) }
+    requires count { length before.system.rms ≡ scenario.now.rms }
+    ensures last { IfOk result (λ p. (log : L) (plans : List Plan) (traces : List ℕ) →
+        number ≡ length plans + 1 →
+        IsLast (observes R.held_of R.scan_of R.in_doubt_of L.moment) log scenario.now.rms
+        plans before.gtrids.items before.names.items before.system traces →
+        IsLast (observes R.held_of R.scan_of R.in_doubt_of L.moment) log scenario.now.rms
+        (plans ++ plan_of scenario.now ∷ []) p.gtrids.items p.names.items p.system
+        (traces ++ (heading number ++ trace_lines 1 p.system.events))) }
+    ensures text { IfOk result (λ p. string_bytes p.text
+        ≡ shown with_trace (heading number ++ trace_lines 1 p.system.events)) }
+    ensures fault { IfErr result IsStartFault }
+{
+    let mut gtrids = before.gtrids;
+    let mut names = before.names;
+    before.system.agree();
+    let mut system = next_system(alloc, scenario.threads, before.system)?;
+    play_process(alloc, &mut system, &mut gtrids, &mut names, scenario)?;
+    let text = next_text(alloc, number, with_trace, system.trace())?;
+    Ok(Process {
+        system,
+        gtrids,
+        names,
+        text,
+    })
+}
+
+/// The text of the trace of the last process, with what became of the branches of all.
+fn last_text<R: ResourceManager + Drop, L: DecisionLog + Drop>(
+    alloc: Global,
+    last: Process<R, L>,
+) -> Result<String, RunFault>
+    ensures text { IfOk result (λ text. (fates : List (KnownXid × Fate)) × AreFates
+        (origin_in (looks R.held_of R.scan_of R.in_doubt_of) last.system) last.system.events
+        last.names.items fates
+        × (string_bytes text ≡ string_bytes last.text ++ fate_lines fates)) }
+    ensures fault { IfErr result (λ e. e ≡ Memory) }
+{
+    let mut text = last.text;
+    let names = last.names;
+    let fates = fates_of(alloc, &last.system, names)?;
+    push_fates(&mut text, alloc, &fates)?;
+    Ok(text)
 }
 
 /// Runs scenarios, each as a process of the manager: the first at new resource managers and over a decision log, and
@@ -187,29 +276,20 @@ pub fn run_scenarios<L: DecisionLog + Drop, W: Write>(
     ensures none { scenarios.now ≡ [] → Keeps (W.contents out.old) (W.contents out.new) }
     // Why it ends early, and what is printed then.
     ensures fault { IfErr result (λ e. IsStartFault e ⊎ (e ≡ Output)) }
-    ensures stopped { IfErr result (λ e. e ≢ Output → StopsBetween L.moment log
+    ensures stopped { IfErr result (λ e. IsStartFault e → StopsBetween L.moment log
         (map plan_of scenarios.now) with_trace (W.contents out.old) (W.contents out.new)) }
-    ensures begun { result ≡ Err Output → StopsAnywhere L.moment log
-        (map plan_of scenarios.now) with_trace (W.contents out.old) (W.contents out.new) }
+    ensures begun { IfErr result (λ e. e ≡ Output → StopsAnywhere L.moment log
+        (map plan_of scenarios.now) with_trace (W.contents out.old) (W.contents out.new)) }
 {
     let Some((first, later)) = scenarios.split_first() else {
         return Ok(());
     };
-    let mut known = Known {
-        gtrids: Vec::new(alloc),
-        names: Vec::new(alloc),
-    };
     let rms = rms_of(alloc, first.rms)?;
-    let mut system = system_of(alloc, first, rms, log)?;
-    play_process(alloc, &mut system, &mut known, first)?;
-    let mut text = trace_text(alloc, with_trace, system.trace())?;
+    let mut process = first_process(alloc, first, rms, log, with_trace)?;
     for (i, scenario) in later.iter().enumerate() {
-        write_text(text.as_bytes(), out)?;
-        system = next_system(alloc, scenario.threads, system)?;
-        play_process(alloc, &mut system, &mut known, scenario)?;
-        text = next_text(alloc, i + 2, with_trace, system.trace())?;
+        write_text(process.text.as_bytes(), out)?;
+        process = next_process(alloc, scenario, process, i + 2, with_trace)?;
     }
-    let fates = fates_of(alloc, &system, known.names)?;
-    push_fates(&mut text, alloc, &fates)?;
+    let text = last_text(alloc, process)?;
     write_text(text.as_bytes(), out)
 }

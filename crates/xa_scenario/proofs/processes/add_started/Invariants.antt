@@ -3,5 +3,5 @@ use Rattle.xa_base.specs.Xid.{Xid}
 use Rattle.xa_base.specs.declared.state.Fate.{Fate}
 use Rattle.xa_scenario.proofs.processes.add_started.Given as goal
 
-abbrev pub invariant-loop-pattern : goal.invariant-loop-pattern
-invariant-loop-pattern g l = l.names.items ≡ l.fn.names.items ++ map (λ (line : Xid × Fate). line.0) l.yielded
+abbrev pub invariant-loop-xid : goal.invariant-loop-xid
+invariant-loop-xid g l = l.names.items ≡ l.fn.names.items ++ map (λ (line : Xid × Fate). line.0) l.yielded

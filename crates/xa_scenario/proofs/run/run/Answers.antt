@@ -17,7 +17,8 @@ returns-clause-prints g c =
     let plan = plan_of c.args.scenario.now in
     let system = c.play.new.system in
     let played = subst (λ entries. Performs (IsPlay [] entries) c.args.system.events system.events) c.deref.ensures.value
-    (performs_also (λ steps h. h.0) c.in_ok-play.ensures.performs) in
+    (subst (λ gtrids. Performs (IsPlay gtrids c.deref.result.now) c.args.system.events system.events) c.new.ensures.items
+    (performs_also (λ steps h. h.0) c.in_ok-play.ensures.performs)) in
     let start = origin_in look c.args.system in
     let headline = c.agree.ensures.headline (subst RightOrigin (sym c.in_ok-play.ensures.start) c.requires.right) in
     let run : IsRunOf plan start system.events =
@@ -40,7 +41,8 @@ returns-clause-begun g c =
     let plan = plan_of c.args.scenario.now in
     let system = c.play.new.system in
     let played = subst (λ entries. Performs (IsPlay [] entries) c.args.system.events system.events) c.deref.ensures.value
-    (performs_also (λ steps h. h.0) c.in_ok-play.ensures.performs) in
+    (subst (λ gtrids. Performs (IsPlay gtrids c.deref.result.now) c.args.system.events system.events) c.new.ensures.items
+    (performs_also (λ steps h. h.0) c.in_ok-play.ensures.performs)) in
     let start = origin_in look c.args.system in
     let headline = c.agree.ensures.headline (subst RightOrigin (sym c.in_ok-play.ensures.start) c.requires.right) in
     let run : IsRunOf plan start system.events =

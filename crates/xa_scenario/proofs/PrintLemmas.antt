@@ -1,0 +1,100 @@
+-- What is printed of processes in turn.
+use Rattle.std.proofs.Common.{◌≡◌, ◌∙◌, ◌+◌, ◌<◌, ◌≤◌, ℕ, Bool, true, false, arith, List, [], ◌∷◌, ◌++◌, map, take, drop, length, length-map, get_or, Option, inl, inr, ap, refl, subst, sym, append_assoc}
+use Rattle.std.specs.Io.KnownBytes.{Appends}
+use Rattle.std.proofs.lemmas.List.{length-take-le, map_push, take_more}
+use Rattle.xa_base.specs.Xid.{Xid}
+use Rattle.xa_base.specs.declared.branch.Gtrid.{Gtrid}
+use Rattle.xa_base.specs.declared.state.Fate.{Fate}
+use Rattle.xa_files.proofs.OutputLemmas.{both_written}
+use Rattle.xa_files.specs.Fates.{fate_lines}
+use Rattle.xa_files.specs.Outputs.{AppendsBeginning}
+use Rattle.xa_scenario.specs.Processes.{AreFates, AreTraces, BeginsProcesses, IsLast, PrintsProcesses, StopsAnywhere, StopsBetween, process_of, shown}
+use Rattle.xa_scenario.specs.Scenarios.{Plan}
+use Rattle.xa_system.specs.SystemView.{Observes, SystemView, origin_in}
+
+shown_both : (with_trace : Bool) (xs ys : List ℕ) → shown with_trace (xs ++ ys) ≡ shown with_trace xs ++ shown with_trace ys
+shown_both true xs ys = refl
+shown_both false xs ys = refl
+
+begins_behind : (old mid new : Option (List ℕ)) (xs ys : List ℕ) → Appends old mid xs → AppendsBeginning mid new ys → AppendsBeginning old new (xs ++ ys)
+begins_behind old mid new xs ys first second = (
+  second.0,
+  record {
+    written = xs ++ second.1.written;
+    whole = ap (λ zs. xs ++ zs) second.1.whole ∙ sym (append_assoc xs second.1.written second.0);
+    appends = both_written old mid new xs second.1.written first second.1.appends;
+  },
+)
+
+module _ {R L : Type 0} (see : Observes R L) (log : L) (rms : ℕ) (with_trace : Bool) (gtrids : List Gtrid) (names : List Xid) (s : SystemView R L) where
+  -- processes of these plans have printed all their traces but this text of the last one
+  pub record HavePrinted (plans : List Plan) (text : List ℕ) (old now : Option (List ℕ)) : Type 0 where
+    pub before : List ℕ
+    pub piece : List ℕ
+    pub last : IsLast see log rms plans gtrids names s (before ++ piece)
+    pub spelled : text ≡ shown with_trace piece
+    pub written : Appends old now (shown with_trace before)
+
+  module _ (plan : Plan) (plans later all : List Plan) (are : (plan ∷ plans) ++ later ≡ all) (text : List ℕ) (old now new : Option (List ℕ))
+      (printed : HavePrinted (plan ∷ plans) text old now) where
+    traces : List ℕ
+    traces = printed.before ++ printed.piece
+
+    traced : AreTraces see.moment log all with_trace (shown with_trace traces)
+    traced = record {
+      first = plan ∷ plans;
+      later = later;
+      are = are;
+      traced = (printed.last.whole, process_of see log gtrids names s, traces, printed.last.are, refl);
+    }
+
+    spelled_both : shown with_trace printed.before ++ text ≡ shown with_trace traces
+    unfolding traces
+    spelled_both = ap (λ t. shown with_trace printed.before ++ t) printed.spelled ∙ sym (shown_both with_trace printed.before printed.piece)
+
+    -- it is written too
+    pub all_written : Appends now new text → Appends old new (shown with_trace traces)
+    all_written more =
+        subst (Appends old new) spelled_both (both_written old now new (shown with_trace printed.before) text printed.written more)
+
+    -- nothing more comes
+    pub stops_between : Appends now new text → StopsBetween see.moment log all with_trace old new
+    stops_between more = (shown with_trace traces, traced, all_written more)
+
+    -- a write of it failed
+    pub stops_in : AppendsBeginning now new text → StopsAnywhere see.moment log all with_trace old new
+    stops_in begun = inl (
+      shown with_trace traces,
+      traced,
+      subst (AppendsBeginning old new) spelled_both (begins_behind old now new (shown with_trace printed.before) text printed.written begun),
+    )
+
+  -- the text of the last one with the fates behind it
+  module _ (plans : List Plan) (text whole : List ℕ) (old now new : Option (List ℕ)) (printed : HavePrinted plans text old now)
+      (fates : List (Xid × Fate)) (told : AreFates (origin_in see.look s) s.events names fates) (is : whole ≡ text ++ fate_lines fates) where
+    ends_so : shown with_trace printed.before ++ whole ≡ shown with_trace (printed.before ++ printed.piece) ++ fate_lines fates
+    ends_so = ap (λ t. shown with_trace printed.before ++ t) (is ∙ ap (λ t. t ++ fate_lines fates) printed.spelled)
+        ∙ sym (append_assoc (shown with_trace printed.before) (shown with_trace printed.piece) (fate_lines fates))
+        ∙ ap (λ t. t ++ fate_lines fates) (sym (shown_both with_trace printed.before printed.piece))
+
+    pub prints_all : Appends now new whole → PrintsProcesses see.moment log plans with_trace old new
+    prints_all more = record {
+      whole = printed.last.whole;
+      last = process_of see log gtrids names s;
+      traces = printed.before ++ printed.piece;
+      fates = fates;
+      run = printed.last.are;
+      told = told;
+      writes = subst (Appends old new) ends_so (both_written old now new (shown with_trace printed.before) whole printed.written more);
+    }
+
+    pub begins_all : AppendsBeginning now new whole → StopsAnywhere see.moment log plans with_trace old new
+    begins_all begun = inr (record {
+      whole = printed.last.whole;
+      last = process_of see log gtrids names s;
+      traces = printed.before ++ printed.piece;
+      fates = fates;
+      run = printed.last.are;
+      told = told;
+      begins = subst (AppendsBeginning old new) ends_so (begins_behind old now new (shown with_trace printed.before) whole printed.written begun);
+    })

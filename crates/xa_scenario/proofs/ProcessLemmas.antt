@@ -1,0 +1,136 @@
+-- Processes in turn.
+use Rattle.std.proofs.Common.{◌≡◌, ◌∙◌, ℕ, ◌+◌, List, [], ◌∷◌, ◌++◌, length, Option, Some, ap, refl, subst, sym}
+use Rattle.xa_base.specs.Xid.{Xid}
+use Rattle.xa_base.specs.declared.branch.Branch.{Branch}
+use Rattle.xa_base.specs.declared.branch.Gtrid.{Gtrid}
+use Rattle.xa_log.specs.Contract.{Moment}
+use Rattle.xa_model.specs.Promises.Processes.{OfProcesses, OfProcesses.First as Begins, Resumes, joined}
+use Rattle.xa_model.specs.Protocol.{AllRight, RightOrigin}
+use Rattle.xa_model.specs.Replies.History.{history}
+use Rattle.xa_model.specs.Trace.{Origin, Trace}
+use Rattle.xa_model.proofs.ProcessLemmas.Joining.{gone_right, joined_faces, of_processes_right, resumes_both}
+use Rattle.xa_scenario.specs.LogKeeping.{HasGoneOn, HasStarted, KeepsLog}
+use Rattle.xa_scenario.specs.Processes.{AreProcesses, AreProcesses.First, AreProcesses.Next, HasPlayed, IsFirst, IsLast, IsNext, IsProcess, Plays, Process, heading, process_of}
+use Rattle.xa_scenario.specs.Replies.{trace_lines}
+use Rattle.xa_scenario.specs.Runs.{IsStartOf, StartsOverLog}
+use Rattle.xa_scenario.specs.Scenarios.{Plan}
+use Rattle.xa_scenario.proofs.StartLemmas.{in_slot, out_of_slot}
+use Rattle.xa_system.specs.LogInHistory.{StartsOver}
+use Rattle.xa_system.specs.RmInHistory.{Looks}
+use Rattle.xa_system.specs.SystemView.{Observes, SystemView, origin_in, trace_in}
+use Rattle.xa_tm.specs.Slots.{log_held, order_in, slot_moment}
+use Rattle.xa_tm.specs.declared.slot.Slot.{Slot}
+use Rattle.std.proofs.Common.{IsSomeAnd}
+
+-- ** the whole history
+
+module _ {L : Type 0} (moment : L → Moment) (log : L) where
+  -- it is right, where the logs are in order and honest
+  pub all_right : (plans : List Plan) (whole : Trace) (last : Process L) (traces : List ℕ) → AreProcesses moment log plans whole last traces
+      → (moment log).is_in_order → (left : L) → last.log ≡ Some left → (moment left).is_honest → AllRight whole
+  all_right _ _ _ _ (First plan p is) order left at h = of_processes_right _ (Begins p.origin p.events is.right is.is.allowed)
+  all_right _ _ _ _ (Next plans past before traces plan p are is) order left at h =
+      let honest = is.is.honest left at h in
+      let earlier = all_right plans past before traces are order is.found is.left (is.is.over.honest honest) in
+      (joined_faces past p.origin p.events earlier (is.resumes order honest) is.is.allowed).0
+
+  -- and what resumes the last process resumes it
+  pub passes_on : (plans : List Plan) (whole : Trace) (last : Process L) (traces : List ℕ) → AreProcesses moment log plans whole last traces
+      → (moment log).is_in_order → (left : L) → last.log ≡ Some left → (moment left).is_honest
+      → (next : Origin) → Resumes (history last.origin last.events) next → Resumes whole next
+  passes_on _ _ _ _ (First plan p is) order left at h next r = r
+  passes_on _ _ _ _ (Next plans past before traces plan p are is) order left at h next r =
+      let honest = is.is.honest left at h in
+      let earlier = all_right plans past before traces are order is.found is.left (is.is.over.honest honest) in
+      resumes_both _ _ _ next (gone_right past earlier) (joined_faces past p.origin p.events earlier (is.resumes order honest) is.is.allowed).1 r
+
+-- ** one process
+
+out_in_order : {L : Type 0} (moment : L → Moment) (slot : Slot L) (left : L) → log_held slot ≡ Some left → (slot_moment moment slot).is_in_order
+    → (moment left).is_in_order
+out_in_order moment slot left is h = subst (λ (it : Option _). order_in (λ l. (moment l).is_in_order) it) is h
+
+module _ {R L : Type 0} (look : Looks R) (moment : L → Moment) where
+  abbrev see : Observes R L
+  see = record { look = look; moment = moment; place = slot_moment moment }
+
+  -- a process as it started: its log is left so by the start
+  record IsProcessFrom (found left : L) (gtrids : List Gtrid) (names : List Xid) (plan : Plan) (p : Process L) : Type 0 where
+    is : IsProcess moment found gtrids names plan p
+    same : is.over.left ≡ left
+
+  is_process : (found : L) (plan : Plan) (old_gtrids gtrids : List Gtrid) (old_names names : List Xid) (begun s : SystemView R L)
+      (started : HasStarted see found begun) → begun.events ≡ [] → (origin_in look begun).threads ≡ plan.threads → (origin_in look begun).rms ≡ plan.rms
+      → HasPlayed see plan old_gtrids gtrids old_names names begun s
+      → IsProcessFrom found started.over.left old_gtrids old_names plan (process_of see found gtrids names s)
+  is_process found plan old_gtrids gtrids old_names names begun s started empty threads rms played = record {
+    is = record {
+      over = record {
+        left = started.over.left;
+        honest = started.over.honest;
+        held = λ order h. subst (λ o. IsSomeAnd (moment found).content (StartsOver o)) (sym played.start) (started.over.held order h);
+      };
+      threads = ap (λ (o : Origin). o.threads) played.start ∙ threads;
+      rms = ap (λ (o : Origin). o.rms) played.start ∙ rms;
+      played = subst (λ trace. Plays plan old_gtrids gtrids trace s.events) empty played.played;
+      allowed = played.holds.allowed;
+      listed = played.listed;
+      order = λ left at order. out_in_order moment s.log left at
+          (played.holds.log.order (subst (λ l. (moment l).is_in_order) (sym (played.log.handed ∙ started.handed)) order));
+      honest = λ left at h. out_of_slot moment begun.log started.over.left started.is_left (played.log.honest (in_slot moment s.log left at h));
+    };
+    same = refl;
+  }
+
+  -- the first one
+  pub first_stands : (log : L) (plan : Plan) (gtrids : List Gtrid) (names : List Xid) (begun s : SystemView R L) → HasStarted see log begun
+      → begun.events ≡ [] → IsStartOf plan (origin_in look begun) → RightOrigin (origin_in look begun) → HasPlayed see plan [] gtrids [] names begun s
+      → IsLast see log plan.rms (plan ∷ []) gtrids names s (trace_lines 1 s.events)
+  first_stands log plan gtrids names begun s started empty start right played =
+      let from = is_process log plan [] gtrids [] names begun s started empty start.threads start.rms played in
+      record {
+        whole = history (origin_in look s) s.events;
+        are = First plan (process_of see log gtrids names s) (record {
+          is = from.is;
+          start = subst (IsStartOf plan) (sym played.start) start;
+          right = subst RightOrigin (sym played.start) right;
+          headline = played.headline (subst RightOrigin (sym played.start) right);
+        });
+        count = played.holds.count ∙ ap (λ (o : Origin). o.rms) played.start ∙ start.rms;
+        order = λ order. subst (λ l. (moment l).is_in_order) (sym (played.log.handed ∙ started.handed)) order;
+        near = λ order h.
+            played.log.near (subst (λ l. (moment l).is_in_order) (sym started.handed) order) h (started.near order (played.log.honest h));
+      }
+
+  -- one more
+  pub next_stands : (log : L) (rms number : ℕ) (plans : List Plan) (plan : Plan) (old_gtrids gtrids : List Gtrid) (old_names names : List Xid)
+      (traces : List ℕ) (old begun s : SystemView R L) → number ≡ length plans + 1 → IsLast see log rms plans old_gtrids old_names old traces
+      → HasGoneOn see old begun → begun.events ≡ [] → begun.lines.threads ≡ plan.threads → length begun.start ≡ length old.rms → plan.rms ≡ rms
+      → HasPlayed see plan old_gtrids gtrids old_names names begun s
+      → IsLast see log rms (plans ++ plan ∷ []) gtrids names s (traces ++ (heading number ++ trace_lines 1 s.events))
+  next_stands log rms number plans plan old_gtrids gtrids old_names names traces old begun s counted last gone empty threads more size played =
+      let from = is_process gone.found plan old_gtrids gtrids old_names names begun s gone.started empty threads (more ∙ last.count ∙ sym size) played in
+      let before = process_of see log old_gtrids old_names old in
+      let p = process_of see log gtrids names s in
+      let slot : (moment from.is.over.left).is_honest → (slot_moment moment begun.log).is_honest =
+      λ h. in_slot moment begun.log gone.started.over.left gone.started.is_left (subst (λ l. (moment l).is_honest) from.same h) in
+      let resumes : (moment log).is_in_order → (moment from.is.over.left).is_honest → Resumes last.whole p.origin = λ order h.
+      passes_on moment log plans last.whole before traces last.are order gone.found gone.left (from.is.over.honest h) p.origin
+      (subst (Resumes (trace_in look old)) (sym played.start)
+      (gone.resumes (last.order order) (last.near order (in_slot moment old.log gone.found gone.left (from.is.over.honest h))) (slot h))) in
+      record {
+        whole = joined last.whole p.origin p.events;
+        are = subst (λ n. AreProcesses moment log (plans ++ plan ∷ []) (joined last.whole p.origin p.events) p (traces ++ (heading n ++ trace_lines 1 s.events))) (sym counted)
+            (Next plans last.whole before traces plan p last.are (record {
+              found = gone.found;
+              left = gone.left;
+              is = from.is;
+              resumes = resumes;
+              headline = λ order h. played.resumed last.whole
+                  (all_right moment log plans last.whole before traces last.are order gone.found gone.left (from.is.over.honest h)) (resumes order h);
+            }));
+        count = played.holds.count ∙ ap (λ (o : Origin). o.rms) played.start ∙ more ∙ last.count;
+        order = λ order. subst (λ l. (moment l).is_in_order) (sym (played.log.handed ∙ gone.started.handed)) (gone.order (last.order order));
+        near = λ order h. played.log.near (subst (λ l. (moment l).is_in_order) (sym gone.started.handed) (gone.order (last.order order))) h
+            (gone.started.near (gone.order (last.order order)) (played.log.honest h));
+      }
