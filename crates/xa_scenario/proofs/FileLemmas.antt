@@ -1,8 +1,8 @@
 -- Files that are read in turn.
 use Rattle.std.proofs.Common.{◌≡◌, ◌∙◌, ℕ, ◌+◌, ◌<◌, ◌≤◌, true, List, [], ◌∷◌, ◌++◌, length, get_or, drop, Option, Some, None, Result, Ok, Err, All, arith, map, inl, inr, ◌⊎◌, refl, sym, ap, subst, append_assoc, append-nil, drop_of_length-le}
 use Rattle.std.proofs.lemmas.Bool.{and_parts, eqb-true}
-use Rattle.std.proofs.lemmas.List.{drop_more}
-use Rattle.std.proofs.lemmas.List.Elements.{All-cons, All-nil, All-push}
+use Rattle.std.proofs.lemmas.List.{drop_more, get_or-map, length-map}
+use Rattle.std.proofs.lemmas.List.Elements.{All-cons, All-get_or, All-head, All-nil, All-push, All-tail}
 use Rattle.toml.specs.Data.{item}
 use Rattle.toml.specs.View.{view, items_view}
 use Rattle.toml.specs.declared.value.Value.{Value}
@@ -103,3 +103,29 @@ are_alike None plans none = record {
   each = subst (λ ps. All (λ (plan : Plan). (plan.threads ≡ 1) × (plan.rms ≡ 1)) ps) (sym none) (All-nil _);
 }
 are_alike (Some size) plans each = record { threads = size.0; rms = size.1; some_threads = each.0; some_rms = each.1; each = each.2 }
+
+-- each of them is sized, and as large as the first
+sized_by : (threads rms : ℕ) → IsSize threads → IsSize rms → (plan : Plan) → (plan.threads ≡ threads) × (plan.rms ≡ rms) → IsSized plan
+sized_by threads rms some_threads some_rms plan is =
+    record { threads = subst IsSize (sym is.0) some_threads; rms = subst IsSize (sym is.1) some_rms }
+
+pub sized_first : (plan : Plan) (plans : List Plan) → AreAlike (plan ∷ plans) → IsSized plan
+sized_first plan plans alike =
+    sized_by alike.threads alike.rms alike.some_threads alike.some_rms plan
+    (All-head (λ (p : Plan). (p.threads ≡ alike.threads) × (p.rms ≡ alike.rms)) plan plans alike.each)
+
+module _ {X : Type 0} (f : X → Plan) (plan : Plan) (later : List X) (i : ℕ) (x : X) (alike : AreAlike (plan ∷ map f later)) (within : i < length later)
+    (is : x ≡ get_or later i x) where
+  abbrev Q : Plan → Type 0
+  Q p = (p.threads ≡ alike.threads) × (p.rms ≡ alike.rms)
+
+  at_later : ((f x).threads ≡ alike.threads) × ((f x).rms ≡ alike.rms)
+  at_later =
+      let there = All-get_or Q (map f later) i (f x) (omega (arith, within, length-map later f)) (All-tail Q plan (map f later) alike.each) in
+      subst Q (get_or-map f later i x (f x) within ∙ ap f (sym is)) there
+
+  pub sized_later : IsSized (f x)
+  sized_later = sized_by alike.threads alike.rms alike.some_threads alike.some_rms (f x) at_later
+
+  pub as_large : (f x).rms ≡ plan.rms
+  as_large = at_later.1 ∙ sym (All-head Q plan (map f later) alike.each).1

@@ -1,7 +1,7 @@
 -- What is printed of processes in turn.
-use Rattle.std.proofs.Common.{◌≡◌, ◌∙◌, ◌+◌, ◌<◌, ◌≤◌, ℕ, Bool, true, false, arith, List, [], ◌∷◌, ◌++◌, map, take, drop, length, length-map, get_or, Option, inl, inr, ap, refl, subst, sym, append_assoc}
+use Rattle.std.proofs.Common.{◌≡◌, ◌∙◌, ◌+◌, ◌<◌, ◌≤◌, ℕ, Bool, true, false, arith, List, [], ◌∷◌, ◌++◌, map, take, drop, length, get_or, Option, inl, inr, ap, refl, subst, sym, append_assoc}
 use Rattle.std.specs.Io.KnownBytes.{Appends}
-use Rattle.std.proofs.lemmas.List.{length-take-le, map_push, take_more}
+use Rattle.std.proofs.lemmas.List.{length-map, length-take-le, map-append, map_push, take-append-drop, take_more}
 use Rattle.xa_base.specs.Xid.{Xid}
 use Rattle.xa_base.specs.declared.branch.Gtrid.{Gtrid}
 use Rattle.xa_base.specs.declared.state.Fate.{Fate}
@@ -98,3 +98,16 @@ module _ {R L : Type 0} (see : Observes R L) (log : L) (rms : ℕ) (with_trace :
       told = told;
       begins = subst (AppendsBeginning old new) ends_so (begins_behind old now new (shown with_trace printed.before) whole printed.written begun);
     })
+
+-- ** the scenarios so far
+
+module _ {X : Type 0} (f : X → Plan) (plan : Plan) (later : List X) (i : ℕ) where
+  pub one_more : (x : X) → i < length later → plan ∷ map f (take (i + 1) later) ≡ (plan ∷ map f (take i later)) ++ f (get_or later i x) ∷ []
+  one_more x within =
+      ap (λ xs. plan ∷ map f xs) (take_more later i x within) ∙ ap (λ ps. plan ∷ ps) (map_push f (take i later) (get_or later i x))
+
+  pub counted : i ≤ length later → i + 2 ≡ length (plan ∷ map f (take i later)) + 1
+  counted within = omega (arith, length-map (take i later) f, length-take-le i later within)
+
+  pub with_rest : (plan ∷ map f (take i later)) ++ map f (drop i later) ≡ plan ∷ map f later
+  with_rest = ap (λ ps. plan ∷ ps) (sym (map-append f (take i later) (drop i later)) ∙ ap (map f) (take-append-drop i later))

@@ -1,8 +1,9 @@
 -- Processes in turn.
-use Rattle.std.proofs.Common.{◌≡◌, ◌∙◌, ℕ, ◌+◌, List, [], ◌∷◌, ◌++◌, length, Option, Some, ap, refl, subst, sym}
+use Rattle.std.proofs.Common.{◌≡◌, ◌∙◌, ℕ, ◌+◌, List, [], ◌∷◌, ◌++◌, length, Option, Some, None, ap, refl, subst, sym}
 use Rattle.xa_base.specs.Xid.{Xid}
 use Rattle.xa_base.specs.declared.branch.Branch.{Branch}
 use Rattle.xa_base.specs.declared.branch.Gtrid.{Gtrid}
+use Rattle.xa_log.specs.Content.{Content}
 use Rattle.xa_log.specs.Contract.{Moment}
 use Rattle.xa_model.specs.Promises.Processes.{OfProcesses, OfProcesses.First as Begins, Resumes, joined}
 use Rattle.xa_model.specs.Protocol.{AllRight, RightOrigin}
@@ -16,8 +17,9 @@ use Rattle.xa_scenario.specs.Runs.{IsStartOf, StartsOverLog}
 use Rattle.xa_scenario.specs.Scenarios.{Plan}
 use Rattle.xa_scenario.proofs.StartLemmas.{in_slot, out_of_slot}
 use Rattle.xa_system.specs.LogInHistory.{StartsOver}
+use Rattle.xa_system.specs.NextProcess.{Leaves}
 use Rattle.xa_system.specs.RmInHistory.{Looks}
-use Rattle.xa_system.specs.SystemView.{Observes, SystemView, origin_in, trace_in}
+use Rattle.xa_system.specs.SystemView.{MayRestart, Observes, SystemView, origin_in, trace_in}
 use Rattle.xa_tm.specs.Slots.{log_held, order_in, slot_moment}
 use Rattle.xa_tm.specs.declared.slot.Slot.{Slot}
 use Rattle.std.proofs.Common.{IsSomeAnd}
@@ -81,6 +83,29 @@ module _ {R L : Type 0} (look : Looks R) (moment : L → Moment) where
     };
     same = refl;
   }
+
+  -- a system that was started over what another one left
+  pub goes_on : (found : L) (rms : List R) (old new : SystemView R L) → log_held old.log ≡ Some found → HasStarted see found new
+      → ((moment old.handed).is_in_order → (moment found).is_in_order)
+      → ((moment old.handed).is_in_order → (slot_moment moment old.log).is_honest → MayRestart see old
+      → (content : Content) → (moment found).content ≡ Some content → Leaves look (trace_in look old) rms content)
+      → ((moment found).is_in_order → (slot_moment moment new.log).is_honest → IsSomeAnd (moment found).content (λ content. (past : Trace)
+      → Leaves look past rms content → Resumes past (origin_in look new)))
+      → HasGoneOn see old new
+  goes_on found rms old new at started order left follows = record {
+    found = found;
+    left = at;
+    started = started;
+    order = order;
+    resumes = λ first near h. by_content first near h (moment found).content refl (follows (order first) h);
+  }
+    where
+      by_content : (moment old.handed).is_in_order → MayRestart see old → (slot_moment moment new.log).is_honest
+          → (it : Option Content) → (moment found).content ≡ it → IsSomeAnd it (λ content. (past : Trace)
+          → Leaves look past rms content → Resumes past (origin_in look new)) → Resumes (trace_in look old) (origin_in look new)
+      by_content first near h None is follows = absurd follows
+      by_content first near h (Some content) is follows = follows (trace_in look old)
+          (left first (in_slot moment old.log found at (started.over.honest (out_of_slot moment new.log started.over.left started.is_left h))) near content is)
 
   -- the first one
   pub first_stands : (log : L) (plan : Plan) (gtrids : List Gtrid) (names : List Xid) (begun s : SystemView R L) → HasStarted see log begun

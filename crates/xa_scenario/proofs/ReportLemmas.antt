@@ -1,9 +1,9 @@
 -- The branches that were started, and what became of them.
-use Rattle.std.proofs.Common.{◌≡◌, ◌∙◌, ◌<◌, ℕ, arith, List, [], ◌∷◌, ◌++◌, map, length, length-map, get_or, true, ap, refl, sym}
+use Rattle.std.proofs.Common.{◌≡◌, ◌∙◌, ◌<◌, ℕ, arith, List, [], ◌∷◌, ◌++◌, map, length, get_or, true, ap, refl, sym}
 use Rattle.std.specs.Prelude.{◌↔◌, Contains}
 use Rattle.std.specs.List.Sorted.{IsStrictlySortedBy}
 use Rattle.std.specs.Map.{keys_of}
-use Rattle.std.proofs.lemmas.List.{map_push, get_or-map}
+use Rattle.std.proofs.lemmas.List.{get_or-map, length-map, map_push}
 use Rattle.std.proofs.lemmas.List.Elements.{All-nil, All-push, Contains-get_or}
 use Rattle.xa_base.specs.Branch.{xid_of_branch}
 use Rattle.xa_base.specs.Xid.{Xid, xid_cmp}
@@ -22,7 +22,7 @@ first_of line = line.0
 module _ (tr : Trace) (list : List (Xid × Fate)) (listed : (x : Xid) (f : Fate) → Contains list (x, f) ↔ IsReported tr x f) where
   names_one : (x : Xid) → Contains (map first_of list) x → (b : Branch) × (started tr b ≡ true) × (x ≡ xid_of_branch b)
   names_one x (k, within, is) =
-      let low : k < length list = omega (arith, within, length-map first_of list) in
+      let low : k < length list = omega (arith, within, length-map list first_of) in
       let line = get_or list k (x, Unstarted) in
       let reported = (listed line.0 line.1).0 (Contains-get_or list k (x, Unstarted) low) in
       (reported.branch, reported.is_started, sym is ∙ get_or-map first_of list k (x, Unstarted) x low ∙ reported.names)
@@ -30,7 +30,7 @@ module _ (tr : Trace) (list : List (Xid × Fate)) (listed : (x : Xid) (f : Fate)
   is_named : (x : Xid) → (b : Branch) × (started tr b ≡ true) × (x ≡ xid_of_branch b) → Contains (map first_of list) x
   is_named x (b, begun, is) =
       let it = (listed x (fate tr b)).1 (record { branch = b; is_started = begun; names = is; ends = refl }) in
-      (it.0, omega (arith, it.1, length-map first_of list), get_or-map first_of list it.0 (x, fate tr b) x it.1 ∙ ap first_of it.2)
+      (it.0, omega (arith, it.1, length-map list first_of), get_or-map first_of list it.0 (x, fate tr b) x it.1 ∙ ap first_of it.2)
 
   -- the names of a report
   pub adds_report : (old new : List Xid) → IsStrictlySortedBy xid_cmp (keys_of list) → new ≡ old ++ map first_of list → AddsStarted tr old new

@@ -71,6 +71,18 @@ fn headed(alloc: Global, number: usize, events: &[Event]) -> Result<String, RunF
     Ok(format!(in alloc; "process {number}\n{lines}")?)
 }
 
+/// Adds the identifiers of a report.
+fn add_names(report: Vec<(Xid, Fate)>, names: &mut Vec<Xid>) -> Result<(), RunFault>
+    ensures added { OnOk result (names.new.items
+        ≡ names.old.items ++ map (λ line. line.0) report.items) }
+    ensures fault { IfErr result (λ e. e ≡ Memory) }
+{
+    for (xid, _) in report {
+        names.push(xid)?;
+    }
+    Ok(())
+}
+
 /// Adds the identifiers of the branches whose xa_start was accepted in a system.
 fn add_started<R: ResourceManager + Drop, L: DecisionLog + Drop>(
     alloc: Global,
@@ -83,10 +95,7 @@ fn add_started<R: ResourceManager + Drop, L: DecisionLog + Drop>(
     ensures fault { IfErr result (λ e. e ≡ Memory) }
 {
     let report = system.report(alloc)?;
-    for (xid, _) in report {
-        names.push(xid)?;
-    }
-    Ok(())
+    add_names(report, names)
 }
 
 /// What became of these branches, as the resource managers of a system know it.

@@ -125,7 +125,13 @@ fn run<W: Write>(
             }
             ran
         }
-        None => run_over(alloc, &texts, SqlLog::open_in_memory(alloc)?, with_trace, out),
+        None => run_over(
+            alloc,
+            &texts,
+            SqlLog::open_in_memory(alloc)?,
+            with_trace,
+            out,
+        ),
     };
     match ran {
         Ok(()) => Ok(()),

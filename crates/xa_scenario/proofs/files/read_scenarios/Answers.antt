@@ -1,4 +1,4 @@
-use Rattle.std.proofs.Common.{◌≡◌, ◌+◌, ◌++◌, ◌∷◌, [], Err, drop, drop_of_length-le, inl, inr, map, subst, sym, ⊎_elim}
+use Rattle.std.proofs.Common.{◌≡◌, ◌+◌, ◌++◌, ◌∷◌, [], Err, Ok, drop, drop_of_length-le, inl, inr, map, subst, sym, ⊎_elim}
 use Rattle.xa_scenario.specs.Files.{earlier_of, file_after, files_from, scenarios_of}
 use Rattle.xa_scenario.specs.Scenarios.{plan_of}
 use Rattle.xa_scenario.proofs.FileLemmas.{AreOfSize, are_alike, at_file, by_fault, file_read, file_refused, files_end, of_size_more, with_plans}
@@ -32,7 +32,7 @@ loop-file-preserved c =
     let so_far = subst (λ ts. with_plans front (files_from i (earlier_of before) ts) ≡ all)
     (at_file (λ text. text.items) texts i text c.loop-file-test.true c.index-texts-file.is) c.loop-file.invariant.read in
     let h = c.in-Ok.ensures.read in
-    let read = subst (λ t. file_after (earlier_of before) t ≡ _) c.deref.ensures.value h.1 in
+    let read = subst (λ t. file_after (earlier_of before) t ≡ Ok (h.0, earlier_of next)) c.deref.ensures.value h.1 in
     record {
       read = subst (λ plans. with_plans plans (files_from (i + 1) (earlier_of next) rest) ≡ all) (sym h.2)
           (file_read front h.0 i (earlier_of before) (earlier_of next) text.items rest all read so_far);
