@@ -1,5 +1,5 @@
 -- What is printed of processes in turn.
-use Rattle.std.proofs.Common.{◌≡◌, ◌∙◌, ◌+◌, ◌<◌, ◌≤◌, ℕ, Bool, true, false, arith, List, [], ◌∷◌, ◌++◌, map, take, drop, length, get_or, Option, inl, inr, ap, refl, subst, sym, append_assoc}
+use Rattle.std.proofs.Common.{◌≡◌, ◌∙◌, ◌+◌, ◌<◌, ◌≤◌, ℕ, Bool, true, false, arith, List, [], ◌∷◌, ◌++◌, map, take, drop, length, get_or, Option, Some, None, append-nil, inl, inr, ap, refl, subst, sym, append_assoc}
 use Rattle.std.specs.Io.KnownBytes.{Appends}
 use Rattle.std.proofs.lemmas.List.{length-map, length-take-le, map-append, map_push, take-append-drop, take_more}
 use Rattle.xa_base.specs.Xid.{Xid}
@@ -15,6 +15,13 @@ use Rattle.xa_system.specs.SystemView.{Observes, SystemView, origin_in}
 shown_both : (with_trace : Bool) (xs ys : List ℕ) → shown with_trace (xs ++ ys) ≡ shown with_trace xs ++ shown with_trace ys
 shown_both true xs ys = refl
 shown_both false xs ys = refl
+
+-- nothing is written of nothing
+pub nothing_written : (with_trace : Bool) (old : Option (List ℕ)) → Appends old old (shown with_trace [])
+nothing_written true None = tt
+nothing_written true (Some x) = sym (append-nil x)
+nothing_written false None = tt
+nothing_written false (Some x) = sym (append-nil x)
 
 begins_behind : (old mid new : Option (List ℕ)) (xs ys : List ℕ) → Appends old mid xs → AppendsBeginning mid new ys → AppendsBeginning old new (xs ++ ys)
 begins_behind old mid new xs ys first second = (
@@ -37,7 +44,7 @@ module _ {R L : Type 0} (see : Observes R L) (log : L) (rms : ℕ) (with_trace :
 
   module _ (plan : Plan) (plans later all : List Plan) (are : (plan ∷ plans) ++ later ≡ all) (text : List ℕ) (old now new : Option (List ℕ))
       (printed : HavePrinted (plan ∷ plans) text old now) where
-    traces : List ℕ
+    abbrev traces : List ℕ
     traces = printed.before ++ printed.piece
 
     traced : AreTraces see.moment log all with_trace (shown with_trace traces)
@@ -49,7 +56,6 @@ module _ {R L : Type 0} (see : Observes R L) (log : L) (rms : ℕ) (with_trace :
     }
 
     spelled_both : shown with_trace printed.before ++ text ≡ shown with_trace traces
-    unfolding traces
     spelled_both = ap (λ t. shown with_trace printed.before ++ t) printed.spelled ∙ sym (shown_both with_trace printed.before printed.piece)
 
     -- it is written too

@@ -1,14 +1,12 @@
-use Rattle.std.proofs.Common.{◌≡◌, ◌∷◌, length, map, string_bytes, take}
+use Rattle.std.proofs.Common.{◌≡◌, ◌∷◌, map, string_bytes, take}
 use Rattle.xa_rm.specs.contracts.mem_rm.MemRmResourceManager.TheImpl as memory
-use Rattle.xa_scenario.specs.Scenarios.{plan_of}
+use Rattle.xa_scenario.specs.Scenarios.{Plan, plan_of}
 use Rattle.xa_scenario.proofs.PrintLemmas.{HavePrinted}
 use Rattle.xa_system.specs.SystemView.{observes}
 use Rattle.xa_scenario.proofs.processes.run_scenarios.Given as goal
 
 abbrev pub invariant-loop-i : goal.invariant-loop-i
-invariant-loop-i g l = record {
-  printed : HavePrinted (observes (memory.ghosts).held_of (memory.ghosts).scan_of (memory.ghosts).in_doubt_of g.L.DecisionLog.moment) l.fn.log l.first.now.rms
-      l.with_trace l.process.gtrids.items l.process.names.items l.process.system (plan_of l.first.now ∷ map plan_of (take l.i l.later))
-      (string_bytes l.process.text) (g.W.Write.contents l.fn.out) (g.W.Write.contents l.out);
-  count : length l.process.system.rms ≡ l.first.now.rms;
-}
+invariant-loop-i g l = (plan : Plan) × (plan ∷ map plan_of l.later ≡ map plan_of l.scenarios)
+    × HavePrinted (observes (memory.ghosts).held_of (memory.ghosts).scan_of (memory.ghosts).in_doubt_of g.L.DecisionLog.moment) l.fn.log plan.rms
+    l.with_trace l.process.gtrids.items l.process.names.items l.process.system (plan ∷ map plan_of (take l.i l.later))
+    (string_bytes l.process.text) (g.W.Write.contents l.fn.out) (g.W.Write.contents l.out)
