@@ -1,5 +1,5 @@
 -- What is printed of processes in turn.
-use Rattle.std.proofs.Common.{◌≡◌, ◌∙◌, ◌+◌, ◌<◌, ◌≤◌, ℕ, Bool, true, false, arith, List, [], ◌∷◌, ◌++◌, map, take, drop, length, get_or, Option, Some, None, append-nil, inl, inr, ap, refl, subst, sym, append_assoc}
+use Rattle.std.proofs.Common.{◌≡◌, ◌∙◌, ◌+◌, ◌<◌, ◌≤◌, ℕ, zero, suc, Bool, true, false, arith, List, [], ◌∷◌, ◌++◌, map, take, drop, length, get_or, Option, Some, None, append-nil, inl, inr, ap, refl, subst, sym, append_assoc}
 use Rattle.std.specs.Io.KnownBytes.{Appends}
 use Rattle.std.proofs.lemmas.List.{length-map, length-take-le, map-append, map_push, take-append-drop, take_more}
 use Rattle.xa_base.specs.Xid.{Xid}
@@ -8,6 +8,7 @@ use Rattle.xa_base.specs.declared.state.Fate.{Fate}
 use Rattle.xa_files.proofs.OutputLemmas.{both_written}
 use Rattle.xa_files.specs.Fates.{fate_lines}
 use Rattle.xa_files.specs.Outputs.{AppendsBeginning}
+use Rattle.xa_log.specs.Contract.{Moment}
 use Rattle.xa_scenario.specs.Processes.{AreFates, AreTraces, BeginsProcesses, IsLast, PrintsProcesses, StopsAnywhere, StopsBetween, process_of, shown}
 use Rattle.xa_scenario.specs.Scenarios.{Plan}
 use Rattle.xa_system.specs.SystemView.{Observes, SystemView, origin_in}
@@ -33,17 +34,23 @@ begins_behind old mid new xs ys first second = (
   },
 )
 
-module _ {R L : Type 0} (see : Observes R L) (log : L) (rms : ℕ) (with_trace : Bool) (gtrids : List Gtrid) (names : List Xid) (s : SystemView R L) where
-  -- processes of these plans have printed all their traces but this text of the last one
-  pub record HavePrinted (plans : List Plan) (text : List ℕ) (old now : Option (List ℕ)) : Type 0 where
+-- before the first process nothing is written
+pub none_traced : {L : Type 0} (moment : L → Moment) (log : L) (all : List Plan) (with_trace : Bool) → AreTraces moment log all with_trace (shown with_trace [])
+none_traced moment log all true = record { first = []; later = all; are = refl; traced = refl }
+none_traced moment log all false = record { first = []; later = all; are = refl; traced = refl }
+
+module _ {R L : Type 0} (see : Observes R L) (log : L) (rms : ℕ) (with_trace : Bool) (all : List Plan) where
+  -- processes of these plans, the first of all, have printed all their traces but this text of the last one
+  pub record HavePrinted (gtrids : List Gtrid) (names : List Xid) (s : SystemView R L) (plans : List Plan) (text : List ℕ) (old now : Option (List ℕ)) : Type 0 where
     pub before : List ℕ
     pub piece : List ℕ
     pub last : IsLast see log rms plans gtrids names s (before ++ piece)
     pub spelled : text ≡ shown with_trace piece
+    pub so_far : AreTraces see.moment log all with_trace (shown with_trace before)
     pub written : Appends old now (shown with_trace before)
 
-  module _ (plan : Plan) (plans later all : List Plan) (are : (plan ∷ plans) ++ later ≡ all) (text : List ℕ) (old now new : Option (List ℕ))
-      (printed : HavePrinted (plan ∷ plans) text old now) where
+  module _ (gtrids : List Gtrid) (names : List Xid) (s : SystemView R L) (plan : Plan) (plans later : List Plan) (are : (plan ∷ plans) ++ later ≡ all)
+      (text : List ℕ) (old now new : Option (List ℕ)) (printed : HavePrinted gtrids names s (plan ∷ plans) text old now) where
     abbrev traces : List ℕ
     traces = printed.before ++ printed.piece
 
@@ -58,12 +65,11 @@ module _ {R L : Type 0} (see : Observes R L) (log : L) (rms : ℕ) (with_trace :
     spelled_both : shown with_trace printed.before ++ text ≡ shown with_trace traces
     spelled_both = ap (λ t. shown with_trace printed.before ++ t) printed.spelled ∙ sym (shown_both with_trace printed.before printed.piece)
 
-    -- it is written too
-    pub all_written : Appends now new text → Appends old new (shown with_trace traces)
+    all_written : Appends now new text → Appends old new (shown with_trace (printed.before ++ printed.piece))
     all_written more =
         subst (Appends old new) spelled_both (both_written old now new (shown with_trace printed.before) text printed.written more)
 
-    -- nothing more comes
+    -- it is written, and nothing more comes
     pub stops_between : Appends now new text → StopsBetween see.moment log all with_trace old new
     stops_between more = (shown with_trace traces, traced, all_written more)
 
@@ -75,15 +81,30 @@ module _ {R L : Type 0} (see : Observes R L) (log : L) (rms : ℕ) (with_trace :
       subst (AppendsBeginning old new) spelled_both (begins_behind old now new (shown with_trace printed.before) text printed.written begun),
     )
 
+    -- it is written, and another process comes
+    pub printed_more : (more_gtrids : List Gtrid) (more_names : List Xid) (next : SystemView R L) (more : List Plan) (other piece : List ℕ)
+        → Appends now new text → other ≡ shown with_trace piece
+        → IsLast see log rms more more_gtrids more_names next ((printed.before ++ printed.piece) ++ piece)
+        → HavePrinted more_gtrids more_names next more other old new
+    printed_more more_gtrids more_names next more other piece written spelled last = record {
+      before = traces;
+      piece = piece;
+      last = last;
+      spelled = spelled;
+      so_far = traced;
+      written = all_written written;
+    }
+
   -- the text of the last one with the fates behind it
-  module _ (plans : List Plan) (text whole : List ℕ) (old now new : Option (List ℕ)) (printed : HavePrinted plans text old now)
+  module _ (gtrids : List Gtrid) (names : List Xid) (s : SystemView R L) (text whole : List ℕ) (old now new : Option (List ℕ))
+      (printed : HavePrinted gtrids names s all text old now)
       (fates : List (Xid × Fate)) (told : AreFates (origin_in see.look s) s.events names fates) (is : whole ≡ text ++ fate_lines fates) where
     ends_so : shown with_trace printed.before ++ whole ≡ shown with_trace (printed.before ++ printed.piece) ++ fate_lines fates
     ends_so = ap (λ t. shown with_trace printed.before ++ t) (is ∙ ap (λ t. t ++ fate_lines fates) printed.spelled)
         ∙ sym (append_assoc (shown with_trace printed.before) (shown with_trace printed.piece) (fate_lines fates))
         ∙ ap (λ t. t ++ fate_lines fates) (sym (shown_both with_trace printed.before printed.piece))
 
-    pub prints_all : Appends now new whole → PrintsProcesses see.moment log plans with_trace old new
+    pub prints_all : Appends now new whole → PrintsProcesses see.moment log all with_trace old new
     prints_all more = record {
       whole = printed.last.whole;
       last = process_of see log gtrids names s;
@@ -94,7 +115,7 @@ module _ {R L : Type 0} (see : Observes R L) (log : L) (rms : ℕ) (with_trace :
       writes = subst (Appends old new) ends_so (both_written old now new (shown with_trace printed.before) whole printed.written more);
     }
 
-    pub begins_all : AppendsBeginning now new whole → StopsAnywhere see.moment log plans with_trace old new
+    pub begins_all : AppendsBeginning now new whole → StopsAnywhere see.moment log all with_trace old new
     begins_all begun = inr (record {
       whole = printed.last.whole;
       last = process_of see log gtrids names s;
@@ -107,6 +128,12 @@ module _ {R L : Type 0} (see : Observes R L) (log : L) (rms : ℕ) (with_trace :
 
 -- ** the scenarios so far
 
+take_all : {X : Type 0} (xs : List X) (i : ℕ) → length xs ≤ i → take i xs ≡ xs
+take_all [] zero past = refl
+take_all [] (suc i) past = refl
+take_all (x ∷ xs) zero past = absurd (omega (arith, past))
+take_all (x ∷ xs) (suc i) past = ap (λ l. x ∷ l) (take_all xs i (omega (arith, past)))
+
 module _ {X : Type 0} (f : X → Plan) (plan : Plan) (later : List X) (i : ℕ) where
   pub one_more : (x : X) → i < length later → plan ∷ map f (take (i + 1) later) ≡ (plan ∷ map f (take i later)) ++ f (get_or later i x) ∷ []
   one_more x within =
@@ -117,3 +144,6 @@ module _ {X : Type 0} (f : X → Plan) (plan : Plan) (later : List X) (i : ℕ) 
 
   pub with_rest : (plan ∷ map f (take i later)) ++ map f (drop i later) ≡ plan ∷ map f later
   with_rest = ap (λ ps. plan ∷ ps) (sym (map-append f (take i later) (drop i later)) ∙ ap (map f) (take-append-drop i later))
+
+  pub all_are : length later ≤ i → plan ∷ map f (take i later) ≡ plan ∷ map f later
+  all_are past = ap (λ xs. plan ∷ map f xs) (take_all later i past)

@@ -1,4 +1,4 @@
-use Rattle.std.proofs.Common.{◌∙◌, refl, subst, sym, IsSomeAnd}
+use Rattle.std.proofs.Common.{◌∙◌, Some, ap, refl, subst, sym, IsSomeAnd}
 use Rattle.xa_scenario.proofs.ProcessLemmas.{goes_on}
 use Rattle.xa_scenario.proofs.StartLemmas.{has_started}
 use Rattle.xa_system.specs.LogInHistory.{StartsOver}
@@ -11,15 +11,15 @@ returns-in-Ok-resume-clause-goes_on g c =
     let look = looks g.R.ResourceManager.held_of g.R.ResourceManager.scan_of g.R.ResourceManager.in_doubt_of in
     let moment = g.L.DecisionLog.moment in
     let new = c.in-Ok-resume.system in
-    let found = c.in-Some.log in
+    let at = c.in-Some.is ∙ ap Some c.in-Some.log-is in
     let resumed = c.in-Ok-resume.ensures in
-    goes_on look moment found c.in-Ok.remains.rms.items c.args.system new (sym c.in-Ok.ensures.log ∙ c.in-Some.is)
-    (has_started (observes g.R.ResourceManager.held_of g.R.ResourceManager.scan_of g.R.ResourceManager.in_doubt_of moment) found new refl
+    goes_on look moment _ c.in-Ok.remains.rms.items c.args.system new (sym c.in-Ok.ensures.log ∙ at)
+    (has_started (observes g.R.ResourceManager.held_of g.R.ResourceManager.scan_of g.R.ResourceManager.in_doubt_of moment) _ new refl
     resumed.held.0 resumed.handed.0 resumed.honest
     (λ order honest.
     subst (λ log. IsSomeAnd (moment log).content (StartsOver (origin_in look new))) resumed.handed.1
     (resumed.ok.4.log.start (subst (λ log. (moment log).is_in_order) (sym resumed.handed.1) order) honest))
     resumed.near resumed.held.1)
-    (λ order. c.in-Ok.ensures.order order found c.in-Some.is)
-    (λ order honest near content is. c.in-Ok.ensures.left order honest near found content c.in-Some.is is)
+    (λ order. c.in-Ok.ensures.order order _ at)
+    (λ order honest near content is. c.in-Ok.ensures.left order honest near _ content at is)
     resumed.follows
