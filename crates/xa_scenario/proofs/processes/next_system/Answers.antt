@@ -1,4 +1,4 @@
-use Rattle.std.proofs.Common.{◌∙◌, Some, ap, refl, subst, sym, IsSomeAnd}
+use Rattle.std.proofs.Common.{◌≡◌, ◌∙◌, Some, ap, refl, subst, sym, IsSomeAnd}
 use Rattle.xa_scenario.proofs.ProcessLemmas.{goes_on}
 use Rattle.xa_scenario.proofs.StartLemmas.{has_started}
 use Rattle.xa_system.specs.LogInHistory.{StartsOver}
@@ -11,7 +11,8 @@ returns-in-Ok-resume-clause-goes_on g c =
     let look = looks g.R.ResourceManager.held_of g.R.ResourceManager.scan_of g.R.ResourceManager.in_doubt_of in
     let moment = g.L.DecisionLog.moment in
     let new = c.in-Ok-resume.system in
-    let at = c.in-Some.is ∙ ap Some c.in-Some.log-is in
+    let known : c.in-Ok.remains.log ≡ Some c.in-Some.log = c.in-Some.is in
+    let at = known ∙ ap Some (sym c.in-Some.log-is) in
     let resumed = c.in-Ok-resume.ensures in
     goes_on look moment _ c.in-Ok.remains.rms.items c.args.system new (sym c.in-Ok.ensures.log ∙ at)
     (has_started (observes g.R.ResourceManager.held_of g.R.ResourceManager.scan_of g.R.ResourceManager.in_doubt_of moment) _ new refl
