@@ -1,0 +1,224 @@
+-- However it is chosen where the branches stand, among where they may, there is a history that leaves them there: by recursion on
+-- what was seen.
+use Rattle.std.proofs.Common.{◌≡◌, ℕ, List, length, Bool, true, false, ◌&&◌, ◌<◌, ◌⊎◌, refl, sym, ap, ◌∙◌, subst}
+use Rattle.std.proofs.lemmas.Bool.{eq-eqb}
+use Rattle.std.specs.Prelude.{if◌then◌else◌, Option, Some, None}
+use mathlib.Core.Logic.{◌⊎◌.inl, ◌⊎◌.inr}
+use Rattle.xa_base.proofs.BranchKeys.{branch_eq-refl, branch_eq-true}
+use Rattle.xa_base.specs.Branch.{branch_eq, xid_of_branch}
+use Rattle.xa_base.specs.HeldBranch.{HeldBranch, new_branch}
+use Rattle.xa_base.specs.Standing.{is_in_doubt}
+use Rattle.xa_base.specs.StateTable.{Kind, asks_of, broken}
+use Rattle.xa_base.specs.Xid.{Xid}
+use Rattle.xa_base.specs.declared.answer.Answer.TheVariants.{Page, Ret}
+use Rattle.xa_base.specs.declared.call.Call.TheVariants as Calls
+use Rattle.xa_base.specs.declared.code.Code.TheVariants as Codes
+use Rattle.xa_base.specs.declared.state.Standing.{Standing}
+use Rattle.xa_base.specs.declared.state.Standing.TheVariants.{Unstarted}
+use Rattle.xa_base.specs.declared.vote.Vote.TheVariants.{Yes}
+use Rattle.xa_model.proofs.NameLemmas.OwnNames.{own_name}
+use Rattle.xa_model.proofs.ProcessLemmas.Leaving.{fits_branch}
+use Rattle.xa_model.specs.Facts.{fits, held_of, heard, next_call, standing, taken, up}
+use Rattle.xa_model.specs.Facts.InDoubt.{is_in_doubt_at, name_of}
+use Rattle.xa_model.specs.Facts.Standings.{moved_by, standing_after}
+use Rattle.xa_model.specs.Protocol.{IsRun, Lists, OldOrigin, SoundAnswer}
+use Rattle.xa_model.specs.Trace.{Answer, Branch, Call, Code, Happening, Happening.Begun, Happening.Claimed, Happening.CompletedAlone, Happening.Decided, Happening.Done, Happening.Heard, Happening.Issued, Happening.Nothing, Happening.Resolved, Happening.ResolvedOpen, Happening.Took, Line, Name, Name.Foreign, Name.Ours, Origin, Trace, Trace.From, Trace.Then, line_eq, line_of}
+use Rattle.xa_standings.specs.Explained.{IsExplained, IsOldLog, IsRunOf}
+use Rattle.xa_standings.specs.Seen.{Alone, Alone.NoMore, HasAnswer, IsHistory, IsHistory.Does, IsHistory.Hears, IsHistory.Loses, IsHistory.LosesAnswer, IsHistory.Starts, IsManagers, KeepsRules, Seen, Seen.Answered, Seen.Did, Seen.Lost, Seen.Start, Waits, break_of, start_with}
+use Rattle.xa_standings.specs.Standings.{Explained, Explains, ExplainsIf, MayBeDone, MayBeFound, MayStand, Takes}
+use Rattle.xa_standings.proofs.Taken.{TakenThere, alone_runs, first_still, heard_next, same_lines, taken_there}
+
+-- ** the start
+
+held_there : (Branch → Standing) → Name → HeldBranch
+held_there f (Ours b) = record { standing = f b; starter = b.thread; vote = Yes; retries = 0 }
+held_there f (Foreign x) = new_branch
+
+found_there : (o : Origin) (f : Branch → Standing) (b : Branch) → MayBeFound o b (f b) → (t : Bool) → fits b ≡ t
+    → (if t then held_there f (name_of (xid_of_branch b)) else new_branch).standing ≡ f b
+unfolding held_there
+found_there o f b may true e = ap (λ n. (held_there f n).standing) (own_name b (fits_branch b e))
+found_there o f b (inl u) false e = sym u
+found_there o f b (inr (g, lt, n)) false e = absurd (cc)
+
+starts : (o : Origin) → IsOldLog o → (f : Branch → Standing) → ((b : Branch) → MayBeFound o b (f b)) → IsRunOf o Start f
+unfolding held_there
+starts o old f may = record {
+  whole = record { history = start_with o held; is_history = Starts held; runs = is_old };
+  there = stands;
+}
+  where
+    held : ℕ → Xid → HeldBranch
+    held r x = held_there f (name_of x)
+
+    stands : (b : Branch) → standing (start_with o held) b ≡ f b
+    stands b = found_there o f b (may b) (fits b) refl
+
+    is_old : IsRun (start_with o held)
+    is_old = record {
+      rows_old = old.rows_old;
+      record_old = old.record_old;
+      held_old = λ b. by_found b (may b);
+    }
+      where
+        by_found : (b : Branch) → MayBeFound o b (f b)
+            → ((held_of (record o { held = held }) b).standing ≡ Unstarted) ⊎ (b.gtrid.incarnation < o.incarnation)
+        by_found b (inl u) = inl (stands b ∙ u)
+        by_found b (inr (g, lt, n)) = inr lt
+
+-- ** what the manager did
+
+stays : (tr : Trace) (e : Happening) → IsManagers e → (b : Branch) (f : Standing) → standing_after tr e b f ≡ f
+stays tr (Begun g) m b f = refl
+stays tr (Issued l c) m b f = refl
+stays tr (Resolved r) m b f = refl
+stays tr (ResolvedOpen r) m b f = refl
+stays tr (Claimed g) m b f = refl
+stays tr (Decided g outcome) m b f = refl
+stays tr (Done g) m b f = refl
+stays tr Nothing m b f = refl
+stays tr _ m b f = absurd m
+
+-- ** an answer
+
+module _ (o : Origin) (seen : Seen) (l : Line) (c : Call) (from to : Branch → Standing) (r : IsRunOf o seen from) where
+  abbrev tr : Trace
+  tr = r.whole.history
+
+  -- any answer that is sound, with what the resource managers do before it
+  heard_so : (a : Answer) (now : Trace) → Alone tr now → Waits tr l c → SoundAnswer now l c a
+      → ((b : Branch) → standing (Then now (Took l c a)) b ≡ to b) → IsRunOf o (Answered seen l c a) to
+  heard_so a now alone w sound there = record {
+    whole = record {
+      history = Then (Then now (Took l c a)) (Heard l c a);
+      is_history = Hears seen tr now l c a r.whole.is_history alone;
+      runs = (
+        (alone_runs tr now alone r.whole.runs, (first_still tr now l alone ∙ w.first, sound)),
+        ((same_lines tr now alone).is_up ∙ w.is_up, heard_next tr now l c a alone w.none_unheard),
+      );
+    };
+    there = there;
+  }
+
+  -- a code
+  code_heard : (code : Code) (x : Option (Kind × Branch)) → asks_of c ≡ x → HasAnswer c (Ret code) → Waits tr l c
+      → ((b : Branch) → Takes x code b (from b) (to b)) → IsRunOf o (Answered seen l c (Ret code)) to
+  code_heard code (Some (k, d)) asks has w takes =
+      heard_so (Ret code) t.now t.alone w t.sound t.there
+    where
+      t : TakenThere tr l c code to
+      t = taken_there tr l c code k d from to asks r.there
+          (subst (λ z. ExplainsIf z (from d) k code (to d)) (branch_eq-refl d) (takes d))
+          (λ b n. subst (λ z. ExplainsIf z (from b) k code (to b)) n (takes b))
+  code_heard code None asks has w takes =
+      heard_so (Ret code) tr NoMore w (sound c asks has) (λ b. ap (λ x. moved_by x code b (standing tr b)) asks ∙ (r.there b ∙ sym (takes b)))
+    where
+      sound : (c : Call) → asks_of c ≡ None → HasAnswer c (Ret code) → SoundAnswer tr l c (Ret code)
+      sound Calls.OpenRm e h = ap Ret (h refl)
+      sound Calls.CloseRm e h = ap Ret (h refl)
+      sound (Calls.Recover n s e) q h = tt
+      sound _ e h = absurd (cc)
+
+  -- a page
+  page_heard : (names : List Name) → HasAnswer c (Page names) → Waits tr l c
+      → ((b : Branch) → Explained l c (Page names) b (from b) (to b)) → IsRunOf o (Answered seen l c (Page names)) to
+  page_heard names has w x = heard_so (Page names) tr NoMore w (sound c has) (λ b. r.there b ∙ sym (x b).0)
+    where
+      listed : (b : Branch) → Lists names (Ours b) → is_in_doubt_at tr l.rm b ≡ true
+      listed b i =
+          let y = (x b).1 i in
+          λ j. eq-eqb _ _ y.0 j && ((ap is_in_doubt (r.there b) ∙ y.1) j)
+
+      sound : (c : Call) → HasAnswer c (Page names) → SoundAnswer tr l c (Page names)
+      sound (Calls.Recover n s e) h = listed
+      sound _ h = absurd h
+
+  -- ** a line that is lost
+
+  lost_so : (d : Option Call) → ((b : Branch) → to b ≡ from b) → (f : Branch → Standing)
+      → ((b : Branch) → f b ≡ (if line_eq l (line_of b) then broken (to b) else to b)) → IsRunOf o (Lost seen l d) f
+  lost_so d same f final = record {
+    whole = record {
+      history = Then tr (break_of l);
+      is_history = Loses seen tr l d r.whole.is_history;
+      runs = (r.whole.runs, tt);
+    };
+    there = λ b. ap (λ s. if line_eq l (line_of b) then broken s else s) (r.there b ∙ sym (same b)) ∙ sym (final b);
+  }
+
+  lost_answer : (code : Code) (k : Kind) (d : Branch) → asks_of c ≡ Some (k, d) → next_call tr l ≡ Some c
+      → Explains (from d) k code (to d) → ((b : Branch) → branch_eq d b ≡ false → to b ≡ from b) → (f : Branch → Standing)
+      → ((b : Branch) → f b ≡ (if line_eq l (line_of b) then broken (to b) else to b)) → IsRunOf o (Lost seen l (Some c)) f
+  lost_answer code k d asks first x others f final = record {
+    whole = record {
+      history = Then (Then t.now (Took l c (Ret code))) (break_of l);
+      is_history = LosesAnswer seen tr t.now l c (Ret code) r.whole.is_history t.alone;
+      runs = ((alone_runs tr t.now t.alone r.whole.runs, (first_still tr t.now l t.alone ∙ first, t.sound)), tt);
+    };
+    there = λ b. ap (λ s. if line_eq l (line_of b) then broken s else s) (t.there b) ∙ sym (final b);
+  }
+    where
+      t : TakenThere tr l c code to
+      t = taken_there tr l c code k d from to asks r.there x others
+
+  -- the call was done, or it was not, as the branch that it names tells
+  lost_call : (x : Option (Kind × Branch)) → asks_of c ≡ x → next_call tr l ≡ Some c
+      → ((b : Branch) → (to b ≡ from b) ⊎ ((a : Code) × Takes x a b (from b) (to b))) → (f : Branch → Standing)
+      → ((b : Branch) → f b ≡ (if line_eq l (line_of b) then broken (to b) else to b)) → IsRunOf o (Lost seen l (Some c)) f
+  lost_call None asks first done f final = lost_so (Some c) (λ b. unmoved b (done b)) f final
+    where
+      unmoved : (b : Branch) → (to b ≡ from b) ⊎ ((a : Code) × (to b ≡ from b)) → to b ≡ from b
+      unmoved b (inl e) = e
+      unmoved b (inr (a, e)) = e
+  lost_call (Some (k, d)) asks first done f final = by_branch (done d)
+    where
+      others : (b : Branch) → branch_eq d b ≡ false → (to b ≡ from b) ⊎ ((a : Code) × Takes (Some (k, d)) a b (from b) (to b)) → to b ≡ from b
+      others b n (inl e) = e
+      others b n (inr (a, x)) = subst (λ z. ExplainsIf z (from b) k a (to b)) n x
+
+      all_stay : (e : to d ≡ from d) (b : Branch) (t : Bool) → branch_eq d b ≡ t → to b ≡ from b
+      all_stay e b true q = subst (λ z. to z ≡ from z) (branch_eq-true d b q) e
+      all_stay e b false q = others b q (done b)
+
+      by_branch : (to d ≡ from d) ⊎ ((a : Code) × Takes (Some (k, d)) a d (from d) (to d)) → IsRunOf o (Lost seen l (Some c)) f
+      by_branch (inl e) = lost_so (Some c) (λ b. all_stay e b (branch_eq d b) refl) f final
+      by_branch (inr (a, x)) =
+          lost_answer a k d asks first (subst (λ z. ExplainsIf z (from d) k a (to d)) (branch_eq-refl d) x) (λ b n. others b n (done b)) f final
+
+-- ** all that was seen
+
+did_so : (o : Origin) (seen : Seen) (e : Happening) (f : Branch → Standing) → KeepsRules o (Did seen e) → IsRunOf o seen f
+    → IsRunOf o (Did seen e) f
+did_so o seen e f keeps r = record {
+  whole = record {
+    history = Then r.whole.history e;
+    is_history = Does seen r.whole.history e r.whole.is_history;
+    runs = (r.whole.runs, keeps.2 r.whole.history r.whole.is_history r.whole.runs);
+  };
+  there = λ b. stays r.whole.history e keeps.1 b (standing r.whole.history b) ∙ r.there b;
+}
+
+answered_so : (o : Origin) (seen : Seen) (l : Line) (c : Call) (a : Answer) (from to : Branch → Standing)
+    → KeepsRules o (Answered seen l c a) → IsRunOf o seen from → ((b : Branch) → Explained l c a b (from b) (to b))
+    → IsRunOf o (Answered seen l c a) to
+answered_so o seen l c (Ret code) from to keeps r x =
+    code_heard o seen l c from to r code (asks_of c) refl keeps.1 (keeps.2 r.whole.history r.whole.is_history r.whole.runs) x
+answered_so o seen l c (Page names) from to keeps r x =
+    page_heard o seen l c from to r names keeps.1 (keeps.2 r.whole.history r.whole.is_history r.whole.runs) x
+
+was_lost : (o : Origin) (seen : Seen) (l : Line) (d : Option Call) (from to f : Branch → Standing) → KeepsRules o (Lost seen l d)
+    → IsRunOf o seen from → ((b : Branch) → MayBeDone d b (from b) (to b))
+    → ((b : Branch) → f b ≡ (if line_eq l (line_of b) then broken (to b) else to b)) → IsRunOf o (Lost seen l d) f
+was_lost o seen l (Some c) from to f keeps r done final =
+    lost_call o seen l c from to r (asks_of c) refl (keeps.1 r.whole.history r.whole.is_history r.whole.runs) done f final
+was_lost o seen l None from to f keeps r done final = lost_so o seen l Calls.OpenRm from to r None done f final
+
+pub chosen : (o : Origin) (seen : Seen) → IsOldLog o → KeepsRules o seen → (f : Branch → Standing)
+    → ((b : Branch) → MayStand o seen b (f b)) → IsRunOf o seen f
+chosen o Start old keeps f may = starts o old f may
+chosen o (Did seen e) old keeps f may = did_so o seen e f keeps (chosen o seen old keeps.0 f may)
+chosen o (Answered seen l c a) old keeps f may =
+    answered_so o seen l c a (λ b. (may b).0) f keeps (chosen o seen old keeps.0 (λ b. (may b).0) (λ b. (may b).1)) (λ b. (may b).2)
+chosen o (Lost seen l d) old keeps f may =
+    was_lost o seen l d (λ b. (may b).0) (λ b. (may b).2.0) f keeps
+    (chosen o seen old keeps.0 (λ b. (may b).0) (λ b. (may b).1)) (λ b. (may b).2.1) (λ b. (may b).2.2)

@@ -1,0 +1,10 @@
+//! Where the branches of real resource managers may stand, by all that they answered, and why answers that some standing
+//! explains are enough: then a right history of them exists.
+//!
+//! "XA" in these pages is X/Open CAE Specification C193, "Distributed Transaction Processing: The XA Specification"
+//! (1991).
+#![tactic(auto)]
+
+mod explained;
+
+pub use explained::answers_are_explained;
