@@ -1,3 +1,5 @@
 pub mod Explained
+pub mod Rows
 pub mod Seen
 pub mod Standings
+pub mod States

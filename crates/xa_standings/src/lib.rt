@@ -6,5 +6,7 @@
 #![tactic(auto)]
 
 mod explained;
+mod states;
 
 pub use explained::answers_are_explained;
+pub use states::{HeuristicEnds, States};
