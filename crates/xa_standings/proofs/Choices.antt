@@ -1,6 +1,6 @@
 -- However it is chosen where the branches stand, among where they may, there is a history that leaves them there: by recursion on
 -- what was seen.
-use Rattle.std.proofs.Common.{◌≡◌, ℕ, List, length, Bool, true, false, ◌&&◌, ◌<◌, ◌⊎◌, refl, sym, ap, ◌∙◌, subst}
+use Rattle.std.proofs.Common.{◌≡◌, ℕ, List, Bool, true, false, ◌&&◌, ◌<◌, ◌⊎◌, refl, sym, ap, ◌∙◌, subst}
 use Rattle.std.proofs.lemmas.Bool.{eq-eqb}
 use Rattle.std.specs.Prelude.{if◌then◌else◌, Option, Some, None}
 use mathlib.Core.Logic.{◌⊎◌.inl, ◌⊎◌.inr}
@@ -12,19 +12,18 @@ use Rattle.xa_base.specs.StateTable.{Kind, asks_of, broken}
 use Rattle.xa_base.specs.Xid.{Xid}
 use Rattle.xa_base.specs.declared.answer.Answer.TheVariants.{Page, Ret}
 use Rattle.xa_base.specs.declared.call.Call.TheVariants as Calls
-use Rattle.xa_base.specs.declared.code.Code.TheVariants as Codes
 use Rattle.xa_base.specs.declared.state.Standing.{Standing}
 use Rattle.xa_base.specs.declared.state.Standing.TheVariants.{Unstarted}
 use Rattle.xa_base.specs.declared.vote.Vote.TheVariants.{Yes}
 use Rattle.xa_model.proofs.NameLemmas.OwnNames.{own_name}
 use Rattle.xa_model.proofs.ProcessLemmas.Leaving.{fits_branch}
-use Rattle.xa_model.specs.Facts.{fits, held_of, heard, next_call, standing, taken, up}
+use Rattle.xa_model.specs.Facts.{fits, held_of, next_call, standing}
 use Rattle.xa_model.specs.Facts.InDoubt.{is_in_doubt_at, name_of}
 use Rattle.xa_model.specs.Facts.Standings.{moved_by, standing_after}
-use Rattle.xa_model.specs.Protocol.{IsRun, Lists, OldOrigin, SoundAnswer}
-use Rattle.xa_model.specs.Trace.{Answer, Branch, Call, Code, Happening, Happening.Begun, Happening.Claimed, Happening.CompletedAlone, Happening.Decided, Happening.Done, Happening.Heard, Happening.Issued, Happening.Nothing, Happening.Resolved, Happening.ResolvedOpen, Happening.Took, Line, Name, Name.Foreign, Name.Ours, Origin, Trace, Trace.From, Trace.Then, line_eq, line_of}
-use Rattle.xa_standings.specs.Explained.{IsExplained, IsOldLog, IsRunOf}
-use Rattle.xa_standings.specs.Seen.{Alone, Alone.NoMore, HasAnswer, IsHistory, IsHistory.Does, IsHistory.Hears, IsHistory.Loses, IsHistory.LosesAnswer, IsHistory.Starts, IsManagers, KeepsRules, Seen, Seen.Answered, Seen.Did, Seen.Lost, Seen.Start, Waits, break_of, start_with}
+use Rattle.xa_model.specs.Protocol.{IsRun, Lists, SoundAnswer}
+use Rattle.xa_model.specs.Trace.{Answer, Branch, Call, Code, Happening, Happening.Begun, Happening.Claimed, Happening.Decided, Happening.Done, Happening.Heard, Happening.Issued, Happening.Nothing, Happening.Resolved, Happening.ResolvedOpen, Happening.Took, Line, Name, Name.Foreign, Name.Ours, Origin, Trace, Trace.Then, line_eq, line_of}
+use Rattle.xa_standings.specs.Explained.{IsOldLog, IsRunOf}
+use Rattle.xa_standings.specs.Seen.{Alone, Alone.NoMore, HasAnswer, IsHistory.Does, IsHistory.Hears, IsHistory.Loses, IsHistory.LosesAnswer, IsHistory.Starts, IsManagers, KeepsRules, Seen, Seen.Answered, Seen.Did, Seen.Lost, Seen.Start, Waits, break_of, start_with}
 use Rattle.xa_standings.specs.Standings.{Explained, Explains, ExplainsIf, MayBeDone, MayBeFound, MayStand, Takes}
 use Rattle.xa_standings.proofs.Taken.{TakenThere, alone_runs, first_still, heard_next, same_lines, taken_there}
 

@@ -14,7 +14,7 @@ use Rattle.xa_base.specs.declared.state.Standing.{Standing}
 use Rattle.xa_base.specs.declared.state.Standing.TheVariants.{Unstarted, Active, Idle, Prepared, RollbackOnly, Completed, Committed, RolledBack as RolledBackThere, Lost, ReadOnly as ReadOnlyThere, Forgotten}
 use Rattle.xa_base.specs.declared.vote.Vote.{Vote}
 use Rattle.xa_base.specs.declared.vote.Vote.TheVariants.{Yes, ReadOnly, No}
-use Rattle.xa_standings.specs.Rows.{any_row, any_row_if, found_by_call, is_some_end, is_some_state, no_end, none, only, row, row_if}
+use Rattle.xa_standings.specs.Rows.{any_end, any_row, any_row_if, break_row, found_by_call, is_some_end, is_some_state, no_end, none, only, row, row_if}
 use Rattle.xa_standings.specs.Standings.{Explains}
 use Rattle.xa_standings.specs.States.{Asked, AskedOrNot, LeadsInto, LeadsOnto, has, has_end}
 use Rattle.xa_standings.specs.declared.states.HeuristicEnds.{HeuristicEnds}
@@ -572,9 +572,19 @@ stays_ended how _ p = absurd (cc)
 abbrev BreaksFrom : States → Type 0
 BreaksFrom s = (z : State) × (has s z ≡ true) × ((f : Standing) → state_of f ≡ z → (g : Standing) × (g ≡ broken f) × (state_of g ≡ S0))
 
-pub off_onto : (s : States) (b : Bool) → b ≡ (s.s0 || (s.s1 || (s.s2 || s.s4)))
-    → LeadsOnto s (λ f g. g ≡ broken f) (record s { s0 = b; s1 = false; s2 = false; s4 = false })
-off_onto s b e S0 h = by0 (or_true s.s0 (s.s1 || (s.s2 || s.s4)) (sym e ∙ h))
+broken_into : (s : States) (f : Standing) → has s (state_of f) ≡ true → has (break_row s) (state_of (broken f)) ≡ true
+broken_into s Active h = or_right s.s0 _ (or_left s.s1 (s.s2 || s.s4) h)
+broken_into s Idle h = or_right s.s0 _ (or_right s.s1 _ (or_left s.s2 s.s4 h))
+broken_into s RollbackOnly h = or_right s.s0 _ (or_right s.s1 _ (or_right s.s2 s.s4 h))
+broken_into s Prepared h = h
+broken_into s (Completed how) h = h
+broken_into s _ h = or_left s.s0 (s.s1 || (s.s2 || s.s4)) h
+
+pub off_into : (s after : States) → after ≡ break_row s → LeadsInto s (λ f g. g ≡ broken f) after
+off_into s after e f g h same = ap (λ z. has z (state_of g)) e ∙ (ap (λ z. has (break_row s) (state_of z)) same ∙ broken_into s f h)
+
+break_onto : (s : States) → LeadsOnto s (λ f g. g ≡ broken f) (break_row s)
+break_onto s S0 h = by0 (or_true s.s0 (s.s1 || (s.s2 || s.s4)) h)
   where
     by2 : (s.s2 ≡ true) ⊎ (s.s4 ≡ true) → BreaksFrom s
     by2 (inl h) = (S2, h, ends_by_break S2 (λ z. let no : ⊥ = cc in no) (λ how z. let no : ⊥ = cc in no))
@@ -587,9 +597,12 @@ off_onto s b e S0 h = by0 (or_true s.s0 (s.s1 || (s.s2 || s.s4)) (sym e ∙ h))
     by0 : (s.s0 ≡ true) ⊎ ((s.s1 || (s.s2 || s.s4)) ≡ true) → BreaksFrom s
     by0 (inl h) = (S0, h, ends_by_break S0 (λ z. let no : ⊥ = cc in no) (λ how z. let no : ⊥ = cc in no))
     by0 (inr h) = by1 (or_true s.s1 (s.s2 || s.s4) h)
-off_onto s b e S3 h = (S3, h, λ f p. (broken f, refl, stays_prepared f p))
-off_onto s b e (S5 how) h = (S5 how, h, λ f p. (broken f, refl, stays_ended how f p))
-off_onto s b e _ h = absurd (cc)
+break_onto s S3 h = (S3, h, λ f p. (broken f, refl, stays_prepared f p))
+break_onto s (S5 how) h = (S5 how, h, λ f p. (broken f, refl, stays_ended how f p))
+break_onto s _ h = absurd (cc)
+
+pub off_onto : (s after : States) → after ≡ break_row s → LeadsOnto s (λ f g. g ≡ broken f) after
+off_onto s after e t h = break_onto s t (sym (ap (λ z. has z t) e) ∙ h)
 
 listed_prepared : (f : Standing) → state_of f ≡ S3 → is_in_doubt f ≡ true
 listed_prepared Prepared p = refl
@@ -647,3 +660,20 @@ some_state s e = by0 (or_true s.s0 _ e)
 pub empty_iff : (s : States) (b : Bool) → b ≡ is_some_state s → IsTrue (not b) ↔ ((t : State) → has s t ≡ false)
 empty_iff s true e = (λ i. absurd (cc), λ none. let t = some_state s (sym e) in absurd (let h = none t.0 in let k = t.1 in let no : ⊥ = cc in no))
 empty_iff s false e = (λ i. no_state s (sym e), λ none. refl)
+
+-- ** what an older incarnation left
+
+any_there : (how : How) → has_end any_end how ≡ true
+any_there Hows.Com = refl
+any_there Hows.Rb = refl
+any_there Hows.Mix = refl
+any_there Hows.Haz = refl
+
+pub found_iff : (r : States) → ((s : State) → has r s ≡ true ↔ (s ≡ S0)) → (f : Standing)
+    → has (record r { s3 = true; s5 = any_end }) (state_of f) ≡ true ↔ (broken f ≡ f)
+found_iff r alone Active = (λ h. let e = (alone S1).0 h in let no : ⊥ = cc in absurd no, λ e. let no : ⊥ = cc in absurd no)
+found_iff r alone Idle = (λ h. let e = (alone S2).0 h in let no : ⊥ = cc in absurd no, λ e. let no : ⊥ = cc in absurd no)
+found_iff r alone RollbackOnly = (λ h. let e = (alone S4).0 h in let no : ⊥ = cc in absurd no, λ e. let no : ⊥ = cc in absurd no)
+found_iff r alone Prepared = (λ h. refl, λ e. refl)
+found_iff r alone (Completed how) = (λ h. refl, λ e. any_there how)
+found_iff r alone _ = (λ h. refl, λ e. (alone S0).1 refl)

@@ -1,7 +1,7 @@
 -- A call is taken with an answer that is explained: what resource managers do by themselves before it, and where branches stand behind it.
 use Rattle.std.proofs.Common.{◌≡◌, ℕ, List, [], ◌∷◌, ◌++◌, length, Bool, true, false, ◌⊎◌, refl, sym, ap, ◌∙◌, subst}
 use Rattle.std.proofs.lemmas.List.{append-nil}
-use Rattle.std.specs.Prelude.{if◌then◌else◌, Option, Some, None, slice_get}
+use Rattle.std.specs.Prelude.{if◌then◌else◌, Some, slice_get}
 use mathlib.Core.Logic.{◌⊎◌.inl, ◌⊎◌.inr}
 use Rattle.xa_base.proofs.BranchKeys.{branch_eq-true, branch_eq-refl}
 use Rattle.xa_base.specs.Branch.{branch_eq}
@@ -13,10 +13,10 @@ use Rattle.xa_base.specs.declared.state.Standing.TheVariants.{Completed, Prepare
 use Rattle.xa_model.proofs.Keys.{line_eq-refl}
 use Rattle.xa_model.specs.Facts.{heard, issued, next_answer, next_call, retries, standing, taken, up, vote}
 use Rattle.xa_model.specs.Facts.Standings.{moved_by}
-use Rattle.xa_model.specs.Protocol.{IsRun, Right, SoundAnswer, call_code}
-use Rattle.xa_model.specs.Trace.{Answer, Branch, Call, Code, Happening.Took, How, Line, Trace, Trace.Then, Vote, Happening.CompletedAlone, Happening.PutOff, Happening.Voted, line_eq}
-use Rattle.xa_standings.specs.Seen.{Alone, Alone.Ends, Alone.NoMore, Alone.PutsOff, Alone.Votes, Waits}
-use Rattle.xa_standings.specs.Standings.{Explains, ExplainsIf}
+use Rattle.xa_model.specs.Protocol.{IsRun, SoundAnswer, call_code}
+use Rattle.xa_model.specs.Trace.{Answer, Branch, Call, Code, Happening.Took, How, Line, Trace, Trace.Then, Happening.CompletedAlone, Happening.PutOff, Happening.Voted}
+use Rattle.xa_standings.specs.Seen.{Alone, Alone.Ends, Alone.NoMore, Alone.PutsOff, Alone.Votes}
+use Rattle.xa_standings.specs.Standings.{Explains}
 
 -- ** what resource managers do by themselves
 

@@ -127,3 +127,8 @@ any_row Forget s = record s { s0 = s.s0 || is_some_end (found_by_call s).s5 }
 abbrev pub any_row_if : {X : Type 0} → Option (Kind × X) → States → States
 any_row_if (Some (k, x)) s = any_row k s
 any_row_if None s = s
+
+-- ** a break
+
+abbrev pub break_row : States → States
+break_row s = record s { s0 = s.s0 || (s.s1 || (s.s2 || s.s4)); s1 = false; s2 = false; s4 = false }

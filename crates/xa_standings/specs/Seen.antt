@@ -1,7 +1,7 @@
 -- What a manager did and heard where only the answers of the resource managers are known, and the histories of that.
-use Rattle.std.specs.Prelude.{ℕ, ◌≡◌, true, List, length, Option, Some, None}
+use Rattle.std.specs.Prelude.{ℕ, ◌≡◌, true, length, Option, Some, None}
 use Rattle.xa_base.specs.HeldBranch.{HeldBranch}
-use Rattle.xa_base.specs.StateTable.{Kind, asks_of}
+use Rattle.xa_base.specs.StateTable.{asks_of}
 use Rattle.xa_base.specs.Xid.{Xid}
 use Rattle.xa_base.specs.declared.answer.Answer.TheVariants.{Page, Ret}
 use Rattle.xa_base.specs.declared.call.Call.TheVariants as Calls
@@ -10,7 +10,7 @@ use Rattle.xa_base.specs.declared.state.Standing.TheVariants.{Prepared}
 use Rattle.xa_base.specs.declared.step.Part.TheVariants as Part
 use Rattle.xa_model.specs.Facts.{heard, next_call, standing, taken, up}
 use Rattle.xa_model.specs.Protocol.{IsRun, Right}
-use Rattle.xa_model.specs.Trace.{Answer, Branch, Call, Code, Happening, Happening.Begun, Happening.Claimed, Happening.CompletedAlone, Happening.Crashed, Happening.Decided, Happening.Done, Happening.Heard, Happening.Issued, Happening.Nothing, Happening.PutOff, Happening.Resolved, Happening.ResolvedOpen, Happening.Took, Happening.Voted, How, Line, Origin, Trace, Trace.From, Trace.Then, Vote}
+use Rattle.xa_model.specs.Trace.{Answer, Branch, Call, Happening, Happening.Begun, Happening.Claimed, Happening.CompletedAlone, Happening.Crashed, Happening.Decided, Happening.Done, Happening.Heard, Happening.Issued, Happening.Nothing, Happening.PutOff, Happening.Resolved, Happening.ResolvedOpen, Happening.Took, Happening.Voted, How, Line, Origin, Trace, Trace.From, Trace.Then, Vote}
 
 -- ** what is seen
 

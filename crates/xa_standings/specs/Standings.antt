@@ -1,5 +1,5 @@
 -- Where a branch may stand, by the branch state table and all that was answered (XA, chapter 6, State Tables).
-use Rattle.std.specs.Prelude.{ℕ, ◌≡◌, ◌⊎◌, ◌<◌, Bool, true, false, if◌then◌else◌, List, Option, Some, None}
+use Rattle.std.specs.Prelude.{ℕ, ◌≡◌, ◌⊎◌, ◌<◌, Bool, true, false, if◌then◌else◌, Option, Some, None}
 use Rattle.xa_base.specs.Branch.{branch_eq}
 use Rattle.xa_base.specs.Standing.{is_in_doubt}
 use Rattle.xa_base.specs.StateTable.{Kind, answer, asks_of, broken, moved, state_of}
@@ -8,7 +8,7 @@ use Rattle.xa_base.specs.declared.state.Standing.{Standing}
 use Rattle.xa_base.specs.declared.state.Standing.TheVariants.{Completed, Prepared, Unstarted}
 use Rattle.xa_model.specs.Facts.{fits}
 use Rattle.xa_model.specs.Protocol.{Lists}
-use Rattle.xa_model.specs.Trace.{Answer, Branch, Call, Code, How, Line, Name, Name.Ours, Origin, Vote, line_eq, line_of}
+use Rattle.xa_model.specs.Trace.{Answer, Branch, Call, Code, How, Line, Name.Ours, Origin, Vote, line_eq, line_of}
 use Rattle.xa_standings.specs.Seen.{Seen, Seen.Answered, Seen.Did, Seen.Lost, Seen.Start}
 
 -- ** one answer

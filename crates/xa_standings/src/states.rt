@@ -83,7 +83,7 @@ impl States {
     ghost use Rattle.xa_base.specs.StateTable.{State, asks_of, broken, state_of};
     ghost use Rattle.xa_base.specs.declared.state.Standing.{Standing};
     ghost use Rattle.xa_base.specs.declared.state.Standing.TheVariants.{Unstarted};
-    ghost use Rattle.xa_standings.specs.Rows.{after_commit, after_end, after_forget, after_join, after_one_phase, after_prepare, after_rollback, after_start, any_row_if, found_by_call, is_some_state, none, row_if};
+    ghost use Rattle.xa_standings.specs.Rows.{after_commit, after_end, after_forget, after_join, after_one_phase, after_prepare, after_rollback, after_start, any_row_if, break_row, found_by_call, is_some_state, none, row_if};
     ghost use Rattle.xa_standings.specs.States.{Asked, AskedOrNot, LeadsInto, LeadsOnto, has};
 
     const NONE: States = States {
@@ -111,10 +111,9 @@ impl States {
         ensures { (f : Standing) → has result (state_of f) ≡ true ↔ (broken f ≡ f) }
     {
         States {
-            s0: true,
             s3: true,
             s5: HeuristicEnds::ANY,
-            ..States::NONE
+            ..States::unstarted()
         }
     }
 
@@ -152,13 +151,7 @@ impl States {
         ensures into { LeadsInto self (λ f g. g ≡ broken f) result }
         ensures onto { LeadsOnto self (λ f g. g ≡ broken f) result }
     {
-        States {
-            s0: self.may_be_lost(),
-            s1: false,
-            s2: false,
-            s4: false,
-            ..self
-        }
+        self.by_break()
     }
 
     /// Those of a branch that a page of its resource manager lists: S3 and S5.
@@ -170,6 +163,19 @@ impl States {
             s3: self.s3,
             s5: self.s5,
             ..States::NONE
+        }
+    }
+
+    /// The states after a break: S0 in the place of S1, S2 and S4.
+    pub(crate) fn by_break(self) -> States
+        ensures { result ≡ break_row self }
+    {
+        States {
+            s0: self.may_be_lost(),
+            s1: false,
+            s2: false,
+            s4: false,
+            ..self
         }
     }
 
