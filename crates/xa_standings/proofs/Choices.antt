@@ -8,7 +8,7 @@ use Rattle.xa_base.proofs.BranchKeys.{branch_eq-refl, branch_eq-true}
 use Rattle.xa_base.specs.Branch.{branch_eq, xid_of_branch}
 use Rattle.xa_base.specs.HeldBranch.{HeldBranch, new_branch}
 use Rattle.xa_base.specs.Standing.{is_in_doubt}
-use Rattle.xa_base.specs.StateTable.{Kind, asks_of, broken}
+use Rattle.xa_base.specs.StateTable.{Kind, asks_of, broken, state_of}
 use Rattle.xa_base.specs.Xid.{Xid}
 use Rattle.xa_base.specs.declared.answer.Answer.TheVariants.{Page, Ret}
 use Rattle.xa_base.specs.declared.call.Call.TheVariants as Calls
@@ -16,15 +16,20 @@ use Rattle.xa_base.specs.declared.state.Standing.{Standing}
 use Rattle.xa_base.specs.declared.state.Standing.TheVariants.{Unstarted}
 use Rattle.xa_base.specs.declared.vote.Vote.TheVariants.{Yes}
 use Rattle.xa_model.proofs.NameLemmas.OwnNames.{own_name}
+use Rattle.xa_model.proofs.Invariant.Preservation.{always}
+use Rattle.xa_model.proofs.ProcessLemmas.Facing.{Faces, faces_after}
+use Rattle.xa_model.proofs.ProcessLemmas.Joining.{faces_first, gone_right, resumed_right, right_same}
 use Rattle.xa_model.proofs.ProcessLemmas.Leaving.{fits_branch}
-use Rattle.xa_model.specs.Facts.{fits, held_of, next_call, standing}
+use Rattle.xa_model.specs.Facts.{fits, held_of, next_call, origin, standing}
+use Rattle.xa_model.specs.Promises.Processes.{Resumes, gone, resumed}
 use Rattle.xa_model.specs.Facts.InDoubt.{is_in_doubt_at, name_of}
 use Rattle.xa_model.specs.Facts.Standings.{moved_by, standing_after}
-use Rattle.xa_model.specs.Protocol.{IsRun, Lists, SoundAnswer}
-use Rattle.xa_model.specs.Trace.{Answer, Branch, Call, Code, Happening, Happening.Begun, Happening.Claimed, Happening.Decided, Happening.Done, Happening.Heard, Happening.Issued, Happening.Nothing, Happening.Resolved, Happening.ResolvedOpen, Happening.Took, Line, Name, Name.Foreign, Name.Ours, Origin, Trace, Trace.Then, line_eq, line_of}
-use Rattle.xa_standings.specs.Explained.{IsOldLog, IsRunOf}
+use Rattle.xa_model.specs.Protocol.{AllRight, IsRun, Lists, OldOrigin, SoundAnswer}
+use Rattle.xa_model.specs.Trace.{Answer, Branch, Call, Code, Happening, Happening.Begun, Happening.Claimed, Happening.Decided, Happening.Done, Happening.Heard, Happening.Issued, Happening.Nothing, Happening.Resolved, Happening.ResolvedOpen, Happening.Took, Line, Name, Name.Foreign, Name.Ours, Origin, Trace, Trace.From, Trace.Then, line_eq, line_of}
+use Rattle.xa_standings.specs.Across.{GoesOn, behind}
+use Rattle.xa_standings.specs.Explained.{IsExplained, IsOldLog, IsRunOf}
 use Rattle.xa_standings.specs.Seen.{Alone, Alone.NoMore, HasAnswer, IsHistory.Does, IsHistory.Hears, IsHistory.Loses, IsHistory.LosesAnswer, IsHistory.Starts, IsManagers, KeepsRules, Seen, Seen.Answered, Seen.Did, Seen.Lost, Seen.Start, Waits, break_of, start_with}
-use Rattle.xa_standings.specs.Standings.{Explained, Explains, ExplainsIf, MayBeDone, MayBeFound, MayStand, Takes}
+use Rattle.xa_standings.specs.Standings.{Comes, Explained, Explains, ExplainsIf, MayBeDone, MayBeFound, MayStand, Takes}
 use Rattle.xa_standings.proofs.Taken.{TakenThere, alone_runs, first_still, heard_next, same_lines, taken_there}
 
 -- ** the start
@@ -80,13 +85,19 @@ stays tr _ m b f = absurd m
 
 -- ** an answer
 
-module _ (o : Origin) (seen : Seen) (l : Line) (c : Call) (from to : Branch → Standing) (r : IsRunOf o seen from) where
+-- a right history of what was seen, from this start, that leaves each branch there
+record RunFrom (o first : Origin) (seen : Seen) (f : Branch → Standing) : Type 0 where
+  whole : IsExplained o seen
+  start : origin whole.history ≡ first
+  there : (b : Branch) → standing whole.history b ≡ f b
+
+module _ (o first : Origin) (seen : Seen) (l : Line) (c : Call) (from to : Branch → Standing) (r : RunFrom o first seen from) where
   abbrev tr : Trace
   tr = r.whole.history
 
   -- any answer that is sound, with what the resource managers do before it
   heard_so : (a : Answer) (now : Trace) → Alone tr now → Waits tr l c → SoundAnswer now l c a
-      → ((b : Branch) → standing (Then now (Took l c a)) b ≡ to b) → IsRunOf o (Answered seen l c a) to
+      → ((b : Branch) → standing (Then now (Took l c a)) b ≡ to b) → RunFrom o first (Answered seen l c a) to
   heard_so a now alone w sound there = record {
     whole = record {
       history = Then (Then now (Took l c a)) (Heard l c a);
@@ -96,12 +107,13 @@ module _ (o : Origin) (seen : Seen) (l : Line) (c : Call) (from to : Branch → 
         ((same_lines tr now alone).is_up ∙ w.is_up, heard_next tr now l c a alone w.none_unheard),
       );
     };
+    start = (same_lines tr now alone).start ∙ r.start;
     there = there;
   }
 
   -- a code
   code_heard : (code : Code) (x : Option (Kind × Branch)) → asks_of c ≡ x → HasAnswer c (Ret code) → Waits tr l c
-      → ((b : Branch) → Takes x code b (from b) (to b)) → IsRunOf o (Answered seen l c (Ret code)) to
+      → ((b : Branch) → Takes x code b (from b) (to b)) → RunFrom o first (Answered seen l c (Ret code)) to
   code_heard code (Some (k, d)) asks has w takes =
       heard_so (Ret code) t.now t.alone w t.sound t.there
     where
@@ -120,7 +132,7 @@ module _ (o : Origin) (seen : Seen) (l : Line) (c : Call) (from to : Branch → 
 
   -- a page
   page_heard : (names : List Name) → HasAnswer c (Page names) → Waits tr l c
-      → ((b : Branch) → Explained l c (Page names) b (from b) (to b)) → IsRunOf o (Answered seen l c (Page names)) to
+      → ((b : Branch) → Explained l c (Page names) b (from b) (to b)) → RunFrom o first (Answered seen l c (Page names)) to
   page_heard names has w x = heard_so (Page names) tr NoMore w (sound c has) (λ b. r.there b ∙ sym (x b).0)
     where
       listed : (b : Branch) → Lists names (Ours b) → is_in_doubt_at tr l.rm b ≡ true
@@ -135,25 +147,27 @@ module _ (o : Origin) (seen : Seen) (l : Line) (c : Call) (from to : Branch → 
   -- ** a line that is lost
 
   lost_so : (d : Option Call) → ((b : Branch) → to b ≡ from b) → (f : Branch → Standing)
-      → ((b : Branch) → f b ≡ (if line_eq l (line_of b) then broken (to b) else to b)) → IsRunOf o (Lost seen l d) f
+      → ((b : Branch) → f b ≡ (if line_eq l (line_of b) then broken (to b) else to b)) → RunFrom o first (Lost seen l d) f
   lost_so d same f final = record {
     whole = record {
       history = Then tr (break_of l);
       is_history = Loses seen tr l d r.whole.is_history;
       runs = (r.whole.runs, tt);
     };
+    start = r.start;
     there = λ b. ap (λ s. if line_eq l (line_of b) then broken s else s) (r.there b ∙ sym (same b)) ∙ sym (final b);
   }
 
   lost_answer : (code : Code) (k : Kind) (d : Branch) → asks_of c ≡ Some (k, d) → next_call tr l ≡ Some c
       → Explains (from d) k code (to d) → ((b : Branch) → branch_eq d b ≡ false → to b ≡ from b) → (f : Branch → Standing)
-      → ((b : Branch) → f b ≡ (if line_eq l (line_of b) then broken (to b) else to b)) → IsRunOf o (Lost seen l (Some c)) f
-  lost_answer code k d asks first x others f final = record {
+      → ((b : Branch) → f b ≡ (if line_eq l (line_of b) then broken (to b) else to b)) → RunFrom o first (Lost seen l (Some c)) f
+  lost_answer code k d asks waits x others f final = record {
     whole = record {
       history = Then (Then t.now (Took l c (Ret code))) (break_of l);
       is_history = LosesAnswer seen tr t.now l c (Ret code) r.whole.is_history t.alone;
-      runs = ((alone_runs tr t.now t.alone r.whole.runs, (first_still tr t.now l t.alone ∙ first, t.sound)), tt);
+      runs = ((alone_runs tr t.now t.alone r.whole.runs, (first_still tr t.now l t.alone ∙ waits, t.sound)), tt);
     };
+    start = (same_lines tr t.now t.alone).start ∙ r.start;
     there = λ b. ap (λ s. if line_eq l (line_of b) then broken s else s) (t.there b) ∙ sym (final b);
   }
     where
@@ -163,13 +177,13 @@ module _ (o : Origin) (seen : Seen) (l : Line) (c : Call) (from to : Branch → 
   -- the call was done, or it was not, as the branch that it names tells
   lost_call : (x : Option (Kind × Branch)) → asks_of c ≡ x → next_call tr l ≡ Some c
       → ((b : Branch) → (to b ≡ from b) ⊎ ((a : Code) × Takes x a b (from b) (to b))) → (f : Branch → Standing)
-      → ((b : Branch) → f b ≡ (if line_eq l (line_of b) then broken (to b) else to b)) → IsRunOf o (Lost seen l (Some c)) f
-  lost_call None asks first done f final = lost_so (Some c) (λ b. unmoved b (done b)) f final
+      → ((b : Branch) → f b ≡ (if line_eq l (line_of b) then broken (to b) else to b)) → RunFrom o first (Lost seen l (Some c)) f
+  lost_call None asks waits done f final = lost_so (Some c) (λ b. unmoved b (done b)) f final
     where
       unmoved : (b : Branch) → (to b ≡ from b) ⊎ ((a : Code) × (to b ≡ from b)) → to b ≡ from b
       unmoved b (inl e) = e
       unmoved b (inr (a, e)) = e
-  lost_call (Some (k, d)) asks first done f final = by_branch (done d)
+  lost_call (Some (k, d)) asks waits done f final = by_branch (done d)
     where
       others : (b : Branch) → branch_eq d b ≡ false → (to b ≡ from b) ⊎ ((a : Code) × Takes (Some (k, d)) a b (from b) (to b)) → to b ≡ from b
       others b n (inl e) = e
@@ -179,45 +193,98 @@ module _ (o : Origin) (seen : Seen) (l : Line) (c : Call) (from to : Branch → 
       all_stay e b true q = subst (λ z. to z ≡ from z) (branch_eq-true d b q) e
       all_stay e b false q = others b q (done b)
 
-      by_branch : (to d ≡ from d) ⊎ ((a : Code) × Takes (Some (k, d)) a d (from d) (to d)) → IsRunOf o (Lost seen l (Some c)) f
+      by_branch : (to d ≡ from d) ⊎ ((a : Code) × Takes (Some (k, d)) a d (from d) (to d)) → RunFrom o first (Lost seen l (Some c)) f
       by_branch (inl e) = lost_so (Some c) (λ b. all_stay e b (branch_eq d b) refl) f final
       by_branch (inr (a, x)) =
-          lost_answer a k d asks first (subst (λ z. ExplainsIf z (from d) k a (to d)) (branch_eq-refl d) x) (λ b n. others b n (done b)) f final
+          lost_answer a k d asks waits (subst (λ z. ExplainsIf z (from d) k a (to d)) (branch_eq-refl d) x) (λ b n. others b n (done b)) f final
 
 -- ** all that was seen
 
-did_so : (o : Origin) (seen : Seen) (e : Happening) (f : Branch → Standing) → KeepsRules o (Did seen e) → IsRunOf o seen f
-    → IsRunOf o (Did seen e) f
-did_so o seen e f keeps r = record {
+did_so : (o first : Origin) (seen : Seen) (e : Happening) (f : Branch → Standing) → KeepsRules o (Did seen e) → RunFrom o first seen f
+    → RunFrom o first (Did seen e) f
+did_so o first seen e f keeps r = record {
   whole = record {
     history = Then r.whole.history e;
     is_history = Does seen r.whole.history e r.whole.is_history;
     runs = (r.whole.runs, keeps.2 r.whole.history r.whole.is_history r.whole.runs);
   };
+  start = r.start;
   there = λ b. stays r.whole.history e keeps.1 b (standing r.whole.history b) ∙ r.there b;
 }
 
-answered_so : (o : Origin) (seen : Seen) (l : Line) (c : Call) (a : Answer) (from to : Branch → Standing)
-    → KeepsRules o (Answered seen l c a) → IsRunOf o seen from → ((b : Branch) → Explained l c a b (from b) (to b))
-    → IsRunOf o (Answered seen l c a) to
-answered_so o seen l c (Ret code) from to keeps r x =
-    code_heard o seen l c from to r code (asks_of c) refl keeps.1 (keeps.2 r.whole.history r.whole.is_history r.whole.runs) x
-answered_so o seen l c (Page names) from to keeps r x =
-    page_heard o seen l c from to r names keeps.1 (keeps.2 r.whole.history r.whole.is_history r.whole.runs) x
+answered_so : (o first : Origin) (seen : Seen) (l : Line) (c : Call) (a : Answer) (from to : Branch → Standing)
+    → KeepsRules o (Answered seen l c a) → RunFrom o first seen from → ((b : Branch) → Explained l c a b (from b) (to b))
+    → RunFrom o first (Answered seen l c a) to
+answered_so o first seen l c (Ret code) from to keeps r x =
+    code_heard o first seen l c from to r code (asks_of c) refl keeps.1 (keeps.2 r.whole.history r.whole.is_history r.whole.runs) x
+answered_so o first seen l c (Page names) from to keeps r x =
+    page_heard o first seen l c from to r names keeps.1 (keeps.2 r.whole.history r.whole.is_history r.whole.runs) x
 
-was_lost : (o : Origin) (seen : Seen) (l : Line) (d : Option Call) (from to f : Branch → Standing) → KeepsRules o (Lost seen l d)
-    → IsRunOf o seen from → ((b : Branch) → MayBeDone d b (from b) (to b))
-    → ((b : Branch) → f b ≡ (if line_eq l (line_of b) then broken (to b) else to b)) → IsRunOf o (Lost seen l d) f
-was_lost o seen l (Some c) from to f keeps r done final =
-    lost_call o seen l c from to r (asks_of c) refl (keeps.1 r.whole.history r.whole.is_history r.whole.runs) done f final
-was_lost o seen l None from to f keeps r done final = lost_so o seen l Calls.OpenRm from to r None done f final
+was_lost : (o first : Origin) (seen : Seen) (l : Line) (d : Option Call) (from to f : Branch → Standing) → KeepsRules o (Lost seen l d)
+    → RunFrom o first seen from → ((b : Branch) → MayBeDone d b (from b) (to b))
+    → ((b : Branch) → f b ≡ (if line_eq l (line_of b) then broken (to b) else to b)) → RunFrom o first (Lost seen l d) f
+was_lost o first seen l (Some c) from to f keeps r done final =
+    lost_call o first seen l c from to r (asks_of c) refl (keeps.1 r.whole.history r.whole.is_history r.whole.runs) done f final
+was_lost o first seen l None from to f keeps r done final = lost_so o first seen l Calls.OpenRm from to r None done f final
+
+-- from a start that leaves each branch there
+comes : (o first : Origin) (f0 : Branch → Standing) → RunFrom o first Start f0 → (seen : Seen) → KeepsRules o seen → (f : Branch → Standing)
+    → ((b : Branch) → Comes seen b (f0 b) (f b)) → RunFrom o first seen f
+comes o first f0 r Start keeps f may = record { whole = r.whole; start = r.start; there = λ b. r.there b ∙ sym (may b) }
+comes o first f0 r (Did seen e) keeps f may = did_so o first seen e f keeps (comes o first f0 r seen keeps.0 f may)
+comes o first f0 r (Answered seen l c a) keeps f may =
+    answered_so o first seen l c a (λ b. (may b).0) f keeps (comes o first f0 r seen keeps.0 (λ b. (may b).0) (λ b. (may b).1)) (λ b. (may b).2)
+comes o first f0 r (Lost seen l d) keeps f may =
+    was_lost o first seen l d (λ b. (may b).0) (λ b. (may b).2.0) f keeps
+    (comes o first f0 r seen keeps.0 (λ b. (may b).0) (λ b. (may b).1)) (λ b. (may b).2.1) (λ b. (may b).2.2)
+
+-- ** where a branch may stand, from wherever it was found
+
+from_found : (o : Origin) (seen : Seen) (b : Branch) (f : Standing) → MayStand o seen b f
+    → (f0 : Standing) × MayBeFound o b f0 × Comes seen b f0 f
+from_found o Start b f m = (f, m, refl)
+from_found o (Did seen e) b f m = from_found o seen b f m
+from_found o (Answered seen l c a) b f m = let x = from_found o seen b m.0 m.1 in (x.0, x.1, (m.0, x.2, m.2))
+from_found o (Lost seen l d) b f m = let x = from_found o seen b m.0 m.1 in (x.0, x.1, (m.0, x.2, m.2))
 
 pub chosen : (o : Origin) (seen : Seen) → IsOldLog o → KeepsRules o seen → (f : Branch → Standing)
     → ((b : Branch) → MayStand o seen b (f b)) → IsRunOf o seen f
-chosen o Start old keeps f may = starts o old f may
-chosen o (Did seen e) old keeps f may = did_so o seen e f keeps (chosen o seen old keeps.0 f may)
-chosen o (Answered seen l c a) old keeps f may =
-    answered_so o seen l c a (λ b. (may b).0) f keeps (chosen o seen old keeps.0 (λ b. (may b).0) (λ b. (may b).1)) (λ b. (may b).2)
-chosen o (Lost seen l d) old keeps f may =
-    was_lost o seen l d (λ b. (may b).0) (λ b. (may b).2.0) f keeps
-    (chosen o seen old keeps.0 (λ b. (may b).0) (λ b. (may b).1)) (λ b. (may b).2.1) (λ b. (may b).2.2)
+chosen o seen old keeps f may =
+    let x = λ (b : Branch). from_found o seen b (f b) (may b) in
+    let s = starts o old (λ b. (x b).0) (λ b. (x b).1) in
+    let r = comes o _ (λ b. (x b).0) (record { whole = s.whole; start = refl; there = s.there }) seen keeps f (λ b. (x b).2) in
+    record { whole = r.whole; there = r.there }
+
+-- ** behind earlier processes
+
+-- what is right for the last process alone is right behind the others
+behind_right : (past : Trace) (o : Origin) (tr : Trace) → AllRight past → Resumes past o → origin tr ≡ o → IsRun tr
+    → AllRight (behind (resumed past o) tr) × Faces (gone past) (behind (resumed past o) tr) tr
+behind_right past o (From q) a r e run =
+    (resumed_right past o a r, subst (λ z. Faces (gone past) (resumed past o) (From z)) (sym e) (faces_first past o a r))
+behind_right past o (Then tr e) a r q run =
+    let x = behind_right past o tr a r q run.0 in
+    let inv = always (gone past) (gone_right past a) in (
+      (x.0, right_same (gone past) inv (behind (resumed past o) tr) tr x.1 e run.1),
+      faces_after (gone past) inv (behind (resumed past o) tr) tr x.1.deals x.1 e run.1,
+    )
+
+pub gone_on : (past : Trace) (o : Origin) (seen : Seen) → AllRight past → Resumes past o → OldOrigin o → KeepsRules o seen
+    → (f : Branch → Standing) → ((b : Branch) → Comes seen b (held_of o b).standing (f b)) → GoesOn past o seen f
+gone_on past o seen a r old keeps f may = record {
+  history = run.whole.history;
+  is_history = run.whole.is_history;
+  right = whole.0;
+  there = λ b. sym (whole.1.held.states b) ∙ ap state_of (run.there b);
+}
+  where
+    run : RunFrom o o seen f
+    run = comes o o (λ b. (held_of o b).standing)
+        (record {
+          whole = record { history = start_with o o.held; is_history = Starts o.held; runs = old };
+          start = refl;
+          there = λ b. refl;
+        }) seen keeps f may
+
+    whole : AllRight (behind (resumed past o) run.whole.history) × Faces (gone past) (behind (resumed past o) run.whole.history) run.whole.history
+    whole = behind_right past o run.whole.history a r run.start run.whole.runs

@@ -11,7 +11,7 @@ use Rattle.xa_base.specs.declared.call.Call.TheVariants as Calls
 use Rattle.xa_base.specs.declared.state.Standing.{Standing}
 use Rattle.xa_base.specs.declared.state.Standing.TheVariants.{Completed, Prepared}
 use Rattle.xa_model.proofs.Keys.{line_eq-refl}
-use Rattle.xa_model.specs.Facts.{heard, issued, next_answer, next_call, retries, standing, taken, up, vote}
+use Rattle.xa_model.specs.Facts.{heard, issued, next_answer, next_call, origin, retries, standing, taken, up, vote}
 use Rattle.xa_model.specs.Facts.Standings.{moved_by}
 use Rattle.xa_model.specs.Protocol.{IsRun, SoundAnswer, call_code}
 use Rattle.xa_model.specs.Trace.{Answer, Branch, Call, Code, Happening.Took, How, Line, Trace, Trace.Then, Happening.CompletedAlone, Happening.PutOff, Happening.Voted}
@@ -20,28 +20,32 @@ use Rattle.xa_standings.specs.Standings.{Explains}
 
 -- ** what resource managers do by themselves
 
--- it is nothing on any line
+-- it is nothing on any line, and the start is the same
 pub record SameLines (tr now : Trace) : Type 0 where
+  pub start : origin now ≡ origin tr
   pub is_up : up now ≡ up tr
   pub calls : (l : Line) → issued now l ≡ issued tr l
   pub taken_are : (l : Line) → taken now l ≡ taken tr l
   pub heard_are : (l : Line) → heard now l ≡ heard tr l
 
 pub same_lines : (tr now : Trace) → Alone tr now → SameLines tr now
-same_lines tr _ NoMore = record { is_up = refl; calls = λ l. refl; taken_are = λ l. refl; heard_are = λ l. refl }
+same_lines tr _ NoMore = record { start = refl; is_up = refl; calls = λ l. refl; taken_are = λ l. refl; heard_are = λ l. refl }
 same_lines tr _ (Votes now b v a) = let s = same_lines tr now a in record {
+  start = s.start;
   is_up = s.is_up;
   calls = λ l. append-nil _ ∙ s.calls l;
   taken_are = λ l. append-nil _ ∙ s.taken_are l;
   heard_are = λ l. append-nil _ ∙ s.heard_are l;
 }
 same_lines tr _ (PutsOff now b n a) = let s = same_lines tr now a in record {
+  start = s.start;
   is_up = s.is_up;
   calls = λ l. append-nil _ ∙ s.calls l;
   taken_are = λ l. append-nil _ ∙ s.taken_are l;
   heard_are = λ l. append-nil _ ∙ s.heard_are l;
 }
 same_lines tr _ (Ends now b how a p) = let s = same_lines tr now a in record {
+  start = s.start;
   is_up = s.is_up;
   calls = λ l. append-nil _ ∙ s.calls l;
   taken_are = λ l. append-nil _ ∙ s.taken_are l;

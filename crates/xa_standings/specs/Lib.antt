@@ -1,3 +1,4 @@
+pub mod Across
 pub mod Explained
 pub mod Rows
 pub mod Seen

@@ -57,3 +57,14 @@ MayStand o (Answered seen l c a) b f = (from : Standing) × MayStand o seen b fr
 MayStand o (Lost seen l c) b f =
     (from : Standing) × MayStand o seen b from
     × ((to : Standing) × MayBeDone c b from to × (f ≡ (if line_eq l (line_of b) then broken to else to)))
+
+-- ** from a start that is known
+
+-- a branch may have come from the one standing at the start to the other
+abbrev pub Comes : Seen → Branch → (from to : Standing) → Type 0
+Comes Start b from to = to ≡ from
+Comes (Did seen e) b from to = Comes seen b from to
+Comes (Answered seen l c a) b from to = (mid : Standing) × Comes seen b from mid × Explained l c a b mid to
+Comes (Lost seen l c) b from to =
+    (mid : Standing) × Comes seen b from mid
+    × ((end : Standing) × MayBeDone c b mid end × (to ≡ (if line_eq l (line_of b) then broken end else end)))

@@ -1,0 +1,21 @@
+-- What it means that what was seen goes on from a history: behind that, some history of it is right.
+use Rattle.std.specs.Prelude.{◌≡◌}
+use Rattle.xa_base.specs.StateTable.{state_of}
+use Rattle.xa_base.specs.declared.state.Standing.{Standing}
+use Rattle.xa_model.specs.Facts.{standing}
+use Rattle.xa_model.specs.Promises.Processes.{resumed}
+use Rattle.xa_model.specs.Protocol.{AllRight}
+use Rattle.xa_model.specs.Trace.{Branch, Origin, Trace, Trace.From, Trace.Then}
+use Rattle.xa_standings.specs.Seen.{IsHistory, Seen}
+
+-- a history, and then what happened in another since its start
+abbrev pub behind : Trace → Trace → Trace
+behind past (From o) = past
+behind past (Then tr e) = Then (behind past tr) e
+
+-- a history of what was seen, right behind the past that its start resumes; it leaves each branch in the state in which it then stands
+pub record GoesOn (past : Trace) (o : Origin) (seen : Seen) (f : Branch → Standing) : Type 0 where
+  pub history : Trace
+  pub is_history : IsHistory o seen history
+  pub right : AllRight (behind (resumed past o) history)
+  pub there : (b : Branch) → state_of (standing (behind (resumed past o) history) b) ≡ state_of (f b)
