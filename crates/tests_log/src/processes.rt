@@ -10,7 +10,7 @@ use crate::processes::chance::Chance;
 use crate::processes::moves::Player;
 use crate::processes::told::{Ends, RMS, THREADS, Told};
 use sqlite::{FileStore, Files};
-use sqlite_disk::{Fuse, Memory};
+use sqlite_disk::{Crash, Fuse, Memory};
 use std::alloc::Global;
 use std::process::Abort;
 use std::test::Fail;
@@ -37,30 +37,29 @@ impl Found for MemLog {
     }
 }
 
-impl Found for SqlLog<FileStore<Fuse<Memory>>> {
-    fn found(self, alloc: Global, calls: u64) -> Result<SqlLog<FileStore<Fuse<Memory>>>, Fail> {
-        let files = crashed(closed(self.into_connection()));
-        log_that_stops(
-            alloc,
-            Files {
-                log: copied(alloc, files.log.inner())?,
-                db: copied(alloc, files.db.inner())?,
-            },
-            calls,
-        )
+/// A disk that stops after so many calls.
+trait StopsAfter: Crash + Drop + Sized {
+    /// The same disk, which stops after so many calls from now on.
+    fn after(self, alloc: Global, calls: u64) -> Result<Self, Fail>;
+}
+
+impl StopsAfter for Fuse<Memory> {
+    fn after(self, alloc: Global, calls: u64) -> Result<Fuse<Memory>, Fail> {
+        Ok(Fuse::new(copied(alloc, self.inner())?, calls))
     }
 }
 
-/// A log in files, of which the journal stops after so many calls.
-fn log_that_stops(
-    alloc: Global,
-    files: Files<Memory>,
-    calls: u64,
-) -> Result<SqlLog<FileStore<Fuse<Memory>>>, Fail> {
-    let files = Files {
-        log: Fuse::new(files.log, calls),
-        db: Fuse::new(files.db, u64::MAX),
-    };
+impl<D: StopsAfter> Found for SqlLog<FileStore<D>> {
+    fn found(self, alloc: Global, calls: u64) -> Result<SqlLog<FileStore<D>>, Fail> {
+        let Files { log, db } = crashed(closed(self.into_connection()));
+        let log = log.after(alloc, calls)?;
+        let db = db.after(alloc, u64::MAX)?;
+        log_in(alloc, Files { log, db })
+    }
+}
+
+/// A log in files.
+fn log_in<D: StopsAfter>(alloc: Global, files: Files<D>) -> Result<SqlLog<FileStore<D>>, Fail> {
     match log_over(alloc, files) {
         Some(log) => Ok(log),
         None => Err(Fail::from("the log stops before it is there")),
@@ -163,6 +162,28 @@ fn have_ended(rt: &impl Abort, ends: Ends) {
     assert!(rt; ends.committed > 20 && ends.rolled_back > 20, "{ends:?}");
 }
 
+/// Ten processes over a log in files. Tells how often the log had stopped.
+fn ten_over_files<D: StopsAfter>(
+    rt: &impl Abort,
+    alloc: Global,
+    files: Files<D>,
+    seed: u32,
+) -> Result<u32, Fail> {
+    let log = log_in(alloc, files)?;
+    let (ends, stops) = ten_processes(rt, alloc, log, seed)?;
+    have_ended(rt, ends);
+    Ok(stops)
+}
+
+/// Files with nothing in them, of which the journal stops after 200 calls.
+fn files_that_stop(alloc: Global) -> Files<Fuse<Memory>> {
+    let Files { log, db } = blank(alloc);
+    Files {
+        log: Fuse::new(log, 200),
+        db: Fuse::new(db, u64::MAX),
+    }
+}
+
 #[test]
 fn over_a_log_in_memory(rt: HostRuntime) -> Result<(), Fail> {
     for seed in 1..9u32 {
@@ -176,9 +197,7 @@ fn over_a_log_in_memory(rt: HostRuntime) -> Result<(), Fail> {
 fn over_files_that_stop(rt: HostRuntime) -> Result<(), Fail> {
     let mut stopped = 0u32;
     for seed in 1..9u32 {
-        let log = log_that_stops(rt.alloc(), blank(rt.alloc()), 200)?;
-        let (ends, stops) = ten_processes(&rt, rt.alloc(), log, seed)?;
-        have_ended(&rt, ends);
+        let stops = ten_over_files(&rt, rt.alloc(), files_that_stop(rt.alloc()), seed)?;
         stopped = stopped.saturating_add(stops);
     }
     assert!(rt; stopped > 12, "{stopped} stops");

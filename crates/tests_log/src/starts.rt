@@ -25,29 +25,43 @@ fn done(sequence: u64) -> Step {
     }
 }
 
-/// What a system that starts over the log answers to a begin, and to done of two transactions of the first incarnation.
-fn answers_over<S: Alter + Drop>(alloc: Global, log: SqlLog<S>) -> Result<[Reply; 3], NewFault> {
+/// What a system answers.
+#[derive(Drop)]
+struct Answers {
+    /// To a begin.
+    begun: Reply,
+    /// To done of the first transaction of the first incarnation.
+    first: Reply,
+    /// To done of the second.
+    second: Reply,
+}
+
+/// What a system that starts over the log answers.
+fn answers_over<S: Alter + Drop>(alloc: Global, log: SqlLog<S>) -> Result<Answers, NewFault> {
     let Ok(rms) = Vec::from_array(alloc, [MemRm::new(alloc)]) else {
         return Err(NewFault::Memory);
     };
     let mut system = System::new(alloc, 1, rms, log)?;
-    Ok([
-        system.step(Step::Begin { thread: 0 }),
-        system.step(done(1)),
-        system.step(done(2)),
-    ])
+    let begun = system.step(Step::Begin { thread: 0 });
+    let first = system.step(done(1));
+    let second = system.step(done(2));
+    Ok(Answers {
+        begun,
+        first,
+        second,
+    })
 }
 
 /// The same over files.
 fn answers_in_files<D: Disk + Drop>(
     alloc: Global,
     log: SqlLog<FileStore<D>>,
-) -> Result<[Reply; 3], NewFault> {
+) -> Result<Answers, NewFault> {
     answers_over(alloc, log)
 }
 
 /// The same over the log at a path.
-fn answers_at(rt: &HostRuntime, path: &str) -> Result<Result<[Reply; 3], NewFault>, LogFault> {
+fn answers_at(rt: &HostRuntime, path: &str) -> Result<Result<Answers, NewFault>, LogFault> {
     Ok(answers_in_files(rt.alloc(), SqlLog::open(rt, path)?))
 }
 
@@ -92,9 +106,14 @@ fn a_row_of_version_1_stays(rt: HostRuntime) -> Result<(), Fail> {
     make_folder(&rt, "migrated_start")?;
     let path = "migrated_start/log.db";
     run_at(&rt, path, VERSION_1)?;
-    let Ok([begun, first, second]) = answers_at(&rt, path)? else {
+    let Ok(answers) = answers_at(&rt, path)? else {
         return Err(Fail::from("no system starts"));
     };
+    let Answers {
+        begun,
+        first,
+        second,
+    } = answers;
     let next = Gtrid {
         incarnation: 2,
         sequence: 1,
