@@ -1,0 +1,11 @@
+use Rattle.xa_serve.proofs.Headroom.{headroom_kept, sound, starts_have_headroom}
+use Rattle.xa_serve.proofs.laws.books_have_headroom.Goals as goal
+
+pub returns-clause-kept : goal.returns-clause-kept
+returns-clause-kept c = λ n k asked e may head. headroom_kept n k head asked e may
+
+pub returns-clause-sound : goal.returns-clause-sound
+returns-clause-sound c = λ n k head. sound n k head
+
+pub returns-clause-starts : goal.returns-clause-starts
+returns-clause-starts c = starts_have_headroom

@@ -1,0 +1,78 @@
+//! A session: the manager over its log, and the lines. A file for each family of requests.
+
+ghost use Rattle.std.specs.Prelude.{◌≡◌, ◌<◌, IfOk};
+ghost use Rattle.xa_line.specs.Grid.{new_grid};
+ghost use Rattle.xa_serve.specs.Headroom.{first_headroom};
+ghost use Rattle.xa_serve.specs.Session.{IsReady, happenings_by, is_over, lines_by};
+
+mod decisions;
+
+use std::alloc::Global;
+use xa_base::Refusal;
+use xa_line::Lines;
+use xa_log::DecisionLog;
+use xa_tm::{Manager, StartFault};
+
+/// The most that may happen in a session: 2 to the 62nd power.
+const HAPPENING_LIMIT: u64 = 4_611_686_018_427_387_904;
+
+/// A session of a driver with the coordinator.
+///
+/// Each method asks that the session is ready (`IsReady`), and leaves it so, whatever was answered. A session that
+/// [`Session::new`] gives is ready.
+#[derive(Drop)]
+pub struct Session<L: DecisionLog + Drop> {
+    pub(crate) manager: Manager<L>,
+    pub(crate) lines: Lines,
+    /// How much has happened since the start.
+    pub(crate) happenings: u64,
+}
+
+impl<L: DecisionLog + Drop> Session<L> {
+    /// A session over a log, of so many threads and resource managers.
+    pub fn new(alloc: Global, threads: u32, rms: u32, log: L) -> Result<Session<L>, StartFault>
+        ensures ready { IfOk result IsReady }
+        ensures lines { IfOk result (λ s. s.lines ≡ new_grid threads rms) }
+    {
+        let Ok(lines) = Lines::new(alloc, threads, rms) else {
+            return Err(StartFault::Memory);
+        };
+        match Manager::new(alloc, threads, rms, log) {
+            Ok(manager) => Ok(Session {
+                manager,
+                lines,
+                happenings: 0,
+            }),
+            Err(fault) => Err(fault),
+        }
+    }
+
+    /// Whether so much has happened that nothing more may.
+    fn is_over(&self) -> bool
+        ensures value { result ≡ is_over self.now }
+    {
+        self.happenings >= HAPPENING_LIMIT
+    }
+
+    /// Notes what a call of the manager gave that may have asked the log. Where the log failed, all lines break.
+    fn conclude(&mut self, reply: Result<(), Refusal>) -> Result<(), Refusal>
+        requires { self.old.happenings < first_headroom }
+        ensures value { result ≡ reply }
+        ensures manager { self.new.manager ≡ self.old.manager }
+        ensures lines { self.new.lines ≡ lines_by reply self.old.lines }
+        ensures happenings { self.new.happenings ≡ happenings_by reply self.old.happenings }
+    {
+        match reply {
+            Ok(()) => {
+                self.happenings += 1;
+                Ok(())
+            }
+            Err(Refusal::LogFault) => {
+                self.lines.renew_all();
+                self.happenings += 1;
+                Err(Refusal::LogFault)
+            }
+            Err(refusal) => Err(refusal),
+        }
+    }
+}

@@ -1,0 +1,198 @@
+//! Transactions that begin, are claimed and are decided.
+
+ghost use Rattle.std.specs.Prelude.{◌≡◌, ◌≢◌, ◌+◌, Some, None, Err, IfErr, IfOk, OnOk};
+ghost use Rattle.xa_base.specs.declared.refusal.Refusal.TheVariants as Refusals;
+ghost use Rattle.xa_base.specs.declared.step.Outcome.TheVariants as Outcomes;
+ghost use Rattle.xa_base.specs.declared.step.Step.TheVariants as Steps;
+ghost use Rattle.xa_model.specs.Trace.{Fault.InDecide, Fault.InDone, Happening.Begun, Happening.Claimed, Happening.Decided, Happening.Done, Happening.Failed};
+ghost use Rattle.xa_tm.specs.Book.{Doubt.Adds, Doubt.Drops, after, book_after, voted_yes};
+ghost use Rattle.xa_tm.specs.Calls.{FailsBy, book_in, log_in};
+ghost use Rattle.xa_serve.specs.Session.{IsReady, lines_by, refusal_at};
+
+use super::Session;
+use crate::laws::books_have_headroom;
+use xa_base::{Gtrid, Outcome, Refusal};
+use xa_log::DecisionLog;
+
+impl<L: DecisionLog + Drop> Session<L> {
+    /// A thread begins a transaction.
+    pub fn begin(&mut self, thread: u32) -> Result<Gtrid, Refusal>
+        requires { IsReady self.old }
+        ensures ready { IsReady self.new }
+        // A rule that refuses changes nothing.
+        ensures refused { (n : Refusal) → refusal_at self.old (Steps.Begin thread) ≡ Some n →
+            (result ≡ Err n) × (self.new ≡ self.old) }
+        ensures allowed { OnOk result (refusal_at self.old (Steps.Begin thread) ≡ None) }
+        // What the book then says.
+        ensures value { IfOk result (λ g. g ≡ record {
+          incarnation = (book_in self.old.manager).incarnation;
+          sequence = (book_in self.old.manager).sequence + 1;
+        }) }
+        ensures ok { IfOk result
+            (λ g. book_in self.new.manager ≡ after (book_in self.old.manager) (Begun g)) }
+        ensures err { refusal_at self.old (Steps.Begin thread) ≡ None →
+            IfErr result (λ n. (n ≡ Refusals.Memory)
+            × (book_in self.new.manager ≡ book_in self.old.manager)) }
+        // The log and the lines.
+        ensures log { log_in self.new.manager ≡ log_in self.old.manager }
+        ensures lines { self.new.lines ≡ self.old.lines }
+    {
+        books_have_headroom();
+        if self.is_over() {
+            return Err(Refusal::Limit);
+        }
+        match self.manager.begin(thread) {
+            Ok(gtrid) => {
+                self.happenings += 1;
+                Ok(gtrid)
+            }
+            Err(refusal) => Err(refusal),
+        }
+    }
+
+    /// Claims a transaction: from then on no recovery rolls it back.
+    pub fn claim(&mut self, gtrid: Gtrid) -> Result<(), Refusal>
+        requires { IsReady self.old }
+        ensures ready { IsReady self.new }
+        // A rule that refuses changes nothing.
+        ensures refused { (n : Refusal) → refusal_at self.old (Steps.Claim gtrid) ≡ Some n →
+            (result ≡ Err n) × (self.new ≡ self.old) }
+        ensures allowed { OnOk result (refusal_at self.old (Steps.Claim gtrid) ≡ None) }
+        // What the book then says.
+        ensures ok { OnOk result
+            (book_in self.new.manager ≡ after (book_in self.old.manager) (Claimed gtrid)) }
+        ensures err { refusal_at self.old (Steps.Claim gtrid) ≡ None →
+            IfErr result (λ n. (n ≡ Refusals.Memory)
+            × (book_in self.new.manager ≡ book_in self.old.manager)) }
+        // The log and the lines.
+        ensures log { log_in self.new.manager ≡ log_in self.old.manager }
+        ensures lines { self.new.lines ≡ self.old.lines }
+    {
+        books_have_headroom();
+        if self.is_over() {
+            return Err(Refusal::Limit);
+        }
+        match self.manager.claim(gtrid) {
+            Ok(()) => {
+                self.happenings += 1;
+                Ok(())
+            }
+            Err(refusal) => Err(refusal),
+        }
+    }
+
+    /// Decides a transaction. Where the log fails, the manager is down and all lines break.
+    pub fn decide(&mut self, gtrid: Gtrid, outcome: Outcome) -> Result<(), Refusal>
+        requires { IsReady self.old }
+        ensures ready { IsReady self.new }
+        // A rule that refuses changes nothing.
+        ensures refused { (n : Refusal) →
+            refusal_at self.old (Steps.Decide gtrid outcome) ≡ Some n →
+            (result ≡ Err n) × (self.new ≡ self.old) }
+        ensures allowed { OnOk result
+            (refusal_at self.old (Steps.Decide gtrid outcome) ≡ None) }
+        // What the book then says.
+        ensures ok { OnOk result (book_in self.new.manager ≡
+            after (book_in self.old.manager) (Decided gtrid outcome)) }
+        ensures err { refusal_at self.old (Steps.Decide gtrid outcome) ≡ None →
+            IfErr result (FailsBy (Adds gtrid (voted_yes (book_in self.old.manager) gtrid))
+            (InDecide gtrid) (book_in self.old.manager) (book_in self.new.manager)) }
+        // The log and the lines.
+        ensures log { IfErr result (λ n. n ≢ Refusals.LogFault →
+            log_in self.new.manager ≡ log_in self.old.manager) }
+        ensures lines { self.new.lines ≡ lines_by result self.old.lines }
+    {
+        books_have_headroom();
+        if self.is_over() {
+            return Err(Refusal::Limit);
+        }
+        let reply = self.manager.decide(gtrid, outcome);
+        self.conclude(reply)
+    }
+
+    /// Commits a claimed transaction. Where the log fails, the manager is down and all lines break.
+    pub fn settle(&mut self, gtrid: Gtrid) -> Result<(), Refusal>
+        requires { IsReady self.old }
+        ensures ready { IsReady self.new }
+        // A rule that refuses changes nothing.
+        ensures refused { (n : Refusal) → refusal_at self.old (Steps.Settle gtrid) ≡ Some n →
+            (result ≡ Err n) × (self.new ≡ self.old) }
+        ensures allowed { OnOk result (refusal_at self.old (Steps.Settle gtrid) ≡ None) }
+        // What the book then says.
+        ensures ok { OnOk result (book_in self.new.manager ≡
+            after (book_in self.old.manager) (Decided gtrid Outcomes.Commit)) }
+        ensures err { refusal_at self.old (Steps.Settle gtrid) ≡ None →
+            IfErr result (FailsBy (Adds gtrid (voted_yes (book_in self.old.manager) gtrid))
+            (InDecide gtrid) (book_in self.old.manager) (book_in self.new.manager)) }
+        // The log and the lines.
+        ensures log { IfErr result (λ n. n ≢ Refusals.LogFault →
+            log_in self.new.manager ≡ log_in self.old.manager) }
+        ensures lines { self.new.lines ≡ lines_by result self.old.lines }
+    {
+        books_have_headroom();
+        if self.is_over() {
+            return Err(Refusal::Limit);
+        }
+        let reply = self.manager.settle(gtrid);
+        self.conclude(reply)
+    }
+
+    /// Rolls a claimed transaction back. The log is not asked.
+    pub fn abandon(&mut self, gtrid: Gtrid) -> Result<(), Refusal>
+        requires { IsReady self.old }
+        ensures ready { IsReady self.new }
+        // A rule that refuses changes nothing.
+        ensures refused { (n : Refusal) → refusal_at self.old (Steps.Abandon gtrid) ≡ Some n →
+            (result ≡ Err n) × (self.new ≡ self.old) }
+        ensures allowed { OnOk result (refusal_at self.old (Steps.Abandon gtrid) ≡ None) }
+        // What the book then says.
+        ensures ok { OnOk result (book_in self.new.manager ≡
+            after (book_in self.old.manager) (Decided gtrid Outcomes.Rollback)) }
+        ensures err { refusal_at self.old (Steps.Abandon gtrid) ≡ None →
+            IfErr result (λ n. (n ≡ Refusals.Memory)
+            × (book_in self.new.manager ≡ book_in self.old.manager)) }
+        // The log and the lines.
+        ensures log { log_in self.new.manager ≡ log_in self.old.manager }
+        ensures lines { self.new.lines ≡ self.old.lines }
+    {
+        books_have_headroom();
+        if self.is_over() {
+            return Err(Refusal::Limit);
+        }
+        match self.manager.abandon(gtrid) {
+            Ok(()) => {
+                self.happenings += 1;
+                Ok(())
+            }
+            Err(refusal) => Err(refusal),
+        }
+    }
+
+    /// Takes the row of a transaction away that waits for nothing more. Where the log fails, the manager is down and all
+    /// lines break.
+    pub fn done(&mut self, gtrid: Gtrid) -> Result<(), Refusal>
+        requires { IsReady self.old }
+        ensures ready { IsReady self.new }
+        // A rule that refuses changes nothing.
+        ensures refused { (n : Refusal) → refusal_at self.old (Steps.Done gtrid) ≡ Some n →
+            (result ≡ Err n) × (self.new ≡ self.old) }
+        ensures allowed { OnOk result (refusal_at self.old (Steps.Done gtrid) ≡ None) }
+        // What the book then says.
+        ensures ok { OnOk result
+            (book_in self.new.manager ≡ after (book_in self.old.manager) (Done gtrid)) }
+        ensures err { refusal_at self.old (Steps.Done gtrid) ≡ None →
+            IfErr result (λ n. (n ≡ Refusals.LogFault) × (book_in self.new.manager ≡
+            book_after (book_in self.old.manager) (Drops gtrid) (Failed (InDone gtrid)))) }
+        // The log and the lines.
+        ensures log { IfErr result (λ n. n ≢ Refusals.LogFault →
+            log_in self.new.manager ≡ log_in self.old.manager) }
+        ensures lines { self.new.lines ≡ lines_by result self.old.lines }
+    {
+        books_have_headroom();
+        if self.is_over() {
+            return Err(Refusal::Limit);
+        }
+        let reply = self.manager.done(gtrid);
+        self.conclude(reply)
+    }
+}
