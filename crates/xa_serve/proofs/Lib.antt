@@ -1,1 +1,3 @@
 mod Headroom
+mod Refusals
+mod Sessions

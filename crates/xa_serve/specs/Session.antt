@@ -1,19 +1,26 @@
 -- What a session stands at, and what it refuses.
-use Rattle.std.specs.Prelude.{ℕ, ◌≡◌, ◌≤◌, ◌-◌, ◌&&◌, Bool, not, nat_le, nat_lt, if◌then◌else◌, List, [], Option, Some, None, Result, Ok, Err, ◌+◌}
-use Rattle.std.specs.Option.{option_or}
+use Rattle.std.specs.Prelude.{ℕ, ◌≡◌, ◌≤◌, ◌-◌, ◌&&◌, ◌||◌, Bool, not, nat_le, nat_lt, if◌then◌else◌, [], length, slice_get, Option, Some, None, Result, Ok, Err, ◌+◌}
+use Rattle.std.specs.Option.{option_map, option_or}
+use Rattle.xa_base.specs.Answer.{map_answer}
+use Rattle.xa_base.specs.Call.{map_call}
+use Rattle.xa_base.specs.Opening.{has_closed, has_opened}
 use Rattle.xa_base.specs.Xid.{Xid}
+use Rattle.xa_base.specs.declared.answer.Answer.{Answer}
 use Rattle.xa_base.specs.declared.call.Call.{Call}
 use Rattle.xa_base.specs.declared.refusal.Refusal.{Refusal}
-use Rattle.xa_base.specs.declared.refusal.Refusal.TheVariants.{Limit, LogFault}
+use Rattle.xa_base.specs.declared.refusal.Refusal.TheVariants.{Closed, Full, Limit, LogFault, ManagerDown, NotOpen}
 use Rattle.xa_base.specs.declared.step.Step.TheVariants as Steps
 use Rattle.xa_line.specs.Grid.{Grid, HasLine, line_at, new_grid}
-use Rattle.xa_line.specs.Traffic.{refusal}
+use Rattle.xa_line.specs.Traffic.{Traffic, barred, is_full, issued, places}
 use Rattle.xa_model.specs.Replies.History.{name_of}
 use Rattle.xa_model.specs.Replies.Steps.{Step}
 use Rattle.xa_tm.specs.Calls.{book_in}
 use Rattle.xa_tm.specs.Refusing.{refusal_in}
 use Rattle.xa_serve.specs.Headroom.{HasHeadroom, first_headroom}
+use Rattle.xa_serve.specs.Hearing.{can_hear}
 use Rattle.xa_serve.specs.declared.session.Session.{Session}
+use Rattle.xa_serve.specs.declared.session.answers.Unfit.{Unfit}
+use Rattle.xa_serve.specs.declared.session.answers.Unfit.TheVariants as Unfits
 
 -- ** what it stands at
 
@@ -49,3 +56,44 @@ happenings_by _ n = n
 abbrev pub lines_by : {A : Type 0} → Result A Refusal → Grid → Grid
 lines_by (Err LogFault) g = new_grid g.threads g.rms
 lines_by _ g = g
+
+-- ** what it refuses of a line
+
+-- it has the line of the thread to the resource manager
+abbrev pub has_line : Grid → (thread rm : ℕ) → Bool
+has_line g t r = nat_lt t g.threads && nat_lt r g.rms
+
+-- why it refuses whatever is told of a line, the first reason that applies
+abbrev pub line_refusal : {L : Type 0} → Session L → (thread rm : ℕ) → Option Refusal
+line_refusal s t r =
+    if is_over s || not (has_line s.lines t r) then Some Limit else (if not (book_in s.manager).up then Some ManagerDown else None)
+
+-- why it refuses a call on the line
+abbrev pub issue_refusal : {L : Type 0} → Session L → (thread rm : ℕ) → Call Xid → Option Refusal
+issue_refusal s t r call =
+    option_or (line_refusal s t r)
+    (option_or (barred (issued (line_at s.lines t r)) call)
+    (option_or (refusal_in (book_in s.manager) (Steps.Issue t r (map_call name_of call)))
+    (if is_full (line_at s.lines t r) then Some Full else None)))
+
+-- why the line of the first thread takes no recovery of so many calls
+abbrev pub recovery_bar : Traffic → (calls : ℕ) → Option Refusal
+recovery_bar t n =
+    if not (has_opened (issued t)) then Some NotOpen
+    else (if has_closed (issued t) then Some Closed
+    else (if nat_lt places (length t.calls.waiting + n) then Some Full else None))
+
+-- why it refuses a recovery of so many calls at a resource manager
+abbrev pub recovery_refusal : {L : Type 0} → Session L → (rm calls : ℕ) → Option Refusal
+recovery_refusal s r n = option_or (line_refusal s 0 r) (recovery_bar (line_at s.lines 0 r) n)
+
+-- why it doesn't hear an answer to the call that waits first
+abbrev pub unfit_for : Option (Call Xid) → Answer Xid → Option Unfit
+unfit_for None answer = Some Unfits.NothingWaits
+unfit_for (Some call) answer =
+    if can_hear (map_call name_of call) (map_answer name_of answer) then None else Some Unfits.NoSuchAnswer
+
+-- why it doesn't hear an answer on a line, the first reason that applies
+abbrev pub unfit : {L : Type 0} → Session L → (thread rm : ℕ) → Answer Xid → Option Unfit
+unfit s t r answer =
+    option_or (option_map Unfits.Refused (line_refusal s t r)) (unfit_for (slice_get (line_at s.lines t r).calls.waiting 0) answer)

@@ -49,7 +49,7 @@ impl<L: DecisionLog + Drop> Session<L> {
 
     /// Whether so much has happened that nothing more may.
     fn is_over(&self) -> bool
-        ensures value { result ≡ is_over self.now }
+        ensures { result ≡ is_over self.now }
     {
         self.happenings >= HAPPENING_LIMIT
     }

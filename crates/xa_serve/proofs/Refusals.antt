@@ -1,0 +1,86 @@
+-- What the refusals of a book say.
+use Rattle.std.proofs.Common.{◌≡◌, ℕ, ◌<◌, Bool, true, false, not, List, [], ◌∷◌, Option, Some, None, refl, sym, ap, ◌∙◌, arith}
+use Rattle.std.specs.Prelude.{if◌then◌else◌, nat_le, nat_lt}
+use Rattle.std.proofs.lemmas.Bool.{true≢false}
+use Rattle.std.proofs.lemmas.Bool.Decides.{nat_tests}
+use Rattle.xa_base.proofs.Options.{some_is}
+use Rattle.xa_base.specs.declared.branch.Gtrid.{Gtrid}
+use Rattle.xa_base.specs.declared.call.Call.TheVariants as Calls
+use Rattle.xa_base.specs.declared.refusal.Refusal.{Refusal}
+use Rattle.xa_base.specs.declared.refusal.Refusal.TheVariants.{Limit, LogFault}
+use Rattle.xa_base.specs.declared.step.Outcome.{Outcome}
+use Rattle.xa_base.specs.declared.step.Step.TheVariants as Steps
+use Rattle.xa_model.specs.Replies.Rules.{first_of}
+use Rattle.xa_model.specs.Replies.Steps.{Step, accepted}
+use Rattle.xa_model.specs.Trace.{Call, Name.Foreign, Name.Ours}
+use Rattle.xa_tm.specs.Book.{Book}
+use Rattle.xa_tm.specs.News.{Asked}
+use Rattle.xa_tm.specs.Refusing.{applies_in, forces_unknown_transaction_in, is_there_in, manager_rules, refusal_in}
+
+-- ** numbers
+
+pub not_over : (m n : ℕ) → nat_le m n ≡ false → n < m
+not_over m n e = grind (arith, nat_tests, e)
+
+-- ** no rule is that the log failed
+
+first_applies : (test : Refusal → Bool) (ns : List Refusal) (n : Refusal) → first_of test ns ≡ Some n → test n ≡ true
+first_applies test [] n e = absurd (cc)
+first_applies test (x ∷ xs) n e = by (test x) refl (first_applies test xs n) e
+  where
+    by : (t : Bool) → test x ≡ t → (first_of test xs ≡ Some n → test n ≡ true) → (if t then Some x else first_of test xs) ≡ Some n → test n ≡ true
+    by true is rest e = ap test (sym (some_is x n e)) ∙ is
+    by false is rest e = rest e
+
+pub no_fault : (k : Book) (s : Step) → refusal_in k s ≡ Some LogFault → ⊥
+no_fault k s e = by (is_there_in k s) e
+  where
+    by : (t : Bool) → (if t then first_of (applies_in k s) manager_rules else Some Limit) ≡ Some LogFault → ⊥
+    by true e = true≢false (sym (first_applies (applies_in k s) manager_rules LogFault e))
+    by false e = absurd (cc)
+
+-- ** what no rule refuses
+
+pub if_none : (t : Bool) (r : Refusal) (rest : Option Refusal) → (if t then Some r else rest) ≡ None → (t ≡ false) × (rest ≡ None)
+if_none true r rest e = absurd (cc)
+if_none false r rest e = (refl, e)
+
+if_there : (t : Bool) (x : Option Refusal) (r : Refusal) → (if t then x else Some r) ≡ None → x ≡ None
+if_there true x r e = e
+if_there false x r e = absurd (cc)
+
+pub not_false : (b : Bool) → not b ≡ false → b ≡ true
+not_false true e = refl
+not_false false e = absurd (cc)
+
+-- what may be decided is begun
+pub begun_if_decided : (k : Book) (g : Gtrid) (o : Outcome) → refusal_in k (Steps.Decide g o) ≡ None → (k.transaction g).begun ≡ true
+begun_if_decided k g o none = not_false _ (if_none _ _ _ (if_none _ _ _ none).1).0
+
+-- and what may be settled or abandoned
+pub begun_if_settled : (k : Book) (g : Gtrid) → refusal_in k (Steps.Settle g) ≡ None → (k.transaction g).begun ≡ true
+begun_if_settled k g none = not_false _ (if_none _ _ _ (if_none _ _ _ none).1).0
+
+pub begun_if_abandoned : (k : Book) (g : Gtrid) → refusal_in k (Steps.Abandon g) ≡ None → (k.transaction g).begun ≡ true
+begun_if_abandoned k g none = not_false _ (if_none _ _ _ (if_none _ _ _ none).1).0
+
+known_asked : (k : Book) (t r : ℕ) (a : Asked) → forces_unknown_transaction_in k (Steps.Issue t r a) ≡ false → (c : Call) × (accepted a ≡ Some c)
+known_asked k t r Calls.OpenRm e = (_, refl)
+known_asked k t r Calls.CloseRm e = (_, refl)
+known_asked k t r (Calls.Start (Ours b) j) e = (_, refl)
+known_asked k t r (Calls.Start (Foreign x) j) e = absurd (true≢false e)
+known_asked k t r (Calls.End (Ours b) i) e = (_, refl)
+known_asked k t r (Calls.End (Foreign x) i) e = absurd (true≢false e)
+known_asked k t r (Calls.Prepare (Ours b)) e = (_, refl)
+known_asked k t r (Calls.Prepare (Foreign x)) e = absurd (true≢false e)
+known_asked k t r (Calls.Commit (Ours b) o) e = (_, refl)
+known_asked k t r (Calls.Commit (Foreign x) o) e = absurd (true≢false e)
+known_asked k t r (Calls.Rollback (Ours b)) e = (_, refl)
+known_asked k t r (Calls.Rollback (Foreign x)) e = absurd (true≢false e)
+known_asked k t r (Calls.Forget (Ours b)) e = (_, refl)
+known_asked k t r (Calls.Forget (Foreign x)) e = absurd (true≢false e)
+known_asked k t r (Calls.Recover n x y) e = (_, refl)
+
+-- a call that may be issued is one that a history knows
+pub known_issue : (k : Book) (t r : ℕ) (a : Asked) → refusal_in k (Steps.Issue t r a) ≡ None → (c : Call) × (accepted a ≡ Some c)
+known_issue k t r a none = known_asked k t r a (if_none _ _ _ (if_none _ _ _ (if_there _ _ _ none)).1).0

@@ -1,0 +1,136 @@
+-- What a step leaves of a session.
+use Rattle.std.proofs.Common.{◌≡◌, ℕ, ◌+◌, ◌-◌, ◌<◌, ◌≤◌, ◌⊎◌, inl, inr, Bool, true, false, [], Option, Some, None, refl, sym, ap, ◌∙◌, subst, arith}
+use Rattle.std.specs.Prelude.{if◌then◌else◌, ◌≢◌, nat_le, Result, Ok, Err, OnOk, IfErr}
+use Rattle.xa_base.specs.declared.refusal.Refusal.{Refusal}
+use Rattle.xa_base.specs.declared.refusal.Refusal.TheVariants.{Limit, LogFault}
+use Rattle.xa_line.specs.Grid.{Grid, HasLine, IsWhole, line_at, new_grid, with_line}
+use Rattle.xa_line.specs.Traffic.{Traffic}
+use Rattle.xa_line.proofs.GridLaws.{line_at-new_grid, line_at-with_line_other_rm, line_at-with_line_other_thread, line_at-with_line_same}
+use Rattle.xa_model.specs.Replies.Steps.{Step}
+use Rattle.xa_model.specs.Trace.{Fault, Happening, Happening.Failed, Happening.Nothing}
+use Rattle.xa_tm.specs.Book.{Book, Doubt, Doubt.NoDoubt, after, book_after}
+use Rattle.xa_tm.specs.Calls.{FailsBy, book_in}
+use Rattle.xa_tm.specs.Refusing.{refusal_in}
+use Rattle.xa_tm.specs.declared.manager.Manager.{Manager}
+use Rattle.xa_serve.specs.Headroom.{HasHeadroom, MayHappen, first_headroom}
+use Rattle.xa_serve.specs.Session.{AllHeard, IsReady, happenings_by, is_over, lines_by, refusal_at}
+use Rattle.xa_serve.specs.declared.session.Session.{Session}
+use Rattle.xa_serve.proofs.Headroom.{headroom_kept, sound}
+use Rattle.xa_serve.proofs.Refusals.{no_fault, not_over}
+
+left : (m n : ℕ) → n < m → m - n ≡ (m - (n + 1)) + 1
+left m n few = omega (arith, few)
+
+one_more : (m n : ℕ) → n < m → n + 1 ≤ m
+one_more m n few = omega (arith, few)
+
+pub all_new : (threads rms : ℕ) → AllHeard (new_grid threads rms)
+all_new threads rms t r has = ap (λ (l : Traffic). l.answers.waiting) (line_at-new_grid threads rms t r)
+
+pub err_is : {A : Type 0} (m n : Refusal) → (let x : Result A Refusal = Err m in x) ≡ Err n → m ≡ n
+err_is m n e = cc
+
+-- what a refusal brings, it brings whatever follows from that
+pub on_err : {A : Type 0} (r : Result A Refusal) (P Q : Refusal → Type 0) → ((n : Refusal) → P n → Q n) → IfErr r P → IfErr r Q
+on_err (Ok x) P Q f h = tt
+on_err (Err n) P Q f h = f n h
+
+-- ** one step
+
+-- a happening more
+pub step_leaves : {L : Type 0} (old new : Session L) (asked : Doubt) (e : Happening) → IsReady old → old.happenings < first_headroom
+    → MayHappen (book_in old.manager) e → new.happenings ≡ old.happenings + 1
+    → book_in new.manager ≡ book_after (book_in old.manager) asked e → AllHeard new.lines → IsReady new
+step_leaves old new asked e ready few may count is heard = record {
+  few = subst (λ n. n ≤ first_headroom) (sym count) (one_more first_headroom old.happenings few);
+  headroom =
+      subst (λ n. HasHeadroom (first_headroom - n) (book_in new.manager)) (sym count)
+      (subst (HasHeadroom (first_headroom - (old.happenings + 1))) (sym is)
+      (headroom_kept (first_headroom - (old.happenings + 1)) (book_in old.manager)
+      (subst (λ m. HasHeadroom m (book_in old.manager)) (left first_headroom old.happenings few) ready.headroom) asked e may));
+  heard = heard;
+}
+
+-- nothing happened
+pub same_leaves : {L : Type 0} (old new : Session L) → IsReady old → new.happenings ≡ old.happenings
+    → book_in new.manager ≡ book_in old.manager → new.lines ≡ old.lines → IsReady new
+same_leaves old new ready count is lines = record {
+  few = subst (λ n. n ≤ first_headroom) (sym count) ready.few;
+  headroom =
+      subst (λ n. HasHeadroom (first_headroom - n) (book_in new.manager)) (sym count)
+      (subst (HasHeadroom (first_headroom - old.happenings)) (sym is) ready.headroom);
+  heard = subst AllHeard (sym lines) ready.heard;
+}
+
+-- where it isn't over, one more may happen
+pub has_few : {L : Type 0} (s : Session L) → is_over s ≡ false → s.happenings < first_headroom
+has_few s e = not_over first_headroom s.happenings e
+
+-- where it isn't over, it refuses as its manager does
+pub refusal_is : {L : Type 0} (s : Session L) (step : Step) → is_over s ≡ false → refusal_at s step ≡ refusal_in (book_in s.manager) step
+refusal_is s step e = ap (λ t. if t then Some Limit else refusal_in (book_in s.manager) step) e
+
+-- ** a call that a rule refuses, or else leaves the book, leaves the book
+pub refused_or : (o : Option Refusal) (k l : Book) → ((n : Refusal) → o ≡ Some n → k ≡ l) → (o ≡ None → k ≡ l) → k ≡ l
+refused_or (Some n) k l some none = some n refl
+refused_or None k l some none = none refl
+
+-- ** what is left where the log may have been asked
+
+abbrev IsKept : Refusal → Type 0
+IsKept q = ((n : ℕ) → happenings_by (let x : Result (Unit {0}) Refusal = Err q in x) n ≡ n)
+    × ((g : Grid) → lines_by (let x : Result (Unit {0}) Refusal = Err q in x) g ≡ g)
+
+fault_or_kept : (q : Refusal) → (q ≡ LogFault) ⊎ IsKept q
+fault_or_kept LogFault = inl refl
+fault_or_kept _ = inr (λ n. refl, λ g. refl)
+
+module _ {L : Type 0} (old new : Session L) (m : Manager L) where
+  -- what the session makes of its manager's reply
+  pub record Concludes (reply : Result (Unit {0}) Refusal) : Type 0 where
+    pub manager : new.manager ≡ m
+    pub lines : new.lines ≡ lines_by reply old.lines
+    pub happenings : new.happenings ≡ happenings_by reply old.happenings
+
+  -- the session is ready after it
+  pub concluded : (step : Step) (asked : Doubt) (f : Fault) (e : Happening) (reply : Result (Unit {0}) Refusal) → IsReady old → is_over old ≡ false → Concludes reply
+      → MayHappen (book_in old.manager) (Failed f)
+      → ((n : Refusal) → refusal_in (book_in old.manager) step ≡ Some n → (reply ≡ Err n) × (m ≡ old.manager))
+      → OnOk reply (MayHappen (book_in old.manager) e)
+      → OnOk reply (book_in m ≡ after (book_in old.manager) e)
+      → (refusal_in (book_in old.manager) step ≡ None → IfErr reply (FailsBy asked f (book_in old.manager) (book_in m))) → IsReady new
+  concluded step asked f e (Ok u) ready free done may_fail refused may is err =
+      step_leaves old new NoDoubt e ready (has_few old free) may done.happenings (ap book_in done.manager ∙ is) (subst AllHeard (sym done.lines) ready.heard)
+  concluded step asked f e (Err q) ready free done may_fail refused may is err = by (refusal_in (book_in old.manager) step) refl (fault_or_kept q)
+    where
+      same : IsKept q → book_in m ≡ book_in old.manager → IsReady new
+      same kept book =
+          same_leaves old new ready (done.happenings ∙ kept.0 old.happenings) (ap book_in done.manager ∙ book) (done.lines ∙ kept.1 old.lines)
+
+      lines_heard : q ≡ LogFault → AllHeard new.lines
+      lines_heard fault =
+          subst AllHeard (sym (done.lines ∙ ap (λ n. lines_by (let x : Result (Unit {0}) Refusal = Err n in x) old.lines) fault))
+          (all_new old.lines.threads old.lines.rms)
+
+      count : q ≡ LogFault → new.happenings ≡ old.happenings + 1
+      count fault = done.happenings ∙ ap (λ n. happenings_by (let x : Result (Unit {0}) Refusal = Err n in x) old.happenings) fault
+
+      by_failure : FailsBy asked f (book_in old.manager) (book_in m) q → (q ≡ LogFault) ⊎ IsKept q → IsReady new
+      by_failure (inl memory) (inl fault) =
+          step_leaves old new NoDoubt Nothing ready (has_few old free) tt (count fault) (ap book_in done.manager ∙ memory.1) (lines_heard fault)
+      by_failure (inl memory) (inr kept) = same kept memory.1
+      by_failure (inr failed) _ =
+          step_leaves old new asked (Failed f) ready (has_few old free) may_fail (count failed.0) (ap book_in done.manager ∙ failed.1) (lines_heard failed.0)
+
+      by : (o : Option Refusal) → refusal_in (book_in old.manager) step ≡ o → (q ≡ LogFault) ⊎ IsKept q → IsReady new
+      by (Some n) is (inl fault) = absurd (no_fault (book_in old.manager) step (is ∙ ap (λ p. Some p) (sym (err_is q n (refused n is).0) ∙ fault)))
+      by (Some n) is (inr kept) = same kept (ap book_in (refused n is).1)
+      by None is which = by_failure (err is) which
+
+  -- and its book is as its manager left it, where no rule refuses
+  pub concluded_err : (step : Step) (asked : Doubt) (f : Fault) (reply result : Result (Unit {0}) Refusal) → is_over old ≡ false → Concludes reply → result ≡ reply
+      → (refusal_in (book_in old.manager) step ≡ None → IfErr reply (FailsBy asked f (book_in old.manager) (book_in m)))
+      → refusal_at old step ≡ None → IfErr result (FailsBy asked f (book_in old.manager) (book_in new.manager))
+  concluded_err step asked f reply result free done same err none =
+      subst (λ r. IfErr r (FailsBy asked f (book_in old.manager) (book_in new.manager))) (sym same)
+      (subst (λ n. IfErr reply (FailsBy asked f (book_in old.manager) (book_in n))) (sym done.manager) (err (sym (refusal_is old step free) ∙ none)))

@@ -1,0 +1,22 @@
+use Rattle.std.proofs.Common.{◌∙◌, ap, refl, sym}
+use Rattle.xa_base.specs.declared.step.Outcome.TheVariants as Outcomes
+use Rattle.xa_base.specs.declared.step.Step.TheVariants as Steps
+use Rattle.xa_model.specs.Trace.{Happening.Decided}
+use Rattle.xa_tm.specs.Book.{Doubt.NoDoubt}
+use Rattle.xa_tm.specs.Calls.{book_in}
+use Rattle.xa_tm.specs.Refusing.{refusal_in}
+use Rattle.xa_serve.proofs.Refusals.{begun_if_abandoned}
+use Rattle.xa_serve.proofs.Sessions.{has_few, refused_or, same_leaves, step_leaves}
+use Rattle.xa_serve.proofs.session.Session.abandon.Goals as goal
+
+pub returns-in-Ok-clause-ready : goal.returns-in-Ok-clause-ready
+returns-in-Ok-clause-ready g c =
+    let s = c.args.self.now in
+    step_leaves s _ NoDoubt (Decided c.args.gtrid Outcomes.Rollback) c.requires (has_few s (sym c.is_over.ensures ∙ c.if-is_over.false)) (begun_if_abandoned (book_in c.args.self.now.manager) c.args.gtrid c.in-Ok.ensures.allowed) refl c.in-Ok.ensures.ok c.requires.heard
+
+pub returns-in-Err-clause-ready : goal.returns-in-Err-clause-ready
+returns-in-Err-clause-ready g c =
+    let s = c.args.self.now in
+    same_leaves s _ c.requires refl
+    (refused_or (refusal_in (book_in s.manager) (Steps.Abandon c.args.gtrid)) _ _
+    (λ n is. ap book_in (c.in-Err.ensures.refused n is).1) (λ none. (c.in-Err.ensures.err none).1)) refl

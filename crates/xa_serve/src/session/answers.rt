@@ -1,0 +1,103 @@
+//! Answers that the driver tells.
+
+ghost use Rattle.std.specs.Prelude.{◌≡◌, ◌≢◌, [], slice_get, Some, None, Err, IfErr, OnOk};
+ghost use Rattle.xa_base.specs.Answer.{map_answer};
+ghost use Rattle.xa_base.specs.Call.{map_call};
+ghost use Rattle.xa_base.specs.Xid.{Xid as Named};
+ghost use Rattle.xa_base.specs.declared.call.Call.{Call as Waiting};
+ghost use Rattle.xa_base.specs.declared.refusal.Refusal.{Refusal as Refused};
+ghost use Rattle.xa_base.specs.declared.refusal.Refusal.TheVariants as Refusals;
+ghost use Rattle.xa_line.specs.Grid.{line_at, new_grid, with_line};
+ghost use Rattle.xa_model.specs.Facts.{record_of};
+ghost use Rattle.xa_model.specs.Replies.History.{name_of};
+ghost use Rattle.xa_model.specs.Replies.Steps.{accepted};
+ghost use Rattle.xa_model.specs.Trace.{Call as KnownCall, Fault.InHear, Happening.Heard, line};
+ghost use Rattle.xa_tm.specs.Book.{after, doubt_of};
+ghost use Rattle.xa_tm.specs.Calls.{FailsBy, book_in, log_in};
+ghost use Rattle.xa_serve.specs.Hearing.{with_answer};
+ghost use Rattle.xa_serve.specs.Session.{IsReady, unfit};
+ghost use Rattle.xa_serve.specs.declared.session.answers.Unfit.TheVariants as Unfits;
+
+use super::Session;
+use crate::hearing::can_hear;
+use crate::laws::books_have_headroom;
+use xa_base::{Answer, Refusal};
+use xa_line::Line;
+use xa_log::DecisionLog;
+
+/// Why an answer is not heard.
+#[derive(Clone, Copy, Debug, PartialEq, Eq)]
+pub enum Unfit {
+    /// A rule refuses it, memory is short, or the log failed.
+    Refused(Refusal),
+    /// No call waits on the line.
+    NothingWaits,
+    /// The call that waits first has no such answer.
+    NoSuchAnswer,
+}
+
+impl<L: DecisionLog + Drop> Session<L> {
+    /// The call that waits first on a line was done, and answered so. Where the log fails, the manager is down and all
+    /// lines break.
+    pub fn answer(&mut self, thread: u32, rm: u32, answer: Answer) -> Result<(), Unfit>
+        requires { IsReady self.old }
+        ensures ready { IsReady self.new }
+        // What is unfit changes nothing.
+        ensures refused { (u : _) → unfit self.old thread rm answer ≡ Some u →
+            (result ≡ Err u) × (self.new ≡ self.old) }
+        ensures allowed { OnOk result (unfit self.old thread rm answer ≡ None) }
+        // What the book then says.
+        ensures ok { OnOk result ((call : Waiting Named) (c : KnownCall) →
+            slice_get (line_at self.old.lines thread rm).calls.waiting 0 ≡ Some call →
+            accepted (map_call name_of call) ≡ Some c →
+            book_in self.new.manager ≡ after (book_in self.old.manager)
+            (Heard (line thread rm) c (map_answer name_of answer))) }
+        ensures err { unfit self.old thread rm answer ≡ None →
+            IfErr result (λ u. (n : Refused) × (u ≡ Unfits.Refused n) ×
+            ((call : Waiting Named) (c : KnownCall) →
+            slice_get (line_at self.old.lines thread rm).calls.waiting 0 ≡ Some call →
+            accepted (map_call name_of call) ≡ Some c →
+            FailsBy (doubt_of (record_of c (map_answer name_of answer)))
+            (InHear (line thread rm)) (book_in self.old.manager) (book_in self.new.manager) n)) }
+        // The log and the lines.
+        ensures log { IfErr result (λ u. u ≢ Unfits.Refused Refusals.LogFault →
+            log_in self.new.manager ≡ log_in self.old.manager) }
+        ensures lines { OnOk result (self.new.lines ≡ with_line self.old.lines thread rm
+            (with_answer (line_at self.old.lines thread rm) answer)) }
+        ensures lines_stay { IfErr result (λ u. u ≢ Unfits.Refused Refusals.LogFault →
+            self.new.lines ≡ self.old.lines) }
+        ensures broken { result ≡ Err (Unfits.Refused Refusals.LogFault) →
+            self.new.lines ≡ new_grid self.old.lines.threads self.old.lines.rms }
+    {
+        books_have_headroom();
+        if let Some(refusal) = self.line_refusal(thread, rm) {
+            return Err(Unfit::Refused(refusal));
+        }
+        let Some(front) = self.lines.line(thread, rm).front() else {
+            return Err(Unfit::NothingWaits);
+        };
+        let call = front.copy();
+        if !can_hear(&call, &answer) {
+            return Err(Unfit::NoSuchAnswer);
+        }
+        let reply = self.manager.hear(thread, rm, &call, &answer);
+        if reply.is_ok() {
+            answer_first(self.lines.line_mut(thread, rm), answer);
+        }
+        match self.conclude(reply) {
+            Ok(()) => Ok(()),
+            Err(refusal) => Err(Unfit::Refused(refusal)),
+        }
+    }
+}
+
+/// The call that waits first is taken, answered and heard.
+fn answer_first(line: &mut Line, answer: Answer)
+    requires { line.old.answers.waiting ≡ [] }
+    ensures { line.new ≡ with_answer line.old answer }
+{
+    if let Some(call) = line.take() {
+        let _ = line.answer(call, answer);
+        let _ = line.hear();
+    }
+}

@@ -1,0 +1,103 @@
+//! Calls that wait on a line.
+
+ghost use Rattle.std.specs.Prelude.{◌≡◌, Some, None, Err, IfErr, OnErr, OnOk};
+ghost use Rattle.xa_base.specs.Call.{map_call};
+ghost use Rattle.xa_base.specs.declared.refusal.Refusal.TheVariants as Refusals;
+ghost use Rattle.xa_line.specs.Grid.{line_at, with_line};
+ghost use Rattle.xa_line.specs.Traffic.{barred, issued, with_one_more};
+ghost use Rattle.xa_model.specs.Replies.History.{name_of};
+ghost use Rattle.xa_model.specs.Replies.Steps.{accepted};
+ghost use Rattle.xa_model.specs.Trace.{Call as KnownCall, Happening.Issued, line};
+ghost use Rattle.xa_tm.specs.Book.{after};
+ghost use Rattle.xa_tm.specs.Calls.{book_in, log_in};
+ghost use Rattle.xa_serve.specs.Session.{IsReady, issue_refusal, line_refusal};
+
+use super::Session;
+use crate::laws::books_have_headroom;
+use xa_base::{Call, Refusal};
+use xa_line::Line;
+use xa_log::DecisionLog;
+
+impl<L: DecisionLog + Drop> Session<L> {
+    /// Why nothing is told of a line now, whatever it is.
+    pub(super) fn line_refusal(&self, thread: u32, rm: u32) -> Option<Refusal>
+        ensures { result ≡ line_refusal self.now thread rm }
+    {
+        if self.is_over() || thread >= self.lines.threads() || rm >= self.lines.rms() {
+            return Some(Refusal::Limit);
+        }
+        if !self.manager.is_up() {
+            return Some(Refusal::ManagerDown);
+        }
+        None
+    }
+
+    /// Why a call may not wait on a line now. The first reason that applies is told.
+    pub fn may_issue(&self, thread: u32, rm: u32, call: &Call) -> Option<Refusal>
+        ensures { result ≡ issue_refusal self.now thread rm call.now }
+    {
+        if let Some(refusal) = self.line_refusal(thread, rm) {
+            return Some(refusal);
+        }
+        if let Some(refusal) = bar(self.lines.line(thread, rm), call) {
+            return Some(refusal);
+        }
+        if let Some(refusal) = self.manager.may_issue(thread, rm, call) {
+            return Some(refusal);
+        }
+        if self.lines.line(thread, rm).free_calls() == 0 {
+            return Some(Refusal::Full);
+        }
+        None
+    }
+
+    /// Lets a call wait on a line, behind those that do already.
+    pub fn issue(&mut self, thread: u32, rm: u32, call: &Call) -> Result<(), Refusal>
+        requires { IsReady self.old }
+        ensures ready { IsReady self.new }
+        // A rule that refuses changes nothing.
+        ensures refused { (n : Refusal) → issue_refusal self.old thread rm call.now ≡ Some n →
+            (result ≡ Err n) × (self.new ≡ self.old) }
+        ensures allowed { OnOk result (issue_refusal self.old thread rm call.now ≡ None) }
+        // What the book then says.
+        ensures ok { OnOk result ((c : KnownCall) → accepted (map_call name_of call.now) ≡ Some c →
+            book_in self.new.manager ≡
+            after (book_in self.old.manager) (Issued (line thread rm) c)) }
+        ensures err { issue_refusal self.old thread rm call.now ≡ None →
+            IfErr result (λ n. (n ≡ Refusals.Memory)
+            × (book_in self.new.manager ≡ book_in self.old.manager)) }
+        // The log and the lines.
+        ensures log { log_in self.new.manager ≡ log_in self.old.manager }
+        ensures lines { OnOk result (self.new.lines ≡ with_line self.old.lines thread rm
+            (record (line_at self.old.lines thread rm) {
+              calls = with_one_more (line_at self.old.lines thread rm).calls call.now;
+            })) }
+        ensures lines_stay { OnErr result (self.new.lines ≡ self.old.lines) }
+    {
+        books_have_headroom();
+        if let Some(refusal) = self.may_issue(thread, rm, call) {
+            return Err(refusal);
+        }
+        match self.manager.note_issued(thread, rm, call) {
+            Ok(()) => {
+                let _ = self.lines.line_mut(thread, rm).issue(call.copy());
+                self.happenings += 1;
+                Ok(())
+            }
+            Err(refusal) => Err(refusal),
+        }
+    }
+}
+
+/// Why a line takes no such call, however little waits on it.
+fn bar(line: &Line, call: &Call) -> Option<Refusal>
+    ensures { result ≡ barred (issued line.now) call.now }
+{
+    if !matches!(call, Call::OpenRm) && !line.is_open() {
+        return Some(Refusal::NotOpen);
+    }
+    if line.is_closed() {
+        return Some(Refusal::Closed);
+    }
+    None
+}

@@ -1,0 +1,41 @@
+//! Lines that are lost.
+
+ghost use Rattle.std.specs.Prelude.{◌≡◌, OnErr, OnOk};
+ghost use Rattle.std.specs.Result.{result_err};
+ghost use Rattle.xa_base.specs.declared.step.Part.TheVariants as Parts;
+ghost use Rattle.xa_line.specs.Grid.{with_line};
+ghost use Rattle.xa_line.specs.Traffic.{no_traffic};
+ghost use Rattle.xa_model.specs.Trace.{Happening.Crashed};
+ghost use Rattle.xa_tm.specs.Book.{after};
+ghost use Rattle.xa_tm.specs.Calls.{book_in, log_in};
+ghost use Rattle.xa_serve.specs.Session.{IsReady, line_refusal};
+
+use super::Session;
+use crate::laws::books_have_headroom;
+use xa_base::{Part, Refusal};
+use xa_log::DecisionLog;
+
+impl<L: DecisionLog + Drop> Session<L> {
+    /// The connection of a thread to a resource manager is lost: what waits on the line is lost, and the line isn't
+    /// open. The crash of a resource manager is the loss of each thread's line to it.
+    pub fn lose_line(&mut self, thread: u32, rm: u32) -> Result<(), Refusal>
+        requires { IsReady self.old }
+        ensures ready { IsReady self.new }
+        ensures reason { result_err result ≡ line_refusal self.old thread rm }
+        ensures refused { OnErr result (self.new ≡ self.old) }
+        ensures ok { OnOk result (book_in self.new.manager ≡
+            after (book_in self.old.manager) (Crashed (Parts.Line thread rm))) }
+        ensures log { log_in self.new.manager ≡ log_in self.old.manager }
+        ensures lines { OnOk result
+            (self.new.lines ≡ with_line self.old.lines thread rm no_traffic) }
+    {
+        books_have_headroom();
+        if let Some(refusal) = self.line_refusal(thread, rm) {
+            return Err(refusal);
+        }
+        self.lines.line_mut(thread, rm).renew();
+        self.manager.crash(Part::Line { thread, rm });
+        self.happenings += 1;
+        Ok(())
+    }
+}
