@@ -1,3 +1,6 @@
 mod Headroom
+mod Lines
+mod Recoveries
+mod Hearings
 mod Refusals
 mod Sessions

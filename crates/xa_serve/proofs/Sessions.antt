@@ -92,6 +92,33 @@ module _ {L : Type 0} (old new : Session L) (m : Manager L) where
     pub lines : new.lines ≡ lines_by reply old.lines
     pub happenings : new.happenings ≡ happenings_by reply old.happenings
 
+  abbrev fault_of : Refusal → Result (Unit {0}) Refusal
+  fault_of q = Err q
+
+  kept_ready : (q : Refusal) → IsReady old → Concludes (fault_of q) → IsKept q → book_in m ≡ book_in old.manager → IsReady new
+  kept_ready q ready done kept book =
+      same_leaves old new ready (done.happenings ∙ kept.0 old.happenings) (ap book_in done.manager ∙ book) (done.lines ∙ kept.1 old.lines)
+
+  -- the session is ready after a call that failed
+  pub failed : (asked : Doubt) (f : Fault) (q : Refusal) → IsReady old → is_over old ≡ false → Concludes (fault_of q) → MayHappen (book_in old.manager) (Failed f)
+      → FailsBy asked f (book_in old.manager) (book_in m) q → IsReady new
+  failed asked f q ready free done may_fail fails = by fails (fault_or_kept q) (λ kept book. kept_ready q ready done kept book)
+    where
+      lines_heard : q ≡ LogFault → AllHeard new.lines
+      lines_heard fault =
+          subst AllHeard (sym (done.lines ∙ ap (λ n. lines_by (fault_of n) old.lines) fault)) (all_new old.lines.threads old.lines.rms)
+
+      count : q ≡ LogFault → new.happenings ≡ old.happenings + 1
+      count fault = done.happenings ∙ ap (λ n. happenings_by (fault_of n) old.happenings) fault
+
+      by : FailsBy asked f (book_in old.manager) (book_in m) q → (q ≡ LogFault) ⊎ IsKept q
+          → (IsKept q → book_in m ≡ book_in old.manager → IsReady new) → IsReady new
+      by (inl memory) (inl fault) same =
+          step_leaves old new NoDoubt Nothing ready (has_few old free) tt (count fault) (ap book_in done.manager ∙ memory.1) (lines_heard fault)
+      by (inl memory) (inr kept) same = same kept memory.1
+      by (inr fails) _ same =
+          step_leaves old new asked (Failed f) ready (has_few old free) may_fail (count fails.0) (ap book_in done.manager ∙ fails.1) (lines_heard fails.0)
+
   -- the session is ready after it
   pub concluded : (step : Step) (asked : Doubt) (f : Fault) (e : Happening) (reply : Result (Unit {0}) Refusal) → IsReady old → is_over old ≡ false → Concludes reply
       → MayHappen (book_in old.manager) (Failed f)
@@ -101,31 +128,15 @@ module _ {L : Type 0} (old new : Session L) (m : Manager L) where
       → (refusal_in (book_in old.manager) step ≡ None → IfErr reply (FailsBy asked f (book_in old.manager) (book_in m))) → IsReady new
   concluded step asked f e (Ok u) ready free done may_fail refused may is err =
       step_leaves old new NoDoubt e ready (has_few old free) may done.happenings (ap book_in done.manager ∙ is) (subst AllHeard (sym done.lines) ready.heard)
-  concluded step asked f e (Err q) ready free done may_fail refused may is err = by (refusal_in (book_in old.manager) step) refl (fault_or_kept q)
+  concluded step asked f e (Err q) ready free done may_fail refused may is err =
+      by (refusal_in (book_in old.manager) step) refl (fault_or_kept q)
+      (λ none. failed asked f q ready free done may_fail (err none)) (λ kept book. kept_ready q ready done kept book)
     where
-      same : IsKept q → book_in m ≡ book_in old.manager → IsReady new
-      same kept book =
-          same_leaves old new ready (done.happenings ∙ kept.0 old.happenings) (ap book_in done.manager ∙ book) (done.lines ∙ kept.1 old.lines)
-
-      lines_heard : q ≡ LogFault → AllHeard new.lines
-      lines_heard fault =
-          subst AllHeard (sym (done.lines ∙ ap (λ n. lines_by (let x : Result (Unit {0}) Refusal = Err n in x) old.lines) fault))
-          (all_new old.lines.threads old.lines.rms)
-
-      count : q ≡ LogFault → new.happenings ≡ old.happenings + 1
-      count fault = done.happenings ∙ ap (λ n. happenings_by (let x : Result (Unit {0}) Refusal = Err n in x) old.happenings) fault
-
-      by_failure : FailsBy asked f (book_in old.manager) (book_in m) q → (q ≡ LogFault) ⊎ IsKept q → IsReady new
-      by_failure (inl memory) (inl fault) =
-          step_leaves old new NoDoubt Nothing ready (has_few old free) tt (count fault) (ap book_in done.manager ∙ memory.1) (lines_heard fault)
-      by_failure (inl memory) (inr kept) = same kept memory.1
-      by_failure (inr failed) _ =
-          step_leaves old new asked (Failed f) ready (has_few old free) may_fail (count failed.0) (ap book_in done.manager ∙ failed.1) (lines_heard failed.0)
-
-      by : (o : Option Refusal) → refusal_in (book_in old.manager) step ≡ o → (q ≡ LogFault) ⊎ IsKept q → IsReady new
-      by (Some n) is (inl fault) = absurd (no_fault (book_in old.manager) step (is ∙ ap (λ p. Some p) (sym (err_is q n (refused n is).0) ∙ fault)))
-      by (Some n) is (inr kept) = same kept (ap book_in (refused n is).1)
-      by None is which = by_failure (err is) which
+      by : (o : Option Refusal) → refusal_in (book_in old.manager) step ≡ o → (q ≡ LogFault) ⊎ IsKept q
+          → (refusal_in (book_in old.manager) step ≡ None → IsReady new) → (IsKept q → book_in m ≡ book_in old.manager → IsReady new) → IsReady new
+      by (Some n) is (inl fault) none same = absurd (no_fault (book_in old.manager) step (is ∙ ap (λ p. Some p) (sym (err_is q n (refused n is).0) ∙ fault)))
+      by (Some n) is (inr kept) none same = same kept (ap book_in (refused n is).1)
+      by None is which none same = none is
 
   -- and its book is as its manager left it, where no rule refuses
   pub concluded_err : (step : Step) (asked : Doubt) (f : Fault) (reply result : Result (Unit {0}) Refusal) → is_over old ≡ false → Concludes reply → result ≡ reply

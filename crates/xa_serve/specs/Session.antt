@@ -1,5 +1,5 @@
 -- What a session stands at, and what it refuses.
-use Rattle.std.specs.Prelude.{ℕ, ◌≡◌, ◌≤◌, ◌-◌, ◌&&◌, ◌||◌, Bool, not, nat_le, nat_lt, if◌then◌else◌, [], length, slice_get, Option, Some, None, Result, Ok, Err, ◌+◌}
+use Rattle.std.specs.Prelude.{ℕ, ◌≡◌, ◌≤◌, ◌-◌, ◌+◌, ◌++◌, ◌&&◌, ◌||◌, Bool, not, nat_le, nat_lt, if◌then◌else◌, List, [], length, slice_get, Option, Some, None, Result, Ok, Err}
 use Rattle.std.specs.Option.{option_map, option_or}
 use Rattle.xa_base.specs.Answer.{map_answer}
 use Rattle.xa_base.specs.Call.{map_call}
@@ -10,10 +10,12 @@ use Rattle.xa_base.specs.declared.call.Call.{Call}
 use Rattle.xa_base.specs.declared.refusal.Refusal.{Refusal}
 use Rattle.xa_base.specs.declared.refusal.Refusal.TheVariants.{Closed, Full, Limit, LogFault, ManagerDown, NotOpen}
 use Rattle.xa_base.specs.declared.step.Step.TheVariants as Steps
-use Rattle.xa_line.specs.Grid.{Grid, HasLine, line_at, new_grid}
-use Rattle.xa_line.specs.Traffic.{Traffic, barred, is_full, issued, places}
+use Rattle.xa_line.specs.Grid.{Grid, HasLine, line_at, new_grid, with_line}
+use Rattle.xa_line.specs.Histories.{AreKnownAs}
+use Rattle.xa_line.specs.Traffic.{Flow, Traffic, barred, is_full, issued, places}
 use Rattle.xa_model.specs.Replies.History.{name_of}
 use Rattle.xa_model.specs.Replies.Steps.{Step}
+use Rattle.xa_model.specs.Trace.{Call as KnownCall}
 use Rattle.xa_tm.specs.Calls.{book_in}
 use Rattle.xa_tm.specs.Refusing.{refusal_in}
 use Rattle.xa_serve.specs.Headroom.{HasHeadroom, first_headroom}
@@ -97,3 +99,15 @@ unfit_for (Some call) answer =
 abbrev pub unfit : {L : Type 0} → Session L → (thread rm : ℕ) → Answer Xid → Option Unfit
 unfit s t r answer =
     option_or (option_map Unfits.Refused (line_refusal s t r)) (unfit_for (slice_get (line_at s.lines t r).calls.waiting 0) answer)
+
+-- ** recoveries
+
+-- several items more wait, last
+abbrev pub with_more : {T : Type 0} → Flow T → List T → Flow T
+with_more f xs = record { gone = f.gone; waiting = f.waiting ++ xs }
+
+-- calls wait last on the first thread's line to a resource manager, which a history knows as these. No other line changed
+pub record LetsWait (rm : ℕ) (known : List KnownCall) (old new : Grid) : Type 0 where
+  pub calls : List (Call Xid)
+  pub are : AreKnownAs calls known
+  pub lines : new ≡ with_line old 0 rm (record (line_at old 0 rm) { calls = with_more (line_at old 0 rm).calls calls })

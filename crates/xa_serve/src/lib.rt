@@ -7,8 +7,10 @@
 //! (1991).
 #![tactic(auto)]
 
+mod hearing;
 mod laws;
 mod session;
 
 pub use laws::books_have_headroom;
 pub use session::Session;
+pub use session::answers::Unfit;

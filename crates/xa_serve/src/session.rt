@@ -5,7 +5,11 @@ ghost use Rattle.xa_line.specs.Grid.{new_grid};
 ghost use Rattle.xa_serve.specs.Headroom.{first_headroom};
 ghost use Rattle.xa_serve.specs.Session.{IsReady, happenings_by, is_over, lines_by};
 
+pub(crate) mod answers;
+mod calls;
+mod crashes;
 mod decisions;
+mod recoveries;
 
 use std::alloc::Global;
 use xa_base::Refusal;

@@ -80,13 +80,16 @@ impl<L: DecisionLog + Drop> Session<L> {
         if !can_hear(&call, &answer) {
             return Err(Unfit::NoSuchAnswer);
         }
-        let reply = self.manager.hear(thread, rm, &call, &answer);
-        if reply.is_ok() {
-            answer_first(self.lines.line_mut(thread, rm), answer);
-        }
-        match self.conclude(reply) {
-            Ok(()) => Ok(()),
-            Err(refusal) => Err(Unfit::Refused(refusal)),
+        match self.manager.hear(thread, rm, &call, &answer) {
+            Ok(()) => {
+                answer_first(self.lines.line_mut(thread, rm), answer);
+                self.happenings += 1;
+                Ok(())
+            }
+            Err(refusal) => {
+                let _ = self.conclude(Err(refusal));
+                Err(Unfit::Refused(refusal))
+            }
         }
     }
 }

@@ -1,0 +1,74 @@
+-- What a session makes of its lines.
+use Rattle.std.proofs.Common.{◌≡◌, ◌≢◌, ℕ, ◌+◌, ◌-◌, ◌<◌, ◌≤◌, ◌⊎◌, inl, inr, Bool, true, false, not, [], ◌∷◌, Option, Some, None, length, refl, sym, ap, ◌∙◌, subst, arith}
+use Rattle.std.specs.Prelude.{if◌then◌else◌, ◌&&◌, ◌||◌, nat_le, nat_lt, nat_eq, Result, Ok, Err, OnOk, IfErr}
+use Rattle.std.specs.Option.{option_or}
+use Rattle.std.proofs.lemmas.Bool.Decides.{eqb_tells, nat_tests}
+use Rattle.xa_base.specs.declared.refusal.Refusal.{Refusal}
+use Rattle.xa_base.specs.declared.refusal.Refusal.TheVariants.{Limit, ManagerDown}
+use Rattle.xa_line.specs.Grid.{Grid, HasLine, IsWhole, line_at, with_line}
+use Rattle.xa_line.specs.Traffic.{Traffic}
+use Rattle.xa_line.proofs.GridLaws.{line_at-with_line_other_rm, line_at-with_line_other_thread, line_at-with_line_same}
+use Rattle.xa_tm.specs.Calls.{book_in}
+use Rattle.xa_serve.specs.Session.{AllHeard, has_line, is_over, line_refusal}
+use Rattle.xa_serve.specs.declared.session.Session.{Session}
+use Rattle.xa_serve.proofs.Refusals.{not_false}
+
+-- ** a line
+
+not_first : (a b : Bool) → (a || b) ≡ false → a ≡ false
+not_first false b e = refl
+not_first true b e = absurd (cc)
+
+not_second : (a b : Bool) → (a || b) ≡ false → b ≡ false
+not_second false b e = e
+not_second true b e = absurd (cc)
+
+both : (a b : Bool) → (a && b) ≡ true → (a ≡ true) × (b ≡ true)
+both true true e = (refl, refl)
+both true false e = absurd (cc)
+both false b e = absurd (cc)
+
+lt_is : (m n : ℕ) → nat_lt m n ≡ true → m < n
+lt_is m n e = grind (arith, nat_tests, e)
+
+-- what is so where a line may be told of
+pub record MayTell {L : Type 0} (s : Session L) (t r : ℕ) : Type 0 where
+  pub free : is_over s ≡ false
+  pub has : HasLine s.lines t r
+  pub up : (book_in s.manager).up ≡ true
+
+line_free : (over there up : Bool) → (if over || not there then Some Limit else (if not up then Some ManagerDown else None)) ≡ None
+    → (over ≡ false) × (there ≡ true) × (up ≡ true)
+line_free false true true e = (refl, refl, refl)
+line_free false true false e = absurd (cc)
+line_free false false up e = absurd (cc)
+line_free true there up e = absurd (cc)
+
+pub may_tell : {L : Type 0} (s : Session L) (t r : ℕ) → line_refusal s t r ≡ None → MayTell s t r
+may_tell s t r none =
+    let parts = line_free (is_over s) (has_line s.lines t r) (book_in s.manager).up none in
+    let there = both (nat_lt t s.lines.threads) (nat_lt r s.lines.rms) parts.1 in
+    record { free = parts.0; has = (lt_is _ _ there.0, lt_is _ _ there.1); up = parts.2 }
+
+pub none_first : {A : Type 0} (o p : Option A) → option_or o p ≡ None → o ≡ None
+none_first None p e = refl
+none_first (Some x) p e = absurd (cc)
+
+pub none_second : {A : Type 0} (o p : Option A) → option_or o p ≡ None → p ≡ None
+none_second None p e = e
+none_second (Some x) p e = absurd (cc)
+
+-- ** all lines
+
+-- one line changed, on which no answer waits
+pub all_with : (g : Grid) (t r : ℕ) (x : Traffic) → IsWhole g → HasLine g t r → x.answers.waiting ≡ [] → AllHeard g → AllHeard (with_line g t r x)
+all_with g t r x whole has here others u s has_u =
+    elim (eqb_tells s r) [
+      | inr apart ↦ ap (λ (l : Traffic). l.answers.waiting) (line_at-with_line_other_rm g t r u s x has.1 has_u.1 apart.1) ∙ others u s has_u
+      | inl same_rm ↦ (elim (eqb_tells u t) [
+        | inr apart ↦ ap (λ (l : Traffic). l.answers.waiting) (line_at-with_line_other_thread g t r u s x has.1 has_u.1 apart.1) ∙ others u s has_u
+        | inl same_thread ↦ subst (λ n. (line_at (with_line g t r x) n s).answers.waiting ≡ []) (sym same_thread.1)
+            (subst (λ n. (line_at (with_line g t r x) t n).answers.waiting ≡ []) (sym same_rm.1)
+            (ap (λ (l : Traffic). l.answers.waiting) (line_at-with_line_same g t r x whole has) ∙ here))
+      ])
+    ]
