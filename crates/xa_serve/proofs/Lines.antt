@@ -3,15 +3,20 @@ use Rattle.std.proofs.Common.{◌≡◌, ◌≢◌, ℕ, ◌+◌, ◌-◌, ◌<�
 use Rattle.std.specs.Prelude.{if◌then◌else◌, ◌&&◌, ◌||◌, nat_le, nat_lt, nat_eq, Result, Ok, Err, OnOk, IfErr}
 use Rattle.std.specs.Option.{option_or}
 use Rattle.std.proofs.lemmas.Bool.Decides.{eqb_tells, nat_tests}
+use Rattle.xa_base.specs.Call.{map_call}
+use Rattle.xa_base.specs.Xid.{Xid}
+use Rattle.xa_base.specs.declared.call.Call.{Call}
 use Rattle.xa_base.specs.declared.refusal.Refusal.{Refusal}
-use Rattle.xa_base.specs.declared.refusal.Refusal.TheVariants.{Limit, ManagerDown}
+use Rattle.xa_base.specs.declared.refusal.Refusal.TheVariants.{Full, Limit, ManagerDown}
+use Rattle.xa_base.specs.declared.step.Step.TheVariants as Steps
 use Rattle.xa_line.specs.Grid.{Grid, HasLine, IsWhole, line_at, with_line}
-use Rattle.xa_line.specs.Traffic.{Traffic}
+use Rattle.xa_line.specs.Traffic.{Traffic, barred, is_full, issued}
 use Rattle.xa_line.proofs.GridLaws.{line_at-with_line_other_rm, line_at-with_line_other_thread, line_at-with_line_same}
+use Rattle.xa_model.specs.Replies.History.{name_of}
 use Rattle.xa_tm.specs.Calls.{book_in}
-use Rattle.xa_serve.specs.Session.{AllHeard, has_line, is_over, line_refusal}
+use Rattle.xa_tm.specs.Refusing.{refusal_in}
+use Rattle.xa_serve.specs.Session.{AllHeard, has_line, is_over, issue_refusal, line_refusal}
 use Rattle.xa_serve.specs.declared.session.Session.{Session}
-use Rattle.xa_serve.proofs.Refusals.{not_false}
 
 -- ** a line
 
@@ -57,6 +62,31 @@ none_first (Some x) p e = absurd (cc)
 pub none_second : {A : Type 0} (o p : Option A) → option_or o p ≡ None → p ≡ None
 none_second None p e = e
 none_second (Some x) p e = absurd (cc)
+
+-- what is so where a call may wait
+pub record MayIssue {L : Type 0} (s : Session L) (t r : ℕ) (call : Call Xid) : Type 0 where
+  pub tell : MayTell s t r
+  pub bar : barred (issued (line_at s.lines t r)) call ≡ None
+  pub book : refusal_in (book_in s.manager) (Steps.Issue t r (map_call name_of call)) ≡ None
+  pub room : is_full (line_at s.lines t r) ≡ false
+
+not_full : (full : Bool) → (if full then Some Full else None) ≡ None → full ≡ false
+not_full false e = refl
+not_full true e = absurd (cc)
+
+pub may_issue_so : {L : Type 0} (s : Session L) (t r : ℕ) (call : Call Xid) → issue_refusal s t r call ≡ None → MayIssue s t r call
+may_issue_so s t r call none =
+    let full = if is_full (line_at s.lines t r) then Some Full else None in
+    let book = refusal_in (book_in s.manager) (Steps.Issue t r (map_call name_of call)) in
+    let bar = barred (issued (line_at s.lines t r)) call in
+    let by_bar = none_second (line_refusal s t r) (option_or bar (option_or book full)) none in
+    let by_book = none_second bar (option_or book full) by_bar in
+    record {
+      tell = may_tell s t r (none_first (line_refusal s t r) (option_or bar (option_or book full)) none);
+      bar = none_first bar (option_or book full) by_bar;
+      book = none_first book full by_book;
+      room = not_full (is_full (line_at s.lines t r)) (none_second book full by_book);
+    }
 
 -- ** all lines
 

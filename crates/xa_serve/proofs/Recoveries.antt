@@ -4,7 +4,7 @@ use Rattle.std.specs.Prelude.{◌&&◌, ◌||◌, ◌+◌, not, if◌then◌else
 use Rattle.std.specs.Option.{option_or}
 use Rattle.std.specs.Result.{result_err}
 use Rattle.std.proofs.lemmas.Bool.Decides.{nat_tests}
-use Rattle.std.proofs.lemmas.Bool.{not-false, true≢false}
+use Rattle.std.proofs.lemmas.Bool.{true≢false}
 use Rattle.std.specs.List.{list_any}
 use Rattle.std.proofs.lemmas.List.Folds.{list_any-append}
 use Rattle.xa_base.proofs.Options.{some_is}
@@ -18,14 +18,12 @@ use Rattle.xa_base.specs.declared.refusal.Refusal.TheVariants as Refusals
 use Rattle.xa_line.specs.Grid.{line_at}
 use Rattle.xa_line.specs.Histories.{known as known_call}
 use Rattle.xa_line.specs.Traffic.{Traffic, barred, issued, refusal, with_one_more}
-use Rattle.xa_line.proofs.TrafficLaws.{same_length}
 use Rattle.xa_model.specs.Replies.History.{name_of}
 use Rattle.xa_model.specs.Replies.Steps.{accepted}
 use Rattle.xa_model.specs.Trace.{Call, Name, Name.Foreign, Name.Ours}
-use Rattle.xa_serve.specs.Session.{recovery_bar, recovery_refusal, with_more}
+use Rattle.xa_serve.specs.Session.{line_refusal, recovery_bar, recovery_refusal, with_more}
 use Rattle.xa_serve.specs.declared.session.Session.{Session}
 use Rattle.xa_serve.proofs.Lines.{none_second}
-use Rattle.xa_serve.proofs.Refusals.{if_none}
 
 -- ** one call
 
@@ -123,26 +121,20 @@ closed_alike (c ∷ cs) (k ∷ ks) e =
 
 -- ** a recovery that nothing hinders
 
-room_for : (waits n : ℕ) → nat_lt 64 (waits + n) ≡ false → waits + n ≤ 64
-room_for waits n e = grind (arith, nat_tests, e)
+closed_so : (opened closed full : Bool)
+    → (if not opened then Some Refusals.NotOpen else (if closed then Some Refusals.Closed else (if full then Some Refusals.Full else None))) ≡ None
+    → closed ≡ false
+closed_so true false full e = refl
+closed_so true true full e = absurd (cc)
+closed_so false closed full e = absurd (cc)
 
-module _ {L : Type 0} (s : Session L) (r n : ℕ) (ks : List Call) (calls : List (Asking.Call Xid)) (x : Traffic)
-    (none : recovery_refusal s r n ≡ None) (are : map known_call calls ≡ map Some ks) (is : x ≡ line_at s.lines 0 r) where
-  bar_none : recovery_bar x n ≡ None
-  bar_none = ap (λ t. recovery_bar t n) is ∙ none_second _ _ none
-
-  -- the line has room for all calls
-  pub recovery_room : (count : ℕ) → count ≡ length calls → n ≡ length ks → length x.calls.waiting + count ≤ 64
-  unfolding bar_none
-  recovery_room count len many =
-      let room = room_for (length x.calls.waiting) n (if_none _ _ _ (if_none _ _ _ (if_none _ _ _ bar_none).1).1).0 in
-      let same = same_length known_call calls ks are in
-      omega (arith, room, same, len, many)
-
-  pub recovery_open : has_opened (issued x) ≡ true
-  recovery_open = not-false _ (if_none _ _ _ bar_none).0
-
-  pub recovery_unclosed : has_closed ks ≡ false → has_closed (issued x ++ calls) ≡ false
-  recovery_unclosed plain =
-      list_any-append closes (issued x) calls
-      ∙ unclosed _ _ (if_none _ _ _ (if_none _ _ _ bar_none).1).0 (closed_alike calls ks are ∙ plain)
+-- no call of it closes the line
+pub recovery_unclosed : {L : Type 0} (s : Session L) (r n : ℕ) (ks : List Call) (calls : List (Asking.Call Xid)) (x : Traffic)
+    → recovery_refusal s r n ≡ None → map known_call calls ≡ map Some ks → x ≡ line_at s.lines 0 r → has_closed ks ≡ false
+    → has_closed (issued x ++ calls) ≡ false
+recovery_unclosed s r n ks calls x none are is plain =
+    let at = line_at s.lines 0 r in
+    list_any-append closes (issued x) calls
+    ∙ unclosed _ _ (ap (λ t. has_closed (issued t)) is
+    ∙ closed_so (has_opened (issued at)) (has_closed (issued at)) (nat_lt 64 (length at.calls.waiting + n)) (none_second (line_refusal s 0 r) (recovery_bar at n) none))
+    (closed_alike calls ks are ∙ plain)

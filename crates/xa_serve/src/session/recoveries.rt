@@ -19,6 +19,7 @@ use crate::laws::books_have_headroom;
 use xa_base::{Call, Refusal};
 use xa_line::Line;
 use xa_log::DecisionLog;
+use xa_tm::recoveries_are_read;
 
 impl<L: DecisionLog + Drop> Session<L> {
     /// Why no recovery of so many calls may begin at a resource manager. The first reason that applies is told.
@@ -64,6 +65,7 @@ impl<L: DecisionLog + Drop> Session<L> {
         ensures manager { self.new.manager ≡ self.old.manager }
     {
         books_have_headroom();
+        recoveries_are_read();
         let count = self.manager.resolve_len(rm);
         if let Some(refusal) = self.no_recovery(rm, count) {
             return Err(refusal);
@@ -103,6 +105,7 @@ impl<L: DecisionLog + Drop> Session<L> {
         ensures log { log_in self.new.manager ≡ log_in self.old.manager }
     {
         books_have_headroom();
+        recoveries_are_read();
         let count = self.manager.resolve_open_len(rm);
         if let Some(refusal) = self.no_recovery(rm, count) {
             return Err(refusal);

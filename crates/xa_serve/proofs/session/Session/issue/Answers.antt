@@ -6,9 +6,9 @@ use Rattle.xa_model.specs.Replies.History.{name_of}
 use Rattle.xa_model.specs.Trace.{Happening.Issued, line}
 use Rattle.xa_tm.specs.Book.{Doubt.NoDoubt}
 use Rattle.xa_tm.specs.Calls.{book_in}
-use Rattle.xa_serve.proofs.Lines.{all_with, may_tell, none_first, none_second}
+use Rattle.xa_serve.proofs.Lines.{all_with, may_issue_so}
 use Rattle.xa_serve.proofs.Recoveries.{line_took}
-use Rattle.xa_serve.proofs.Refusals.{if_none, known_issue}
+use Rattle.xa_serve.proofs.Refusals.{known_issue}
 use Rattle.xa_serve.proofs.Sessions.{has_few, step_leaves}
 use Rattle.xa_serve.proofs.session.Session.issue.Goals as goal
 
@@ -17,26 +17,21 @@ returns-in-Ok-clause-ready g c =
     let s = c.args.self.now in
     let t = c.args.thread in
     let r = c.args.rm in
-    let none = sym c.may_issue.ensures ∙ c.in_default.is in
-    let by_bar = none_second _ _ none in
-    let by_book = none_second _ _ by_bar in
-    let may = may_tell s t r (none_first _ _ none) in
-    let known = known_issue (book_in s.manager) t r (map_call name_of c.args.call.now) (none_first _ _ by_book) in
+    let may = may_issue_so s t r c.args.call.now (sym c.may_issue.ensures ∙ c.in_default.is) in
+    let known = known_issue (book_in s.manager) t r (map_call name_of c.args.call.now) may.book in
     let put =
     line_took (line_at s.lines t r) c.line_mut.result.now c.args.call.now c.copy.result c.issue.result c.issue.new.self c.line_mut.ensures.value c.copy.ensures
-    c.issue.ensures.reason c.issue.ensures.accepted (none_first _ _ by_bar) (if_none _ _ _ (none_second _ _ by_book)).0 in
-    step_leaves s _ NoDoubt (Issued (line t r) known.0) c.requires (has_few s may.free) tt refl (c.in-Ok.ensures.ok known.0 known.1)
-    (all_with s.lines t r c.issue.new.self c.line_mut.ensures.whole may.has
-    (ap (λ (l : Traffic). l.answers.waiting) put ∙ c.requires.heard t r may.has) c.requires.heard)
+    c.issue.ensures.reason c.issue.ensures.accepted may.bar may.room in
+    step_leaves s _ NoDoubt (Issued (line t r) known.0) c.requires (has_few s may.tell.free) tt refl (c.in-Ok.ensures.ok known.0 known.1)
+    (all_with s.lines t r c.issue.new.self c.line_mut.ensures.whole may.tell.has
+    (ap (λ (l : Traffic). l.answers.waiting) put ∙ c.requires.heard t r may.tell.has) c.requires.heard)
 
 pub returns-in-Ok-clause-lines : goal.returns-in-Ok-clause-lines
 returns-in-Ok-clause-lines g c =
     let s = c.args.self.now in
     let t = c.args.thread in
     let r = c.args.rm in
-    let none = sym c.may_issue.ensures ∙ c.in_default.is in
-    let by_bar = none_second _ _ none in
-    let by_book = none_second _ _ by_bar in
+    let may = may_issue_so s t r c.args.call.now (sym c.may_issue.ensures ∙ c.in_default.is) in
     ap (with_line s.lines t r)
     (line_took (line_at s.lines t r) c.line_mut.result.now c.args.call.now c.copy.result c.issue.result c.issue.new.self c.line_mut.ensures.value c.copy.ensures
-    c.issue.ensures.reason c.issue.ensures.accepted (none_first _ _ by_bar) (if_none _ _ _ (none_second _ _ by_book)).0)
+    c.issue.ensures.reason c.issue.ensures.accepted may.bar may.room)
