@@ -1,5 +1,5 @@
 -- The numbers of a book stay small enough, whatever the resource managers answer.
-use Rattle.std.proofs.Common.{◌≡◌, ℕ, ◌+◌, ◌-◌, ◌<◌, ◌≤◌, ◌^◌, ◌⊎◌, inl, inr, Bool, true, false, not, ◌&&◌, ◌||◌, Option, Some, None, is_some, refl, sym, ap, ◌∙◌, subst, arith}
+use Rattle.std.proofs.Common.{◌≡◌, ℕ, ◌+◌, ◌-◌, ◌<◌, ◌≤◌, ◌^◌, ◌⊎◌, inl, inr, Bool, true, false, ◌||◌, Option, Some, None, is_some, refl, sym, ap, ◌∙◌, subst, arith}
 use Rattle.std.specs.Prelude.{if◌then◌else◌, IsSome}
 use Rattle.std.proofs.lemmas.Bool.{true≢false}
 use Rattle.xa_base.specs.declared.call.Call.TheVariants as Calls
@@ -11,8 +11,8 @@ use Rattle.xa_base.proofs.BranchKeys.{gtrid_eq-true}
 use Rattle.xa_log.specs.Content.{last_number}
 use Rattle.xa_log.specs.Contract.{FitsRow}
 use Rattle.xa_model.specs.Facts.{record_of}
-use Rattle.xa_model.specs.Trace.{Origin, Trace.From, Fault.InRestart, Happening, Happening.Begun, Happening.Issued, Happening.Took, Happening.Heard, Happening.Claimed, Happening.Decided, Happening.Done, Happening.Resolved, Happening.ResolvedOpen, Happening.Crashed, Happening.Failed, Happening.Restarted}
-use Rattle.xa_tm.specs.Book.{Book, Doubt, Doubt.Adds, Doubt.Drops, Doubt.Records, Doubt.NoDoubt, Waiting, incarnation_after, sequence_after, begins_after, failed_restarts_after, transaction_after, doubt_of, voted_yes, row_after, rows_after, records_with, records_after, book_after, book_of}
+use Rattle.xa_model.specs.Trace.{Origin, Trace.From, Fault.InRestart, Happening, Happening.Begun, Happening.Issued, Happening.Heard, Happening.Decided, Happening.Done, Happening.Crashed, Happening.Failed, Happening.Restarted}
+use Rattle.xa_tm.specs.Book.{Book, Doubt, Doubt.Records, Waiting, incarnation_after, sequence_after, begins_after, failed_restarts_after, transaction_after, doubt_of, voted_yes, row_after, rows_after, records_with, records_after, book_after, book_of}
 use Rattle.xa_tm.specs.LedgerBook.{IsSound}
 use Rattle.xa_tm.specs.Limits.{HasRoomForRun}
 use Rattle.xa_tm.specs.Starting.{IsOld}

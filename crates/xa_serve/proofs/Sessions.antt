@@ -1,11 +1,11 @@
 -- What a step leaves of a session.
-use Rattle.std.proofs.Common.{◌≡◌, ℕ, ◌+◌, ◌-◌, ◌<◌, ◌≤◌, ◌⊎◌, inl, inr, Bool, true, false, [], Option, Some, None, refl, sym, ap, ◌∙◌, subst, arith}
-use Rattle.std.specs.Prelude.{if◌then◌else◌, ◌≢◌, nat_le, Result, Ok, Err, OnOk, IfErr}
+use Rattle.std.proofs.Common.{◌≡◌, ℕ, ◌+◌, ◌-◌, ◌<◌, ◌≤◌, ◌⊎◌, inl, inr, false, Option, Some, None, refl, sym, ap, ◌∙◌, subst, arith}
+use Rattle.std.specs.Prelude.{if◌then◌else◌, Result, Ok, Err, OnOk, IfErr}
 use Rattle.xa_base.specs.declared.refusal.Refusal.{Refusal}
 use Rattle.xa_base.specs.declared.refusal.Refusal.TheVariants.{Limit, LogFault}
-use Rattle.xa_line.specs.Grid.{Grid, HasLine, IsWhole, line_at, new_grid, with_line}
+use Rattle.xa_line.specs.Grid.{Grid, new_grid}
 use Rattle.xa_line.specs.Traffic.{Traffic}
-use Rattle.xa_line.proofs.GridLaws.{line_at-new_grid, line_at-with_line_other_rm, line_at-with_line_other_thread, line_at-with_line_same}
+use Rattle.xa_line.proofs.GridLaws.{line_at-new_grid}
 use Rattle.xa_model.specs.Replies.Steps.{Step}
 use Rattle.xa_model.specs.Trace.{Fault, Happening, Happening.Failed, Happening.Nothing}
 use Rattle.xa_tm.specs.Book.{Book, Doubt, Doubt.NoDoubt, after, book_after}
@@ -15,7 +15,7 @@ use Rattle.xa_tm.specs.declared.manager.Manager.{Manager}
 use Rattle.xa_serve.specs.Headroom.{HasHeadroom, MayHappen, first_headroom}
 use Rattle.xa_serve.specs.Session.{AllHeard, IsReady, happenings_by, is_over, lines_by, refusal_at}
 use Rattle.xa_serve.specs.declared.session.Session.{Session}
-use Rattle.xa_serve.proofs.Headroom.{headroom_kept, sound}
+use Rattle.xa_serve.proofs.Headroom.{headroom_kept}
 use Rattle.xa_serve.proofs.Refusals.{no_fault, not_over}
 
 left : (m n : ℕ) → n < m → m - n ≡ (m - (n + 1)) + 1

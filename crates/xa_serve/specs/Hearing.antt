@@ -1,7 +1,6 @@
 -- Which answers a session hears.
 use Rattle.std.specs.Prelude.{◌≡◌, ◌&&◌, ◌++◌, Bool, true, false, nat_le, List, [], ◌∷◌, Option, Some, None}
-use Rattle.xa_base.specs.Answer.{map_answer}
-use Rattle.xa_base.specs.Call.{map_call, xid_in}
+use Rattle.xa_base.specs.Call.{xid_in}
 use Rattle.xa_base.specs.Xid.{Xid}
 use Rattle.xa_base.specs.declared.answer.Answer.{Answer as Given}
 use Rattle.xa_base.specs.declared.answer.Answer.TheVariants.{Page, Ret}
@@ -9,7 +8,6 @@ use Rattle.xa_base.specs.declared.branch.Gtrid.{Gtrid}
 use Rattle.xa_base.specs.declared.call.Call.{Call as Waiting}
 use Rattle.xa_line.specs.Traffic.{Traffic}
 use Rattle.xa_log.specs.Content.{last_number}
-use Rattle.xa_model.specs.Replies.History.{name_of}
 use Rattle.xa_model.specs.Replies.Steps.{accepted}
 use Rattle.xa_model.specs.Trace.{Answer, Call, Name, Name.Foreign, Name.Ours}
 use Rattle.xa_tm.specs.Answering.{FitsRecord, IsAnswerTo}

@@ -65,6 +65,10 @@ lines_by _ g = g
 abbrev pub has_line : Grid → (thread rm : ℕ) → Bool
 has_line g t r = nat_lt t g.threads && nat_lt r g.rms
 
+-- the call that waits first on the line; none where the session has no such line
+abbrev pub first_waiting : Grid → (thread rm : ℕ) → Option (Call Xid)
+first_waiting g t r = if has_line g t r then slice_get (line_at g t r).calls.waiting 0 else None
+
 -- why it refuses whatever is told of a line, the first reason that applies
 abbrev pub line_refusal : {L : Type 0} → Session L → (thread rm : ℕ) → Option Refusal
 line_refusal s t r =

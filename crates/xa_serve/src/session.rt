@@ -2,6 +2,7 @@
 
 ghost use Rattle.std.specs.Prelude.{◌≡◌, ◌<◌, IfOk};
 ghost use Rattle.xa_line.specs.Grid.{new_grid};
+ghost use Rattle.xa_tm.specs.Calls.{book_in};
 ghost use Rattle.xa_serve.specs.Headroom.{first_headroom};
 ghost use Rattle.xa_serve.specs.Session.{IsReady, happenings_by, is_over, lines_by};
 
@@ -49,6 +50,20 @@ impl<L: DecisionLog + Drop> Session<L> {
             }),
             Err(fault) => Err(fault),
         }
+    }
+
+    /// Whether the manager is up: until its log fails.
+    pub fn is_up(&self) -> bool
+        ensures { result ≡ (book_in self.now.manager).up }
+    {
+        self.manager.is_up()
+    }
+
+    /// The incarnation of the transactions that may be begun.
+    pub fn incarnation(&self) -> u64
+        ensures { result ≡ (book_in self.now.manager).incarnation }
+    {
+        self.manager.incarnation()
     }
 
     /// Whether so much has happened that nothing more may.

@@ -1,6 +1,7 @@
 //! Calls that wait on a line.
 
 ghost use Rattle.std.specs.Prelude.{◌≡◌, Some, None, Err, IfErr, OnErr, OnOk};
+ghost use Rattle.std.specs.Option.{option_copied};
 ghost use Rattle.xa_base.specs.Call.{map_call};
 ghost use Rattle.xa_base.specs.declared.refusal.Refusal.TheVariants as Refusals;
 ghost use Rattle.xa_line.specs.Grid.{line_at, with_line};
@@ -10,7 +11,7 @@ ghost use Rattle.xa_model.specs.Replies.Steps.{accepted};
 ghost use Rattle.xa_model.specs.Trace.{Call as KnownCall, Happening.Issued, line};
 ghost use Rattle.xa_tm.specs.Book.{after};
 ghost use Rattle.xa_tm.specs.Calls.{book_in, log_in};
-ghost use Rattle.xa_serve.specs.Session.{IsReady, issue_refusal, line_refusal};
+ghost use Rattle.xa_serve.specs.Session.{IsReady, first_waiting, issue_refusal, line_refusal};
 
 use super::Session;
 use crate::laws::books_have_headroom;
@@ -49,6 +50,16 @@ impl<L: DecisionLog + Drop> Session<L> {
             return Some(Refusal::Full);
         }
         None
+    }
+
+    /// The call that waits first on a line, if there is one.
+    pub fn waiting(&self, thread: u32, rm: u32) -> Option<&Call>
+        ensures { option_copied result ≡ first_waiting self.now.lines thread rm }
+    {
+        if thread >= self.lines.threads() || rm >= self.lines.rms() {
+            return None;
+        }
+        self.lines.line(thread, rm).front()
     }
 
     /// Lets a call wait on a line, behind those that do already.

@@ -4,7 +4,6 @@ use Rattle.std.specs.Option.{option_copied}
 use Rattle.xa_base.proofs.Options.{some_is}
 use Rattle.xa_base.specs.Answer.{map_answer}
 use Rattle.xa_base.specs.Call.{map_call}
-use Rattle.xa_line.specs.Grid.{line_at}
 use Rattle.xa_line.specs.Traffic.{Traffic}
 use Rattle.xa_model.specs.Facts.{record_of}
 use Rattle.xa_model.specs.Replies.History.{name_of}

@@ -4,7 +4,7 @@ use Rattle.xa_model.specs.Trace.{Happening.ResolvedOpen}
 use Rattle.xa_tm.specs.Book.{Doubt.NoDoubt}
 use Rattle.xa_tm.specs.Calls.{book_in}
 use Rattle.xa_tm.specs.Refusing.{resolved_open_in}
-use Rattle.xa_serve.specs.Session.{line_refusal, recovery_bar}
+use Rattle.xa_serve.specs.Session.{line_refusal}
 use Rattle.xa_serve.proofs.Lines.{all_with, may_tell, none_first}
 use Rattle.xa_serve.proofs.Recoveries.{recovery_unclosed}
 use Rattle.xa_serve.proofs.Sessions.{has_few, step_leaves}
