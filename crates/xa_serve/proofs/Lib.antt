@@ -1,3 +1,4 @@
+mod Following
 mod Headroom
 mod Lines
 mod Recoveries

@@ -1,3 +1,4 @@
 pub mod Headroom
+pub mod Following
 pub mod Hearing
 pub mod Session

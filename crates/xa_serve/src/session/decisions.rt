@@ -7,6 +7,7 @@ ghost use Rattle.xa_base.specs.declared.step.Step.TheVariants as Steps;
 ghost use Rattle.xa_model.specs.Trace.{Fault.InDecide, Fault.InDone, Happening.Begun, Happening.Claimed, Happening.Decided, Happening.Done, Happening.Failed};
 ghost use Rattle.xa_tm.specs.Book.{Doubt.Adds, Doubt.Drops, after, book_after, voted_yes};
 ghost use Rattle.xa_tm.specs.Calls.{FailsBy, book_in, log_in};
+ghost use Rattle.xa_serve.specs.Following.{Follows};
 ghost use Rattle.xa_serve.specs.Session.{IsReady, lines_by, refusal_at};
 
 use super::Session;
@@ -33,6 +34,7 @@ impl<L: DecisionLog + Drop> Session<L> {
         ensures err { refusal_at self.old (Steps.Begin thread) ≡ None →
             IfErr result (λ n. (n ≡ Refusals.Memory)
             × (book_in self.new.manager ≡ book_in self.old.manager)) }
+        ensures follows { IfOk result (λ g. Follows (Begun g) self.old self.new) }
         // The log and the lines.
         ensures log { log_in self.new.manager ≡ log_in self.old.manager }
         ensures lines { self.new.lines ≡ self.old.lines }
@@ -64,6 +66,7 @@ impl<L: DecisionLog + Drop> Session<L> {
         ensures err { refusal_at self.old (Steps.Claim gtrid) ≡ None →
             IfErr result (λ n. (n ≡ Refusals.Memory)
             × (book_in self.new.manager ≡ book_in self.old.manager)) }
+        ensures follows { OnOk result (Follows (Claimed gtrid) self.old self.new) }
         // The log and the lines.
         ensures log { log_in self.new.manager ≡ log_in self.old.manager }
         ensures lines { self.new.lines ≡ self.old.lines }

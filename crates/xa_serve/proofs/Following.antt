@@ -1,0 +1,118 @@
+-- Steps of a session in histories.
+use Rattle.std.proofs.Common.{◌≡◌, ℕ, ◌+◌, [], Bool, true, false, Option, Some, None, refl, sym, ap, ◌∙◌, subst}
+use Rattle.std.specs.Prelude.{Result, Ok, Err, OnOk}
+use Rattle.std.proofs.lemmas.List.{append-nil}
+use Rattle.xa_base.specs.declared.branch.Gtrid.{Gtrid}
+use Rattle.xa_base.specs.declared.refusal.Refusal.{Refusal}
+use Rattle.xa_base.specs.declared.reply.Reply.TheVariants as Replies
+use Rattle.xa_base.specs.declared.step.Outcome.{Outcome}
+use Rattle.xa_base.specs.declared.step.Step.TheVariants as Steps
+use Rattle.xa_line.specs.Grid.{HasLine, IsWhole, line_at}
+use Rattle.xa_line.specs.Histories.{LineStands}
+use Rattle.xa_line.specs.Traffic.{Traffic, answered, heard, issued}
+use Rattle.xa_line.proofs.TrafficLaws.{line_goes_on}
+use Rattle.xa_model.specs.Facts as facts
+use Rattle.xa_model.specs.Protocol.{Right}
+use Rattle.xa_model.specs.Replies.Allowed.{Allowed.As_value, IsValue}
+use Rattle.xa_model.specs.Replies.Rules.{must_refuse}
+use Rattle.xa_model.specs.Replies.Steps.{Reply, Step, happened}
+use Rattle.xa_model.specs.Trace.{Happening, Happening.Begun, Happening.Claimed, Happening.Decided, Happening.Done, Line, Trace, Trace.Then, line}
+use Rattle.xa_model.proofs.Replies.Replies.{allowed_right}
+use Rattle.xa_tm.specs.Book.{Book, Doubt, Doubt.NoDoubt, after, book_after, book_of, doubt_of_happening}
+use Rattle.xa_tm.specs.Calls.{book_in}
+use Rattle.xa_tm.specs.Laws.{IsLookedAt}
+use Rattle.xa_tm.specs.Refusing.{managers_refusal, refusal_in}
+use Rattle.xa_tm.proofs.History.Refusals.{refusal_is}
+use Rattle.xa_tm.proofs.History.RowCounts.{right_book}
+use Rattle.xa_serve.specs.Following.{Follows, StandsIn}
+use Rattle.xa_serve.specs.declared.session.Session.{Session}
+
+-- ** lines
+
+-- a happening elsewhere
+pub line_stays : (tr : Trace) (e : Happening) (l : Line) (t : Traffic) → facts.breaks tr e l ≡ false → facts.new_calls tr e l ≡ []
+    → facts.new_taken e l ≡ [] → facts.new_heard e l ≡ []
+    → LineStands tr l t → LineStands (Then tr e) l t
+line_stays tr e l t b i a h stands =
+    line_goes_on tr e l t t [] [] [] stands b (sym (append-nil (issued t))) (rw i refl) (sym (append-nil (answered t))) (rw a refl)
+    (sym (append-nil (heard t))) (rw h refl) stands.each_answered
+
+-- a happening of the manager alone is nothing to the lines and the resource managers
+pub record IsOwn (tr : Trace) (e : Happening) : Type 0 where
+  pub unbroken : (l : Line) → facts.breaks tr e l ≡ false
+  pub calls : (l : Line) → facts.new_calls tr e l ≡ []
+  pub taken : (l : Line) → facts.new_taken e l ≡ []
+  pub heard : (l : Line) → facts.new_heard e l ≡ []
+  pub rms_up : (r : ℕ) → facts.rm_up (Then tr e) r ≡ facts.rm_up tr r
+  pub origin : facts.origin (Then tr e) ≡ facts.origin tr
+  pub doubt : doubt_of_happening tr e ≡ NoDoubt
+
+-- ** books
+
+-- the book of one happening more
+pub book_then : {L : Type 0} (tr : Trace) (e : Happening) (old new : Session L) → StandsIn tr old → Right tr e
+    → book_in new.manager ≡ book_after (book_in old.manager) (doubt_of_happening tr e) e → book_in new.manager ≡ book_of (Then tr e)
+book_then tr e old new stands right is =
+    is ∙ ap (λ k. book_after k (doubt_of_happening tr e) e) stands.book ∙ sym (right_book tr e stands.run right stands.apart)
+
+-- what the manager would refuse, the history does
+pub judged : {L : Type 0} (tr : Trace) (s : Session L) (step : Step) → IsLookedAt step → StandsIn tr s
+    → refusal_in (book_in s.manager) step ≡ managers_refusal tr step
+judged tr s step looked stands = ap (λ k. refusal_in k step) stands.book ∙ refusal_is tr step stands.run looked
+
+-- ** steps of the manager alone
+
+module _ {L : Type 0} (old new : Session L) where
+  pub own_follows : (step : Step) (reply : Reply) → IsLookedAt step → ((tr : Trace) → managers_refusal tr step ≡ must_refuse tr step)
+      → refusal_in (book_in old.manager) step ≡ None → ((tr : Trace) → StandsIn tr old → IsValue tr step reply)
+      → ((tr : Trace) → IsOwn tr (happened step reply)) → book_in new.manager ≡ after (book_in old.manager) (happened step reply)
+      → new.lines ≡ old.lines → Follows (happened step reply) old new
+  own_follows step reply looked same none value own book lines tr stands =
+      let e = happened step reply in
+      let is = own tr in
+      let forced : must_refuse tr step ≡ None = sym (same tr) ∙ sym (judged tr old step looked stands) ∙ none in
+      let right : Right tr e = allowed_right tr step reply (As_value forced (value tr stands)) in (
+        right,
+        record {
+          run = (stands.run, right);
+          apart = stands.apart;
+          threads = ap (λ g. g.threads) lines ∙ stands.threads;
+          rms = ap (λ g. g.rms) lines ∙ stands.rms;
+          whole = subst IsWhole (sym lines) stands.whole;
+          rms_up = λ r. is.rms_up r ∙ stands.rms_up r;
+          book = book_then tr e old new stands right (book ∙ ap (λ d. book_after (book_in old.manager) d e) (sym is.doubt));
+          lines =
+              λ t r has. subst (λ g. LineStands (Then tr e) (line t r) (line_at g t r)) (sym lines)
+              (line_stays tr e (line t r) (line_at old.lines t r) (is.unbroken (line t r)) (is.calls (line t r)) (is.taken (line t r)) (is.heard (line t r))
+              (stands.lines t r (subst (λ g. HasLine g t r) lines has)));
+        },
+      )
+
+  own_begun : (tr : Trace) (g : Gtrid) → IsOwn tr (Begun g)
+  own_begun tr g =
+      record { unbroken = λ l. refl; calls = λ l. refl; taken = λ l. refl; heard = λ l. refl; rms_up = λ r. refl; origin = refl; doubt = refl }
+
+  own_claimed : (tr : Trace) (g : Gtrid) → IsOwn tr (Claimed g)
+  own_claimed tr g =
+      record { unbroken = λ l. refl; calls = λ l. refl; taken = λ l. refl; heard = λ l. refl; rms_up = λ r. refl; origin = refl; doubt = refl }
+
+  own_decided : (tr : Trace) (g : Gtrid) (o : Outcome) → IsOwn tr (Decided g o)
+  own_decided tr g o =
+      record { unbroken = λ l. refl; calls = λ l. refl; taken = λ l. refl; heard = λ l. refl; rms_up = λ r. refl; origin = refl; doubt = refl }
+
+  own_done : (tr : Trace) (g : Gtrid) → IsOwn tr (Done g)
+  own_done tr g =
+      record { unbroken = λ l. refl; calls = λ l. refl; taken = λ l. refl; heard = λ l. refl; rms_up = λ r. refl; origin = refl; doubt = refl }
+
+  pub begun_follows : (t : ℕ) (g : Gtrid) → refusal_in (book_in old.manager) (Steps.Begin t) ≡ None
+      → g ≡ record { incarnation = (book_in old.manager).incarnation; sequence = (book_in old.manager).sequence + 1 }
+      → book_in new.manager ≡ after (book_in old.manager) (Begun g) → new.lines ≡ old.lines → Follows (Begun g) old new
+  begun_follows t g none next book lines =
+      own_follows (Steps.Begin t) (Replies.Begun g) tt (λ tr. refl) none
+      (λ tr stands. ap (λ h. Replies.Begun h) (next ∙ ap (λ (k : Book). record { incarnation = k.incarnation; sequence = k.sequence + 1 }) stands.book))
+      (λ tr. own_begun tr g) book lines
+
+  pub claimed_follows : (g : Gtrid) → refusal_in (book_in old.manager) (Steps.Claim g) ≡ None
+      → book_in new.manager ≡ after (book_in old.manager) (Claimed g) → new.lines ≡ old.lines → Follows (Claimed g) old new
+  claimed_follows g none book lines =
+      own_follows (Steps.Claim g) Replies.Claimed tt (λ tr. refl) none (λ tr stands. refl) (λ tr. own_claimed tr g) book lines

@@ -1,0 +1,27 @@
+-- How a session follows a history.
+use Rattle.std.specs.Prelude.{ℕ, ◌≡◌, true}
+use Rattle.xa_line.specs.Grid.{HasLine, IsWhole, line_at}
+use Rattle.xa_line.specs.Histories.{LineStands}
+use Rattle.xa_model.specs.Facts.{origin, rm_up}
+use Rattle.xa_model.specs.Facts.Distinct.{ApartRows}
+use Rattle.xa_model.specs.Protocol.{IsRun, Right}
+use Rattle.xa_model.specs.Trace.{Happening, Trace, Trace.Then, line}
+use Rattle.xa_tm.specs.Book.{book_of}
+use Rattle.xa_tm.specs.Calls.{book_in}
+use Rattle.xa_serve.specs.declared.session.Session.{Session}
+
+-- The session stands where the history leaves it: its book is the history's, and so is the traffic of each line. No resource manager of
+-- the history is down: what a driver tells of a crash is that lines are lost.
+pub record StandsIn {L : Type 0} (tr : Trace) (s : Session L) : Type 0 where
+  pub run : IsRun tr
+  pub apart : ApartRows (origin tr).rows
+  pub threads : s.lines.threads ≡ (origin tr).threads
+  pub rms : s.lines.rms ≡ (origin tr).rms
+  pub whole : IsWhole s.lines
+  pub rms_up : (r : ℕ) → rm_up tr r ≡ true
+  pub book : book_in s.manager ≡ book_of tr
+  pub lines : (t r : ℕ) → HasLine s.lines t r → LineStands tr (line t r) (line_at s.lines t r)
+
+-- wherever the session stood, this was right to happen, and the session then stands where it leads
+abbrev pub Follows : {L : Type 0} → Happening → (old new : Session L) → Type 0
+Follows e old new = (tr : Trace) → StandsIn tr old → Right tr e × StandsIn (Then tr e) new
