@@ -6,6 +6,7 @@ use Rattle.xa_base.specs.declared.branch.Gtrid.{Gtrid}
 use Rattle.xa_base.specs.declared.refusal.Refusal.{Refusal}
 use Rattle.xa_base.specs.declared.reply.Reply.TheVariants as Replies
 use Rattle.xa_base.specs.declared.step.Outcome.{Outcome}
+use Rattle.xa_base.specs.declared.step.Outcome.TheVariants as Outcomes
 use Rattle.xa_base.specs.declared.step.Step.TheVariants as Steps
 use Rattle.xa_line.specs.Grid.{HasLine, IsWhole, line_at}
 use Rattle.xa_line.specs.Histories.{LineStands}
@@ -24,7 +25,9 @@ use Rattle.xa_tm.specs.Laws.{IsLookedAt}
 use Rattle.xa_tm.specs.Refusing.{managers_refusal, refusal_in}
 use Rattle.xa_tm.proofs.History.Refusals.{refusal_is}
 use Rattle.xa_tm.proofs.History.RowCounts.{right_book}
+use Rattle.xa_tm.specs.declared.manager.Manager.{Manager}
 use Rattle.xa_serve.specs.Following.{Follows, StandsIn}
+use Rattle.xa_serve.specs.Session.{lines_by}
 use Rattle.xa_serve.specs.declared.session.Session.{Session}
 
 -- ** lines
@@ -116,3 +119,34 @@ module _ {L : Type 0} (old new : Session L) where
       → book_in new.manager ≡ after (book_in old.manager) (Claimed g) → new.lines ≡ old.lines → Follows (Claimed g) old new
   claimed_follows g none book lines =
       own_follows (Steps.Claim g) Replies.Claimed tt (λ tr. refl) none (λ tr stands. refl) (λ tr. own_claimed tr g) book lines
+
+  pub decided_follows : (g : Gtrid) (o : Outcome) → refusal_in (book_in old.manager) (Steps.Decide g o) ≡ None
+      → book_in new.manager ≡ after (book_in old.manager) (Decided g o) → new.lines ≡ old.lines → Follows (Decided g o) old new
+  decided_follows g o none book lines =
+      own_follows (Steps.Decide g o) Replies.Decided tt (λ tr. refl) none (λ tr stands. refl) (λ tr. own_decided tr g o) book lines
+
+  pub settled_follows : (g : Gtrid) → refusal_in (book_in old.manager) (Steps.Settle g) ≡ None
+      → book_in new.manager ≡ after (book_in old.manager) (Decided g Outcomes.Commit) → new.lines ≡ old.lines → Follows (Decided g Outcomes.Commit) old new
+  settled_follows g none book lines =
+      own_follows (Steps.Settle g) Replies.Decided tt (λ tr. refl) none (λ tr stands. refl) (λ tr. own_decided tr g Outcomes.Commit) book lines
+
+  pub abandoned_follows : (g : Gtrid) → refusal_in (book_in old.manager) (Steps.Abandon g) ≡ None
+      → book_in new.manager ≡ after (book_in old.manager) (Decided g Outcomes.Rollback) → new.lines ≡ old.lines
+      → Follows (Decided g Outcomes.Rollback) old new
+  abandoned_follows g none book lines =
+      own_follows (Steps.Abandon g) Replies.Decided tt (λ tr. refl) none (λ tr stands. refl) (λ tr. own_decided tr g Outcomes.Rollback) book lines
+
+  pub done_follows : (g : Gtrid) → refusal_in (book_in old.manager) (Steps.Done g) ≡ None
+      → book_in new.manager ≡ after (book_in old.manager) (Done g) → new.lines ≡ old.lines → Follows (Done g) old new
+  done_follows g none book lines =
+      own_follows (Steps.Done g) Replies.Noted tt (λ tr. refl) none (λ tr stands. refl) (λ tr. own_done tr g) book lines
+
+  -- where the log may have been asked, and didn't fail
+  pub follows_if_ok : (step : Step) (e : Happening) (m : Manager L) (reply result : Result (Unit {0}) Refusal) → result ≡ reply
+      → new.manager ≡ m → new.lines ≡ lines_by reply old.lines → OnOk reply (refusal_in (book_in old.manager) step ≡ None)
+      → OnOk reply (book_in m ≡ after (book_in old.manager) e)
+      → (refusal_in (book_in old.manager) step ≡ None → book_in new.manager ≡ after (book_in old.manager) e → new.lines ≡ old.lines → Follows e old new)
+      → OnOk result (Follows e old new)
+  follows_if_ok step e m (Ok u) result same managers lines none book go =
+      subst (λ r. OnOk r (Follows e old new)) (sym same) (go none (ap book_in managers ∙ book) lines)
+  follows_if_ok step e m (Err n) result same managers lines none book go = subst (λ r. OnOk r (Follows e old new)) (sym same) tt

@@ -100,6 +100,7 @@ impl<L: DecisionLog + Drop> Session<L> {
         ensures err { refusal_at self.old (Steps.Decide gtrid outcome) ≡ None →
             IfErr result (FailsBy (Adds gtrid (voted_yes (book_in self.old.manager) gtrid))
             (InDecide gtrid) (book_in self.old.manager) (book_in self.new.manager)) }
+        ensures follows { OnOk result (Follows (Decided gtrid outcome) self.old self.new) }
         // The log and the lines.
         ensures log { IfErr result (λ n. n ≢ Refusals.LogFault →
             log_in self.new.manager ≡ log_in self.old.manager) }
@@ -127,6 +128,8 @@ impl<L: DecisionLog + Drop> Session<L> {
         ensures err { refusal_at self.old (Steps.Settle gtrid) ≡ None →
             IfErr result (FailsBy (Adds gtrid (voted_yes (book_in self.old.manager) gtrid))
             (InDecide gtrid) (book_in self.old.manager) (book_in self.new.manager)) }
+        ensures follows { OnOk result
+            (Follows (Decided gtrid Outcomes.Commit) self.old self.new) }
         // The log and the lines.
         ensures log { IfErr result (λ n. n ≢ Refusals.LogFault →
             log_in self.new.manager ≡ log_in self.old.manager) }
@@ -154,6 +157,8 @@ impl<L: DecisionLog + Drop> Session<L> {
         ensures err { refusal_at self.old (Steps.Abandon gtrid) ≡ None →
             IfErr result (λ n. (n ≡ Refusals.Memory)
             × (book_in self.new.manager ≡ book_in self.old.manager)) }
+        ensures follows { OnOk result
+            (Follows (Decided gtrid Outcomes.Rollback) self.old self.new) }
         // The log and the lines.
         ensures log { log_in self.new.manager ≡ log_in self.old.manager }
         ensures lines { self.new.lines ≡ self.old.lines }
@@ -186,6 +191,7 @@ impl<L: DecisionLog + Drop> Session<L> {
         ensures err { refusal_at self.old (Steps.Done gtrid) ≡ None →
             IfErr result (λ n. (n ≡ Refusals.LogFault) × (book_in self.new.manager ≡
             book_after (book_in self.old.manager) (Drops gtrid) (Failed (InDone gtrid)))) }
+        ensures follows { OnOk result (Follows (Done gtrid) self.old self.new) }
         // The log and the lines.
         ensures log { IfErr result (λ n. n ≢ Refusals.LogFault →
             log_in self.new.manager ≡ log_in self.old.manager) }

@@ -5,6 +5,7 @@ use Rattle.xa_model.specs.Trace.{Happening.Decided}
 use Rattle.xa_tm.specs.Book.{Doubt.NoDoubt}
 use Rattle.xa_tm.specs.Calls.{book_in}
 use Rattle.xa_tm.specs.Refusing.{refusal_in}
+use Rattle.xa_serve.proofs.Following.{abandoned_follows}
 use Rattle.xa_serve.proofs.Refusals.{begun_if_abandoned}
 use Rattle.xa_serve.proofs.Sessions.{has_few, refused_or, same_leaves, step_leaves}
 use Rattle.xa_serve.proofs.session.Session.abandon.Goals as goal
@@ -20,3 +21,6 @@ returns-in-Err-clause-ready g c =
     same_leaves s _ c.requires refl
     (refused_or (refusal_in (book_in s.manager) (Steps.Abandon c.args.gtrid)) _ _
     (λ n is. ap book_in (c.in-Err.ensures.refused n is).1) (λ none. (c.in-Err.ensures.err none).1)) refl
+
+pub returns-in-Ok-clause-follows : goal.returns-in-Ok-clause-follows
+returns-in-Ok-clause-follows g c = abandoned_follows c.args.self.now _ c.args.gtrid c.in-Ok.ensures.allowed c.in-Ok.ensures.ok refl

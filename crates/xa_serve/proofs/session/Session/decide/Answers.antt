@@ -5,6 +5,7 @@ use Rattle.xa_model.specs.Trace.{Fault.InDecide, Happening.Decided}
 use Rattle.xa_tm.specs.Book.{Doubt.Adds, voted_yes}
 use Rattle.xa_tm.specs.Calls.{book_in}
 use Rattle.xa_serve.proofs.Refusals.{begun_if_decided}
+use Rattle.xa_serve.proofs.Following.{decided_follows, follows_if_ok}
 use Rattle.xa_serve.proofs.Sessions.{concluded}
 use Rattle.xa_serve.proofs.session.Session.decide.Goals as goal
 
@@ -16,3 +17,9 @@ returns-clause-ready g c =
     (record { manager = c.conclude.ensures.manager; lines = c.conclude.ensures.lines; happenings = c.conclude.ensures.happenings }) tt
     c.decide-reply.ensures.refused (on_ok c.decide-reply.result _ _ (begun_if_decided (book_in s.manager) c.args.gtrid c.args.outcome) c.decide-reply.ensures.allowed) c.decide-reply.ensures.ok
     c.decide-reply.ensures.err
+
+pub returns-clause-follows : goal.returns-clause-follows
+returns-clause-follows g c =
+    let s = c.args.self.now in
+    follows_if_ok s c.conclude.new.self (Steps.Decide c.args.gtrid c.args.outcome) (Decided c.args.gtrid c.args.outcome) c.decide-reply.new.self c.decide-reply.result _ c.conclude.ensures.value c.conclude.ensures.manager
+    c.conclude.ensures.lines c.decide-reply.ensures.allowed c.decide-reply.ensures.ok (decided_follows s c.conclude.new.self c.args.gtrid c.args.outcome)

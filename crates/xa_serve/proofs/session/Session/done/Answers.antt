@@ -4,6 +4,7 @@ use Rattle.xa_base.specs.declared.step.Step.TheVariants as Steps
 use Rattle.xa_model.specs.Trace.{Fault.InDone, Happening.Done}
 use Rattle.xa_tm.specs.Book.{Doubt.Drops}
 use Rattle.xa_tm.specs.Calls.{FailsBy, book_in}
+use Rattle.xa_serve.proofs.Following.{done_follows, follows_if_ok}
 use Rattle.xa_serve.proofs.Sessions.{concluded, on_err}
 use Rattle.xa_serve.proofs.session.Session.done.Goals as goal
 
@@ -16,3 +17,9 @@ returns-clause-ready g c =
     c.done-reply.ensures.refused (on_ok c.done-reply.result _ _ (λ none. tt) c.done-reply.ensures.allowed) c.done-reply.ensures.ok
     (λ none. on_err c.done-reply.result _ (FailsBy (Drops c.args.gtrid) (InDone c.args.gtrid) (book_in s.manager) (book_in c.done-reply.new.self))
     (λ n failed. inr failed) (c.done-reply.ensures.err none))
+
+pub returns-clause-follows : goal.returns-clause-follows
+returns-clause-follows g c =
+    let s = c.args.self.now in
+    follows_if_ok s c.conclude.new.self (Steps.Done c.args.gtrid) (Done c.args.gtrid) c.done-reply.new.self c.done-reply.result _ c.conclude.ensures.value c.conclude.ensures.manager
+    c.conclude.ensures.lines c.done-reply.ensures.allowed c.done-reply.ensures.ok (done_follows s c.conclude.new.self c.args.gtrid)

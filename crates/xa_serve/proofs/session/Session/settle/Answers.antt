@@ -6,6 +6,7 @@ use Rattle.xa_model.specs.Trace.{Fault.InDecide, Happening.Decided}
 use Rattle.xa_tm.specs.Book.{Doubt.Adds, voted_yes}
 use Rattle.xa_tm.specs.Calls.{book_in}
 use Rattle.xa_serve.proofs.Refusals.{begun_if_settled}
+use Rattle.xa_serve.proofs.Following.{settled_follows, follows_if_ok}
 use Rattle.xa_serve.proofs.Sessions.{concluded, concluded_err}
 use Rattle.xa_serve.proofs.session.Session.settle.Goals as goal
 
@@ -25,3 +26,9 @@ returns-clause-err g c =
     (sym c.is_over.ensures ∙ c.if-is_over.false)
     (record { manager = c.conclude.ensures.manager; lines = c.conclude.ensures.lines; happenings = c.conclude.ensures.happenings })
     c.conclude.ensures.value c.settle-reply.ensures.err
+
+pub returns-clause-follows : goal.returns-clause-follows
+returns-clause-follows g c =
+    let s = c.args.self.now in
+    follows_if_ok s c.conclude.new.self (Steps.Settle c.args.gtrid) (Decided c.args.gtrid Outcomes.Commit) c.settle-reply.new.self c.settle-reply.result _ c.conclude.ensures.value c.conclude.ensures.manager
+    c.conclude.ensures.lines c.settle-reply.ensures.allowed c.settle-reply.ensures.ok (settled_follows s c.conclude.new.self c.args.gtrid)
