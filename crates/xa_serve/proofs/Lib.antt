@@ -5,3 +5,4 @@ mod Recoveries
 mod Hearings
 mod Refusals
 mod Sessions
+mod Telling

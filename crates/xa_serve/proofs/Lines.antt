@@ -38,6 +38,7 @@ lt_is m n e = grind (arith, nat_tests, e)
 -- what is so where a line may be told of
 pub record MayTell {L : Type 0} (s : Session L) (t r : ℕ) : Type 0 where
   pub free : is_over s ≡ false
+  pub there : has_line s.lines t r ≡ true
   pub has : HasLine s.lines t r
   pub up : (book_in s.manager).up ≡ true
 
@@ -52,7 +53,7 @@ pub may_tell : {L : Type 0} (s : Session L) (t r : ℕ) → line_refusal s t r �
 may_tell s t r none =
     let parts = line_free (is_over s) (has_line s.lines t r) (book_in s.manager).up none in
     let there = both (nat_lt t s.lines.threads) (nat_lt r s.lines.rms) parts.1 in
-    record { free = parts.0; has = (lt_is _ _ there.0, lt_is _ _ there.1); up = parts.2 }
+    record { free = parts.0; there = parts.1; has = (lt_is _ _ there.0, lt_is _ _ there.1); up = parts.2 }
 
 pub none_first : {A : Type 0} (o p : Option A) → option_or o p ≡ None → o ≡ None
 none_first None p e = refl

@@ -8,7 +8,7 @@ use Rattle.std.specs.List.{list_any}
 use Rattle.std.proofs.lemmas.List.Folds.{list_any-append}
 use Rattle.xa_base.proofs.Options.{some_is}
 use Rattle.xa_base.specs.Call.{map_call}
-use Rattle.xa_base.specs.Opening.{closes, has_closed, has_opened, opens}
+use Rattle.xa_base.specs.Opening.{closes, comes_unopened, has_closed, has_opened, opens}
 use Rattle.xa_base.specs.Xid.{Xid}
 use Rattle.xa_base.specs.declared.call.Call as Asking
 use Rattle.xa_base.specs.declared.call.Call.TheVariants as Calls
@@ -88,6 +88,40 @@ took_more old now all yielded rest left call count result new here split first r
 
 -- ** calls that a history knows
 
+opens_named : (c : Asking.Call Xid) → opens (map_call name_of c) ≡ opens c
+opens_named Calls.OpenRm = refl
+opens_named _ = refl
+
+opens_known : (call : Asking.Call Name) (k : Call) → accepted call ≡ Some k → opens call ≡ opens k
+opens_known Calls.OpenRm k e = ap opens (some_is _ k e)
+opens_known Calls.CloseRm k e = ap opens (some_is _ k e)
+opens_known (Calls.Start (Ours b) j) k e = ap opens (some_is _ k e)
+opens_known (Calls.Start (Foreign x) j) k e = absurd (cc)
+opens_known (Calls.End (Ours b) i) k e = ap opens (some_is _ k e)
+opens_known (Calls.End (Foreign x) i) k e = absurd (cc)
+opens_known (Calls.Prepare (Ours b)) k e = ap opens (some_is _ k e)
+opens_known (Calls.Prepare (Foreign x)) k e = absurd (cc)
+opens_known (Calls.Commit (Ours b) o) k e = ap opens (some_is _ k e)
+opens_known (Calls.Commit (Foreign x) o) k e = absurd (cc)
+opens_known (Calls.Rollback (Ours b)) k e = ap opens (some_is _ k e)
+opens_known (Calls.Rollback (Foreign x)) k e = absurd (cc)
+opens_known (Calls.Forget (Ours b)) k e = ap opens (some_is _ k e)
+opens_known (Calls.Forget (Foreign x)) k e = absurd (cc)
+opens_known (Calls.Recover n x y) k e = ap opens (some_is _ k e)
+
+opened_alike : (calls : List (Asking.Call Xid)) (ks : List Call) → map known_call calls ≡ map Some ks → has_opened calls ≡ has_opened ks
+opened_alike [] [] e = refl
+opened_alike [] (k ∷ ks) e = absurd (cc)
+opened_alike (c ∷ cs) [] e = absurd (cc)
+opened_alike (c ∷ cs) (k ∷ ks) e =
+    let first : known_call c ≡ Some k = cc in
+    let rest : map known_call cs ≡ map Some ks = cc in
+    λ i. (sym (opens_named c) ∙ opens_known (map_call name_of c) k first) i || opened_alike cs ks rest i
+
+pub unopened_alike : (calls : List (Asking.Call Xid)) (ks : List Call) (c : Asking.Call Xid) → map known_call calls ≡ map Some ks
+    → comes_unopened calls c ≡ comes_unopened ks (map_call name_of c)
+unopened_alike calls ks c e = λ i. not (sym (opens_named c) i) && not (opened_alike calls ks e i)
+
 closes_named : (c : Asking.Call Xid) → closes (map_call name_of c) ≡ closes c
 closes_named Calls.CloseRm = refl
 closes_named _ = refl
@@ -109,7 +143,7 @@ closes_known (Calls.Forget (Ours b)) k e = ap closes (some_is _ k e)
 closes_known (Calls.Forget (Foreign x)) k e = absurd (cc)
 closes_known (Calls.Recover n x y) k e = ap closes (some_is _ k e)
 
-closed_alike : (calls : List (Asking.Call Xid)) (ks : List Call) → map known_call calls ≡ map Some ks → has_closed calls ≡ has_closed ks
+pub closed_alike : (calls : List (Asking.Call Xid)) (ks : List Call) → map known_call calls ≡ map Some ks → has_closed calls ≡ has_closed ks
 closed_alike [] [] e = refl
 closed_alike [] (k ∷ ks) e = absurd (cc)
 closed_alike (c ∷ cs) [] e = absurd (cc)

@@ -8,6 +8,7 @@ ghost use Rattle.xa_line.specs.Traffic.{no_traffic};
 ghost use Rattle.xa_model.specs.Trace.{Happening.Crashed};
 ghost use Rattle.xa_tm.specs.Book.{after};
 ghost use Rattle.xa_tm.specs.Calls.{book_in, log_in};
+ghost use Rattle.xa_serve.specs.Following.{Follows};
 ghost use Rattle.xa_serve.specs.Session.{IsReady, line_refusal};
 
 use super::Session;
@@ -25,6 +26,8 @@ impl<L: DecisionLog + Drop> Session<L> {
         ensures refused { OnErr result (self.new ≡ self.old) }
         ensures ok { OnOk result (book_in self.new.manager ≡
             after (book_in self.old.manager) (Crashed (Parts.Line thread rm))) }
+        ensures follows { OnOk result
+            (Follows (Crashed (Parts.Line thread rm)) self.old self.new) }
         ensures log { log_in self.new.manager ≡ log_in self.old.manager }
         ensures lines { OnOk result
             (self.new.lines ≡ with_line self.old.lines thread rm no_traffic) }

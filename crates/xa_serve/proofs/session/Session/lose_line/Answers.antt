@@ -1,10 +1,12 @@
 use Rattle.std.proofs.Common.{◌∙◌, ap, refl, sym}
 use Rattle.xa_base.specs.declared.step.Part.TheVariants as Parts
+use Rattle.xa_line.specs.Grid.{with_line}
 use Rattle.xa_line.specs.Traffic.{Traffic}
 use Rattle.xa_model.specs.Trace.{Happening.Crashed}
 use Rattle.xa_tm.specs.Book.{Doubt.NoDoubt}
 use Rattle.xa_serve.proofs.Lines.{all_with, may_tell}
 use Rattle.xa_serve.proofs.Sessions.{has_few, step_leaves}
+use Rattle.xa_serve.proofs.Telling.{lost_follows}
 use Rattle.xa_serve.proofs.session.Session.lose_line.Goals as goal
 
 pub returns-clause-ready : goal.returns-clause-ready
@@ -15,3 +17,10 @@ returns-clause-ready g c =
     let may = may_tell s t r (sym c.line_refusal.ensures ∙ c.in_default.is) in
     step_leaves s _ NoDoubt (Crashed (Parts.Line t r)) c.requires (has_few s may.free) tt refl c.crash.ensures.book
     (all_with s.lines t r c.renew.new.self c.line_mut.ensures.whole may.has (ap (λ (l : Traffic). l.answers.waiting) c.renew.ensures) c.requires.heard)
+
+pub returns-clause-follows : goal.returns-clause-follows
+returns-clause-follows g c =
+    let s = c.args.self.now in
+    let t = c.args.thread in
+    let r = c.args.rm in
+    lost_follows s _ t r (may_tell s t r (sym c.line_refusal.ensures ∙ c.in_default.is)) c.crash.ensures.book (ap (with_line s.lines t r) c.renew.ensures)

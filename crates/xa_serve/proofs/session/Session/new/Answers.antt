@@ -1,7 +1,11 @@
-use Rattle.std.proofs.Common.{[], arith, refl, subst, sym}
+use Rattle.std.proofs.Common.{[], ◌∙◌, ap, arith, refl, subst, sym}
 use Rattle.xa_base.specs.HeldBranch.{new_branch}
 use Rattle.xa_base.specs.Scan.{Scan.NotOpen}
-use Rattle.xa_model.specs.Trace.{Origin}
+use Rattle.xa_line.specs.Grid.{IsWhole, line_at}
+use Rattle.xa_line.specs.Histories.{LineStands}
+use Rattle.xa_line.proofs.GridLaws.{line_at-new_grid, whole-new_grid}
+use Rattle.xa_model.specs.Facts.Distinct.{ApartRows}
+use Rattle.xa_model.specs.Trace.{Origin, Trace.From, line}
 use Rattle.xa_tm.specs.Begins.{records_begun, rows_begun}
 use Rattle.xa_tm.specs.Calls.{book_in}
 use Rattle.xa_tm.specs.LedgerBook.{IsSound}
@@ -32,4 +36,20 @@ returns-in-Ok-new-clause-ready g c =
       headroom = subst (HasHeadroom first_headroom) (sym is) (starts_have_headroom o (subst IsSound is c.in-Ok-new.ensures.sound)
           (subst IsOld is c.in-Ok-new.ensures.old) (subst HasRoomForRun is c.in-Ok-new.ensures.room));
       heard = subst AllHeard (sym c.in-Ok.ensures) (all_new c.args.threads c.args.rms);
+    }
+
+pub returns-in-Ok-new-clause-stands : goal.returns-in-Ok-new-clause-stands
+returns-in-Ok-new-clause-stands g c = λ o begins runs.
+    let lines = c.in-Ok.ensures in
+    record {
+      run = runs;
+      apart = subst ApartRows (sym begins.rows) c.in-Ok-new.ensures.apart;
+      threads = ap (λ l. l.threads) lines ∙ sym begins.threads_are;
+      rms = ap (λ l. l.rms) lines ∙ sym begins.rms_are;
+      whole = subst IsWhole (sym lines) (whole-new_grid c.args.threads c.args.rms);
+      rms_up = λ r. refl;
+      book = c.in-Ok-new.ensures.start o begins;
+      lines =
+          λ t r has. subst (LineStands (From o) (line t r)) (sym (ap (λ l. line_at l t r) lines ∙ line_at-new_grid c.args.threads c.args.rms t r))
+          (record { all_issued = refl; all_answered = refl; all_heard = refl; each_answered = refl });
     }

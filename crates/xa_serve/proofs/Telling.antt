@@ -1,0 +1,211 @@
+-- What is told of a line, in histories: calls that are issued, and lines that are lost.
+use Rattle.std.proofs.Common.{◌≡◌, ◌≢◌, ℕ, Bool, true, false, not, [], ◌∷◌, ◌++◌, length, inl, inr, Option, Some, None, refl, sym, ap, ◌∙◌, subst, append_assoc}
+use Rattle.std.specs.Prelude.{◌&&◌, if◌then◌else◌, nat_eq, nat_le, nat_lt}
+use Rattle.std.proofs.lemmas.Bool.{ne_eqb}
+use Rattle.std.proofs.lemmas.Bool.Decides.{eqb_tells}
+use Rattle.std.proofs.lemmas.List.{append-nil}
+use Rattle.xa_base.proofs.Options.{some_is}
+use Rattle.xa_base.specs.Call.{map_call}
+use Rattle.xa_base.specs.Opening.{comes_unopened, has_closed}
+use Rattle.xa_base.specs.Xid.{Xid}
+use Rattle.xa_base.specs.declared.call.Call as Asking
+use Rattle.xa_base.specs.declared.call.Call.TheVariants as Calls
+use Rattle.xa_base.specs.declared.refusal.Refusal.{Refusal}
+use Rattle.xa_base.specs.declared.refusal.Refusal.TheVariants as Refusals
+use Rattle.xa_base.specs.declared.reply.Reply.TheVariants as Replies
+use Rattle.xa_base.specs.declared.step.Part.TheVariants as Parts
+use Rattle.xa_base.specs.declared.step.Step.TheVariants as Steps
+use Rattle.xa_line.specs.Grid.{Grid, HasLine, IsWhole, line_at, with_line}
+use Rattle.xa_line.specs.Histories.{LineStands, known as known_call}
+use Rattle.xa_line.specs.Traffic.{Traffic, answered, barred, heard, is_full, issued, no_traffic, taken, with_one_more}
+use Rattle.xa_line.proofs.GridLaws.{line_at-with_line_other_rm, line_at-with_line_other_thread, line_at-with_line_same, whole-with_line}
+use Rattle.xa_line.proofs.TrafficLaws.{as_many_calls, line_goes_on, line_renewed}
+use Rattle.xa_model.specs.Facts as facts
+use Rattle.xa_model.specs.Protocol.{Right}
+use Rattle.xa_model.specs.Replies.Allowed.{Allowed.As_value}
+use Rattle.xa_model.specs.Replies.History.{name_of}
+use Rattle.xa_model.specs.Replies.Rules.{applies, first_of, is_there, must_refuse}
+use Rattle.xa_model.specs.Replies.Steps.{Step, accepted, happened}
+use Rattle.xa_model.specs.Trace.{Call, Happening, Happening.Crashed, Happening.Issued, Name, Name.Foreign, Name.Ours, Trace, Trace.Then, line, line_eq}
+use Rattle.xa_model.proofs.Keys.{line_eq-refl}
+use Rattle.xa_model.proofs.Replies.Replies.{allowed_right, first_none}
+use Rattle.xa_tm.specs.Book.{Book, after}
+use Rattle.xa_tm.specs.Calls.{book_in}
+use Rattle.xa_tm.specs.News.{Asked}
+use Rattle.xa_tm.specs.Refusing.{manager_rules, managers_refusal, refusal_in}
+use Rattle.xa_serve.specs.Following.{Follows, StandsIn}
+use Rattle.xa_serve.specs.Session.{has_line}
+use Rattle.xa_serve.specs.declared.session.Session.{Session}
+use Rattle.xa_serve.proofs.Following.{book_then, judged, line_stays}
+use Rattle.xa_serve.proofs.Lines.{MayIssue, MayTell}
+use Rattle.xa_serve.proofs.Recoveries.{closed_alike, unopened_alike}
+
+-- ** lines
+
+lines_apart_rm : (t r u s : ℕ) → s ≢ r → line_eq (line t r) (line u s) ≡ false
+lines_apart_rm t r u s apart = by_thread (nat_eq t u)
+  where
+    by_thread : (b : Bool) → (b && nat_eq r s) ≡ false
+    by_thread true = ne_eqb r s (λ e. apart (sym e))
+    by_thread false = refl
+
+lines_apart_thread : (t r u s : ℕ) → u ≢ t → line_eq (line t r) (line u s) ≡ false
+lines_apart_thread t r u s apart = ap (λ b. b && nat_eq r s) (ne_eqb t u (λ e. apart (sym e)))
+
+-- one line changed, and the others stay
+pub lines_with : (tr : Trace) (g : Grid) (t r : ℕ) (x : Traffic) → IsWhole g → HasLine g t r → LineStands tr (line t r) x
+    → ((u s : ℕ) → HasLine g u s → line_eq (line t r) (line u s) ≡ false → LineStands tr (line u s) (line_at g u s))
+    → (u s : ℕ) → HasLine g u s → LineStands tr (line u s) (line_at (with_line g t r x) u s)
+lines_with tr g t r x whole has here others u s has_u =
+    elim (eqb_tells s r) [
+      | inr apart ↦ subst (LineStands tr (line u s)) (sym (line_at-with_line_other_rm g t r u s x has.1 has_u.1 apart.1))
+          (others u s has_u (lines_apart_rm t r u s apart.1))
+      | inl same_rm ↦ (elim (eqb_tells u t) [
+        | inr apart ↦ subst (LineStands tr (line u s)) (sym (line_at-with_line_other_thread g t r u s x has.1 has_u.1 apart.1))
+            (others u s has_u (lines_apart_thread t r u s apart.1))
+        | inl same_thread ↦ subst (λ n. LineStands tr (line n s) (line_at (with_line g t r x) n s)) (sym same_thread.1)
+            (subst (λ n. LineStands tr (line t n) (line_at (with_line g t r x) t n)) (sym same_rm.1)
+            (subst (LineStands tr (line t r)) (sym (line_at-with_line_same g t r x whole has)) here))
+      ])
+    ]
+
+-- ** a line that is lost
+
+line_why : (there up rm_up : Bool) → Option Refusal
+line_why there up rm_up =
+    if there then (if not up then Some Refusals.ManagerDown else (if not rm_up then Some Refusals.RmDown else None)) else Some Refusals.Limit
+
+module _ {L : Type 0} (old new : Session L) (t r : ℕ) where
+  there_in : (tr : Trace) → StandsIn tr old → has_line old.lines t r ≡ true
+      → (nat_lt t (facts.origin tr).threads && nat_lt r (facts.origin tr).rms) ≡ true
+  there_in tr stands there = (λ i. nat_lt t (sym stands.threads i) && nat_lt r (sym stands.rms i)) ∙ there
+
+  up_in : (tr : Trace) → StandsIn tr old → (book_in old.manager).up ≡ true → facts.up tr ≡ true
+  up_in tr stands up = sym (ap (λ (k : Book). k.up) stands.book) ∙ up
+
+  pub lost_follows : MayTell old t r → book_in new.manager ≡ after (book_in old.manager) (Crashed (Parts.Line t r))
+      → new.lines ≡ with_line old.lines t r no_traffic → Follows (Crashed (Parts.Line t r)) old new
+  unfolding line_why
+  lost_follows may book lines tr stands =
+      let e = Crashed (Parts.Line t r) in
+      let forced : must_refuse tr (Steps.Crash (Parts.Line t r)) ≡ None =
+      λ i. line_why (there_in tr stands may.there i) (up_in tr stands may.up i) (stands.rms_up r i) in
+      let right : Right tr e = allowed_right tr (Steps.Crash (Parts.Line t r)) Replies.Crashed (As_value forced refl) in
+      let stand = lines_with (Then tr e) old.lines t r no_traffic stands.whole may.has (line_renewed tr e (line t r) (line_eq-refl (line t r)))
+      (λ u q has_u apart. line_stays tr e (line u q) (line_at old.lines u q) apart refl refl refl (stands.lines u q has_u)) in (
+        right,
+        record {
+          run = (stands.run, right);
+          apart = stands.apart;
+          threads = ap (λ g. g.threads) lines ∙ stands.threads;
+          rms = ap (λ g. g.rms) lines ∙ stands.rms;
+          whole = subst IsWhole (sym lines) (whole-with_line old.lines t r no_traffic stands.whole);
+          rms_up = λ q. stands.rms_up q;
+          book = book_then tr e old new stands right book;
+          lines =
+              λ u q has. subst (λ g. LineStands (Then tr e) (line u q) (line_at g u q)) (sym lines) (stand u q (subst (λ g. HasLine g u q) lines has));
+        },
+      )
+
+-- ** a call that is issued
+
+call_is : (t r : ℕ) (a : Asked) (c : Call) → accepted a ≡ Some c → happened (Steps.Issue t r a) Replies.Issued ≡ Issued (line t r) c
+call_is t r Calls.OpenRm c e = ap (λ k. Issued (line t r) k) (some_is _ _ e)
+call_is t r Calls.CloseRm c e = ap (λ k. Issued (line t r) k) (some_is _ _ e)
+call_is t r (Calls.Start (Ours b) j) c e = ap (λ k. Issued (line t r) k) (some_is _ _ e)
+call_is t r (Calls.Start (Foreign x) j) c e = absurd (cc)
+call_is t r (Calls.End (Ours b) i) c e = ap (λ k. Issued (line t r) k) (some_is _ _ e)
+call_is t r (Calls.End (Foreign x) i) c e = absurd (cc)
+call_is t r (Calls.Prepare (Ours b)) c e = ap (λ k. Issued (line t r) k) (some_is _ _ e)
+call_is t r (Calls.Prepare (Foreign x)) c e = absurd (cc)
+call_is t r (Calls.Commit (Ours b) o) c e = ap (λ k. Issued (line t r) k) (some_is _ _ e)
+call_is t r (Calls.Commit (Foreign x) o) c e = absurd (cc)
+call_is t r (Calls.Rollback (Ours b)) c e = ap (λ k. Issued (line t r) k) (some_is _ _ e)
+call_is t r (Calls.Rollback (Foreign x)) c e = absurd (cc)
+call_is t r (Calls.Forget (Ours b)) c e = ap (λ k. Issued (line t r) k) (some_is _ _ e)
+call_is t r (Calls.Forget (Foreign x)) c e = absurd (cc)
+call_is t r (Calls.Recover n x y) c e = ap (λ k. Issued (line t r) k) (some_is _ _ e)
+
+issued_line : (tr : Trace) (t r : ℕ) (c : Call) (call : Asking.Call Xid) (old : Traffic) → known_call call ≡ Some c
+    → LineStands tr (line t r) old → LineStands (Then tr (Issued (line t r) c)) (line t r) (record old { calls = with_one_more old.calls call })
+issued_line tr t r c call old is stands =
+    line_goes_on tr (Issued (line t r) c) (line t r) old (record old { calls = with_one_more old.calls call }) (call ∷ []) [] [] stands refl
+    (sym (append_assoc (taken old) old.calls.waiting (call ∷ []))) (rw (is, line_eq-refl (line t r)) refl)
+    (sym (append-nil (answered old))) refl (sym (append-nil (heard old))) refl stands.each_answered
+
+unbarred : (shut closed : Bool) → (if shut then Some Refusals.NotOpen else (if closed then Some Refusals.Closed else None)) ≡ None
+    → (shut ≡ false) × (closed ≡ false)
+unbarred false false e = (refl, refl)
+unbarred false true e = absurd (cc)
+unbarred true closed e = absurd (cc)
+
+where_there : (t : Bool) (x : Option Refusal) → t ≡ true → (if t then x else Some Refusals.Limit) ≡ None → x ≡ None
+where_there true x is e = e
+where_there false x is e = absurd (cc)
+
+module _ {L : Type 0} (old new : Session L) (t r : ℕ) (call : Asking.Call Xid) where
+  -- the history refuses it no more than the session does
+  issue_forced : (tr : Trace) → StandsIn tr old → MayIssue old t r call → must_refuse tr (Steps.Issue t r (map_call name_of call)) ≡ None
+  issue_forced tr stands may =
+      let s : Step = Steps.Issue t r (map_call name_of call) in
+      let at = line_at old.lines t r in
+      let here = stands.lines t r may.tell.has in
+      let there : is_there tr s ≡ true = there_in old new t r tr stands may.tell.there in
+      let none : first_of (applies tr s) manager_rules ≡ None = where_there (is_there tr s) _ there (sym (judged tr old s tt stands) ∙ may.book) in
+      let bar = unbarred (comes_unopened (issued at) call) (has_closed (issued at)) may.bar in
+      let not_down : applies tr s Refusals.ManagerDown ≡ false = first_none (applies tr s) manager_rules Refusals.ManagerDown none (inl refl) in
+      let rm_there : applies tr s Refusals.RmDown ≡ false = ap not (stands.rms_up r) in
+      let open_so : applies tr s Refusals.NotOpen ≡ false = sym (unopened_alike (issued at) (facts.issued tr (line t r)) call here.all_issued) ∙ bar.0 in
+      let unclosed : applies tr s Refusals.Closed ≡ false = sym (closed_alike (issued at) (facts.issued tr (line t r)) here.all_issued) ∙ bar.1 in
+      let known : applies tr s Refusals.UnknownTransaction ≡ false = first_none (applies tr s) manager_rules Refusals.UnknownTransaction none (inr (inl refl)) in
+      let home : applies tr s Refusals.WrongThread ≡ false = first_none (applies tr s) manager_rules Refusals.WrongThread none (inr (inr (inl refl))) in
+      let again : applies tr s Refusals.AlreadyStarted ≡ false =
+      first_none (applies tr s) manager_rules Refusals.AlreadyStarted none (inr (inr (inr (inl refl)))) in
+      let late : applies tr s Refusals.Decided ≡ false = first_none (applies tr s) manager_rules Refusals.Decided none (inr (inr (inr (inr (inl refl))))) in
+      let early : applies tr s Refusals.NotDecided ≡ false =
+      first_none (applies tr s) manager_rules Refusals.NotDecided none (inr (inr (inr (inr (inr (inl refl)))))) in
+      let votes : applies tr s Refusals.Votes ≡ false =
+      first_none (applies tr s) manager_rules Refusals.Votes none (inr (inr (inr (inr (inr (inr (inl refl))))))) in
+      let busy : applies tr s Refusals.Busy ≡ false =
+      first_none (applies tr s) manager_rules Refusals.Busy none (inr (inr (inr (inr (inr (inr (inr (inl refl)))))))) in
+      let room : applies tr s Refusals.Full ≡ false = ap (nat_le 64) (sym (as_many_calls tr (line t r) at here)) ∙ may.room in
+      λ i. if there i then
+      (if not_down i then Some Refusals.ManagerDown else
+      (if rm_there i then Some Refusals.RmDown else
+      (if open_so i then Some Refusals.NotOpen else
+      (if unclosed i then Some Refusals.Closed else
+      (if known i then Some Refusals.UnknownTransaction else
+      (if home i then Some Refusals.WrongThread else
+      (if again i then Some Refusals.AlreadyStarted else
+      (if late i then Some Refusals.Decided else
+      (if early i then Some Refusals.NotDecided else
+      (if votes i then Some Refusals.Votes else
+      (if busy i then Some Refusals.Busy else
+      (if room i then Some Refusals.Full else None)))))))))))) else Some Refusals.Limit
+
+  pub issued_follows : (c : Call) → accepted (map_call name_of call) ≡ Some c → MayIssue old t r call
+      → book_in new.manager ≡ after (book_in old.manager) (Issued (line t r) c)
+      → new.lines ≡ with_line old.lines t r (record (line_at old.lines t r) { calls = with_one_more (line_at old.lines t r).calls call })
+      → Follows (Issued (line t r) c) old new
+  issued_follows c is may book lines tr stands =
+      let e = Issued (line t r) c in
+      let a = map_call name_of call in
+      let at = line_at old.lines t r in
+      let right : Right tr e =
+      subst (Right tr) (call_is t r a c is) (allowed_right tr (Steps.Issue t r a) Replies.Issued (As_value (issue_forced tr stands may) refl)) in
+      let stand = lines_with (Then tr e) old.lines t r (record at { calls = with_one_more at.calls call }) stands.whole may.tell.has
+      (issued_line tr t r c call at is (stands.lines t r may.tell.has))
+      (λ u q has_u apart. line_stays tr e (line u q) (line_at old.lines u q) refl (rw apart refl) refl refl (stands.lines u q has_u)) in (
+        right,
+        record {
+          run = (stands.run, right);
+          apart = stands.apart;
+          threads = ap (λ g. g.threads) lines ∙ stands.threads;
+          rms = ap (λ g. g.rms) lines ∙ stands.rms;
+          whole = subst IsWhole (sym lines) (whole-with_line old.lines t r (record at { calls = with_one_more at.calls call }) stands.whole);
+          rms_up = λ q. stands.rms_up q;
+          book = book_then tr e old new stands right book;
+          lines =
+              λ u q has. subst (λ g. LineStands (Then tr e) (line u q) (line_at g u q)) (sym lines) (stand u q (subst (λ g. HasLine g u q) lines has));
+        },
+      )
