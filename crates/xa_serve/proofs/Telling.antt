@@ -1,13 +1,16 @@
 -- What is told of a line, in histories: calls that are issued, and lines that are lost.
-use Rattle.std.proofs.Common.{◌≡◌, ◌≢◌, ℕ, Bool, true, false, not, [], ◌∷◌, ◌++◌, length, inl, inr, Option, Some, None, refl, sym, ap, ◌∙◌, subst, append_assoc}
-use Rattle.std.specs.Prelude.{◌&&◌, if◌then◌else◌, nat_eq, nat_le, nat_lt}
+use Rattle.std.proofs.Common.{◌≡◌, ◌≢◌, ℕ, Bool, true, false, not, List, [], ◌∷◌, ◌++◌, length, map, inl, inr, Option, Some, None, refl, sym, ap, ◌∙◌, subst, append_assoc}
+use Rattle.std.specs.Prelude.{◌&&◌, if◌then◌else◌, nat_eq, nat_le, nat_lt, slice_get}
+use Rattle.std.specs.Option.{option_map}
 use Rattle.std.proofs.lemmas.Bool.{ne_eqb}
 use Rattle.std.proofs.lemmas.Bool.Decides.{eqb_tells}
-use Rattle.std.proofs.lemmas.List.{append-nil}
+use Rattle.std.proofs.lemmas.List.{append-nil, map-append}
 use Rattle.xa_base.proofs.Options.{some_is}
+use Rattle.xa_base.specs.Answer.{map_answer}
 use Rattle.xa_base.specs.Call.{map_call}
 use Rattle.xa_base.specs.Opening.{comes_unopened, has_closed}
 use Rattle.xa_base.specs.Xid.{Xid}
+use Rattle.xa_base.specs.declared.answer.Answer as Given
 use Rattle.xa_base.specs.declared.call.Call as Asking
 use Rattle.xa_base.specs.declared.call.Call.TheVariants as Calls
 use Rattle.xa_base.specs.declared.refusal.Refusal.{Refusal}
@@ -16,24 +19,27 @@ use Rattle.xa_base.specs.declared.reply.Reply.TheVariants as Replies
 use Rattle.xa_base.specs.declared.step.Part.TheVariants as Parts
 use Rattle.xa_base.specs.declared.step.Step.TheVariants as Steps
 use Rattle.xa_line.specs.Grid.{Grid, HasLine, IsWhole, line_at, with_line}
-use Rattle.xa_line.specs.Histories.{LineStands, known as known_call}
-use Rattle.xa_line.specs.Traffic.{Traffic, answered, barred, heard, is_full, issued, no_traffic, taken, with_one_more}
+use Rattle.xa_line.specs.Histories.{LineStands, known as known_call, known_answered}
+use Rattle.xa_line.specs.Traffic.{PassesOn, Traffic, answered, barred, heard, is_full, issued, no_traffic, taken, with_one_more}
 use Rattle.xa_line.proofs.GridLaws.{line_at-with_line_other_rm, line_at-with_line_other_thread, line_at-with_line_same, whole-with_line}
-use Rattle.xa_line.proofs.TrafficLaws.{as_many_calls, line_goes_on, line_renewed}
+use Rattle.xa_line.proofs.TrafficLaws.{as_many_calls, line_goes_on, line_renewed, next_answer_waits, next_call_waits}
+use Rattle.xa_line.proofs.FlowLaws.{all_of-PassesOn}
 use Rattle.xa_model.specs.Facts as facts
-use Rattle.xa_model.specs.Protocol.{Right}
+use Rattle.xa_model.specs.Protocol.{IsRun, Right}
 use Rattle.xa_model.specs.Replies.Allowed.{Allowed.As_value}
 use Rattle.xa_model.specs.Replies.History.{name_of}
 use Rattle.xa_model.specs.Replies.Rules.{applies, first_of, is_there, must_refuse}
 use Rattle.xa_model.specs.Replies.Steps.{Step, accepted, happened}
-use Rattle.xa_model.specs.Trace.{Call, Happening, Happening.Crashed, Happening.Issued, Name, Name.Foreign, Name.Ours, Trace, Trace.Then, line, line_eq}
+use Rattle.xa_model.specs.Trace.{Answer as KnownAnswer, Call, Happening, Happening.Crashed, Happening.Heard, Happening.Issued, Happening.Took, Line, Name, Name.Foreign, Name.Ours, Trace, Trace.Then, line, line_eq}
 use Rattle.xa_model.proofs.Keys.{line_eq-refl}
 use Rattle.xa_model.proofs.Replies.Replies.{allowed_right, first_none}
-use Rattle.xa_tm.specs.Book.{Book, after}
+use Rattle.xa_tm.specs.Book.{Book, Doubt.NoDoubt, after, book_after}
 use Rattle.xa_tm.specs.Calls.{book_in}
 use Rattle.xa_tm.specs.News.{Asked}
 use Rattle.xa_tm.specs.Refusing.{manager_rules, managers_refusal, refusal_in}
-use Rattle.xa_serve.specs.Following.{Follows, StandsIn}
+use Rattle.xa_tm.proofs.History.RowCounts.{right_book}
+use Rattle.xa_serve.specs.Following.{Follows, FollowsAnswer, StandsIn}
+use Rattle.xa_serve.specs.Hearing.{heard_first, with_answer}
 use Rattle.xa_serve.specs.Session.{has_line}
 use Rattle.xa_serve.specs.declared.session.Session.{Session}
 use Rattle.xa_serve.proofs.Following.{book_then, judged, line_stays}
@@ -208,4 +214,96 @@ module _ {L : Type 0} (old new : Session L) (t r : ℕ) (call : Asking.Call Xid)
           lines =
               λ u q has. subst (λ g. LineStands (Then tr e) (line u q) (line_at g u q)) (sym lines) (stand u q (subst (λ g. HasLine g u q) lines has));
         },
+      )
+
+-- ** an answer that is heard
+
+first_is : {A : Type 0} (xs : List A) (x : A) → slice_get xs 0 ≡ Some x → (rest : List A) × (xs ≡ x ∷ rest)
+first_is [] x e = absurd (cc)
+first_is (y ∷ ys) x e = (ys, ap (λ z. z ∷ ys) (some_is y x e))
+
+some_seen : {A : Type 0} (o : Option A) (x : A) → Some (Some x) ≡ option_map Some o → o ≡ Some x
+some_seen None x e = absurd (cc)
+some_seen (Some y) x e = sym (some_is (Some x) (Some y) e)
+
+-- the line while the answer waits, and once it is heard
+abbrev answered_mid : Traffic → Asking.Call Xid → List (Asking.Call Xid) → Given.Answer Xid → Traffic
+answered_mid at call rest answer = record {
+  calls = record { gone = at.calls.gone ++ call ∷ []; waiting = rest };
+  answers = with_one_more at.answers (call, answer);
+}
+
+module _ (tr : Trace) (l : Line) (k : Call) (call : Asking.Call Xid) (answer : Given.Answer Xid) (rest : List (Asking.Call Xid)) (at : Traffic)
+    (stands : LineStands tr l at) (is : known_call call ≡ Some k) (waits : at.calls.waiting ≡ call ∷ rest) (none : at.answers.waiting ≡ []) where
+  abbrev given : KnownAnswer
+  given = map_answer name_of answer
+
+  abbrev mid : Traffic
+  mid = answered_mid at call rest answer
+
+  passes : PassesOn at.calls call mid.calls
+  passes = record { oldest = waits; through = refl }
+
+  pub took_line : LineStands (Then tr (Took l k given)) l mid
+  took_line =
+      line_goes_on tr (Took l k given) l at mid [] ((call, answer) ∷ []) [] stands refl
+      (all_of-PassesOn at.calls call mid.calls passes ∙ sym (append-nil (issued at))) refl
+      (sym (append_assoc (heard at) at.answers.waiting ((call, answer) ∷ []))) (rw (is, line_eq-refl l) refl)
+      (sym (append-nil (heard at))) refl
+      (ap (λ xs. xs ++ call ∷ []) stands.each_answered
+      ∙ sym (ap (map (λ p. p.0)) (sym (append_assoc (heard at) at.answers.waiting ((call, answer) ∷ []))) ∙ map-append (λ p. p.0) (answered at) ((call, answer) ∷ [])))
+
+  pub waits_answered : facts.next_answer (Then tr (Took l k given)) l ≡ Some (k, given)
+  waits_answered =
+      some_seen _ _ (sym (ap (λ ws. option_map known_answered (slice_get (ws ++ (call, answer) ∷ []) 0)) none ∙ ap (λ o. Some (option_map (λ c. (c, given)) o)) is)
+      ∙ next_answer_waits (Then tr (Took l k given)) l mid took_line)
+
+  pub heard_line : LineStands (Then (Then tr (Took l k given)) (Heard l k given)) l (heard_first at (call ∷ rest) answer)
+  heard_line =
+      let after = heard_first at (call ∷ rest) answer in
+      let passed : PassesOn mid.answers (call, answer) after.answers = record { oldest = ap (λ ws. ws ++ (call, answer) ∷ []) none; through = refl } in
+      line_goes_on (Then tr (Took l k given)) (Heard l k given) l mid after [] [] ((call, answer) ∷ []) took_line refl
+      (sym (append-nil (issued mid))) refl
+      (all_of-PassesOn mid.answers (call, answer) after.answers passed ∙ sym (append-nil (answered mid))) refl
+      refl (rw (is, line_eq-refl l) refl)
+      (took_line.each_answered ∙ ap (map (λ q. q.0)) (sym (all_of-PassesOn mid.answers (call, answer) after.answers passed)))
+
+module _ {L : Type 0} (old new : Session L) (t r : ℕ) (call : Asking.Call Xid) (k : Call) (answer : Given.Answer Xid) where
+  abbrev told : KnownAnswer
+  told = map_answer name_of answer
+
+  pub answered_follows : MayTell old t r → slice_get (line_at old.lines t r).calls.waiting 0 ≡ Some call → accepted (map_call name_of call) ≡ Some k
+      → (line_at old.lines t r).answers.waiting ≡ [] → book_in new.manager ≡ after (book_in old.manager) (Heard (line t r) k told)
+      → new.lines ≡ with_line old.lines t r (with_answer (line_at old.lines t r) answer) → FollowsAnswer (line t r) k told old new
+  answered_follows may first is none book lines tr stands =
+      let l = line t r in
+      let at = line_at old.lines t r in
+      let took = Took l k told in
+      let e = Heard l k told in
+      let here = stands.lines t r may.has in
+      let head = first_is at.calls.waiting call first in
+      let next : facts.next_call tr l ≡ Some k =
+      some_seen _ _ (sym (ap (option_map known_call) first ∙ ap (λ o. Some o) is) ∙ next_call_waits tr l at here) in (
+        next,
+        λ sound.
+            let right : Right (Then tr took) e = (up_in old new t r tr stands may.up, waits_answered tr l k call answer head.0 at here is head.1 none) in
+            let run : IsRun (Then tr took) = (stands.run, (next, sound)) in
+            let put : LineStands (Then (Then tr took) e) l (with_answer at answer) =
+            subst (λ ws. LineStands (Then (Then tr took) e) l (heard_first at ws answer)) (sym head.1) (heard_line tr l k call answer head.0 at here is head.1 none) in
+            let stand = lines_with (Then (Then tr took) e) old.lines t r (with_answer at answer) stands.whole may.has put
+            (λ u q has_u apart. line_stays (Then tr took) e (line u q) (line_at old.lines u q) refl refl refl (rw apart refl)
+            (line_stays tr took (line u q) (line_at old.lines u q) refl refl (rw apart refl) refl (stands.lines u q has_u))) in (
+              right,
+              record {
+                run = (run, right);
+                apart = stands.apart;
+                threads = ap (λ g. g.threads) lines ∙ stands.threads;
+                rms = ap (λ g. g.rms) lines ∙ stands.rms;
+                whole = subst IsWhole (sym lines) (whole-with_line old.lines t r (with_answer at answer) stands.whole);
+                rms_up = λ q. stands.rms_up q;
+                book = book ∙ ap (λ n. book_after n NoDoubt e) stands.book ∙ sym (right_book (Then tr took) e run right stands.apart);
+                lines =
+                    λ u q has. subst (λ g. LineStands (Then (Then tr took) e) (line u q) (line_at g u q)) (sym lines) (stand u q (subst (λ g. HasLine g u q) lines has));
+              },
+            ),
       )

@@ -1,11 +1,11 @@
 -- How a session follows a history.
-use Rattle.std.specs.Prelude.{ℕ, ◌≡◌, true}
+use Rattle.std.specs.Prelude.{ℕ, ◌≡◌, true, Some}
 use Rattle.xa_line.specs.Grid.{HasLine, IsWhole, line_at}
 use Rattle.xa_line.specs.Histories.{LineStands}
-use Rattle.xa_model.specs.Facts.{origin, rm_up}
+use Rattle.xa_model.specs.Facts.{next_call, origin, rm_up}
 use Rattle.xa_model.specs.Facts.Distinct.{ApartRows}
-use Rattle.xa_model.specs.Protocol.{IsRun, Right}
-use Rattle.xa_model.specs.Trace.{Happening, Trace, Trace.Then, line}
+use Rattle.xa_model.specs.Protocol.{IsRun, Right, SoundAnswer}
+use Rattle.xa_model.specs.Trace.{Answer, Call, Happening, Happening.Heard, Happening.Took, Line, Trace, Trace.Then, line}
 use Rattle.xa_tm.specs.Book.{book_of}
 use Rattle.xa_tm.specs.Calls.{book_in}
 use Rattle.xa_serve.specs.declared.session.Session.{Session}
@@ -25,3 +25,10 @@ pub record StandsIn {L : Type 0} (tr : Trace) (s : Session L) : Type 0 where
 -- wherever the session stood, this was right to happen, and the session then stands where it leads
 abbrev pub Follows : {L : Type 0} → Happening → (old new : Session L) → Type 0
 Follows e old new = (tr : Trace) → StandsIn tr old → Right tr e × StandsIn (Then tr e) new
+
+-- Wherever the session stood, this call waited first on the line. Where the resource manager may have answered so, it is right that the
+-- answer is heard, and the session then stands where both lead.
+abbrev pub FollowsAnswer : {L : Type 0} → Line → Call → Answer → (old new : Session L) → Type 0
+FollowsAnswer l c a old new =
+    (tr : Trace) → StandsIn tr old → (next_call tr l ≡ Some c)
+    × (SoundAnswer tr l c a → Right (Then tr (Took l c a)) (Heard l c a) × StandsIn (Then (Then tr (Took l c a)) (Heard l c a)) new)

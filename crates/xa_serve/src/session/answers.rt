@@ -14,6 +14,7 @@ ghost use Rattle.xa_model.specs.Replies.Steps.{accepted};
 ghost use Rattle.xa_model.specs.Trace.{Call as KnownCall, Fault.InHear, Happening.Heard, line};
 ghost use Rattle.xa_tm.specs.Book.{after, doubt_of};
 ghost use Rattle.xa_tm.specs.Calls.{FailsBy, book_in, log_in};
+ghost use Rattle.xa_serve.specs.Following.{FollowsAnswer};
 ghost use Rattle.xa_serve.specs.Hearing.{with_answer};
 ghost use Rattle.xa_serve.specs.Session.{IsReady, unfit};
 ghost use Rattle.xa_serve.specs.declared.session.answers.Unfit.TheVariants as Unfits;
@@ -59,6 +60,10 @@ impl<L: DecisionLog + Drop> Session<L> {
             accepted (map_call name_of call) ≡ Some c →
             FailsBy (doubt_of (record_of c (map_answer name_of answer)))
             (InHear (line thread rm)) (book_in self.old.manager) (book_in self.new.manager) n)) }
+        ensures follows { OnOk result ((call : Waiting Named) (c : KnownCall) →
+            slice_get (line_at self.old.lines thread rm).calls.waiting 0 ≡ Some call →
+            accepted (map_call name_of call) ≡ Some c →
+            FollowsAnswer (line thread rm) c (map_answer name_of answer) self.old self.new) }
         // The log and the lines.
         ensures log { IfErr result (λ u. u ≢ Unfits.Refused Refusals.LogFault →
             log_in self.new.manager ≡ log_in self.old.manager) }

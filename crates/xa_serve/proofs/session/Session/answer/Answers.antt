@@ -4,6 +4,7 @@ use Rattle.std.specs.Option.{option_copied}
 use Rattle.xa_base.proofs.Options.{some_is}
 use Rattle.xa_base.specs.Answer.{map_answer}
 use Rattle.xa_base.specs.Call.{map_call}
+use Rattle.xa_line.specs.Grid.{with_line}
 use Rattle.xa_line.specs.Traffic.{Traffic}
 use Rattle.xa_model.specs.Facts.{record_of}
 use Rattle.xa_model.specs.Replies.History.{name_of}
@@ -14,6 +15,8 @@ use Rattle.xa_tm.specs.Calls.{FailsBy, book_in}
 use Rattle.xa_serve.proofs.Hearings.{answer_heard, hearable}
 use Rattle.xa_serve.proofs.Lines.{all_with, may_tell}
 use Rattle.xa_serve.proofs.Sessions.{failed, has_few, step_leaves}
+use Rattle.xa_serve.proofs.Telling.{answered_follows}
+use Rattle.xa_serve.specs.Hearing.{with_answer}
 use Rattle.xa_serve.proofs.session.Session.answer.Goals as goal
 
 pub hear-requires-clause-fits : goal.hear-requires-clause-fits
@@ -60,3 +63,16 @@ returns-in-Err-clause-err g c = λ none.
           (some_is _ _ (sym first ∙ ap (λ (l : Traffic). slice_get l.calls.waiting 0) (sym c.line.ensures.value) ∙ sym c.front.ensures ∙ ap option_copied c.in-Some-front.is)
           ∙ sym c.copy-call.ensures) is)),
     )
+
+pub returns-in-Ok-clause-follows : goal.returns-in-Ok-clause-follows
+returns-in-Ok-clause-follows g c = λ call d first is.
+    let s = c.args.self.now in
+    let t = c.args.thread in
+    let r = c.args.rm in
+    let may = may_tell s t r (sym c.line_refusal.ensures ∙ c.in_default.is) in
+    answered_follows s _ t r call d c.args.answer may first is (c.requires.heard t r may.has)
+    (c.in-Ok.ensures.ok d
+    (subst (λ k. accepted (map_call name_of k) ≡ Some d)
+    (some_is _ _ (sym first ∙ ap (λ (l : Traffic). slice_get l.calls.waiting 0) (sym c.line.ensures.value) ∙ sym c.front.ensures ∙ ap option_copied c.in-Some-front.is)
+    ∙ sym c.copy-call.ensures) is))
+    (ap (with_line s.lines t r) (c.answer_first.ensures ∙ ap (λ (l : Traffic). with_answer l c.args.answer) c.line_mut.ensures.value))
