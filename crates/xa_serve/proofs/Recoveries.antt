@@ -161,6 +161,9 @@ closed_so true false full e = refl
 closed_so true true full e = absurd (cc)
 closed_so false closed full e = absurd (cc)
 
+pub closed_in : (at : Traffic) (n : ℕ) → recovery_bar at n ≡ None → has_closed (issued at) ≡ false
+closed_in at n none = closed_so (has_opened (issued at)) (has_closed (issued at)) (nat_lt 64 (length at.calls.waiting + n)) none
+
 -- no call of it closes the line
 pub recovery_unclosed : {L : Type 0} (s : Session L) (r n : ℕ) (ks : List Call) (calls : List (Asking.Call Xid)) (x : Traffic)
     → recovery_refusal s r n ≡ None → map known_call calls ≡ map Some ks → x ≡ line_at s.lines 0 r → has_closed ks ≡ false

@@ -25,26 +25,28 @@ use Rattle.xa_line.proofs.GridLaws.{line_at-with_line_other_rm, line_at-with_lin
 use Rattle.xa_line.proofs.TrafficLaws.{as_many_calls, line_goes_on, line_renewed, next_answer_waits, next_call_waits}
 use Rattle.xa_line.proofs.FlowLaws.{all_of-PassesOn}
 use Rattle.xa_model.specs.Facts as facts
+use Rattle.xa_model.specs.Facts.Distinct.{ApartRows}
 use Rattle.xa_model.specs.Protocol.{IsRun, Right}
 use Rattle.xa_model.specs.Replies.Allowed.{Allowed.As_value}
 use Rattle.xa_model.specs.Replies.History.{name_of}
 use Rattle.xa_model.specs.Replies.Rules.{applies, first_of, is_there, must_refuse}
 use Rattle.xa_model.specs.Replies.Steps.{Step, accepted, happened}
-use Rattle.xa_model.specs.Trace.{Answer as KnownAnswer, Call, Happening, Happening.Crashed, Happening.Heard, Happening.Issued, Happening.Took, Line, Name, Name.Foreign, Name.Ours, Trace, Trace.Then, line, line_eq}
+use Rattle.xa_model.specs.Trace.{Answer as KnownAnswer, Call, Happening, Happening.Crashed, Happening.Heard, Happening.Issued, Happening.Resolved, Happening.ResolvedOpen, Happening.Took, Line, Name, Name.Foreign, Name.Ours, Trace, Trace.Then, line, line_eq}
 use Rattle.xa_model.proofs.Keys.{line_eq-refl}
 use Rattle.xa_model.proofs.Replies.Replies.{allowed_right, first_none}
-use Rattle.xa_tm.specs.Book.{Book, Doubt.NoDoubt, after, book_after}
+use Rattle.xa_tm.specs.Book.{Book, Doubt.NoDoubt, after, book_after, doubt_of_happening}
 use Rattle.xa_tm.specs.Calls.{book_in}
 use Rattle.xa_tm.specs.News.{Asked}
-use Rattle.xa_tm.specs.Refusing.{manager_rules, managers_refusal, refusal_in}
+use Rattle.xa_tm.specs.Refusing.{manager_rules, managers_refusal, refusal_in, resolved_in, resolved_open_in}
+use Rattle.xa_tm.proofs.History.Recovery.{resolved_is, resolved_open_is}
 use Rattle.xa_tm.proofs.History.RowCounts.{right_book}
 use Rattle.xa_serve.specs.Following.{Follows, FollowsAnswer, StandsIn}
 use Rattle.xa_serve.specs.Hearing.{heard_first, with_answer}
-use Rattle.xa_serve.specs.Session.{has_line}
+use Rattle.xa_serve.specs.Session.{LetsWait, has_line, line_refusal, recovery_bar, recovery_refusal, with_more}
 use Rattle.xa_serve.specs.declared.session.Session.{Session}
 use Rattle.xa_serve.proofs.Following.{book_then, judged, line_stays}
-use Rattle.xa_serve.proofs.Lines.{MayIssue, MayTell}
-use Rattle.xa_serve.proofs.Recoveries.{closed_alike, unopened_alike}
+use Rattle.xa_serve.proofs.Lines.{MayIssue, MayTell, may_tell, none_first, none_second}
+use Rattle.xa_serve.proofs.Recoveries.{closed_alike, closed_in, unopened_alike}
 
 -- ** lines
 
@@ -307,3 +309,98 @@ module _ {L : Type 0} (old new : Session L) (t r : ℕ) (call : Asking.Call Xid)
               },
             ),
       )
+
+-- ** a recovery
+
+more_issued : (tr : Trace) (e : Happening) (l : Line) (old : Traffic) (calls : List (Asking.Call Xid)) → LineStands tr l old
+    → facts.breaks tr e l ≡ false → facts.new_taken e l ≡ [] → facts.new_heard e l ≡ []
+    → map known_call calls ≡ map Some (facts.new_calls tr e l) → LineStands (Then tr e) l (record old { calls = with_more old.calls calls })
+more_issued tr e l old calls stands unbroken no_taken no_heard are =
+    line_goes_on tr e l old (record old { calls = with_more old.calls calls }) calls [] [] stands unbroken
+    (sym (append_assoc (taken old) old.calls.waiting calls)) are
+    (sym (append-nil (answered old))) (rw no_taken refl) (sym (append-nil (heard old))) (rw no_heard refl) stands.each_answered
+
+-- what a recovery is to the lines and the resource managers
+record IsRecovery (tr : Trace) (e : Happening) (r : ℕ) (calls : List Call) : Type 0 where
+  pub unbroken : (l : Line) → facts.breaks tr e l ≡ false
+  pub here : facts.new_calls tr e (line 0 r) ≡ calls
+  pub elsewhere : (l : Line) → line_eq (line 0 r) l ≡ false → facts.new_calls tr e l ≡ []
+  pub taken : (l : Line) → facts.new_taken e l ≡ []
+  pub heard : (l : Line) → facts.new_heard e l ≡ []
+  pub rms_up : (q : ℕ) → facts.rm_up (Then tr e) q ≡ facts.rm_up tr q
+  pub origin : facts.origin (Then tr e) ≡ facts.origin tr
+  pub doubt : doubt_of_happening tr e ≡ NoDoubt
+
+resolved_so : (tr : Trace) (r : ℕ) → IsRecovery tr (Resolved r) r (facts.resolving_calls tr (facts.page tr r))
+resolved_so tr r = record {
+  unbroken = λ l. refl;
+  here = rw (line_eq-refl (line 0 r)) refl;
+  elsewhere = λ l apart. rw apart refl;
+  taken = λ l. refl;
+  heard = λ l. refl;
+  rms_up = λ q. refl;
+  origin = refl;
+  doubt = refl;
+}
+
+open_so : (tr : Trace) (r : ℕ) → IsRecovery tr (ResolvedOpen r) r (facts.resolving_calls (Then tr (ResolvedOpen r)) (facts.page tr r))
+open_so tr r = record {
+  unbroken = λ l. refl;
+  here = rw (line_eq-refl (line 0 r)) refl;
+  elsewhere = λ l apart. rw apart refl;
+  taken = λ l. refl;
+  heard = λ l. refl;
+  rms_up = λ q. refl;
+  origin = refl;
+  doubt = refl;
+}
+
+module _ {L : Type 0} (old new : Session L) (r : ℕ) where
+  unclosed_in : (tr : Trace) (n : ℕ) → StandsIn tr old → recovery_refusal old r n ≡ None → facts.is_closed tr (line 0 r) ≡ false
+  unclosed_in tr n stands none =
+      let may = may_tell old 0 r (none_first (line_refusal old 0 r) (recovery_bar (line_at old.lines 0 r) n) none) in
+      sym (closed_alike (issued (line_at old.lines 0 r)) (facts.issued tr (line 0 r)) (stands.lines 0 r may.has).all_issued)
+      ∙ closed_in (line_at old.lines 0 r) n (none_second (line_refusal old 0 r) (recovery_bar (line_at old.lines 0 r) n) none)
+
+  recovery_goes : (tr : Trace) (e : Happening) (n : ℕ) (known : List Call) (calls : List (Asking.Call Xid)) → StandsIn tr old → Right tr e
+      → IsRecovery tr e r known → recovery_refusal old r n ≡ None → map known_call calls ≡ map Some known
+      → book_in new.manager ≡ after (book_in old.manager) e
+      → new.lines ≡ with_line old.lines 0 r (record (line_at old.lines 0 r) { calls = with_more (line_at old.lines 0 r).calls calls })
+      → Right tr e × StandsIn (Then tr e) new
+  recovery_goes tr e n known calls stands right recovery none are book lines =
+      let at = line_at old.lines 0 r in
+      let may = may_tell old 0 r (none_first (line_refusal old 0 r) (recovery_bar at n) none) in
+      let stand = lines_with (Then tr e) old.lines 0 r (record at { calls = with_more at.calls calls }) stands.whole may.has
+      (more_issued tr e (line 0 r) at calls (stands.lines 0 r may.has) (recovery.unbroken (line 0 r)) (recovery.taken (line 0 r)) (recovery.heard (line 0 r))
+      (are ∙ ap (map Some) (sym recovery.here)))
+      (λ u q has_u apart. line_stays tr e (line u q) (line_at old.lines u q) (recovery.unbroken (line u q)) (recovery.elsewhere (line u q) apart)
+      (recovery.taken (line u q)) (recovery.heard (line u q)) (stands.lines u q has_u)) in (
+        right,
+        record {
+          run = (stands.run, right);
+          apart = subst (λ o. ApartRows o.rows) (sym recovery.origin) stands.apart;
+          threads = ap (λ g. g.threads) lines ∙ stands.threads ∙ ap (λ o. o.threads) (sym recovery.origin);
+          rms = ap (λ g. g.rms) lines ∙ stands.rms ∙ ap (λ o. o.rms) (sym recovery.origin);
+          whole = subst IsWhole (sym lines) (whole-with_line old.lines 0 r (record at { calls = with_more at.calls calls }) stands.whole);
+          rms_up = λ q. recovery.rms_up q ∙ stands.rms_up q;
+          book = book_then tr e old new stands right (book ∙ ap (λ d. book_after (book_in old.manager) d e) (sym recovery.doubt));
+          lines =
+              λ u q has. subst (λ g. LineStands (Then tr e) (line u q) (line_at g u q)) (sym lines) (stand u q (subst (λ g. HasLine g u q) lines has));
+        },
+      )
+
+  pub resolved_follows : (n : ℕ) → recovery_refusal old r n ≡ None → new.manager ≡ old.manager → LetsWait r (resolved_in (book_in old.manager) r) old.lines new.lines
+      → Follows (Resolved r) old new
+  resolved_follows n none same waits tr stands =
+      let may = may_tell old 0 r (none_first (line_refusal old 0 r) (recovery_bar (line_at old.lines 0 r) n) none) in
+      recovery_goes tr (Resolved r) n (facts.resolving_calls tr (facts.page tr r)) waits.calls stands
+      (up_in old new 0 r tr stands may.up, unclosed_in tr n stands none) (resolved_so tr r) none
+      (waits.are ∙ ap (map Some) (ap (λ k. resolved_in k r) stands.book ∙ resolved_is tr r)) (ap book_in same) waits.lines
+
+  pub open_resolved_follows : (n : ℕ) → recovery_refusal old r n ≡ None → book_in new.manager ≡ after (book_in old.manager) (ResolvedOpen r)
+      → LetsWait r (resolved_open_in (book_in old.manager) r) old.lines new.lines → Follows (ResolvedOpen r) old new
+  open_resolved_follows n none book waits tr stands =
+      let may = may_tell old 0 r (none_first (line_refusal old 0 r) (recovery_bar (line_at old.lines 0 r) n) none) in
+      recovery_goes tr (ResolvedOpen r) n (facts.resolving_calls (Then tr (ResolvedOpen r)) (facts.page tr r)) waits.calls stands
+      (up_in old new 0 r tr stands may.up, unclosed_in tr n stands none) (open_so tr r) none
+      (waits.are ∙ ap (map Some) (ap (λ k. resolved_open_in k r) stands.book ∙ resolved_open_is tr r)) book waits.lines

@@ -8,10 +8,11 @@ ghost use Rattle.xa_base.specs.declared.refusal.Refusal.TheVariants as Refusals;
 ghost use Rattle.xa_line.specs.Grid.{line_at, with_line};
 ghost use Rattle.xa_line.specs.Histories.{AreKnownAs};
 ghost use Rattle.xa_line.specs.Traffic.{issued, places};
-ghost use Rattle.xa_model.specs.Trace.{Happening.ResolvedOpen};
+ghost use Rattle.xa_model.specs.Trace.{Happening.Resolved, Happening.ResolvedOpen};
 ghost use Rattle.xa_tm.specs.Book.{after};
 ghost use Rattle.xa_tm.specs.Calls.{book_in, log_in};
 ghost use Rattle.xa_tm.specs.Refusing.{resolved_in, resolved_open_in};
+ghost use Rattle.xa_serve.specs.Following.{Follows};
 ghost use Rattle.xa_serve.specs.Session.{IsReady, LetsWait, recovery_refusal, with_more};
 
 use super::Session;
@@ -63,6 +64,7 @@ impl<L: DecisionLog + Drop> Session<L> {
             (LetsWait rm (resolved_in (book_in self.old.manager) rm) self.old.lines self.new.lines) }
         // The manager.
         ensures manager { self.new.manager ≡ self.old.manager }
+        ensures follows { OnOk result (Follows (Resolved rm) self.old self.new) }
     {
         books_have_headroom();
         recoveries_are_read();
@@ -102,6 +104,7 @@ impl<L: DecisionLog + Drop> Session<L> {
         // What the book then says, and the log.
         ensures ok { OnOk result (book_in self.new.manager ≡
             after (book_in self.old.manager) (ResolvedOpen rm)) }
+        ensures follows { OnOk result (Follows (ResolvedOpen rm) self.old self.new) }
         ensures log { log_in self.new.manager ≡ log_in self.old.manager }
     {
         books_have_headroom();

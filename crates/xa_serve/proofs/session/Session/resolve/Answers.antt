@@ -1,7 +1,11 @@
-use Rattle.std.proofs.Common.{◌∙◌, sym}
+use Rattle.std.proofs.Common.{◌∙◌, ap, refl, sym}
+use Rattle.xa_line.specs.Grid.{with_line}
+use Rattle.xa_line.specs.Traffic.{Traffic}
 use Rattle.xa_tm.specs.Calls.{book_in}
 use Rattle.xa_tm.specs.Refusing.{resolved_in}
+use Rattle.xa_serve.specs.Session.{with_more}
 use Rattle.xa_serve.proofs.Recoveries.{recovery_unclosed}
+use Rattle.xa_serve.proofs.Telling.{resolved_follows}
 use Rattle.xa_serve.proofs.session.Session.resolve.Goals as goal
 
 pub issue_all-requires-clause-unclosed : goal.issue_all-requires-clause-unclosed
@@ -10,3 +14,14 @@ issue_all-requires-clause-unclosed g c =
     let r = c.args.rm in
     recovery_unclosed s r c.resolve_len-count.result (resolved_in (book_in s.manager) r) c.in-Ok.calls.items c.line_mut.result.now
     (sym c.no_recovery.ensures ∙ c.in_default.is) c.in-Ok.ensures.ok c.line_mut.ensures.value (c.recoveries_are_read.ensures.closes (book_in s.manager) r).0
+
+pub returns-in-Ok-clause-follows : goal.returns-in-Ok-clause-follows
+returns-in-Ok-clause-follows g c =
+    let s = c.args.self.now in
+    let r = c.args.rm in
+    resolved_follows s _ r c.resolve_len-count.result (sym c.no_recovery.ensures ∙ c.in_default.is) refl
+    (record {
+      calls = c.in-Ok.calls.items;
+      are = c.in-Ok.ensures.ok;
+      lines = ap (with_line s.lines 0 r) (c.issue_all.ensures ∙ ap (λ (t : Traffic). record t { calls = with_more t.calls c.in-Ok.calls.items }) c.line_mut.ensures.value);
+    })

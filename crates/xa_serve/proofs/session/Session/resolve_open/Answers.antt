@@ -1,4 +1,5 @@
 use Rattle.std.proofs.Common.{◌∙◌, ap, refl, sym}
+use Rattle.xa_line.specs.Grid.{with_line}
 use Rattle.xa_line.specs.Traffic.{Traffic}
 use Rattle.xa_model.specs.Trace.{Happening.ResolvedOpen}
 use Rattle.xa_tm.specs.Book.{Doubt.NoDoubt}
@@ -6,8 +7,10 @@ use Rattle.xa_tm.specs.Calls.{book_in}
 use Rattle.xa_tm.specs.Refusing.{resolved_open_in}
 use Rattle.xa_serve.specs.Session.{line_refusal}
 use Rattle.xa_serve.proofs.Lines.{all_with, may_tell, none_first}
+use Rattle.xa_serve.specs.Session.{with_more}
 use Rattle.xa_serve.proofs.Recoveries.{recovery_unclosed}
 use Rattle.xa_serve.proofs.Sessions.{has_few, step_leaves}
+use Rattle.xa_serve.proofs.Telling.{open_resolved_follows}
 use Rattle.xa_serve.proofs.session.Session.resolve_open.Goals as goal
 
 pub issue_all-requires-clause-unclosed : goal.issue_all-requires-clause-unclosed
@@ -27,3 +30,14 @@ returns-in-Ok-clause-ready g c =
     (all_with s.lines 0 r c.issue_all.new.line c.line_mut.ensures.whole may.has
     (ap (λ (l : Traffic). l.answers.waiting) c.issue_all.ensures ∙ ap (λ (l : Traffic). l.answers.waiting) c.line_mut.ensures.value ∙ c.requires.heard 0 r may.has)
     c.requires.heard)
+
+pub returns-in-Ok-clause-follows : goal.returns-in-Ok-clause-follows
+returns-in-Ok-clause-follows g c =
+    let s = c.args.self.now in
+    let r = c.args.rm in
+    open_resolved_follows s _ r c.resolve_open_len-count.result (sym c.no_recovery.ensures ∙ c.in_default.is) c.in-Ok.ensures.ok
+    (record {
+      calls = c.in-Ok.calls.items;
+      are = c.in-Ok.ensures.calls;
+      lines = ap (with_line s.lines 0 r) (c.issue_all.ensures ∙ ap (λ (t : Traffic). record t { calls = with_more t.calls c.in-Ok.calls.items }) c.line_mut.ensures.value);
+    })
