@@ -1,5 +1,5 @@
 -- What is told of a line, in histories: calls that are issued, and lines that are lost.
-use Rattle.std.proofs.Common.{◌≡◌, ◌≢◌, ℕ, Bool, true, false, not, List, [], ◌∷◌, ◌++◌, length, map, inl, inr, Option, Some, None, refl, sym, ap, ◌∙◌, subst, append_assoc}
+use Rattle.std.proofs.Common.{◌≡◌, ◌≢◌, ℕ, Bool, true, false, not, List, [], ◌∷◌, ◌++◌, map, inl, inr, Option, Some, None, refl, sym, ap, ◌∙◌, subst, append_assoc}
 use Rattle.std.specs.Prelude.{◌&&◌, if◌then◌else◌, nat_eq, nat_le, nat_lt, slice_get}
 use Rattle.std.specs.Option.{option_map}
 use Rattle.std.proofs.lemmas.Bool.{ne_eqb}
@@ -20,7 +20,7 @@ use Rattle.xa_base.specs.declared.step.Part.TheVariants as Parts
 use Rattle.xa_base.specs.declared.step.Step.TheVariants as Steps
 use Rattle.xa_line.specs.Grid.{Grid, HasLine, IsWhole, line_at, with_line}
 use Rattle.xa_line.specs.Histories.{LineStands, known as known_call, known_answered}
-use Rattle.xa_line.specs.Traffic.{PassesOn, Traffic, answered, barred, heard, is_full, issued, no_traffic, taken, with_one_more}
+use Rattle.xa_line.specs.Traffic.{PassesOn, Traffic, answered, heard, issued, no_traffic, taken, with_one_more}
 use Rattle.xa_line.proofs.GridLaws.{line_at-with_line_other_rm, line_at-with_line_other_thread, line_at-with_line_same, whole-with_line}
 use Rattle.xa_line.proofs.TrafficLaws.{as_many_calls, line_goes_on, line_renewed, next_answer_waits, next_call_waits}
 use Rattle.xa_line.proofs.FlowLaws.{all_of-PassesOn}
@@ -31,13 +31,13 @@ use Rattle.xa_model.specs.Replies.Allowed.{Allowed.As_value}
 use Rattle.xa_model.specs.Replies.History.{name_of}
 use Rattle.xa_model.specs.Replies.Rules.{applies, first_of, is_there, must_refuse}
 use Rattle.xa_model.specs.Replies.Steps.{Step, accepted, happened}
-use Rattle.xa_model.specs.Trace.{Answer as KnownAnswer, Call, Happening, Happening.Crashed, Happening.Heard, Happening.Issued, Happening.Resolved, Happening.ResolvedOpen, Happening.Took, Line, Name, Name.Foreign, Name.Ours, Trace, Trace.Then, line, line_eq}
+use Rattle.xa_model.specs.Trace.{Answer as KnownAnswer, Call, Happening, Happening.Crashed, Happening.Heard, Happening.Issued, Happening.Resolved, Happening.ResolvedOpen, Happening.Took, Line, Name.Foreign, Name.Ours, Trace, Trace.Then, line, line_eq}
 use Rattle.xa_model.proofs.Keys.{line_eq-refl}
 use Rattle.xa_model.proofs.Replies.Replies.{allowed_right, first_none}
 use Rattle.xa_tm.specs.Book.{Book, Doubt.NoDoubt, after, book_after, doubt_of_happening}
 use Rattle.xa_tm.specs.Calls.{book_in}
 use Rattle.xa_tm.specs.News.{Asked}
-use Rattle.xa_tm.specs.Refusing.{manager_rules, managers_refusal, refusal_in, resolved_in, resolved_open_in}
+use Rattle.xa_tm.specs.Refusing.{manager_rules, resolved_in, resolved_open_in}
 use Rattle.xa_tm.proofs.History.Recovery.{resolved_is, resolved_open_is}
 use Rattle.xa_tm.proofs.History.RowCounts.{right_book}
 use Rattle.xa_serve.specs.Following.{Follows, FollowsAnswer, StandsIn}
