@@ -208,7 +208,8 @@ module _ (n : ℕ) (k : Book) (head : HasHeadroom (n + 1) k) where
     unvoted = λ g. below _ _ (unvoted_more k e g) (head.unvoted g);
     unsettled = λ g. below _ _ (unsettled_more k e g) (head.unsettled g);
     rows_fit = λ g some. rows_fit_kept e g m some;
-    rows_of = λ g some. subst (λ i. (g.incarnation < i) ⊎ ((transaction_after k e g (k.transaction g)).committed ≡ true)) (sym (incarnation_kept k e m)) (rows_of_kept e g m some);
+    rows_of = λ g some. subst (λ i. (g.incarnation < i) ⊎ ((transaction_after k e g (k.transaction g)).committed ≡ true)) (sym (incarnation_kept k e m))
+        (rows_of_kept e g m some);
     begun_past = λ g is_begun. begun_past_kept e g m is_begun;
   }
 

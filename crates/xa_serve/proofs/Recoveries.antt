@@ -172,5 +172,6 @@ recovery_unclosed s r n ks calls x none are is plain =
     let at = line_at s.lines 0 r in
     list_any-append closes (issued x) calls
     ∙ unclosed _ _ (ap (λ t. has_closed (issued t)) is
-    ∙ closed_so (has_opened (issued at)) (has_closed (issued at)) (nat_lt 64 (length at.calls.waiting + n)) (none_second (line_refusal s 0 r) (recovery_bar at n) none))
+    ∙ closed_so (has_opened (issued at)) (has_closed (issued at)) (nat_lt 64 (length at.calls.waiting + n)) (none_second (line_refusal s 0 r)
+    (recovery_bar at n) none))
     (closed_alike calls ks are ∙ plain)

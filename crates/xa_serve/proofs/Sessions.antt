@@ -100,7 +100,8 @@ module _ {L : Type 0} (old new : Session L) (m : Manager L) where
       same_leaves old new ready (done.happenings ∙ kept.0 old.happenings) (ap book_in done.manager ∙ book) (done.lines ∙ kept.1 old.lines)
 
   -- the session is ready after a call that failed
-  pub failed : (asked : Doubt) (f : Fault) (q : Refusal) → IsReady old → is_over old ≡ false → Concludes (fault_of q) → MayHappen (book_in old.manager) (Failed f)
+  pub failed : (asked : Doubt) (f : Fault) (q : Refusal) → IsReady old → is_over old ≡ false → Concludes (fault_of q)
+      → MayHappen (book_in old.manager) (Failed f)
       → FailsBy asked f (book_in old.manager) (book_in m) q → IsReady new
   failed asked f q ready free done may_fail fails = by fails (fault_or_kept q) (λ kept book. kept_ready q ready done kept book)
     where
@@ -120,7 +121,8 @@ module _ {L : Type 0} (old new : Session L) (m : Manager L) where
           step_leaves old new asked (Failed f) ready (has_few old free) may_fail (count fails.0) (ap book_in done.manager ∙ fails.1) (lines_heard fails.0)
 
   -- the session is ready after it
-  pub concluded : (step : Step) (asked : Doubt) (f : Fault) (e : Happening) (reply : Result (Unit {0}) Refusal) → IsReady old → is_over old ≡ false → Concludes reply
+  pub concluded : (step : Step) (asked : Doubt) (f : Fault) (e : Happening) (reply : Result (Unit {0}) Refusal) → IsReady old → is_over old ≡ false
+      → Concludes reply
       → MayHappen (book_in old.manager) (Failed f)
       → ((n : Refusal) → refusal_in (book_in old.manager) step ≡ Some n → (reply ≡ Err n) × (m ≡ old.manager))
       → OnOk reply (MayHappen (book_in old.manager) e)
@@ -139,7 +141,8 @@ module _ {L : Type 0} (old new : Session L) (m : Manager L) where
       by None is which none same = none is
 
   -- and its book is as its manager left it, where no rule refuses
-  pub concluded_err : (step : Step) (asked : Doubt) (f : Fault) (reply result : Result (Unit {0}) Refusal) → is_over old ≡ false → Concludes reply → result ≡ reply
+  pub concluded_err : (step : Step) (asked : Doubt) (f : Fault) (reply result : Result (Unit {0}) Refusal) → is_over old ≡ false → Concludes reply
+      → result ≡ reply
       → (refusal_in (book_in old.manager) step ≡ None → IfErr reply (FailsBy asked f (book_in old.manager) (book_in m)))
       → refusal_at old step ≡ None → IfErr result (FailsBy asked f (book_in old.manager) (book_in new.manager))
   concluded_err step asked f reply result free done same err none =

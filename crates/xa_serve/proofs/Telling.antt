@@ -165,7 +165,8 @@ module _ {L : Type 0} (old new : Session L) (t r : ℕ) (call : Asking.Call Xid)
       let rm_there : applies tr s Refusals.RmDown ≡ false = ap not (stands.rms_up r) in
       let open_so : applies tr s Refusals.NotOpen ≡ false = sym (unopened_alike (issued at) (facts.issued tr (line t r)) call here.all_issued) ∙ bar.0 in
       let unclosed : applies tr s Refusals.Closed ≡ false = sym (closed_alike (issued at) (facts.issued tr (line t r)) here.all_issued) ∙ bar.1 in
-      let known : applies tr s Refusals.UnknownTransaction ≡ false = first_none (applies tr s) manager_rules Refusals.UnknownTransaction none (inr (inl refl)) in
+      let known : applies tr s Refusals.UnknownTransaction ≡ false = first_none (applies tr s) manager_rules Refusals.UnknownTransaction none (inr
+      (inl refl)) in
       let home : applies tr s Refusals.WrongThread ≡ false = first_none (applies tr s) manager_rules Refusals.WrongThread none (inr (inr (inl refl))) in
       let again : applies tr s Refusals.AlreadyStarted ≡ false =
       first_none (applies tr s) manager_rules Refusals.AlreadyStarted none (inr (inr (inr (inl refl)))) in
@@ -253,11 +254,13 @@ module _ (tr : Trace) (l : Line) (k : Call) (call : Asking.Call Xid) (answer : G
       (sym (append_assoc (heard at) at.answers.waiting ((call, answer) ∷ []))) (rw (is, line_eq-refl l) refl)
       (sym (append-nil (heard at))) refl
       (ap (λ xs. xs ++ call ∷ []) stands.each_answered
-      ∙ sym (ap (map (λ p. p.0)) (sym (append_assoc (heard at) at.answers.waiting ((call, answer) ∷ []))) ∙ map-append (λ p. p.0) (answered at) ((call, answer) ∷ [])))
+      ∙ sym (ap (map (λ p. p.0)) (sym (append_assoc (heard at) at.answers.waiting ((call, answer) ∷ []))) ∙ map-append (λ p. p.0) (answered at)
+      ((call, answer) ∷ [])))
 
   pub waits_answered : facts.next_answer (Then tr (Took l k given)) l ≡ Some (k, given)
   waits_answered =
-      some_seen _ _ (sym (ap (λ ws. option_map known_answered (slice_get (ws ++ (call, answer) ∷ []) 0)) none ∙ ap (λ o. Some (option_map (λ c. (c, given)) o)) is)
+      some_seen _ _ (sym (ap (λ ws. option_map known_answered (slice_get (ws ++ (call, answer) ∷ []) 0)) none ∙ ap (λ o. Some (option_map (λ c.
+      (c, given)) o)) is)
       ∙ next_answer_waits (Then tr (Took l k given)) l mid took_line)
 
   pub heard_line : LineStands (Then (Then tr (Took l k given)) (Heard l k given)) l (heard_first at (call ∷ rest) answer)
@@ -291,7 +294,8 @@ module _ {L : Type 0} (old new : Session L) (t r : ℕ) (call : Asking.Call Xid)
             let right : Right (Then tr took) e = (up_in old new t r tr stands may.up, waits_answered tr l k call answer head.0 at here is head.1 none) in
             let run : IsRun (Then tr took) = (stands.run, (next, sound)) in
             let put : LineStands (Then (Then tr took) e) l (with_answer at answer) =
-            subst (λ ws. LineStands (Then (Then tr took) e) l (heard_first at ws answer)) (sym head.1) (heard_line tr l k call answer head.0 at here is head.1 none) in
+            subst (λ ws. LineStands (Then (Then tr took) e) l (heard_first at ws answer)) (sym head.1)
+            (heard_line tr l k call answer head.0 at here is head.1 none) in
             let stand = lines_with (Then (Then tr took) e) old.lines t r (with_answer at answer) stands.whole may.has put
             (λ u q has_u apart. line_stays (Then tr took) e (line u q) (line_at old.lines u q) refl refl refl (rw apart refl)
             (line_stays tr took (line u q) (line_at old.lines u q) refl refl (rw apart refl) refl (stands.lines u q has_u))) in (
@@ -305,7 +309,8 @@ module _ {L : Type 0} (old new : Session L) (t r : ℕ) (call : Asking.Call Xid)
                 rms_up = λ q. stands.rms_up q;
                 book = book ∙ ap (λ n. book_after n NoDoubt e) stands.book ∙ sym (right_book (Then tr took) e run right stands.apart);
                 lines =
-                    λ u q has. subst (λ g. LineStands (Then (Then tr took) e) (line u q) (line_at g u q)) (sym lines) (stand u q (subst (λ g. HasLine g u q) lines has));
+                    λ u q has. subst (λ g. LineStands (Then (Then tr took) e) (line u q) (line_at g u q)) (sym lines) (stand u q (subst
+                    (λ g. HasLine g u q) lines has));
               },
             ),
       )
@@ -389,7 +394,8 @@ module _ {L : Type 0} (old new : Session L) (r : ℕ) where
         },
       )
 
-  pub resolved_follows : (n : ℕ) → recovery_refusal old r n ≡ None → new.manager ≡ old.manager → LetsWait r (resolved_in (book_in old.manager) r) old.lines new.lines
+  pub resolved_follows : (n : ℕ) → recovery_refusal old r n ≡ None → new.manager ≡ old.manager
+      → LetsWait r (resolved_in (book_in old.manager) r) old.lines new.lines
       → Follows (Resolved r) old new
   resolved_follows n none same waits tr stands =
       let may = may_tell old 0 r (none_first (line_refusal old 0 r) (recovery_bar (line_at old.lines 0 r) n) none) in

@@ -2,7 +2,8 @@
 
 ghost use Rattle.xa_serve.specs.Headroom.{HeadroomIsSound, HeadroomIsUsedUpByOne, StartsHaveHeadroom};
 
-/// So much more may happen after a start before a number of the book is too great, whatever the resource managers answer:
+/// So much more may happen after a start before a number of the book is too great, whatever the resource managers
+/// answer:
 ///
 /// - `kept`: one happening more leaves headroom for one less;
 /// - `sound`: a book with headroom is sound, as each call of the manager requires;

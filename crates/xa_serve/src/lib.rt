@@ -1,5 +1,5 @@
-//! A session of a driver with the coordinator: the manager over its decision log, and the lines on which calls wait until the
-//! driver tells how the resource managers answered them.
+//! A session of a driver with the coordinator: the manager over its decision log, and the lines on which calls wait
+//! until the driver tells how the resource managers answered them.
 //!
 //! No answer is trusted: each method may be called whatever was answered before.
 //!

@@ -176,8 +176,8 @@ impl<L: DecisionLog + Drop> Session<L> {
         }
     }
 
-    /// Takes the row of a transaction away that waits for nothing more. Where the log fails, the manager is down and all
-    /// lines break.
+    /// Takes the row of a transaction away that waits for nothing more. Where the log fails, the manager is down and
+    /// all lines break.
     pub fn done(&mut self, gtrid: Gtrid) -> Result<(), Refusal>
         requires { IsReady self.old }
         ensures ready { IsReady self.new }

@@ -50,7 +50,8 @@ impl<L: DecisionLog + Drop> Session<L> {
         ensures ready { IsReady self.new }
         // A rule that refuses changes nothing.
         ensures refused { (n : Refusal) →
-            recovery_refusal self.old rm (length (resolved_in (book_in self.old.manager) rm)) ≡ Some n →
+            recovery_refusal self.old rm
+            (length (resolved_in (book_in self.old.manager) rm)) ≡ Some n →
             (result ≡ Err n) × (self.new ≡ self.old) }
         ensures allowed { OnOk result (recovery_refusal self.old rm
             (length (resolved_in (book_in self.old.manager) rm)) ≡ None) }
@@ -60,8 +61,8 @@ impl<L: DecisionLog + Drop> Session<L> {
         // The calls.
         ensures value { IfOk result
             (λ count. count ≡ length (resolved_in (book_in self.old.manager) rm)) }
-        ensures lines { OnOk result
-            (LetsWait rm (resolved_in (book_in self.old.manager) rm) self.old.lines self.new.lines) }
+        ensures lines { OnOk result (LetsWait rm
+            (resolved_in (book_in self.old.manager) rm) self.old.lines self.new.lines) }
         // The manager.
         ensures manager { self.new.manager ≡ self.old.manager }
         ensures follows { OnOk result (Follows (Resolved rm) self.old self.new) }

@@ -13,7 +13,8 @@ use Rattle.xa_serve.proofs.session.Session.abandon.Goals as goal
 pub returns-in-Ok-clause-ready : goal.returns-in-Ok-clause-ready
 returns-in-Ok-clause-ready g c =
     let s = c.args.self.now in
-    step_leaves s _ NoDoubt (Decided c.args.gtrid Outcomes.Rollback) c.requires (has_few s (sym c.is_over.ensures ∙ c.if-is_over.false)) (begun_if_abandoned (book_in c.args.self.now.manager) c.args.gtrid c.in-Ok.ensures.allowed) refl c.in-Ok.ensures.ok c.requires.heard
+    step_leaves s _ NoDoubt (Decided c.args.gtrid Outcomes.Rollback) c.requires (has_few s (sym c.is_over.ensures ∙ c.if-is_over.false))
+    (begun_if_abandoned (book_in c.args.self.now.manager) c.args.gtrid c.in-Ok.ensures.allowed) refl c.in-Ok.ensures.ok c.requires.heard
 
 pub returns-in-Err-clause-ready : goal.returns-in-Err-clause-ready
 returns-in-Err-clause-ready g c =

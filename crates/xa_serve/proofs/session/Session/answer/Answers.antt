@@ -60,7 +60,8 @@ returns-in-Err-clause-err g c = λ none.
           (sym c.conclude.ensures.manager)
           (c.in-Err.ensures.err may.up d
           (subst (λ k. accepted (map_call name_of k) ≡ Some d)
-          (some_is _ _ (sym first ∙ ap (λ (l : Traffic). slice_get l.calls.waiting 0) (sym c.line.ensures.value) ∙ sym c.front.ensures ∙ ap option_copied c.in-Some-front.is)
+          (some_is _ _ (sym first ∙ ap (λ (l : Traffic). slice_get l.calls.waiting 0)
+          (sym c.line.ensures.value) ∙ sym c.front.ensures ∙ ap option_copied c.in-Some-front.is)
           ∙ sym c.copy-call.ensures) is)),
     )
 
@@ -73,6 +74,7 @@ returns-in-Ok-clause-follows g c = λ call d first is.
     answered_follows s _ t r call d c.args.answer may first is (c.requires.heard t r may.has)
     (c.in-Ok.ensures.ok d
     (subst (λ k. accepted (map_call name_of k) ≡ Some d)
-    (some_is _ _ (sym first ∙ ap (λ (l : Traffic). slice_get l.calls.waiting 0) (sym c.line.ensures.value) ∙ sym c.front.ensures ∙ ap option_copied c.in-Some-front.is)
+    (some_is _ _ (sym first ∙ ap (λ (l : Traffic). slice_get l.calls.waiting 0)
+    (sym c.line.ensures.value) ∙ sym c.front.ensures ∙ ap option_copied c.in-Some-front.is)
     ∙ sym c.copy-call.ensures) is))
     (ap (with_line s.lines t r) (c.answer_first.ensures ∙ ap (λ (l : Traffic). with_answer l c.args.answer) c.line_mut.ensures.value))

@@ -11,7 +11,8 @@ use Rattle.xa_serve.proofs.session.Session.begin.Goals as goal
 pub returns-in-Ok-clause-ready : goal.returns-in-Ok-clause-ready
 returns-in-Ok-clause-ready g c =
     let s = c.args.self.now in
-    step_leaves s _ NoDoubt (Begun c.in-Ok.gtrid) c.requires (has_few s (sym c.is_over.ensures ∙ c.if-is_over.false)) c.in-Ok.ensures.value refl c.in-Ok.ensures.ok c.requires.heard
+    step_leaves s _ NoDoubt (Begun c.in-Ok.gtrid) c.requires (has_few s
+    (sym c.is_over.ensures ∙ c.if-is_over.false)) c.in-Ok.ensures.value refl c.in-Ok.ensures.ok c.requires.heard
 
 pub returns-in-Err-clause-ready : goal.returns-in-Err-clause-ready
 returns-in-Err-clause-ready g c =
@@ -21,4 +22,5 @@ returns-in-Err-clause-ready g c =
     (λ n is. ap book_in (c.in-Err.ensures.refused n is).1) (λ none. (c.in-Err.ensures.err none).1)) refl
 
 pub returns-in-Ok-clause-follows : goal.returns-in-Ok-clause-follows
-returns-in-Ok-clause-follows g c = begun_follows c.args.self.now _ c.args.thread c.in-Ok.gtrid c.in-Ok.ensures.allowed c.in-Ok.ensures.value c.in-Ok.ensures.ok refl
+returns-in-Ok-clause-follows g c = begun_follows c.args.self.now _ c.args.thread c.in-Ok.gtrid c.in-Ok.ensures.allowed c.in-Ok.ensures.value
+    c.in-Ok.ensures.ok refl

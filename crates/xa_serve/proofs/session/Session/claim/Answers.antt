@@ -11,7 +11,8 @@ use Rattle.xa_serve.proofs.session.Session.claim.Goals as goal
 pub returns-in-Ok-clause-ready : goal.returns-in-Ok-clause-ready
 returns-in-Ok-clause-ready g c =
     let s = c.args.self.now in
-    step_leaves s _ NoDoubt (Claimed c.args.gtrid) c.requires (has_few s (sym c.is_over.ensures ∙ c.if-is_over.false)) tt refl c.in-Ok.ensures.ok c.requires.heard
+    step_leaves s _ NoDoubt (Claimed c.args.gtrid) c.requires (has_few s
+    (sym c.is_over.ensures ∙ c.if-is_over.false)) tt refl c.in-Ok.ensures.ok c.requires.heard
 
 pub returns-in-Err-clause-ready : goal.returns-in-Err-clause-ready
 returns-in-Err-clause-ready g c =

@@ -15,11 +15,13 @@ returns-clause-ready g c =
     concluded s _ _ (Steps.Decide c.args.gtrid c.args.outcome) (Adds c.args.gtrid (voted_yes (book_in s.manager) c.args.gtrid)) (InDecide c.args.gtrid)
     (Decided c.args.gtrid c.args.outcome) c.decide-reply.result c.requires (sym c.is_over.ensures ∙ c.if-is_over.false)
     (record { manager = c.conclude.ensures.manager; lines = c.conclude.ensures.lines; happenings = c.conclude.ensures.happenings }) tt
-    c.decide-reply.ensures.refused (on_ok c.decide-reply.result _ _ (begun_if_decided (book_in s.manager) c.args.gtrid c.args.outcome) c.decide-reply.ensures.allowed) c.decide-reply.ensures.ok
+    c.decide-reply.ensures.refused (on_ok c.decide-reply.result _ _ (begun_if_decided
+    (book_in s.manager) c.args.gtrid c.args.outcome) c.decide-reply.ensures.allowed) c.decide-reply.ensures.ok
     c.decide-reply.ensures.err
 
 pub returns-clause-follows : goal.returns-clause-follows
 returns-clause-follows g c =
     let s = c.args.self.now in
-    follows_if_ok s c.conclude.new.self (Steps.Decide c.args.gtrid c.args.outcome) (Decided c.args.gtrid c.args.outcome) c.decide-reply.new.self c.decide-reply.result _ c.conclude.ensures.value c.conclude.ensures.manager
+    follows_if_ok s c.conclude.new.self (Steps.Decide c.args.gtrid c.args.outcome)
+    (Decided c.args.gtrid c.args.outcome) c.decide-reply.new.self c.decide-reply.result _ c.conclude.ensures.value c.conclude.ensures.manager
     c.conclude.ensures.lines c.decide-reply.ensures.allowed c.decide-reply.ensures.ok (decided_follows s c.conclude.new.self c.args.gtrid c.args.outcome)

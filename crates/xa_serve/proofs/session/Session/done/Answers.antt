@@ -21,5 +21,6 @@ returns-clause-ready g c =
 pub returns-clause-follows : goal.returns-clause-follows
 returns-clause-follows g c =
     let s = c.args.self.now in
-    follows_if_ok s c.conclude.new.self (Steps.Done c.args.gtrid) (Done c.args.gtrid) c.done-reply.new.self c.done-reply.result _ c.conclude.ensures.value c.conclude.ensures.manager
+    follows_if_ok s c.conclude.new.self (Steps.Done c.args.gtrid)
+    (Done c.args.gtrid) c.done-reply.new.self c.done-reply.result _ c.conclude.ensures.value c.conclude.ensures.manager
     c.conclude.ensures.lines c.done-reply.ensures.allowed c.done-reply.ensures.ok (done_follows s c.conclude.new.self c.args.gtrid)

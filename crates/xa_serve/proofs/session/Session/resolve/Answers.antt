@@ -23,5 +23,6 @@ returns-in-Ok-clause-follows g c =
     (record {
       calls = c.in-Ok.calls.items;
       are = c.in-Ok.ensures.ok;
-      lines = ap (with_line s.lines 0 r) (c.issue_all.ensures ∙ ap (λ (t : Traffic). record t { calls = with_more t.calls c.in-Ok.calls.items }) c.line_mut.ensures.value);
+      lines = ap (with_line s.lines 0 r) (c.issue_all.ensures ∙ ap (λ
+          (t : Traffic). record t { calls = with_more t.calls c.in-Ok.calls.items }) c.line_mut.ensures.value);
     })

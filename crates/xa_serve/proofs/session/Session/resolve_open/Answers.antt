@@ -28,7 +28,8 @@ returns-in-Ok-clause-ready g c =
     let may = may_tell s 0 r (none_first (line_refusal s 0 r) _ none) in
     step_leaves s _ NoDoubt (ResolvedOpen r) c.requires (has_few s may.free) tt refl c.in-Ok.ensures.ok
     (all_with s.lines 0 r c.issue_all.new.line c.line_mut.ensures.whole may.has
-    (ap (λ (l : Traffic). l.answers.waiting) c.issue_all.ensures ∙ ap (λ (l : Traffic). l.answers.waiting) c.line_mut.ensures.value ∙ c.requires.heard 0 r may.has)
+    (ap (λ (l : Traffic). l.answers.waiting) c.issue_all.ensures ∙ ap (λ
+    (l : Traffic). l.answers.waiting) c.line_mut.ensures.value ∙ c.requires.heard 0 r may.has)
     c.requires.heard)
 
 pub returns-in-Ok-clause-follows : goal.returns-in-Ok-clause-follows
@@ -39,5 +40,6 @@ returns-in-Ok-clause-follows g c =
     (record {
       calls = c.in-Ok.calls.items;
       are = c.in-Ok.ensures.calls;
-      lines = ap (with_line s.lines 0 r) (c.issue_all.ensures ∙ ap (λ (t : Traffic). record t { calls = with_more t.calls c.in-Ok.calls.items }) c.line_mut.ensures.value);
+      lines = ap (with_line s.lines 0 r) (c.issue_all.ensures ∙ ap (λ
+          (t : Traffic). record t { calls = with_more t.calls c.in-Ok.calls.items }) c.line_mut.ensures.value);
     })

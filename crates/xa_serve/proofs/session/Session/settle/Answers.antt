@@ -16,13 +16,15 @@ returns-clause-ready g c =
     concluded s _ _ (Steps.Settle c.args.gtrid) (Adds c.args.gtrid (voted_yes (book_in s.manager) c.args.gtrid)) (InDecide c.args.gtrid)
     (Decided c.args.gtrid Outcomes.Commit) c.settle-reply.result c.requires (sym c.is_over.ensures ∙ c.if-is_over.false)
     (record { manager = c.conclude.ensures.manager; lines = c.conclude.ensures.lines; happenings = c.conclude.ensures.happenings }) tt
-    c.settle-reply.ensures.refused (on_ok c.settle-reply.result _ _ (begun_if_settled (book_in s.manager) c.args.gtrid) c.settle-reply.ensures.allowed) c.settle-reply.ensures.ok
+    c.settle-reply.ensures.refused (on_ok c.settle-reply.result _ _ (begun_if_settled
+    (book_in s.manager) c.args.gtrid) c.settle-reply.ensures.allowed) c.settle-reply.ensures.ok
     c.settle-reply.ensures.err
 
 pub returns-clause-err : goal.returns-clause-err
 returns-clause-err g c =
     let s = c.args.self.now in
-    concluded_err s _ _ (Steps.Settle c.args.gtrid) (Adds c.args.gtrid (voted_yes (book_in s.manager) c.args.gtrid)) (InDecide c.args.gtrid) c.settle-reply.result _
+    concluded_err s _ _ (Steps.Settle c.args.gtrid) (Adds c.args.gtrid (voted_yes
+    (book_in s.manager) c.args.gtrid)) (InDecide c.args.gtrid) c.settle-reply.result _
     (sym c.is_over.ensures ∙ c.if-is_over.false)
     (record { manager = c.conclude.ensures.manager; lines = c.conclude.ensures.lines; happenings = c.conclude.ensures.happenings })
     c.conclude.ensures.value c.settle-reply.ensures.err
@@ -30,5 +32,6 @@ returns-clause-err g c =
 pub returns-clause-follows : goal.returns-clause-follows
 returns-clause-follows g c =
     let s = c.args.self.now in
-    follows_if_ok s c.conclude.new.self (Steps.Settle c.args.gtrid) (Decided c.args.gtrid Outcomes.Commit) c.settle-reply.new.self c.settle-reply.result _ c.conclude.ensures.value c.conclude.ensures.manager
+    follows_if_ok s c.conclude.new.self (Steps.Settle c.args.gtrid)
+    (Decided c.args.gtrid Outcomes.Commit) c.settle-reply.new.self c.settle-reply.result _ c.conclude.ensures.value c.conclude.ensures.manager
     c.conclude.ensures.lines c.settle-reply.ensures.allowed c.settle-reply.ensures.ok (settled_follows s c.conclude.new.self c.args.gtrid)
