@@ -6,3 +6,4 @@ mod Hearings
 mod Refusals
 mod Sessions
 mod Telling
+mod Tracking

@@ -2,3 +2,4 @@ pub mod Headroom
 pub mod Following
 pub mod Hearing
 pub mod Session
+pub mod Tracking

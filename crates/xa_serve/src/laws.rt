@@ -1,6 +1,10 @@
-//! What keeps the numbers of the manager's book small enough. This function does nothing: its contract is a theorem.
+//! What keeps the numbers of the manager's book small enough, and how a session tracks what is seen. These functions do
+//! nothing: each contract is a theorem.
 
 ghost use Rattle.xa_serve.specs.Headroom.{HeadroomIsSound, HeadroomIsUsedUpByOne, StartsHaveHeadroom};
+ghost use Rattle.xa_serve.specs.Tracking.{StepsAreTracked};
+
+use xa_log::DecisionLog;
 
 /// So much more may happen after a start before a number of the book is too great, whatever the resource managers
 /// answer:
@@ -12,4 +16,10 @@ pub fn books_have_headroom()
     ensures kept { HeadroomIsUsedUpByOne }
     ensures sound { HeadroomIsSound }
     ensures starts { StartsHaveHeadroom }
+{}
+
+/// A session that tracks what is seen, and does what was right to happen wherever it stood (`follows` of its methods),
+/// keeps the rules, and tracks that too.
+pub fn steps_are_tracked<L: DecisionLog + Drop>()
+    ensures { StepsAreTracked L }
 {}

@@ -11,6 +11,6 @@ mod hearing;
 mod laws;
 mod session;
 
-pub use laws::books_have_headroom;
+pub use laws::{books_have_headroom, steps_are_tracked};
 pub use session::Session;
 pub use session::answers::Unfit;
