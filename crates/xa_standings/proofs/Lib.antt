@@ -1,3 +1,4 @@
 pub mod Choices
+pub mod KnownLemmas
 pub mod RowLemmas
 pub mod Taken

@@ -68,7 +68,7 @@ pub or_right : (a b : Bool) → b ≡ true → (a || b) ≡ true
 or_right true b e = refl
 or_right false b e = e
 
-none_ended : (how : How) → has_end no_end how ≡ true → ⊥
+pub none_ended : (how : How) → has_end no_end how ≡ true → ⊥
 none_ended Hows.Com e = let no : ⊥ = cc in no
 none_ended Hows.Rb e = let no : ⊥ = cc in no
 none_ended Hows.Mix e = let no : ⊥ = cc in no
@@ -663,7 +663,7 @@ empty_iff s false e = (λ i. no_state s (sym e), λ none. refl)
 
 -- ** what an older incarnation left
 
-any_there : (how : How) → has_end any_end how ≡ true
+pub any_there : (how : How) → has_end any_end how ≡ true
 any_there Hows.Com = refl
 any_there Hows.Rb = refl
 any_there Hows.Mix = refl

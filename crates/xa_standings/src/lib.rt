@@ -6,7 +6,9 @@
 #![tactic(auto)]
 
 mod explained;
+mod monitor;
 mod states;
 
 pub use explained::answers_are_explained;
+pub use monitor::Monitor;
 pub use states::{HeuristicEnds, States};

@@ -95,14 +95,24 @@ impl States {
         s5: HeuristicEnds::NONE,
     };
 
+    /// Of a branch that was never started.
+    pub(crate) const UNSTARTED: States = States {
+        s0: true,
+        ..States::NONE
+    };
+
+    /// Of a branch that an older incarnation may have started, and of which nothing was heard.
+    pub(crate) const FOUND: States = States {
+        s3: true,
+        s5: HeuristicEnds::ANY,
+        ..States::UNSTARTED
+    };
+
     /// The states of a branch that was never started: S0 alone.
     pub fn unstarted() -> States
         ensures { (s : State) → has result s ≡ true ↔ (s ≡ State.S0) }
     {
-        States {
-            s0: true,
-            ..States::NONE
-        }
+        States::UNSTARTED
     }
 
     /// The states of a branch of which nothing was heard, and which an older incarnation may have started: it is prepared
@@ -110,11 +120,7 @@ impl States {
     pub fn found() -> States
         ensures { (f : Standing) → has result (state_of f) ≡ true ↔ (broken f ≡ f) }
     {
-        States {
-            s3: true,
-            s5: HeuristicEnds::ANY,
-            ..States::unstarted()
-        }
+        States::FOUND
     }
 
     /// Whether there is no state: nothing explains what was answered.
