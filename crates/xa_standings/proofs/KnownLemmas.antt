@@ -12,7 +12,7 @@ use Rattle.xa_base.specs.declared.state.Standing.{Standing}
 use Rattle.xa_base.specs.declared.state.Standing.TheVariants.{Unstarted, Active, Idle, Prepared, RollbackOnly, Completed, Committed, RolledBack, Lost, ReadOnly, Forgotten}
 use Rattle.xa_model.specs.Facts.{fits}
 use Rattle.xa_model.specs.Trace.{Answer, Branch, Call, Code, How, Line, Origin, line_eq, line_of}
-use Rattle.xa_standings.proofs.RowLemmas.{any_there, none_ended, off_into, off_onto, some_state, there}
+use Rattle.xa_standings.proofs.RowLemmas.{any_there, none_ended, is_some, off_into, off_onto, some_state, state_there, there}
 use Rattle.xa_standings.specs.Known.{Follows, IsSomewhere, IsStuck, Leads, states_at, states_before}
 use Rattle.xa_standings.specs.Rows.{any_end, break_row, is_some_state, none}
 use Rattle.xa_standings.specs.Seen.{Seen, Seen.Answered, Seen.Did, Seen.Lost, Seen.Start}
@@ -42,7 +42,7 @@ before_all i o b f same (inl e) = by_test (fits b && nat_lt b.gtrid.incarnation 
     by_test : (t : Bool) → has (if t then old_states else new_states) (state_of f) ≡ true
     by_test true = ap (λ z. has old_states (state_of z)) e
     by_test false = ap (λ z. has new_states (state_of z)) e
-before_all i o b f same (inr (fit, (low, e))) =
+before_all i o b f same (inr (fit, low, e)) =
     ap (λ t. has (if t && nat_lt b.gtrid.incarnation i then old_states else new_states) (state_of f)) fit
     ∙ (ap (λ t. has (if t then old_states else new_states) (state_of f))
     (lt-ltb b.gtrid.incarnation i (subst (λ z. b.gtrid.incarnation < z) same low)) ∙ old_all f e)
@@ -50,8 +50,8 @@ before_all i o b f same (inr (fit, (low, e))) =
 old_none : (o : Origin) (b : Branch) → fits b ≡ true → b.gtrid.incarnation < o.incarnation → (s : State) → has old_states s ≡ true
     → (f : Standing) × MayBeFound o b f × (state_of f ≡ s)
 old_none o b fit low S0 h = (Unstarted, inl refl, refl)
-old_none o b fit low S3 h = (Prepared, inr (fit, (low, refl)), refl)
-old_none o b fit low (S5 how) h = (Completed how, inr (fit, (low, refl)), refl)
+old_none o b fit low S3 h = (Prepared, inr (fit, low, refl), refl)
+old_none o b fit low (S5 how) h = (Completed how, inr (fit, low, refl), refl)
 old_none o b fit low _ h = absurd (cc)
 
 new_none : (o : Origin) (b : Branch) (s : State) → has new_states s ≡ true → (f : Standing) × MayBeFound o b f × (state_of f ≡ s)
@@ -77,10 +77,10 @@ follows_start i o same states e = record {
   no_more = λ b s h. before_none i o b s same (sym (ap (λ z. has z s) (e b)) ∙ h);
 }
 
-pub somewhere_before : (i : ℕ) (b : Branch) → (s : State) × (has (states_before i b) s ≡ true)
-somewhere_before i b = (S0, by_test (fits b && nat_lt b.gtrid.incarnation i))
+pub somewhere_before : (i : ℕ) (b : Branch) → is_some_state (states_before i b) ≡ true
+somewhere_before i b = by_test (fits b && nat_lt b.gtrid.incarnation i)
   where
-    by_test : (t : Bool) → has (if t then old_states else new_states) S0 ≡ true
+    by_test : (t : Bool) → is_some_state (if t then old_states else new_states) ≡ true
     by_test true = refl
     by_test false = refl
 
@@ -250,13 +250,35 @@ none_done before = record {
 
 pub somewhere_stands : (o : Origin) (seen : Seen) (states : Branch → States) → IsSomewhere states → Follows o seen states
     → (b : Branch) → (s : Standing) × MayStand o seen b s
-somewhere_stands o seen states some f b = let s = some b in let w = f.no_more b s.0 s.1 in (w.0, w.1)
+somewhere_stands o seen states some f b =
+    let s = some_state (states b) (some b) in let w = f.no_more b s.0 s.1 in (w.0, w.1)
 
 -- one branch's states are put, and there is one
 pub somewhere_put : (before after : Branch → States) (b : Branch) (states : States) → IsSomewhere before → is_some_state states ≡ true
     → ((q : Branch) → after q ≡ (if branch_eq b q then states else before q)) → IsSomewhere after
-somewhere_put before after b states some here e q = by_test (branch_eq b q) (e q)
+somewhere_put before after b states some here e q = ap is_some_state (e q) ∙ by_test (branch_eq b q)
   where
-    by_test : (t : Bool) → after q ≡ (if t then states else before q) → (s : State) × (has (after q) s ≡ true)
-    by_test true p = let s = some_state states here in (s.0, ap (λ z. has z s.0) p ∙ s.1)
-    by_test false p = let s = some q in (s.0, ap (λ z. has z s.0) p ∙ s.1)
+    by_test : (t : Bool) → is_some_state (if t then states else before q) ≡ true
+    by_test true = here
+    by_test false = some q
+
+-- steps that are always possible leave some state
+pub leads_some : (before after : States) (Step : Standing → Standing → Type 0) → LeadsInto before Step after
+    → ((f : Standing) → (g : Standing) × Step f g) → is_some_state before ≡ true → is_some_state after ≡ true
+leads_some before after Step into step some =
+    let s = some_state before some in
+    let g = step (there s.0) in
+    is_some after (state_of g.0) (into (there s.0) g.0 (ap (has before) (state_there s.0) ∙ s.1) g.1)
+
+pub broken_some : (s : States) → is_some_state s ≡ true → is_some_state (break_row s) ≡ true
+broken_some s some = leads_some s (break_row s) (λ f g. g ≡ broken f) (off_into s (break_row s) refl) (λ f. (broken f, refl)) some
+
+pub doubted_some : {X : Type 0} (x : Option (Kind × X)) (s after : States) → LeadsInto s (AskedOrNot x) after → is_some_state s ≡ true
+    → is_some_state after ≡ true
+doubted_some x s after into some = leads_some s after (AskedOrNot x) into (λ f. (f, inl refl)) some
+
+-- no state is left: no step was possible
+pub stuck_here : (before after : States) (Step : Standing → Standing → Type 0) → LeadsInto before Step after
+    → ((s : State) → has after s ≡ false) → (f g : Standing) → has before (state_of f) ≡ true → Step f g → ⊥
+stuck_here before after Step into none f g h step =
+    let yes = into f g h step in let no = none (state_of g) in let never : ⊥ = cc in never

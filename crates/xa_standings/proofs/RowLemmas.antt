@@ -31,6 +31,14 @@ there S3 = Prepared
 there S4 = RollbackOnly
 there (S5 how) = Completed how
 
+pub state_there : (s : State) → state_of (there s) ≡ s
+state_there S0 = refl
+state_there S1 = refl
+state_there S2 = refl
+state_there S3 = refl
+state_there S4 = refl
+state_there (S5 how) = refl
+
 -- where a call leads depends on the state alone
 pub moves_by_state : (f : Standing) (k : Kind) (a : Code) → state_of (moved f k a) ≡ state_of (moved (there (state_of f)) k a)
 moves_by_state Active k a = refl
@@ -619,20 +627,21 @@ in_doubt_onto s _ h = absurd (cc)
 
 -- ** no state
 
-pub no_state : (s : States) → is_some_state s ≡ false → (t : State) → has s t ≡ false
-no_state s e t = by_value t (has s t) refl
-  where
-    some : (t : State) → has s t ≡ true → is_some_state s ≡ true
-    some S0 h = or_left s.s0 _ h
-    some S1 h = or_right s.s0 _ (or_left s.s1 _ h)
-    some S2 h = or_right s.s0 _ (or_right s.s1 _ (or_left s.s2 _ h))
-    some S3 h = or_right s.s0 _ (or_right s.s1 _ (or_right s.s2 _ (or_left s.s3 _ h)))
-    some S4 h = or_right s.s0 _ (or_right s.s1 _ (or_right s.s2 _ (or_right s.s3 _ (or_left s.s4 (is_some_end s.s5) h))))
-    some (S5 how) h = or_right s.s0 _ (or_right s.s1 _ (or_right s.s2 _ (or_right s.s3 _ (or_right s.s4 (is_some_end s.s5) (some_end how s.s5 h)))))
+pub is_some : (s : States) (t : State) → has s t ≡ true → is_some_state s ≡ true
+is_some s S0 h = or_left s.s0 _ h
+is_some s S1 h = or_right s.s0 _ (or_left s.s1 _ h)
+is_some s S2 h = or_right s.s0 _ (or_right s.s1 _ (or_left s.s2 _ h))
+is_some s S3 h = or_right s.s0 _ (or_right s.s1 _ (or_right s.s2 _ (or_left s.s3 _ h)))
+is_some s S4 h = or_right s.s0 _ (or_right s.s1 _ (or_right s.s2 _ (or_right s.s3 _ (or_left s.s4 (is_some_end s.s5) h))))
+is_some s (S5 how) h =
+    or_right s.s0 _ (or_right s.s1 _ (or_right s.s2 _ (or_right s.s3 _ (or_right s.s4 (is_some_end s.s5) (some_end how s.s5 h)))))
 
-    by_value : (t : State) (b : Bool) → has s t ≡ b → has s t ≡ false
-    by_value t true h = absurd (let a : is_some_state s ≡ true = some t h in let no : ⊥ = cc in no)
-    by_value t false h = h
+pub no_state : (s : States) → is_some_state s ≡ false → (t : State) → has s t ≡ false
+no_state s e t = by_value (has s t) refl
+  where
+    by_value : (b : Bool) → has s t ≡ b → has s t ≡ false
+    by_value true h = absurd (let a : is_some_state s ≡ true = is_some s t h in let no : ⊥ = cc in no)
+    by_value false h = h
 
 pub some_state : (s : States) → is_some_state s ≡ true → (t : State) × (has s t ≡ true)
 some_state s e = by0 (or_true s.s0 _ e)

@@ -6,7 +6,7 @@ use Rattle.xa_base.specs.StateTable.{State, state_of}
 use Rattle.xa_base.specs.declared.state.Standing.{Standing}
 use Rattle.xa_model.specs.Facts.{fits}
 use Rattle.xa_model.specs.Trace.{Branch, Origin}
-use Rattle.xa_standings.specs.Rows.{any_end, none}
+use Rattle.xa_standings.specs.Rows.{any_end, is_some_state, none}
 use Rattle.xa_standings.specs.Seen.{Seen}
 use Rattle.xa_standings.specs.Standings.{MayStand}
 use Rattle.xa_standings.specs.States.{LeadsInto, LeadsOnto, has}
@@ -36,4 +36,4 @@ IsStuck before Step = (b : Branch) × ((f g : Standing) → has (before b) (stat
 
 -- each branch is in some state
 abbrev pub IsSomewhere : (Branch → States) → Type 0
-IsSomewhere states = (b : Branch) → (s : State) × (has (states b) s ≡ true)
+IsSomewhere states = (b : Branch) → is_some_state (states b) ≡ true
