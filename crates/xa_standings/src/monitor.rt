@@ -76,7 +76,7 @@ impl Monitor {
     /// refused, nothing has changed.
     pub fn lost(&mut self, thread: u32, rm: u32, call: Option<&Call<Branch>>) -> Result<(), Memory>
         ensures ok { OnOk result ((o : Origin) (seen : Seen) → Follows o seen (states_of self.old) →
-            Follows o (Seen.Lost seen (line thread rm) (option_copied call)) (states_of self.new)) }
+            Follows o (Seen.Lost seen (line thread rm) (option_copied call.entry)) (states_of self.new)) }
         ensures err { OnErr result ((b : _) → states_of self.new b ≡ states_of self.old b) }
     {
         if let Some(call) = call {
