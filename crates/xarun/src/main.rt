@@ -2,12 +2,12 @@
 //! done with it: `./xatm` has it run where that program isn't built.
 #![tactic(auto)]
 
-use std::alloc::{AllocError, AllocFailed, Global};
+use std::alloc::AllocError;
 use std::process::ExitCode;
 use std::{env, fs, io};
 use xa_files::RunFault;
 use xa_log::MemLog;
-use xa_scenario::{FileFault, check_scenario, read_scenarios, run_scenarios};
+use xa_scenario::{check_scenario, run_scenario};
 
 /// Why the program ends early.
 #[derive(Drop)]
@@ -18,8 +18,6 @@ enum Failure {
     NotReadable,
     /// The work on the file ended early.
     Run(RunFault),
-    /// One of several files is refused.
-    File(RunFault, String),
 }
 
 impl Failure {
@@ -37,7 +35,7 @@ impl Failure {
         match self {
             Failure::CommandLine => 3,
             Failure::NotReadable => 1,
-            Failure::Run(fault) | Failure::File(fault, _) => fault.status(),
+            Failure::Run(fault) => fault.status(),
         }
     }
 }
@@ -54,12 +52,6 @@ impl From<AllocError> for Failure {
     }
 }
 
-impl<T: Drop> From<AllocFailed<T>> for Failure {
-    fn from(_error: AllocFailed<T>) -> Failure {
-        Failure::Run(RunFault::Memory)
-    }
-}
-
 fn main(rt: HostRuntime) -> ExitCode {
     match work(&rt) {
         Ok(()) => ExitCode::SUCCESS,
@@ -71,17 +63,17 @@ fn main(rt: HostRuntime) -> ExitCode {
     }
 }
 
-/// Does what the command line asks: `run FILE..`, `run --trace FILE..` or `check FILE`.
+/// Does what the command line asks: `run FILE`, `run --trace FILE` or `check FILE`.
 fn work(rt: &HostRuntime) -> Result<(), Failure> {
     let alloc = rt.alloc();
     let words: Vec<String> = env::args(rt)
         .map_err(|error| Failure::CommandLine.caused_by(&error))?
         .collect(alloc)?;
     match words.as_slice() {
-        [_, command, trace, _, ..] if command.as_str() == "run" && trace.as_str() == "--trace" => {
-            run(rt, &words[3..], true)
+        [_, command, file] if command.as_str() == "run" => run(rt, file, false),
+        [_, command, trace, file] if command.as_str() == "run" && trace.as_str() == "--trace" => {
+            run(rt, file, true)
         }
-        [_, command, _, ..] if command.as_str() == "run" => run(rt, &words[2..], false),
         [_, command, file] if command.as_str() == "check" => {
             Ok(check_scenario(alloc, &text_of(rt, file)?, &mut io::writer(rt))?)
         }
@@ -89,37 +81,17 @@ fn work(rt: &HostRuntime) -> Result<(), Failure> {
     }
 }
 
-/// Runs the scenarios in files, each as a process.
-fn run(rt: &HostRuntime, files: &[String], with_trace: bool) -> Result<(), Failure> {
+/// Runs the scenario in a file.
+fn run(rt: &HostRuntime, file: &str, with_trace: bool) -> Result<(), Failure> {
     let alloc = rt.alloc();
-    let mut texts = Vec::new(alloc);
-    for file in files {
-        texts.push(text_of(rt, file)?)?;
-    }
-    let scenarios = match read_scenarios(alloc, &texts) {
-        Ok(scenarios) => scenarios,
-        Err(fault) => return Err(of_file(alloc, files, fault)),
-    };
-    Ok(run_scenarios(
+    let text = text_of(rt, file)?;
+    Ok(run_scenario(
         alloc,
-        &scenarios,
+        &text,
         MemLog::new(alloc),
         with_trace,
         &mut io::writer(rt),
     )?)
-}
-
-/// The failure of a file: its path is told where there are several.
-fn of_file(alloc: Global, files: &[String], fault: FileFault) -> Failure {
-    match files.get(fault.file) {
-        Some(path) if files.len() > 1 && fault.fault != RunFault::Memory => {
-            match String::from_str(alloc, path) {
-                Ok(path) => Failure::File(fault.fault, path),
-                Err(_) => Failure::Run(RunFault::Memory),
-            }
-        }
-        _ => Failure::Run(fault.fault),
-    }
 }
 
 /// What a file holds.
@@ -133,6 +105,5 @@ fn print(rt: &HostRuntime, failure: &Failure) -> io::Result<()> {
         Failure::CommandLine => eprintln!(rt; "xatm: command line"),
         Failure::NotReadable => eprintln!(rt; "xatm: scenario: not readable"),
         Failure::Run(fault) => eprintln!(rt; "{fault}"),
-        Failure::File(fault, path) => eprintln!(rt; "{fault}: {path}"),
     }
 }
