@@ -38,7 +38,14 @@ only Hows.Haz e = record no_end { heurhaz = e.heurhaz }
 
 -- those that a call may find: a resource manager may have ended a prepared branch by itself
 abbrev pub found_by_call : States → States
-found_by_call s = record s { s5 = record { heurcom = s.s5.heurcom || s.s3; heurrb = s.s5.heurrb || s.s3; heurmix = s.s5.heurmix || s.s3; heurhaz = s.s5.heurhaz || s.s3 } }
+found_by_call s = record s {
+  s5 = record {
+    heurcom = s.s5.heurcom || s.s3;
+    heurrb = s.s5.heurrb || s.s3;
+    heurmix = s.s5.heurmix || s.s3;
+    heurhaz = s.s5.heurhaz || s.s3;
+  };
+}
 
 -- ** the rows, by the answer
 

@@ -1,6 +1,6 @@
 //! The states in which a branch may be, by all that was answered.
-ghost use Rattle.std.specs.Prelude.{◌≡◌, Bool, false};
-ghost use Rattle.xa_standings.specs.Rows.{any_end, is_some_end, no_end, only};
+ghost use Rattle.std.specs.Prelude.{◌≡◌, false};
+ghost use Rattle.xa_standings.specs.Rows.{is_some_end, only};
 
 use xa_base::{Call, Code, How, RbCode};
 
@@ -80,10 +80,9 @@ pub struct States {
 impl States {
     ghost use Rattle.std.specs.Prelude.{◌↔◌, ◌||◌, IsTrue, true};
     ghost use Rattle.xa_base.specs.Standing.{is_in_doubt};
-    ghost use Rattle.xa_base.specs.StateTable.{State, asks_of, broken, state_of};
+    ghost use Rattle.xa_base.specs.StateTable.{Kind, State, asks_of, broken, commit_kind, state_of};
     ghost use Rattle.xa_base.specs.declared.state.Standing.{Standing};
-    ghost use Rattle.xa_base.specs.declared.state.Standing.TheVariants.{Unstarted};
-    ghost use Rattle.xa_standings.specs.Rows.{after_commit, after_end, after_forget, after_join, after_one_phase, after_prepare, after_rollback, after_start, any_row_if, break_row, found_by_call, is_some_state, none, row_if};
+    ghost use Rattle.xa_standings.specs.Rows.{after_commit, after_end, after_forget, after_join, after_one_phase, after_prepare, after_rollback, after_start, any_row, any_row_if, break_row, found_by_call, is_some_state, none, row_if};
     ghost use Rattle.xa_standings.specs.States.{Asked, AskedOrNot, LeadsInto, LeadsOnto, has};
 
     const NONE: States = States {
@@ -228,33 +227,13 @@ impl States {
                 ..found
             },
             Call::Start { join: true, .. } => found,
-            Call::End { fail: false, .. } => States {
-                s2: found.s2 || found.s1,
-                ..found
-            },
-            Call::End { fail: true, .. } => States {
-                s4: found.s4 || found.s1,
-                ..found
-            },
+            Call::End { fail, .. } => self.by_any_end(*fail),
             Call::Prepare { .. } => States {
                 s0: found.s0 || found.s2,
                 s3: found.s3 || found.s2,
                 ..found
             },
-            Call::Commit {
-                one_phase: false,
-                ..
-            } => States {
-                s0: found.s0 || found.s3,
-                ..found
-            },
-            Call::Commit {
-                one_phase: true,
-                ..
-            } => States {
-                s0: found.s0 || found.s2,
-                ..found
-            },
+            Call::Commit { one_phase, .. } => self.by_any_commit(*one_phase),
             Call::Rollback { .. } => States {
                 s0: found.s0 || found.s2 || found.s3 || found.s4,
                 ..found
@@ -265,6 +244,42 @@ impl States {
                 ..self
             },
             Call::OpenRm | Call::CloseRm | Call::Recover { .. } => self,
+        }
+    }
+
+    /// The same of xa_end, with TMFAIL or TMSUCCESS.
+    fn by_any_end(self, fail: bool) -> States
+        ensures { result ≡ any_row (Kind.End fail) self }
+    {
+        let found = self.found_by_call();
+        if fail {
+            States {
+                s4: found.s4 || found.s1,
+                ..found
+            }
+        } else {
+            States {
+                s2: found.s2 || found.s1,
+                ..found
+            }
+        }
+    }
+
+    /// The same of xa_commit, with TMONEPHASE or without it.
+    fn by_any_commit(self, one_phase: bool) -> States
+        ensures { result ≡ any_row (commit_kind one_phase) self }
+    {
+        let found = self.found_by_call();
+        if one_phase {
+            States {
+                s0: found.s0 || found.s2,
+                ..found
+            }
+        } else {
+            States {
+                s0: found.s0 || found.s3,
+                ..found
+            }
         }
     }
 

@@ -1,12 +1,8 @@
 //! The manager ends what a resource manager lists.
 
-ghost use Rattle.std.specs.Prelude.{◌≡◌, ◌+◌, ◌++◌, ◌≤◌, true, false, length, vec_len, List, Some, None, Err, IfErr, IfOk, OnErr, OnOk};
+ghost use Rattle.std.specs.Prelude.{◌≡◌, ◌+◌, ◌++◌, ◌≤◌, true, false, length, vec_len, Some, None, Err, IfErr, IfOk, OnErr, OnOk};
 ghost use Rattle.xa_base.specs.Opening.{has_closed, has_opened};
-ghost use Rattle.xa_base.specs.Xid.{Xid as Named};
-ghost use Rattle.xa_base.specs.declared.call.Call.{Call as Waiting};
 ghost use Rattle.xa_base.specs.declared.refusal.Refusal.TheVariants as Refusals;
-ghost use Rattle.xa_line.specs.Grid.{line_at, with_line};
-ghost use Rattle.xa_line.specs.Histories.{AreKnownAs};
 ghost use Rattle.xa_line.specs.Traffic.{issued, places};
 ghost use Rattle.xa_model.specs.Trace.{Happening.Resolved, Happening.ResolvedOpen};
 ghost use Rattle.xa_tm.specs.Book.{after};
