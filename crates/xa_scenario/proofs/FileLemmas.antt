@@ -31,7 +31,8 @@ names_end begun vs i past = ap (λ ds. names_with begun (items_view ds)) (drop_o
 -- ** files in turn
 
 -- a text in the list, and those after it
-pub at_file : {X : Type 0} (f : X → List ℕ) (xs : List X) (i : ℕ) (x : X) → i < length xs → x ≡ get_or xs i x → map f (drop i xs) ≡ f x ∷ map f (drop (i + 1) xs)
+pub at_file : {X : Type 0} (f : X → List ℕ) (xs : List X) (i : ℕ) (x : X) → i < length xs → x ≡ get_or xs i x
+    → map f (drop i xs) ≡ f x ∷ map f (drop (i + 1) xs)
 at_file f xs i x within is = ap (map f) (drop_more xs i x within) ∙ ap (λ y. f y ∷ map f (drop (i + 1) xs)) (sym is)
 
 -- what a fault tells of a text
@@ -48,7 +49,8 @@ joined : (front : List Plan) (plan : Plan) (read : Result (List Plan) FileFault)
 joined front plan (Ok plans) = ap Ok (sym (append_assoc front (plan ∷ []) plans))
 joined front plan (Err e) = refl
 
-pub file_read : (front : List Plan) (plan : Plan) (place : ℕ) (earlier next : Earlier) (text : List ℕ) (texts : List (List ℕ)) (all : Result (List Plan) FileFault)
+pub file_read : (front : List Plan) (plan : Plan) (place : ℕ) (earlier next : Earlier) (text : List ℕ) (texts : List (List ℕ))
+    (all : Result (List Plan) FileFault)
     → file_after earlier text ≡ Ok (plan, next) → with_plans front (files_from place earlier (text ∷ texts)) ≡ all
     → with_plans (front ++ plan ∷ []) (files_from (place + 1) next texts) ≡ all
 unfolding files_from
@@ -58,7 +60,8 @@ file_read front plan place earlier next text texts all is so_far =
     ap (λ r. file_then place r (λ after. files_from (place + 1) after texts)) is in
     sym (joined front plan others) ∙ ap (with_plans front) (sym step) ∙ so_far
 
-pub file_refused : (front : List Plan) (fault : RunFault) (place : ℕ) (earlier : Earlier) (text : List ℕ) (texts : List (List ℕ)) (all : Result (List Plan) FileFault)
+pub file_refused : (front : List Plan) (fault : RunFault) (place : ℕ) (earlier : Earlier) (text : List ℕ) (texts : List (List ℕ))
+    (all : Result (List Plan) FileFault)
     → file_after earlier text ≡ Err fault → with_plans front (files_from place earlier (text ∷ texts)) ≡ all
     → all ≡ Err (let e : FileFault = record { file = place; fault = fault } in e)
 unfolding files_from

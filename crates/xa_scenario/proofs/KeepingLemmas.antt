@@ -1,6 +1,5 @@
 -- What steps in turn leave of the log of a system.
-use Rattle.std.proofs.Common.{◌≡◌, ◌∙◌, refl, subst, sym}
-use Rattle.xa_log.specs.Contract.{Moment}
+use Rattle.std.proofs.Common.{◌∙◌, refl, subst, sym}
 use Rattle.xa_scenario.specs.LogKeeping.{KeepsLog}
 use Rattle.xa_system.specs.SystemView.{Observes, SystemView}
 

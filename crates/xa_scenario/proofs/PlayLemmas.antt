@@ -114,7 +114,8 @@ pub play_ends : (first : List Gtrid) (all : List Entry) (start : List Event) (gt
 play_ends first all start gtrids trace whole = performs_also (λ steps h. (h.0, sym (append-nil gtrids) ∙ h.1)) (whole [] refl tt)
 
 -- one turn of a loop over the entries
-pub play_turn : (first : List Gtrid) (all : List Entry) (gtrids seen began grown : List Gtrid) (entries : List Entry) (i : ℕ) (d : Entry) (start trace new : List Event)
+pub play_turn : (first : List Gtrid) (all : List Entry) (gtrids seen began grown : List Gtrid) (entries : List Entry) (i : ℕ) (d : Entry)
+    (start trace new : List Event)
     → i < length entries → seen ≡ gtrids → grown ≡ gtrids ++ began
     → Performs (λ here. MakesEvents seen (get_or entries i d) here × (gtrids_of here ≡ began)) trace new
     → PlaysOn first all start gtrids (drop i entries) trace → PlaysOn first all start grown (drop (i + 1) entries) new

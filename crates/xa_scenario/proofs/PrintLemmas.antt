@@ -9,7 +9,7 @@ use Rattle.xa_files.proofs.OutputLemmas.{both_written}
 use Rattle.xa_files.specs.Fates.{fate_lines}
 use Rattle.xa_files.specs.Outputs.{AppendsBeginning}
 use Rattle.xa_log.specs.Contract.{Moment}
-use Rattle.xa_scenario.specs.Processes.{AreFates, AreTraces, BeginsProcesses, IsLast, PrintsProcesses, StopsAnywhere, StopsBetween, process_of, shown}
+use Rattle.xa_scenario.specs.Processes.{AreFates, AreTraces, IsLast, PrintsProcesses, StopsAnywhere, StopsBetween, process_of, shown}
 use Rattle.xa_scenario.specs.Scenarios.{Plan}
 use Rattle.xa_system.specs.SystemView.{Observes, SystemView, origin_in}
 
@@ -41,7 +41,8 @@ none_traced moment log all false = record { first = []; later = all; are = refl;
 
 module _ {R L : Type 0} (see : Observes R L) (log : L) (rms : ℕ) (with_trace : Bool) (all : List Plan) where
   -- processes of these plans, the first of all, have printed all their traces but this text of the last one
-  pub record HavePrinted (gtrids : List Gtrid) (names : List Xid) (s : SystemView R L) (plans : List Plan) (text : List ℕ) (old now : Option (List ℕ)) : Type 0 where
+  pub record HavePrinted (gtrids : List Gtrid) (names : List Xid) (s : SystemView R L) (plans : List Plan) (text : List ℕ)
+      (old now : Option (List ℕ)) : Type 0 where
     pub before : List ℕ
     pub piece : List ℕ
     pub last : IsLast see log rms plans gtrids names s (before ++ piece)

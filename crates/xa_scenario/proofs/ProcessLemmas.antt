@@ -1,19 +1,18 @@
 -- Processes in turn.
 use Rattle.std.proofs.Common.{◌≡◌, ◌∙◌, ℕ, ◌+◌, List, [], ◌∷◌, ◌++◌, length, Option, Some, None, ap, refl, subst, sym}
 use Rattle.xa_base.specs.Xid.{Xid}
-use Rattle.xa_base.specs.declared.branch.Branch.{Branch}
 use Rattle.xa_base.specs.declared.branch.Gtrid.{Gtrid}
 use Rattle.xa_log.specs.Content.{Content}
 use Rattle.xa_log.specs.Contract.{Moment}
-use Rattle.xa_model.specs.Promises.Processes.{OfProcesses, OfProcesses.First as Begins, Resumes, joined}
+use Rattle.xa_model.specs.Promises.Processes.{OfProcesses.First as Begins, Resumes, joined}
 use Rattle.xa_model.specs.Protocol.{AllRight, RightOrigin}
 use Rattle.xa_model.specs.Replies.History.{history}
 use Rattle.xa_model.specs.Trace.{Origin, Trace}
 use Rattle.xa_model.proofs.ProcessLemmas.Joining.{gone_right, joined_faces, of_processes_right, resumes_both}
-use Rattle.xa_scenario.specs.LogKeeping.{HasGoneOn, HasStarted, KeepsLog}
-use Rattle.xa_scenario.specs.Processes.{AreProcesses, AreProcesses.First, AreProcesses.Next, HasPlayed, IsFirst, IsLast, IsNext, IsProcess, Plays, Process, heading, process_of}
+use Rattle.xa_scenario.specs.LogKeeping.{HasGoneOn, HasStarted}
+use Rattle.xa_scenario.specs.Processes.{AreProcesses, AreProcesses.First, AreProcesses.Next, HasPlayed, IsLast, IsProcess, Plays, Process, heading, process_of}
 use Rattle.xa_scenario.specs.Replies.{trace_lines}
-use Rattle.xa_scenario.specs.Runs.{IsStartOf, StartsOverLog}
+use Rattle.xa_scenario.specs.Runs.{IsStartOf}
 use Rattle.xa_scenario.specs.Scenarios.{Plan}
 use Rattle.xa_scenario.proofs.StartLemmas.{in_slot, out_of_slot}
 use Rattle.xa_system.specs.LogInHistory.{StartsOver}
@@ -145,7 +144,8 @@ module _ {R L : Type 0} (look : Looks R) (moment : L → Moment) where
       (gone.resumes (last.order order) (last.near order (in_slot moment old.log gone.found gone.left (from.is.over.honest h))) (slot h))) in
       record {
         whole = joined last.whole p.origin p.events;
-        are = subst (λ n. AreProcesses moment log (plans ++ plan ∷ []) (joined last.whole p.origin p.events) p (traces ++ (heading n ++ trace_lines 1 s.events))) (sym counted)
+        are = subst (λ n. AreProcesses moment log (plans ++ plan ∷ []) (joined last.whole p.origin p.events) p
+            (traces ++ (heading n ++ trace_lines 1 s.events))) (sym counted)
             (Next plans last.whole before traces plan p last.are (record {
               found = gone.found;
               left = gone.left;

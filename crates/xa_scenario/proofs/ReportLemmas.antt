@@ -1,5 +1,5 @@
 -- The branches that were started, and what became of them.
-use Rattle.std.proofs.Common.{◌≡◌, ◌∙◌, ◌<◌, ℕ, arith, List, [], ◌∷◌, ◌++◌, map, length, get_or, true, ap, refl, sym}
+use Rattle.std.proofs.Common.{◌≡◌, ◌∙◌, ◌<◌, arith, List, [], ◌∷◌, ◌++◌, map, length, get_or, true, ap, refl, sym}
 use Rattle.std.specs.Prelude.{◌↔◌, Contains}
 use Rattle.std.specs.List.Sorted.{IsStrictlySortedBy}
 use Rattle.std.specs.Map.{keys_of}
@@ -13,7 +13,7 @@ use Rattle.xa_base.specs.declared.state.Fate.{Fate}
 use Rattle.xa_base.specs.declared.state.Fate.TheVariants.{Unstarted}
 use Rattle.xa_model.specs.Facts.{fate, started}
 use Rattle.xa_model.specs.Trace.{Origin, Trace}
-use Rattle.xa_scenario.specs.Processes.{AddsStarted, AreFates, AreStarted, IsFateOf}
+use Rattle.xa_scenario.specs.Processes.{AddsStarted, AreFates, IsFateOf}
 use Rattle.xa_system.specs.Report.{IsReported}
 
 abbrev first_of : Xid × Fate → Xid

@@ -6,7 +6,7 @@ use Rattle.xa_base.specs.HeldBranch.{new_branch}
 use Rattle.xa_base.specs.Scan.{Scan.NotOpen}
 use Rattle.xa_base.specs.Xid.{Xid}
 use Rattle.xa_log.specs.Contract.{Moment}
-use Rattle.xa_model.specs.Trace.{Name.Foreign, Origin}
+use Rattle.xa_model.specs.Trace.{Name.Foreign}
 use Rattle.xa_scenario.specs.LogKeeping.{HasStarted}
 use Rattle.xa_scenario.specs.Runs.{IsNewRm}
 use Rattle.xa_scenario.specs.Scenarios.{IsSize}
@@ -50,7 +50,8 @@ module _ {L : Type 0} (moment : L → Moment) (slot : Slot L) (left : L) (is : l
 -- a system that has just begun over a log
 module _ {R L : Type 0} (see : Observes R L) (log : L) (s : SystemView R L) (as_slot : see.place ≡ slot_moment see.moment) (same : s.begun ≡ s.log)
     (handed : s.handed ≡ log) (honest : (slot_moment see.moment s.log).is_honest → (see.moment log).is_honest)
-    (starts : (see.moment log).is_in_order → (slot_moment see.moment s.begun).is_honest → IsSomeAnd (see.moment log).content (StartsOver (origin_in see.look s)))
+    (starts : (see.moment log).is_in_order → (slot_moment see.moment s.begun).is_honest
+    → IsSomeAnd (see.moment log).content (StartsOver (origin_in see.look s)))
     (near : (see.moment log).is_in_order → (see.place s.log).is_honest → MayRestart see s) where
   started_with : (held : Option L) → log_held s.log ≡ held → IsSome held → HasStarted see log s
   started_with None is some = absurd (cc)

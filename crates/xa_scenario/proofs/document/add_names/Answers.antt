@@ -18,7 +18,9 @@ loop-value-preserved c =
           ∙ ap (map string_bytes) (sym w.in_ok-push.ensures.items) ∙ ap (λ names. map string_bytes names.items) (sym w.names-is)
       | in_default w ↦ names_after-none names value (sym w.in_default.ensures) ∙ ap (λ names. map string_bytes names.items) (sym w.names-is)
     ] in
-    rw (← begun) (names_more names c.args.items.now c.loop-value.value-index c.value-item.result c.loop-value-test.true c.value-item.is ∙ c.loop-value.invariant)
+    rw (← begun)
+    (names_more names c.args.items.now c.loop-value.value-index c.value-item.result c.loop-value-test.true c.value-item.is
+    ∙ c.loop-value.invariant)
 
 pub returns : goal.returns
 returns c =

@@ -18,7 +18,8 @@ pairs-preserved g c = record {
       c.act-took.ensures.answered c.act-took.ensures.added c.act-heard.ensures.answered c.act-heard.ensures.added
       (sym c.if-not-pair_moves.ensures) c.pairs.invariant.goes_on;
   start = search rules;
-  log = twice c.args.system.now c.pairs.system c.act-took.new.system c.act-heard.new.system c.pairs.invariant.log c.act-took.ensures.log c.act-heard.ensures.log;
+  log = twice c.args.system.now c.pairs.system c.act-took.new.system c.act-heard.new.system c.pairs.invariant.log
+      c.act-took.ensures.log c.act-heard.ensures.log;
 }
 
 pub returns-then-not-pair_moves-clause-log : goal.returns-then-not-pair_moves-clause-log

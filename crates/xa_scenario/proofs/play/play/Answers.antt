@@ -1,4 +1,4 @@
-use Rattle.std.proofs.Common.{◌≡◌, ◌++◌, [], refl, sym, subst, drop_of_length-le, append-nil, rules}
+use Rattle.std.proofs.Common.{◌≡◌, ◌++◌, refl, sym, subst, drop_of_length-le, append-nil, rules}
 use Rattle.std.specs.Option.{option_to_list}
 use Rattle.xa_scenario.proofs.KeepingLemmas.{kept_on}
 use Rattle.xa_scenario.proofs.PlayLemmas.{PlaysOn, play_turn, play_ends}

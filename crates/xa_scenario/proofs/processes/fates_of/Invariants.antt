@@ -1,4 +1,3 @@
-use Rattle.std.proofs.Common.{◌≡◌}
 use Rattle.xa_scenario.specs.Processes.{AreFates}
 use Rattle.xa_system.specs.SystemView.{origin_in}
 use Rattle.xa_system.specs.RmInHistory.{looks}

@@ -1,4 +1,4 @@
-use Rattle.std.proofs.Common.{◌≡◌, ◌∙◌, ◌+◌, ◌++◌, ◌∷◌, [], ap, arith, drop, inr, map, string_bytes, subst, sym, take}
+use Rattle.std.proofs.Common.{◌∙◌, ◌+◌, ◌++◌, ◌∷◌, [], ap, arith, drop, inr, map, string_bytes, subst, sym, take}
 use Rattle.std.proofs.lemmas.Result.{err_from_is_err_and, on_ok_weaker}
 use Rattle.std.specs.Io.KnownBytes.{Appends}
 use Rattle.xa_files.specs.Outputs.{AppendsBeginning}
@@ -56,7 +56,9 @@ returns-in_err-write_text-clause-begun g c =
     let see = observes (memory.ghosts).held_of (memory.ghosts).scan_of (memory.ghosts).in_doubt_of g.L.DecisionLog.moment in
     rw (p.1, p.2) (λ e. stops_in see c.args.log inv.0.rms c.args.with_trace (map plan_of c.args.scenarios.now) process.gtrids.items process.names.items
     process.system inv.0 (map plan_of (take i later)) (map plan_of (drop i later)) (with_rest plan_of inv.0 later i ∙ inv.1) (string_bytes process.text)
-    (contents c.args.out.now) (contents c.loop-i.out) (contents c.write_text.new.out) inv.2 (subst (AppendsBeginning (contents c.loop-i.out) (contents c.write_text.new.out)) c.as_bytes.ensures.value c.in_err-write_text.ensures.begun))
+    (contents c.args.out.now) (contents c.loop-i.out) (contents c.write_text.new.out) inv.2
+    (subst (AppendsBeginning (contents c.loop-i.out) (contents c.write_text.new.out)) c.as_bytes.ensures.value
+    c.in_err-write_text.ensures.begun))
 
 pub returns-in_err-process-2-clause-stopped : goal.returns-in_err-process-2-clause-stopped
 returns-in_err-process-2-clause-stopped g c =
@@ -69,7 +71,9 @@ returns-in_err-process-2-clause-stopped g c =
     let see = observes (memory.ghosts).held_of (memory.ghosts).scan_of (memory.ghosts).in_doubt_of g.L.DecisionLog.moment in
     rw (p.1, p.2) (λ e. stops_between see c.args.log inv.0.rms c.args.with_trace (map plan_of c.args.scenarios.now) process.gtrids.items process.names.items
     process.system inv.0 (map plan_of (take i later)) (map plan_of (drop i later)) (with_rest plan_of inv.0 later i ∙ inv.1) (string_bytes process.text)
-    (contents c.args.out.now) (contents c.loop-i.out) (contents c.write_text.new.out) inv.2 (subst (Appends (contents c.loop-i.out) (contents c.write_text.new.out)) c.as_bytes.ensures.value c.in_ok-write_text.ensures.whole))
+    (contents c.args.out.now) (contents c.loop-i.out) (contents c.write_text.new.out) inv.2
+    (subst (Appends (contents c.loop-i.out) (contents c.write_text.new.out)) c.as_bytes.ensures.value
+    c.in_ok-write_text.ensures.whole))
 
 pub loop-i-preserved : goal.loop-i-preserved
 loop-i-preserved g c =
@@ -96,10 +100,12 @@ loop-i-preserved g c =
       subst (λ ps. HavePrinted see c.args.log inv.0.rms c.args.with_trace all next.gtrids.items next.names.items next.system ps (string_bytes next.text)
           (contents c.args.out.now) (contents c.write_text.new.out))
           (ap (λ y. plans ++ plan_of y ∷ []) c.index-later-i.is ∙ sym (one_more plan_of inv.0 later i x c.loop-i-test.true))
-          (printed_more see c.args.log inv.0.rms c.args.with_trace all process.gtrids.items process.names.items process.system inv.0 (map plan_of (take i later))
+          (printed_more see c.args.log inv.0.rms c.args.with_trace all process.gtrids.items process.names.items process.system inv.0
+          (map plan_of (take i later))
           (map plan_of (drop i later)) (with_rest plan_of inv.0 later i ∙ inv.1) (string_bytes process.text) (contents c.args.out.now) (contents c.loop-i.out)
           (contents c.write_text.new.out) printed next.gtrids.items next.names.items next.system more (string_bytes next.text) piece
-          (subst (Appends (contents c.loop-i.out) (contents c.write_text.new.out)) c.as_bytes.ensures.value c.in_ok-write_text.ensures.whole) c.in_ok-process-2.ensures.text last),
+          (subst (Appends (contents c.loop-i.out) (contents c.write_text.new.out)) c.as_bytes.ensures.value
+          c.in_ok-write_text.ensures.whole) c.in_ok-process-2.ensures.text last),
     )
 
 pub returns-in_err-text-clause-stopped : goal.returns-in_err-text-clause-stopped
