@@ -1,0 +1,1 @@
+"""What turns XA's calls into a database's own statements: a module for each kind of database, imported where it is used."""

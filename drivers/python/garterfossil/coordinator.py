@@ -1,0 +1,218 @@
+"""The coordinator: `xatm serve`, a process that this one starts and asks, one line a request (docs/SERVE.md)."""
+
+from __future__ import annotations
+
+import collections
+import subprocess
+import threading
+import time
+from typing import Deque, Iterable, List, Optional, Sequence
+
+from .calls import Answer, Call
+from .errors import CoordinatorGone, Refused, RequestError, Unexplained
+from .xid import Xid
+
+#: Refusals by their number (docs/PROTOCOL.md).
+MANAGER_DOWN, BUSY, LIMIT, LOG_FAULT, MEMORY = 1, 11, 14, 15, 16
+#: The coordinator ends so where another one has the log, or the log can't be opened.
+LOG_STATUS = 2
+UNEXPLAINED = "error the branch is in no such state"
+
+
+class _Reply:
+    """The place of a reply that is waited for."""
+
+    line: Optional[str] = None
+
+
+class Coordinator:
+    """The coordinator's process, and one session with it.
+
+    Any thread may ask. The coordinator replies in the order of the requests, so several may be under way at once:
+    whichever thread waits reads the next line, and gives it to the one that asked first."""
+
+    def __init__(self, command: Sequence[str]):
+        self._process = subprocess.Popen(
+            command, stdin=subprocess.PIPE, stdout=subprocess.PIPE, stderr=subprocess.PIPE, start_new_session=True
+        )
+        self._writing = threading.Lock()
+        self._reading = threading.Condition()
+        self._is_read = False
+        self._waiting: Deque[_Reply] = collections.deque()
+        self._ending = threading.Lock()
+        self._fault: Optional[str] = None
+        #: The first line of the session: `restarted`, the incarnation, and how many decisions and heuristic ends the log has.
+        self.greeting = self._read_line()
+        if not self.greeting.startswith("restarted "):
+            raise self._gone(f"it began with the line: {self.greeting}")
+
+    @classmethod
+    def start(cls, command: Sequence[str], patience: float) -> Coordinator:
+        """Starts it. Where an earlier one still has the log, tries again for so many seconds."""
+        until = time.monotonic() + patience
+        while True:
+            try:
+                return cls(command)
+            except CoordinatorGone as gone:
+                if gone.status != LOG_STATUS or time.monotonic() >= until:
+                    raise
+            time.sleep(0.1)
+
+    @property
+    def pid(self) -> int:
+        """The number of its process."""
+        return self._process.pid
+
+    @property
+    def is_gone(self) -> bool:
+        """Whether the session is over."""
+        return self._fault is not None
+
+    # ** requests
+
+    def begin(self, thread: int) -> str:
+        """A transaction of the thread begins: its name."""
+        return self.ask(f"begin {thread}").split(" ")[1]
+
+    def issue(self, thread: int, rm: int, words: str) -> Call:
+        """Lets a call wait on the line of the thread to the resource manager. Gives the call to make."""
+        return Call.parse(self.ask(f"issue {thread} {rm} {words}").split(" ", 1)[1])
+
+    def answer(self, thread: int, rm: int, call: Call, answer: Answer) -> None:
+        """Tells how the call that waits first on the line was answered."""
+        self.ask(f"answer {thread} {rm} {answer.words_to(call)}")
+
+    def waiting(self, thread: int, rm: int) -> Optional[Call]:
+        """The call that waits first on the line."""
+        kind, *words = self.ask(f"waiting {thread} {rm}").split(" ", 1)
+        return Call.parse(words[0]) if kind == "waits" else None
+
+    def decide(self, gtrid: str, outcome: str) -> None:
+        """Decides the transaction: `commit` or `rollback`. Once it returns from a commit, the decision is in the log."""
+        self.ask(f"decide {gtrid} {outcome}")
+
+    def done(self, gtrids: Iterable[str]) -> None:
+        """The rows of committed transactions, of which each branch has acknowledged, leave the log."""
+        self.ask(" ".join(["done", *gtrids]))
+
+    def resolve(self, rm: int) -> int:
+        """Lets the calls wait on line `0 rm` that end what the last page of the resource manager lists. How many."""
+        return int(self.ask(f"resolve {rm}").split(" ")[1])
+
+    def owed(self, rm: int) -> List[Xid]:
+        """The branches at the resource manager that rows of earlier incarnations wait for."""
+        return [Xid.parse(word) for word in self.ask(f"owed {rm}").split(" ")[2:]]
+
+    def crash_line(self, thread: int, rm: int) -> None:
+        """The connection of the thread to the resource manager is lost, and what waits on the line with it."""
+        self.ask(f"crash line {thread} {rm}")
+
+    def quit(self) -> None:
+        """Ends the session and the process. What is open stays in doubt, as after a crash."""
+        try:
+            self.ask("quit")
+        except (CoordinatorGone, Refused):
+            pass
+        self._end("the session was ended")
+
+    def kill(self) -> None:
+        """Ends the process at once."""
+        self._process.kill()
+        self._end("the process was killed")
+
+    # ** lines
+
+    def ask(self, request: str) -> str:
+        """The reply to a request. Raises Refused, RequestError or CoordinatorGone."""
+        reply = self._reply_to(request)
+        kind, _, rest = reply.partition(" ")
+        if kind == "error":
+            raise (Unexplained if reply == UNEXPLAINED else RequestError)(f"{rest}, to the request: {request}")
+        if kind == "refused":
+            number, name = rest.split(" ")
+            if int(number) in (MANAGER_DOWN, LOG_FAULT):
+                raise self._gone(f"its log failed: refused {rest}")
+            raise Refused(int(number), name, request)
+        return reply
+
+    def _reply_to(self, request: str) -> str:
+        mine = _Reply()
+        line = request.encode("ascii") + b"\n"
+        with self._writing:
+            if self._fault is not None:
+                raise self._gone(self._fault)
+            try:
+                self._waiting.append(mine)
+                self._process.stdin.write(line)
+                self._process.stdin.flush()
+            except (OSError, ValueError) as error:
+                raise self._gone(str(error)) from None
+            except BaseException:
+                # Nobody knows how much of the line was written: the replies would no longer fit the requests.
+                self.kill()
+                raise
+        with self._reading:
+            while mine.line is None:
+                if self._fault is not None:
+                    raise self._gone(self._fault)
+                if self._is_read:
+                    self._reading.wait()
+                else:
+                    self._read_one()
+        return mine.line
+
+    def _read_one(self) -> None:
+        """Reads a line, and gives it to the request that was asked first. Called with the lock `_reading`, which is free
+        while it reads."""
+        self._is_read = True
+        self._reading.release()
+        try:
+            line = self._read_line()
+        finally:
+            self._reading.acquire()
+            self._is_read = False
+            self._reading.notify_all()
+        self._waiting.popleft().line = line
+
+    def _read_line(self) -> str:
+        try:
+            line = self._process.stdout.readline()
+        except (OSError, ValueError) as error:
+            raise self._gone(str(error)) from None
+        except BaseException:
+            self.kill()
+            raise
+        if not line.endswith(b"\n"):
+            raise self._gone("its output ended")
+        return line[:-1].decode("ascii")
+
+    # ** its end
+
+    def _gone(self, reason: str) -> CoordinatorGone:
+        """Sees that the process has ended, and tells why."""
+        self._end(reason)
+        error = CoordinatorGone(f"the coordinator is gone: {self._fault}")
+        error.status = self._process.returncode
+        return error
+
+    def _end(self, reason: str) -> None:
+        with self._ending:
+            if self._fault is not None:
+                return
+            self._fault = reason
+        try:
+            self._process.stdin.close()
+        except OSError:
+            pass
+        try:
+            self._process.wait(timeout=10)
+        except subprocess.TimeoutExpired:
+            self._process.kill()
+            self._process.wait()
+        said = self._process.stderr.read().decode("utf-8", "replace").strip()
+        self._fault = f"{reason}; {said}" if said else reason
+        self._process.stderr.close()
+        # Whoever still reads finds its end first.
+        self._process.stdout.close()
+        with self._reading:
+            self._reading.notify_all()

@@ -1,0 +1,66 @@
+"""What is raised by the driver."""
+
+from __future__ import annotations
+
+from typing import Optional
+
+
+class XaError(Exception):
+    """Any error of the driver."""
+
+
+class RolledBack(XaError):
+    """The transaction was rolled back at each database, so its work may be tried again. A branch at a database that can't
+    be reached now is rolled back by the next recovery there."""
+
+
+class OutcomeUnknown(XaError):
+    """Nobody could tell whether the transaction was committed: the coordinator ended while it decided, or a connection was
+    lost during a commit in one phase. The databases agree all the same: a transaction over several of them is ended by the
+    recovery, everywhere alike."""
+
+
+class HeuristicEnd(XaError):
+    """A database had ended a branch of the transaction by itself, before it was told how. The coordinator's log has a
+    record of it (`xatm log PATH`), if the database said so itself."""
+
+
+class ConnectionLost(XaError):
+    """A connection to a database is lost, or there is none: nobody knows whether the call that was under way was done."""
+
+
+class Unanswered(XaError):
+    """A database has no answer to a call now, as with XA's XAER_RMERR and XAER_RMFAIL. Nothing was done."""
+
+
+class SetupError(XaError):
+    """A database isn't set up for transactions of this kind: the message says what to change."""
+
+
+class Overdue(XaError):
+    """No thread of the coordinator came free in time."""
+
+
+class CoordinatorGone(XaError):
+    """The coordinator has ended, or its log failed. A transaction that was not decided is rolled back by the recovery."""
+
+    #: The status that its process ended with.
+    status: Optional[int] = None
+
+
+class Refused(XaError):
+    """The coordinator refuses a request by a rule of the protocol, and nothing has changed (docs/PROTOCOL.md)."""
+
+    def __init__(self, number: int, name: str, request: str):
+        super().__init__(f"{number} {name}, to the request: {request}")
+        self.number = number
+        self.name = name
+
+
+class RequestError(XaError):
+    """The coordinator takes a request for none, or for one that doesn't fit what waits; nothing has changed."""
+
+
+class Unexplained(RequestError):
+    """A database answered what no state of the branch explains, by all that it answered before. Somebody else ended the
+    branch, or the database isn't the one that it is taken for. Look at what it lists before anything else."""

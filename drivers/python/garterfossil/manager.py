@@ -1,0 +1,113 @@
+"""The transaction manager, as a program uses it."""
+
+from __future__ import annotations
+
+import contextlib
+import logging
+import threading
+import time
+from types import TracebackType
+from typing import Iterator, Optional, Sequence, Tuple, Type
+
+from .adapters.base import Database
+from .coordinator import LIMIT
+from .errors import CoordinatorGone, Refused
+from .line import PAUSE
+from .session import Session
+from .transaction import Outcome, Transaction
+
+log = logging.getLogger("garterfossil")
+
+
+class TransactionManager:
+    """Runs transactions over several databases, by the coordinator `xatm serve` (docs/SERVE.md).
+
+    The databases are numbered by their places in the list. They and the log belong together for ever: another log, or the
+    same databases in another order, would end branches wrongly. One program at a time uses them.
+
+    A transaction needs one of the coordinator's `threads` (1 to 8). `patience` says for how many seconds a transaction
+    waits for one, and how long a database that has no answer is asked again before it is left to the recovery.
+
+    Any thread may use it, and has one transaction at a time. Where the coordinator ends, the next transaction starts it
+    anew."""
+
+    def __init__(
+        self,
+        databases: Sequence[Database],
+        log: str,
+        *,
+        threads: int = 8,
+        patience: float = 30.0,
+        program: str = "xatm",
+        command: Optional[Sequence[str]] = None,
+    ):
+        self._databases = list(databases)
+        self._threads = threads
+        self._patience = patience
+        self._command = command or [program, "serve", "--log", log, str(threads), str(len(self._databases))]
+        self._lock = threading.Lock()
+        self._session: Optional[Session] = None
+        self._is_closed = False
+        self._current()
+
+    def __enter__(self) -> TransactionManager:
+        return self
+
+    def __exit__(
+        self, kind: Optional[Type[BaseException]], error: Optional[BaseException], trace: Optional[TracebackType]
+    ) -> None:
+        self.close()
+
+    @contextlib.contextmanager
+    def transaction(self) -> Iterator[Transaction]:
+        """A transaction for a `with` block: it is committed at the end of the block, and rolled back where an exception
+        leaves it. Raises RolledBack, OutcomeUnknown or HeuristicEnd at the end of the block."""
+        with contextlib.ExitStack() as stack:
+            session, thread, gtrid = self._begin(stack)
+            transaction = Transaction(session, thread, gtrid)
+            try:
+                with transaction:
+                    yield transaction
+            finally:
+                if transaction.outcome is Outcome.OPEN:
+                    transaction.rollback()
+
+    def close(self) -> None:
+        """Ends the coordinator, once all transactions are over."""
+        with self._lock:
+            self._is_closed = True
+            session, self._session = self._session, None
+        if session is not None and not session.coordinator.is_gone:
+            session.close()
+
+    def _begin(self, stack: contextlib.ExitStack) -> Tuple[Session, int, str]:
+        """A transaction that has begun, in the session that is up, or else in the next one."""
+        until = time.monotonic() + self._patience
+        while True:
+            try:
+                session = self._current()
+                session.recover_what_is_due()
+                with contextlib.ExitStack() as mine:
+                    thread = mine.enter_context(session.thread(until))
+                    gtrid = session.coordinator.begin(thread)
+                    stack.enter_context(mine.pop_all())
+                    return session, thread, gtrid
+            except CoordinatorGone as gone:
+                if self._is_closed or time.monotonic() >= until:
+                    raise
+                log.warning("%s", gone)
+                time.sleep(PAUSE)
+            except Refused as refused:
+                if refused.number != LIMIT or time.monotonic() >= until:
+                    raise
+                # The session has seen as much as it can: the next one goes on.
+                session.close()
+
+    def _current(self) -> Session:
+        """The session that is up."""
+        with self._lock:
+            if self._is_closed:
+                raise CoordinatorGone("the transaction manager is closed")
+            if self._session is None or self._session.coordinator.is_gone:
+                self._session = Session(self._command, self._databases, self._threads, self._patience)
+            return self._session

@@ -1,0 +1,120 @@
+"""One session with the coordinator: its process, the lines of its threads to the databases, and what is owed."""
+
+from __future__ import annotations
+
+import contextlib
+import logging
+import threading
+import time
+from typing import Iterator, List, Sequence
+
+from .adapters.base import Database
+from .coordinator import Coordinator
+from .debts import Debts
+from .errors import ConnectionLost, Overdue, Refused, RequestError, XaError
+from .line import Line
+from .recovery import recover
+from .resource_manager import ResourceManager
+from .threads import Threads
+from .xid import Xid
+
+log = logging.getLogger("garterfossil")
+
+#: So many rows leave the log by one request. A row that stays until the next session costs that one some calls, and no more.
+DONE_AT_ONCE = 32
+
+
+class Session:
+    """A session with the coordinator, which begins with the recovery of each database that can be reached."""
+
+    def __init__(self, command: Sequence[str], databases: Sequence[Database], threads: int, patience: float):
+        self.patience = patience
+        self.coordinator = Coordinator.start(command, patience)
+        self.threads = Threads(threads)
+        self.debts = Debts()
+        self._rms = [ResourceManager(number, database) for number, database in enumerate(databases)]
+        self._lines = [[Line(self.coordinator, thread, rm, patience) for rm in self._rms] for thread in range(threads)]
+        self._done: List[str] = []
+        self._done_lock = threading.Lock()
+        for rm in self._rms:
+            for xid in self.coordinator.owed(rm.number):
+                self.debts.add(rm.number, xid)
+        self.recover_what_is_due()
+
+    def line(self, thread: int, rm: int) -> Line:
+        """The line of a thread to a resource manager."""
+        return self._lines[thread][rm]
+
+    def lines_to(self, rm: ResourceManager) -> List[Line]:
+        """The lines of all threads to a resource manager."""
+        return [lines[rm.number] for lines in self._lines]
+
+    # ** transactions
+
+    @contextlib.contextmanager
+    def thread(self, until: float) -> Iterator[int]:
+        """A thread, for one transaction."""
+        thread = self.threads.take(until)
+        try:
+            yield thread
+        finally:
+            self._let_go(thread)
+
+    def _let_go(self, thread: int) -> None:
+        try:
+            for line in self._lines[thread]:
+                line.let_go()
+        finally:
+            self.threads.give_back(thread)
+
+    def note_done(self, gtrid: str) -> None:
+        """All branches of the committed transaction have acknowledged: its row may leave the log."""
+        with self._done_lock:
+            self._done.append(gtrid)
+            if len(self._done) < DONE_AT_ONCE:
+                return
+            gtrids, self._done = self._done, []
+        self._finish(gtrids)
+
+    def owe(self, rm: int, xid: Xid) -> None:
+        """The branch of a committed transaction hasn't acknowledged: the next recovery there commits it."""
+        self.debts.add(rm, xid)
+
+    def pay(self, rm: int, xid: Xid) -> None:
+        """It has."""
+        if self.debts.settle(rm, xid):
+            self.note_done(xid.transaction)
+
+    def _finish(self, gtrids: List[str]) -> None:
+        try:
+            if gtrids:
+                self.coordinator.done(gtrids)
+        except XaError as error:
+            log.warning("rows stay in the log until the next session: %s", error)
+
+    # ** recovery
+
+    def recover_what_is_due(self) -> None:
+        """Recovers each database where something may be in doubt, if it can be reached. What can't be done now is done at
+        the next transaction."""
+        for rm in self._rms:
+            if rm.is_to_be_recovered():
+                try:
+                    with self.threads.all(time.monotonic() + self.patience):
+                        if rm.is_recovery_due:
+                            recover(self, rm)
+                except (ConnectionLost, Overdue, Refused, RequestError) as error:
+                    log.warning("the recovery of database %d is put off: %s", rm.number, error)
+
+    # ** its end
+
+    def close(self) -> None:
+        """Ends the session, once all transactions are over."""
+        with self.threads.all(time.monotonic() + self.patience):
+            with self._done_lock:
+                gtrids, self._done = self._done, []
+            self._finish(gtrids)
+            self.coordinator.quit()
+            for lines in self._lines:
+                for line in lines:
+                    line.close()

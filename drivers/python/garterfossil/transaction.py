@@ -1,0 +1,269 @@
+"""A global transaction, and its branches."""
+
+from __future__ import annotations
+
+import enum
+import logging
+from types import TracebackType
+from typing import TYPE_CHECKING, Any, Callable, Dict, List, Optional, Sequence, Type
+
+from .adapters.base import Result
+from .calls import Call
+from .codes import Code
+from .errors import (
+    ConnectionLost,
+    CoordinatorGone,
+    HeuristicEnd,
+    OutcomeUnknown,
+    RequestError,
+    RolledBack,
+    Unexplained,
+    XaError,
+)
+from .line import Line
+from .xid import FORMAT, Xid
+
+if TYPE_CHECKING:
+    from .session import Session
+
+log = logging.getLogger("garterfossil")
+
+#: For so many seconds a rollback is tried, before it is left to the recovery.
+ROLLBACK_PATIENCE = 2.0
+
+
+class Outcome(enum.Enum):
+    """How a transaction stands."""
+
+    OPEN = "open"
+    COMMITTED = "committed"
+    ROLLED_BACK = "rolled back"
+    UNKNOWN = "unknown"
+
+
+class Branch:
+    """The part of a transaction at one database. A transaction gives it out (`t[0]`), and ends it."""
+
+    def __init__(self, line: Line, gtrid: str, thread: int):
+        self.xid = Xid(FORMAT, bytes.fromhex(gtrid), thread.to_bytes(4, "big") + line.rm.number.to_bytes(4, "big"))
+        line.make_ready()
+        self.line = line
+        self._connection = line.connection
+        code = line.call(f"xa_start {self.xid}").code
+        if code is not Code.OK:
+            raise XaError(f"database {line.rm.number} has a branch {self.xid} of another log already")
+        self._is_active = True
+        self._was_asked = False
+        #: Whether it voted to commit, and waits to be told.
+        self.is_prepared = False
+        self._is_over = False
+
+    def execute(self, statement: str, parameters: Sequence[Any] = ()) -> Result:
+        """Does a statement. What the database has against it is raised as its module raises it, and then the transaction
+        can only be rolled back. Raises ConnectionLost where the connection is lost: then that, too."""
+        return self.line.execute(statement, parameters)
+
+    @property
+    def fault(self) -> Optional[str]:
+        """Why the branch can only be rolled back, if so."""
+        if self._is_lost:
+            return f"the connection to database {self.line.rm.number} was lost"
+        fault = self._connection.fault
+        return None if fault is None else f"work at database {self.line.rm.number} failed: {fault.name}"
+
+    @property
+    def _is_lost(self) -> bool:
+        """Whether it was started on a connection that the line has no more."""
+        return self.line.connection is not self._connection
+
+    def end(self, is_failed: bool = False) -> None:
+        """xa_end: no more work is done."""
+        if self._is_active and not self._is_lost:
+            self._is_active = False
+            self.line.call(f"xa_end {self.xid} {'TMFAIL' if is_failed else 'TMSUCCESS'}")
+
+    def give_up(self) -> None:
+        """xa_end of a branch that is to be rolled back, if work may still go on."""
+        self.end(is_failed=True)
+
+    def prepare(self) -> Code:
+        """xa_prepare: the vote. But for OK the branch is over."""
+        self._was_asked = True
+        vote = self.line.call(f"xa_prepare {self.xid}").code
+        self.is_prepared = vote is Code.OK
+        self._is_over = not self.is_prepared
+        return vote
+
+    def issue_commit_in_one_phase(self) -> Call:
+        """Issues an xa_commit without a vote: as it is made (`line.make`), the database decides by itself."""
+        return self.line.issue(f"xa_commit {self.xid} TMONEPHASE")
+
+    def commit(self) -> Code:
+        """xa_commit of the prepared branch."""
+        return self._told(f"xa_commit {self.xid}", None)
+
+    def roll_back(self) -> None:
+        """xa_rollback, unless the branch is over. One that wasn't asked for its vote is over with its connection."""
+        if self._is_lost and not self._was_asked:
+            self._is_over = True
+        if not self._is_over:
+            self._is_over = True
+            code = self._told(f"xa_rollback {self.xid}", ROLLBACK_PATIENCE)
+            if code.is_heuristic:
+                log.error("%s was to be rolled back: %s", self.xid, code.name)
+
+    def _told(self, words: str, patience: Optional[float]) -> Code:
+        """The answer to a call that ends the branch. One that ended by itself is forgotten, once the coordinator has heard
+        how: its log has a record of it."""
+        code = self.line.insist(words, patience)
+        if code.is_heuristic:
+            self.line.call(f"xa_forget {self.xid}")
+        return code
+
+
+class Transaction:
+    """A global transaction: either all its branches are committed or all are rolled back.
+
+    `t[0]` is its branch at the first of the databases, which begins as it is first used. In a `with` block it is committed
+    at the end, and rolled back where an exception leaves the block."""
+
+    def __init__(self, session: Session, thread: int, gtrid: str):
+        #: Its name: 32 hexadecimal digits.
+        self.gtrid = gtrid
+        self.outcome = Outcome.OPEN
+        self._session = session
+        self._thread = thread
+        self._branches: Dict[int, Branch] = {}
+        # Why it can only be rolled back, where that isn't a branch's own matter.
+        self._fault: Optional[str] = None
+
+    def __getitem__(self, rm: int) -> Branch:
+        """The branch at a database, by the database's place among those of the manager, from 0."""
+        if rm not in self._branches:
+            self._require_open()
+            line = self._session.line(self._thread, rm)
+            try:
+                self._branches[rm] = Branch(line, self.gtrid, self._thread)
+            except BaseException as error:
+                self._fault = f"no branch at database {rm}: {error}"
+                raise
+        return self._branches[rm]
+
+    def __enter__(self) -> Transaction:
+        return self
+
+    def __exit__(
+        self, kind: Optional[Type[BaseException]], error: Optional[BaseException], trace: Optional[TracebackType]
+    ) -> None:
+        if self.outcome is not Outcome.OPEN:
+            return
+        if error is None:
+            self.commit()
+        else:
+            self.rollback()
+
+    # ** its end
+
+    def commit(self) -> None:
+        """Commits it. Once this returns the decision is in the log, and whatever ends then, each branch is committed. With
+        one branch the database decides, and the log has nothing of it. Raises RolledBack, OutcomeUnknown or HeuristicEnd."""
+        self._require_open()
+        branches = list(self._branches.values())
+        try:
+            self._require_no_fault(branches)
+            for branch in branches:
+                branch.end()
+            if len(branches) == 1:
+                call = branches[0].issue_commit_in_one_phase()
+            else:
+                self._collect_votes(branches)
+        except XaError as error:
+            self._roll_back()
+            raise RolledBack(str(error)) from error
+        if len(branches) == 1:
+            self._commit_in_one_phase(branches[0].line, call)
+        else:
+            self._commit_in_two_phases([branch for branch in branches if branch.is_prepared])
+
+    def rollback(self) -> None:
+        """Rolls it back."""
+        self._require_open()
+        self._roll_back()
+
+    def _require_open(self) -> None:
+        if self.outcome is not Outcome.OPEN:
+            raise XaError(f"the transaction is over: {self.outcome.value}")
+
+    # ** the first phase
+
+    def _require_no_fault(self, branches: List[Branch]) -> None:
+        for fault in [self._fault, *(branch.fault for branch in branches)]:
+            if fault is not None:
+                raise XaError(fault)
+
+    def _collect_votes(self, branches: List[Branch]) -> None:
+        for branch in branches:
+            vote = branch.prepare()
+            if vote not in (Code.OK, Code.RDONLY):
+                raise XaError(f"database {branch.line.rm.number} voted {vote.name}")
+
+    def _commit_in_one_phase(self, line: Line, call: Call) -> None:
+        self.outcome = Outcome.UNKNOWN
+        try:
+            code = line.make(call).code
+        except XaError as error:
+            raise OutcomeUnknown(f"{self.gtrid}: {error}") from error
+        self.outcome = Outcome.COMMITTED if code is Code.OK else Outcome.ROLLED_BACK
+        if code is not Code.OK:
+            raise RolledBack(f"database {line.rm.number} answered {code.name}")
+
+    # ** the second phase
+
+    def _commit_in_two_phases(self, prepared: List[Branch]) -> None:
+        self.outcome = Outcome.UNKNOWN
+        try:
+            self._session.coordinator.decide(self.gtrid, "commit")
+        except CoordinatorGone as error:
+            raise OutcomeUnknown(f"{self.gtrid}: {error}") from error
+        except XaError as error:
+            # It was refused, and nothing has changed.
+            self._roll_back()
+            raise RolledBack(str(error)) from error
+        self.outcome = Outcome.COMMITTED
+        ends = [self._end_of(branch) for branch in prepared]
+        if prepared and None not in ends:
+            self._session.note_done(self.gtrid)
+        odd = [f"database {it.line.rm.number}: {end}" for it, end in zip(prepared, ends) if end]
+        if odd:
+            raise HeuristicEnd(f"{self.gtrid} is committed, but not everywhere: {'; '.join(odd)}")
+
+    def _end_of(self, branch: Branch) -> Optional[str]:
+        """Commits a branch: what is odd about its end, an empty text if nothing is. None where it isn't known yet: then the
+        next recovery there commits it."""
+        try:
+            code = branch.commit()
+        except Unexplained as error:
+            return str(error)
+        except XaError as error:
+            log.warning("%s is to be committed by the next recovery: %s", branch.xid, error)
+            self._session.owe(branch.line.rm.number, branch.xid)
+            return None
+        return code.name if code.is_heuristic else ""
+
+    def _roll_back(self) -> None:
+        """Ends each branch by a rollback. What can't be ended now is left to the recovery: nothing of it is in the log."""
+        self.outcome = Outcome.ROLLED_BACK
+        try:
+            for branch in self._branches.values():
+                self._try(branch.give_up)
+            self._session.coordinator.decide(self.gtrid, "rollback")
+            for branch in self._branches.values():
+                self._try(branch.roll_back)
+        except XaError as error:
+            log.warning("%s is to be rolled back by the next recovery: %s", self.gtrid, error)
+
+    def _try(self, step: Callable[[], None]) -> None:
+        try:
+            step()
+        except (ConnectionLost, RequestError) as error:
+            log.warning("a branch of %s is to be rolled back by the next recovery: %s", self.gtrid, error)

@@ -1,0 +1,38 @@
+"""The identifiers of branches (XA's XID)."""
+
+from __future__ import annotations
+
+from dataclasses import dataclass
+
+#: The format of the coordinator's own identifiers.
+FORMAT = 7
+
+
+@dataclass(frozen=True, order=True)
+class Xid:
+    """The identifier of a branch. As text it is `<format>:<gtrid>:<bqual>`, both parts in lower case hexadecimal."""
+
+    format: int
+    gtrid: bytes
+    bqual: bytes
+
+    def __post_init__(self) -> None:
+        if self.format < 0 or not 1 <= len(self.gtrid) <= 64 or not 1 <= len(self.bqual) <= 64:
+            raise ValueError(f"no identifier of a branch: {self}")
+
+    @classmethod
+    def parse(cls, text: str) -> Xid:
+        """The identifier that a text spells. Raises ValueError where it spells none, or not as `str` does."""
+        number, gtrid, bqual = text.split(":")
+        xid = cls(int(number), bytes.fromhex(gtrid), bytes.fromhex(bqual))
+        if str(xid) != text:
+            raise ValueError(f"no identifier of a branch: {text}")
+        return xid
+
+    def __str__(self) -> str:
+        return f"{self.format}:{self.gtrid.hex()}:{self.bqual.hex()}"
+
+    @property
+    def transaction(self) -> str:
+        """The transaction, as requests name it: 32 hexadecimal digits for one of the coordinator's own."""
+        return self.gtrid.hex()

@@ -1,0 +1,108 @@
+"""A database in memory, of which a test says what goes wrong."""
+
+from garterfossil.adapters.base import Connection, Database, Result
+from garterfossil.codes import Code
+from garterfossil.errors import ConnectionLost
+
+
+class FakeDatabase(Database):
+    """Keeps what was written as a list of statements. The statement `wrong` fails."""
+
+    def __init__(self):
+        self.written = []
+        self.prepared = {}
+        self.is_up = True
+        #: What the next of some calls is answered, by the name of what makes it: a code, or an exception to raise. With
+        #: `lost` the call is done, and its answer is lost.
+        self.next = {}
+        self.calls = []
+        self.connections = []
+
+    def connect(self):
+        if not self.is_up:
+            raise ConnectionLost("the database is down")
+        connection = FakeConnection(self)
+        self.connections.append(connection)
+        connection.number = len(self.connections)
+        return connection
+
+    def end_connections(self, kept):
+        if not self.is_up:
+            raise ConnectionLost("the database is down")
+        for connection in self.connections:
+            connection.is_lost = connection.is_lost or connection.number not in kept
+
+    def crash(self):
+        self.is_up = False
+        for connection in self.connections:
+            connection.is_lost = True
+
+
+class WrongStatement(Exception):
+    """What the database's own module would raise."""
+
+
+class FakeConnection(Connection):
+    def __init__(self, database):
+        super().__init__()
+        self.database = database
+        self.is_lost = False
+        self.work = []
+
+    def close(self):
+        self.is_lost = True
+
+    def told(self, name, xid, done=lambda: None):
+        """Does a call, unless the test has something else for it."""
+        if self.is_lost:
+            raise ConnectionLost("the connection is gone")
+        self.database.calls.append(f"{name} {xid}")
+        wanted = self.database.next.pop(name, Code.OK)
+        if wanted == "lost":
+            done()
+            self.is_lost = True
+            raise ConnectionLost("the answer is lost")
+        if isinstance(wanted, Exception):
+            raise wanted
+        if wanted is Code.OK:
+            done()
+        return wanted
+
+    def _work(self, statement, parameters):
+        self.told("work", statement)
+        if statement == "wrong":
+            self._fault = Code.RBINTEGRITY
+            raise WrongStatement(statement)
+        self.work.append(statement)
+        return Result([], 1)
+
+    def _start(self, xid):
+        self.work = []
+        return self.told("start", xid)
+
+    def _end(self, xid):
+        self.told("end", xid)
+
+    def _prepare(self, xid):
+        return self.told("prepare", xid, lambda: self.database.prepared.update({xid: self.work}))
+
+    def _commit_in_one_phase(self, xid):
+        return self.told("commit_in_one_phase", xid, lambda: self.database.written.extend(self.work))
+
+    def _roll_back(self, xid):
+        self.told("roll_back", xid)
+
+    def _commit_prepared(self, xid):
+        return self._end_prepared("commit_prepared", xid, self.database.written.extend)
+
+    def _roll_back_prepared(self, xid):
+        return self._end_prepared("roll_back_prepared", xid, lambda work: None)
+
+    def _end_prepared(self, name, xid, done):
+        is_listed = xid in self.database.prepared
+        code = self.told(name, xid, lambda: done(self.database.prepared.pop(xid, [])))
+        return code if is_listed else Code.NOTA
+
+    def _listed(self):
+        self.told("listed", "")
+        return list(self.database.prepared)

@@ -1,0 +1,93 @@
+"""The coordinator's process: replies, refusals, and its end."""
+
+import os
+import sys
+import tempfile
+import threading
+import unittest
+
+from garterfossil.coordinator import Coordinator
+from garterfossil.errors import CoordinatorGone, Refused, RequestError, Unexplained
+from garterfossil.xid import Xid
+
+ECHO = """
+import sys
+print("restarted 1 0 0", flush=True)
+for line in sys.stdin:
+    print(line if line.startswith(("refused", "error")) else "echo " + line, end="", flush=True)
+    if line == "quit\\n":
+        break
+"""
+
+
+def process(program):
+    return Coordinator([sys.executable, "-c", program])
+
+
+class Coordinators(unittest.TestCase):
+    def test_each_thread_gets_its_own_replies(self):
+        coordinator = process(ECHO)
+        wrong = []
+
+        def ask(thread):
+            for number in range(300):
+                if coordinator.ask(f"{thread} {number}") != f"echo {thread} {number}":
+                    wrong.append((thread, number))
+
+        threads = [threading.Thread(target=ask, args=[thread]) for thread in range(8)]
+        for thread in threads:
+            thread.start()
+        for thread in threads:
+            thread.join()
+        coordinator.quit()
+        self.assertEqual(wrong, [])
+
+    def test_what_is_refused_is_raised(self):
+        coordinator = process(ECHO)
+        with self.assertRaises(Refused) as raised:
+            coordinator.ask("refused 11 Busy")
+        self.assertEqual((raised.exception.number, raised.exception.name), (11, "Busy"))
+        with self.assertRaises(RequestError):
+            coordinator.ask("error not a request")
+        with self.assertRaises(Unexplained):
+            coordinator.ask("error the branch is in no such state")
+        self.assertEqual(coordinator.ask("still there"), "echo still there")
+        coordinator.quit()
+
+    def test_a_failed_log_ends_the_session(self):
+        coordinator = process(ECHO)
+        with self.assertRaises(CoordinatorGone):
+            coordinator.ask("refused 15 LogFault")
+        self.assertTrue(coordinator.is_gone)
+
+    def test_a_coordinator_that_does_not_start_tells_why(self):
+        with self.assertRaisesRegex(CoordinatorGone, "xatm: log"):
+            process("import sys; sys.exit('xatm: log')")
+
+    def test_one_that_finds_the_log_in_use_is_started_again(self):
+        program = "import os, sys; path = sys.argv[1]\nif not os.path.exists(path):\n  os.mkdir(path); sys.exit(2)\n" + ECHO
+        with tempfile.TemporaryDirectory() as folder:
+            coordinator = Coordinator.start([sys.executable, "-c", program, os.path.join(folder, "mark")], 5)
+            coordinator.quit()
+
+    def test_one_that_ends_is_gone_for_all(self):
+        coordinator = process("print('restarted 1 0 0', flush=True); input()")
+        for _ in range(2):
+            with self.assertRaises(CoordinatorGone):
+                coordinator.ask("status")
+
+
+class Xids(unittest.TestCase):
+    def test_a_text_is_read_back(self):
+        text = "7:00000000000000010000000000000002:0000000100000003"
+        self.assertEqual(str(Xid.parse(text)), text)
+
+    def test_other_texts_are_refused(self):
+        others = ["", "x", "7:00", "7::00", "7:00:", "7:0A:00", "-1:00:00", "07:00:00", "7:0:00", "7:00:00:00", "7:00:" + "00" * 65]
+        for text in others:
+            with self.assertRaises(ValueError, msg=text):
+                Xid.parse(text)
+
+
+if __name__ == "__main__":
+    unittest.main()

@@ -1,0 +1,219 @@
+"""MariaDB's adapter, over a stand-in for PyMySQL and a server with the ways of MariaDB 10.11 that matter here: it answers
+XAER_NOTA for a prepared branch whose connection lives, and it prepares what is left of a branch after a failed statement."""
+
+import re
+import sys
+import types
+import unittest
+from unittest import mock
+
+from garterfossil.adapters.mariadb import MariaDB
+from garterfossil.calls import Call
+from garterfossil.codes import Code
+from garterfossil.errors import ConnectionLost, Unanswered
+
+XID = "7:00000000000000010000000000000001:0000000000000000"
+
+pymysql = types.ModuleType("pymysql")
+pymysql.err = types.ModuleType("pymysql.err")
+
+
+class MySQLError(Exception):
+    pass
+
+
+pymysql.err.MySQLError = MySQLError
+for name in ("InterfaceError", "OperationalError", "IntegrityError"):
+    setattr(pymysql.err, name, type(name, (MySQLError,), {}))
+
+
+class Server:
+    """Branches by the text of their identifier, each with its state and the connection that has it."""
+
+    def __init__(self):
+        self.branches, self.links, self.fails = {}, {}, {}
+
+    def connect(self, **parameters):
+        link = Link(self, len(self.links) + 1)
+        self.links[link.number] = link
+        return link
+
+    def end(self, link):
+        """A connection ends: its prepared branch can be ended from any other one."""
+        self.links.pop(link.number, None)
+        for text, (state, owner) in list(self.branches.items()):
+            if owner is link:
+                if state == "PREPARED":
+                    self.branches[text] = state, None
+                else:
+                    del self.branches[text]
+
+
+class Link:
+    def __init__(self, server, number):
+        self.server, self.number, self.statements = server, number, []
+
+    def thread_id(self):
+        return self.number
+
+    def close(self):
+        self.server.end(self)
+
+    def cursor(self):
+        return Cursor(self)
+
+
+def error(number):
+    return pymysql.err.OperationalError(number, "an error")
+
+
+class Cursor:
+    def __init__(self, link):
+        self.link, self.server, self.rows, self.rowcount = link, link.server, [], 0
+
+    def __enter__(self):
+        return self
+
+    def __exit__(self, *_):
+        pass
+
+    def fetchall(self):
+        return tuple(self.rows)
+
+    def execute(self, statement, parameters=None):
+        if self.link.number not in self.server.links:
+            raise error(2013)
+        self.link.statements.append(statement)
+        if statement in self.server.fails:
+            raise self.server.fails[statement]
+        xa = re.fullmatch(r"XA (\w+) (X'.*?',X'.*?',7)( ONE PHASE)?", statement)
+        if statement == "XA RECOVER FORMAT='SQL'":
+            self.rows = [(7, 16, 8, text) for text, (state, _) in self.server.branches.items() if state == "PREPARED"]
+        elif statement == "SELECT USER()":
+            self.rows = [("bank@localhost",)]
+        elif statement.startswith("SELECT id FROM information_schema.processlist"):
+            self.rows = [(number,) for number in self.server.links]
+        elif statement.startswith("KILL CONNECTION "):
+            self.server.end(self.server.links[int(statement.split(" ")[2])])
+        elif xa:
+            self.xa(xa[1], xa[2], bool(xa[3]))
+
+    def xa(self, verb, text, is_one_phase):
+        state, owner = self.server.branches.get(text, (None, None))
+        if verb == "START":
+            if state is not None:
+                raise error(1440)
+            self.server.branches[text] = "ACTIVE", self.link
+        elif state is None or owner not in (None, self.link):
+            raise error(1397)
+        elif state == "ROLLBACK ONLY" and verb != "ROLLBACK":
+            raise error(1399)
+        elif verb in ("END", "PREPARE"):
+            self.server.branches[text] = {"END": "IDLE", "PREPARE": "PREPARED"}[verb], self.link
+        elif verb == "COMMIT" and (state == "PREPARED") == is_one_phase:
+            raise error(1399)
+        else:
+            del self.server.branches[text]
+
+
+class MariaDBs(unittest.TestCase):
+    def setUp(self):
+        self.server = Server()
+        pymysql.connect = self.server.connect
+        patch = mock.patch.dict(sys.modules, {"pymysql": pymysql, "pymysql.err": pymysql.err})
+        patch.start()
+        self.addCleanup(patch.stop)
+        self.database = MariaDB(user="bank", database="bank")
+        self.connection = self.database.connect()
+
+    def do(self, text, connection=None):
+        return (connection or self.connection).do(Call.parse(text)).code
+
+    def worked(self):
+        self.do(f"xa_start {XID}")
+        self.connection.execute("UPDATE account")
+        self.do(f"xa_end {XID} TMSUCCESS")
+
+    def test_a_branch_that_is_prepared_and_committed(self):
+        self.worked()
+        self.assertIs(self.do(f"xa_prepare {XID}"), Code.OK)
+        self.assertIs(self.do(f"xa_commit {XID}"), Code.OK)
+        self.assertIs(self.do(f"xa_commit {XID}"), Code.NOTA)
+
+    def test_a_branch_whose_connection_lives_is_not_told_to_be_over(self):
+        self.worked()
+        self.do(f"xa_prepare {XID}")
+        other = self.database.connect()
+        for call in ("xa_commit", "xa_rollback"):
+            with self.assertRaises(Unanswered):
+                self.do(f"{call} {XID}", other)
+        self.database.end_connections([other.number])
+        self.assertIs(self.do(f"xa_commit {XID}", other), Code.OK)
+
+    def test_connections_that_are_kept_are_not_ended(self):
+        kept, stray = self.database.connect(), self.database.connect()
+        self.database.end_connections([self.connection.number, kept.number])
+        self.assertEqual(sorted(self.server.links), [self.connection.number, kept.number])
+        with self.assertRaises(ConnectionLost):
+            self.do(f"xa_start {XID}", stray)
+
+    def test_a_failed_statement_is_the_vote_although_mariadb_would_prepare(self):
+        for number, vote in ((4025, Code.RBINTEGRITY), (1205, Code.RBTIMEOUT), (1064, Code.RBOTHER)):
+            self.server.fails["UPDATE account"] = error(number)
+            self.do(f"xa_start {XID}")
+            with self.assertRaises(MySQLError):
+                self.connection.execute("UPDATE account")
+            self.assertIs(self.connection.fault, vote)
+            self.assertIs(self.do(f"xa_end {XID} TMSUCCESS"), Code.OK)
+            self.assertIs(self.do(f"xa_prepare {XID}"), vote)
+            self.assertEqual(self.server.branches, {})
+
+    def test_a_broken_constraint_is_told_by_the_kind_of_error(self):
+        self.server.fails["UPDATE account"] = pymysql.err.IntegrityError(1062, "duplicate")
+        self.do(f"xa_start {XID}")
+        with self.assertRaises(MySQLError):
+            self.connection.execute("UPDATE account")
+        self.assertIs(self.connection.fault, Code.RBINTEGRITY)
+
+    def test_a_deadlock(self):
+        self.server.fails["UPDATE account"] = error(1213)
+        self.do(f"xa_start {XID}")
+        text, = self.server.branches
+        self.server.branches[text] = "ROLLBACK ONLY", self.server.links[self.connection.number]
+        with self.assertRaises(MySQLError):
+            self.connection.execute("UPDATE account")
+        self.assertIs(self.do(f"xa_end {XID} TMSUCCESS"), Code.OK)
+        self.assertIs(self.do(f"xa_prepare {XID}"), Code.RBDEADLOCK)
+        self.assertEqual(self.server.branches, {})
+
+    def test_one_phase(self):
+        self.worked()
+        self.assertIs(self.do(f"xa_commit {XID} TMONEPHASE"), Code.OK)
+        self.assertEqual(self.server.branches, {})
+
+    def test_one_phase_without_an_answer(self):
+        self.worked()
+        text, = self.server.branches
+        self.server.fails[f"XA COMMIT {text} ONE PHASE"] = error(1180)
+        with self.assertRaises(Unanswered):
+            self.do(f"xa_commit {XID} TMONEPHASE")
+
+    def test_a_branch_of_another_log(self):
+        self.worked()
+        self.assertIs(self.do(f"xa_start {XID}", self.database.connect()), Code.DUPID)
+
+    def test_the_page_has_the_identifier_as_text(self):
+        self.worked()
+        self.do(f"xa_prepare {XID}")
+        answer = self.connection.do(Call.parse("xa_recover 32 TMSTARTRSCAN"))
+        self.assertEqual([str(xid) for xid in answer.page], [XID])
+
+    def test_a_connection_that_is_lost(self):
+        self.worked()
+        self.server.end(self.server.links[self.connection.number])
+        with self.assertRaises(ConnectionLost):
+            self.do(f"xa_prepare {XID}")
+
+
+if __name__ == "__main__":
+    unittest.main()

@@ -1,0 +1,199 @@
+"""PostgreSQL's adapter, over a stand-in for psycopg2 that says what PostgreSQL says."""
+
+import sys
+import types
+import unittest
+from unittest import mock
+
+from garterfossil.adapters.postgresql import PostgreSQL
+from garterfossil.calls import Call
+from garterfossil.codes import Code
+from garterfossil.errors import ConnectionLost, SetupError, Unanswered
+
+XID = "7:00000000000000010000000000000001:0000000000000000"
+OTHER = "7:00000000000000010000000000000002:0000000000000000"
+IDLE, IN_TRANSACTION, IN_FAILED = 0, 2, 3
+
+psycopg2 = types.ModuleType("psycopg2")
+extensions = types.ModuleType("psycopg2.extensions")
+extensions.TRANSACTION_STATUS_IDLE, extensions.TRANSACTION_STATUS_INERROR = IDLE, IN_FAILED
+
+
+class Error(Exception):
+    def __init__(self, pgcode=None):
+        super().__init__(f"error {pgcode}")
+        self.pgcode = pgcode
+
+
+psycopg2.Error = Error
+for name in ("OperationalError", "ProgrammingError", "IntegrityError"):
+    setattr(psycopg2, name, type(name, (Error,), {}))
+
+
+class Link:
+    """A connection. `says` has, for the beginning of a statement, its tag, its rows, or an error."""
+
+    def __init__(self):
+        self.says = {"SHOW": [("64",)], "SELECT pg_current": [("700",)]}
+        self.statements = []
+        self.status, self.closed = IDLE, 0
+
+    def get_backend_pid(self):
+        return 4711
+
+    def get_transaction_status(self):
+        return self.status
+
+    def close(self):
+        self.closed = 1
+
+    def cursor(self):
+        return Cursor(self)
+
+
+class Cursor:
+    def __init__(self, link):
+        self.link, self.description, self.rowcount = link, None, 1
+
+    def __enter__(self):
+        return self
+
+    def __exit__(self, *_):
+        pass
+
+    def execute(self, statement, parameters=None):
+        self.link.statements.append(statement if parameters is None else statement % tuple(parameters))
+        said = next((said for begin, said in self.link.says.items() if statement.startswith(begin)), None)
+        self.statusmessage = said if isinstance(said, str) else statement.split(" %s")[0].upper()
+        if isinstance(said, Error):
+            if self.link.status == IN_TRANSACTION:
+                self.link.status = IDLE if statement.startswith(("COMMIT", "PREPARE")) else IN_FAILED
+            raise said
+        if isinstance(said, list):
+            self.description, self.rows = ["column"], said
+        if statement == "BEGIN":
+            self.link.status = IN_TRANSACTION
+        elif statement.startswith(("COMMIT", "ROLLBACK", "PREPARE")):
+            self.link.status = IDLE
+
+    def fetchall(self):
+        return self.rows
+
+
+class PostgreSQLs(unittest.TestCase):
+    def setUp(self):
+        psycopg2.connect = lambda dsn, **parameters: self.link
+        self.link = Link()
+        patch = mock.patch.dict(sys.modules, {"psycopg2": psycopg2, "psycopg2.extensions": extensions})
+        patch.start()
+        self.addCleanup(patch.stop)
+        self.connection = PostgreSQL("dbname=bank").connect()
+        del self.link.statements[:]
+
+    def do(self, text):
+        return self.connection.do(Call.parse(text)).code
+
+    def worked(self):
+        self.do(f"xa_start {XID}")
+        self.connection.execute("UPDATE account")
+        self.do(f"xa_end {XID} TMSUCCESS")
+
+    def test_a_branch_that_is_prepared_and_committed(self):
+        self.worked()
+        self.assertIs(self.do(f"xa_prepare {XID}"), Code.OK)
+        self.assertIs(self.do(f"xa_commit {XID}"), Code.OK)
+        self.assertEqual(self.link.statements[-2:], [f"PREPARE TRANSACTION {XID}", f"COMMIT PREPARED {XID}"])
+
+    def test_the_tag_of_prepare_is_the_answer(self):
+        self.worked()
+        self.link.says["PREPARE"] = "ROLLBACK"
+        self.assertIs(self.do(f"xa_prepare {XID}"), Code.RBROLLBACK)
+
+    def test_a_failed_statement_is_the_vote(self):
+        self.do(f"xa_start {XID}")
+        self.link.says = {"UPDATE": psycopg2.IntegrityError("23514"), "PREPARE": "ROLLBACK"}
+        with self.assertRaises(psycopg2.IntegrityError):
+            self.connection.execute("UPDATE account")
+        self.assertIs(self.connection.fault, Code.RBINTEGRITY)
+        self.do(f"xa_end {XID} TMSUCCESS")
+        self.assertIs(self.do(f"xa_prepare {XID}"), Code.RBINTEGRITY)
+
+    def test_a_savepoint_takes_a_failed_statement_back(self):
+        self.do(f"xa_start {XID}")
+        self.link.says["UPDATE"] = psycopg2.IntegrityError("23514")
+        with self.assertRaises(psycopg2.IntegrityError):
+            self.connection.execute("UPDATE account")
+        self.link.status = IN_TRANSACTION
+        self.assertIsNone(self.connection.fault)
+        self.do(f"xa_end {XID} TMSUCCESS")
+        self.assertIs(self.do(f"xa_prepare {XID}"), Code.OK)
+
+    def test_a_prepare_that_fails_has_rolled_back(self):
+        for state, vote in (("23505", Code.RBINTEGRITY), ("42710", Code.RBOTHER), ("40001", Code.RBTRANSIENT)):
+            self.worked()
+            self.link.says["PREPARE"] = psycopg2.OperationalError(state)
+            self.assertIs(self.do(f"xa_prepare {XID}"), vote)
+            self.assertIs(self.link.status, IDLE)
+            self.assertFalse(self.connection.has_branch)
+
+    def test_a_branch_that_only_read_is_committed_at_once(self):
+        self.link.says["SELECT pg_current"] = [(None,)]
+        self.worked()
+        self.assertIs(self.do(f"xa_prepare {XID}"), Code.RDONLY)
+        self.assertEqual(self.link.statements[-1], "COMMIT")
+
+    def test_the_tag_of_commit_is_the_answer_in_one_phase(self):
+        self.worked()
+        self.link.says["COMMIT"] = "ROLLBACK"
+        self.assertIs(self.do(f"xa_commit {XID} TMONEPHASE"), Code.RBROLLBACK)
+
+    def test_what_is_told_of_branches_that_cannot_be_ended(self):
+        self.link.says["COMMIT PREPARED"] = psycopg2.ProgrammingError("42704")
+        self.assertIs(self.do(f"xa_commit {XID}"), Code.NOTA)
+        self.link.says["COMMIT PREPARED"] = psycopg2.OperationalError("55000")
+        with self.assertRaises(Unanswered):
+            self.do(f"xa_commit {XID}")
+        for state in ("0A000", "42501"):
+            self.link.says["ROLLBACK PREPARED"] = psycopg2.OperationalError(state)
+            with self.assertRaises(SetupError):
+                self.do(f"xa_rollback {XID}")
+
+    def test_an_end_of_the_connection_is_told_from_other_errors(self):
+        for state in (None, "57P01", "08006"):
+            self.link.says["BEGIN"] = psycopg2.OperationalError(state)
+            with self.assertRaises(ConnectionLost):
+                self.do(f"xa_start {XID}")
+        del self.link.says["BEGIN"]
+        self.do(f"xa_start {XID}")
+        self.link.says["UPDATE"] = psycopg2.OperationalError("57014")
+        with self.assertRaises(psycopg2.OperationalError):
+            self.connection.execute("UPDATE account")
+
+    def test_a_statement_that_ends_the_transaction(self):
+        self.do(f"xa_start {XID}")
+        with self.assertRaises(ConnectionLost):
+            self.connection.execute("COMMIT")
+
+    def test_pages_are_in_order_and_leave_out_other_names(self):
+        self.link.says["SELECT gid"] = [(OTHER,), ("somebody else's",), (XID,)]
+        answer = self.connection.do(Call.parse("xa_recover 1 TMSTARTRSCAN"))
+        self.assertEqual([str(xid) for xid in answer.page], [XID])
+        answer = self.connection.do(Call.parse("xa_recover 5"))
+        self.assertEqual([str(xid) for xid in answer.page], [OTHER])
+
+    def test_a_server_without_prepared_transactions(self):
+        self.link.says["SHOW"] = [("0",)]
+        with self.assertRaisesRegex(SetupError, "max_prepared_transactions"):
+            PostgreSQL("dbname=bank").connect()
+
+    def test_calls_that_do_not_fit_the_branch(self):
+        self.do(f"xa_start {XID}")
+        self.assertIs(self.do(f"xa_rollback {XID}"), Code.PROTO)
+        self.assertIs(self.do(f"xa_prepare {XID}"), Code.PROTO)
+        self.assertIs(self.do(f"xa_end {OTHER} TMSUCCESS"), Code.NOTA)
+        self.assertIs(self.do(f"xa_end {XID} TMFAIL"), Code.RBROLLBACK)
+        self.assertIs(self.do(f"xa_rollback {XID}"), Code.RBROLLBACK)
+
+
+if __name__ == "__main__":
+    unittest.main()

@@ -1,0 +1,253 @@
+"""Transactions over databases in memory, with everything that may go wrong on the way."""
+
+import json
+import logging
+import os
+import shutil
+import sys
+import tempfile
+import unittest
+
+from garterfossil import CoordinatorGone, OutcomeUnknown, Overdue, RolledBack, TransactionManager, XaError
+from garterfossil.codes import Code
+from garterfossil.errors import ConnectionLost, Unanswered
+from garterfossil.transaction import Outcome
+
+from .fake_database import FakeDatabase, WrongStatement
+
+COORDINATOR = os.path.join(os.path.dirname(__file__), "fake_coordinator.py")
+
+
+class Transactions(unittest.TestCase):
+    def setUp(self):
+        logging.getLogger("garterfossil").setLevel(logging.CRITICAL)
+        self.folder = tempfile.mkdtemp()
+        self.addCleanup(shutil.rmtree, self.folder)
+        self.log = os.path.join(self.folder, "log")
+        self.left, self.right = FakeDatabase(), FakeDatabase()
+
+    def manager(self, dies_at=None, threads=2, patience=1.0):
+        command = [sys.executable, COORDINATOR, self.log] + ([dies_at] if dies_at else [])
+        return TransactionManager([self.left, self.right], self.log, threads=threads, patience=patience, command=command)
+
+    def written(self):
+        return self.left.written, self.right.written
+
+    def in_the_log(self):
+        with open(self.log) as it:
+            return json.load(it)
+
+    def requests(self, *names):
+        return [line for line in self.in_the_log()["requests"] if line.split(" ")[0] in names]
+
+    def move(self, xa):
+        with xa.transaction() as t:
+            t[0].execute("take")
+            t[1].execute("give")
+        return t
+
+    # ** what goes well
+
+    def test_both_are_committed(self):
+        with self.manager() as xa:
+            t = self.move(xa)
+        self.assertEqual(self.written(), (["take"], ["give"]))
+        self.assertIs(t.outcome, Outcome.COMMITTED)
+        self.assertEqual(self.requests("decide", "done"), [f"decide {t.gtrid} commit", f"done {t.gtrid}"])
+
+    def test_an_exception_rolls_both_back(self):
+        with self.manager() as xa:
+            with self.assertRaises(KeyError):
+                with xa.transaction() as t:
+                    t[0].execute("take")
+                    t[1].execute("give")
+                    raise KeyError
+        self.assertEqual(self.written(), ([], []))
+        self.assertIs(t.outcome, Outcome.ROLLED_BACK)
+        self.assertEqual(self.requests("decide"), [f"decide {t.gtrid} rollback"])
+
+    def test_one_database_alone_decides_by_itself(self):
+        with self.manager() as xa:
+            with xa.transaction() as t:
+                t[1].execute("give")
+        self.assertEqual(self.written(), ([], ["give"]))
+        self.assertEqual(self.requests("decide"), [])
+        self.assertEqual(self.left.calls, ["listed "])
+
+    def test_a_branch_that_only_read_is_not_committed_again(self):
+        self.left.next["prepare"] = Code.RDONLY
+        with self.manager() as xa:
+            t = self.move(xa)
+        self.assertEqual(self.written(), ([], ["give"]))
+        self.assertFalse([call for call in self.left.calls if call.startswith("commit")])
+        self.assertIs(t.outcome, Outcome.COMMITTED)
+
+    def test_a_transaction_that_does_nothing(self):
+        with self.manager() as xa:
+            with xa.transaction() as t:
+                pass
+        self.assertIs(t.outcome, Outcome.COMMITTED)
+        self.assertEqual(self.requests("done"), [])
+
+    # ** votes
+
+    def test_a_no_rolls_the_other_back(self):
+        self.right.next["prepare"] = Code.RBINTEGRITY
+        with self.manager() as xa:
+            with self.assertRaisesRegex(RolledBack, "database 1 voted RBINTEGRITY"):
+                self.move(xa)
+        self.assertEqual(self.written(), ([], []))
+        self.assertEqual((self.left.prepared, self.right.prepared), ({}, {}))
+
+    def test_a_failed_statement_is_a_no_also_where_it_is_caught(self):
+        with self.manager() as xa:
+            with self.assertRaises(RolledBack):
+                with xa.transaction() as t:
+                    t[0].execute("take")
+                    with self.assertRaises(WrongStatement):
+                        t[1].execute("wrong")
+        self.assertEqual(self.written(), ([], []))
+        self.assertFalse([call for call in self.left.calls if call.startswith("prepare")])
+
+    # ** connections that are lost
+
+    def test_a_connection_that_is_lost_at_work(self):
+        with self.manager() as xa:
+            self.right.next["work"] = "lost"
+            with self.assertRaises(ConnectionLost):
+                self.move(xa)
+            self.move(xa)
+        self.assertEqual(self.written(), (["take"], ["give"]))
+
+    def test_a_vote_that_is_lost(self):
+        with self.manager() as xa:
+            self.right.next["prepare"] = "lost"
+            with self.assertRaises(RolledBack):
+                self.move(xa)
+            self.assertEqual((self.left.prepared, self.right.prepared), ({}, {}))
+            self.move(xa)
+        self.assertEqual(self.written(), (["take"], ["give"]))
+
+    def test_an_acknowledgement_that_is_lost_is_asked_for_again(self):
+        with self.manager() as xa:
+            self.right.next["commit_prepared"] = "lost"
+            t = self.move(xa)
+        self.assertEqual(self.written(), (["take"], ["give"]))
+        self.assertEqual(self.requests("done"), [f"done {t.gtrid}"])
+
+    def test_the_answer_of_a_single_database_is_lost(self):
+        with self.manager() as xa:
+            self.left.next["commit_in_one_phase"] = "lost"
+            with self.assertRaises(OutcomeUnknown):
+                with xa.transaction() as t:
+                    t[0].execute("take")
+            self.assertIs(t.outcome, Outcome.UNKNOWN)
+            self.move(xa)
+
+    def test_what_is_put_off_or_has_no_answer_is_asked_again(self):
+        with self.manager() as xa:
+            self.left.next["commit_prepared"] = Code.RETRY
+            self.right.next["commit_prepared"] = Unanswered("busy")
+            self.move(xa)
+        self.assertEqual(self.written(), (["take"], ["give"]))
+
+    def test_a_branch_that_does_not_begin_dooms_the_transaction(self):
+        with self.manager() as xa:
+            self.right.next["start"] = Unanswered("no")
+            with self.assertRaises(RolledBack):
+                with xa.transaction() as t:
+                    t[0].execute("take")
+                    with self.assertRaises(ConnectionLost):
+                        t[1].execute("give")
+        self.assertEqual(self.written(), ([], []))
+
+    # ** recovery
+
+    def test_a_database_that_goes_down_behind_the_decision(self):
+        with self.manager(patience=0.2) as xa:
+            with xa.transaction() as t:
+                t[0].execute("take")
+                t[1].execute("give")
+                t[1].line.connection._prepare = lambda xid: self.prepare_and_go_down(xid)
+            self.assertIs(t.outcome, Outcome.COMMITTED)
+            self.assertEqual(self.written(), (["take"], []))
+            self.right.is_up = True
+            xa._session._rms[1]._tried = 0
+            self.move(xa)
+        self.assertEqual(self.written(), (["take", "take"], ["give", "give"]))
+        self.assertEqual(self.in_the_log()["rows"], {})
+
+    def prepare_and_go_down(self, xid):
+        self.right.prepared[xid] = ["give"]
+        self.right.crash()
+        return Code.OK
+
+    def test_the_coordinator_ends_before_its_decision(self):
+        with self.manager(dies_at="decide") as xa:
+            with self.assertRaises(OutcomeUnknown) as raised:
+                self.move(xa)
+            self.assertIsInstance(raised.exception.__cause__, CoordinatorGone)
+            self.assertEqual((len(self.left.prepared), len(self.right.prepared)), (1, 1))
+            self.move(xa)
+        self.assertEqual(self.written(), (["take"], ["give"]))
+        self.assertEqual((self.left.prepared, self.right.prepared), ({}, {}))
+
+    def test_the_coordinator_ends_behind_its_decision(self):
+        with self.manager(dies_at="decided") as xa:
+            with self.assertRaises(OutcomeUnknown):
+                self.move(xa)
+            self.assertEqual(self.written(), ([], []))
+            self.move(xa)
+        self.assertEqual(self.written(), (["take", "take"], ["give", "give"]))
+        self.assertEqual(self.in_the_log()["rows"], {})
+
+    def test_the_coordinator_ends_while_nothing_is_open(self):
+        with self.manager(dies_at="begin") as xa:
+            self.move(xa)
+        self.assertEqual(self.written(), (["take"], ["give"]))
+
+    def test_a_database_that_is_down_at_the_start(self):
+        self.right.is_up = False
+        with self.manager(patience=0.2) as xa:
+            with xa.transaction() as t:
+                t[0].execute("take")
+            self.right.is_up = True
+            xa._session._rms[1]._tried = 0
+            self.move(xa)
+        self.assertEqual(self.written(), (["take", "take"], ["give"]))
+
+    def test_the_connections_of_an_earlier_driver_are_ended_first(self):
+        stray = self.right.connect()
+        with self.manager() as xa:
+            self.assertTrue(stray.is_lost)
+            with xa.transaction() as t:
+                t[1].execute("give")
+                self.assertFalse(t[1].line.connection.is_lost)
+
+    # ** threads, and the end
+
+    def test_no_thread_comes_free(self):
+        with self.manager(threads=1, patience=0.2) as xa:
+            with xa.transaction():
+                with self.assertRaises(Overdue):
+                    with xa.transaction():
+                        pass
+
+    def test_a_transaction_is_over_once(self):
+        with self.manager() as xa:
+            with xa.transaction() as t:
+                t[0].execute("take")
+                t.rollback()
+                with self.assertRaises(XaError):
+                    t[1].execute("give")
+        self.assertEqual(self.written(), ([], []))
+
+    def test_a_manager_that_is_closed(self):
+        xa = self.manager()
+        xa.close()
+        with self.assertRaises(CoordinatorGone):
+            self.move(xa)
+
+
+if __name__ == "__main__":
+    unittest.main()
