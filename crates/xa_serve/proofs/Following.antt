@@ -13,6 +13,7 @@ use Rattle.xa_line.specs.Histories.{LineStands}
 use Rattle.xa_line.specs.Traffic.{Traffic, answered, heard, issued}
 use Rattle.xa_line.proofs.TrafficLaws.{line_goes_on}
 use Rattle.xa_model.specs.Facts as facts
+use Rattle.xa_model.specs.Facts.Distinct.{ApartRows}
 use Rattle.xa_model.specs.Protocol.{Right}
 use Rattle.xa_model.specs.Replies.Allowed.{Allowed.As_value, IsValue}
 use Rattle.xa_model.specs.Replies.Rules.{must_refuse}
@@ -66,30 +67,32 @@ judged tr s step looked stands = ap (λ k. refusal_in k step) stands.book ∙ re
 -- ** steps of the manager alone
 
 module _ {L : Type 0} (old new : Session L) where
+  -- where a happening of the manager alone, or of a resource manager by itself, leads
+  pub own_goes : (tr : Trace) (e : Happening) → StandsIn tr old → Right tr e → IsOwn tr e
+      → book_in new.manager ≡ after (book_in old.manager) e → new.lines ≡ old.lines → StandsIn (Then tr e) new
+  own_goes tr e stands right is book lines = record {
+    run = (stands.run, right);
+    apart = subst (λ o. ApartRows o.rows) (sym is.origin) stands.apart;
+    threads = ap (λ g. g.threads) lines ∙ stands.threads ∙ ap (λ o. o.threads) (sym is.origin);
+    rms = ap (λ g. g.rms) lines ∙ stands.rms ∙ ap (λ o. o.rms) (sym is.origin);
+    whole = subst IsWhole (sym lines) stands.whole;
+    rms_up = λ r. is.rms_up r ∙ stands.rms_up r;
+    book = book_then tr e old new stands right (book ∙ ap (λ d. book_after (book_in old.manager) d e) (sym is.doubt));
+    lines =
+        λ t r has. subst (λ g. LineStands (Then tr e) (line t r) (line_at g t r)) (sym lines)
+        (line_stays tr e (line t r) (line_at old.lines t r) (is.unbroken (line t r)) (is.calls (line t r)) (is.taken (line t r)) (is.heard (line t r))
+        (stands.lines t r (subst (λ g. HasLine g t r) lines has)));
+  }
+
   pub own_follows : (step : Step) (reply : Reply) → IsLookedAt step → ((tr : Trace) → managers_refusal tr step ≡ must_refuse tr step)
       → refusal_in (book_in old.manager) step ≡ None → ((tr : Trace) → StandsIn tr old → IsValue tr step reply)
       → ((tr : Trace) → IsOwn tr (happened step reply)) → book_in new.manager ≡ after (book_in old.manager) (happened step reply)
       → new.lines ≡ old.lines → Follows (happened step reply) old new
   own_follows step reply looked same none value own book lines tr stands =
       let e = happened step reply in
-      let is = own tr in
       let forced : must_refuse tr step ≡ None = sym (same tr) ∙ sym (judged tr old step looked stands) ∙ none in
-      let right : Right tr e = allowed_right tr step reply (As_value forced (value tr stands)) in (
-        right,
-        record {
-          run = (stands.run, right);
-          apart = stands.apart;
-          threads = ap (λ g. g.threads) lines ∙ stands.threads;
-          rms = ap (λ g. g.rms) lines ∙ stands.rms;
-          whole = subst IsWhole (sym lines) stands.whole;
-          rms_up = λ r. is.rms_up r ∙ stands.rms_up r;
-          book = book_then tr e old new stands right (book ∙ ap (λ d. book_after (book_in old.manager) d e) (sym is.doubt));
-          lines =
-              λ t r has. subst (λ g. LineStands (Then tr e) (line t r) (line_at g t r)) (sym lines)
-              (line_stays tr e (line t r) (line_at old.lines t r) (is.unbroken (line t r)) (is.calls (line t r)) (is.taken (line t r)) (is.heard (line t r))
-              (stands.lines t r (subst (λ g. HasLine g t r) lines has)));
-        },
-      )
+      let right : Right tr e = allowed_right tr step reply (As_value forced (value tr stands)) in
+      (right, own_goes tr e stands right (own tr) book lines)
 
   own_begun : (tr : Trace) (g : Gtrid) → IsOwn tr (Begun g)
   own_begun tr g =

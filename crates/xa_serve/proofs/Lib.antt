@@ -1,3 +1,4 @@
+mod Alone
 mod Following
 mod Headroom
 mod Lines

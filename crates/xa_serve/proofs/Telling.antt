@@ -1,7 +1,7 @@
 -- What is told of a line, in histories: calls that are issued, and lines that are lost.
-use Rattle.std.proofs.Common.{◌≡◌, ◌≢◌, ℕ, Bool, true, false, not, List, [], ◌∷◌, ◌++◌, map, inl, inr, Option, Some, None, refl, sym, ap, ◌∙◌, subst, append_assoc}
+use Rattle.std.proofs.Common.{◌≡◌, ◌≢◌, ℕ, Bool, true, false, not, List, [], ◌∷◌, ◌++◌, map, inl, inr, Option, Some, None, refl, sym, ap, ◌∙◌, subst, append_assoc, length}
 use Rattle.std.specs.Prelude.{◌&&◌, if◌then◌else◌, nat_eq, nat_le, nat_lt, slice_get}
-use Rattle.std.specs.Option.{option_map}
+use Rattle.std.specs.Option.{option_and_then, option_map}
 use Rattle.std.proofs.lemmas.Bool.{ne_eqb}
 use Rattle.std.proofs.lemmas.Bool.Decides.{eqb_tells}
 use Rattle.std.proofs.lemmas.List.{append-nil, map-append}
@@ -22,7 +22,7 @@ use Rattle.xa_line.specs.Grid.{Grid, HasLine, IsWhole, line_at, with_line}
 use Rattle.xa_line.specs.Histories.{LineStands, known as known_call, known_answered}
 use Rattle.xa_line.specs.Traffic.{PassesOn, Traffic, answered, heard, issued, no_traffic, taken, with_one_more}
 use Rattle.xa_line.proofs.GridLaws.{line_at-with_line_other_rm, line_at-with_line_other_thread, line_at-with_line_same, whole-with_line}
-use Rattle.xa_line.proofs.TrafficLaws.{as_many_calls, line_goes_on, line_renewed, next_answer_waits, next_call_waits}
+use Rattle.xa_line.proofs.TrafficLaws.{as_many_calls, line_goes_on, line_renewed, next_answer_waits, next_call_waits, same_length}
 use Rattle.xa_line.proofs.FlowLaws.{all_of-PassesOn}
 use Rattle.xa_model.specs.Facts as facts
 use Rattle.xa_model.specs.Facts.Distinct.{ApartRows}
@@ -34,15 +34,15 @@ use Rattle.xa_model.specs.Replies.Steps.{Step, accepted, happened}
 use Rattle.xa_model.specs.Trace.{Answer as KnownAnswer, Call, Happening, Happening.Crashed, Happening.Heard, Happening.Issued, Happening.Resolved, Happening.ResolvedOpen, Happening.Took, Line, Name.Foreign, Name.Ours, Trace, Trace.Then, line, line_eq}
 use Rattle.xa_model.proofs.Keys.{line_eq-refl}
 use Rattle.xa_model.proofs.Replies.Replies.{allowed_right, first_none}
-use Rattle.xa_tm.specs.Book.{Book, Doubt.NoDoubt, after, book_after, doubt_of_happening}
+use Rattle.xa_tm.specs.Book.{Book, Doubt.NoDoubt, after, book_after, book_of, doubt_of_happening}
 use Rattle.xa_tm.specs.Calls.{book_in}
 use Rattle.xa_tm.specs.News.{Asked}
 use Rattle.xa_tm.specs.Refusing.{manager_rules, resolved_in, resolved_open_in}
 use Rattle.xa_tm.proofs.History.Recovery.{resolved_is, resolved_open_is}
 use Rattle.xa_tm.proofs.History.RowCounts.{right_book}
-use Rattle.xa_serve.specs.Following.{Follows, FollowsAnswer, StandsIn}
+use Rattle.xa_serve.specs.Following.{Follows, FollowsAnswer, FollowsLoss, StandsIn}
 use Rattle.xa_serve.specs.Hearing.{heard_first, with_answer}
-use Rattle.xa_serve.specs.Session.{LetsWait, has_line, line_refusal, recovery_bar, recovery_refusal, with_more}
+use Rattle.xa_serve.specs.Session.{LetsWait, has_line, known_waiting, line_refusal, recovery_bar, recovery_refusal, with_more}
 use Rattle.xa_serve.specs.declared.session.Session.{Session}
 use Rattle.xa_serve.proofs.Following.{book_then, judged, line_stays}
 use Rattle.xa_serve.proofs.Lines.{MayIssue, MayTell, may_tell, none_first, none_second}
@@ -79,9 +79,51 @@ lines_with tr g t r x whole has here others u s has_u =
 
 -- ** a line that is lost
 
-line_why : (there up rm_up : Bool) → Option Refusal
-line_why there up rm_up =
-    if there then (if not up then Some Refusals.ManagerDown else (if not rm_up then Some Refusals.RmDown else None)) else Some Refusals.Limit
+-- what waits first, as a history knows it
+known_first : {A B : Type 0} (f : A → Option B) (o : Option A) (x : Option B) → option_map f o ≡ option_map Some x → x ≡ option_and_then f o
+known_first f None None e = refl
+known_first f None (Some b) e = absurd (cc)
+known_first f (Some a) None e = absurd (cc)
+known_first f (Some a) (Some b) e = sym (some_is (f a) (Some b) e)
+
+-- a session stands in a history but for one line
+record StandsBeside {L : Type 0} (tr : Trace) (t r : ℕ) (s : Session L) : Type 0 where
+  run : IsRun tr
+  apart : ApartRows (facts.origin tr).rows
+  threads : s.lines.threads ≡ (facts.origin tr).threads
+  rms : s.lines.rms ≡ (facts.origin tr).rms
+  whole : IsWhole s.lines
+  rms_up : (q : ℕ) → facts.rm_up tr q ≡ true
+  book : book_in s.manager ≡ book_of tr
+  others : (u q : ℕ) → HasLine s.lines u q → line_eq (line t r) (line u q) ≡ false → LineStands tr (line u q) (line_at s.lines u q)
+
+beside : {L : Type 0} (tr : Trace) (t r : ℕ) (s : Session L) → StandsIn tr s → StandsBeside tr t r s
+beside tr t r s stands = record {
+  run = stands.run;
+  apart = stands.apart;
+  threads = stands.threads;
+  rms = stands.rms;
+  whole = stands.whole;
+  rms_up = stands.rms_up;
+  book = stands.book;
+  others = λ u q has apart. stands.lines u q has;
+}
+
+-- the same where a call on that line was done, and its answer not heard
+beside_taken : {L : Type 0} (tr : Trace) (t r : ℕ) (s : Session L) (k : Call) (a : KnownAnswer) → StandsIn tr s → Right tr (Took (line t r) k a)
+    → StandsBeside (Then tr (Took (line t r) k a)) t r s
+beside_taken tr t r s k a stands right = record {
+  run = (stands.run, right);
+  apart = stands.apart;
+  threads = stands.threads;
+  rms = stands.rms;
+  whole = stands.whole;
+  rms_up = λ q. stands.rms_up q;
+  book = stands.book;
+  others =
+      λ u q has apart. line_stays tr (Took (line t r) k a) (line u q) (line_at s.lines u q) refl refl (rw apart refl) refl
+      (stands.lines u q has);
+}
 
 module _ {L : Type 0} (old new : Session L) (t r : ℕ) where
   there_in : (tr : Trace) → StandsIn tr old → has_line old.lines t r ≡ true
@@ -91,28 +133,36 @@ module _ {L : Type 0} (old new : Session L) (t r : ℕ) where
   up_in : (tr : Trace) → StandsIn tr old → (book_in old.manager).up ≡ true → facts.up tr ≡ true
   up_in tr stands up = sym (ap (λ (k : Book). k.up) stands.book) ∙ up
 
-  pub lost_follows : MayTell old t r → book_in new.manager ≡ after (book_in old.manager) (Crashed (Parts.Line t r))
-      → new.lines ≡ with_line old.lines t r no_traffic → Follows (Crashed (Parts.Line t r)) old new
-  unfolding line_why
-  lost_follows may book lines tr stands =
+  -- where the loss of the line leads, whatever was under way on it
+  lost_goes : (tr : Trace) → StandsBeside tr t r old → MayTell old t r
+      → book_in new.manager ≡ after (book_in old.manager) (Crashed (Parts.Line t r)) → new.lines ≡ with_line old.lines t r no_traffic
+      → StandsIn (Then tr (Crashed (Parts.Line t r))) new
+  lost_goes tr stands may book lines =
       let e = Crashed (Parts.Line t r) in
-      let forced : must_refuse tr (Steps.Crash (Parts.Line t r)) ≡ None =
-      λ i. line_why (there_in tr stands may.there i) (up_in tr stands may.up i) (stands.rms_up r i) in
-      let right : Right tr e = allowed_right tr (Steps.Crash (Parts.Line t r)) Replies.Crashed (As_value forced refl) in
       let stand = lines_with (Then tr e) old.lines t r no_traffic stands.whole may.has (line_renewed tr e (line t r) (line_eq-refl (line t r)))
-      (λ u q has_u apart. line_stays tr e (line u q) (line_at old.lines u q) apart refl refl refl (stands.lines u q has_u)) in (
-        right,
-        record {
-          run = (stands.run, right);
-          apart = stands.apart;
-          threads = ap (λ g. g.threads) lines ∙ stands.threads;
-          rms = ap (λ g. g.rms) lines ∙ stands.rms;
-          whole = subst IsWhole (sym lines) (whole-with_line old.lines t r no_traffic stands.whole);
-          rms_up = λ q. stands.rms_up q;
-          book = book_then tr e old new stands right book;
-          lines =
-              λ u q has. subst (λ g. LineStands (Then tr e) (line u q) (line_at g u q)) (sym lines) (stand u q (subst (λ g. HasLine g u q) lines has));
-        },
+      (λ u q has_u apart. line_stays tr e (line u q) (line_at old.lines u q) apart refl refl refl (stands.others u q has_u apart)) in
+      record {
+        run = (stands.run, tt);
+        apart = stands.apart;
+        threads = ap (λ g. g.threads) lines ∙ stands.threads;
+        rms = ap (λ g. g.rms) lines ∙ stands.rms;
+        whole = subst IsWhole (sym lines) (whole-with_line old.lines t r no_traffic stands.whole);
+        rms_up = λ q. stands.rms_up q;
+        book = book ∙ ap (λ k. book_after k NoDoubt e) stands.book ∙ sym (right_book tr e stands.run tt stands.apart);
+        lines =
+            λ u q has. subst (λ g. LineStands (Then tr e) (line u q) (line_at g u q)) (sym lines) (stand u q (subst (λ g. HasLine g u q) lines has));
+      }
+
+  pub lost_follows : MayTell old t r → book_in new.manager ≡ after (book_in old.manager) (Crashed (Parts.Line t r))
+      → new.lines ≡ with_line old.lines t r no_traffic → FollowsLoss (line t r) (known_waiting old.lines t r) old new
+  lost_follows may book lines tr stands =
+      let at = line_at old.lines t r in
+      let first : facts.next_call tr (line t r) ≡ known_waiting old.lines t r =
+      known_first known_call (slice_get at.calls.waiting 0) _ (next_call_waits tr (line t r) at (stands.lines t r may.has))
+      ∙ ap (λ b. option_and_then known_call (if b then slice_get at.calls.waiting 0 else None)) (sym may.there) in (
+        first,
+        lost_goes tr (beside tr t r old stands) may book lines,
+        λ k a is sound. lost_goes (Then tr (Took (line t r) k a)) (beside_taken tr t r old k a stands (first ∙ is, sound)) may book lines,
       )
 
 -- ** a call that is issued
@@ -225,6 +275,14 @@ first_is : {A : Type 0} (xs : List A) (x : A) → slice_get xs 0 ≡ Some x → 
 first_is [] x e = absurd (cc)
 first_is (y ∷ ys) x e = (ys, ap (λ z. z ∷ ys) (some_is y x e))
 
+-- where no answer waits, each was heard
+none_unheard : (tr : Trace) (l : Line) (at : Traffic) → LineStands tr l at → at.answers.waiting ≡ []
+    → length (facts.heard tr l) ≡ length (facts.taken tr l)
+none_unheard tr l at stands none =
+    sym (same_length known_answered (heard at) (facts.heard tr l) stands.all_heard)
+    ∙ ap length (sym (append-nil (heard at)) ∙ ap (λ ws. heard at ++ ws) (sym none))
+    ∙ same_length known_answered (answered at) (facts.taken tr l) stands.all_answered
+
 some_seen : {A : Type 0} (o : Option A) (x : A) → Some (Some x) ≡ option_map Some o → o ≡ Some x
 some_seen None x e = absurd (cc)
 some_seen (Some y) x e = sym (some_is (Some x) (Some y) e)
@@ -289,7 +347,7 @@ module _ {L : Type 0} (old new : Session L) (t r : ℕ) (call : Asking.Call Xid)
       let head = first_is at.calls.waiting call first in
       let next : facts.next_call tr l ≡ Some k =
       some_seen _ _ (sym (ap (option_map known_call) first ∙ ap (λ o. Some o) is) ∙ next_call_waits tr l at here) in (
-        next,
+        record { is_up = up_in old new t r tr stands may.up; first = next; none_unheard = none_unheard tr l at here none },
         λ sound.
             let right : Right (Then tr took) e = (up_in old new t r tr stands may.up, waits_answered tr l k call answer head.0 at here is head.1 none) in
             let run : IsRun (Then tr took) = (stands.run, (next, sound)) in

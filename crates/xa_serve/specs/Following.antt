@@ -1,11 +1,13 @@
 -- How a session follows a history.
-use Rattle.std.specs.Prelude.{ℕ, ◌≡◌, true, Some}
+use Rattle.std.specs.Prelude.{ℕ, ◌≡◌, true, Option, Some}
 use Rattle.xa_line.specs.Grid.{HasLine, IsWhole, line_at}
 use Rattle.xa_line.specs.Histories.{LineStands}
 use Rattle.xa_model.specs.Facts.{next_call, origin, rm_up}
 use Rattle.xa_model.specs.Facts.Distinct.{ApartRows}
-use Rattle.xa_model.specs.Protocol.{IsRun, Right, SoundAnswer}
-use Rattle.xa_model.specs.Trace.{Answer, Call, Happening, Happening.Heard, Happening.Took, Line, Trace, Trace.Then, line}
+use Rattle.xa_model.specs.Protocol.{IsRun, OldOrigin, Right, SoundAnswer}
+use Rattle.xa_model.specs.Trace.{Answer, Call, Happening, Happening.Heard, Happening.Took, Line, Origin, Trace, Trace.From, Trace.Then, line}
+use Rattle.xa_standings.specs.Seen.{Waits, break_of}
+use Rattle.xa_tm.specs.Begins.{BeginsWith}
 use Rattle.xa_tm.specs.Book.{book_of}
 use Rattle.xa_tm.specs.Calls.{book_in}
 use Rattle.xa_serve.specs.declared.session.Session.{Session}
@@ -22,13 +24,24 @@ pub record StandsIn {L : Type 0} (tr : Trace) (s : Session L) : Type 0 where
   pub book : book_in s.manager ≡ book_of tr
   pub lines : (t r : ℕ) → HasLine s.lines t r → LineStands tr (line t r) (line_at s.lines t r)
 
+-- it stands in each start that has the rows and records of its log
+abbrev pub StandsAtStart : {L : Type 0} → (threads rms : ℕ) → Session L → Type 0
+StandsAtStart threads rms s = (o : Origin) → BeginsWith threads rms s.manager o → OldOrigin o → StandsIn (From o) s
+
 -- wherever the session stood, this was right to happen, and the session then stands where it leads
 abbrev pub Follows : {L : Type 0} → Happening → (old new : Session L) → Type 0
 Follows e old new = (tr : Trace) → StandsIn tr old → Right tr e × StandsIn (Then tr e) new
 
--- Wherever the session stood, this call waited first on the line. Where the resource manager may have answered so, it is right that the
--- answer is heard, and the session then stands where both lead.
+-- Wherever the session stood, this call waited first on the line, and no answer waited. Where the resource manager may have answered so,
+-- it is right that the answer is heard, and the session then stands where both lead.
 abbrev pub FollowsAnswer : {L : Type 0} → Line → Call → Answer → (old new : Session L) → Type 0
 FollowsAnswer l c a old new =
-    (tr : Trace) → StandsIn tr old → (next_call tr l ≡ Some c)
+    (tr : Trace) → StandsIn tr old → Waits tr l c
     × (SoundAnswer tr l c a → Right (Then tr (Took l c a)) (Heard l c a) × StandsIn (Then (Then tr (Took l c a)) (Heard l c a)) new)
+
+-- Wherever the session stood, this call, or none, waited first on the line. The session then stands where the loss of the line leads,
+-- whether the call wasn't done, or was with any answer that the resource manager may have given.
+abbrev pub FollowsLoss : {L : Type 0} → Line → Option Call → (old new : Session L) → Type 0
+FollowsLoss l c old new =
+    (tr : Trace) → StandsIn tr old → (next_call tr l ≡ c) × StandsIn (Then tr (break_of l)) new
+    × ((k : Call) (a : Answer) → c ≡ Some k → SoundAnswer tr l k a → StandsIn (Then (Then tr (Took l k a)) (break_of l)) new)

@@ -1,16 +1,15 @@
 -- Which answers a session hears.
-use Rattle.std.specs.Prelude.{◌≡◌, ◌&&◌, ◌++◌, Bool, true, false, nat_le, List, [], ◌∷◌, Option, Some, None}
-use Rattle.xa_base.specs.Call.{xid_in}
+use Rattle.std.specs.Prelude.{ℕ, ℤ, pos, ◌&&◌, ◌++◌, Bool, true, false, nat_le, length, List, [], ◌∷◌}
 use Rattle.xa_base.specs.Xid.{Xid}
 use Rattle.xa_base.specs.declared.answer.Answer.{Answer as Given}
 use Rattle.xa_base.specs.declared.answer.Answer.TheVariants.{Page, Ret}
 use Rattle.xa_base.specs.declared.branch.Gtrid.{Gtrid}
 use Rattle.xa_base.specs.declared.call.Call.{Call as Waiting}
+use Rattle.xa_base.specs.declared.call.Call.TheVariants as Calls
+use Rattle.xa_base.specs.declared.code.Code.TheVariants.{Invalid, Success}
 use Rattle.xa_line.specs.Traffic.{Traffic}
 use Rattle.xa_log.specs.Content.{last_number}
-use Rattle.xa_model.specs.Replies.Steps.{accepted}
-use Rattle.xa_model.specs.Trace.{Answer, Call, Name, Name.Foreign, Name.Ours}
-use Rattle.xa_tm.specs.Answering.{FitsRecord, IsAnswerTo}
+use Rattle.xa_model.specs.Trace.{Answer, Name, Name.Foreign, Name.Ours}
 use Rattle.xa_tm.specs.News.{Asked}
 
 -- ** which
@@ -24,24 +23,38 @@ abbrev pub is_ours : Name → Bool
 is_ours (Ours b) = fits_row b.gtrid
 is_ours (Foreign x) = false
 
-abbrev pub is_code : Answer → Bool
-is_code (Ret code) = true
-is_code (Page names) = false
+-- an answer to xa_open or xa_close: XA_OK
+abbrev pub is_ok : Answer → Bool
+is_ok (Ret Success) = true
+is_ok answer = false
 
--- a call on a branch is answered by a code, and is on a branch of this manager; any other call may be answered in any way
-abbrev pub answers_call_on : Option Name → Answer → Bool
-answers_call_on (Some name) answer = is_code answer && is_ours name
-answers_call_on None answer = true
+-- so many are no more than were asked for; none are, where the count is negative
+abbrev pub is_at_most : (count : ℤ) → ℕ → Bool
+is_at_most (pos most) n = nat_le n most
+is_at_most count n = false
+
+-- an answer to an xa_recover of so many: a page that lists no more, or XAER_INVAL
+abbrev pub is_scan_of : (count : ℤ) → Answer → Bool
+is_scan_of count (Page names) = is_at_most count (length names)
+is_scan_of count (Ret Invalid) = true
+is_scan_of count (Ret code) = false
+
+-- an answer to a call on a branch: a code, where the branch is one of this manager's
+abbrev pub is_code_on : Name → Answer → Bool
+is_code_on name (Ret code) = is_ours name
+is_code_on name (Page names) = false
 
 -- such an answer may be heard to such a call
 abbrev pub can_hear : Asked → Answer → Bool
-can_hear asked answer = answers_call_on (xid_in asked) answer
-
--- what the manager then asks: the answer is one to the call, makes no record that the log can't hold, and a history knows the call
-pub record IsHearable (a : Asked) (answer : Answer) : Type 0 where
-  pub answers : IsAnswerTo a answer
-  pub fits : FitsRecord a answer
-  pub known : (c : Call) × (accepted a ≡ Some c)
+can_hear Calls.OpenRm answer = is_ok answer
+can_hear Calls.CloseRm answer = is_ok answer
+can_hear (Calls.Start name join) answer = is_code_on name answer
+can_hear (Calls.End name fail) answer = is_code_on name answer
+can_hear (Calls.Prepare name) answer = is_code_on name answer
+can_hear (Calls.Commit name one_phase) answer = is_code_on name answer
+can_hear (Calls.Rollback name) answer = is_code_on name answer
+can_hear (Calls.Forget name) answer = is_code_on name answer
+can_hear (Calls.Recover count start_scan end_scan) answer = is_scan_of count answer
 
 -- ** how
 

@@ -1,6 +1,6 @@
 -- What a session stands at, and what it refuses.
 use Rattle.std.specs.Prelude.{ℕ, ◌≡◌, ◌≤◌, ◌-◌, ◌+◌, ◌++◌, ◌&&◌, ◌||◌, Bool, not, nat_le, nat_lt, if◌then◌else◌, List, [], length, slice_get, Option, Some, None, Result, Ok, Err}
-use Rattle.std.specs.Option.{option_map, option_or}
+use Rattle.std.specs.Option.{option_and_then, option_map, option_or}
 use Rattle.xa_base.specs.Answer.{map_answer}
 use Rattle.xa_base.specs.Call.{map_call}
 use Rattle.xa_base.specs.Opening.{has_closed, has_opened}
@@ -11,7 +11,7 @@ use Rattle.xa_base.specs.declared.refusal.Refusal.{Refusal}
 use Rattle.xa_base.specs.declared.refusal.Refusal.TheVariants.{Closed, Full, Limit, LogFault, ManagerDown, NotOpen}
 use Rattle.xa_base.specs.declared.step.Step.TheVariants as Steps
 use Rattle.xa_line.specs.Grid.{Grid, HasLine, line_at, new_grid, with_line}
-use Rattle.xa_line.specs.Histories.{AreKnownAs}
+use Rattle.xa_line.specs.Histories.{AreKnownAs, known}
 use Rattle.xa_line.specs.Traffic.{Flow, Traffic, barred, is_full, issued, places}
 use Rattle.xa_model.specs.Replies.History.{name_of}
 use Rattle.xa_model.specs.Replies.Steps.{Step}
@@ -68,6 +68,10 @@ has_line g t r = nat_lt t g.threads && nat_lt r g.rms
 -- the call that waits first on the line; none where the session has no such line
 abbrev pub first_waiting : Grid → (thread rm : ℕ) → Option (Call Xid)
 first_waiting g t r = if has_line g t r then slice_get (line_at g t r).calls.waiting 0 else None
+
+-- the same as a history knows it
+abbrev pub known_waiting : Grid → (thread rm : ℕ) → Option KnownCall
+known_waiting g t r = option_and_then known (first_waiting g t r)
 
 -- why it refuses whatever is told of a line, the first reason that applies
 abbrev pub line_refusal : {L : Type 0} → Session L → (thread rm : ℕ) → Option Refusal

@@ -1,16 +1,39 @@
 -- How a session tracks what is seen.
+use Rattle.std.specs.Prelude.{ℕ, Option}
 use Rattle.xa_model.specs.Protocol.{IsRun}
-use Rattle.xa_model.specs.Trace.{Happening, Origin, Trace}
-use Rattle.xa_standings.specs.Seen.{IsHistory, IsManagers, KeepsRules, Seen, Seen.Did}
-use Rattle.xa_serve.specs.Following.{Follows, StandsIn}
+use Rattle.xa_model.specs.Trace.{Answer, Call, Happening, Line, Origin, Trace}
+use Rattle.xa_standings.specs.Seen.{HasAnswer, IsHistory, IsManagers, KeepsRules, Seen, Seen.Answered, Seen.Did, Seen.Lost, Seen.Start}
+use Rattle.xa_tm.specs.Begins.{BeginsWith}
+use Rattle.xa_serve.specs.Following.{Follows, FollowsAnswer, FollowsLoss, StandsAtStart, StandsIn}
 use Rattle.xa_serve.specs.declared.session.Session.{Session}
 
 -- the session stands in each history of what is seen that is a run, whatever the resource managers did by themselves
 abbrev pub Tracks : {L : Type 0} → Origin → Seen → Session L → Type 0
 Tracks o seen s = (tr : Trace) → IsHistory o seen tr → IsRun tr → StandsIn tr s
 
--- A session that tracks what is seen, and does what was right to happen wherever it stood, keeps the rules, and tracks that too.
+-- the manager kept its rules in what is seen, and the session tracks it
+abbrev pub KeepsTrack : {L : Type 0} → Origin → Seen → Session L → Type 0
+KeepsTrack o seen s = KeepsRules o seen × Tracks o seen s
+
+-- A session that stands in each start that has its log's rows and records keeps track from each such start.
+abbrev pub StartsAreTracked : Type 0 → Type 0
+StartsAreTracked L =
+    (threads rms : ℕ) (s : Session L) → StandsAtStart threads rms s → (o : Origin) → BeginsWith threads rms s.manager o → KeepsTrack o Start s
+
+-- A session that keeps track of what is seen, and does what was right to happen wherever it stood, keeps track of that too.
 abbrev pub StepsAreTracked : Type 0 → Type 0
 StepsAreTracked L =
-    (o : Origin) (seen : Seen) (e : Happening) (old new : Session L) → IsManagers e → KeepsRules o seen → Tracks o seen old → Follows e old new
-    → KeepsRules o (Did seen e) × Tracks o (Did seen e) new
+    (o : Origin) (seen : Seen) (e : Happening) (old new : Session L) → IsManagers e → KeepsTrack o seen old → Follows e old new
+    → KeepsTrack o (Did seen e) new
+
+-- And so one that hears an answer which such a call has.
+abbrev pub AnswersAreTracked : Type 0 → Type 0
+AnswersAreTracked L =
+    (o : Origin) (seen : Seen) (l : Line) (c : Call) (a : Answer) (old new : Session L) → HasAnswer c a → KeepsTrack o seen old
+    → FollowsAnswer l c a old new → KeepsTrack o (Answered seen l c a) new
+
+-- And so one that loses a line.
+abbrev pub LossesAreTracked : Type 0 → Type 0
+LossesAreTracked L =
+    (o : Origin) (seen : Seen) (l : Line) (c : Option Call) (old new : Session L) → KeepsTrack o seen old → FollowsLoss l c old new
+    → KeepsTrack o (Lost seen l c) new

@@ -2,7 +2,7 @@
 //! nothing: each contract is a theorem.
 
 ghost use Rattle.xa_serve.specs.Headroom.{HeadroomIsSound, HeadroomIsUsedUpByOne, StartsHaveHeadroom};
-ghost use Rattle.xa_serve.specs.Tracking.{StepsAreTracked};
+ghost use Rattle.xa_serve.specs.Tracking.{AnswersAreTracked, LossesAreTracked, StartsAreTracked, StepsAreTracked};
 
 use xa_log::DecisionLog;
 
@@ -18,8 +18,26 @@ pub fn books_have_headroom()
     ensures starts { StartsHaveHeadroom }
 {}
 
-/// A session that tracks what is seen, and does what was right to happen wherever it stood (`follows` of its methods),
-/// keeps the rules, and tracks that too.
+/// A new session tracks what is seen, as nothing is: from each start that has its log's rows and records (`stands` of
+/// [`Session::new`](crate::Session::new)).
+pub fn starts_are_tracked<L: DecisionLog + Drop>()
+    ensures { StartsAreTracked L }
+{}
+
+/// A session that tracks what is seen, in which its manager kept the rules, and does what was right to happen wherever it
+/// stood (`follows` of its methods), keeps the rules, and tracks that too.
 pub fn steps_are_tracked<L: DecisionLog + Drop>()
     ensures { StepsAreTracked L }
+{}
+
+/// And so does one that hears an answer which such a call has (`has` and `follows` of
+/// [`Session::answer`](crate::Session::answer)).
+pub fn answers_are_tracked<L: DecisionLog + Drop>()
+    ensures { AnswersAreTracked L }
+{}
+
+/// And so does one that loses a line, where it isn't known whether the call that waited first was done (`follows` of
+/// [`Session::lose_line`](crate::Session::lose_line)).
+pub fn losses_are_tracked<L: DecisionLog + Drop>()
+    ensures { LossesAreTracked L }
 {}

@@ -11,6 +11,9 @@ mod hearing;
 mod laws;
 mod session;
 
-pub use laws::{books_have_headroom, steps_are_tracked};
+pub use laws::{
+    answers_are_tracked, books_have_headroom, losses_are_tracked, starts_are_tracked,
+    steps_are_tracked,
+};
 pub use session::Session;
 pub use session::answers::Unfit;

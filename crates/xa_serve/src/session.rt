@@ -2,11 +2,8 @@
 
 ghost use Rattle.std.specs.Prelude.{◌≡◌, ◌<◌, IfOk};
 ghost use Rattle.xa_line.specs.Grid.{new_grid};
-ghost use Rattle.xa_model.specs.Protocol.{OldOrigin};
-ghost use Rattle.xa_model.specs.Trace.{Origin, Trace.From};
-ghost use Rattle.xa_tm.specs.Begins.{BeginsWith};
 ghost use Rattle.xa_tm.specs.Calls.{book_in};
-ghost use Rattle.xa_serve.specs.Following.{StandsIn};
+ghost use Rattle.xa_serve.specs.Following.{StandsAtStart};
 ghost use Rattle.xa_serve.specs.Headroom.{first_headroom};
 ghost use Rattle.xa_serve.specs.Session.{IsReady, happenings_by, is_over, lines_by};
 
@@ -42,8 +39,7 @@ impl<L: DecisionLog + Drop> Session<L> {
     pub fn new(alloc: Global, threads: u32, rms: u32, log: L) -> Result<Session<L>, StartFault>
         ensures ready { IfOk result IsReady }
         ensures lines { IfOk result (λ s. s.lines ≡ new_grid threads rms) }
-        ensures stands { IfOk result (λ s. (o : Origin) → BeginsWith threads rms s.manager o →
-            OldOrigin o → StandsIn (From o) s) }
+        ensures stands { IfOk result (StandsAtStart threads rms) }
     {
         let Ok(lines) = Lines::new(alloc, threads, rms) else {
             return Err(StartFault::Memory);

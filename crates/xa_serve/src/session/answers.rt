@@ -12,6 +12,7 @@ ghost use Rattle.xa_model.specs.Facts.{record_of};
 ghost use Rattle.xa_model.specs.Replies.History.{name_of};
 ghost use Rattle.xa_model.specs.Replies.Steps.{accepted};
 ghost use Rattle.xa_model.specs.Trace.{Call as KnownCall, Fault.InHear, Happening.Heard, line};
+ghost use Rattle.xa_standings.specs.Seen.{HasAnswer};
 ghost use Rattle.xa_tm.specs.Book.{after, doubt_of};
 ghost use Rattle.xa_tm.specs.Calls.{FailsBy, book_in, log_in};
 ghost use Rattle.xa_serve.specs.Following.{FollowsAnswer};
@@ -33,7 +34,9 @@ pub enum Unfit {
     Refused(Refusal),
     /// No call waits on the line.
     NothingWaits,
-    /// The call that waits first has no such answer.
+    /// The call that waits first has no such answer: xa_open and xa_close are answered XA_OK, xa_recover by a page of no
+    /// more identifiers than were asked for or by XAER_INVAL, and any other call by a code, where its branch is one of
+    /// this manager's whose numbers fit the log.
     NoSuchAnswer,
 }
 
@@ -60,6 +63,11 @@ impl<L: DecisionLog + Drop> Session<L> {
             accepted (map_call name_of call) ≡ Some c →
             FailsBy (doubt_of (record_of c (map_answer name_of answer)))
             (InHear (line thread rm)) (book_in self.old.manager) (book_in self.new.manager) n)) }
+        // What was seen.
+        ensures has { OnOk result ((call : Waiting Named) (c : KnownCall) →
+            slice_get (line_at self.old.lines thread rm).calls.waiting 0 ≡ Some call →
+            accepted (map_call name_of call) ≡ Some c →
+            HasAnswer c (map_answer name_of answer)) }
         ensures follows { OnOk result ((call : Waiting Named) (c : KnownCall) →
             slice_get (line_at self.old.lines thread rm).calls.waiting 0 ≡ Some call →
             accepted (map_call name_of call) ≡ Some c →

@@ -5,11 +5,11 @@ ghost use Rattle.std.specs.Result.{result_err};
 ghost use Rattle.xa_base.specs.declared.step.Part.TheVariants as Parts;
 ghost use Rattle.xa_line.specs.Grid.{with_line};
 ghost use Rattle.xa_line.specs.Traffic.{no_traffic};
-ghost use Rattle.xa_model.specs.Trace.{Happening.Crashed};
+ghost use Rattle.xa_model.specs.Trace.{Happening.Crashed, line};
 ghost use Rattle.xa_tm.specs.Book.{after};
 ghost use Rattle.xa_tm.specs.Calls.{book_in, log_in};
-ghost use Rattle.xa_serve.specs.Following.{Follows};
-ghost use Rattle.xa_serve.specs.Session.{IsReady, line_refusal};
+ghost use Rattle.xa_serve.specs.Following.{FollowsLoss};
+ghost use Rattle.xa_serve.specs.Session.{IsReady, known_waiting, line_refusal};
 
 use super::Session;
 use crate::laws::books_have_headroom;
@@ -26,8 +26,8 @@ impl<L: DecisionLog + Drop> Session<L> {
         ensures refused { OnErr result (self.new ≡ self.old) }
         ensures ok { OnOk result (book_in self.new.manager ≡
             after (book_in self.old.manager) (Crashed (Parts.Line thread rm))) }
-        ensures follows { OnOk result
-            (Follows (Crashed (Parts.Line thread rm)) self.old self.new) }
+        ensures follows { OnOk result (FollowsLoss (line thread rm)
+            (known_waiting self.old.lines thread rm) self.old self.new) }
         ensures log { log_in self.new.manager ≡ log_in self.old.manager }
         ensures lines { OnOk result
             (self.new.lines ≡ with_line self.old.lines thread rm no_traffic) }

@@ -12,7 +12,7 @@ use Rattle.xa_model.specs.Replies.Steps.{accepted}
 use Rattle.xa_model.specs.Trace.{Fault.InHear, Happening.Heard, line}
 use Rattle.xa_tm.specs.Book.{Doubt.NoDoubt, doubt_of}
 use Rattle.xa_tm.specs.Calls.{FailsBy, book_in}
-use Rattle.xa_serve.proofs.Hearings.{answer_heard, hearable}
+use Rattle.xa_serve.proofs.Hearings.{answer_heard, has_answer, hearable}
 use Rattle.xa_serve.proofs.Lines.{all_with, may_tell}
 use Rattle.xa_serve.proofs.Sessions.{failed, has_few, step_leaves}
 use Rattle.xa_serve.proofs.Telling.{answered_follows}
@@ -78,3 +78,11 @@ returns-in-Ok-clause-follows g c = λ call d first is.
     (sym c.line.ensures.value) ∙ sym c.front.ensures ∙ ap option_copied c.in-Some-front.is)
     ∙ sym c.copy-call.ensures) is))
     (ap (with_line s.lines t r) (c.answer_first.ensures ∙ ap (λ (l : Traffic). with_answer l c.args.answer) c.line_mut.ensures.value))
+
+pub returns-in-Ok-clause-has : goal.returns-in-Ok-clause-has
+returns-in-Ok-clause-has g c = λ call d first is.
+    has_answer (map_call name_of c.copy-call.result) (map_answer name_of c.args.answer) d (sym c.can_hear.ensures ∙ c.if-not-can_hear.false)
+    (subst (λ k. accepted (map_call name_of k) ≡ Some d)
+    (some_is _ _ (sym first ∙ ap (λ (l : Traffic). slice_get l.calls.waiting 0)
+    (sym c.line.ensures.value) ∙ sym c.front.ensures ∙ ap option_copied c.in-Some-front.is)
+    ∙ sym c.copy-call.ensures) is)
