@@ -3,7 +3,7 @@
 from __future__ import annotations
 
 from dataclasses import dataclass
-from typing import FrozenSet, Optional, Tuple
+from typing import Optional, Tuple
 
 from .codes import Code
 from .xid import Xid
@@ -11,22 +11,28 @@ from .xid import Xid
 
 @dataclass(frozen=True)
 class Call:
-    """A call of XA: its name, and the branch that it is on, or how many identifiers an xa_recover may list."""
+    """A call of XA: its name, the branch that it is on, or how many identifiers an xa_recover may list, and its flags. As text it
+    is as requests and replies of the coordinator have it, as in `xa_commit 7:..:.. TMONEPHASE`."""
 
     name: str
     xid: Optional[Xid] = None
+    flags: Tuple[str, ...] = ()
     count: Optional[int] = None
-    flags: FrozenSet[str] = frozenset()
 
     @classmethod
     def parse(cls, text: str) -> Call:
-        """The call that a reply of the coordinator has, as in `xa_commit 7:..:.. TMONEPHASE`."""
+        """The call of a text."""
         name, *words = text.split(" ")
         if name in ("xa_open", "xa_close"):
-            return cls(name, flags=frozenset(words))
+            return cls(name, flags=tuple(words))
         if name == "xa_recover":
-            return cls(name, count=int(words[0]), flags=frozenset(words[1:]))
-        return cls(name, xid=Xid.parse(words[0]), flags=frozenset(words[1:]))
+            return cls(name, count=int(words[0]), flags=tuple(words[1:]))
+        return cls(name, Xid.parse(words[0]), tuple(words[1:]))
+
+    def __str__(self) -> str:
+        subject = self.count if self.xid is None else self.xid
+        words = [self.name] if subject is None else [self.name, str(subject)]
+        return " ".join([*words, *self.flags])
 
     @property
     def ends_a_prepared_branch(self) -> bool:
@@ -43,12 +49,7 @@ class Answer:
 
     def words_to(self, call: Call) -> str:
         """The answer as an `answer` request tells it, behind the thread and the resource manager."""
-        words = [call.name]
-        if call.xid is not None:
-            words.append(str(call.xid))
+        subject = "" if call.xid is None else f" {call.xid}"
         if self.page is None:
-            words.append(str(int(self.code)))
-        else:
-            words.append(str(len(self.page)))
-            words.extend(map(str, self.page))
-        return " ".join(words)
+            return f"{call.name}{subject} {int(self.code)}"
+        return " ".join([f"{call.name} {len(self.page)}", *map(str, self.page)])

@@ -3,10 +3,11 @@
 from __future__ import annotations
 
 import collections
+import contextlib
 import subprocess
 import threading
 import time
-from typing import Deque, Iterable, List, Optional, Sequence
+from typing import Deque, Iterable, Iterator, List, Optional, Sequence
 
 from .calls import Answer, Call
 from .errors import CoordinatorGone, Refused, RequestError, Unexplained
@@ -19,17 +20,19 @@ LOG_STATUS = 2
 UNEXPLAINED = "error the branch is in no such state"
 
 
-class _Reply:
-    """The place of a reply that is waited for."""
+class Reply:
+    """A request that is on its way, and the place of its reply."""
 
-    line: Optional[str] = None
+    def __init__(self, request: str):
+        self.request = request
+        self.line: Optional[str] = None
 
 
 class Coordinator:
     """The coordinator's process, and one session with it.
 
-    Any thread may ask. The coordinator replies in the order of the requests, so several may be under way at once:
-    whichever thread waits reads the next line, and gives it to the one that asked first."""
+    Any thread may ask. The coordinator replies in the order of the requests, so several may be under way at once: whichever
+    thread waits reads the next line, and it is the reply to the request that was posted first."""
 
     def __init__(self, command: Sequence[str]):
         self._process = subprocess.Popen(
@@ -38,7 +41,7 @@ class Coordinator:
         self._writing = threading.Lock()
         self._reading = threading.Condition()
         self._is_read = False
-        self._waiting: Deque[_Reply] = collections.deque()
+        self._waiting: Deque[Reply] = collections.deque()
         self._ending = threading.Lock()
         self._fault: Optional[str] = None
         #: The first line of the session: `restarted`, the incarnation, and how many decisions and heuristic ends the log has.
@@ -74,13 +77,13 @@ class Coordinator:
         """A transaction of the thread begins: its name."""
         return self.ask(f"begin {thread}").split(" ")[1]
 
-    def issue(self, thread: int, rm: int, words: str) -> Call:
-        """Lets a call wait on the line of the thread to the resource manager. Gives the call to make."""
-        return Call.parse(self.ask(f"issue {thread} {rm} {words}").split(" ", 1)[1])
+    def issue(self, thread: int, rm: int, call: Call) -> Reply:
+        """Lets a call wait on the line of the thread to the resource manager. The reply says that the call may be made."""
+        return self.post(f"issue {thread} {rm} {call}")
 
-    def answer(self, thread: int, rm: int, call: Call, answer: Answer) -> None:
+    def answer(self, thread: int, rm: int, call: Call, answer: Answer) -> Reply:
         """Tells how the call that waits first on the line was answered."""
-        self.ask(f"answer {thread} {rm} {answer.words_to(call)}")
+        return self.post(f"answer {thread} {rm} {answer.words_to(call)}")
 
     def waiting(self, thread: int, rm: int) -> Optional[Call]:
         """The call that waits first on the line."""
@@ -124,45 +127,60 @@ class Coordinator:
 
     def ask(self, request: str) -> str:
         """The reply to a request. Raises Refused, RequestError or CoordinatorGone."""
-        reply = self._reply_to(request)
-        kind, _, rest = reply.partition(" ")
-        if kind == "error":
-            raise (Unexplained if reply == UNEXPLAINED else RequestError)(f"{rest}, to the request: {request}")
-        if kind == "refused":
-            number, name = rest.split(" ")
-            if int(number) in (MANAGER_DOWN, LOG_FAULT):
-                raise self._gone(f"its log failed: refused {rest}")
-            raise Refused(int(number), name, request)
-        return reply
+        return self.wait(self.post(request))
 
-    def _reply_to(self, request: str) -> str:
-        mine = _Reply()
+    def post(self, request: str) -> Reply:
+        """Puts a request on its way: it is written with the next one that is waited for."""
+        reply = Reply(request)
         line = request.encode("ascii") + b"\n"
         with self._writing:
             if self._fault is not None:
                 raise self._gone(self._fault)
-            try:
-                self._waiting.append(mine)
+            with self._whole():
+                self._waiting.append(reply)
                 self._process.stdin.write(line)
+        return reply
+
+    def wait(self, reply: Reply) -> str:
+        """The reply to a request that was posted. Raises Refused, RequestError or CoordinatorGone."""
+        if reply.line is None:
+            with self._writing, self._whole():
                 self._process.stdin.flush()
-            except (OSError, ValueError) as error:
-                raise self._gone(str(error)) from None
-            except BaseException:
-                # Nobody knows how much of the line was written: the replies would no longer fit the requests.
-                self.kill()
-                raise
+            self._read_until(reply)
+        kind, _, rest = reply.line.partition(" ")
+        if kind == "error":
+            error = Unexplained if reply.line == UNEXPLAINED else RequestError
+            raise error(f"{rest}, to the request: {reply.request}")
+        if kind == "refused":
+            number, name = rest.split(" ")
+            if int(number) in (MANAGER_DOWN, LOG_FAULT):
+                raise self._gone(f"its log failed: refused {rest}")
+            raise Refused(int(number), name, reply.request)
+        return reply.line
+
+    @contextlib.contextmanager
+    def _whole(self) -> Iterator[None]:
+        """Requests are written whole, or the session is over: the replies would no longer fit the requests."""
+        try:
+            yield
+        except (OSError, ValueError) as error:
+            raise self._gone(str(error)) from None
+        except BaseException:
+            self.kill()
+            raise
+
+    def _read_until(self, reply: Reply) -> None:
         with self._reading:
-            while mine.line is None:
+            while reply.line is None:
                 if self._fault is not None:
                     raise self._gone(self._fault)
                 if self._is_read:
                     self._reading.wait()
                 else:
                     self._read_one()
-        return mine.line
 
     def _read_one(self) -> None:
-        """Reads a line, and gives it to the request that was asked first. Called with the lock `_reading`, which is free
+        """Reads a line, which is the reply to the request that was posted first. Called with the lock `_reading`, which is free
         while it reads."""
         self._is_read = True
         self._reading.release()

@@ -6,6 +6,7 @@ import logging
 import time
 from typing import TYPE_CHECKING
 
+from .calls import Call
 from .coordinator import Coordinator
 from .errors import ConnectionLost, Unexplained
 from .line import PAUSE, Line
@@ -45,20 +46,22 @@ def recover(session: Session, rm: ResourceManager) -> None:
 
 def pay(session: Session, line: Line, xid: Xid) -> None:
     """Commits a branch that a row of the log waits for. Most are over already, and are answered so."""
-    code = line.insist(f"xa_commit {xid}")
+    code = line.insist(Call("xa_commit", xid))
+    line.see_heard()
     if code.is_heuristic:
-        line.call(f"xa_forget {xid}")
+        line.call(Call("xa_forget", xid))
     session.pay(line.rm.number, xid)
 
 
 def scan(coordinator: Coordinator, line: Line) -> int:
     """Scans once, page by page, and makes the calls that end what the pages list. How many calls these were."""
-    made, flags = 0, " TMSTARTRSCAN"
+    made, flags = 0, ("TMSTARTRSCAN",)
     while True:
-        page = line.call(f"xa_recover {PAGE}{flags}").page
-        flags = ""
+        page = line.call(Call("xa_recover", count=PAGE, flags=flags)).page
+        flags = ()
         for _ in range(coordinator.resolve(line.rm.number)):
             line.make(coordinator.waiting(0, line.rm.number))
             made += 1
+        line.see_heard()
         if len(page) < PAGE:
             return made

@@ -36,10 +36,14 @@ class Session:
         self._lines = [[Line(self.coordinator, thread, rm, patience) for rm in self._rms] for thread in range(threads)]
         self._done: List[str] = []
         self._done_lock = threading.Lock()
-        for rm in self._rms:
-            for xid in self.coordinator.owed(rm.number):
-                self.debts.add(rm.number, xid)
-        self.recover_what_is_due()
+        try:
+            for rm in self._rms:
+                for xid in self.coordinator.owed(rm.number):
+                    self.debts.add(rm.number, xid)
+            self.recover_what_is_due()
+        except BaseException:
+            self.coordinator.kill()
+            raise
 
     def line(self, thread: int, rm: int) -> Line:
         """The line of a thread to a resource manager."""

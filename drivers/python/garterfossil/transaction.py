@@ -10,16 +10,7 @@ from typing import TYPE_CHECKING, Any, Callable, Dict, List, Optional, Sequence,
 from .adapters.base import Result
 from .calls import Call
 from .codes import Code
-from .errors import (
-    ConnectionLost,
-    CoordinatorGone,
-    HeuristicEnd,
-    OutcomeUnknown,
-    RequestError,
-    RolledBack,
-    Unexplained,
-    XaError,
-)
+from .errors import CoordinatorGone, HeuristicEnd, OutcomeUnknown, RolledBack, Unexplained, XaError
 from .line import Line
 from .xid import FORMAT, Xid
 
@@ -49,13 +40,15 @@ class Branch:
         line.make_ready()
         self.line = line
         self._connection = line.connection
-        code = line.call(f"xa_start {self.xid}").code
+        code = line.call(Call("xa_start", self.xid)).code
         if code is not Code.OK:
             raise XaError(f"database {line.rm.number} has a branch {self.xid} of another log already")
         self._is_active = True
         self._was_asked = False
         #: Whether it voted to commit, and waits to be told.
         self.is_prepared = False
+        #: What is odd about how it ended.
+        self.oddity: Optional[str] = None
         self._is_over = False
 
     def execute(self, statement: str, parameters: Sequence[Any] = ()) -> Result:
@@ -76,31 +69,37 @@ class Branch:
         """Whether it was started on a connection that the line has no more."""
         return self.line.connection is not self._connection
 
-    def end(self, is_failed: bool = False) -> None:
-        """xa_end: no more work is done."""
-        if self._is_active and not self._is_lost:
-            self._is_active = False
-            self.line.call(f"xa_end {self.xid} {'TMFAIL' if is_failed else 'TMSUCCESS'}")
-
     def give_up(self) -> None:
         """xa_end of a branch that is to be rolled back, if work may still go on."""
-        self.end(is_failed=True)
+        if self._is_active and not self._is_lost:
+            self._is_active = False
+            self.line.call(Call("xa_end", self.xid, ("TMFAIL",)))
 
     def prepare(self) -> Code:
-        """xa_prepare: the vote. But for OK the branch is over."""
+        """xa_end and xa_prepare: the vote. But for OK the branch is over."""
         self._was_asked = True
-        vote = self.line.call(f"xa_prepare {self.xid}").code
+        vote = self.line.make(self._end_before(Call("xa_prepare", self.xid))).code
         self.is_prepared = vote is Code.OK
         self._is_over = not self.is_prepared
         return vote
 
     def issue_commit_in_one_phase(self) -> Call:
-        """Issues an xa_commit without a vote: as it is made (`line.make`), the database decides by itself."""
-        return self.line.issue(f"xa_commit {self.xid} TMONEPHASE")
+        """xa_end, and an xa_commit without a vote that is yet to be made (`line.make`): then the database decides."""
+        return self._end_before(Call("xa_commit", self.xid, ("TMONEPHASE",)))
 
-    def commit(self) -> Code:
+    def _end_before(self, call: Call) -> Call:
+        """Issues xa_end and the call, and makes the first."""
+        end = Call("xa_end", self.xid, ("TMSUCCESS",))
+        self.line.issue(end, call)
+        self._is_active = False
+        self.line.make(end)
+        return call
+
+    def commit(self) -> None:
         """xa_commit of the prepared branch."""
-        return self._told(f"xa_commit {self.xid}", None)
+        code = self._told(Call("xa_commit", self.xid), None)
+        if code.is_heuristic:
+            self.oddity = code.name
 
     def roll_back(self) -> None:
         """xa_rollback, unless the branch is over. One that wasn't asked for its vote is over with its connection."""
@@ -108,16 +107,17 @@ class Branch:
             self._is_over = True
         if not self._is_over:
             self._is_over = True
-            code = self._told(f"xa_rollback {self.xid}", ROLLBACK_PATIENCE)
+            code = self._told(Call("xa_rollback", self.xid), ROLLBACK_PATIENCE)
             if code.is_heuristic:
                 log.error("%s was to be rolled back: %s", self.xid, code.name)
 
-    def _told(self, words: str, patience: Optional[float]) -> Code:
+    def _told(self, call: Call, patience: Optional[float]) -> Code:
         """The answer to a call that ends the branch. One that ended by itself is forgotten, once the coordinator has heard
         how: its log has a record of it."""
-        code = self.line.insist(words, patience)
+        code = self.line.insist(call, patience)
         if code.is_heuristic:
-            self.line.call(f"xa_forget {self.xid}")
+            self.line.see_heard()
+            self.line.call(Call("xa_forget", self.xid))
         return code
 
 
@@ -171,8 +171,6 @@ class Transaction:
         branches = list(self._branches.values())
         try:
             self._require_no_fault(branches)
-            for branch in branches:
-                branch.end()
             if len(branches) == 1:
                 call = branches[0].issue_commit_in_one_phase()
             else:
@@ -214,6 +212,7 @@ class Transaction:
         except XaError as error:
             raise OutcomeUnknown(f"{self.gtrid}: {error}") from error
         self.outcome = Outcome.COMMITTED if code is Code.OK else Outcome.ROLLED_BACK
+        self._try(line.see_heard)
         if code is not Code.OK:
             raise RolledBack(f"database {line.rm.number} answered {code.name}")
 
@@ -230,40 +229,42 @@ class Transaction:
             self._roll_back()
             raise RolledBack(str(error)) from error
         self.outcome = Outcome.COMMITTED
-        ends = [self._end_of(branch) for branch in prepared]
-        if prepared and None not in ends:
+        told = [branch for branch in prepared if self._is_done(branch, branch.commit)]
+        heard = [branch for branch in told if self._is_done(branch, branch.line.see_heard)]
+        if prepared and heard == prepared:
             self._session.note_done(self.gtrid)
-        odd = [f"database {it.line.rm.number}: {end}" for it, end in zip(prepared, ends) if end]
+        odd = [f"database {branch.line.rm.number}: {branch.oddity}" for branch in prepared if branch.oddity]
         if odd:
             raise HeuristicEnd(f"{self.gtrid} is committed, but not everywhere: {'; '.join(odd)}")
 
-    def _end_of(self, branch: Branch) -> Optional[str]:
-        """Commits a branch: what is odd about its end, an empty text if nothing is. None where it isn't known yet: then the
-        next recovery there commits it."""
+    def _is_done(self, branch: Branch, step: Callable[[], object]) -> bool:
+        """Does a step of the commit of a branch. What can't be done now is done by the next recovery there."""
         try:
-            code = branch.commit()
+            step()
         except Unexplained as error:
-            return str(error)
+            branch.oddity = str(error)
+            return False
         except XaError as error:
             log.warning("%s is to be committed by the next recovery: %s", branch.xid, error)
             self._session.owe(branch.line.rm.number, branch.xid)
-            return None
-        return code.name if code.is_heuristic else ""
+            return False
+        return True
 
     def _roll_back(self) -> None:
         """Ends each branch by a rollback. What can't be ended now is left to the recovery: nothing of it is in the log."""
         self.outcome = Outcome.ROLLED_BACK
-        try:
-            for branch in self._branches.values():
-                self._try(branch.give_up)
-            self._session.coordinator.decide(self.gtrid, "rollback")
-            for branch in self._branches.values():
-                self._try(branch.roll_back)
-        except XaError as error:
-            log.warning("%s is to be rolled back by the next recovery: %s", self.gtrid, error)
+        branches = list(self._branches.values())
+        for branch in branches:
+            self._try(branch.give_up)
+        self._try(lambda: self._session.coordinator.decide(self.gtrid, "rollback"))
+        for branch in branches:
+            self._try(branch.roll_back)
+        for branch in branches:
+            self._try(branch.line.see_heard)
 
-    def _try(self, step: Callable[[], None]) -> None:
+    def _try(self, step: Callable[[], object]) -> None:
+        """Does what the outcome doesn't depend on any more."""
         try:
             step()
-        except (ConnectionLost, RequestError) as error:
-            log.warning("a branch of %s is to be rolled back by the next recovery: %s", self.gtrid, error)
+        except XaError as error:
+            log.warning("what is left of %s is ended by the next recovery: %s", self.gtrid, error)

@@ -2,6 +2,7 @@
 
 from __future__ import annotations
 
+import functools
 from dataclasses import dataclass
 
 #: The format of the coordinator's own identifiers.
@@ -29,8 +30,12 @@ class Xid:
             raise ValueError(f"no identifier of a branch: {text}")
         return xid
 
-    def __str__(self) -> str:
+    @functools.cached_property
+    def _text(self) -> str:
         return f"{self.format}:{self.gtrid.hex()}:{self.bqual.hex()}"
+
+    def __str__(self) -> str:
+        return self._text
 
     @property
     def transaction(self) -> str:

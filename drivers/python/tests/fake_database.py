@@ -68,6 +68,9 @@ class FakeConnection(Connection):
             done()
         return wanted
 
+    def run(self, statement, parameters=()):
+        raise NotImplementedError
+
     def _work(self, statement, parameters):
         self.told("work", statement)
         if statement == "wrong":

@@ -196,6 +196,11 @@ class Connection(abc.ABC):
         """Closes the connection. Raises nothing."""
 
     @abc.abstractmethod
+    def run(self, statement: str, parameters: Sequence[Any] = ()) -> Result:
+        """Does a statement for the program's own ends, outside of any branch. Errors of the database are raised as they are, but
+        ConnectionLost where the connection is lost."""
+
+    @abc.abstractmethod
     def _work(self, statement: str, parameters: Sequence[Any]) -> Result:
         """Does a statement in the branch, and notes in `_fault` that it failed."""
 

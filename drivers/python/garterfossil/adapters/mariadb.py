@@ -62,7 +62,7 @@ class MariaDBConnection(Connection):
         super().__init__()
         self._link = link
         self.number = link.thread_id()
-        self._run(f"SET innodb_lock_wait_timeout = {int(lock_timeout)}")
+        self.run(f"SET innodb_lock_wait_timeout = {int(lock_timeout)}")
 
     def close(self) -> None:
         import pymysql
@@ -76,16 +76,16 @@ class MariaDBConnection(Connection):
         """Ends the connections of the user, but those that are kept, and waits for 20 seconds at most."""
         import pymysql
 
-        user = self._run("SELECT USER()").rows[0][0].rpartition("@")[0]
+        user = self.run("SELECT USER()").rows[0][0].rpartition("@")[0]
         until = time.monotonic() + 20
         while time.monotonic() < until:
-            rows = self._run("SELECT id FROM information_schema.processlist WHERE user = %s", [user])
+            rows = self.run("SELECT id FROM information_schema.processlist WHERE user = %s", [user])
             numbers = [number for number, in rows if number != self.number and number not in kept]
             if not numbers:
                 return
             for number in numbers:
                 try:
-                    self._run(f"KILL CONNECTION {int(number)}")
+                    self.run(f"KILL CONNECTION {int(number)}")
                 except pymysql.err.MySQLError as error:
                     if error.args[0] != NO_SUCH_CONNECTION:
                         raise
@@ -98,7 +98,7 @@ class MariaDBConnection(Connection):
         import pymysql
 
         try:
-            return self._run(statement, parameters)
+            return self.run(statement, parameters)
         except pymysql.err.MySQLError as error:
             # MariaDB would prepare what is left of the branch, but after a deadlock.
             is_broken = isinstance(error, pymysql.err.IntegrityError)
@@ -185,14 +185,14 @@ class MariaDBConnection(Connection):
         return True
 
     def _listed(self) -> List[Xid]:
-        return xids_in(text_of(row) for row in self._run("XA RECOVER FORMAT='SQL'"))
+        return xids_in(text_of(row) for row in self.run("XA RECOVER FORMAT='SQL'"))
 
     # ** statements
 
     def _xa(self, verb: str, xid: Xid, tail: str = "") -> None:
-        self._run(f"XA {verb} X'{xid.gtrid.hex()}',X'{xid.bqual.hex()}',{xid.format}{tail}")
+        self.run(f"XA {verb} X'{xid.gtrid.hex()}',X'{xid.bqual.hex()}',{xid.format}{tail}")
 
-    def _run(self, statement: str, parameters: Sequence[Any] = ()) -> Result:
+    def run(self, statement: str, parameters: Sequence[Any] = ()) -> Result:
         import pymysql
 
         try:

@@ -4,7 +4,7 @@ from __future__ import annotations
 
 import time
 from dataclasses import dataclass
-from typing import Any, Collection, Iterator, List, Optional, Sequence, Tuple
+from typing import Any, Collection, List, Optional, Sequence
 
 from ..codes import Code
 from ..errors import ConnectionLost, SetupError, Unanswered
@@ -64,8 +64,8 @@ class PostgreSQLConnection(Connection):
         super().__init__()
         self._link = link
         self.number = link.get_backend_pid()
-        self._run(f"SET lock_timeout = {int(lock_timeout * 1000)}")
-        if self._run("SHOW max_prepared_transactions").rows == [("0",)]:
+        self.run(f"SET lock_timeout = {int(lock_timeout * 1000)}")
+        if self.run("SHOW max_prepared_transactions").rows == [("0",)]:
             self.close()
             raise SetupError("max_prepared_transactions of PostgreSQL is 0: set it to the number of threads or more")
 
@@ -81,7 +81,7 @@ class PostgreSQLConnection(Connection):
         """Ends the connections of this name, but those that are kept, and waits for 20 seconds at most."""
         until = time.monotonic() + 20
         while time.monotonic() < until:
-            rows = self._run(
+            rows = self.run(
                 "SELECT pid FROM pg_stat_activity WHERE application_name = %s"
                 " AND usename = current_user AND datname = current_database()",
                 [name],
@@ -90,7 +90,7 @@ class PostgreSQLConnection(Connection):
             if not pids:
                 return
             for pid in pids:
-                self._run("SELECT pg_terminate_backend(%s)", [pid])
+                self.run("SELECT pg_terminate_backend(%s)", [pid])
             time.sleep(0.02)
         raise ConnectionLost("connections of an earlier driver stay at PostgreSQL")
 
@@ -108,19 +108,19 @@ class PostgreSQLConnection(Connection):
         import psycopg2
 
         try:
-            ran = self._run(statement, parameters)
+            result = self.run(statement, parameters)
         except psycopg2.Error as error:
             self._fault = vote_of(error)
             raise
         if self._is_idle():
             raise ConnectionLost(f"the statement ended the branch's transaction, which is for the coordinator: {statement}")
-        return Result(ran.rows, ran.rowcount)
+        return result
 
     # ** calls
 
     def _start(self, xid: Xid) -> Code:
         # An identifier that is in use is found as the branch is prepared.
-        self._run("BEGIN")
+        self.run("BEGIN")
         return Code.OK
 
     def _end(self, xid: Xid) -> None:
@@ -131,34 +131,34 @@ class PostgreSQLConnection(Connection):
 
         try:
             if self.fault is None and not self._has_written():
-                return Code.RDONLY if self._run("COMMIT").tag == "COMMIT" else Code.RBROLLBACK
+                return Code.RDONLY if self.run("COMMIT").tag == "COMMIT" else Code.RBROLLBACK
             # Of a transaction that failed PREPARE TRANSACTION makes a rollback, which only its tag tells.
-            tag = self._run("PREPARE TRANSACTION %s", [str(xid)]).tag
+            tag = self.run("PREPARE TRANSACTION %s", [str(xid)]).tag
         except psycopg2.Error as error:
             self._see_rolled_back()
             return vote_of(error)
         return Code.OK if tag == "PREPARE TRANSACTION" else self._fault or Code.RBROLLBACK
 
     def _has_written(self) -> bool:
-        return self._run("SELECT pg_current_xact_id_if_assigned()").rows != [(None,)]
+        return self.run("SELECT pg_current_xact_id_if_assigned()").rows != [(None,)]
 
     def _see_rolled_back(self) -> None:
         """A PREPARE TRANSACTION or COMMIT that fails has rolled back; a statement before it leaves that to be done."""
         if not self._is_idle():
-            self._run("ROLLBACK")
+            self.run("ROLLBACK")
 
     def _commit_in_one_phase(self, xid: Xid) -> Code:
         import psycopg2
 
         try:
-            tag = self._run("COMMIT").tag
+            tag = self.run("COMMIT").tag
         except psycopg2.Error as error:
             self._see_rolled_back()
             return vote_of(error)
         return Code.OK if tag == "COMMIT" else self._fault or Code.RBROLLBACK
 
     def _roll_back(self, xid: Xid) -> None:
-        self._run("ROLLBACK")
+        self.run("ROLLBACK")
 
     def _commit_prepared(self, xid: Xid) -> Code:
         return self._end_prepared("COMMIT PREPARED %s", xid)
@@ -170,7 +170,7 @@ class PostgreSQLConnection(Connection):
         import psycopg2
 
         try:
-            self._run(statement, [str(xid)])
+            self.run(statement, [str(xid)])
         except psycopg2.Error as error:
             if error.pgcode == NO_SUCH_BRANCH:
                 return Code.NOTA
@@ -180,19 +180,19 @@ class PostgreSQLConnection(Connection):
         return Code.OK
 
     def _listed(self) -> List[Xid]:
-        rows = self._run("SELECT gid FROM pg_prepared_xacts WHERE database = current_database()")
+        rows = self.run("SELECT gid FROM pg_prepared_xacts WHERE database = current_database()")
         return xids_in(gid for gid, in rows)
 
     # ** statements
 
-    def _run(self, statement: str, parameters: Sequence[Any] = ()) -> _Ran:
+    def run(self, statement: str, parameters: Sequence[Any] = ()) -> Tagged:
         import psycopg2
 
         try:
             with self._link.cursor() as cursor:
                 cursor.execute(statement, parameters or None)
                 rows = cursor.fetchall() if cursor.description else []
-                return _Ran(rows, cursor.rowcount, cursor.statusmessage)
+                return Tagged(rows, cursor.rowcount, cursor.statusmessage)
         except psycopg2.Error as error:
             if self._is_lost(error):
                 raise ConnectionLost(str(error).strip()) from error
@@ -217,15 +217,10 @@ class PostgreSQLConnection(Connection):
 
 
 @dataclass(frozen=True)
-class _Ran:
+class Tagged(Result):
     """What a statement gave, and the tag that PostgreSQL ended it with, as in `UPDATE 1`."""
 
-    rows: List[Tuple[Any, ...]]
-    rowcount: int
     tag: str
-
-    def __iter__(self) -> Iterator[Tuple[Any, ...]]:
-        return iter(self.rows)
 
 
 def vote_of(error: Any) -> Code:

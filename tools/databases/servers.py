@@ -1,0 +1,180 @@
+"""Servers of databases on sockets in a folder, by an ordinary user: made, started, killed and stopped."""
+
+import glob
+import os
+import pwd
+import shutil
+import signal
+import subprocess
+import sys
+import time
+
+#: The user of the servers where this is run by root, whom neither server takes.
+SERVER_USER = "postgres"
+
+
+class Missing(Exception):
+    """Something that is to be installed first."""
+
+
+def as_server_user():
+    """What subprocess.Popen needs to start a server: another user, where this is root."""
+    if os.geteuid() != 0:
+        return {}
+    try:
+        found = pwd.getpwnam(SERVER_USER)
+    except KeyError:
+        raise Missing(f"the user {SERVER_USER}, for servers that root starts (Debian's package postgresql makes it)") from None
+    return {"user": found.pw_uid, "group": found.pw_gid, "extra_groups": []}
+
+
+def own(path):
+    """Gives a folder to the servers' user."""
+    who = as_server_user()
+    if who:
+        os.chown(path, who["user"], who["group"])
+
+
+def run(words, **more):
+    done = subprocess.run(words, stdout=subprocess.PIPE, stderr=subprocess.STDOUT, **as_server_user(), **more)
+    if done.returncode != 0:
+        sys.exit(f"{words[0]} failed:\n{done.stdout.decode()}")
+
+
+def processes_of(parent):
+    """A process and those that it started."""
+    found = [parent]
+    for path in glob.glob("/proc/[0-9]*/stat"):
+        try:
+            with open(path) as it:
+                number, rest = path.split("/")[2], it.read().rpartition(")")[2].split()
+            if int(rest[1]) == parent:
+                found.append(int(number))
+        except OSError:
+            pass
+    return found
+
+
+class Server:
+    """A server, in a folder of its own."""
+
+    def __init__(self, home, name):
+        self.name = name
+        self.home = os.path.join(home, name)
+        self.process = None
+        os.mkdir(self.home)
+        own(self.home)
+        self.make()
+
+    @classmethod
+    def found(cls, home, name):
+        """A server that another process made and started."""
+        server = cls.__new__(cls)
+        server.name, server.home, server.process = name, os.path.join(home, name), None
+        return server
+
+    def start(self):
+        """Starts it, and waits until it answers."""
+        with open(f"{self.home}/log", "ab") as it:
+            self.process = subprocess.Popen(
+                self.words(), cwd=self.home, stdin=subprocess.DEVNULL, stdout=it, stderr=it, start_new_session=True, **as_server_user()
+            )
+        until = time.monotonic() + 60
+        while not self.answers():
+            if self.process.poll() is not None or time.monotonic() > until:
+                sys.exit(f"{self.name} doesn't start: see {self.home}/log")
+            time.sleep(0.05)
+
+    def kill(self):
+        """Kills it, and all its processes, as a loss of power would."""
+        for number in processes_of(self.process.pid):
+            try:
+                os.kill(number, signal.SIGKILL)
+            except ProcessLookupError:
+                pass
+        self.process.wait()
+
+    def stop(self):
+        if self.process is not None and self.process.poll() is None:
+            self.process.send_signal(self.STOP)
+            self.process.wait()
+
+
+class PostgreSQLServer(Server):
+    PROGRAMS = ["initdb", "postgres", "pg_isready"]
+    STOP = signal.SIGINT
+    #: A table that takes no second 1: it says so as the branch is prepared.
+    ONCE = "CREATE TABLE once (i int UNIQUE DEFERRABLE INITIALLY DEFERRED)"
+
+    def make(self):
+        run([binary("initdb"), "-D", f"{self.home}/data", "-A", "trust", "-U", "xa", "--no-sync", "-E", "UTF8", "--locale=C"], cwd=self.home)
+        with open(f"{self.home}/data/postgresql.conf", "a") as it:
+            it.write(
+                f"listen_addresses = ''\nunix_socket_directories = '{self.home}'\nmax_connections = 40\n"
+                "max_prepared_transactions = 64\nshared_buffers = 32MB\nmax_wal_size = 256MB\nautovacuum = off\n"
+                "max_parallel_workers = 0\njit = off\n"
+            )
+
+    def words(self):
+        return [binary("postgres"), "-D", f"{self.home}/data"]
+
+    def answers(self):
+        words = [binary("pg_isready"), "-q", "-h", self.home, "-U", "xa", "-d", "postgres"]
+        return subprocess.run(words, **as_server_user()).returncode == 0
+
+    def database(self):
+        """What the driver is given for it."""
+        from garterfossil.adapters.postgresql import PostgreSQL
+
+        return PostgreSQL(f"host={self.home} user=xa dbname=postgres connect_timeout=5", lock_timeout=2)
+
+
+class MariaDBServer(Server):
+    PROGRAMS = ["mariadb-install-db", "mariadbd"]
+    STOP = signal.SIGTERM
+    #: A table that takes no second 1: it says so at once.
+    ONCE = "CREATE TABLE once (i int UNIQUE)"
+
+    def make(self):
+        os.mkdir(f"{self.home}/tmp")
+        own(f"{self.home}/tmp")
+        run([binary("mariadb-install-db"), "--no-defaults", f"--tmpdir={self.home}/tmp", f"--datadir={self.home}/data",
+             "--auth-root-authentication-method=normal", "--skip-test-db", "--innodb-log-file-size=16M"], cwd=self.home)
+        self.is_new = True
+
+    def words(self):
+        return [binary("mariadbd"), "--no-defaults", f"--datadir={self.home}/data", f"--tmpdir={self.home}/tmp",
+                f"--socket={self.home}/sock", f"--pid-file={self.home}/pid", "--skip-networking", "--innodb-log-file-size=16M",
+                "--innodb-buffer-pool-size=32M", "--performance-schema=OFF", "--max-connections=40", "--skip-log-bin"]
+
+    def answers(self):
+        import pymysql
+
+        try:
+            link = pymysql.connect(unix_socket=f"{self.home}/sock", user="root", autocommit=True)
+        except pymysql.err.MySQLError:
+            return False
+        if self.is_new:
+            with link.cursor() as cursor:
+                cursor.execute("CREATE DATABASE bank")
+                cursor.execute("CREATE USER bank@localhost")
+                cursor.execute("GRANT ALL ON bank.* TO bank@localhost")
+            self.is_new = False
+        link.close()
+        return True
+
+    def database(self):
+        """What the driver is given for it."""
+        from garterfossil.adapters.mariadb import MariaDB
+
+        return MariaDB(unix_socket=f"{self.home}/sock", user="bank", database="bank", connect_timeout=5, lock_timeout=2)
+
+
+def binary(name):
+    """Where a program of a server lies: Debian keeps PostgreSQL's off the PATH."""
+    found = shutil.which(name) or shutil.which(name, path="/usr/sbin")
+    kept = sorted(glob.glob(f"/usr/lib/postgresql/*/bin/{name}"))
+    if found is None and not kept:
+        package = "postgresql" if name in PostgreSQLServer.PROGRAMS else "mariadb-server"
+        raise Missing(f"{name} (of Debian the package {package})")
+    return found or kept[-1]

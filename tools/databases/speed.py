@@ -1,0 +1,90 @@
+"""Transfers a second through the coordinator, beside the same transfers without one: the same statements, each database told
+to prepare and to commit, and nobody who would know how to go on after a crash."""
+
+import functools
+import itertools
+import random
+import statistics
+import threading
+import time
+
+from world import ACCOUNTS
+
+from garterfossil.calls import Call
+
+THREADS = [1, 4, 8]
+ROUNDS = 3
+
+
+def move(branches, name, accounts):
+    """The work of a transfer, between accounts that no other thread uses: nobody waits for a lock."""
+    amount = random.randint(1, 50)
+    for branch, sign in zip(branches, (-1, 1)):
+        branch.execute("UPDATE account SET balance = balance + %s WHERE id = %s", [sign * amount, random.choice(accounts)])
+        branch.execute("INSERT INTO moved VALUES (%s, %s)", [name, amount])
+
+
+def through_the_coordinator(xa, accounts, until):
+    """Transfers by one thread: how many."""
+    count = 0
+    while time.monotonic() < until:
+        with xa.transaction() as t:
+            move([t[0], t[1]], t.gtrid, accounts)
+        count += 1
+    return count
+
+
+def by_hand(databases, numbers, accounts, until):
+    """The same without a coordinator."""
+    connections = [database.connect() for database in databases]
+    count = 0
+    while time.monotonic() < until:
+        # Another incarnation than any of the coordinator's.
+        gtrid = f"{0x7FFFFFFF:016x}{next(numbers):016x}"
+        xids = [f"7:{gtrid}:{rm:016x}" for rm in range(2)]
+        for connection, xid in zip(connections, xids):
+            connection.do(Call.parse(f"xa_start {xid}"))
+        move(connections, gtrid, accounts)
+        for call in ("xa_end {} TMSUCCESS", "xa_prepare {}", "xa_commit {}"):
+            for connection, xid in zip(connections, xids):
+                connection.do(Call.parse(call.format(xid)))
+        count += 1
+    for connection in connections:
+        connection.close()
+    return count
+
+
+def per_second(work, threads, seconds):
+    """Runs work on so many threads at once."""
+    counts, faults = [], []
+    begun = time.monotonic()
+
+    def one(accounts):
+        try:
+            counts.append(work(accounts, begun + seconds))
+        except Exception as fault:
+            faults.append(fault)
+
+    workers = [threading.Thread(target=one, args=[range(number, ACCOUNTS, threads)]) for number in range(threads)]
+    for worker in workers:
+        worker.start()
+    for worker in workers:
+        worker.join()
+    if faults:
+        raise faults[0]
+    return sum(counts) / (time.monotonic() - begun)
+
+
+def run(world, seconds):
+    """Prints the figures, by turns one way and the other."""
+    world.prepare()
+    numbers = itertools.count(random.randrange(1 << 40))
+    for threads in THREADS:
+        rates, rates_by_hand = [], []
+        with world.manager(threads) as xa:
+            for _ in range(ROUNDS):
+                rates.append(per_second(functools.partial(through_the_coordinator, xa), threads, seconds))
+                rates_by_hand.append(per_second(functools.partial(by_hand, world.databases(), numbers), threads, seconds))
+        rate, hand = statistics.median(rates), statistics.median(rates_by_hand)
+        print(f"speed: {threads} threads: {rate:.0f} transfers a second, {hand:.0f} without a coordinator: {rate / hand:.2f} of that", flush=True)
+    return 0

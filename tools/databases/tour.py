@@ -1,0 +1,262 @@
+"""Stories over two databases: how a transaction ends where everything goes well, and where something goes wrong at each of its
+moments. Each is looked at in the databases."""
+
+import logging
+import threading
+import time
+
+import garterfossil.session
+from garterfossil import HeuristicEnd, OutcomeUnknown, RolledBack, XaError
+from garterfossil.adapters.postgresql import PostgreSQL
+from garterfossil.calls import Call
+
+BOTH, NEITHER = [True, True], [False, False]
+SECOND_ONE = "INSERT INTO once VALUES (1)"
+
+
+class Tour:
+    def __init__(self, world):
+        self.world = world
+        self.stories = self.wrong = 0
+        world.prepare()
+        self.xa = world.manager(2)
+
+    # ** what is looked at
+
+    def holds(self, gtrid):
+        """Whether each database has the work of the transaction."""
+        found = []
+        for server in self.world.servers:
+            connection = server.database().connect()
+            found.append(bool(connection.run("SELECT 1 FROM moved WHERE gtrid = %s", [gtrid]).rows))
+            connection.close()
+        return found
+
+    def told(self, name, t, wanted):
+        found = self.holds(t.gtrid)
+        self.stories += 1
+        self.wrong += found != wanted
+        print(f"{'ok   ' if found == wanted else 'WRONG'} {name}: {t.outcome.value}, {found}", flush=True)
+
+    # ** how it is worked
+
+    def write(self, t, *rms):
+        for rm in rms:
+            t[rm].execute("INSERT INTO moved VALUES (%s, 1)", [t.gtrid])
+
+    def before(self, words, do):
+        """Has something done before the first request of the session that has these words, one by one."""
+        coordinator = self.xa._session.coordinator
+        post = coordinator.post
+
+        def posted(request):
+            if all(word in request for word in words) and do:
+                do.pop()()
+            return post(request)
+
+        coordinator.post = posted
+
+    def lose(self, t, rm):
+        """The connection of a branch is ended at the database, and what it had under way with it."""
+        connection = t[rm].line.connection
+        others = [line.connection.number for lines in self.xa._session._lines for line in lines
+                  if line.connection not in (None, connection) and line.rm.number == rm]
+        self.world.servers[rm].database().end_connections(others)
+
+    # ** stories
+
+    def goes_well(self):
+        with self.xa.transaction() as t:
+            self.write(t, 0, 1)
+        self.told("all goes well", t, BOTH)
+        for rm in (0, 1):
+            with self.xa.transaction() as t:
+                self.write(t, rm)
+            self.told(f"database {rm} alone: one phase", t, [rm == 0, rm == 1])
+
+    def only_reads(self):
+        for rm, server in enumerate(self.world.servers):
+            if isinstance(server.database(), PostgreSQL):
+                with self.xa.transaction() as t:
+                    t[rm].execute("SELECT count(*) FROM moved")
+                    self.write(t, 1 - rm)
+                self.told(f"database {rm} only reads", t, [rm == 1, rm == 0])
+
+    def fails(self):
+        try:
+            with self.xa.transaction() as t:
+                self.write(t, 0, 1)
+                raise KeyError
+        except KeyError:
+            self.told("the program fails", t, NEITHER)
+        for rm in (0, 1):
+            for statement in (SECOND_ONE, "UPDATE account SET balance = -1000000000 WHERE id = 1", "no statement"):
+                try:
+                    with self.xa.transaction() as t:
+                        self.write(t, 0, 1)
+                        try:
+                            t[rm].execute(statement)
+                        except XaError:
+                            raise
+                        except Exception:
+                            pass
+                    self.told("never here", t, NEITHER)
+                except RolledBack as error:
+                    self.told(f"database {rm} refuses a statement, and the program goes on: {error}", t, NEITHER)
+
+    def deadlock(self, name, rms):
+        """Two transactions change the same two accounts, in turn."""
+        ended = []
+
+        def work(steps):
+            try:
+                with self.xa.transaction() as t:
+                    ended.append(t)
+                    self.write(t, 0, 1)
+                    for rm, account in steps:
+                        t[rm].execute("UPDATE account SET balance = balance + 1 WHERE id = %s", [account])
+                        time.sleep(0.5)
+            except Exception:
+                pass
+
+        threads = [threading.Thread(target=work, args=[steps]) for steps in ([(rms[0], 1), (rms[1], 2)], [(rms[1], 2), (rms[0], 1)])]
+        for thread in threads:
+            thread.start()
+        for thread in threads:
+            thread.join()
+        for t in ended:
+            self.told(f"a deadlock {name}", t, BOTH if t.outcome.value == "committed" else NEITHER)
+
+    def connections_are_lost(self):
+        moments = [("xa_end", NEITHER), ("xa_prepare", NEITHER), ("decide", BOTH), ("xa_commit", BOTH)]
+        for rm in (0, 1):
+            for moment, wanted in moments:
+                try:
+                    with self.xa.transaction() as t:
+                        self.write(t, 0, 1)
+                        self.before([moment], [lambda: self.lose(t, rm)])
+                except RolledBack:
+                    pass
+                self.told(f"the connection to database {rm} is lost before {moment}", t, wanted)
+
+    def databases_go_down(self):
+        for rm, server in enumerate(self.world.servers):
+            for moment, wanted in [("xa_prepare", NEITHER), ("decide", BOTH), ("xa_commit", BOTH)]:
+                self.xa.close()
+                self.xa = self.world.manager(2, patience=1.0)
+                try:
+                    with self.xa.transaction() as t:
+                        self.write(t, 0, 1)
+                        self.before([moment], [server.kill])
+                except RolledBack:
+                    pass
+                server.start()
+                self.goes_on()
+                self.told(f"database {rm} is killed before {moment}", t, wanted)
+
+    def coordinator_ends(self):
+        for moment, wanted in [("xa_prepare", NEITHER), ("decide", NEITHER), ("xa_commit", BOTH), ("done", BOTH)]:
+            try:
+                with self.xa.transaction() as t:
+                    self.write(t, 0, 1)
+                    self.before([moment], [self.xa._session.coordinator.kill])
+            except (RolledBack, OutcomeUnknown):
+                pass
+            self.goes_on()
+            self.told(f"the coordinator is killed before {moment}", t, wanted)
+
+    def driver_is_frozen(self):
+        """A driver stops behind its decision and keeps its connections. The next one has to end them before it looks."""
+        kept = []
+
+        def freeze():
+            for line in self.xa._session._lines[t._thread]:
+                kept.append(line.connection)
+                line.connection = None
+            self.xa._session.coordinator.kill()
+
+        with self.xa.transaction() as t:
+            self.write(t, 0, 1)
+            self.before(["xa_commit"], [freeze])
+        self.goes_on()
+        self.told("a driver is frozen behind its decision, and the next one goes on", t, BOTH)
+
+    def goes_on(self):
+        """The next transaction of the same program, before which what is due is recovered."""
+        time.sleep(1.1)
+        with self.xa.transaction() as t:
+            self.write(t, 0, 1)
+        if self.holds(t.gtrid) != BOTH:
+            self.told("the next transaction", t, BOTH)
+
+    def claims(self):
+        """Requests that the package doesn't use: a claim, and a recovery in the middle of a session."""
+        session = self.xa._session
+        for end, wanted in (("settle", BOTH), ("abandon", NEITHER), ("resolve-open", NEITHER)):
+            with self.xa.transaction() as t:
+                self.write(t, 0, 1)
+                for branch in (t[0], t[1]):
+                    branch.prepare()
+                    branch.line.see_heard()
+                if end == "resolve-open":
+                    self.resolve_open(t)
+                else:
+                    session.coordinator.ask(f"claim {t.gtrid}")
+                    session.coordinator.ask(f"{end} {t.gtrid}")
+                    for branch in (t[0], t[1]):
+                        branch.line.call(Call("xa_commit" if end == "settle" else "xa_rollback", branch.xid))
+                        branch.line.see_heard()
+                t.outcome = type(t.outcome).COMMITTED if wanted == BOTH else type(t.outcome).ROLLED_BACK
+            self.told(f"{end}", t, wanted)
+
+    def resolve_open(self, t):
+        """Both branches are rolled back while they are open, from the first thread's lines."""
+        session = self.xa._session
+        for rm in (0, 1):
+            line = session.line(0, rm)
+            line.make_ready()
+            line.call(Call("xa_recover", count=32, flags=("TMSTARTRSCAN", "TMENDRSCAN")))
+            line.see_heard()
+            for _ in range(int(session.coordinator.ask(f"resolve-open {rm}").split(" ")[1])):
+                line.make(session.coordinator.waiting(0, rm))
+            line.see_heard()
+
+    def ended_by_hand(self):
+        """An administrator rolls a prepared branch back, against the decision. Neither database tells."""
+        def by_hand():
+            connection = self.world.servers[0].database().connect()
+            connection._roll_back_prepared(t[0].xid)
+            connection.close()
+
+        raised = "nothing was raised"
+        try:
+            with self.xa.transaction() as t:
+                self.write(t, 0, 1)
+                self.before(["xa_commit"], [by_hand])
+        except HeuristicEnd as error:
+            raised = str(error)
+        self.stories += 1
+        print(f"told  a branch is rolled back by hand, against the decision: {self.holds(t.gtrid)}; {raised}")
+
+
+def run(world):
+    """Prints each story. How many were wrong."""
+    logging.getLogger("garterfossil").setLevel(logging.CRITICAL)
+    # A row leaves the log at once, so that its moment can be met.
+    garterfossil.session.DONE_AT_ONCE = 1
+    tour = Tour(world)
+    tour.goes_well()
+    tour.only_reads()
+    tour.fails()
+    tour.deadlock("within a database", (1, 1))
+    tour.deadlock("over two databases", (0, 1))
+    tour.claims()
+    tour.connections_are_lost()
+    tour.coordinator_ends()
+    tour.driver_is_frozen()
+    tour.databases_go_down()
+    tour.ended_by_hand()
+    tour.xa.close()
+    found = world.look_at_doubt()
+    print(f"tour: {tour.stories} stories, {tour.wrong} wrong, {found} in doubt at the end")
+    return tour.wrong + found

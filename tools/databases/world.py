@@ -1,0 +1,164 @@
+"""What the parts of tools/with-databases work on: two servers, a log, and a coordinator over them, in a folder."""
+
+import json
+import os
+import shutil
+import sys
+import tempfile
+
+from servers import MariaDBServer, Missing, PostgreSQLServer, own
+
+HERE = os.path.dirname(os.path.realpath(__file__))
+TOP = os.path.dirname(os.path.dirname(HERE))
+sys.path.insert(0, os.path.join(TOP, "drivers", "python"))
+
+ACCOUNTS = 50
+#: What all accounts of both databases hold together.
+SUM = 2 * ACCOUNTS * 1000
+
+
+def see_modules(kinds):
+    """Sees that the modules are there; of psycopg2 a stand-in will do. Whether that is used."""
+    if MariaDBServer in kinds:
+        try:
+            import pymysql  # noqa: F401
+        except ImportError:
+            raise Missing("the module pymysql (of Debian the package python3-pymysql)") from None
+    try:
+        import psycopg2  # noqa: F401
+    except ImportError:
+        import pq
+
+        pq.install()
+        return True
+    return False
+
+
+class World:
+    """Two servers of databases in a folder, and what a driver of both needs."""
+
+    def __init__(self, home, kinds, coordinator):
+        self.home = home
+        self.coordinator = coordinator
+        self.servers = [kind(home, f"db{number}") for number, kind in enumerate(kinds)]
+
+    @classmethod
+    def make(cls, kinds, coordinator):
+        home = tempfile.mkdtemp(prefix="xa-")
+        os.chmod(home, 0o755)
+        own(home)
+        try:
+            world = cls(home, kinds, coordinator)
+            with open(f"{home}/world.json", "w") as it:
+                json.dump({"kinds": [kind.__name__ for kind in kinds], "coordinator": coordinator}, it)
+        except BaseException:
+            shutil.rmtree(home)
+            raise
+        return world
+
+    @classmethod
+    def found(cls, home):
+        """The world of a folder, for another process: its servers are there already."""
+        with open(f"{home}/world.json") as it:
+            found = json.load(it)
+        kinds = {"PostgreSQLServer": PostgreSQLServer, "MariaDBServer": MariaDBServer}
+        see_modules([kinds[name] for name in found["kinds"]])
+        world = cls.__new__(cls)
+        world.home, world.coordinator = home, found["coordinator"]
+        world.servers = [kinds[name].found(home, f"db{number}") for number, name in enumerate(found["kinds"])]
+        return world
+
+    def __enter__(self):
+        for server in self.servers:
+            server.start()
+        return self
+
+    def __exit__(self, *_):
+        for server in self.servers:
+            server.stop()
+        shutil.rmtree(self.home, ignore_errors=True)
+
+    # ** the driver
+
+    @property
+    def log(self):
+        return f"{self.home}/log.db"
+
+    def databases(self):
+        return [server.database() for server in self.servers]
+
+    def command(self, threads, log=None):
+        return [self.coordinator, "serve", "--log", log or self.log, str(threads), "2"]
+
+    def manager(self, threads, patience=30.0):
+        from garterfossil import TransactionManager
+
+        return TransactionManager(self.databases(), self.log, threads=threads, patience=patience, command=self.command(threads))
+
+    # ** the bank
+
+    def prepare(self):
+        """Makes the tables anew, with 1,000 on each account, and a new log."""
+        for path in (self.log, f"{self.log}-wal", f"{self.home}/told"):
+            if os.path.exists(path):
+                os.remove(path)
+        for server in self.servers:
+            database = server.database()
+            database.end_connections([])
+            connection = database.connect()
+            for xid in connection._listed():
+                connection._roll_back_prepared(xid)
+            for table in ("account", "moved", "alone", "once"):
+                connection.run(f"DROP TABLE IF EXISTS {table}")
+            connection.run("CREATE TABLE account (id int PRIMARY KEY, balance bigint CHECK (balance > -100000000))")
+            connection.run("CREATE TABLE moved (gtrid char(32) PRIMARY KEY, amount bigint)")
+            connection.run("CREATE TABLE alone (gtrid char(32) PRIMARY KEY)")
+            for number in range(ACCOUNTS):
+                connection.run("INSERT INTO account VALUES (%s, 1000)", [number])
+            connection.run(server.ONCE)
+            connection.run("INSERT INTO once VALUES (1)")
+            connection.close()
+
+    def look_at_doubt(self):
+        """How many branches are prepared in both databases together."""
+        listed = 0
+        for database in self.databases():
+            connection = database.connect()
+            listed += len(connection._listed())
+            connection.close()
+        return listed
+
+    def told(self):
+        """The outcomes that drivers were told: of each transaction, whether it was over both or one alone, and its end."""
+        found = {}
+        with open(f"{self.home}/told") as it:
+            for line in it:
+                words = line.split()
+                if line.endswith("\n") and len(words) == 3:
+                    found[words[0]] = words[1:]
+        return found
+
+    def look(self):
+        """Compares what the databases hold, and what was told. A count of each kind."""
+        moved, alone, sums = [], [], 0
+        for database in self.databases():
+            connection = database.connect()
+            moved.append(dict(connection.run("SELECT gtrid, amount FROM moved").rows))
+            alone.append({gtrid for gtrid, in connection.run("SELECT gtrid FROM alone")})
+            sums += int(connection.run("SELECT SUM(balance) FROM account").rows[0][0])
+            connection.close()
+        left, right = moved
+        told = self.told()
+        wrong = 0
+        for gtrid, (kind, end) in told.items():
+            holds = [gtrid in left, gtrid in right] if kind == "both" else [gtrid in alone[int(kind)]]
+            wrong += holds != [end == "committed"] * len(holds)
+        return {
+            "transfers in both": len(left.keys() & right.keys()),
+            "in one alone": len(alone[0]) + len(alone[1]),
+            "in one and not the other, or different": len({g for g in left.keys() | right.keys() if left.get(g) != right.get(g)}),
+            "outcomes told": len(told),
+            "told, and otherwise in the databases": wrong,
+            "in doubt": self.look_at_doubt(),
+            "sum": sums,
+        }
