@@ -1,8 +1,8 @@
--- A rollback of one slot more.
+-- What a seat has seen once it has taken a step, as a rollback of one slot more.
 use Rattle.std.proofs.Common.{◌≡◌, ◌≢◌, ℕ, ◌+◌, ◌<◌, [], ◌∷◌, below_more, sym, subst, arith, refl}
 use Rattle.std.specs.List.{Contains}
-use Rattle.std.proofs.lemmas.List.Elements.{Contains-append_left, Contains-append_right}
-use Rattle.xa_workers.specs.Views.{SawTaken, entry, with_entry}
+use Rattle.std.proofs.lemmas.List.Elements.{Contains-append_left, Contains-append_right, Contains-push}
+use Rattle.xa_workers.specs.Views.{Saw, SawTaken, entry, with_entry}
 use Rattle.xa_workers.specs.Words.{after_rollback}
 use Rattle.xa_workers.specs.declared.view.Entry.{Entry}
 use Rattle.xa_workers.specs.declared.view.View.{View}
@@ -37,3 +37,8 @@ swept_more job old new found left says is before =
       (found, subst (λ (v : View). Contains v.entries e) (sym is) (Contains-append_right old.entries (e ∷ []) e (itself e))),
       subst (λ w. w ≢ Open) (sym says) (never_open found),
     )
+
+-- it saw what its last step left
+pub saw_last : (old new : View) (job : ℕ) (found left : Word) → new ≡ with_entry old (entry job found left) → Saw new job left
+saw_last old new job found left is =
+    (found, subst (λ (v : View). Contains v.entries (entry job found left)) (sym is) (Contains-push old.entries (entry job found left)))

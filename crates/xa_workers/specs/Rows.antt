@@ -73,6 +73,14 @@ pub record Logs {L : Type 0} (g : DecisionLog.Ghosts L) (incarnation : ℕ) (row
       → IsSomeAnd (g.moment first).content (λ before. (incarnation ≡ before.incarnation + 1)
       × IsSomeAnd (g.moment log).content (λ after. HasRows incarnation rows (with_bump before) after))
 
+-- A run can begin over a log: no call fails, the incarnation rises by one, and no row and no record is of that one or a
+-- later one.
+pub record CanBegin {L : Type 0} (g : DecisionLog.Ghosts L) (log : L) : Type 0 where
+  pub left : L
+  pub incarnation : ℕ
+  pub begins : Logs g incarnation no_rows log left
+  pub faults : (g.moment left).fault_count ≡ (g.moment log).fault_count
+
 -- the log of a journal has come to have the rows of the jobs that the journal notes as written
 abbrev pub HasRowsOf : {L : Type 0} → DecisionLog.Ghosts L → Jobs → (incarnation : ℕ) → Journal L → Type 0
 HasRowsOf g jobs incarnation journal =

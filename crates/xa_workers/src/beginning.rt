@@ -20,22 +20,26 @@ pub(crate) struct Begun<L> {
 
 /// Whether a transaction is of an older incarnation, and its numbers fit a row.
 fn is_older(g: Gtrid, incarnation: u64) -> bool
-    ensures { result ≡ true → g.incarnation < incarnation }
+    ensures older { result ≡ true → g.incarnation < incarnation }
+    ensures fits { result ≡ true → g.sequence ≤ last_number }
 {
     g.incarnation < incarnation && g.sequence <= LAST_NUMBER
 }
 
-/// Whether all rows are of older incarnations, and in ascending order.
+/// Whether all rows are of older incarnations, their numbers fit, and they stand in ascending order, none twice.
 fn are_rows_older(rows: &[Gtrid], incarnation: u64) -> bool
-    ensures { result ≡ true → All (λ g. g.incarnation < incarnation) rows.now }
+    ensures older { result ≡ true → All (λ g. g.incarnation < incarnation) rows.now }
+    ensures fit { result ≡ true → All (λ g. g.sequence ≤ last_number) rows.now }
 {
     rows.iter().all(|row| is_older(*row, incarnation)) && rows.iter().is_sorted_by(|a, b| **a < **b)
 }
 
-/// Whether all records are of older incarnations, and in ascending order.
+/// Whether all records are of older incarnations, their numbers fit, and they stand in ascending order, none twice.
 fn are_records_older(records: &[(Branch, How)], incarnation: u64) -> bool
-    ensures { result ≡ true →
+    ensures older { result ≡ true →
         All (λ (e : Named × End). e.0.gtrid.incarnation < incarnation) records.now }
+    ensures fit { result ≡ true →
+        All (λ (e : Named × End). e.0.gtrid.sequence ≤ last_number) records.now }
 {
     records
         .iter()
@@ -50,6 +54,8 @@ pub(crate) fn begin<L: DecisionLog + Drop>(mut log: L) -> Result<Begun<L>, WorkF
     ensures most { IfOk result (λ begun. begun.incarnation ≤ last_number) }
     ensures begun { IfOk result (λ begun. Logs L.DecisionLog begun.incarnation no_rows
         begun.first.value begun.log) }
+    ensures faults { IfOk result (λ begun. (L.moment begun.log).fault_count ≡
+        (L.moment log).fault_count) }
     ensures fault { IfErr result (λ e. e ≡ WorkFault.Log) }
 {
     let first = Snapshot::of(&log);

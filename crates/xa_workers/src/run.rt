@@ -1,11 +1,11 @@
 //! Runs of jobs.
-ghost use Rattle.std.specs.Prelude.{◌≡◌, ◌≤◌, ◌<◌, ◌∷◌, [], IfErr, IfOk, IsOk, Ok, false, vec_len};
+ghost use Rattle.std.specs.Prelude.{◌≡◌, ◌≢◌, ◌≤◌, ◌<◌, ◌∷◌, [], Err, IfErr, IfOk, IsOk, Ok, false, vec_len};
 ghost use Rattle.xa_log.specs.Content.{last_number};
 ghost use Rattle.xa_workers.specs.Faults.{end_of, first_told};
 ghost use Rattle.xa_workers.specs.Fates.{AreInOrder, HaveFates, fates_of};
 ghost use Rattle.xa_workers.specs.Jobs.{AreEndsOf, IsRunnable, ends_of, is_xid_of};
 ghost use Rattle.xa_workers.specs.Outcomes.{AreLinesOf, IsOutcomeOf};
-ghost use Rattle.xa_workers.specs.Rows.{HasRowsOf, Logs, no_rows, rows_of_jobs};
+ghost use Rattle.xa_workers.specs.Rows.{CanBegin, HasRowsOf, Logs, no_rows, rows_of_jobs};
 ghost use Rattle.xa_workers.specs.EndPairs.{ArePaired};
 
 use crate::beginning::{Begun, begin};
@@ -220,7 +220,8 @@ fn run_named<
 /// `outcome`, the fates of all branches, that the resource managers have these and no other branch, and that the log has
 /// the rows that it came with and one for each committed job with a yes, with these branches as its participants;
 /// `order`, that the fates are listed in the order of the identifiers; `lines`, that on each line each call was taken, and
-/// each answer heard. After a fault nothing is said of the log.
+/// each answer heard; `can_begin`, that a log over which no run can begin is told as Log and as nothing else. After a
+/// fault nothing is said of the log.
 ///
 /// - [`WorkFault::Memory`]: a request for memory outside of the log, or for a thread, was refused.
 /// - [`WorkFault::Log`]: the log failed, for want of memory too, or no system starts over it: it has no incarnation left, or
@@ -229,6 +230,7 @@ fn run_named<
 /// - [`WorkFault::Mixed`]: what the workers gave back doesn't agree.
 ///
 /// Of several faults the first in this order is the answer.
+#[tactic(auto, using(crate::proofs::Verification::can_begin))]
 pub fn run_jobs<R: Threads + Wait + Clock + Sync, L: DecisionLog + Drop, G: Gate + Sync>(
     rt: &R,
     alloc: Global,
@@ -242,6 +244,7 @@ pub fn run_jobs<R: Threads + Wait + Clock + Sync, L: DecisionLog + Drop, G: Gate
     ensures order { IfOk result (λ o. AreInOrder o.fates.items) }
     ensures lines { IfOk result (λ o. AreLinesOf jobs.now o.lines.items) }
     ensures outcome { IfOk result (IsOutcomeOf L.DecisionLog jobs.now log) }
+    ensures can_begin { result ≢ Err WorkFault.Log → CanBegin L.DecisionLog log }
 {
     let begun = begin(log)?;
     let (issuers, takers) = new_ends(alloc, jobs)?;
