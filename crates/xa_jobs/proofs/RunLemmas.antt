@@ -1,5 +1,5 @@
 -- Why a run ended.
-use Rattle.std.proofs.Common.{◌≡◌, ◌∙◌, List, ℕ, Option, Result, Ok, Err, IfErr, refl, sym, subst}
+use Rattle.std.proofs.Common.{◌≡◌, ◌≢◌, ◌∙◌, List, ℕ, Option, Result, Ok, Err, IfErr, OnOk, ap, refl, sym, subst}
 use Rattle.xa_files.proofs.ReadingLemmas.{explained as explained_by_text}
 use Rattle.xa_files.specs.Reading.{Explains, Fails}
 use Rattle.xa_files.specs.declared.fault.RunFault.{RunFault}
@@ -20,6 +20,10 @@ explains fault text =
 pub not_of_output : (fault : RunFault) (text : List ℕ) → Fails fault (jobs_of text) → fault ≡ Output → ⊥
 not_of_output fault text fails e = texts.not_of_output text
     (subst (λ (f : RunFault). Fails f (jobs_of text)) e fails)
+
+-- nor with one of the work
+pub not_of_work : (fault : RunFault) (text : List ℕ) → Fails fault (jobs_of text) → fault ≡ Work → ⊥
+not_of_work fault text fails e = texts.not_of_work text (subst (λ (f : RunFault). Fails f (jobs_of text)) e fails)
 
 -- ** a fault of the run
 
@@ -77,3 +81,22 @@ ends_printed text plan old new reads lines = record { plan = plan; reads = reads
 pub ends_begun : (text : List ℕ) (plan : Plan) (old new : Option (List ℕ)) → jobs_of text ≡ Ok plan
     → BeginsEnds plan old new → Begins text old new
 ends_begun text plan old new reads lines = record { plan = plan; reads = reads; lines = lines }
+
+-- ** a fault of the log
+
+-- a run that ends otherwise for its file ended otherwise than by its log
+pub not_by_the_log : {A B : Type 0} (fault : WorkFault) (told : RunFault) → told ≡ run_fault_of fault
+    → ◌≢◌ {A = Result A RunFault} (Err told) (Err Log) → ◌≢◌ {A = Result B WorkFault} (Err fault) (Err work.Log)
+not_by_the_log work.Memory told is other same = cc
+not_by_the_log work.Log told is other same = other (ap (λ e. Err e) is)
+not_by_the_log work.Stuck told is other same = cc
+not_by_the_log work.Mixed told is other same = cc
+
+-- it is so where it ends well, and where it ends by the work
+pub where_well : (result : Result (Unit {0}) RunFault) (P : Type 0) → (result ≢ Err Log → P) → OnOk result P
+where_well (Ok done) P known = known (λ e. cc)
+where_well (Err e) P known = tt
+
+pub where_by_work : (result : Result (Unit {0}) RunFault) (P : Type 0) → (result ≢ Err Log → P) → result ≡ Err Work → P
+where_by_work result P known is =
+    known (λ e. let no : ◌≡◌ {A = Result (Unit {0}) RunFault} (Err Work) (Err Log) = sym is ∙ e in cc)

@@ -4,11 +4,12 @@ ghost use Rattle.std.specs.Prelude.{◌≡◌, ◌≢◌, Err, IfErr, IfOk, IsEr
 ghost use Rattle.std.specs.Io.KnownBytes.{Keeps};
 ghost use Rattle.xa_files.specs.Reading.{EndsWith, Explains};
 ghost use Rattle.xa_files.specs.declared.fault.RunFault.{RunFault};
-ghost use Rattle.xa_files.specs.declared.fault.RunFault.TheVariants.{Output};
+ghost use Rattle.xa_files.specs.declared.fault.RunFault.TheVariants.{Log, Output, Work};
 ghost use Rattle.xa_jobs.specs.JobFiles.{jobs_of, plan_of};
 ghost use Rattle.xa_jobs.specs.JobRuns.{AreEnds, Begins, BeginsEnds, Prints, PrintsEnds};
 ghost use Rattle.xa_jobs.specs.JobRuns.{IsRunFault, IsWorkFault, run_fault_of};
 ghost use Rattle.xa_workers.specs.Jobs.{IsRunnable};
+ghost use Rattle.xa_workers.specs.Rows.{CanBegin};
 
 use crate::jobs::read_jobs;
 use crate::lines::print_ends;
@@ -51,6 +52,7 @@ fn ends_of_run<R: Threads + Wait + Clock + Sync, L: DecisionLog + Drop>(
 ) -> Result<Vec<Outcome>, RunFault>
     requires { IsRunnable jobs.now }
     ensures ends { IfOk result (λ ends. AreEnds (plan_of jobs.now) ends.items) }
+    ensures can_begin { result ≢ Err Log → CanBegin L.DecisionLog log }
     ensures fault { IfErr result IsWorkFault }
 {
     match run_jobs(rt, alloc, jobs, log, &Open) {
@@ -74,6 +76,7 @@ fn run_and_print<R: Threads + Wait + Clock + Sync, L: DecisionLog + Drop, W: Wri
         BeginsEnds (plan_of jobs.now) (W.contents out.old) (W.contents out.new)) }
     ensures kept { IfErr result (λ e. e ≢ Output
         → Keeps (W.contents out.old) (W.contents out.new)) }
+    ensures can_begin { result ≢ Err Log → CanBegin L.DecisionLog log }
     ensures fault { IfErr result IsRunFault }
 {
     let ends = ends_of_run(rt, alloc, jobs, log)?;
@@ -84,7 +87,7 @@ fn run_and_print<R: Threads + Wait + Clock + Sync, L: DecisionLog + Drop, W: Wri
 ///
 /// A file that is no jobs file is refused before anything is run, by NotToml, Header or Job. Of a run, Memory comes
 /// where a request for memory or for a thread was refused, Log where the log failed or can't begin a run, Work where
-/// the workers stood still or don't agree; nothing is written then. Output comes where a write failed: what was
+/// the workers stood still or don't agree, over a log that could begin it; nothing is written then. Output comes where a write failed: what was
 /// written before it is left, and is a beginning of what is printed otherwise. After a fault nothing is said of the log.
 pub fn run_job_file<R: Threads + Wait + Clock + Sync, L: DecisionLog + Drop, W: Write>(
     rt: &R,
@@ -96,6 +99,9 @@ pub fn run_job_file<R: Threads + Wait + Clock + Sync, L: DecisionLog + Drop, W: 
     ensures ok { OnOk result (Prints text.now (W.contents out.old) (W.contents out.new)) }
     ensures fault { IfErr result (λ e. Explains e (jobs_of text.now)) }
     ensures refused { (e : RunFault) → jobs_of text.now ≡ Err e → EndsWith e result }
+    // A log over which no run can begin is told as Log, unless the file is refused or can't be read for want of memory.
+    ensures can_begin { OnOk result (CanBegin L.DecisionLog log) }
+    ensures work { result ≡ Err Work → CanBegin L.DecisionLog log }
     // A file that is no jobs file writes nothing.
     ensures unwritten { IsErr (jobs_of text.now) → Keeps (W.contents out.old) (W.contents out.new) }
     // Nor does a run that ends by another fault than that of the output.

@@ -1,4 +1,6 @@
+use Rattle.std.proofs.Common.{Err, ap}
 use Rattle.std.proofs.lemmas.Result.{err_from_is_err_and, on_ok_weaker}
+use Rattle.xa_files.proofs.TablesInTurnLemmas.{same_err}
 use Rattle.xa_files.proofs.TextFaults.{on_output}
 use Rattle.xa_jobs.proofs.RunLemmas.{not_output, work_is_run}
 use Rattle.xa_jobs.proofs.run.run_and_print.Goals as goal
@@ -34,3 +36,11 @@ returns-clause-begun g c =
           (← c.deref.ensures.value) written;
     })
     c.print_ends.ensures.begun
+
+pub returns-in_err-ends-clause-can_begin : goal.returns-in_err-ends-clause-can_begin
+returns-in_err-ends-clause-can_begin g c =
+    let p = err_from_is_err_and c.from_residual.result c.from_residual.ensures.1 in
+    rw (p.1, p.2) (λ other. c.in_err-ends.ensures.can_begin (λ same. other (ap (λ e. Err e) (same_err _ _ same))))
+
+pub returns-clause-can_begin : goal.returns-clause-can_begin
+returns-clause-can_begin g c = λ other. c.in_ok-ends.ensures.can_begin (λ e. cc)

@@ -1,8 +1,9 @@
 use Rattle.std.proofs.lemmas.Result.{err_from_is_err_and}
 use Rattle.xa_jobs.specs.JobFiles.{jobs_of, plan_of}
 use Rattle.xa_files.proofs.ReadingLemmas.{ends_with}
+use Rattle.xa_files.proofs.TablesInTurnLemmas.{same_err}
 use Rattle.xa_files.proofs.TextFaults.{on_output}
-use Rattle.xa_jobs.proofs.RunLemmas.{explains, not_of_output, run_explains, no_fault, ends_begun}
+use Rattle.xa_jobs.proofs.RunLemmas.{explains, not_of_output, not_of_work, run_explains, no_fault, ends_begun, where_by_work, where_well}
 use Rattle.xa_jobs.proofs.run.run_job_file.Goals as goal
 
 pub returns-in_err-jobs-clause-fault : goal.returns-in_err-jobs-clause-fault
@@ -36,3 +37,14 @@ returns-clause-begun g c =
     (λ written. ends_begun c.args.text.now (plan_of c.in_ok-jobs.jobs) (contents c.args.out.now)
     (contents c.run_and_print.new.out) c.in_ok-jobs.ensures.read written)
     c.run_and_print.ensures.begun
+
+pub returns-in_err-jobs-clause-work : goal.returns-in_err-jobs-clause-work
+returns-in_err-jobs-clause-work g c =
+    let p = err_from_is_err_and c.from_residual.result c.from_residual.ensures.1 in
+    rw (p.1, p.2) (λ e. absurd (not_of_work c.in_err-jobs.field-0.0 c.args.text.now c.in_err-jobs.ensures.read (same_err _ _ e)))
+
+pub returns-clause-can_begin : goal.returns-clause-can_begin
+returns-clause-can_begin g c = where_well c.run_and_print.result _ c.run_and_print.ensures.can_begin
+
+pub returns-clause-work : goal.returns-clause-work
+returns-clause-work g c = where_by_work c.run_and_print.result _ c.run_and_print.ensures.can_begin
