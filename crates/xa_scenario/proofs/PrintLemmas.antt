@@ -1,7 +1,7 @@
 -- What is printed of processes in turn.
 use Rattle.std.proofs.Common.{◌≡◌, ◌∙◌, ◌+◌, ◌<◌, ◌≤◌, ℕ, zero, suc, Bool, true, false, arith, List, [], ◌∷◌, ◌++◌, map, take, drop, length, get_or, Option, Some, None, append-nil, inl, inr, ap, refl, subst, sym, append_assoc}
 use Rattle.std.specs.Io.KnownBytes.{Appends}
-use Rattle.std.proofs.lemmas.List.{length-map, length-take-le, map-append, map_push, take-append-drop, take_more}
+use Rattle.std.proofs.lemmas.List.{at_drop_more, length-map, length-take-le, map-append, map_push, take-append-drop, take_more}
 use Rattle.xa_base.specs.Xid.{Xid}
 use Rattle.xa_base.specs.declared.branch.Gtrid.{Gtrid}
 use Rattle.xa_base.specs.declared.state.Fate.{Fate}
@@ -9,7 +9,9 @@ use Rattle.xa_files.proofs.OutputLemmas.{both_written}
 use Rattle.xa_files.specs.Fates.{fate_lines}
 use Rattle.xa_files.specs.Outputs.{AppendsBeginning}
 use Rattle.xa_log.specs.Contract.{Moment}
-use Rattle.xa_scenario.specs.Processes.{AreFates, AreTraces, IsLast, PrintsProcesses, StopsAnywhere, StopsBetween, process_of, shown}
+use Rattle.xa_log.specs.declared.decision_log.DecisionLog as DecisionLog
+use Rattle.xa_scenario.specs.Processes.{AreFates, AreTraces, IsLast, LogStops, PrintsProcesses, StopsAnywhere, StopsBetween, process_of, shown}
+use Rattle.xa_scenario.specs.LogKeeping.{CannotGoOn}
 use Rattle.xa_scenario.specs.Scenarios.{Plan}
 use Rattle.xa_system.specs.SystemView.{Observes, SystemView, origin_in}
 
@@ -82,6 +84,23 @@ module _ {R L : Type 0} (see : Observes R L) (log : L) (rms : ℕ) (with_trace :
       subst (AppendsBeginning old new) spelled_both (begins_behind old now new (shown with_trace printed.before) text printed.written begun),
     )
 
+    -- none can go on from it
+    pub stops_behind : (logs : DecisionLog.Ghosts L) (next : Plan) (after : List Plan) → later ≡ next ∷ after → CannotGoOn see.look logs s
+        → LogStops see log logs all
+    stops_behind logs next after more stops = inr (record {
+      first = plan ∷ plans;
+      next = next;
+      later = after;
+      are = ap (λ ps. (plan ∷ plans) ++ ps) (sym more) ∙ are;
+      rms = rms;
+      gtrids = gtrids;
+      names = names;
+      system = s;
+      traces = traces;
+      last = printed.last;
+      stops = stops;
+    })
+
     -- it is written, and another process comes
     pub printed_more : (more_gtrids : List Gtrid) (more_names : List Xid) (next : SystemView R L) (more : List Plan) (other piece : List ℕ)
         → Appends now new text → other ≡ shown with_trace piece
@@ -145,6 +164,9 @@ module _ {X : Type 0} (f : X → Plan) (plan : Plan) (later : List X) (i : ℕ) 
 
   pub with_rest : (plan ∷ map f (take i later)) ++ map f (drop i later) ≡ plan ∷ map f later
   with_rest = ap (λ ps. plan ∷ ps) (sym (map-append f (take i later) (drop i later)) ∙ ap (map f) (take-append-drop i later))
+
+  pub rest_from : (x : X) → i < length later → map f (drop i later) ≡ f (get_or later i x) ∷ map f (drop (i + 1) later)
+  rest_from x within = at_drop_more (map f) later i x within
 
   pub all_are : length later ≤ i → plan ∷ map f (take i later) ≡ plan ∷ map f later
   all_are past = ap (λ xs. plan ∷ map f xs) (take_all later i past)

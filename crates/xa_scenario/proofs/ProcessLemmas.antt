@@ -4,24 +4,26 @@ use Rattle.xa_base.specs.Xid.{Xid}
 use Rattle.xa_base.specs.declared.branch.Gtrid.{Gtrid}
 use Rattle.xa_log.specs.Content.{Content}
 use Rattle.xa_log.specs.Contract.{Moment}
+use Rattle.xa_log.specs.declared.decision_log.DecisionLog as DecisionLog
 use Rattle.xa_model.specs.Promises.Processes.{OfProcesses.First as Begins, Resumes, joined}
 use Rattle.xa_model.specs.Protocol.{AllRight, RightOrigin}
 use Rattle.xa_model.specs.Replies.History.{history}
 use Rattle.xa_model.specs.Trace.{Origin, Trace}
 use Rattle.xa_model.proofs.ProcessLemmas.Joining.{gone_right, joined_faces, of_processes_right, resumes_both}
-use Rattle.xa_scenario.specs.LogKeeping.{HasGoneOn, HasStarted}
+use Rattle.xa_scenario.specs.LogKeeping.{CannotGoOn, HasGoneOn, HasStarted}
 use Rattle.xa_scenario.specs.Processes.{AreProcesses, AreProcesses.First, AreProcesses.Next, HasPlayed, IsLast, IsProcess, Plays, Process, heading, process_of}
 use Rattle.xa_scenario.specs.Replies.{trace_lines}
 use Rattle.xa_scenario.specs.Runs.{IsStartOf}
 use Rattle.xa_scenario.specs.Scenarios.{Plan}
 use Rattle.xa_scenario.proofs.StartLemmas.{in_slot, out_of_slot}
 use Rattle.xa_system.specs.LogInHistory.{StartsOver}
-use Rattle.xa_system.specs.NextProcess.{Leaves}
+use Rattle.xa_system.specs.NextProcess.{FindsNewer, Leaves}
 use Rattle.xa_system.specs.RmInHistory.{Looks}
+use Rattle.xa_system.specs.StartFaults.{IsToBlame}
 use Rattle.xa_system.specs.SystemView.{MayRestart, Observes, SystemView, origin_in, trace_in}
 use Rattle.xa_tm.specs.Slots.{log_held, order_in, slot_moment}
 use Rattle.xa_tm.specs.declared.slot.Slot.{Slot}
-use Rattle.std.proofs.Common.{IsSomeAnd}
+use Rattle.std.proofs.Common.{IsSomeAnd, MatchOption, inl, inr, ◌⊎◌}
 
 -- ** the whole history
 
@@ -44,6 +46,21 @@ module _ {L : Type 0} (moment : L → Moment) (log : L) where
       let honest = is.is.honest left at h in
       let earlier = all_right plans past before traces are order is.found is.left (is.is.over.honest honest) in
       resumes_both _ _ _ next (gone_right past earlier) (joined_faces past p.origin p.events earlier (is.resumes order honest) is.is.allowed).1 r
+
+-- ** why none can go on
+
+module _ {R L : Type 0} (look : Looks R) (logs : DecisionLog.Ghosts L) (s : SystemView R L) (log : L) (held : log_held s.log ≡ Some log) where
+  abbrev Hinders : L → Type 0
+  Hinders l = IsToBlame logs l ⊎ FindsNewer look logs s.rms l
+
+  -- the log is to blame
+  pub over_the_log : IsToBlame logs log → CannotGoOn look logs s
+  over_the_log blamed = subst (λ (it : Option L). MatchOption it (Unit {0}) Hinders) (sym held) (inl blamed)
+
+  -- some branch is newer
+  pub over_a_branch : (rms : List R) → rms ≡ s.rms → FindsNewer look logs rms log → CannotGoOn look logs s
+  over_a_branch rms same newer =
+      subst (λ (it : Option L). MatchOption it (Unit {0}) Hinders) (sym held) (inr (subst (λ (xs : List R). FindsNewer look logs xs log) same newer))
 
 -- ** one process
 

@@ -1,7 +1,11 @@
 -- The log of a system, from its start on.
-use Rattle.std.specs.Prelude.{◌≡◌, Some}
+use Rattle.std.specs.Prelude.{◌≡◌, ◌⊎◌, MatchOption, Some}
+use Rattle.xa_log.specs.declared.decision_log.DecisionLog as DecisionLog
 use Rattle.xa_model.specs.Promises.Processes.{Resumes}
 use Rattle.xa_scenario.specs.Runs.{StartsOverLog}
+use Rattle.xa_system.specs.NextProcess.{FindsNewer}
+use Rattle.xa_system.specs.RmInHistory.{Looks}
+use Rattle.xa_system.specs.StartFaults.{IsToBlame}
 use Rattle.xa_system.specs.SystemView.{MayRestart, Observes, SystemView, origin_in, trace_in}
 use Rattle.xa_tm.specs.Slots.{log_held}
 
@@ -28,3 +32,8 @@ pub record KeepsLog {R L : Type 0} (see : Observes R L) (old new : SystemView R 
   pub handed : new.handed ≡ old.handed
   pub honest : (see.place new.log).is_honest → (see.place old.log).is_honest
   pub near : (see.moment old.handed).is_in_order → (see.place new.log).is_honest → MayRestart see old → MayRestart see new
+
+-- No system can go on from what this one leaves: it holds no log, or its log is to blame, or a branch at its resource managers
+-- is newer than that.
+abbrev pub CannotGoOn : {R L : Type 0} → Looks R → DecisionLog.Ghosts L → SystemView R L → Type 0
+CannotGoOn look logs s = MatchOption (log_held s.log) (Unit {0}) (λ log. IsToBlame logs log ⊎ FindsNewer look logs s.rms log)

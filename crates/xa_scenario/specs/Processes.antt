@@ -14,17 +14,19 @@ use Rattle.xa_base.specs.declared.state.Fate.{Fate}
 use Rattle.xa_files.specs.Fates.{fate_lines}
 use Rattle.xa_files.specs.Outputs.{AppendsBeginning}
 use Rattle.xa_log.specs.Contract.{Moment}
+use Rattle.xa_log.specs.declared.decision_log.DecisionLog as DecisionLog
 use Rattle.xa_model.specs.Facts.{fate, started}
 use Rattle.xa_model.specs.Promises.Headline.{Headline, HeadlineSince}
 use Rattle.xa_model.specs.Promises.Processes.{Resumes, joined, resumed}
 use Rattle.xa_model.specs.Protocol.{AllRight, RightOrigin}
 use Rattle.xa_model.specs.Replies.History.{AreAllowed, history}
 use Rattle.xa_model.specs.Trace.{Origin, Trace}
-use Rattle.xa_scenario.specs.LogKeeping.{KeepsLog}
+use Rattle.xa_scenario.specs.LogKeeping.{CannotGoOn, KeepsLog}
 use Rattle.xa_scenario.specs.Plays.{IsPlay, Performs, gtrids_of}
 use Rattle.xa_scenario.specs.Replies.{trace_lines}
 use Rattle.xa_scenario.specs.Runs.{IsStartOf, StartsOverLog}
 use Rattle.xa_scenario.specs.Scenarios.{Plan}
+use Rattle.xa_system.specs.StartFaults.{IsToBlame}
 use Rattle.xa_system.specs.SystemView.{HoldsItsTrace, MayRestart, Observes, SystemView, origin_in, trace_in}
 use Rattle.xa_tm.specs.Slots.{log_held}
 
@@ -192,3 +194,21 @@ module _ {R L : Type 0} (see : Observes R L) (log : L) where
     pub count : length s.rms ≡ rms
     pub order : (see.moment log).is_in_order → (see.moment s.handed).is_in_order
     pub near : (see.moment log).is_in_order → (see.place s.log).is_honest → MayRestart see s
+
+  -- Some of these plans were played, but not all: a system is the last process of those, and none can go on from it.
+  pub record StopsBehind (logs : DecisionLog.Ghosts L) (plans : List Plan) : Type 0 where
+    pub first : List Plan
+    pub next : Plan
+    pub later : List Plan
+    pub are : first ++ next ∷ later ≡ plans
+    pub rms : ℕ
+    pub gtrids : List Gtrid
+    pub names : List Xid
+    pub system : SystemView R L
+    pub traces : List ℕ
+    pub last : IsLast rms first gtrids names system traces
+    pub stops : CannotGoOn see.look logs system
+
+  -- the log keeps the processes of these plans from being played: it is to blame at the first, or none can go on behind some
+  abbrev pub LogStops : DecisionLog.Ghosts L → List Plan → Type 0
+  LogStops logs plans = IsToBlame logs log ⊎ StopsBehind logs plans

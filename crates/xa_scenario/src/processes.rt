@@ -1,20 +1,21 @@
 //! Several scenarios, each a process of the manager over what the one before it has left.
 
-ghost use Rattle.std.specs.Prelude.{◌≡◌, ◌⊎◌, ◌+◌, ◌++◌, ◌∷◌, [], ℕ, All, List, length, map, vec_len, IfErr, IfOk, OnOk};
+ghost use Rattle.std.specs.Prelude.{◌≡◌, ◌⊎◌, ◌+◌, ◌++◌, ◌∷◌, [], ℕ, All, List, length, map, vec_len, Err, IfErr, IfOk, OnOk};
 ghost use Rattle.std.specs.Io.KnownBytes.{Keeps};
 ghost use Rattle.std.specs.String.{string_bytes};
 ghost use Rattle.xa_base.specs.Xid.{Xid as KnownXid};
 ghost use Rattle.xa_base.specs.declared.state.Fate.{Fate};
 ghost use Rattle.xa_files.specs.Fates.{fate_lines};
-ghost use Rattle.xa_files.specs.declared.fault.RunFault.TheVariants.{Memory, Output};
+ghost use Rattle.xa_files.specs.declared.fault.RunFault.TheVariants.{Log, Memory, Output};
 ghost use Rattle.xa_scenario.specs.Files.{AreAlike};
-ghost use Rattle.xa_scenario.specs.LogKeeping.{HasGoneOn};
-ghost use Rattle.xa_scenario.specs.Processes.{AddsStarted, AreFates, HasPlayed, IsLast, PrintsProcesses};
+ghost use Rattle.xa_scenario.specs.LogKeeping.{CannotGoOn, HasGoneOn};
+ghost use Rattle.xa_scenario.specs.Processes.{AddsStarted, AreFates, HasPlayed, IsLast, LogStops, PrintsProcesses};
 ghost use Rattle.xa_scenario.specs.Processes.{StopsAnywhere, StopsBetween, heading, shown};
 ghost use Rattle.xa_scenario.specs.Replies.{trace_lines};
 ghost use Rattle.xa_scenario.specs.Runs.{IsNewRm, IsStartFault};
 ghost use Rattle.xa_scenario.specs.Scenarios.{IsSized, Plan, plan_of};
 ghost use Rattle.xa_system.specs.RmInHistory.{looks};
+ghost use Rattle.xa_system.specs.StartFaults.{IsToBlame};
 ghost use Rattle.xa_system.specs.SystemView.{HasWrongSize, observes, origin_in, trace_in};
 
 use crate::document::Scenario;
@@ -26,7 +27,7 @@ use std::io::Write;
 use xa_base::{Event, Fate, Gtrid, Xid};
 use xa_files::{RunFault, push_fates, write_text};
 use xa_log::DecisionLog;
-use xa_rm::ResourceManager;
+use xa_rm::{MemRm, ResourceManager};
 use xa_system::{ResumeFault, System};
 
 /// The trace of a process, where it is asked for.
@@ -129,6 +130,8 @@ fn next_system<R: ResourceManager + Drop, L: DecisionLog + Drop>(
     ensures rms { IfOk result (λ next. length next.start ≡ length system.rms) }
     ensures goes_on { IfOk result (HasGoneOn
         (observes R.held_of R.scan_of R.in_doubt_of L.moment) system) }
+    ensures log { result ≡ Err Log → CannotGoOn
+        (looks R.held_of R.scan_of R.in_doubt_of) L.DecisionLog system }
     ensures fault { IfErr result IsStartFault }
 {
     let Ok(remains) = system.into_parts() else {
@@ -141,8 +144,9 @@ fn next_system<R: ResourceManager + Drop, L: DecisionLog + Drop>(
     match System::resume(alloc, threads, rms, log) {
         Ok(system) => Ok(system),
         Err(ResumeFault::Memory) => Err(RunFault::Memory),
-        // Where a resource manager holds a branch that is newer than the log, that has lost what it had.
-        Err(ResumeFault::Log | ResumeFault::Newer) => Err(RunFault::Log),
+        Err(ResumeFault::Log) => Err(RunFault::Log),
+        // The log has lost what it had: a resource manager holds a branch that is newer.
+        Err(ResumeFault::Newer) => Err(RunFault::Log),
         // As many resource managers are left as there were.
         Err(ResumeFault::Limit) => unreachable!(),
     }
@@ -193,6 +197,7 @@ fn first_process<R: ResourceManager + Drop, L: DecisionLog + Drop>(
         (trace_lines 1 p.system.events)) }
     ensures text { IfOk result (λ p. string_bytes p.text
         ≡ shown with_trace (trace_lines 1 p.system.events)) }
+    ensures log { result ≡ Err Log → IsToBlame L.DecisionLog log }
     ensures fault { IfErr result IsStartFault }
 {
     let mut gtrids = Vec::new(alloc);
@@ -227,6 +232,8 @@ fn next_process<R: ResourceManager + Drop, L: DecisionLog + Drop>(
         (traces ++ (heading number ++ trace_lines 1 p.system.events))) }
     ensures text { IfOk result (λ p. string_bytes p.text
         ≡ shown with_trace (heading number ++ trace_lines 1 p.system.events)) }
+    ensures log { result ≡ Err Log → CannotGoOn
+        (looks R.held_of R.scan_of R.in_doubt_of) L.DecisionLog before.system }
     ensures fault { IfErr result IsStartFault }
 {
     let mut gtrids = before.gtrids;
@@ -285,6 +292,9 @@ pub fn run_scenarios<L: DecisionLog + Drop, W: Write>(
     ensures none { scenarios.now ≡ [] → Keeps (W.contents out.old) (W.contents out.new) }
     // Why it ends early, and what is printed then.
     ensures fault { IfErr result (λ e. IsStartFault e ⊎ (e ≡ Output)) }
+    ensures log { result ≡ Err Log → LogStops (observes ⟦<MemRm as ResourceManager>⟧.held_of
+        ⟦<MemRm as ResourceManager>⟧.scan_of ⟦<MemRm as ResourceManager>⟧.in_doubt_of L.moment) log
+        L.DecisionLog (map plan_of scenarios.now) }
     ensures stopped { IfErr result (λ e. IsStartFault e → StopsBetween L.moment log
         (map plan_of scenarios.now) with_trace (W.contents out.old) (W.contents out.new)) }
     ensures begun { IfErr result (λ e. e ≡ Output → StopsAnywhere L.moment log

@@ -1,9 +1,10 @@
-use Rattle.std.proofs.Common.{◌≡◌, ◌∙◌, Some, ap, refl, subst, sym, IsSomeAnd}
-use Rattle.xa_scenario.proofs.ProcessLemmas.{goes_on}
+use Rattle.std.proofs.Common.{◌≡◌, ◌∙◌, Err, Some, ap, refl, rules, subst, sym, IsSomeAnd}
+use Rattle.xa_scenario.proofs.ProcessLemmas.{goes_on, over_a_branch, over_the_log}
 use Rattle.xa_scenario.proofs.StartLemmas.{has_started}
 use Rattle.xa_system.specs.LogInHistory.{StartsOver}
 use Rattle.xa_system.specs.RmInHistory.{looks}
 use Rattle.xa_system.specs.SystemView.{observes, origin_in}
+use Rattle.xa_system.specs.declared.resume.ResumeFault.TheVariants as faults
 use Rattle.xa_scenario.proofs.processes.next_system.Goals as goal
 
 pub returns-in-Ok-resume-clause-goes_on : goal.returns-in-Ok-resume-clause-goes_on
@@ -24,3 +25,19 @@ returns-in-Ok-resume-clause-goes_on g c =
     (λ order. c.in-Ok.ensures.order order _ at)
     (λ order honest near content is. c.in-Ok.ensures.left order honest near _ content at is)
     resumed.follows
+
+pub returns-in-Err-Log-clause-log : goal.returns-in-Err-Log-clause-log
+returns-in-Err-Log-clause-log g c = λ told.
+    let look = looks g.R.ResourceManager.held_of g.R.ResourceManager.scan_of g.R.ResourceManager.in_doubt_of in
+    let known : c.in-Ok.remains.log ≡ Some c.in-Some.log = c.in-Some.is in
+    let failed : c.resume.result ≡ Err faults.Log = search rules in
+    over_the_log look g.L.DecisionLog c.args.system _ (sym c.in-Ok.ensures.log ∙ (known ∙ ap Some (sym c.in-Some.log-is)))
+    (c.resume.ensures.log_fault failed)
+
+pub returns-in-Err-Newer-clause-log : goal.returns-in-Err-Newer-clause-log
+returns-in-Err-Newer-clause-log g c = λ told.
+    let look = looks g.R.ResourceManager.held_of g.R.ResourceManager.scan_of g.R.ResourceManager.in_doubt_of in
+    let known : c.in-Ok.remains.log ≡ Some c.in-Some.log = c.in-Some.is in
+    let newer : c.resume.result ≡ Err faults.Newer = search rules in
+    over_a_branch look g.L.DecisionLog c.args.system _ (sym c.in-Ok.ensures.log ∙ (known ∙ ap Some (sym c.in-Some.log-is)))
+    c.in-Ok.remains.rms.items c.in-Ok.ensures.rms (c.resume.ensures.only_newer newer)

@@ -1,6 +1,7 @@
-use Rattle.std.proofs.Common.{◌∙◌, ◌+◌, ◌++◌, ◌∷◌, [], ap, arith, drop, inr, map, string_bytes, subst, sym, take}
+use Rattle.std.proofs.Common.{◌∙◌, ◌+◌, ◌++◌, ◌∷◌, [], Err, ap, arith, drop, inl, inr, map, string_bytes, subst, sym, take}
 use Rattle.std.proofs.lemmas.Result.{err_from_is_err_and, on_ok_weaker}
 use Rattle.std.specs.Io.KnownBytes.{Appends}
+use Rattle.xa_files.proofs.TablesInTurnLemmas.{same_err}
 use Rattle.xa_files.specs.Outputs.{AppendsBeginning}
 use Rattle.xa_rm.specs.contracts.mem_rm.MemRmResourceManager.TheImpl as memory
 use Rattle.xa_scenario.specs.Files.{AreAlike}
@@ -8,7 +9,7 @@ use Rattle.xa_scenario.specs.Processes.{IsLast, heading, shown}
 use Rattle.xa_scenario.specs.Replies.{trace_lines}
 use Rattle.xa_scenario.specs.Scenarios.{plan_of}
 use Rattle.xa_scenario.proofs.FileLemmas.{as_large, sized_first, sized_later}
-use Rattle.xa_scenario.proofs.PrintLemmas.{HavePrinted, all_are, begins_all, counted, none_traced, nothing_written, one_more, printed_more, prints_all, stops_between, stops_in, with_rest}
+use Rattle.xa_scenario.proofs.PrintLemmas.{HavePrinted, all_are, begins_all, counted, none_traced, nothing_written, one_more, printed_more, prints_all, rest_from, stops_behind, stops_between, stops_in, with_rest}
 use Rattle.xa_scenario.proofs.RunLemmas.{on_output_of}
 use Rattle.xa_system.specs.SystemView.{observes}
 use Rattle.xa_scenario.proofs.processes.run_scenarios.Goals as goal
@@ -151,3 +152,22 @@ returns-clause-begun g c =
     told.0 told.1 told.2
     (subst (AppendsBeginning (contents c.loop-i.out) (contents c.write_text-2.new.out)) c.as_bytes-2.ensures.value written))
     c.write_text-2.ensures.begun
+
+pub returns-in_err-process-2-clause-log : goal.returns-in_err-process-2-clause-log
+returns-in_err-process-2-clause-log g c =
+    let p = err_from_is_err_and c.from_residual-in_err-process-2.result c.from_residual-in_err-process-2.ensures.1 in
+    let inv = c.loop-i.invariant in
+    let later = c.in-Some.later.now in
+    let i = c.loop-i.i in
+    let process = c.loop-i.process in
+    let x = c.index-later-i.result in
+    let see = observes (memory.ghosts).held_of (memory.ghosts).scan_of (memory.ghosts).in_doubt_of g.L.DecisionLog.moment in
+    rw (p.1, p.2) (λ e. stops_behind see c.args.log inv.0.rms c.args.with_trace (map plan_of c.args.scenarios.now) process.gtrids.items
+    process.names.items process.system inv.0 (map plan_of (take i later)) (map plan_of (drop i later)) (with_rest plan_of inv.0 later i ∙ inv.1)
+    (string_bytes process.text) (g.W.Write.contents c.args.out.now) (g.W.Write.contents c.loop-i.out) (g.W.Write.contents c.write_text.new.out) inv.2
+    g.L.DecisionLog _ _ (rest_from plan_of inv.0 later i x c.loop-i-test.true) (c.in_err-process-2.ensures.log (ap Err (same_err _ _ e))))
+
+pub returns-in_err-process-clause-log : goal.returns-in_err-process-clause-log
+returns-in_err-process-clause-log g c =
+    let p = err_from_is_err_and c.from_residual-in_err-process.result c.from_residual-in_err-process.ensures.1 in
+    rw (p.1, p.2) (λ e. inl (c.in_err-process.ensures.log (ap Err (same_err _ _ e))))
