@@ -1,7 +1,9 @@
-//! Tests of the coordinator by itself over logs in memory, of what no clause says: that it starts, gives its log out and takes
-//! it again where there is memory, and which fault it tells.
+//! Tests of the coordinator by itself over logs in memory, of what no clause says: that it starts, forgets a transaction that is
+//! over, gives its log out and takes it again where there is memory, and which fault it tells.
 #![tactic(auto)]
 
+#[cfg(test)]
+mod releases;
 #[cfg(test)]
 mod starts;
 #[cfg(test)]

@@ -1,3 +1,4 @@
 pub mod History
 pub mod Maps
 pub mod Log
+pub mod Release

@@ -12,3 +12,4 @@ pub mod Issue
 pub mod Resolve
 pub mod ResolveOpen
 pub mod Decide
+pub mod Removals

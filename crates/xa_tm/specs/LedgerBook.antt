@@ -27,6 +27,7 @@ use Rattle.xa_tm.specs.declared.notes.Transaction.{Transaction}
 
 abbrev pub no_transaction : Transaction
 no_transaction = record {
+  is_begun = false;
   outcome = None;
   is_handed_over = false;
   is_claimed = false;
@@ -57,17 +58,18 @@ notes_at m b = unwrap_or (get branch_cmp m b) no_branch
 
 -- ** as the book has it
 
--- begun in this incarnation: sequences begin at 1
-abbrev pub begun_by : Bool → (incarnation sequence : ℕ) → Gtrid → Bool
-begun_by u i s g = u && (nat_eq g.incarnation i && (nat_le 1 g.sequence && nat_le g.sequence s))
+-- its number was given in this incarnation: sequences begin at 1
+abbrev pub numbered_by : Bool → (incarnation sequence : ℕ) → Gtrid → Bool
+numbered_by u i s g = u && (nat_eq g.incarnation i && (nat_le 1 g.sequence && nat_le g.sequence s))
 
+-- what is noted of a transaction whose number was given in this incarnation, or was not
 abbrev pub transaction_notes_of : Bool → Transaction → TransactionNotes
-transaction_notes_of begun t = record {
-  begun = begun;
+transaction_notes_of numbered t = record {
+  begun = numbered && t.is_begun;
   committed = is_commit t.outcome;
   rolled_back = is_rollback t.outcome;
   handed_over = t.is_handed_over;
-  claimed = begun && t.is_claimed;
+  claimed = numbered && (t.is_begun && t.is_claimed);
   has_yes = t.has_yes;
   branches = t.branches;
   unvoted = t.unvoted;
@@ -122,7 +124,7 @@ as_book k = record {
   sequence = k.sequence;
   begins = k.begins;
   failed_restarts = k.failed_restarts;
-  transaction = λ g. transaction_notes_of (begun_by k.is_up k.incarnation k.sequence g) (transaction_at k.transactions g);
+  transaction = λ g. transaction_notes_of (numbered_by k.is_up k.incarnation k.sequence g) (transaction_at k.transactions g);
   notes = λ b. notes_of (notes_at k.branches b);
   known = known_in k.branches;
   page = names_at k.pages;

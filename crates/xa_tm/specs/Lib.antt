@@ -7,6 +7,7 @@ pub mod Laws
 pub mod Leaving
 pub mod Limits
 pub mod RefusalOrder
+pub mod Release
 pub mod News
 pub mod Outcomes
 pub mod Refusing

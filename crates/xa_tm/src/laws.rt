@@ -16,6 +16,8 @@ ghost use Rattle.xa_tm.specs.Laws.{RowsAreCounted, SettlementsAreCounted, StartR
 ghost use Rattle.xa_tm.specs.Limits.{AnswersAreCodes, BooksAreSound, EventsAreHappenings, FoundIsAllowed};
 ghost use Rattle.xa_tm.specs.Limits.{FoundIsThere, LimitsAreKept, OldStartsAreRight, RecordsFit};
 ghost use Rattle.xa_tm.specs.RefusalOrder.{RefusalsAreMerged};
+ghost use Rattle.xa_tm.specs.Release.{BooksAreWhole, OneMoreIsReleased, OthersAreRefusedAlike, RecoveriesAreAlike};
+ghost use Rattle.xa_tm.specs.Release.{ReleasedAreSound, ReleasedAreUnknown, WholesFollow, WholesRefuseNoMore};
 ghost use Rattle.xa_tm.specs.Starting.{StartsAreHistories, StartsHaveContent};
 
 use xa_log::DecisionLog;
@@ -144,4 +146,26 @@ pub fn crashes_leave_the_book<L: DecisionLog>()
     ensures crash { (near : Bool) (k : Book) (part : Crashing) (log : L) →
         IsLeft near k (L.moment log).may_leave →
         IsLeft near (after k (Crashed part)) (L.moment log).may_leave }
+{}
+
+/// A book that has released transactions ([`Manager::release`](crate::Manager::release)) goes on as the whole book
+/// does, which has released none (`HasReleased`):
+///
+/// - `start`: a book that has released none is its own whole;
+/// - `released`: one more transaction that is over may be released;
+/// - `follows`: both books go on alike with whatever may happen until the manager is restarted;
+/// - `others`: a step that names none of the released transactions is refused as the whole book refuses it;
+/// - `unknown`: one that names one of them is always refused, as a step that names a transaction which was never begun;
+/// - `refuses`: so that what is not refused isn't refused by the whole book either;
+/// - `resolves`: a recovery ends the same branches;
+/// - `sound`: a sound book stays sound.
+pub fn released_books_go_on()
+    ensures start { BooksAreWhole }
+    ensures released { OneMoreIsReleased }
+    ensures follows { WholesFollow }
+    ensures others { OthersAreRefusedAlike }
+    ensures unknown { ReleasedAreUnknown }
+    ensures refuses { WholesRefuseNoMore }
+    ensures resolves { RecoveriesAreAlike }
+    ensures sound { ReleasedAreSound }
 {}

@@ -4,7 +4,8 @@ ghost use Rattle.std.specs.Prelude.{true, false, ◌≡◌, ◌<◌, ◌-◌, �
 ghost use Rattle.xa_base.specs.declared.call.Call.TheVariants as Calls;
 ghost use Rattle.xa_model.specs.Trace.{Happening.Begun, Happening.Claimed, Happening.Issued, Line};
 ghost use Rattle.xa_tm.specs.Book.{after, is_settled_in};
-ghost use Rattle.xa_tm.specs.LedgerBook.{HasBranch, HasTransaction, begun_by, notes_at, as_book, known_in, transaction_at};
+ghost use Rattle.xa_tm.specs.LedgerBook.{HasBranch, HasTransaction, as_book, known_in, notes_at};
+ghost use Rattle.xa_tm.specs.LedgerBook.{numbered_by, transaction_at};
 
 mod compare;
 mod crash;
@@ -13,6 +14,7 @@ mod hear;
 mod issue;
 pub(crate) mod load;
 pub(crate) mod order;
+mod release;
 mod resolve;
 mod resolve_open;
 mod restart;
@@ -72,14 +74,21 @@ impl Ledger {
         self.branches.get(&b).copied().unwrap_or(BranchNotes::NEW)
     }
 
-    /// Whether a transaction was begun in this incarnation, which ends as the manager falls.
-    pub(crate) fn is_begun(&self, g: Gtrid) -> bool
-        ensures { result ≡ begun_by self.now.is_up self.now.incarnation self.now.sequence g }
+    /// Whether a number was given in this incarnation, which ends as the manager falls.
+    fn is_numbered(&self, g: Gtrid) -> bool
+        ensures { result ≡ numbered_by self.now.is_up self.now.incarnation self.now.sequence g }
     {
         self.is_up
             && g.incarnation == self.incarnation
             && 1 <= g.sequence
             && g.sequence <= self.sequence
+    }
+
+    /// Whether a transaction was begun in this incarnation, and is not released.
+    pub(crate) fn is_begun(&self, g: Gtrid) -> bool
+        ensures { result ≡ ((as_book self.now).transaction g).begun }
+    {
+        self.is_numbered(g) && self.transaction(g).is_begun
     }
 
     /// Begins a transaction.
@@ -103,6 +112,7 @@ impl Ledger {
             &mut self.transactions,
             g,
             Transaction {
+                is_begun: true,
                 is_claimed: false,
                 ..transaction
             },
@@ -114,7 +124,7 @@ impl Ledger {
 
     /// Notes a claim.
     pub(crate) fn claim(&mut self, g: Gtrid) -> Result<(), AllocError>
-        requires { begun_by self.old.is_up self.old.incarnation self.old.sequence g ≡ Bool.true }
+        requires { ((as_book self.old).transaction g).begun ≡ Bool.true }
         ensures ok { OnOk result (as_book self.new ≡ after (as_book self.old) (Claimed g)) }
         ensures err { OnErr result (as_book self.new ≡ as_book self.old) }
     {

@@ -17,7 +17,7 @@ mod swap_fault;
 pub use laws::{
     answers_can_be_heard, books_are_sound, books_follow_histories, branches_are_counted,
     crashes_leave_the_book, log_is_asked, open_has_no_row, recoveries_are_read, refusals_are_read,
-    restarts_find_what_is_there, rows_are_counted, starts_are_histories,
+    released_books_go_on, restarts_find_what_is_there, rows_are_counted, starts_are_histories,
 };
 pub use manager::Manager;
 pub use manager::restart::Found;

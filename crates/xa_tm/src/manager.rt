@@ -11,6 +11,7 @@ mod decide;
 mod done;
 mod hear;
 mod issue;
+mod release;
 mod resolve;
 pub(crate) mod restart;
 mod settle;

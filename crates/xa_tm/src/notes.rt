@@ -11,6 +11,8 @@ use xa_base::{How, Outcome};
 /// What is noted of a transaction.
 #[derive(Clone, Copy, PartialEq, Eq)]
 pub(crate) struct Transaction {
+    /// It was begun, and is not released.
+    pub is_begun: bool,
     /// How it was decided.
     pub outcome: Option<Outcome>,
     /// Its one branch was told to commit in one phase, so that the outcome is its resource manager's.
@@ -53,6 +55,7 @@ pub(crate) struct BranchNotes {
 impl Transaction {
     /// A transaction of which nothing is noted.
     pub(crate) const NEW: Transaction = Transaction {
+        is_begun: false,
         outcome: None,
         is_handed_over: false,
         is_claimed: false,
@@ -203,6 +206,13 @@ impl BranchNotes {
         ensures { result ≡ (is_some self.recorded || self.is_acknowledged_lately) }
     {
         self.recorded.is_some() || self.is_acknowledged_lately
+    }
+
+    /// Something may still come of it: its last answer, or what its record asks for.
+    pub(crate) fn is_owed(self) -> bool
+        ensures { result ≡ ((self.is_started && not self.is_finished) || is_some self.recorded) }
+    {
+        (self.is_started && !self.is_finished) || self.recorded.is_some()
     }
 
     /// It has still to vote for commit.

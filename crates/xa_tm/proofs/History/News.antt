@@ -131,9 +131,9 @@ pub heard_transactions : (k : Book) (b : Branch) (kind : Kind) (code : Code) (wa
     → (q : Gtrid) → transaction_notes_of (was q) (new q) ≡ with_answer k (on kind b) (Ret code) q (transaction_notes_of (was q) (old q))
 heard_transactions k b kind code was old new t v s is votes settles h = one_transaction (with_answer k (on kind b) (Ret code)) was was old old new b.gtrid _
     (λ q. refl) h
-    (λ self. transaction_is _ _ refl
+    (λ self. transaction_is _ _ (ap (λ (x : Transaction). was b.gtrid && x.is_begun) is)
     (ap (λ (x : Transaction). is_commit x.outcome) is) (ap (λ (x : Transaction). is_rollback x.outcome) is) (ap (λ (x : Transaction). x.is_handed_over) is)
-    (ap (λ (x : Transaction). was b.gtrid && x.is_claimed) is)
+    (ap (λ (x : Transaction). was b.gtrid && (x.is_begun && x.is_claimed)) is)
     (ap (λ (x : Transaction). w.says_yes || x.has_yes) is ∙ ap (λ e. (e && w.says_yes) || (old b.gtrid).has_yes) (sym self) ∙ ap
     (λ y. y || (old b.gtrid).has_yes) (sym (yes_in_by b.gtrid b kind code)))
     (ap (λ (x : Transaction). x.branches) is)

@@ -1,7 +1,7 @@
 -- The book of a start.
-use Rattle.std.proofs.Common.{◌≡◌, ℕ, ◌<◌, ◌≤◌, ◌+◌, List, [], ◌∷◌, length, drop, get_or, Bool, true, false, ◌&&◌, Option, Some, None, is_some, refl, sym, ap, ◌∙◌, arith, map, ◌++◌, ◌-◌, cond, is_eq, Less, IsSomeAnd, subst}
+use Rattle.std.proofs.Common.{◌≡◌, ℕ, ◌<◌, ◌≤◌, ◌+◌, List, [], ◌∷◌, length, drop, get_or, Bool, true, false, ◌&&◌, ◌||◌, Option, Some, None, is_some, refl, sym, ap, ◌∙◌, arith, map, ◌++◌, ◌-◌, cond, is_eq, Less, IsSomeAnd, subst}
 use Rattle.std.specs.Prelude.{if◌then◌else◌, nat_lt, nat_le, ◌^◌}
-use Rattle.std.specs.List.{AllByRecursion, list_all}
+use Rattle.std.specs.List.{AllByRecursion, list_all, list_any}
 use Rattle.std.specs.List.Sorted.{IsStrictlySortedBy}
 use Rattle.std.specs.Ordering.{eq_by_cmp}
 use Rattle.std.specs.FinMap.{find, entries, entries_sorted, get-entries, keys, len-entries}
@@ -25,7 +25,7 @@ use Rattle.xa_log.specs.Contract.{FitsRow, Makes}
 use Rattle.xa_log.specs.KeySet.{KeySet, contains, contains-from_list, contains-items, from_list, items, same_set}
 use Rattle.xa_model.specs.Facts.{how_in}
 use Rattle.xa_tm.specs.Book.{Book, Waiting, row_in}
-use Rattle.xa_tm.specs.LedgerBook.{IsSound, begun_by, as_book, no_branch, transaction_at}
+use Rattle.xa_tm.specs.LedgerBook.{IsSound, numbered_by, as_book, no_branch, transaction_at}
 use Rattle.xa_tm.specs.declared.ledger.Ledger.{Ledger}
 use Rattle.xa_tm.specs.declared.notes.BranchNotes.{BranchNotes}
 use Rattle.xa_tm.proofs.Maps.Transactions.{transaction_is}
@@ -108,18 +108,19 @@ module _ (ends : List (Branch × How)) (i : ℕ) (d : Branch × How) (old new : 
 
 -- ** the incarnation is put in
 
-none_begun : (u : Bool) (i s : ℕ) (g : Gtrid) → s ≡ 0 → begun_by u i s g ≡ false
-none_begun u i s g e = grind (arith, and-false)
+none_numbered : (u : Bool) (i s : ℕ) (g : Gtrid) → s ≡ 0 → numbered_by u i s g ≡ false
+none_numbered u i s g e = grind (arith, and-false)
 
 pub in_incarnation : (l : Ledger) (i t r : ℕ) (row : Gtrid → Option Waiting) (rows : ℕ) (how : Branch → Option How) (records : ℕ)
     → as_book l ≡ start_book t r 0 row rows how records → as_book (record l { incarnation = i }) ≡ start_book t r i row rows how records
 in_incarnation l i t r row rows how records e = book_is _ _
     (ap (λ (k : Book). k.threads) e) (ap (λ (k : Book). k.rms) e) (ap (λ (k : Book). k.up) e) refl (ap (λ (k : Book). k.sequence) e)
     (ap (λ (k : Book). k.begins) e) (ap (λ (k : Book). k.failed_restarts) e)
-    (λ g. let none = none_begun l.is_up i l.sequence g (ap (λ (k : Book). k.sequence) e) in
-    transaction_is _ _ none (ap (λ (k : Book). (k.transaction g).committed) e) (ap (λ (k : Book). (k.transaction g).rolled_back) e)
+    (λ g. let none = none_numbered l.is_up i l.sequence g (ap (λ (k : Book). k.sequence) e) in
+    transaction_is _ _ (ap (λ b. b && (transaction_at l.transactions g).is_begun) none)
+    (ap (λ (k : Book). (k.transaction g).committed) e) (ap (λ (k : Book). (k.transaction g).rolled_back) e)
     (ap (λ (k : Book). (k.transaction g).handed_over) e)
-    (ap (λ b. b && (transaction_at l.transactions g).is_claimed) none)
+    (ap (λ b. b && ((transaction_at l.transactions g).is_begun && (transaction_at l.transactions g).is_claimed)) none)
     (ap (λ (k : Book). (k.transaction g).has_yes) e) (ap (λ (k : Book). (k.transaction g).branches) e) (ap (λ (k : Book). (k.transaction g).unvoted) e)
     (ap (λ (k : Book). (k.transaction g).unsettled) e))
     (λ b. ap (λ (k : Book). k.notes b) e) (ap (λ (k : Book). k.known) e) (λ m. ap (λ (k : Book). k.page m) e)
@@ -127,6 +128,44 @@ in_incarnation l i t r row rows how records e = book_is _ _
     (ap (λ (k : Book). k.records) e) (ap (λ (k : Book). k.doubt) e)
 
 -- ** rows of earlier incarnations
+
+run_own : (g : Gtrid) (q : Branch) (bs : List Branch) → list_any (eq_by_cmp branch_cmp q) (run_of g bs) ≡ true → q.gtrid ≡ g
+run_own g q [] e = absurd (cc)
+run_own g q (b ∷ bs) e =
+    by (gtrid_eq b.gtrid g) refl (sym (ap (list_any (eq_by_cmp branch_cmp q)) (take_while-cons (λ (x : Branch). gtrid_eq x.gtrid g) b bs)) ∙ e)
+    (run_own g q bs)
+  where
+    next : (s : Bool) → gtrid_eq b.gtrid g ≡ true → eq_by_cmp branch_cmp q b ≡ s → (s || list_any (eq_by_cmp branch_cmp q) (run_of g bs)) ≡ true
+        → (list_any (eq_by_cmp branch_cmp q) (run_of g bs) ≡ true → q.gtrid ≡ g) → q.gtrid ≡ g
+    next true own same some rest = ap (λ (x : Branch). x.gtrid) (exact_branches q b (equal_is _ same)) ∙ gtrid_eq-true b.gtrid g own
+    next false own other some rest = rest some
+
+    by : (t : Bool) → gtrid_eq b.gtrid g ≡ t → list_any (eq_by_cmp branch_cmp q) (cond t (b ∷ run_of g bs) []) ≡ true
+        → (list_any (eq_by_cmp branch_cmp q) (run_of g bs) ≡ true → q.gtrid ≡ g) → q.gtrid ≡ g
+    by true own some rest = next (eq_by_cmp branch_cmp q b) own refl some rest
+    by false own some rest = absurd (cc)
+
+-- the rows that are read wait for branches of their own transactions
+pub loaded_own : (gs : List Gtrid) (bs : List Branch) (q : Gtrid) (set : Waiting) (b : Branch) → loaded gs bs q ≡ Some set → contains set b ≡ true
+    → b.gtrid ≡ q
+loaded_own [] bs q set b is among = absurd (cc)
+loaded_own (g ∷ gs) bs q set b is among =
+    by (loaded gs (drop (length (run_of g bs)) bs) q) (gtrid_eq g q) refl refl is (λ e. loaded_own gs (drop (length (run_of g bs)) bs) q set b e among)
+  where
+    there : Some (from_list (run_of g bs)) ≡ Some set → contains (from_list {R = branch_cmp} (run_of g bs)) b ≡ true
+    there e = subst (λ (o : Option Waiting). holds o) (sym e) among
+      where
+        holds : Option Waiting → Type 0
+        holds (Some x) = contains x b ≡ true
+        holds None = Unit
+
+    by : (o : Option Waiting) (t : Bool) → loaded gs (drop (length (run_of g bs)) bs) q ≡ o → gtrid_eq g q ≡ t
+        → option_or o (if t then Some (from_list (run_of g bs)) else None) ≡ Some set
+        → (loaded gs (drop (length (run_of g bs)) bs) q ≡ Some set → b.gtrid ≡ q) → b.gtrid ≡ q
+    by (Some s) t e f row later = later (e ∙ row)
+    by None true e f row later =
+        run_own g b bs (sym (contains-from_list branches_total (run_of g bs) b) ∙ there row) ∙ gtrid_eq-true g q f
+    by None false e f row later = absurd (cc)
 
 loaded_old : (i : ℕ) (gs : List Gtrid) (bs : List Branch) (q : Gtrid) → list_all (fits_before i) gs ≡ true
     → is_some (loaded gs bs q) ≡ true → fits_before i q ≡ true

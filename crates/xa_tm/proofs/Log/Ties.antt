@@ -25,6 +25,7 @@ use Rattle.xa_log.specs.Content.{Content, with_commit, without_decision}
 use Rattle.xa_log.specs.Contract.{Makes, MayMake}
 use Rattle.xa_tm.specs.Book.{Book, Waiting, doubt_of, Doubt, Doubt.Adds, Doubt.Drops, Doubt.Records, Doubt.NoDoubt, after, book_after, failed_restarts_after, row_with, recorded_with, records_with, voted_yes}
 use Rattle.xa_tm.specs.Outcomes.{is_commit}
+use Rattle.xa_tm.specs.Release.{book_without}
 use Rattle.xa_tm.specs.BookAndLog.{HoldsBook, changed_by, SameRows, MayHold, IsReached, IsTiedUp, IsTiedDown, TiedBy, IsTied, MakesOf}
 use Rattle.xa_tm.specs.News.{recording}
 use Rattle.xa_tm.proofs.Maps.Transactions.{branch_tie}
@@ -265,6 +266,13 @@ tied_plain near k g Outcomes.Commit log none tied = tied_same near k (after k (D
       records = refl;
       doubt = refl;
     }) tied
+
+-- ** releases
+
+-- what the log has is not released
+pub tied_released : (near : Bool) (k : Book) (g : Gtrid) (log : Option Content) → IsTied near k log → IsTied near (book_without g k) log
+tied_released near k g log tied = tied_same near k (book_without g k) log
+    (record { up = refl; incarnation = refl; failed_restarts = refl; row = λ q. refl; rows = refl; recorded = λ b. refl; records = refl; doubt = refl }) tied
 
 -- ** crashes
 

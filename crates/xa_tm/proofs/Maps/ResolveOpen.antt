@@ -101,17 +101,21 @@ rolled_once (g ∷ gs) q t = by (gtrid_eq g q) (rolled_once gs q (rolled_back t)
     by false rolled plain = plain
 
 -- one transaction rolled back is what the book says of it
-rolled_transaction : (s b : Bool) (t : Transaction) (o : Option Outcome) (c h : Bool) → t.outcome ≡ o → t.is_claimed ≡ c → t.is_handed_over ≡ h
-    → transaction_notes_of b (if s && (b && not ((b && c) || (is_commit o || h))) then rolled_back t else t)
-    ≡ record (transaction_notes_of b t) { rolled_back = (s && (b && not ((b && c) || (is_commit o || h)))) || is_rollback t.outcome }
-rolled_transaction false b t o c h eo ec eh = refl
-rolled_transaction true false t o c h eo ec eh = refl
-rolled_transaction true true t o true h eo ec eh = refl
-rolled_transaction true true t (Some Commit) false h eo ec eh = refl
-rolled_transaction true true t (Some Rollback) false true eo ec eh = refl
-rolled_transaction true true t None false true eo ec eh = refl
-rolled_transaction true true t (Some Rollback) false false eo ec eh = transaction_is _ _ refl (sym (ap is_commit eo)) refl refl (sym ec) refl refl refl refl
-rolled_transaction true true t None false false eo ec eh = transaction_is _ _ refl (sym (ap is_commit eo)) refl refl (sym ec) refl refl refl refl
+rolled_transaction : (s b n : Bool) (t : Transaction) (o : Option Outcome) (c h : Bool)
+    → t.is_begun ≡ n → t.outcome ≡ o → t.is_claimed ≡ c → t.is_handed_over ≡ h
+    → transaction_notes_of b (if s && ((b && n) && not ((b && (n && c)) || (is_commit o || h))) then rolled_back t else t)
+    ≡ record (transaction_notes_of b t) { rolled_back = (s && ((b && n) && not ((b && (n && c)) || (is_commit o || h)))) || is_rollback t.outcome }
+rolled_transaction false b n t o c h en eo ec eh = refl
+rolled_transaction true false n t o c h en eo ec eh = refl
+rolled_transaction true true false t o c h en eo ec eh = refl
+rolled_transaction true true true t o true h en eo ec eh = refl
+rolled_transaction true true true t (Some Commit) false h en eo ec eh = refl
+rolled_transaction true true true t (Some Rollback) false true en eo ec eh = refl
+rolled_transaction true true true t None false true en eo ec eh = refl
+rolled_transaction true true true t (Some Rollback) false false en eo ec eh =
+    transaction_is _ _ refl (sym (ap is_commit eo)) refl refl (ap (λ x. t.is_begun && x) (sym ec)) refl refl refl refl
+rolled_transaction true true true t None false false en eo ec eh =
+    transaction_is _ _ refl (sym (ap is_commit eo)) refl refl (ap (λ x. t.is_begun && x) (sym ec)) refl refl refl refl
 
 pub open_transactions : (k : Book) (r : ℕ) (was : Gtrid → Bool) (old mid new : Gtrid → Transaction) (gs : List Gtrid)
     → ((q : Gtrid) → k.transaction q ≡ transaction_notes_of (was q) (old q))
@@ -124,4 +128,4 @@ open_transactions k r was old mid new gs holds same rolled listed q =
     ap (transaction_notes_of (was q)) (rolled q ∙ ap (rolled_back_by gs q) (same q) ∙ rolled_once gs q t
     ∙ ap (λ u. if u then rolled_back t else t)
     (listed q ∙ ap (λ (d : TransactionNotes). lists_one_of q (k.page r) && (d.begun && not (d.claimed || (d.committed || d.handed_over)))) (holds q)))
-    ∙ rolled_transaction (lists_one_of q (k.page r)) (was q) t t.outcome t.is_claimed t.is_handed_over refl refl refl
+    ∙ rolled_transaction (lists_one_of q (k.page r)) (was q) t.is_begun t t.outcome t.is_claimed t.is_handed_over refl refl refl refl

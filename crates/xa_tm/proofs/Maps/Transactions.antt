@@ -19,7 +19,7 @@ use Rattle.xa_base.proofs.BranchOrder.{gtrids_total, exact_gtrids, branches_tota
 use Rattle.xa_base.proofs.BranchKeys.{gtrid_eq-true, gtrid_eq-refl, branch_eq-true, branch_eq-refl}
 use Rattle.xa_base.proofs.Orders.{equal_is}
 use Rattle.xa_tm.specs.Book.{TransactionNotes, Book, Waiting, transaction_after, with_branch, is_settled_in}
-use Rattle.xa_tm.specs.LedgerBook.{HasKept, transaction_at, no_transaction, begun_by, transaction_notes_of, row_at, waiting_of}
+use Rattle.xa_tm.specs.LedgerBook.{HasKept, transaction_at, no_transaction, numbered_by, transaction_notes_of, row_at, waiting_of}
 use Rattle.xa_tm.specs.Outcomes.{is_commit, is_rollback}
 use Rattle.xa_tm.specs.declared.notes.Transaction.{Transaction}
 
@@ -94,33 +94,34 @@ one_transaction after was now old mid new g t same h here away q = ap (transacti
 
 -- ** a transaction is begun
 
-pub begun_now : (u : Bool) (i s : ℕ) → u ≡ true → begun_by u i (s + 1) (record { incarnation = i; sequence = s + 1 }) ≡ true
-begun_now u i s e = grind (arith, eq-eqb)
+pub numbered_now : (u : Bool) (i s : ℕ) → u ≡ true → numbered_by u i (s + 1) (record { incarnation = i; sequence = s + 1 }) ≡ true
+numbered_now u i s e = grind (arith, eq-eqb)
 
-pub begun_not_yet : (u : Bool) (i s : ℕ) → begun_by u i s (record { incarnation = i; sequence = s + 1 }) ≡ false
-begun_not_yet u i s = grind (arith, and-false)
+pub not_yet_numbered : (u : Bool) (i s : ℕ) → numbered_by u i s (record { incarnation = i; sequence = s + 1 }) ≡ false
+not_yet_numbered u i s = grind (arith, and-false)
 
-pub begun_others : (u : Bool) (i s : ℕ) (q : Gtrid) → gtrid_eq (record { incarnation = i; sequence = s + 1 }) q ≡ false
-    → begun_by u i (s + 1) q ≡ begun_by u i s q
-begun_others u i s q e = grind (arith, and-false)
+pub numbered_others : (u : Bool) (i s : ℕ) (q : Gtrid) → gtrid_eq (record { incarnation = i; sequence = s + 1 }) q ≡ false
+    → numbered_by u i (s + 1) q ≡ numbered_by u i s q
+numbered_others u i s q e = grind (arith, and-false)
 
 pub begin_transactions : (k : Book) (u : Bool) (i s : ℕ) (old mid new : Gtrid → Transaction) (t : Transaction) → u ≡ true
     → t ≡ mid (record { incarnation = i; sequence = s + 1 })
     → ((q : Gtrid) → mid q ≡ old q)
-    → ((q : Gtrid) → new q ≡ (if gtrid_eq (record { incarnation = i; sequence = s + 1 }) q then record t { is_claimed = false } else mid q))
-    → (q : Gtrid) → transaction_notes_of (begun_by u i (s + 1) q) (new q)
-    ≡ transaction_after k (Begun (record { incarnation = i; sequence = s + 1 })) q (transaction_notes_of (begun_by u i s q) (old q))
+    → ((q : Gtrid) → new q ≡ (if gtrid_eq (record { incarnation = i; sequence = s + 1 }) q then record t { is_begun = true; is_claimed = false } else mid q))
+    → (q : Gtrid) → transaction_notes_of (numbered_by u i (s + 1) q) (new q)
+    ≡ transaction_after k (Begun (record { incarnation = i; sequence = s + 1 })) q (transaction_notes_of (numbered_by u i s q) (old q))
 begin_transactions k u i s old mid new t up was same h =
-    one_transaction (transaction_after k (Begun g)) (begun_by u i s) (begun_by u i (s + 1)) old mid new g (record t { is_claimed = false }) same h
+    one_transaction (transaction_after k (Begun g)) (numbered_by u i s) (numbered_by u i (s + 1)) old mid new g
+    (record t { is_begun = true; is_claimed = false }) same h
     (λ self. transaction_is _ _
-    (begun_now u i s up ∙ sym (ap (λ b. b || begun_by u i s g) self))
+    (ap (λ b. b && true) (numbered_now u i s up) ∙ sym (ap (λ b. b || (numbered_by u i s g && (old g).is_begun)) self))
     (ap (λ (x : Transaction). is_commit x.outcome) is) (ap (λ (x : Transaction). is_rollback x.outcome) is) (ap (λ (x : Transaction). x.is_handed_over) is)
-    (and-false (begun_by u i (s + 1) g) ∙ sym (ap (λ b. b && (old g).is_claimed) (begun_not_yet u i s)))
+    (and-false (numbered_by u i (s + 1) g) ∙ sym (ap (λ b. b && ((old g).is_begun && (old g).is_claimed)) (not_yet_numbered u i s)))
     (ap (λ (x : Transaction). x.has_yes) is) (ap (λ (x : Transaction). x.branches) is) (ap (λ (x : Transaction). x.unvoted) is)
     (ap (λ (x : Transaction). x.unsettled) is))
     (λ q e. transaction_is _ _
-    (begun_others u i s q e ∙ sym (ap (λ b. b || begun_by u i s q) e)) refl refl refl
-    (ap (λ b. b && (old q).is_claimed) (begun_others u i s q e)) refl refl refl refl)
+    (ap (λ b. b && (old q).is_begun) (numbered_others u i s q e) ∙ sym (ap (λ b. b || (numbered_by u i s q && (old q).is_begun)) e)) refl refl refl
+    (ap (λ b. b && ((old q).is_begun && (old q).is_claimed)) (numbered_others u i s q e)) refl refl refl refl)
   where
     g : Gtrid
     g = record { incarnation = i; sequence = s + 1 }
@@ -130,20 +131,27 @@ begin_transactions k u i s old mid new t up was same h =
 
 -- ** a transaction is claimed
 
-pub claim_transactions : (k : Book) (was : Gtrid → Bool) (old mid new : Gtrid → Transaction) (g : Gtrid) (t : Transaction) → was g ≡ true → t ≡ mid g
+pub claim_transactions : (k : Book) (was : Gtrid → Bool) (old mid new : Gtrid → Transaction) (g : Gtrid) (t : Transaction)
+    → (was g && (old g).is_begun) ≡ true → t ≡ mid g
     → ((q : Gtrid) → mid q ≡ old q) → ((q : Gtrid) → new q ≡ (if gtrid_eq g q then record t { is_claimed = true } else mid q))
     → (q : Gtrid) → transaction_notes_of (was q) (new q) ≡ transaction_after k (Claimed g) q (transaction_notes_of (was q) (old q))
 claim_transactions k was old mid new g t begun there same h = one_transaction (transaction_after k (Claimed g)) was was old mid new g
     (record t { is_claimed = true }) same h
-    (λ self. transaction_is _ _ refl
+    (λ self. transaction_is _ _ (ap (λ (x : Transaction). was g && x.is_begun) is)
     (ap (λ (x : Transaction). is_commit x.outcome) is) (ap (λ (x : Transaction). is_rollback x.outcome) is) (ap (λ (x : Transaction). x.is_handed_over) is)
-    (ap (λ b. b && true) begun ∙ sym (ap (λ b. b || (was g && (old g).is_claimed)) self))
+    (ap (λ (x : Transaction). was g && (x.is_begun && true)) is ∙ claimed_now (was g) (old g).is_begun begun
+    ∙ sym (ap (λ b. b || (was g && ((old g).is_begun && (old g).is_claimed))) self))
     (ap (λ (x : Transaction). x.has_yes) is) (ap (λ (x : Transaction). x.branches) is) (ap (λ (x : Transaction). x.unvoted) is)
     (ap (λ (x : Transaction). x.unsettled) is))
-    (λ q e. transaction_is _ _ refl refl refl refl (sym (ap (λ b. b || (was q && (old q).is_claimed)) e)) refl refl refl refl)
+    (λ q e. transaction_is _ _ refl refl refl refl (sym (ap (λ b. b || (was q && ((old q).is_begun && (old q).is_claimed))) e)) refl refl refl refl)
   where
     is : t ≡ old g
     is = there ∙ same g
+
+    claimed_now : (n b : Bool) → (n && b) ≡ true → (n && (b && true)) ≡ true
+    claimed_now true true h = refl
+    claimed_now true false h = absurd (cc)
+    claimed_now false b h = absurd (cc)
 
 -- ** a transaction is handed over
 
@@ -153,9 +161,9 @@ pub hand_over_transactions : (k : Book) (l : Line) (b : Branch) (was : Gtrid →
     → (q : Gtrid) → transaction_notes_of (was q) (new q) ≡ transaction_after k (Issued l (Calls.Commit b true)) q (transaction_notes_of (was q) (old q))
 hand_over_transactions k l b was old mid new g t of there same h q =
     one_transaction (λ p d. record d { handed_over = gtrid_eq g p || d.handed_over }) was was old mid new g (record t { is_handed_over = true }) same h
-    (λ self. transaction_is _ _ refl
+    (λ self. transaction_is _ _ (ap (λ (x : Transaction). was g && x.is_begun) is)
     (ap (λ (x : Transaction). is_commit x.outcome) is) (ap (λ (x : Transaction). is_rollback x.outcome) is) (sym (ap (λ b. b || (old g).is_handed_over) self))
-    (ap (λ (x : Transaction). was g && x.is_claimed) is)
+    (ap (λ (x : Transaction). was g && (x.is_begun && x.is_claimed)) is)
     (ap (λ (x : Transaction). x.has_yes) is) (ap (λ (x : Transaction). x.branches) is) (ap (λ (x : Transaction). x.unvoted) is)
     (ap (λ (x : Transaction). x.unsettled) is))
     (λ q e. transaction_is _ _ refl refl refl (sym (ap (λ b. b || (old q).is_handed_over) e)) refl refl refl refl refl) q
@@ -180,9 +188,9 @@ pub start_transactions : (k : Book) (b : Branch) (was : Gtrid → Bool) (old mid
     } else mid q))
     → (q : Gtrid) → transaction_notes_of (was q) (new q) ≡ with_branch k b q (transaction_notes_of (was q) (old q))
 start_transactions k b was old mid new t v s is voted settled same h = one_transaction (with_branch k b) was was old mid new b.gtrid _ same h
-    (λ self. transaction_is _ _ refl
+    (λ self. transaction_is _ _ (ap (λ (x : Transaction). was b.gtrid && x.is_begun) is)
     (ap (λ (x : Transaction). is_commit x.outcome) is) (ap (λ (x : Transaction). is_rollback x.outcome) is) (ap (λ (x : Transaction). x.is_handed_over) is)
-    (ap (λ (x : Transaction). was b.gtrid && x.is_claimed) is)
+    (ap (λ (x : Transaction). was b.gtrid && (x.is_begun && x.is_claimed)) is)
     (ap (λ (x : Transaction). x.has_yes) is)
     (ap (λ (x : Transaction). x.branches + 1) is ∙ sym (ap (λ (e : Bool). if e then (old b.gtrid).branches + 1 else (old b.gtrid).branches) self))
     (pick t.unvoted v (gtrid_eq b.gtrid b.gtrid) self ∙ ap (λ (x : Transaction). if gtrid_eq b.gtrid b.gtrid && not v then x.unvoted + 1 else x.unvoted) is
@@ -210,31 +218,35 @@ pub decide_transactions : (k : Book) (was : Gtrid → Bool) (old new : Gtrid →
 decide_transactions k was old new g Outcomes.Commit t w is none made h = one_transaction
     (transaction_after k (Decided g Outcomes.Commit)) was was old old new g _ (λ q. refl)
     (with_equal old new g w _ made h)
-    (λ self. transaction_is _ _ refl (sym (ap (λ b. b || is_commit (old g).outcome) self)) (sym (ap is_rollback none))
+    (λ self. transaction_is _ _ (ap (λ (x : Transaction). was g && x.is_begun) is)
+    (sym (ap (λ b. b || is_commit (old g).outcome) self)) (sym (ap is_rollback none))
     (ap (λ (x : Transaction). x.is_handed_over) is)
-    (none_left (was g) ∙ sym (ap (λ b. not b && (was g && (old g).is_claimed)) self))
+    (none_left (was g) t.is_begun ∙ sym (ap (λ b. not b && (was g && ((old g).is_begun && (old g).is_claimed))) self))
     (ap (λ (x : Transaction). x.has_yes) is) (ap (λ (x : Transaction). x.branches) is) (ap (λ (x : Transaction). x.unvoted) is)
     (ap (λ (x : Transaction). x.unsettled) is))
     (λ q e. transaction_is _ _ refl (sym (ap (λ b. b || is_commit (old q).outcome) e)) refl refl
-    (sym (ap (λ b. not b && (was q && (old q).is_claimed)) e)) refl refl refl refl)
+    (sym (ap (λ b. not b && (was q && ((old q).is_begun && (old q).is_claimed))) e)) refl refl refl refl)
   where
-    none_left : (t : Bool) → (t && false) ≡ false
-    none_left true = refl
-    none_left false = refl
+    none_left : (n b : Bool) → (n && (b && false)) ≡ false
+    none_left true true = refl
+    none_left true false = refl
+    none_left false b = refl
 decide_transactions k was old new g Outcomes.Rollback t w is none made h = one_transaction
     (transaction_after k (Decided g Outcomes.Rollback)) was was old old new g _ (λ q. refl)
     (with_equal old new g w _ made h)
-    (λ self. transaction_is _ _ refl (sym (ap is_commit none)) (sym (ap (λ b. b || is_rollback (old g).outcome) self))
+    (λ self. transaction_is _ _ (ap (λ (x : Transaction). was g && x.is_begun) is)
+    (sym (ap is_commit none)) (sym (ap (λ b. b || is_rollback (old g).outcome) self))
     (ap (λ (x : Transaction). x.is_handed_over) is)
-    (none_left (was g) ∙ sym (ap (λ b. not b && (was g && (old g).is_claimed)) self))
+    (none_left (was g) t.is_begun ∙ sym (ap (λ b. not b && (was g && ((old g).is_begun && (old g).is_claimed))) self))
     (ap (λ (x : Transaction). x.has_yes) is) (ap (λ (x : Transaction). x.branches) is) (ap (λ (x : Transaction). x.unvoted) is)
     (ap (λ (x : Transaction). x.unsettled) is))
     (λ q e. transaction_is _ _ refl refl (sym (ap (λ b. b || is_rollback (old q).outcome) e)) refl
-    (sym (ap (λ b. not b && (was q && (old q).is_claimed)) e)) refl refl refl refl)
+    (sym (ap (λ b. not b && (was q && ((old q).is_begun && (old q).is_claimed))) e)) refl refl refl refl)
   where
-    none_left : (t : Bool) → (t && false) ≡ false
-    none_left true = refl
-    none_left false = refl
+    none_left : (n b : Bool) → (n && (b && false)) ≡ false
+    none_left true true = refl
+    none_left true false = refl
+    none_left false b = refl
 
 -- ** rows
 

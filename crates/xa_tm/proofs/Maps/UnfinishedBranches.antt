@@ -19,7 +19,7 @@ use Rattle.xa_tm.proofs.History.Members.{any_within, set_any}
 abbrev pub is_left : (thread rm : ℕ) → Branch × BranchNotes → Bool
 is_left t r e = e.1.is_started && (nat_eq e.0.thread t && (nat_eq e.0.rm r && (e.1.is_on_line && not e.1.is_finished)))
 
-some_left : (p : Branch × BranchNotes → Bool) (es : List (Branch × BranchNotes)) → list_any p es ≡ list_any (λ _. true) (keys_of (filter p es))
+pub some_left : (p : Branch × BranchNotes → Bool) (es : List (Branch × BranchNotes)) → list_any p es ≡ list_any (λ _. true) (keys_of (filter p es))
 some_left p [] = refl
 some_left p (e ∷ es) = by (p e) (some_left p es)
   where

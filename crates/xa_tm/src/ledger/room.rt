@@ -5,7 +5,8 @@ ghost use Rattle.std.specs.BTreeMap.{get};
 ghost use Rattle.std.specs.Option.{option_map};
 ghost use Rattle.xa_base.specs.Branch.{gtrid_cmp, branch_cmp, gtrid_eq, branch_eq};
 ghost use Rattle.xa_log.specs.KeySet.{insert};
-ghost use Rattle.xa_tm.specs.LedgerBook.{HasKept, notes_at, known_in, row_at, transaction_at, waiting_of};
+ghost use Rattle.xa_tm.specs.LedgerBook.{HasKept, known_in, no_transaction, notes_at, row_at};
+ghost use Rattle.xa_tm.specs.LedgerBook.{transaction_at, waiting_of};
 
 use crate::notes::{BranchNotes, Transaction};
 use std::alloc::AllocError;
@@ -107,4 +108,22 @@ pub(crate) fn set_row(
 {
     let done: Result<_, _> = map.insert(g, row);
     done.unwrap();
+}
+
+/// Takes away what is noted of a transaction.
+pub(crate) fn remove_transaction(map: &mut BTreeMap<Gtrid, Transaction>, g: Gtrid)
+    ensures at { (q : _) → transaction_at map.new q ≡
+        (if gtrid_eq g q then no_transaction else transaction_at map.old q) }
+    ensures gone { get gtrid_cmp map.new g ≡ None }
+{
+    map.remove(&g);
+}
+
+/// Takes away the room for a row, where there is none.
+pub(crate) fn remove_row_room(map: &mut BTreeMap<Gtrid, Option<Vec<Branch>>>, g: Gtrid)
+    requires { row_at map.old g ≡ None }
+    ensures same { (q : _) → row_at map.new q ≡ row_at map.old q }
+    ensures gone { get gtrid_cmp map.new g ≡ None }
+{
+    map.remove(&g);
 }

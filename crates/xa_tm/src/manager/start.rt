@@ -12,6 +12,7 @@ ghost use Rattle.xa_model.specs.Trace.{Origin, Trace.From};
 ghost use Rattle.xa_tm.specs.Begins.{BeginsWith, rows_begun};
 ghost use Rattle.xa_tm.specs.Book.{book_of};
 ghost use Rattle.xa_tm.specs.Limits.{HasRoomForRun};
+ghost use Rattle.xa_tm.specs.Release.{RowsAreOwn};
 ghost use Rattle.xa_tm.specs.Slots.{ReadsRows};
 
 use crate::ledger::Ledger;
@@ -54,6 +55,7 @@ impl<L: DecisionLog + Drop> Manager<L> {
         // The book allows each call, and is that of a history.
         ensures sound { IfOk result (λ m. IsSound (book_in m)) }
         ensures old { IfOk result (λ m. IsOld (book_in m)) }
+        ensures own { IfOk result (λ m. RowsAreOwn (book_in m)) }
         ensures start { IfOk result
             (λ m. (o : Origin) → BeginsWith threads rms m o → book_in m ≡ book_of (From o)) }
         ensures apart { IfOk result (λ m. ApartRows (rows_begun m)) }

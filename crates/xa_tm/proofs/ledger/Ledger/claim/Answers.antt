@@ -1,5 +1,5 @@
 use Rattle.std.proofs.Common.{refl}
-use Rattle.xa_tm.specs.LedgerBook.{as_book, transaction_at, begun_by}
+use Rattle.xa_tm.specs.LedgerBook.{as_book, transaction_at, numbered_by}
 use Rattle.xa_tm.proofs.Maps.Transactions.{claim_transactions}
 use Rattle.xa_tm.proofs.History.OneMore.{book_is}
 use Rattle.xa_tm.proofs.ledger.Ledger.claim.Goals as goal
@@ -8,7 +8,7 @@ pub returns-clause-ok : goal.returns-clause-ok
 returns-clause-ok c =
     let k = c.args.self.now in
     book_is _ _ refl refl refl refl refl refl refl
-    (claim_transactions (as_book k) (begun_by k.is_up k.incarnation k.sequence) (transaction_at k.transactions)
+    (claim_transactions (as_book k) (numbered_by k.is_up k.incarnation k.sequence) (transaction_at k.transactions)
     (transaction_at c.reserve_transaction.new.map) (transaction_at c.set_transaction.new.map) c.args.g c.transaction-transaction.result
     c.requires c.transaction-transaction.ensures c.in_ok-reserve_transaction.ensures.same c.set_transaction.ensures.at)
     (λ b. refl) refl (λ r. refl) (λ g. refl) refl (λ b. refl) refl refl

@@ -1,6 +1,6 @@
 use Rattle.std.proofs.Common.{refl, ◌∙◌, ap, ◌||◌}
 use Rattle.xa_log.specs.KeySet.{insert}
-use Rattle.xa_tm.specs.LedgerBook.{as_book, transaction_at, notes_at, begun_by}
+use Rattle.xa_tm.specs.LedgerBook.{as_book, transaction_at, notes_at, numbered_by}
 use Rattle.xa_tm.specs.declared.notes.BranchNotes.{BranchNotes}
 use Rattle.xa_tm.proofs.Maps.Transactions.{start_transactions, with_equal}
 use Rattle.xa_tm.proofs.Maps.Branches.{start_notes, same_records}
@@ -14,7 +14,7 @@ returns-clause-start c = λ l.
     let m = c.reserve.new.self in
     let same = c.in_ok-reserve.ensures in
     rw same.others (book_is _ _ refl refl refl refl refl refl refl
-    (start_transactions (as_book k) b (begun_by k.is_up k.incarnation k.sequence) (transaction_at k.transactions) (transaction_at m.transactions)
+    (start_transactions (as_book k) b (numbered_by k.is_up k.incarnation k.sequence) (transaction_at k.transactions) (transaction_at m.transactions)
     (transaction_at c.set_transaction.new.map) c.transaction-transaction.result
     c.has_voted.result c.is_settled-is_settled.result c.transaction-transaction.ensures
     (c.has_voted.ensures ∙ ap (λ (n : BranchNotes). n.said_yes || n.said_read_only) c.branch-notes.ensures) c.is_settled-is_settled.ensures same.transactions

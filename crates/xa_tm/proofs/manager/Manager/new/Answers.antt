@@ -12,8 +12,9 @@ use Rattle.xa_tm.specs.Begins.{records_listed, rows_listed}
 use Rattle.xa_tm.specs.Book.{Book}
 use Rattle.xa_tm.proofs.Log.Begins.{begun_apart, begun_book}
 use Rattle.xa_tm.specs.LedgerBook.{IsSound}
+use Rattle.xa_tm.specs.Release.{RowsAreOwn}
 use Rattle.xa_tm.specs.Starting.{IsOld, ended_among, fits_before, loaded, book_at_start}
-use Rattle.xa_tm.proofs.History.Starts.{in_incarnation, raised_over, start_old, start_sound, start_tied, started_over}
+use Rattle.xa_tm.proofs.History.Starts.{in_incarnation, loaded_own, raised_over, start_old, start_sound, start_tied, started_over}
 use Rattle.xa_tm.proofs.Log.Pasts.{not_past, past_of}
 use Rattle.xa_tm.proofs.manager.Manager.new.Goals as goal
 
@@ -61,6 +62,15 @@ returns-then-can_start-clause-old g c =
     (length rows.decisions.items) (ended_among rows.heuristics.items) (length rows.heuristics.items) c.in-Ok-load.ensures in
     subst IsOld (sym is) (start_old c.args.threads c.args.rms i rows.decisions.items rows.participants.items rows.heuristics.items
     (and_parts _ _ (sym c.can_start.ensures ∙ c.if-can_start.true)).0)
+
+pub returns-then-can_start-clause-own : goal.returns-then-can_start-clause-own
+returns-then-can_start-clause-own g c =
+    let rows = c.in-Ok.rows in
+    let i = c.in-Ok-bump.incarnation in
+    let is =
+    in_incarnation c.in-Ok-load.ledger i c.args.threads c.args.rms (loaded rows.decisions.items rows.participants.items)
+    (length rows.decisions.items) (ended_among rows.heuristics.items) (length rows.heuristics.items) c.in-Ok-load.ensures in
+    subst RowsAreOwn (sym is) (loaded_own rows.decisions.items rows.participants.items)
 
 pub returns-then-can_start-clause-start : goal.returns-then-can_start-clause-start
 returns-then-can_start-clause-start g c o with =
