@@ -20,13 +20,14 @@ use Rattle.xa_model.specs.Replies.Rules.{must_refuse}
 use Rattle.xa_model.specs.Replies.Steps.{Reply, Step, happened}
 use Rattle.xa_model.specs.Trace.{Happening, Happening.Begun, Happening.Claimed, Happening.Decided, Happening.Done, Line, Trace, Trace.Then, line}
 use Rattle.xa_model.proofs.Replies.Replies.{allowed_right}
-use Rattle.xa_tm.specs.Book.{Book, Doubt.NoDoubt, after, book_after, book_of, doubt_of_happening}
+use Rattle.xa_tm.specs.Book.{Doubt.NoDoubt, after, book_after, doubt_of_happening}
 use Rattle.xa_tm.specs.Calls.{book_in}
 use Rattle.xa_tm.specs.Laws.{IsLookedAt}
+use Rattle.xa_tm.specs.Release.{MayFollow}
 use Rattle.xa_tm.specs.Refusing.{managers_refusal, refusal_in}
-use Rattle.xa_tm.proofs.History.Refusals.{refusal_is}
-use Rattle.xa_tm.proofs.History.RowCounts.{right_book}
 use Rattle.xa_tm.specs.declared.manager.Manager.{Manager}
+use Rattle.xa_serve.proofs.Books.{book_goes, next_alike, refuses_no_more}
+use Rattle.xa_serve.proofs.Refusals.{begun_if_abandoned, begun_if_decided, begun_if_settled}
 use Rattle.xa_serve.specs.Following.{Follows, StandsIn}
 use Rattle.xa_serve.specs.Session.{lines_by}
 use Rattle.xa_serve.specs.declared.session.Session.{Session}
@@ -51,33 +52,22 @@ pub record IsOwn (tr : Trace) (e : Happening) : Type 0 where
   pub origin : facts.origin (Then tr e) ≡ facts.origin tr
   pub doubt : doubt_of_happening tr e ≡ NoDoubt
 
--- ** books
-
--- the book of one happening more
-pub book_then : {L : Type 0} (tr : Trace) (e : Happening) (old new : Session L) → StandsIn tr old → Right tr e
-    → book_in new.manager ≡ book_after (book_in old.manager) (doubt_of_happening tr e) e → book_in new.manager ≡ book_of (Then tr e)
-book_then tr e old new stands right is =
-    is ∙ ap (λ k. book_after k (doubt_of_happening tr e) e) stands.book ∙ sym (right_book tr e stands.run right stands.apart)
-
--- what the manager would refuse, the history does
-pub judged : {L : Type 0} (tr : Trace) (s : Session L) (step : Step) → IsLookedAt step → StandsIn tr s
-    → refusal_in (book_in s.manager) step ≡ managers_refusal tr step
-judged tr s step looked stands = ap (λ k. refusal_in k step) stands.book ∙ refusal_is tr step stands.run looked
-
 -- ** steps of the manager alone
 
 module _ {L : Type 0} (old new : Session L) where
   -- where a happening of the manager alone, or of a resource manager by itself, leads
   pub own_goes : (tr : Trace) (e : Happening) → StandsIn tr old → Right tr e → IsOwn tr e
-      → book_in new.manager ≡ after (book_in old.manager) e → new.lines ≡ old.lines → StandsIn (Then tr e) new
-  own_goes tr e stands right is book lines = record {
+      → MayFollow (book_in old.manager) e → book_in new.manager ≡ after (book_in old.manager) e → new.lines ≡ old.lines → StandsIn (Then tr e) new
+  own_goes tr e stands right is may book lines = record {
     run = (stands.run, right);
     apart = subst (λ o. ApartRows o.rows) (sym is.origin) stands.apart;
     threads = ap (λ g. g.threads) lines ∙ stands.threads ∙ ap (λ o. o.threads) (sym is.origin);
     rms = ap (λ g. g.rms) lines ∙ stands.rms ∙ ap (λ o. o.rms) (sym is.origin);
     whole = subst IsWhole (sym lines) stands.whole;
     rms_up = λ r. is.rms_up r ∙ stands.rms_up r;
-    book = book_then tr e old new stands right (book ∙ ap (λ d. book_after (book_in old.manager) d e) (sym is.doubt));
+    book =
+        book_goes tr (book_in old.manager) stands.book e _ stands.run right stands.apart may
+        (book ∙ ap (λ d. book_after (book_in old.manager) d e) (sym is.doubt));
     lines =
         λ t r has. subst (λ g. LineStands (Then tr e) (line t r) (line_at g t r)) (sym lines)
         (line_stays tr e (line t r) (line_at old.lines t r) (is.unbroken (line t r)) (is.calls (line t r)) (is.taken (line t r)) (is.heard (line t r))
@@ -86,13 +76,14 @@ module _ {L : Type 0} (old new : Session L) where
 
   pub own_follows : (step : Step) (reply : Reply) → IsLookedAt step → ((tr : Trace) → managers_refusal tr step ≡ must_refuse tr step)
       → refusal_in (book_in old.manager) step ≡ None → ((tr : Trace) → StandsIn tr old → IsValue tr step reply)
-      → ((tr : Trace) → IsOwn tr (happened step reply)) → book_in new.manager ≡ after (book_in old.manager) (happened step reply)
+      → ((tr : Trace) → IsOwn tr (happened step reply)) → MayFollow (book_in old.manager) (happened step reply)
+      → book_in new.manager ≡ after (book_in old.manager) (happened step reply)
       → new.lines ≡ old.lines → Follows (happened step reply) old new
-  own_follows step reply looked same none value own book lines tr stands =
+  own_follows step reply looked same none value own may book lines tr stands =
       let e = happened step reply in
-      let forced : must_refuse tr step ≡ None = sym (same tr) ∙ sym (judged tr old step looked stands) ∙ none in
+      let forced : must_refuse tr step ≡ None = sym (same tr) ∙ refuses_no_more tr (book_in old.manager) stands.book step stands.run looked none in
       let right : Right tr e = allowed_right tr step reply (As_value forced (value tr stands)) in
-      (right, own_goes tr e stands right (own tr) book lines)
+      (right, own_goes tr e stands right (own tr) may book lines)
 
   own_begun : (tr : Trace) (g : Gtrid) → IsOwn tr (Begun g)
   own_begun tr g =
@@ -115,34 +106,37 @@ module _ {L : Type 0} (old new : Session L) where
       → book_in new.manager ≡ after (book_in old.manager) (Begun g) → new.lines ≡ old.lines → Follows (Begun g) old new
   begun_follows t g none next book lines =
       own_follows (Steps.Begin t) (Replies.Begun g) tt (λ tr. refl) none
-      (λ tr stands. ap (λ h. Replies.Begun h) (next ∙ ap (λ (k : Book). record { incarnation = k.incarnation; sequence = k.sequence + 1 }) stands.book))
-      (λ tr. own_begun tr g) book lines
+      (λ tr stands. ap (λ h. Replies.Begun h) (next ∙ next_alike tr (book_in old.manager) stands.book))
+      (λ tr. own_begun tr g) next book lines
 
   pub claimed_follows : (g : Gtrid) → refusal_in (book_in old.manager) (Steps.Claim g) ≡ None
       → book_in new.manager ≡ after (book_in old.manager) (Claimed g) → new.lines ≡ old.lines → Follows (Claimed g) old new
   claimed_follows g none book lines =
-      own_follows (Steps.Claim g) Replies.Claimed tt (λ tr. refl) none (λ tr stands. refl) (λ tr. own_claimed tr g) book lines
+      own_follows (Steps.Claim g) Replies.Claimed tt (λ tr. refl) none (λ tr stands. refl) (λ tr. own_claimed tr g) tt book lines
 
   pub decided_follows : (g : Gtrid) (o : Outcome) → refusal_in (book_in old.manager) (Steps.Decide g o) ≡ None
       → book_in new.manager ≡ after (book_in old.manager) (Decided g o) → new.lines ≡ old.lines → Follows (Decided g o) old new
   decided_follows g o none book lines =
-      own_follows (Steps.Decide g o) Replies.Decided tt (λ tr. refl) none (λ tr stands. refl) (λ tr. own_decided tr g o) book lines
+      own_follows (Steps.Decide g o) Replies.Decided tt (λ tr. refl) none (λ tr stands. refl) (λ tr. own_decided tr g o)
+      (begun_if_decided (book_in old.manager) g o none) book lines
 
   pub settled_follows : (g : Gtrid) → refusal_in (book_in old.manager) (Steps.Settle g) ≡ None
       → book_in new.manager ≡ after (book_in old.manager) (Decided g Outcomes.Commit) → new.lines ≡ old.lines → Follows (Decided g Outcomes.Commit) old new
   settled_follows g none book lines =
-      own_follows (Steps.Settle g) Replies.Decided tt (λ tr. refl) none (λ tr stands. refl) (λ tr. own_decided tr g Outcomes.Commit) book lines
+      own_follows (Steps.Settle g) Replies.Decided tt (λ tr. refl) none (λ tr stands. refl) (λ tr. own_decided tr g Outcomes.Commit)
+      (begun_if_settled (book_in old.manager) g none) book lines
 
   pub abandoned_follows : (g : Gtrid) → refusal_in (book_in old.manager) (Steps.Abandon g) ≡ None
       → book_in new.manager ≡ after (book_in old.manager) (Decided g Outcomes.Rollback) → new.lines ≡ old.lines
       → Follows (Decided g Outcomes.Rollback) old new
   abandoned_follows g none book lines =
-      own_follows (Steps.Abandon g) Replies.Decided tt (λ tr. refl) none (λ tr stands. refl) (λ tr. own_decided tr g Outcomes.Rollback) book lines
+      own_follows (Steps.Abandon g) Replies.Decided tt (λ tr. refl) none (λ tr stands. refl) (λ tr. own_decided tr g Outcomes.Rollback)
+      (begun_if_abandoned (book_in old.manager) g none) book lines
 
   pub done_follows : (g : Gtrid) → refusal_in (book_in old.manager) (Steps.Done g) ≡ None
       → book_in new.manager ≡ after (book_in old.manager) (Done g) → new.lines ≡ old.lines → Follows (Done g) old new
   done_follows g none book lines =
-      own_follows (Steps.Done g) Replies.Noted tt (λ tr. refl) none (λ tr stands. refl) (λ tr. own_done tr g) book lines
+      own_follows (Steps.Done g) Replies.Noted tt (λ tr. refl) none (λ tr stands. refl) (λ tr. own_done tr g) tt book lines
 
   -- where the log may have been asked, and didn't fail
   pub follows_if_ok : (step : Step) (e : Happening) (m : Manager L) (reply result : Result (Unit {0}) Refusal) → result ≡ reply

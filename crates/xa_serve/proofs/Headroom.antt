@@ -12,11 +12,11 @@ use Rattle.xa_log.specs.Content.{last_number}
 use Rattle.xa_log.specs.Contract.{FitsRow}
 use Rattle.xa_model.specs.Facts.{record_of}
 use Rattle.xa_model.specs.Trace.{Origin, Trace.From, Fault.InRestart, Happening, Happening.Begun, Happening.Issued, Happening.Heard, Happening.Decided, Happening.Done, Happening.Crashed, Happening.Failed, Happening.Restarted}
-use Rattle.xa_tm.specs.Book.{Book, Doubt, Doubt.Records, Waiting, incarnation_after, sequence_after, begins_after, failed_restarts_after, transaction_after, doubt_of, voted_yes, row_after, rows_after, records_with, records_after, book_after, book_of}
+use Rattle.xa_tm.specs.Book.{Book, TransactionNotes, Doubt, Doubt.Records, Waiting, incarnation_after, sequence_after, begins_after, failed_restarts_after, transaction_after, doubt_of, voted_yes, row_after, rows_after, records_with, records_after, book_after, book_of}
 use Rattle.xa_tm.specs.LedgerBook.{IsSound}
 use Rattle.xa_tm.specs.Limits.{HasRoomForRun}
-use Rattle.xa_tm.specs.Starting.{IsOld}
-use Rattle.xa_serve.specs.Headroom.{HasHeadroom, MayHappen, first_headroom}
+use Rattle.xa_tm.specs.Starting.{IsOld, no_transaction_notes}
+use Rattle.xa_serve.specs.Headroom.{HasHeadroom, IsNumbered, MayHappen, ReleasesKeepHeadroom, first_headroom}
 
 -- ** numbers
 
@@ -266,3 +266,40 @@ starts_have_headroom o sound old room = record {
   where
     fits : (n : ℕ) → n ≤ last_number → n + first_headroom < 2 ^ 64 - 1
     fits n few = omega (arith, few)
+
+-- ** a release
+
+pub releases_keep_headroom : ReleasesKeepHeadroom
+releases_keep_headroom n k g done head = record {
+  begins = head.begins;
+  restarts = head.restarts;
+  rows = head.rows;
+  records = head.records;
+  fits = head.fits;
+  fits_begins = head.fits_begins;
+  branches = λ h. few (λ (d : TransactionNotes). d.branches) refl (gtrid_eq g h) h (head.branches h);
+  unvoted = λ h. few (λ (d : TransactionNotes). d.unvoted) refl (gtrid_eq g h) h (head.unvoted h);
+  unsettled = λ h. few (λ (d : TransactionNotes). d.unsettled) refl (gtrid_eq g h) h (head.unsettled h);
+  rows_fit = head.rows_fit;
+  rows_of = λ h some. row_of (gtrid_eq g h) h refl some (head.rows_of h some);
+  begun_past = λ h. past (gtrid_eq g h) h;
+}
+  where
+    few : (m : TransactionNotes → ℕ) → m no_transaction_notes ≡ 0 → (t : Bool) (h : Gtrid) → m (k.transaction h) + n < 2 ^ 64 - 1
+        → m (if t then no_transaction_notes else k.transaction h) + n < 2 ^ 64 - 1
+    few m none true h is = let e = none in omega (arith, e, is)
+    few m none false h is = is
+
+    row_of : (t : Bool) (h : Gtrid) → gtrid_eq g h ≡ t → IsSome (k.row h)
+        → (h.incarnation < k.incarnation) ⊎ ((k.transaction h).committed ≡ true)
+        → (h.incarnation < k.incarnation) ⊎ ((if t then no_transaction_notes else k.transaction h).committed ≡ true)
+    row_of true h is some old = absurd (never (k.row h) (ap k.row (sym (gtrid_eq-true g h is)) ∙ done.no_row) some)
+      where
+        never : {X : Type 0} (o : Option X) → o ≡ None → IsSome o → ⊥
+        never None e some = let no : ⊥ = cc in no
+        never (Some x) e some = let no : ⊥ = cc in no
+    row_of false h is some old = old
+
+    past : (t : Bool) (h : Gtrid) → (if t then no_transaction_notes else k.transaction h).begun ≡ true → IsNumbered k h
+    past true h begun = absurd (cc)
+    past false h begun = head.begun_past h begun

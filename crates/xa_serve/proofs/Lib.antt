@@ -8,3 +8,5 @@ mod Refusals
 mod Sessions
 mod Telling
 mod Tracking
+mod Books
+mod Releases

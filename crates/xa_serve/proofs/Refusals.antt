@@ -1,5 +1,5 @@
 -- What the refusals of a book say.
-use Rattle.std.proofs.Common.{◌≡◌, ℕ, ◌<◌, Bool, true, false, not, List, [], ◌∷◌, Option, Some, None, refl, sym, ap, ◌∙◌, arith}
+use Rattle.std.proofs.Common.{◌≡◌, ℕ, ◌<◌, Bool, true, false, not, List, [], ◌∷◌, Option, Some, None, refl, sym, ap, ◌∙◌, arith, subst}
 use Rattle.std.specs.Prelude.{if◌then◌else◌, nat_le}
 use Rattle.std.proofs.lemmas.Bool.{true≢false}
 use Rattle.std.proofs.lemmas.Bool.Decides.{nat_tests}
@@ -15,6 +15,7 @@ use Rattle.xa_model.specs.Replies.Steps.{Step, accepted}
 use Rattle.xa_model.specs.Trace.{Call, Name.Foreign, Name.Ours}
 use Rattle.xa_tm.specs.Book.{Book}
 use Rattle.xa_tm.specs.News.{Asked}
+use Rattle.xa_tm.specs.Release.{StartsBegun}
 use Rattle.xa_tm.specs.Refusing.{applies_in, forces_unknown_transaction_in, is_there_in, manager_rules, refusal_in}
 
 -- ** numbers
@@ -84,3 +85,25 @@ known_asked k t r (Calls.Recover n x y) e = (_, refl)
 -- a call that may be issued is one that a history knows
 pub known_issue : (k : Book) (t r : ℕ) (a : Asked) → refusal_in k (Steps.Issue t r a) ≡ None → (c : Call) × (accepted a ≡ Some c)
 known_issue k t r a none = known_asked k t r a (if_none _ _ _ (if_none _ _ _ (if_there _ _ _ none)).1).0
+
+unknown_none : (k : Book) (s : Step) → refusal_in k s ≡ None → forces_unknown_transaction_in k s ≡ false
+unknown_none k s none = (if_none _ _ _ (if_none _ _ _ (if_there _ _ _ none)).1).0
+
+-- a call that starts a branch is issued of a transaction that is begun
+pub issued_begun : (k : Book) (t r : ℕ) (a : Asked) (c : Call) → accepted a ≡ Some c → refusal_in k (Steps.Issue t r a) ≡ None → StartsBegun k c
+issued_begun k t r (Calls.Start (Ours b) j) c is none =
+    subst (StartsBegun k) (some_is _ _ is) (not_false _ (unknown_none k (Steps.Issue t r (Calls.Start (Ours b) j)) none))
+issued_begun k t r (Calls.Start (Foreign x) j) c is none = absurd (cc)
+issued_begun k t r Calls.OpenRm c is none = subst (StartsBegun k) (some_is _ _ is) tt
+issued_begun k t r Calls.CloseRm c is none = subst (StartsBegun k) (some_is _ _ is) tt
+issued_begun k t r (Calls.End (Ours b) i) c is none = subst (StartsBegun k) (some_is _ _ is) tt
+issued_begun k t r (Calls.End (Foreign x) i) c is none = absurd (cc)
+issued_begun k t r (Calls.Prepare (Ours b)) c is none = subst (StartsBegun k) (some_is _ _ is) tt
+issued_begun k t r (Calls.Prepare (Foreign x)) c is none = absurd (cc)
+issued_begun k t r (Calls.Commit (Ours b) o) c is none = subst (StartsBegun k) (some_is _ _ is) tt
+issued_begun k t r (Calls.Commit (Foreign x) o) c is none = absurd (cc)
+issued_begun k t r (Calls.Rollback (Ours b)) c is none = subst (StartsBegun k) (some_is _ _ is) tt
+issued_begun k t r (Calls.Rollback (Foreign x)) c is none = absurd (cc)
+issued_begun k t r (Calls.Forget (Ours b)) c is none = subst (StartsBegun k) (some_is _ _ is) tt
+issued_begun k t r (Calls.Forget (Foreign x)) c is none = absurd (cc)
+issued_begun k t r (Calls.Recover n x y) c is none = subst (StartsBegun k) (some_is _ _ is) tt

@@ -34,17 +34,19 @@ use Rattle.xa_model.specs.Replies.Steps.{Step, accepted, happened}
 use Rattle.xa_model.specs.Trace.{Answer as KnownAnswer, Call, Happening, Happening.Crashed, Happening.Heard, Happening.Issued, Happening.Resolved, Happening.ResolvedOpen, Happening.Took, Line, Name.Foreign, Name.Ours, Trace, Trace.Then, line, line_eq}
 use Rattle.xa_model.proofs.Keys.{line_eq-refl}
 use Rattle.xa_model.proofs.Replies.Replies.{allowed_right, first_none}
-use Rattle.xa_tm.specs.Book.{Book, Doubt.NoDoubt, after, book_after, book_of, doubt_of_happening}
+use Rattle.xa_tm.specs.Book.{Doubt.NoDoubt, after, book_after, doubt_of_happening}
 use Rattle.xa_tm.specs.Calls.{book_in}
 use Rattle.xa_tm.specs.News.{Asked}
 use Rattle.xa_tm.specs.Refusing.{manager_rules, resolved_in, resolved_open_in}
 use Rattle.xa_tm.proofs.History.Recovery.{resolved_is, resolved_open_is}
-use Rattle.xa_tm.proofs.History.RowCounts.{right_book}
-use Rattle.xa_serve.specs.Following.{Follows, FollowsAnswer, FollowsLoss, StandsIn}
+use Rattle.xa_serve.specs.Following.{BookStands, Follows, FollowsAnswer, FollowsLoss, StandsIn}
 use Rattle.xa_serve.specs.Hearing.{heard_first, with_answer}
 use Rattle.xa_serve.specs.Session.{LetsWait, has_line, known_waiting, line_refusal, recovery_bar, recovery_refusal, with_more}
 use Rattle.xa_serve.specs.declared.session.Session.{Session}
-use Rattle.xa_serve.proofs.Following.{book_then, judged, line_stays}
+use Rattle.xa_serve.proofs.Books.{book_goes, refuses_no_more, resolves_alike, resolves_open_alike, up_alike}
+use Rattle.xa_serve.proofs.Following.{line_stays}
+use Rattle.xa_serve.proofs.Refusals.{issued_begun}
+use Rattle.xa_tm.specs.Release.{MayFollow}
 use Rattle.xa_serve.proofs.Lines.{MayIssue, MayTell, may_tell, none_first, none_second}
 use Rattle.xa_serve.proofs.Recoveries.{closed_alike, closed_in, unopened_alike}
 
@@ -94,7 +96,7 @@ record StandsBeside {L : Type 0} (tr : Trace) (t r : ℕ) (s : Session L) : Type
   rms : s.lines.rms ≡ (facts.origin tr).rms
   whole : IsWhole s.lines
   rms_up : (q : ℕ) → facts.rm_up tr q ≡ true
-  book : book_in s.manager ≡ book_of tr
+  book : BookStands tr (book_in s.manager)
   others : (u q : ℕ) → HasLine s.lines u q → line_eq (line t r) (line u q) ≡ false → LineStands tr (line u q) (line_at s.lines u q)
 
 beside : {L : Type 0} (tr : Trace) (t r : ℕ) (s : Session L) → StandsIn tr s → StandsBeside tr t r s
@@ -131,7 +133,7 @@ module _ {L : Type 0} (old new : Session L) (t r : ℕ) where
   there_in tr stands there = (λ i. nat_lt t (sym stands.threads i) && nat_lt r (sym stands.rms i)) ∙ there
 
   up_in : (tr : Trace) → StandsIn tr old → (book_in old.manager).up ≡ true → facts.up tr ≡ true
-  up_in tr stands up = sym (ap (λ (k : Book). k.up) stands.book) ∙ up
+  up_in tr stands up = up_alike tr (book_in old.manager) stands.book ∙ up
 
   -- where the loss of the line leads, whatever was under way on it
   lost_goes : (tr : Trace) → StandsBeside tr t r old → MayTell old t r
@@ -148,7 +150,7 @@ module _ {L : Type 0} (old new : Session L) (t r : ℕ) where
         rms = ap (λ g. g.rms) lines ∙ stands.rms;
         whole = subst IsWhole (sym lines) (whole-with_line old.lines t r no_traffic stands.whole);
         rms_up = λ q. stands.rms_up q;
-        book = book ∙ ap (λ k. book_after k NoDoubt e) stands.book ∙ sym (right_book tr e stands.run tt stands.apart);
+        book = book_goes tr (book_in old.manager) stands.book e _ stands.run tt stands.apart tt book;
         lines =
             λ u q has. subst (λ g. LineStands (Then tr e) (line u q) (line_at g u q)) (sym lines) (stand u q (subst (λ g. HasLine g u q) lines has));
       }
@@ -209,7 +211,8 @@ module _ {L : Type 0} (old new : Session L) (t r : ℕ) (call : Asking.Call Xid)
       let at = line_at old.lines t r in
       let here = stands.lines t r may.tell.has in
       let there : is_there tr s ≡ true = there_in old new t r tr stands may.tell.there in
-      let none : first_of (applies tr s) manager_rules ≡ None = where_there (is_there tr s) _ there (sym (judged tr old s tt stands) ∙ may.book) in
+      let none : first_of (applies tr s) manager_rules ≡ None =
+      where_there (is_there tr s) _ there (refuses_no_more tr (book_in old.manager) stands.book s stands.run tt may.book) in
       let bar = unbarred (comes_unopened (issued at) call) (has_closed (issued at)) may.bar in
       let not_down : applies tr s Refusals.ManagerDown ≡ false = first_none (applies tr s) manager_rules Refusals.ManagerDown none (inl refl) in
       let rm_there : applies tr s Refusals.RmDown ≡ false = ap not (stands.rms_up r) in
@@ -263,7 +266,9 @@ module _ {L : Type 0} (old new : Session L) (t r : ℕ) (call : Asking.Call Xid)
           rms = ap (λ g. g.rms) lines ∙ stands.rms;
           whole = subst IsWhole (sym lines) (whole-with_line old.lines t r (record at { calls = with_one_more at.calls call }) stands.whole);
           rms_up = λ q. stands.rms_up q;
-          book = book_then tr e old new stands right book;
+          book =
+              book_goes tr (book_in old.manager) stands.book e _ stands.run right stands.apart
+              (issued_begun (book_in old.manager) t r a c is may.book) book;
           lines =
               λ u q has. subst (λ g. LineStands (Then tr e) (line u q) (line_at g u q)) (sym lines) (stand u q (subst (λ g. HasLine g u q) lines has));
         },
@@ -365,7 +370,7 @@ module _ {L : Type 0} (old new : Session L) (t r : ℕ) (call : Asking.Call Xid)
                 rms = ap (λ g. g.rms) lines ∙ stands.rms;
                 whole = subst IsWhole (sym lines) (whole-with_line old.lines t r (with_answer at answer) stands.whole);
                 rms_up = λ q. stands.rms_up q;
-                book = book ∙ ap (λ n. book_after n NoDoubt e) stands.book ∙ sym (right_book (Then tr took) e run right stands.apart);
+                book = book_goes (Then tr took) (book_in old.manager) stands.book e _ run right stands.apart tt book;
                 lines =
                     λ u q has. subst (λ g. LineStands (Then (Then tr took) e) (line u q) (line_at g u q)) (sym lines) (stand u q (subst
                     (λ g. HasLine g u q) lines has));
@@ -427,10 +432,10 @@ module _ {L : Type 0} (old new : Session L) (r : ℕ) where
 
   recovery_goes : (tr : Trace) (e : Happening) (n : ℕ) (known : List Call) (calls : List (Asking.Call Xid)) → StandsIn tr old → Right tr e
       → IsRecovery tr e r known → recovery_refusal old r n ≡ None → map known_call calls ≡ map Some known
-      → book_in new.manager ≡ after (book_in old.manager) e
+      → MayFollow (book_in old.manager) e → book_in new.manager ≡ after (book_in old.manager) e
       → new.lines ≡ with_line old.lines 0 r (record (line_at old.lines 0 r) { calls = with_more (line_at old.lines 0 r).calls calls })
       → Right tr e × StandsIn (Then tr e) new
-  recovery_goes tr e n known calls stands right recovery none are book lines =
+  recovery_goes tr e n known calls stands right recovery none are may_be book lines =
       let at = line_at old.lines 0 r in
       let may = may_tell old 0 r (none_first (line_refusal old 0 r) (recovery_bar at n) none) in
       let stand = lines_with (Then tr e) old.lines 0 r (record at { calls = with_more at.calls calls }) stands.whole may.has
@@ -446,7 +451,9 @@ module _ {L : Type 0} (old new : Session L) (r : ℕ) where
           rms = ap (λ g. g.rms) lines ∙ stands.rms ∙ ap (λ o. o.rms) (sym recovery.origin);
           whole = subst IsWhole (sym lines) (whole-with_line old.lines 0 r (record at { calls = with_more at.calls calls }) stands.whole);
           rms_up = λ q. recovery.rms_up q ∙ stands.rms_up q;
-          book = book_then tr e old new stands right (book ∙ ap (λ d. book_after (book_in old.manager) d e) (sym recovery.doubt));
+          book =
+              book_goes tr (book_in old.manager) stands.book e _ stands.run right stands.apart may_be
+              (book ∙ ap (λ d. book_after (book_in old.manager) d e) (sym recovery.doubt));
           lines =
               λ u q has. subst (λ g. LineStands (Then tr e) (line u q) (line_at g u q)) (sym lines) (stand u q (subst (λ g. HasLine g u q) lines has));
         },
@@ -459,7 +466,7 @@ module _ {L : Type 0} (old new : Session L) (r : ℕ) where
       let may = may_tell old 0 r (none_first (line_refusal old 0 r) (recovery_bar (line_at old.lines 0 r) n) none) in
       recovery_goes tr (Resolved r) n (facts.resolving_calls tr (facts.page tr r)) waits.calls stands
       (up_in old new 0 r tr stands may.up, unclosed_in tr n stands none) (resolved_so tr r) none
-      (waits.are ∙ ap (map Some) (ap (λ k. resolved_in k r) stands.book ∙ resolved_is tr r)) (ap book_in same) waits.lines
+      (waits.are ∙ ap (map Some) (resolves_alike tr (book_in old.manager) stands.book r ∙ resolved_is tr r)) tt (ap book_in same) waits.lines
 
   pub open_resolved_follows : (n : ℕ) → recovery_refusal old r n ≡ None → book_in new.manager ≡ after (book_in old.manager) (ResolvedOpen r)
       → LetsWait r (resolved_open_in (book_in old.manager) r) old.lines new.lines → Follows (ResolvedOpen r) old new
@@ -467,4 +474,4 @@ module _ {L : Type 0} (old new : Session L) (r : ℕ) where
       let may = may_tell old 0 r (none_first (line_refusal old 0 r) (recovery_bar (line_at old.lines 0 r) n) none) in
       recovery_goes tr (ResolvedOpen r) n (facts.resolving_calls (Then tr (ResolvedOpen r)) (facts.page tr r)) waits.calls stands
       (up_in old new 0 r tr stands may.up, unclosed_in tr n stands none) (open_so tr r) none
-      (waits.are ∙ ap (map Some) (ap (λ k. resolved_open_in k r) stands.book ∙ resolved_open_is tr r)) book waits.lines
+      (waits.are ∙ ap (map Some) (resolves_open_alike tr (book_in old.manager) stands.book r ∙ resolved_open_is tr r)) tt book waits.lines

@@ -1,5 +1,6 @@
 -- How a session follows a history.
-use Rattle.std.specs.Prelude.{ℕ, ◌≡◌, true, Option, Some}
+use Rattle.std.specs.Prelude.{ℕ, ◌≡◌, Bool, true, Option, Some}
+use Rattle.xa_base.specs.declared.branch.Gtrid.{Gtrid}
 use Rattle.xa_line.specs.Grid.{HasLine, IsWhole, line_at}
 use Rattle.xa_line.specs.Histories.{LineStands}
 use Rattle.xa_model.specs.Facts.{next_call, origin, rm_up}
@@ -8,12 +9,17 @@ use Rattle.xa_model.specs.Protocol.{IsRun, OldOrigin, Right, SoundAnswer}
 use Rattle.xa_model.specs.Trace.{Answer, Call, Happening, Happening.Heard, Happening.Took, Line, Origin, Trace, Trace.From, Trace.Then, line}
 use Rattle.xa_standings.specs.Seen.{Waits, break_of}
 use Rattle.xa_tm.specs.Begins.{BeginsWith}
-use Rattle.xa_tm.specs.Book.{book_of}
+use Rattle.xa_tm.specs.Book.{Book, book_of}
 use Rattle.xa_tm.specs.Calls.{book_in}
+use Rattle.xa_tm.specs.Release.{HasReleased}
 use Rattle.xa_serve.specs.declared.session.Session.{Session}
 
--- The session stands where the history leaves it: its book is the history's, and so is the traffic of each line. No resource manager of
--- the history is down: what a driver tells of a crash is that lines are lost.
+-- a book is that of a history, but for transactions that were released
+abbrev pub BookStands : Trace → Book → Type 0
+BookStands tr k = (gone : Gtrid → Bool) × HasReleased gone (book_of tr) k
+
+-- The session stands where the history leaves it: its book is the history's, but for transactions that it has released, and the traffic of
+-- each line is the history's. No resource manager of the history is down: what a driver tells of a crash is that lines are lost.
 pub record StandsIn {L : Type 0} (tr : Trace) (s : Session L) : Type 0 where
   pub run : IsRun tr
   pub apart : ApartRows (origin tr).rows
@@ -21,7 +27,7 @@ pub record StandsIn {L : Type 0} (tr : Trace) (s : Session L) : Type 0 where
   pub rms : s.lines.rms ≡ (origin tr).rms
   pub whole : IsWhole s.lines
   pub rms_up : (r : ℕ) → rm_up tr r ≡ true
-  pub book : book_in s.manager ≡ book_of tr
+  pub book : BookStands tr (book_in s.manager)
   pub lines : (t r : ℕ) → HasLine s.lines t r → LineStands tr (line t r) (line_at s.lines t r)
 
 -- it stands in each start that has the rows and records of its log

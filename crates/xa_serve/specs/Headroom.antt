@@ -7,6 +7,7 @@ use Rattle.xa_model.specs.Trace.{Origin, Trace.From, Fault.InRestart, Happening,
 use Rattle.xa_tm.specs.Book.{Book, Doubt, book_after, book_of}
 use Rattle.xa_tm.specs.LedgerBook.{IsSound}
 use Rattle.xa_tm.specs.Limits.{HasRoomForRun}
+use Rattle.xa_tm.specs.Release.{IsOver, book_without}
 use Rattle.xa_tm.specs.Starting.{IsOld}
 
 -- a transaction of the book is begun, and its number is one that was given in this incarnation
@@ -43,6 +44,10 @@ MayHappen k e = Unit
 abbrev pub HeadroomIsUsedUpByOne : Type 0
 HeadroomIsUsedUpByOne = (n : ℕ) (k : Book) (asked : Doubt) (e : Happening) → MayHappen k e → HasHeadroom (n + 1) k
     → HasHeadroom n (book_after k asked e)
+
+-- a release uses none up
+abbrev pub ReleasesKeepHeadroom : Type 0
+ReleasesKeepHeadroom = (n : ℕ) (k : Book) (g : Gtrid) → IsOver k g → HasHeadroom n k → HasHeadroom n (book_without g k)
 
 -- a book with headroom is sound
 abbrev pub HeadroomIsSound : Type 0

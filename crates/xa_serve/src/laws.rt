@@ -1,7 +1,8 @@
 //! What keeps the numbers of the manager's book small enough, and how a session tracks what is seen. These functions do
 //! nothing: each contract is a theorem.
 
-ghost use Rattle.xa_serve.specs.Headroom.{HeadroomIsSound, HeadroomIsUsedUpByOne, StartsHaveHeadroom};
+ghost use Rattle.xa_serve.specs.Headroom.{HeadroomIsSound, HeadroomIsUsedUpByOne};
+ghost use Rattle.xa_serve.specs.Headroom.{ReleasesKeepHeadroom, StartsHaveHeadroom};
 ghost use Rattle.xa_serve.specs.Tracking.{AnswersAreTracked, LossesAreTracked, StartsAreTracked, StepsAreTracked};
 
 use xa_log::DecisionLog;
@@ -10,10 +11,12 @@ use xa_log::DecisionLog;
 /// answer:
 ///
 /// - `kept`: one happening more leaves headroom for one less;
+/// - `released`: a release uses none up;
 /// - `sound`: a book with headroom is sound, as each call of the manager requires;
 /// - `starts`: a start that [`Manager::new`](xa_tm::Manager::new) gives has headroom for 4,611,686,018,427,387,904.
 pub fn books_have_headroom()
     ensures kept { HeadroomIsUsedUpByOne }
+    ensures released { ReleasesKeepHeadroom }
     ensures sound { HeadroomIsSound }
     ensures starts { StartsHaveHeadroom }
 {}

@@ -12,6 +12,7 @@ mod calls;
 mod crashes;
 mod decisions;
 mod recoveries;
+mod releases;
 
 use std::alloc::Global;
 use xa_base::Refusal;

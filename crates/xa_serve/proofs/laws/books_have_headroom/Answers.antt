@@ -1,4 +1,4 @@
-use Rattle.xa_serve.proofs.Headroom.{headroom_kept, sound, starts_have_headroom}
+use Rattle.xa_serve.proofs.Headroom.{releases_keep_headroom, headroom_kept, sound, starts_have_headroom}
 use Rattle.xa_serve.proofs.laws.books_have_headroom.Goals as goal
 
 pub returns-clause-kept : goal.returns-clause-kept
@@ -9,3 +9,6 @@ returns-clause-sound c = λ n k head. sound n k head
 
 pub returns-clause-starts : goal.returns-clause-starts
 returns-clause-starts c = starts_have_headroom
+
+pub returns-clause-released : goal.returns-clause-released
+returns-clause-released c = releases_keep_headroom

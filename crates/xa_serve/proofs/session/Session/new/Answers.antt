@@ -1,4 +1,4 @@
-use Rattle.std.proofs.Common.{[], ◌∙◌, ap, arith, refl, subst, sym}
+use Rattle.std.proofs.Common.{[], false, ◌∙◌, ap, arith, refl, subst, sym}
 use Rattle.xa_base.specs.HeldBranch.{new_branch}
 use Rattle.xa_base.specs.Scan.{Scan.NotOpen}
 use Rattle.xa_line.specs.Grid.{IsWhole, line_at}
@@ -10,7 +10,9 @@ use Rattle.xa_tm.specs.Begins.{records_begun, rows_begun}
 use Rattle.xa_tm.specs.Calls.{book_in}
 use Rattle.xa_tm.specs.LedgerBook.{IsSound}
 use Rattle.xa_tm.specs.Limits.{HasRoomForRun}
+use Rattle.xa_tm.specs.Release.{HasReleased}
 use Rattle.xa_tm.specs.Starting.{IsOld}
+use Rattle.xa_tm.proofs.Release.{books_are_whole}
 use Rattle.xa_serve.specs.Headroom.{HasHeadroom, first_headroom}
 use Rattle.xa_serve.specs.Session.{AllHeard}
 use Rattle.xa_serve.proofs.Headroom.{starts_have_headroom}
@@ -48,7 +50,11 @@ returns-in-Ok-new-clause-stands g c = λ o begins runs.
       rms = ap (λ l. l.rms) lines ∙ sym begins.rms_are;
       whole = subst IsWhole (sym lines) (whole-new_grid c.args.threads c.args.rms);
       rms_up = λ r. refl;
-      book = c.in-Ok-new.ensures.start o begins;
+      book = (
+        (λ g. false),
+        subst (λ w. HasReleased (λ g. false) w (book_in c.in-Ok-new.manager)) (c.in-Ok-new.ensures.start o begins)
+            (books_are_whole (book_in c.in-Ok-new.manager) c.in-Ok-new.ensures.own),
+      );
       lines =
           λ t r has. subst (LineStands (From o) (line t r)) (sym (ap (λ l. line_at l t r) lines ∙ line_at-new_grid c.args.threads c.args.rms t r))
           (record { all_issued = refl; all_answered = refl; all_heard = refl; each_answered = refl });

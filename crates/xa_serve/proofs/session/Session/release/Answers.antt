@@ -1,0 +1,12 @@
+use Rattle.xa_serve.proofs.Releases.{release_ready, release_stands}
+use Rattle.xa_serve.proofs.session.Session.release.Goals as goal
+
+pub returns-clause-ready : goal.returns-clause-ready
+returns-clause-ready g c =
+    let is = c.release.ensures in
+    release_ready c.args.self.now c.release.new.self c.args.gtrid c.release.result is.over is.released (λ e. is.same e) c.requires
+
+pub returns-clause-stands : goal.returns-clause-stands
+returns-clause-stands g c =
+    let is = c.release.ensures in
+    release_stands c.args.self.now c.release.new.self c.args.gtrid c.release.result is.over is.released (λ e. is.same e)
