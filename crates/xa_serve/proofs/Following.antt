@@ -1,5 +1,5 @@
 -- Steps of a session in histories.
-use Rattle.std.proofs.Common.{◌≡◌, ℕ, ◌+◌, [], false, None, refl, sym, ap, ◌∙◌, subst}
+use Rattle.std.proofs.Common.{◌≡◌, ℕ, [], false, None, refl, sym, ap, ◌∙◌, subst}
 use Rattle.std.specs.Prelude.{Result, Ok, Err, OnOk}
 use Rattle.std.proofs.lemmas.List.{append-nil}
 use Rattle.xa_base.specs.declared.branch.Gtrid.{Gtrid}
@@ -20,14 +20,14 @@ use Rattle.xa_model.specs.Replies.Rules.{must_refuse}
 use Rattle.xa_model.specs.Replies.Steps.{Reply, Step, happened}
 use Rattle.xa_model.specs.Trace.{Happening, Happening.Begun, Happening.Claimed, Happening.Decided, Happening.Done, Line, Trace, Trace.Then, line}
 use Rattle.xa_model.proofs.Replies.Replies.{allowed_right}
-use Rattle.xa_tm.specs.Book.{Doubt.NoDoubt, after, book_after, doubt_of_happening}
+use Rattle.xa_tm.specs.Book.{Doubt.NoDoubt, after, book_after, book_of, doubt_of_happening}
 use Rattle.xa_tm.specs.Calls.{book_in}
 use Rattle.xa_tm.specs.Laws.{IsLookedAt}
 use Rattle.xa_tm.specs.Release.{MayFollow}
-use Rattle.xa_tm.specs.Refusing.{managers_refusal, refusal_in}
+use Rattle.xa_tm.specs.Refusing.{managers_refusal, refusal_in, service_refusal_in}
 use Rattle.xa_tm.specs.declared.manager.Manager.{Manager}
-use Rattle.xa_serve.proofs.Books.{book_goes, next_alike, refuses_no_more}
-use Rattle.xa_serve.proofs.Refusals.{begun_if_abandoned, begun_if_decided, begun_if_settled}
+use Rattle.xa_serve.proofs.Books.{book_goes, next_alike, next_of, refuses_no_more, up_alike}
+use Rattle.xa_serve.proofs.Refusals.{begun_if_abandoned, begun_if_decided, begun_if_settled, up_if_begins}
 use Rattle.xa_serve.specs.Following.{Follows, StandsIn}
 use Rattle.xa_serve.specs.Session.{lines_by}
 use Rattle.xa_serve.specs.declared.session.Session.{Session}
@@ -101,13 +101,15 @@ module _ {L : Type 0} (old new : Session L) where
   own_done tr g =
       record { unbroken = λ l. refl; calls = λ l. refl; taken = λ l. refl; heard = λ l. refl; rms_up = λ r. refl; origin = refl; doubt = refl }
 
-  pub begun_follows : (t : ℕ) (g : Gtrid) → refusal_in (book_in old.manager) (Steps.Begin t) ≡ None
-      → g ≡ record { incarnation = (book_in old.manager).incarnation; sequence = (book_in old.manager).sequence + 1 }
+  pub begun_follows : (t : ℕ) (g : Gtrid) → service_refusal_in (book_in old.manager) t ≡ None → g ≡ next_of (book_in old.manager)
       → book_in new.manager ≡ after (book_in old.manager) (Begun g) → new.lines ≡ old.lines → Follows (Begun g) old new
-  begun_follows t g none next book lines =
-      own_follows (Steps.Begin t) (Replies.Begun g) tt (λ tr. refl) none
-      (λ tr stands. ap (λ h. Replies.Begun h) (next ∙ next_alike tr (book_in old.manager) stands.book))
-      (λ tr. own_begun tr g) next book lines
+  begun_follows t g none next book lines tr stands =
+      let k = book_in old.manager in
+      let at : g ≡ next_of (book_of tr) = next ∙ next_alike tr k stands.book in
+      let right : Right tr (Begun g) =
+      (up_alike tr k stands.book ∙ up_if_begins k t none, ap (λ (h : Gtrid). h.incarnation) at, ap (λ (h : Gtrid). h.sequence) at)
+      in
+      (right, own_goes tr (Begun g) stands right (own_begun tr g) next book lines)
 
   pub claimed_follows : (g : Gtrid) → refusal_in (book_in old.manager) (Steps.Claim g) ≡ None
       → book_in new.manager ≡ after (book_in old.manager) (Claimed g) → new.lines ≡ old.lines → Follows (Claimed g) old new

@@ -7,7 +7,7 @@ use Rattle.xa_base.proofs.Options.{some_is}
 use Rattle.xa_base.specs.declared.branch.Gtrid.{Gtrid}
 use Rattle.xa_base.specs.declared.call.Call.TheVariants as Calls
 use Rattle.xa_base.specs.declared.refusal.Refusal.{Refusal}
-use Rattle.xa_base.specs.declared.refusal.Refusal.TheVariants.{Limit, LogFault}
+use Rattle.xa_base.specs.declared.refusal.Refusal.TheVariants.{Limit, LogFault, ManagerDown}
 use Rattle.xa_base.specs.declared.step.Outcome.{Outcome}
 use Rattle.xa_base.specs.declared.step.Step.TheVariants as Steps
 use Rattle.xa_model.specs.Replies.Rules.{first_of}
@@ -16,7 +16,7 @@ use Rattle.xa_model.specs.Trace.{Call, Name.Foreign, Name.Ours}
 use Rattle.xa_tm.specs.Book.{Book}
 use Rattle.xa_tm.specs.News.{Asked}
 use Rattle.xa_tm.specs.Release.{StartsBegun}
-use Rattle.xa_tm.specs.Refusing.{applies_in, forces_unknown_transaction_in, is_there_in, manager_rules, refusal_in}
+use Rattle.xa_tm.specs.Refusing.{applies_in, forces_unknown_transaction_in, is_there_in, manager_rules, refusal_in, service_refusal_in}
 
 -- ** numbers
 
@@ -53,6 +53,14 @@ if_there false x r e = absurd (cc)
 pub not_false : (b : Bool) → not b ≡ false → b ≡ true
 not_false true e = refl
 not_false false e = absurd (cc)
+
+-- where a transaction may begin, the manager is up
+pub up_if_begins : (k : Book) (t : ℕ) → service_refusal_in k t ≡ None → k.up ≡ true
+up_if_begins k t none = if_up k.up (if_there _ _ _ none)
+  where
+    if_up : (up : Bool) → (if up then None else Some ManagerDown) ≡ None → up ≡ true
+    if_up true e = refl
+    if_up false e = absurd (cc)
 
 -- what may be decided is begun
 pub begun_if_decided : (k : Book) (g : Gtrid) (o : Outcome) → refusal_in k (Steps.Decide g o) ≡ None → (k.transaction g).begun ≡ true

@@ -17,7 +17,7 @@ use Rattle.xa_model.specs.Replies.History.{name_of}
 use Rattle.xa_model.specs.Replies.Steps.{Step}
 use Rattle.xa_model.specs.Trace.{Call as KnownCall}
 use Rattle.xa_tm.specs.Calls.{book_in}
-use Rattle.xa_tm.specs.Refusing.{refusal_in}
+use Rattle.xa_tm.specs.Refusing.{refusal_in, service_refusal_in}
 use Rattle.xa_serve.specs.Headroom.{HasHeadroom, first_headroom}
 use Rattle.xa_serve.specs.Hearing.{can_hear}
 use Rattle.xa_serve.specs.declared.session.Session.{Session}
@@ -45,6 +45,10 @@ is_over s = nat_le first_headroom s.happenings
 -- why it refuses a step that asks no line, the first reason that applies
 abbrev pub refusal_at : {L : Type 0} → Session L → Step → Option Refusal
 refusal_at s step = if is_over s then Some Limit else refusal_in (book_in s.manager) step
+
+-- why it refuses a thread's begin, the first reason that applies
+abbrev pub begin_refusal : {L : Type 0} → Session L → (thread : ℕ) → Option Refusal
+begin_refusal s t = if is_over s then Some Limit else service_refusal_in (book_in s.manager) t
 
 -- ** what a call of the manager leaves that may ask the log
 

@@ -8,7 +8,7 @@ ghost use Rattle.xa_model.specs.Trace.{Fault.InDecide, Fault.InDone, Happening.B
 ghost use Rattle.xa_tm.specs.Book.{Doubt.Adds, Doubt.Drops, after, book_after, voted_yes};
 ghost use Rattle.xa_tm.specs.Calls.{FailsBy, book_in, log_in};
 ghost use Rattle.xa_serve.specs.Following.{Follows};
-ghost use Rattle.xa_serve.specs.Session.{IsReady, lines_by, refusal_at};
+ghost use Rattle.xa_serve.specs.Session.{IsReady, begin_refusal, lines_by, refusal_at};
 
 use super::Session;
 use crate::laws::books_have_headroom;
@@ -16,14 +16,14 @@ use xa_base::{Gtrid, Outcome, Refusal};
 use xa_log::DecisionLog;
 
 impl<L: DecisionLog + Drop> Session<L> {
-    /// A thread begins a transaction.
+    /// A thread begins a transaction. As long as anything may happen in the session, none is one too many.
     pub fn begin(&mut self, thread: u32) -> Result<Gtrid, Refusal>
         requires { IsReady self.old }
         ensures ready { IsReady self.new }
         // A rule that refuses changes nothing.
-        ensures refused { (n : Refusal) → refusal_at self.old (Steps.Begin thread) ≡ Some n →
+        ensures refused { (n : Refusal) → begin_refusal self.old thread ≡ Some n →
             (result ≡ Err n) × (self.new ≡ self.old) }
-        ensures allowed { OnOk result (refusal_at self.old (Steps.Begin thread) ≡ None) }
+        ensures allowed { OnOk result (begin_refusal self.old thread ≡ None) }
         // What the book then says.
         ensures value { IfOk result (λ g. g ≡ record {
           incarnation = (book_in self.old.manager).incarnation;
@@ -31,7 +31,7 @@ impl<L: DecisionLog + Drop> Session<L> {
         }) }
         ensures ok { IfOk result
             (λ g. book_in self.new.manager ≡ after (book_in self.old.manager) (Begun g)) }
-        ensures err { refusal_at self.old (Steps.Begin thread) ≡ None →
+        ensures err { begin_refusal self.old thread ≡ None →
             IfErr result (λ n. (n ≡ Refusals.Memory)
             × (book_in self.new.manager ≡ book_in self.old.manager)) }
         ensures follows { IfOk result (λ g. Follows (Begun g) self.old self.new) }
@@ -43,7 +43,7 @@ impl<L: DecisionLog + Drop> Session<L> {
         if self.is_over() {
             return Err(Refusal::Limit);
         }
-        match self.manager.begin(thread) {
+        match self.manager.begin_in_service(thread) {
             Ok(gtrid) => {
                 self.happenings += 1;
                 Ok(gtrid)

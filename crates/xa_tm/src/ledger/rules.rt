@@ -5,7 +5,7 @@ ghost use Rattle.xa_base.specs.declared.step.Step.TheVariants as Steps;
 ghost use Rattle.xa_model.specs.Facts.{each_of_some};
 ghost use Rattle.xa_tm.specs.LedgerBook.{as_book};
 ghost use Rattle.xa_tm.specs.Refusing.{has_row_in, row_settled_in, is_settled_lately_in, waits_for_none, is_shut_in};
-ghost use Rattle.xa_tm.specs.Refusing.{is_taken_up_in, live_in, outlived_in, refusal_in};
+ghost use Rattle.xa_tm.specs.Refusing.{is_taken_up_in, live_in, outlived_in, refusal_in, service_refusal_in};
 
 use crate::ledger::Ledger;
 use xa_base::{BEGIN_LIMIT, Branch, Gtrid, Outcome, Refusal};
@@ -46,15 +46,25 @@ impl Ledger {
         self.is_begun(g) && !self.transaction(g).is_over()
     }
 
-    /// The refusal of a thread's Begin.
-    pub(crate) fn may_begin(&self, thread: u32) -> Option<Refusal>
-        ensures { result ≡ refusal_in (as_book self.now) (Steps.Begin thread) }
+    /// The refusal of a thread's begin, however many transactions were begun before.
+    pub(crate) fn may_begin_in_service(&self, thread: u32) -> Option<Refusal>
+        ensures { result ≡ service_refusal_in (as_book self.now) thread }
     {
         if thread >= self.threads {
             return Some(Refusal::Limit);
         }
         if !self.is_up {
             return Some(Refusal::ManagerDown);
+        }
+        None
+    }
+
+    /// The refusal of a thread's Begin.
+    pub(crate) fn may_begin(&self, thread: u32) -> Option<Refusal>
+        ensures { result ≡ refusal_in (as_book self.now) (Steps.Begin thread) }
+    {
+        if let Some(refusal) = self.may_begin_in_service(thread) {
+            return Some(refusal);
         }
         if self.begins >= BEGIN_LIMIT {
             return Some(Refusal::Limit);

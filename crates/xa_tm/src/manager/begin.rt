@@ -7,7 +7,7 @@ ghost use Rattle.xa_model.specs.Trace.{Happening.Begun};
 ghost use Rattle.xa_tm.specs.Book.{after};
 ghost use Rattle.xa_tm.specs.Calls.{book_in, log_in};
 ghost use Rattle.xa_tm.specs.LedgerBook.{IsSound};
-ghost use Rattle.xa_tm.specs.Refusing.{refusal_in};
+ghost use Rattle.xa_tm.specs.Refusing.{refusal_in, service_refusal_in};
 
 use crate::manager::Manager;
 use xa_base::{Gtrid, Refusal};
@@ -34,6 +34,35 @@ impl<L: DecisionLog + Drop> Manager<L> {
         ensures log { log_in self.new ≡ log_in self.old }
     {
         match self.ledger.may_begin(thread) {
+            Some(refusal) => Err(refusal),
+            None => match self.ledger.begin() {
+                Ok(g) => Ok(g),
+                Err(_) => Err(Refusal::Memory),
+            },
+        }
+    }
+
+    /// The same, however many transactions were begun before: for a service, which ends when its numbers do. A run
+    /// begins with [`begin`](Manager::begin), which refuses what is behind its limit.
+    pub fn begin_in_service(&mut self, thread: u32) -> Result<Gtrid, Refusal>
+        requires { IsSound (book_in self.old) }
+        // A rule that refuses changes nothing.
+        ensures refused { (n : Refusal) →
+            service_refusal_in (book_in self.old) thread ≡ Some n →
+            (result ≡ Err n) × (self.new ≡ self.old) }
+        ensures allowed { OnOk result (service_refusal_in (book_in self.old) thread ≡ None) }
+        // The transaction that is begun.
+        ensures value { IfOk result (λ g. g ≡ record {
+          incarnation = (book_in self.old).incarnation;
+          sequence = (book_in self.old).sequence + 1;
+        }) }
+        // What the book then says.
+        ensures ok { IfOk result (λ g. book_in self.new ≡ after (book_in self.old) (Begun g)) }
+        ensures err { service_refusal_in (book_in self.old) thread ≡ None →
+            IfErr result (λ n. (n ≡ Refusals.Memory) × (book_in self.new ≡ book_in self.old)) }
+        ensures log { log_in self.new ≡ log_in self.old }
+    {
+        match self.ledger.may_begin_in_service(thread) {
             Some(refusal) => Err(refusal),
             None => match self.ledger.begin() {
                 Ok(g) => Ok(g),

@@ -1,9 +1,8 @@
 use Rattle.std.proofs.Common.{◌∙◌, ap, refl, sym}
-use Rattle.xa_base.specs.declared.step.Step.TheVariants as Steps
 use Rattle.xa_model.specs.Trace.{Happening.Begun}
 use Rattle.xa_tm.specs.Book.{Doubt.NoDoubt}
 use Rattle.xa_tm.specs.Calls.{book_in}
-use Rattle.xa_tm.specs.Refusing.{refusal_in}
+use Rattle.xa_tm.specs.Refusing.{service_refusal_in}
 use Rattle.xa_serve.proofs.Following.{begun_follows}
 use Rattle.xa_serve.proofs.Sessions.{has_few, refused_or, same_leaves, step_leaves}
 use Rattle.xa_serve.proofs.session.Session.begin.Goals as goal
@@ -18,7 +17,7 @@ pub returns-in-Err-clause-ready : goal.returns-in-Err-clause-ready
 returns-in-Err-clause-ready g c =
     let s = c.args.self.now in
     same_leaves s _ c.requires refl
-    (refused_or (refusal_in (book_in s.manager) (Steps.Begin c.args.thread)) _ _
+    (refused_or (service_refusal_in (book_in s.manager) c.args.thread) _ _
     (λ n is. ap book_in (c.in-Err.ensures.refused n is).1) (λ none. (c.in-Err.ensures.err none).1)) refl
 
 pub returns-in-Ok-clause-follows : goal.returns-in-Ok-clause-follows
