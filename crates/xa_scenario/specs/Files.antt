@@ -39,6 +39,13 @@ unfoldable pub names_with : Names → Items → Names
 names_with begun no_items = begun
 names_with begun (item value items) = names_with (names_after begun value) items
 
+-- the names that a text begins in turn, or the first fault of its document or its top
+unfoldable pub names_of : List ℕ → Result Names RunFault
+names_of text = do
+  document ← document_of text
+  header ← header_of document
+  Ok (names_with [] header.2)
+
 -- the scenario that a text is behind all that, and what is then before the next one; or the first fault
 unfoldable pub file_after : Earlier → List ℕ → Result (Plan × Earlier) RunFault
 file_after earlier text = do

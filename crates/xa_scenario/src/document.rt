@@ -1,9 +1,9 @@
 //! A scenario file as a whole.
 
-ghost use Rattle.std.specs.Prelude.{◌≡◌, IfOk, IfSome, OnOk, ◌+◌, [], map, option_map};
+ghost use Rattle.std.specs.Prelude.{◌≡◌, IfOk, IfSome, Ok, OnOk, ◌+◌, [], map, option_map};
 ghost use Rattle.std.specs.String.{string_bytes};
 ghost use Rattle.toml.specs.View.{view, table_view, items_view};
-ghost use Rattle.xa_scenario.specs.Files.{names_with};
+ghost use Rattle.xa_scenario.specs.Files.{names_of, names_with};
 ghost use Rattle.xa_scenario.specs.Headers.{header_at};
 ghost use Rattle.xa_files.specs.Documents.{size_at, tables_at};
 ghost use Rattle.xa_scenario.specs.Scenarios.{IsSize, IsSized, plan_of, entry_at, name_in, entries_from, header_of, scenario_of};
@@ -38,6 +38,14 @@ pub struct Scenario {
     pub rms: u32,
     /// What is asked, in turn.
     pub entries: Vec<Entry>,
+}
+
+/// A scenario, and the names of the transactions that it begins.
+#[derive(Drop)]
+pub struct NamedScenario {
+    pub scenario: Scenario,
+    /// The name of each `begin`, in turn.
+    pub names: Vec<String>,
 }
 
 /// The top of a document: the threads, the resource managers and the tables of the steps.
@@ -145,6 +153,31 @@ pub fn read_scenario(alloc: Global, text: &[u8]) -> Result<Scenario, RunFault>
         threads,
         rms,
         entries,
+    })
+}
+
+/// Reads a scenario file, and the names of transactions that it begins.
+///
+/// The faults are those of `read_scenario`.
+#[tactic(auto, unfolding(crate::specs::Scenarios::scenario_of, crate::specs::Files::names_of))]
+pub fn read_named_scenario(alloc: Global, text: &[u8]) -> Result<NamedScenario, RunFault>
+    ensures read { Gives (λ named. plan_of named.scenario) result (scenario_of text.now) }
+    ensures sized { IfOk result (λ named. IsSized (plan_of named.scenario)) }
+    ensures names { IfOk result (λ named. names_of text.now
+        ≡ Ok (map string_bytes named.names.items)) }
+{
+    let document = document_of(alloc, text)?;
+    let (threads, rms, steps) = header_of(&document)?;
+    let entries = entries_of(alloc, &[], steps)?;
+    let mut names = Vec::new(alloc);
+    add_names(alloc, &mut names, steps)?;
+    Ok(NamedScenario {
+        scenario: Scenario {
+            threads,
+            rms,
+            entries,
+        },
+        names,
     })
 }
 

@@ -5,6 +5,7 @@
 //! (1991).
 #![tactic(auto)]
 
+mod after_run;
 mod begins;
 mod branches;
 mod calls;
@@ -26,7 +27,11 @@ mod scripts;
 mod tables;
 mod words;
 
-pub use document::{Scenario, faults_are_of_texts, read_scenario, tables_are_read_in_turn};
+pub use after_run::system_after;
+pub use document::{
+    NamedScenario, Scenario, faults_are_of_texts, read_named_scenario, read_scenario,
+    tables_are_read_in_turn,
+};
 pub use entry::{BranchEntry, Ending, Entry, Script};
 pub use files::{FileFault, read_scenarios};
 pub use processes::run_scenarios;
