@@ -1,0 +1,2 @@
+pub mod Parties
+pub mod Stories

@@ -1,0 +1,94 @@
+//! What decisions, recoveries and scripts do.
+
+use crate::asked::rms_text;
+use crate::effect::{Effect, plain_effect};
+use crate::ledger::Settlement;
+use crate::line::LogChange;
+use crate::scene::Scene;
+use crate::standings::Move;
+use xa_base::{Gtrid, How, Memory, Outcome, Standing, Step, Xid};
+
+impl<'a> Scene<'a> {
+    /// A script was given, or a transaction is over.
+    pub(crate) fn note(&mut self, step: &Step) -> Result<Effect, Memory> {
+        match *step {
+            Step::Heuristic { ref xid, how, .. } => self.complete(xid, how),
+            Step::Done { gtrid } => {
+                self.ledger.forget(self.alloc, gtrid)?;
+                let mut effect = plain_effect(self.alloc, "done", "the row leaves the log")?;
+                effect.log = Some(LogChange::RowGone(gtrid));
+                Ok(effect)
+            }
+            _ => plain_effect(self.alloc, "", ""),
+        }
+    }
+
+    /// A resource manager ends a branch by itself.
+    pub(crate) fn complete(&mut self, xid: &Xid, how: How) -> Result<Effect, Memory> {
+        let mut effect = plain_effect(self.alloc, "", "a heuristic completion: nobody told it to")?;
+        if let Some(branch) = xid.branch() {
+            let standing = Standing::Completed(how);
+            self.standings.set(branch, standing)?;
+            effect.moves.push(Move { branch, standing })?;
+        }
+        Ok(effect)
+    }
+
+    /// A transaction is decided.
+    pub(crate) fn decide(&mut self, number: usize, step: &Step) -> Result<Effect, Memory> {
+        let (gtrid, outcome) = match *step {
+            Step::Decide { gtrid, outcome } => (gtrid, outcome),
+            Step::Settle { gtrid } => (gtrid, Outcome::Commit),
+            Step::Abandon { gtrid } => (gtrid, Outcome::Rollback),
+            _ => return plain_effect(self.alloc, "decided", ""),
+        };
+        if outcome == Outcome::Rollback {
+            self.ledger.settle(gtrid, number, Settlement::Rollback)?;
+            return plain_effect(
+                self.alloc,
+                "decided",
+                "no row is written: no row means rollback",
+            );
+        }
+        self.ledger.commit(gtrid)?;
+        let change = self.row_text(gtrid)?;
+        let mut effect = plain_effect(self.alloc, "decided", change.as_str())?;
+        if self.ledger.has_row(gtrid) {
+            self.ledger.settle(gtrid, number, Settlement::Row)?;
+            effect.log = Some(LogChange::RowAdded(gtrid));
+        } else {
+            self.ledger.settle(gtrid, number, Settlement::NoRow)?;
+        }
+        Ok(effect)
+    }
+
+    /// What a decision to commit writes.
+    pub(crate) fn row_text(&self, gtrid: Gtrid) -> Result<String, Memory> {
+        if !self.ledger.has_row(gtrid) {
+            let plain = "no row is needed: every branch has only read";
+            return Ok(String::from_str(self.alloc, plain)?);
+        }
+        let participants = self.ledger.waits_for(self.alloc, gtrid)?;
+        let rms = rms_text(self.alloc, &participants)?;
+        Ok(format!(in self.alloc; "row added to the log, waits for {rms}")?)
+    }
+
+    /// A recovery issues calls.
+    pub(crate) fn resolve(
+        &mut self,
+        number: usize,
+        step: &Step,
+        count: usize,
+    ) -> Result<Effect, Memory> {
+        self.add_calls(number, step, count)?;
+        let reply = match count {
+            1 => String::from_str(self.alloc, "1 call")?,
+            _ => format!(in self.alloc; "{count} calls")?,
+        };
+        let change = match count {
+            0 => "",
+            _ => "each listed branch: a row means commit, no row rollback",
+        };
+        plain_effect(self.alloc, reply.as_str(), change)
+    }
+}

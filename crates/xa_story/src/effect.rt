@@ -1,0 +1,53 @@
+//! What an event is answered and what it does, while a story is told.
+
+use crate::line::LogChange;
+use crate::standings::Move;
+use crate::waits::Waiting;
+use std::alloc::Global;
+use xa_base::Memory;
+
+/// What an event is answered, and what that does.
+#[derive(Drop)]
+pub(crate) struct Effect {
+    pub(crate) reply: String,
+    pub(crate) change: String,
+    pub(crate) moves: Vec<Move>,
+    pub(crate) came: Option<Waiting>,
+    pub(crate) lost: Vec<Waiting>,
+    pub(crate) log: Option<LogChange>,
+}
+
+/// An answer and what it changes, where no branch goes anywhere and nothing comes or is lost.
+pub(crate) fn plain_effect(alloc: Global, reply: &str, change: &str) -> Result<Effect, Memory> {
+    Ok(Effect {
+        reply: String::from_str(alloc, reply)?,
+        change: String::from_str(alloc, change)?,
+        moves: Vec::new(alloc),
+        came: None,
+        lost: Vec::new(alloc),
+        log: None,
+    })
+}
+
+/// Adds an item to a list with commas.
+pub(crate) fn push_item(text: &mut String, item: &str) -> Result<(), Memory> {
+    if !text.is_empty() {
+        text.push_str(", ")?;
+    }
+    Ok(text.push_str(item)?)
+}
+
+/// Adds how many there are of something, unless there is none.
+pub(crate) fn push_count(
+    text: &mut String,
+    alloc: Global,
+    count: usize,
+    what: &str,
+) -> Result<(), Memory> {
+    let item = match count {
+        0 => return Ok(()),
+        1 => format!(in alloc; "1 {what}")?,
+        _ => format!(in alloc; "{count} {what}s")?,
+    };
+    push_item(text, item.as_str())
+}

@@ -1,0 +1,44 @@
+//! A scenario file is run, and its story is told.
+
+ghost use Rattle.std.specs.Prelude.{◌≡◌, ◌≢◌, Err, IfErr, IsErr};
+ghost use Rattle.std.specs.Io.KnownBytes.{Keeps};
+ghost use Rattle.xa_files.specs.Reading.{EndsWith, Explains};
+ghost use Rattle.xa_files.specs.declared.fault.RunFault.{RunFault};
+ghost use Rattle.xa_files.specs.declared.fault.RunFault.TheVariants.{Work};
+ghost use Rattle.xa_scenario.specs.Scenarios.{scenario_of};
+
+use crate::scene::Scene;
+use crate::story::{lines_of, story_text};
+use std::alloc::Global;
+use std::io::Write;
+use xa_files::{RunFault, write_text};
+use xa_log::DecisionLog;
+use xa_scenario::{read_named_scenario, system_after};
+
+/// Runs a scenario file at new resource managers and over a decision log that is still empty, and prints its story: the
+/// line of each event, and then what became of each branch and why.
+///
+/// A file that is no scenario is refused before anything is run, by NotToml, Header or Step. Log comes where the log
+/// can't be started, Memory where a request was refused outside of a step, and Output where a write failed. Work never
+/// comes.
+pub fn explain_scenario<L: DecisionLog + Drop, W: Write>(
+    alloc: Global,
+    text: &[u8],
+    log: L,
+    out: &mut W,
+) -> Result<(), RunFault>
+    ensures fault { IfErr result (λ e. Explains e (scenario_of text.now)) }
+    ensures work { IfErr result (λ e. e ≢ Work) }
+    ensures refused { (e : RunFault) → scenario_of text.now ≡ Err e → EndsWith e result }
+    // A file that is no scenario writes nothing.
+    ensures unwritten { IsErr (scenario_of text.now)
+        → Keeps (W.contents out.old) (W.contents out.new) }
+{
+    let named = read_named_scenario(alloc, text)?;
+    let system = system_after(alloc, &named.scenario, log)?;
+    let fates = system.report(alloc)?;
+    let mut scene = Scene::new(alloc, &named.names);
+    let lines = lines_of(alloc, &mut scene, system.trace())?;
+    let story = story_text(alloc, &lines, &scene, &fates)?;
+    write_text(story.as_bytes(), out)
+}

@@ -1,0 +1,209 @@
+//! What the manager knows of its transactions, and the rows of its log.
+
+use std::alloc::Global;
+use xa_base::{Answer, Branch, Call, Code, Gtrid, Memory, Xid};
+
+/// How it was settled how a transaction ends.
+#[derive(Clone, Copy)]
+pub enum Settlement {
+    /// It was decided to commit, by a row in the log.
+    Row,
+    /// It was decided to commit, with no row, since all its branches have only read.
+    NoRow,
+    /// It was decided to roll back.
+    Rollback,
+    /// It was handed over to the resource manager of its one branch.
+    HandedOver,
+}
+
+/// A transaction that is settled, since the event of a number.
+#[derive(Clone, Copy)]
+pub struct Ending {
+    pub gtrid: Gtrid,
+    pub since: usize,
+    pub settlement: Settlement,
+}
+
+/// What hearing an answer means to the manager.
+#[derive(Clone, Copy)]
+pub enum Meaning {
+    /// The branch votes yes.
+    Yes(Branch),
+    /// The branch votes read-only.
+    ReadOnly(Branch),
+    /// The branch votes no.
+    No(Branch),
+    /// The branch has acknowledged its xa_commit.
+    Acknowledges(Branch),
+    /// The branch was ended by its resource manager alone, and that is recorded.
+    Records(Branch),
+    /// Nothing more than was known when the call was taken.
+    Nothing,
+}
+
+/// What hearing the answer to a call on a branch means.
+fn meaning_for(call: &Call, branch: Branch, code: Code) -> Meaning {
+    match (call, code) {
+        (Call::Prepare { .. }, Code::Success) => Meaning::Yes(branch),
+        (Call::Prepare { .. }, Code::ReadOnly) => Meaning::ReadOnly(branch),
+        (Call::Prepare { .. }, Code::RolledBack(_)) => Meaning::No(branch),
+        (
+            Call::Commit {
+                one_phase: false,
+                ..
+            },
+            Code::Success | Code::NotAnXid,
+        ) => Meaning::Acknowledges(branch),
+        (Call::Commit { .. } | Call::Rollback { .. }, Code::Heuristic(_)) => {
+            Meaning::Records(branch)
+        }
+        _ => Meaning::Nothing,
+    }
+}
+
+/// What hearing an answer means.
+pub fn meaning_of(call: &Call, answer: &Answer) -> Meaning {
+    let Answer::Ret(code) = answer else {
+        return Meaning::Nothing;
+    };
+    let Some(xid) = call.xid() else {
+        return Meaning::Nothing;
+    };
+    match xid.branch() {
+        Some(branch) => meaning_for(call, branch, *code),
+        None => Meaning::Nothing,
+    }
+}
+
+/// The transaction of an identifier.
+pub fn gtrid_of(xid: &Xid) -> Option<Gtrid> {
+    Some(xid.branch()?.gtrid)
+}
+
+/// What the manager knows, and its log.
+#[derive(Drop)]
+pub struct Ledger {
+    /// The branches whose yes was heard since the manager came up.
+    yes: Vec<Branch>,
+    /// The transactions with a row.
+    rows: Vec<Gtrid>,
+    /// The branches that said yes to them.
+    participants: Vec<Branch>,
+    /// The branches that have acknowledged since the manager came up.
+    acknowledged: Vec<Branch>,
+    /// The branches with a record.
+    recorded: Vec<Branch>,
+    /// How each transaction was settled.
+    endings: Vec<Ending>,
+}
+
+impl Ledger {
+    /// Nothing has happened, and the log is empty.
+    pub fn new(alloc: Global) -> Ledger {
+        Ledger {
+            yes: Vec::new(alloc),
+            rows: Vec::new(alloc),
+            participants: Vec::new(alloc),
+            acknowledged: Vec::new(alloc),
+            recorded: Vec::new(alloc),
+            endings: Vec::new(alloc),
+        }
+    }
+
+    /// Whether the transaction has a row.
+    pub fn has_row(&self, gtrid: Gtrid) -> bool {
+        self.rows.contains(&gtrid)
+    }
+
+    /// Whether the branch has a record.
+    pub fn has_record(&self, branch: Branch) -> bool {
+        self.recorded.contains(&branch)
+    }
+
+    /// The branches that the row of a transaction waits for.
+    pub fn waits_for(&self, alloc: Global, gtrid: Gtrid) -> Result<Vec<Branch>, Memory> {
+        let mut open = Vec::new(alloc);
+        for branch in self.participants.iter() {
+            let is_settled = self.acknowledged.contains(branch) || self.recorded.contains(branch);
+            if branch.gtrid == gtrid && !is_settled {
+                open.push(*branch)?;
+            }
+        }
+        Ok(open)
+    }
+
+    /// The manager hears an answer.
+    pub fn hear(&mut self, meaning: Meaning) -> Result<(), Memory> {
+        match meaning {
+            Meaning::Yes(branch) => self.yes.push(branch)?,
+            Meaning::Acknowledges(branch) => self.acknowledged.push(branch)?,
+            Meaning::Records(branch) if !self.recorded.contains(&branch) => {
+                self.recorded.push(branch)?;
+            }
+            _ => {}
+        }
+        Ok(())
+    }
+
+    /// The transaction is settled.
+    pub fn settle(
+        &mut self,
+        gtrid: Gtrid,
+        since: usize,
+        settlement: Settlement,
+    ) -> Result<(), Memory> {
+        Ok(
+            self.endings.push(Ending {
+                gtrid,
+                since,
+                settlement,
+            })?,
+        )
+    }
+
+    /// The transaction is decided to commit: it has a row, if any of its branches said yes.
+    pub fn commit(&mut self, gtrid: Gtrid) -> Result<(), Memory> {
+        let mut is_new = true;
+        for branch in self.yes.iter() {
+            if branch.gtrid == gtrid {
+                self.participants.push(*branch)?;
+                if is_new {
+                    self.rows.push(gtrid)?;
+                    is_new = false;
+                }
+            }
+        }
+        Ok(())
+    }
+
+    /// The row of the transaction leaves the log.
+    pub fn forget(&mut self, alloc: Global, gtrid: Gtrid) -> Result<(), Memory> {
+        let mut rows = Vec::new(alloc);
+        for row in self.rows.iter() {
+            if *row != gtrid {
+                rows.push(*row)?;
+            }
+        }
+        self.rows = rows;
+        Ok(())
+    }
+
+    /// The manager crashes: what it heard is lost, and the log stays.
+    pub fn crash(&mut self) {
+        self.yes.clear();
+        self.acknowledged.clear();
+    }
+
+    /// How a transaction was settled, and when.
+    pub fn ending(&self, gtrid: Gtrid) -> Option<Ending> {
+        self.endings
+            .iter()
+            .find(|ending| ending.gtrid == gtrid)
+            .copied()
+    }
+
+    /// The transactions with a row.
+    pub fn rows(&self) -> &[Gtrid] {
+        self.rows.as_slice()
+    }
+}

@@ -1,0 +1,34 @@
+//! A run of a scenario as a story: a line for each event that a person reads, and then what became of the branches and
+//! why.
+//!
+//! "XA" in these pages is X/Open CAE Specification C193, "Distributed Transaction Processing: The XA Specification"
+//! (1991).
+#![tactic(auto)]
+
+mod asked;
+mod calls;
+mod crashes;
+mod decisions;
+mod effect;
+mod ends;
+mod explain;
+mod ledger;
+mod line;
+mod names;
+mod party;
+mod refusals;
+mod scene;
+mod standings;
+mod story;
+mod waits;
+mod words;
+
+pub use explain::explain_scenario;
+pub use line::{Line, LogChange};
+pub use names::Names;
+pub use party::{Party, Sides, party_text};
+pub use scene::Scene;
+pub use standings::Move;
+pub use story::lines_of;
+pub use waits::Waiting;
+pub use words::standing_text;

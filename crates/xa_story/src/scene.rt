@@ -1,0 +1,113 @@
+//! What is known while a story is told, and what each event does to it.
+
+ghost use Rattle.std.specs.Prelude.{◌≡◌, IfOk};
+ghost use Rattle.xa_story.specs.Parties.{sides_of};
+
+use crate::asked::asked_text;
+use crate::effect::{Effect, plain_effect};
+use crate::ledger::Ledger;
+use crate::line::Line;
+use crate::names::Names;
+use crate::party::sides_of;
+use crate::standings::Standings;
+use crate::waits::{Waiting, Waits};
+use std::alloc::Global;
+use xa_base::{Event, Memory, Reply, Step};
+
+/// What is known after some events of a run that has begun over an empty log.
+#[derive(Drop)]
+pub struct Scene<'a> {
+    pub(crate) alloc: Global,
+    pub(crate) names: Names<'a>,
+    pub(crate) waits: Waits,
+    pub(crate) standings: Standings,
+    pub(crate) ledger: Ledger,
+}
+
+impl<'a> Scene<'a> {
+    /// Nothing has happened, and the log is empty. The names are those that the scenario file begins, in turn.
+    pub fn new(alloc: Global, names: &'a [String]) -> Scene<'a> {
+        Scene {
+            alloc,
+            names: Names::new(alloc, names),
+            waits: Waits::new(alloc),
+            standings: Standings::new(alloc),
+            ledger: Ledger::new(alloc),
+        }
+    }
+
+    /// The names of transactions.
+    pub fn names(&self) -> &Names<'a> {
+        &self.names
+    }
+
+    /// What the manager knows, and the rows of its log.
+    pub(crate) fn ledger(&self) -> &Ledger {
+        &self.ledger
+    }
+
+    /// What still waits.
+    pub fn waiting(&self) -> &[Waiting] {
+        self.waits.items()
+    }
+
+    /// The line of the next event.
+    pub fn tell(&mut self, number: usize, event: &Event) -> Result<Line, Memory>
+        ensures number { IfOk result (λ line. line.number ≡ number) }
+        ensures sides { IfOk result (λ line. line.sides ≡ sides_of event.now.step) }
+    {
+        let sides = sides_of(&event.step);
+        let asked = asked_text(self.alloc, &self.names, event)?;
+        let Effect {
+            reply,
+            change,
+            moves,
+            came,
+            lost,
+            log,
+        } = self.follow(number, event)?;
+        Ok(Line {
+            number,
+            sides,
+            asked,
+            reply,
+            change,
+            moves,
+            came,
+            lost,
+            log,
+        })
+    }
+
+    /// What an event does.
+    fn follow(&mut self, number: usize, event: &Event) -> Result<Effect, Memory> {
+        if let Step::Begin { .. } = event.step {
+            self.names.add(&event.reply)?;
+        }
+        match &event.reply {
+            Reply::Begun(gtrid) => self.begin(*gtrid),
+            Reply::Issued => self.issue(number, &event.step),
+            Reply::Took(call, answer) => self.take(number, &event.step, call, answer),
+            Reply::Heard(call, answer) => self.hear(&event.step, call, answer),
+            Reply::Nothing => plain_effect(self.alloc, "", "nothing waits there"),
+            Reply::Noted => self.note(&event.step),
+            Reply::Claimed => {
+                plain_effect(
+                    self.alloc,
+                    "claimed",
+                    "all votes are in: no recovery rolls it back now",
+                )
+            }
+            Reply::Decided => self.decide(number, &event.step),
+            Reply::Resolved(count) => self.resolve(number, &event.step, *count),
+            Reply::Crashed => self.crash(&event.step),
+            Reply::RmRestarted => plain_effect(self.alloc, "up", ""),
+            Reply::Restarted {
+                incarnation,
+                decisions,
+                heuristics,
+            } => self.restart(*incarnation, *decisions, *heuristics),
+            Reply::Refused(refusal) => self.refuse(&event.step, *refusal),
+        }
+    }
+}

@@ -1,0 +1,92 @@
+//! What waits on the lines.
+
+use crate::party::Party;
+use std::alloc::Global;
+use xa_base::{Memory, Part};
+
+/// A call or an answer that waits on a line.
+#[derive(Clone, Copy, Debug, PartialEq, Eq)]
+pub struct Waiting {
+    /// The number of the event since which it waits.
+    pub since: usize,
+    /// The thread of the line.
+    pub thread: u32,
+    /// The resource manager of the line.
+    pub rm: u32,
+    /// Who asked: the thread, or the manager in a recovery.
+    pub asker: Party,
+    /// Whether it is an answer.
+    pub is_answer: bool,
+}
+
+/// Whether a line is broken by the crash of a part.
+pub fn breaks(part: Part, thread: u32, rm: u32) -> bool {
+    match part {
+        Part::Line {
+            thread: own,
+            rm: other,
+        } => own == thread && other == rm,
+        Part::Rm { rm: other } => other == rm,
+        Part::Manager => true,
+    }
+}
+
+/// What waits on all lines, the oldest first.
+#[derive(Drop)]
+pub struct Waits {
+    items: Vec<Waiting>,
+}
+
+impl Waits {
+    /// Nothing waits.
+    pub fn new(alloc: Global) -> Waits {
+        Waits {
+            items: Vec::new(alloc),
+        }
+    }
+
+    /// One more waits.
+    pub fn add(&mut self, item: Waiting) -> Result<(), Memory> {
+        Ok(self.items.push(item)?)
+    }
+
+    /// Takes the oldest call, or the oldest answer, that waits on a line.
+    pub fn take(&mut self, thread: u32, rm: u32, is_answer: bool) -> Option<Waiting> {
+        let place = self.items.iter().position(|item| {
+            item.thread == thread && item.rm == rm && item.is_answer == is_answer
+        })?;
+        if place < self.items.len() {
+            Some(self.items.remove(place))
+        } else {
+            None
+        }
+    }
+
+    /// How many calls wait on a line.
+    pub fn call_count(&self, thread: u32, rm: u32) -> usize {
+        self.items
+            .iter()
+            .filter(|item| item.thread == thread && item.rm == rm && !item.is_answer)
+            .count()
+    }
+
+    /// Takes all that a crash of a part loses.
+    pub fn lose(&mut self, alloc: Global, part: Part) -> Result<Vec<Waiting>, Memory> {
+        let mut lost = Vec::new(alloc);
+        let mut left = Vec::new(alloc);
+        for item in self.items.iter() {
+            if breaks(part, item.thread, item.rm) {
+                lost.push(*item)?;
+            } else {
+                left.push(*item)?;
+            }
+        }
+        self.items = left;
+        Ok(lost)
+    }
+
+    /// All that waits.
+    pub fn items(&self) -> &[Waiting] {
+        self.items.as_slice()
+    }
+}

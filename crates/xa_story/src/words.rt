@@ -1,0 +1,105 @@
+//! The names that XA and the protocol give to calls, codes and states.
+
+use xa_base::{Answer, Call, Code, How, RbCode, Standing, Vote};
+
+/// The name of a call, with those flags of it that change what it does (XA, chapter 5).
+pub fn call_name(call: &Call) -> &'static str {
+    match *call {
+        Call::OpenRm => "xa_open",
+        Call::CloseRm => "xa_close",
+        Call::Start { join: false, .. } => "xa_start",
+        Call::Start { join: true, .. } => "xa_start(TMJOIN)",
+        Call::End { fail: false, .. } => "xa_end",
+        Call::End { fail: true, .. } => "xa_end(TMFAIL)",
+        Call::Prepare { .. } => "xa_prepare",
+        Call::Commit {
+            one_phase: false,
+            ..
+        } => "xa_commit",
+        Call::Commit {
+            one_phase: true,
+            ..
+        } => "xa_commit(TMONEPHASE)",
+        Call::Rollback { .. } => "xa_rollback",
+        Call::Forget { .. } => "xa_forget",
+        Call::Recover { .. } => "xa_recover",
+    }
+}
+
+/// The name of a code that tells of a rollback (XA, section 4.5, Return Codes).
+pub fn rb_name(code: RbCode) -> &'static str {
+    match code {
+        RbCode::Rollback => "XA_RBROLLBACK",
+        RbCode::CommFail => "XA_RBCOMMFAIL",
+        RbCode::Deadlock => "XA_RBDEADLOCK",
+        RbCode::Integrity => "XA_RBINTEGRITY",
+        RbCode::Other => "XA_RBOTHER",
+        RbCode::Proto => "XA_RBPROTO",
+        RbCode::Timeout => "XA_RBTIMEOUT",
+        RbCode::Transient => "XA_RBTRANSIENT",
+    }
+}
+
+/// The name of a code that tells of a heuristic end (XA, section 4.5, Return Codes).
+pub fn how_name(how: How) -> &'static str {
+    match how {
+        How::Com => "XA_HEURCOM",
+        How::Rb => "XA_HEURRB",
+        How::Mix => "XA_HEURMIX",
+        How::Haz => "XA_HEURHAZ",
+    }
+}
+
+/// The name of a code (XA, section 4.5, Return Codes).
+pub fn code_name(code: Code) -> &'static str {
+    match code {
+        Code::RolledBack(code) => rb_name(code),
+        Code::Heuristic(how) => how_name(how),
+        Code::Retry => "XA_RETRY",
+        Code::ReadOnly => "XA_RDONLY",
+        Code::Success => "XA_OK",
+        Code::RmError => "XAER_RMERR",
+        Code::NotAnXid => "XAER_NOTA",
+        Code::Invalid => "XAER_INVAL",
+        Code::Protocol => "XAER_PROTO",
+        Code::RmFailed => "XAER_RMFAIL",
+        Code::DuplicateXid => "XAER_DUPID",
+    }
+}
+
+/// The name of an answer. A page counts as one that went well.
+pub fn answer_name(answer: &Answer) -> &'static str {
+    match answer {
+        Answer::Ret(code) => code_name(*code),
+        Answer::Page(_) => "XA_OK",
+    }
+}
+
+/// Where a branch stands, in words.
+pub fn standing_text(standing: Standing) -> &'static str {
+    match standing {
+        Standing::Unstarted => "not started",
+        Standing::Active => "active",
+        Standing::Idle => "idle",
+        Standing::Prepared => "prepared",
+        Standing::RollbackOnly => "rollback-only",
+        Standing::Completed(How::Com) => "committed by the rm itself",
+        Standing::Completed(How::Rb) => "rolled back by the rm itself",
+        Standing::Completed(How::Mix) => "ended in part by the rm itself",
+        Standing::Completed(How::Haz) => "perhaps ended by the rm itself",
+        Standing::Committed => "committed",
+        Standing::RolledBack => "rolled back",
+        Standing::Lost => "lost",
+        Standing::ReadOnly => "over, read only",
+        Standing::Forgotten(_) => "forgotten",
+    }
+}
+
+/// How a resource manager is to vote.
+pub fn vote_text(vote: Vote) -> &'static str {
+    match vote {
+        Vote::Yes => "yes (XA_OK)",
+        Vote::ReadOnly => "read-only (XA_RDONLY)",
+        Vote::No(code) => rb_name(code),
+    }
+}
