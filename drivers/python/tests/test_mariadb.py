@@ -1,16 +1,21 @@
 """MariaDB's adapter, over a stand-in for PyMySQL and a server with the ways of MariaDB 10.11 that matter here: it answers
 XAER_NOTA for a prepared branch whose connection lives, and it prepares what is left of a branch after a failed statement."""
 
+import os
 import re
 import sys
+import tempfile
 import types
 import unittest
 from unittest import mock
 
+from garterfossil import OutcomeUnknown, TransactionManager
 from garterfossil.adapters.mariadb import MariaDB
 from garterfossil.calls import Call
 from garterfossil.codes import Code
 from garterfossil.errors import ConnectionLost, Unanswered
+
+from .fake_database import FakeDatabase
 
 XID = "7:00000000000000010000000000000001:0000000000000000"
 
@@ -31,7 +36,7 @@ class Server:
     """Branches by the text of their identifier, each with its state and the connection that has it."""
 
     def __init__(self):
-        self.branches, self.links, self.fails = {}, {}, {}
+        self.branches, self.links, self.fails, self.done = {}, {}, {}, []
 
     def connect(self, **parameters):
         link = Link(self, len(self.links) + 1)
@@ -113,6 +118,7 @@ class Cursor:
         elif verb == "COMMIT" and (state == "PREPARED") == is_one_phase:
             raise error(1399)
         else:
+            self.server.done.append(f"XA {verb} {text}")
             del self.server.branches[text]
 
 
@@ -213,6 +219,35 @@ class MariaDBs(unittest.TestCase):
         self.server.end(self.server.links[self.connection.number])
         with self.assertRaises(ConnectionLost):
             self.do(f"xa_prepare {XID}")
+
+
+class Recovery(unittest.TestCase):
+    """A driver stops behind its decision and keeps its connections. The next one has to end them before it looks: to a
+    coordinator that is told XAER_NOTA the branch is over, and its row leaves the log."""
+
+    def test_a_decided_branch_whose_connection_still_lives(self):
+        server, other = Server(), FakeDatabase()
+        pymysql.connect = server.connect
+        with mock.patch.dict(sys.modules, {"pymysql": pymysql}), tempfile.TemporaryDirectory() as folder:
+            log = os.path.join(folder, "log")
+            command = [sys.executable, os.path.join(os.path.dirname(__file__), "fake_coordinator.py"), log, "decided"]
+            database = MariaDB(user="bank")
+            manager = TransactionManager([database, other], log, threads=1, patience=2.0, command=command)
+            with self.assertRaises(OutcomeUnknown):
+                with manager.transaction() as t:
+                    t[0].execute("UPDATE account")
+                    t[1].execute("give")
+                    # It would close its connections; a frozen one doesn't.
+                    frozen, t[0].line.close = t[0].line.connection, lambda: None
+            self.assertEqual([state for state, owner in server.branches.values()], ["PREPARED"])
+            self.assertIn(frozen.number, server.links)
+            with manager:
+                with manager.transaction():
+                    pass
+            self.assertEqual(server.branches, {})
+            self.assertEqual(other.written, ["give"])
+            self.assertIn("XA COMMIT", " ".join(server.done))
+            self.assertNotIn("XA ROLLBACK", " ".join(server.done))
 
 
 if __name__ == "__main__":
