@@ -84,6 +84,7 @@ class TransactionManager:
         """A transaction that has begun, in the session that is up, or else in the next one."""
         until = time.monotonic() + self._patience
         while True:
+            session = None
             try:
                 session = self._current()
                 session.recover_what_is_due()
@@ -95,8 +96,9 @@ class TransactionManager:
             except CoordinatorGone as gone:
                 if self._is_closed or time.monotonic() >= until:
                     raise
-                log.warning("%s", gone)
-                time.sleep(PAUSE)
+                if session is None or not session.is_closed:
+                    log.warning("%s", gone)
+                    time.sleep(PAUSE)
             except Refused as refused:
                 if refused.number != LIMIT or time.monotonic() >= until:
                     raise

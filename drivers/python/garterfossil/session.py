@@ -21,7 +21,7 @@ from .xid import Xid
 log = logging.getLogger("garterfossil")
 
 #: So many rows leave the log by one request. A row that stays until the next session costs that one some calls, and no more.
-DONE_AT_ONCE = 32
+DONE_AT_ONCE = 8
 
 
 class Session:
@@ -29,6 +29,8 @@ class Session:
 
     def __init__(self, command: Sequence[str], databases: Sequence[Database], threads: int, patience: float):
         self.patience = patience
+        #: Whether it was ended here.
+        self.is_closed = False
         self.coordinator = Coordinator.start(command, patience)
         self.threads = Threads(threads)
         self.debts = Debts()
@@ -118,6 +120,7 @@ class Session:
             with self._done_lock:
                 gtrids, self._done = self._done, []
             self._finish(gtrids)
+            self.is_closed = True
             self.coordinator.quit()
             for lines in self._lines:
                 for line in lines:
