@@ -1,36 +1,36 @@
-"""The branches that are to be committed and haven't acknowledged it."""
+"""The ends of branches that a database couldn't be told, or didn't acknowledge."""
 
 from __future__ import annotations
 
 import threading
 from typing import Dict, List, Set, Tuple
 
-from .xid import Xid
+from .calls import Call
 
 
 class Debts:
-    """The branches of committed transactions whose xa_commit isn't acknowledged yet, by their resource managers. Once the
-    last of a transaction is, the transaction's row may leave the log."""
+    """The calls that are still to be answered, by their resource managers: an xa_commit or an xa_rollback of each branch whose
+    end isn't acknowledged. Once the last of a committed transaction is, its row may leave the log."""
 
     def __init__(self) -> None:
         self._lock = threading.Lock()
-        self._owed: Dict[str, Set[Tuple[int, Xid]]] = {}
+        self._owed: Dict[str, Set[Tuple[int, Call]]] = {}
 
-    def add(self, rm: int, xid: Xid) -> None:
-        """The branch hasn't acknowledged."""
+    def add(self, rm: int, call: Call) -> None:
+        """The call is to be answered by the resource manager."""
         with self._lock:
-            self._owed.setdefault(xid.transaction, set()).add((rm, xid))
+            self._owed.setdefault(call.xid.transaction, set()).add((rm, call))
 
-    def at(self, rm: int) -> List[Xid]:
-        """The branches at a resource manager that haven't."""
+    def at(self, rm: int) -> List[Call]:
+        """The calls that a resource manager is to answer."""
         with self._lock:
-            return sorted(xid for owed in self._owed.values() for number, xid in owed if number == rm)
+            return [call for owed in self._owed.values() for number, call in owed if number == rm]
 
-    def settle(self, rm: int, xid: Xid) -> bool:
-        """The branch has acknowledged. Whether it was the last of its transaction."""
+    def settle(self, rm: int, call: Call) -> bool:
+        """The call was answered. Whether it was the last of its transaction."""
         with self._lock:
-            left = self._owed.get(xid.transaction, set())
-            left.discard((rm, xid))
+            left = self._owed.get(call.xid.transaction, set())
+            left.discard((rm, call))
             if left:
                 return False
-            return self._owed.pop(xid.transaction, None) is not None
+            return self._owed.pop(call.xid.transaction, None) is not None

@@ -7,11 +7,10 @@ import time
 from typing import TYPE_CHECKING
 
 from .calls import Call
-from .coordinator import Coordinator
-from .errors import ConnectionLost, Unexplained
+from .coordinator import UNKNOWN_TRANSACTION, Coordinator
+from .errors import ConnectionLost, Refused, Unexplained
 from .line import PAUSE, Line
 from .resource_manager import ResourceManager
-from .xid import Xid
 
 if TYPE_CHECKING:
     from .session import Session
@@ -23,8 +22,8 @@ PAGE = 32
 
 
 def recover(session: Session, rm: ResourceManager) -> None:
-    """Ends what is in doubt at the resource manager: what it lists, and what rows of the log wait for. All threads of the
-    session are held meanwhile. Raises ConnectionLost where it can't be done now."""
+    """Ends what is in doubt at the resource manager: what it lists, and what is owed there. All threads of the session are held
+    meanwhile. Raises ConnectionLost where it can't be done now."""
     for line in session.lines_to(rm):
         if line.connection is not None:
             line.lose()
@@ -36,21 +35,26 @@ def recover(session: Session, rm: ResourceManager) -> None:
         if time.monotonic() >= until:
             raise ConnectionLost(f"database {rm.number} lists the same branches again and again")
         time.sleep(PAUSE)
-    for xid in session.debts.at(rm.number):
+    for call in session.debts.at(rm.number):
         try:
-            pay(session, line, xid)
+            pay(session, line, call)
         except Unexplained as error:
-            log.error("%s was to be committed, and its end isn't known: %s", xid, error)
+            log.error("how %s ended isn't known: %s", call.xid, error)
     rm.is_recovery_due = False
 
 
-def pay(session: Session, line: Line, xid: Xid) -> None:
-    """Commits a branch that a row of the log waits for. Most are over already, and are answered so."""
-    code = line.insist(Call("xa_commit", xid))
-    line.see_heard()
-    if code.is_heuristic:
-        line.call(Call("xa_forget", xid))
-    session.pay(line.rm.number, xid)
+def pay(session: Session, line: Line, call: Call) -> None:
+    """Ends a branch that the database wasn't told how to end, or didn't acknowledge. Most are over already, and are answered so."""
+    try:
+        code = line.insist(call)
+        line.see_heard()
+        if code.is_heuristic:
+            line.call(Call("xa_forget", call.xid))
+    except Refused as refused:
+        # The coordinator has forgotten the transaction: all its branches are over.
+        if refused.number != UNKNOWN_TRANSACTION:
+            raise
+    session.pay(line.rm.number, call)
 
 
 def scan(coordinator: Coordinator, line: Line) -> int:

@@ -9,6 +9,7 @@ import time
 from typing import Iterator, List, Sequence
 
 from .adapters.base import Database
+from .calls import Call
 from .coordinator import Coordinator
 from .debts import Debts
 from .errors import ConnectionLost, Overdue, Refused, RequestError, XaError
@@ -16,7 +17,6 @@ from .line import Line
 from .recovery import recover
 from .resource_manager import ResourceManager
 from .threads import Threads
-from .xid import Xid
 
 log = logging.getLogger("garterfossil")
 
@@ -41,7 +41,7 @@ class Session:
         try:
             for rm in self._rms:
                 for xid in self.coordinator.owed(rm.number):
-                    self.debts.add(rm.number, xid)
+                    self.debts.add(rm.number, Call("xa_commit", xid))
             self.recover_what_is_due()
         except BaseException:
             self.coordinator.kill()
@@ -82,14 +82,14 @@ class Session:
             gtrids, self._done = self._done, []
         self._finish(gtrids)
 
-    def owe(self, rm: int, xid: Xid) -> None:
-        """The branch of a committed transaction hasn't acknowledged: the next recovery there commits it."""
-        self.debts.add(rm, xid)
+    def owe(self, rm: int, call: Call) -> None:
+        """The end of a branch couldn't be told, or wasn't acknowledged: the next recovery there sees to it."""
+        self.debts.add(rm, call)
 
-    def pay(self, rm: int, xid: Xid) -> None:
-        """It has."""
-        if self.debts.settle(rm, xid):
-            self.note_done(xid.transaction)
+    def pay(self, rm: int, call: Call) -> None:
+        """It is now."""
+        if self.debts.settle(rm, call) and call.name == "xa_commit":
+            self.note_done(call.xid.transaction)
 
     def _finish(self, gtrids: List[str]) -> None:
         try:

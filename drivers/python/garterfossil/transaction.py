@@ -10,7 +10,7 @@ from typing import TYPE_CHECKING, Any, Callable, Dict, List, Optional, Sequence,
 from .adapters.base import Result
 from .calls import Call
 from .codes import Code
-from .errors import CoordinatorGone, HeuristicEnd, OutcomeUnknown, RolledBack, Unexplained, XaError
+from .errors import ConnectionLost, CoordinatorGone, HeuristicEnd, OutcomeUnknown, RolledBack, Unexplained, XaError
 from .line import Line
 from .xid import FORMAT, Xid
 
@@ -36,20 +36,24 @@ class Branch:
     """The part of a transaction at one database. A transaction gives it out (`t[0]`), and ends it."""
 
     def __init__(self, line: Line, gtrid: str, thread: int):
-        self.xid = Xid(FORMAT, bytes.fromhex(gtrid), thread.to_bytes(4, "big") + line.rm.number.to_bytes(4, "big"))
         line.make_ready()
+        self.xid = Xid(FORMAT, bytes.fromhex(gtrid), thread.to_bytes(4, "big") + line.rm.number.to_bytes(4, "big"))
         self.line = line
         self._connection = line.connection
-        code = line.call(Call("xa_start", self.xid)).code
-        if code is not Code.OK:
-            raise XaError(f"database {line.rm.number} has a branch {self.xid} of another log already")
-        self._is_active = True
+        self._is_active = False
         self._was_asked = False
         #: Whether it voted to commit, and waits to be told.
         self.is_prepared = False
         #: What is odd about how it ended.
         self.oddity: Optional[str] = None
         self._is_over = False
+
+    def start(self) -> None:
+        """xa_start: work may begin."""
+        if self.line.call(Call("xa_start", self.xid)).code is not Code.OK:
+            self._is_over = True
+            raise XaError(f"database {self.line.rm.number} has a branch {self.xid} already, of another log")
+        self._is_active = True
 
     def execute(self, statement: str, parameters: Sequence[Any] = ()) -> Result:
         """Does a statement. What the database has against it is raised as its module raises it, and then the transaction
@@ -59,6 +63,8 @@ class Branch:
     @property
     def fault(self) -> Optional[str]:
         """Why the branch can only be rolled back, if so."""
+        if self._is_over:
+            return f"there is no branch at database {self.line.rm.number}"
         if self._is_lost:
             return f"the connection to database {self.line.rm.number} was lost"
         fault = self._connection.fault
@@ -102,14 +108,16 @@ class Branch:
             self.oddity = code.name
 
     def roll_back(self) -> None:
-        """xa_rollback, unless the branch is over. One that wasn't asked for its vote is over with its connection."""
+        """xa_rollback, unless the branch is over. One that wasn't asked for its vote ended with its connection: that it did is
+        left to the next recovery to tell."""
+        if self._is_over:
+            return
+        self._is_over = True
         if self._is_lost and not self._was_asked:
-            self._is_over = True
-        if not self._is_over:
-            self._is_over = True
-            code = self._told(Call("xa_rollback", self.xid), ROLLBACK_PATIENCE)
-            if code.is_heuristic:
-                log.error("%s was to be rolled back: %s", self.xid, code.name)
+            raise ConnectionLost(f"the connection to database {self.line.rm.number} was lost")
+        code = self._told(Call("xa_rollback", self.xid), ROLLBACK_PATIENCE)
+        if code.is_heuristic:
+            log.error("%s was to be rolled back: %s", self.xid, code.name)
 
     def _told(self, call: Call, patience: Optional[float]) -> Code:
         """The answer to a call that ends the branch. One that ended by itself is forgotten, once the coordinator has heard
@@ -141,9 +149,10 @@ class Transaction:
         """The branch at a database, by the database's place among those of the manager, from 0."""
         if rm not in self._branches:
             self._require_open()
-            line = self._session.line(self._thread, rm)
             try:
-                self._branches[rm] = Branch(line, self.gtrid, self._thread)
+                branch = Branch(self._session.line(self._thread, rm), self.gtrid, self._thread)
+                self._branches[rm] = branch
+                branch.start()
             except BaseException as error:
                 self._fault = f"no branch at database {rm}: {error}"
                 raise
@@ -210,6 +219,8 @@ class Transaction:
         try:
             code = line.make(call).code
         except XaError as error:
+            # It is over, one way or the other; the coordinator is told so.
+            self._session.owe(line.rm.number, Call("xa_rollback", call.xid))
             raise OutcomeUnknown(f"{self.gtrid}: {error}") from error
         self.outcome = Outcome.COMMITTED if code is Code.OK else Outcome.ROLLED_BACK
         self._try(line.see_heard)
@@ -229,42 +240,42 @@ class Transaction:
             self._roll_back()
             raise RolledBack(str(error)) from error
         self.outcome = Outcome.COMMITTED
-        told = [branch for branch in prepared if self._is_done(branch, branch.commit)]
-        heard = [branch for branch in told if self._is_done(branch, branch.line.see_heard)]
+        told = [branch for branch in prepared if self._is_done("xa_commit", branch, branch.commit)]
+        heard = [branch for branch in told if self._is_done("xa_commit", branch, branch.line.see_heard)]
         if prepared and heard == prepared:
             self._session.note_done(self.gtrid)
         odd = [f"database {branch.line.rm.number}: {branch.oddity}" for branch in prepared if branch.oddity]
         if odd:
             raise HeuristicEnd(f"{self.gtrid} is committed, but not everywhere: {'; '.join(odd)}")
 
-    def _is_done(self, branch: Branch, step: Callable[[], object]) -> bool:
-        """Does a step of the commit of a branch. What can't be done now is done by the next recovery there."""
+    def _roll_back(self) -> None:
+        """Ends each branch by a rollback. Nothing of it is in the log."""
+        self.outcome = Outcome.ROLLED_BACK
+        branches = list(self._branches.values())
+        for branch in branches:
+            self._try(branch.give_up)
+        self._try(lambda: self._session.coordinator.decide(self.gtrid, "rollback"))
+        told = [branch for branch in branches if self._is_done("xa_rollback", branch, branch.roll_back)]
+        for branch in told:
+            self._is_done("xa_rollback", branch, branch.line.see_heard)
+
+    def _is_done(self, name: str, branch: Branch, step: Callable[[], object]) -> bool:
+        """Does a step of the end of a branch, by the call of this name. What can't be done now is left to the next recovery
+        there."""
         try:
             step()
         except Unexplained as error:
             branch.oddity = str(error)
             return False
         except XaError as error:
-            log.warning("%s is to be committed by the next recovery: %s", branch.xid, error)
-            self._session.owe(branch.line.rm.number, branch.xid)
+            log.warning("%s of %s is left to the recovery: %s", name, branch.xid, error)
+            self._session.owe(branch.line.rm.number, Call(name, branch.xid))
             return False
         return True
-
-    def _roll_back(self) -> None:
-        """Ends each branch by a rollback. What can't be ended now is left to the recovery: nothing of it is in the log."""
-        self.outcome = Outcome.ROLLED_BACK
-        branches = list(self._branches.values())
-        for branch in branches:
-            self._try(branch.give_up)
-        self._try(lambda: self._session.coordinator.decide(self.gtrid, "rollback"))
-        for branch in branches:
-            self._try(branch.roll_back)
-        for branch in branches:
-            self._try(branch.line.see_heard)
 
     def _try(self, step: Callable[[], object]) -> None:
         """Does what the outcome doesn't depend on any more."""
         try:
             step()
         except XaError as error:
-            log.warning("what is left of %s is ended by the next recovery: %s", self.gtrid, error)
+            log.warning("%s, whose outcome stands: %s", self.gtrid, error)

@@ -38,6 +38,7 @@ class Transactions(unittest.TestCase):
             return json.load(it)
 
     def requests(self, *names):
+        """The requests of these names, as the coordinator got them."""
         return [line for line in self.in_the_log()["requests"] if line.split(" ")[0] in names]
 
     def move(self, xa):
@@ -116,8 +117,12 @@ class Transactions(unittest.TestCase):
             self.right.next["work"] = "lost"
             with self.assertRaises(ConnectionLost):
                 self.move(xa)
+            xa._session._rms[1]._tried = 0
             self.move(xa)
         self.assertEqual(self.written(), (["take"], ["give"]))
+        # The coordinator is told of each branch that it is over.
+        told = [line.split(" ")[4] for line in self.requests("answer") if " xa_rollback " in line]
+        self.assertEqual([xid[-1] for xid in told], ["0", "1"])
 
     def test_a_vote_that_is_lost(self):
         with self.manager() as xa:
