@@ -2,6 +2,7 @@
 
 use crate::gates::Counting;
 use crate::plans::{NO, READ_ONLY, YES, are_fates, branch, four_jobs, gtrid, jobs, run, swept};
+use std::sync::atomic::Ordering;
 use std::test::Fail;
 use xa_base::{Fate, Outcome};
 use xa_log::{DecisionLog, MemLog};
@@ -55,6 +56,25 @@ fn a_no_leaves_read_only_as_it_is(rt: HostRuntime) -> Result<(), Fail> {
         (branch(1, 0, 1), Fate::RolledBack),
     ];
     assert!(rt; are_fates(&done, &fates));
+    Ok(())
+}
+
+/// Just the branches that voted yes are sent xa_commit or xa_rollback: each other was ended by its vote.
+#[test]
+fn the_last_phase_goes_to_who_voted_yes(rt: HostRuntime) -> Result<(), Fail> {
+    let alloc = rt.alloc();
+    for (votes, last) in [
+        ([YES, YES], 2),
+        ([YES, READ_ONLY], 1),
+        ([NO, YES], 1),
+        ([NO, READ_ONLY], 0),
+    ] {
+        let gate = Counting::new();
+        let one = jobs(alloc, 1, 2, &[&votes])?;
+        let _done = run(&rt, alloc, &one, MemLog::new(alloc), &gate)?;
+        // xa_open, xa_start, xa_end and xa_prepare at both, and the last phase
+        assert_eq!(rt; gate.answered.load(Ordering::SeqCst), 8 + last);
+    }
     Ok(())
 }
 

@@ -7,7 +7,7 @@ use xa_workers::{Gate, Point};
 /// How often a gate looks in vain before it gives up.
 pub(crate) const LOOKS: u32 = 1_000_000;
 
-/// A gate that holds nobody back, and counts the answers of resource manager 0.
+/// A gate that holds nobody back, and counts the answers of all resource managers.
 #[derive(Drop)]
 pub(crate) struct Counting {
     pub(crate) answered: AtomicU64,
@@ -23,7 +23,7 @@ impl Counting {
 
 impl Gate for Counting {
     fn at(&self, point: Point) -> bool {
-        if point == Point::Answered(0) {
+        if matches!(point, Point::Answered(_)) {
             self.answered.fetch_add(1, Ordering::SeqCst);
         }
         true

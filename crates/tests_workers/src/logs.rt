@@ -18,19 +18,22 @@ const SEVENTH: Branch = Branch {
     rm: 0,
 };
 
+/// However many resource managers a job has branches at, none of them is sent xa_commit without the job's row.
 #[test]
 fn no_commit_is_issued_without_its_row(rt: HostRuntime) -> Result<(), Fail> {
     let alloc = rt.alloc();
-    let gate = Counting::new();
     let plan = FailPlan::Every {
         kind: LogCall::Commit,
     };
-    let log = FailLog::new(MemLog::new(alloc), plan);
-    let one = jobs(alloc, 1, 2, &[&[YES, YES]])?;
-    let fault = run(&rt, alloc, &one, log, &gate).err();
-    assert_eq!(rt; fault, Some(WorkFault::Log));
-    // xa_open, xa_start, xa_end and xa_prepare
-    assert_eq!(rt; gate.answered.load(Ordering::SeqCst), 4);
+    for rms in 1..9u32 {
+        let gate = Counting::new();
+        let log = FailLog::new(MemLog::new(alloc), plan);
+        let one = jobs(alloc, 1, rms, &[&[YES; 8][..rms as usize]])?;
+        let fault = run(&rt, alloc, &one, log, &gate).err();
+        assert_eq!(rt; fault, Some(WorkFault::Log));
+        // xa_open, xa_start, xa_end and xa_prepare at each
+        assert_eq!(rt; gate.answered.load(Ordering::SeqCst), 4 * u64::from(rms));
+    }
     let log = FailLog::new(MemLog::new(alloc), plan);
     let fault = run(&rt, alloc, &four_jobs(alloc, 2)?, log, &Counting::new()).err();
     assert_eq!(rt; fault, Some(WorkFault::Log));

@@ -1,25 +1,46 @@
-//! Runs over a log that lists what no log lists.
+//! Runs over a log that lists what no log lists, or that fails late.
 
 use crate::gates::Counting;
-use crate::plans::{four_jobs, gtrid, run};
+use crate::plans::{YES, branch, four_jobs, gtrid, jobs, run};
 use std::alloc::Global;
-use std::mem;
+use std::sync::atomic::Ordering;
 use std::test::Fail;
+use std::{mem, thread};
 use xa_base::{Branch, Gtrid, How};
 use xa_log::{Decision, DecisionLog, LogFault, LogRows, Logged};
 use xa_workers::WorkFault;
 
-/// A log of the third incarnation that lists these transactions once, whatever they are, and takes each call.
+/// How often a log yields before it fails.
+const YIELDS: u32 = 10_000;
+
+/// A log of the third incarnation that lists these rows and records once, whatever they are, and takes each call, but for a
+/// row where it fails late.
 #[derive(Drop)]
 struct Unlawful {
     decisions: Vec<Gtrid>,
+    heuristics: Vec<(Branch, How)>,
+    fails_late: bool,
+    faults: u64,
     alloc: Global,
+}
+
+impl Unlawful {
+    /// One that lists nothing.
+    fn new(alloc: Global) -> Unlawful {
+        Unlawful {
+            decisions: Vec::new(alloc),
+            heuristics: Vec::new(alloc),
+            fails_late: false,
+            faults: 0,
+            alloc,
+        }
+    }
 }
 
 impl DecisionLog for Unlawful {
     ghost use Rattle.tests_workers.specs.Unlawful.{unlawful};
 
-    ghost moment = { λ _. unlawful };
+    ghost moment = { λ log. unlawful log.faults };
 
     ghost says = { λ call change old new fault. Unit {0} };
 
@@ -30,7 +51,14 @@ impl DecisionLog for Unlawful {
     ghost fits = { λ log c order is. absurd order };
 
     fn commit(&mut self, _g: Gtrid, _participants: &[Branch]) -> Result<Logged, LogFault> {
-        Ok(Logged::New)
+        if !self.fails_late {
+            return Ok(Logged::New);
+        }
+        for _ in 0..YIELDS {
+            thread::yield_now();
+        }
+        self.faults = self.faults.saturating_add(1);
+        Err(LogFault::Store)
     }
 
     fn commit_all(
@@ -69,33 +97,73 @@ impl DecisionLog for Unlawful {
         Ok(LogRows {
             decisions: mem::replace(&mut self.decisions, Vec::new(self.alloc)),
             participants: Vec::new(self.alloc),
-            heuristics: Vec::new(self.alloc),
+            heuristics: mem::replace(&mut self.heuristics, Vec::new(self.alloc)),
         })
     }
 
     fn faults(&self) -> u64 {
-        0
+        self.faults
     }
 }
 
-/// Rows out of order, a row that stands twice, and one whose number fits no row are refused as a system would refuse them.
+/// What is listed of two transactions, and the fault of a run over such a log: out of order, twice, or with a number that
+/// fits no row they are refused, as a system would refuse them.
+const LISTED: [([u64; 2], Option<WorkFault>); 4] = [
+    ([1, 2], None),
+    ([2, 1], Some(WorkFault::Log)),
+    ([1, 1], Some(WorkFault::Log)),
+    ([1, 1 << 63], Some(WorkFault::Log)),
+];
+
 #[test]
 fn rows_that_no_log_lists_are_refused(rt: HostRuntime) -> Result<(), Fail> {
     let alloc = rt.alloc();
-    let faults = [
-        ([1, 2], None),
-        ([2, 1], Some(WorkFault::Log)),
-        ([1, 1], Some(WorkFault::Log)),
-        ([1, 1 << 63], Some(WorkFault::Log)),
-    ];
-    for (sequences, fault) in faults {
+    for (sequences, fault) in LISTED {
         let mut decisions = Vec::new(alloc);
         for sequence in sequences {
             decisions.push(gtrid(sequence))?;
         }
-        let log = Unlawful { decisions, alloc };
+        let log = Unlawful {
+            decisions,
+            ..Unlawful::new(alloc)
+        };
         let ran = run(&rt, alloc, &four_jobs(alloc, 2)?, log, &Counting::new());
         assert_eq!(rt; ran.err(), fault);
     }
+    Ok(())
+}
+
+#[test]
+fn records_that_no_log_lists_are_refused(rt: HostRuntime) -> Result<(), Fail> {
+    let alloc = rt.alloc();
+    for (sequences, fault) in LISTED {
+        let mut heuristics = Vec::new(alloc);
+        for sequence in sequences {
+            heuristics.push((branch(sequence, 0, 0), How::Mix))?;
+        }
+        let log = Unlawful {
+            heuristics,
+            ..Unlawful::new(alloc)
+        };
+        let ran = run(&rt, alloc, &four_jobs(alloc, 2)?, log, &Counting::new());
+        assert_eq!(rt; ran.err(), fault);
+    }
+    Ok(())
+}
+
+/// A thread of control awaits its row, however long the log takes to fail: no xa_commit is sent before.
+#[test]
+fn no_commit_is_issued_while_its_row_is_written(rt: HostRuntime) -> Result<(), Fail> {
+    let alloc = rt.alloc();
+    let gate = Counting::new();
+    let log = Unlawful {
+        fails_late: true,
+        ..Unlawful::new(alloc)
+    };
+    let one = jobs(alloc, 1, 1, &[&[YES]])?;
+    let ran = run(&rt, alloc, &one, log, &gate);
+    assert_eq!(rt; ran.err(), Some(WorkFault::Log));
+    // xa_open, xa_start, xa_end and xa_prepare
+    assert_eq!(rt; gate.answered.load(Ordering::SeqCst), 4);
     Ok(())
 }
