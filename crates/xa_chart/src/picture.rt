@@ -1,0 +1,73 @@
+//! A scenario file is run, and drawn.
+
+ghost use Rattle.std.specs.Prelude.{◌≡◌, Err, IsErr};
+ghost use Rattle.std.specs.Io.KnownBytes.{Keeps};
+ghost use Rattle.xa_chart.specs.declared.picture.ChartFault.TheVariants.{Run, TooLong};
+ghost use Rattle.xa_files.specs.declared.fault.RunFault.TheVariants as Faults;
+ghost use Rattle.xa_scenario.specs.Scenarios.{scenario_of};
+
+use crate::chart::chart_text;
+use std::alloc::Global;
+use std::io::Write;
+use xa_base::Memory;
+use xa_files::{RunFault, write_text};
+use xa_log::DecisionLog;
+use xa_scenario::{read_named_scenario, system_after};
+use xa_story::{Scene, lines_of};
+
+/// The most events of a picture.
+const MAX_EVENTS: usize = 200;
+
+/// Why a run can't be drawn.
+#[derive(Clone, Copy, Debug, PartialEq, Eq)]
+pub enum ChartFault {
+    /// The run of the file ended early.
+    Run(RunFault),
+    /// The run has more than 200 events.
+    TooLong,
+}
+
+impl From<RunFault> for ChartFault {
+    ghost from_gives = { λ fault chart. chart ≡ Run fault };
+
+    fn from(fault: RunFault) -> ChartFault {
+        ChartFault::Run(fault)
+    }
+}
+
+impl From<Memory> for ChartFault {
+    ghost from_gives = { λ _ chart. chart ≡ Run Faults.Memory };
+
+    fn from(_fault: Memory) -> ChartFault {
+        ChartFault::Run(RunFault::Memory)
+    }
+}
+
+/// Runs a scenario file at new resource managers and over a decision log that is still empty, and prints it as a
+/// sequence diagram: a document of SVG.
+///
+/// TooLong comes where the run has more than 200 events. Else the faults are those of `explain_scenario`.
+pub fn draw_scenario<L: DecisionLog + Drop, W: Write>(
+    alloc: Global,
+    text: &[u8],
+    log: L,
+    out: &mut W,
+) -> Result<(), ChartFault>
+    // A file that is no scenario writes nothing, and nor does a run that is too long.
+    ensures unwritten { IsErr (scenario_of text.now)
+        → Keeps (W.contents out.old) (W.contents out.new) }
+    ensures long { result ≡ Err TooLong → Keeps (W.contents out.old) (W.contents out.new) }
+{
+    let named = read_named_scenario(alloc, text)?;
+    let system = system_after(alloc, &named.scenario, log)?;
+    let events = system.trace();
+    if events.len() > MAX_EVENTS {
+        return Err(ChartFault::TooLong);
+    }
+    let mut scene = Scene::new(alloc, &named.names);
+    let lines = lines_of(alloc, &mut scene, events)?;
+    let (threads, rms) = (named.scenario.threads, named.scenario.rms);
+    let picture = chart_text(alloc, threads, rms, &scene, &lines, events)?;
+    write_text(picture.as_bytes(), out)?;
+    Ok(())
+}
