@@ -5,9 +5,12 @@
 //! Specification" (1991).
 #![tactic(auto)]
 
+mod asks;
+mod explain;
 mod faults;
 mod lines;
 mod list;
 
+pub use explain::explain_log;
 pub use faults::run_fault;
 pub use list::list_log;

@@ -1,0 +1,41 @@
+//! What a log asks of an operator, over any log and any writer.
+
+ghost use Rattle.std.specs.Prelude.{◌≡◌, ◌≢◌, IfErr, OnOk};
+ghost use Rattle.std.specs.Io.KnownBytes.{Keeps};
+ghost use Rattle.xa_files.specs.declared.fault.RunFault.TheVariants.{Output};
+ghost use Rattle.xa_listing.specs.Faults.{CountsFault, IsListFault};
+ghost use Rattle.xa_log.specs.Contract.{LeavesNoMore};
+ghost use Rattle.xa_log.specs.Contract.{Keeps as IsKept};
+
+use crate::asks::asks_text;
+use crate::faults::run_fault;
+use std::io::Write;
+use xa_files::{RunFault, write_text};
+use xa_log::DecisionLog;
+
+/// Prints what the rows of a log ask of an operator: for each transaction that is decided to commit, the branches that
+/// its row waits for; and for each branch that is recorded as heuristic, whether that contradicts a decision, and what to
+/// look at (XA, section 2.3.3, Heuristic Branch Completion).
+///
+/// What it asks of the log changes nothing. The faults are those of `list_log`.
+pub fn explain_log<L: DecisionLog, W: Write>(log: &mut L, out: &mut W) -> Result<(), RunFault>
+    ensures unwritten { IfErr result (λ e. e ≢ Output →
+        Keeps (W.contents out.old) (W.contents out.new)) }
+    ensures fault { IfErr result IsListFault }
+
+    // The log is as before, or a failure of its own has shut it.
+    ensures log { (L.moment log.old).is_in_order → (L.moment log.new).is_honest →
+        OnOk result ((L.moment log.new).content ≡ (L.moment log.old).content) }
+    ensures kept { (L.moment log.old).is_in_order → (L.moment log.new).is_honest →
+        IsKept (L.moment log.old).content (L.moment log.new).content }
+    ensures crash { (L.moment log.old).is_in_order → (L.moment log.new).is_honest →
+        LeavesNoMore (L.moment log.old).may_leave (L.moment log.new).may_leave }
+    ensures order { (L.moment log.old).is_in_order → (L.moment log.new).is_in_order }
+    ensures honest { (L.moment log.new).is_honest → (L.moment log.old).is_honest }
+    ensures faults { CountsFault result (L.moment log.old).fault_count
+        (L.moment log.new).fault_count }
+{
+    let rows = log.rows().map_err(run_fault)?;
+    let text = asks_text(&rows)?;
+    write_text(text.as_bytes(), out)
+}
