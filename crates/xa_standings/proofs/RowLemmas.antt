@@ -14,7 +14,7 @@ use Rattle.xa_base.specs.declared.state.Standing.{Standing}
 use Rattle.xa_base.specs.declared.state.Standing.TheVariants.{Unstarted, Active, Idle, Prepared, RollbackOnly, Completed, Committed, RolledBack as RolledBackThere, Lost, ReadOnly as ReadOnlyThere, Forgotten}
 use Rattle.xa_base.specs.declared.vote.Vote.{Vote}
 use Rattle.xa_base.specs.declared.vote.Vote.TheVariants.{Yes, ReadOnly, No}
-use Rattle.xa_standings.specs.Rows.{any_end, any_row, any_row_if, break_row, found_by_call, is_some_end, is_some_state, no_end, none, only, row, row_if}
+use Rattle.xa_standings.specs.Rows.{any_end, any_row, any_row_if, break_row, found_by_call, found_states, is_some_end, is_some_state, no_end, none, only, page_row, row, row_if}
 use Rattle.xa_standings.specs.Standings.{Explains}
 use Rattle.xa_standings.specs.States.{Asked, AskedOrNot, LeadsInto, LeadsOnto, has, has_end}
 use Rattle.xa_standings.specs.declared.states.HeuristicEnds.{HeuristicEnds}
@@ -68,7 +68,7 @@ pub or_right : (a b : Bool) → b ≡ true → (a || b) ≡ true
 or_right true b e = refl
 or_right false b e = e
 
-none_ended : (how : How) → has_end no_end how ≡ true → ⊥
+pub none_ended : (how : How) → has_end no_end how ≡ true → ⊥
 none_ended Hows.Com e = let no : ⊥ = cc in no
 none_ended Hows.Rb e = let no : ⊥ = cc in no
 none_ended Hows.Mix e = let no : ⊥ = cc in no
@@ -612,27 +612,39 @@ listed_ended : (how : How) (f : Standing) → state_of f ≡ S5 how → is_in_do
 listed_ended how (Completed h) p = refl
 listed_ended how _ p = absurd (cc)
 
-pub in_doubt_onto : (s : States) → LeadsOnto s (λ f g. (g ≡ f) × (is_in_doubt f ≡ true)) (record none { s3 = s.s3; s5 = s.s5 })
+pub in_doubt_onto : (s : States) → LeadsOnto s (λ f g. (g ≡ f) × (is_in_doubt f ≡ true)) (page_row s)
 in_doubt_onto s S3 h = (S3, h, λ f p. (f, (refl, listed_prepared f p), p))
 in_doubt_onto s (S5 how) h = (S5 how, h, λ f p. (f, (refl, listed_ended how f p), p))
 in_doubt_onto s _ h = absurd (cc)
 
+pub page_onto : (s after : States) → after ≡ page_row s → LeadsOnto s (λ f g. (g ≡ f) × (is_in_doubt f ≡ true)) after
+page_onto s after e = subst (LeadsOnto s (λ f g. (g ≡ f) × (is_in_doubt f ≡ true))) (sym e) (in_doubt_onto s)
+
+in_doubt_there : (s : States) (f : Standing) → has s (state_of f) ≡ true → is_in_doubt f ≡ true → has (page_row s) (state_of f) ≡ true
+in_doubt_there s Prepared h d = h
+in_doubt_there s (Completed how) h d = h
+in_doubt_there s _ h d = absurd (cc)
+
+pub page_into : (s after : States) → after ≡ page_row s → LeadsInto s (λ f g. (g ≡ f) × (is_in_doubt f ≡ true)) after
+page_into s after e f g h step = ap (λ z. has z (state_of g)) e ∙ (ap (λ z. has (page_row s) (state_of z)) step.0 ∙ in_doubt_there s f h step.1)
+
 -- ** no state
 
-pub no_state : (s : States) → is_some_state s ≡ false → (t : State) → has s t ≡ false
-no_state s e t = by_value t (has s t) refl
-  where
-    some : (t : State) → has s t ≡ true → is_some_state s ≡ true
-    some S0 h = or_left s.s0 _ h
-    some S1 h = or_right s.s0 _ (or_left s.s1 _ h)
-    some S2 h = or_right s.s0 _ (or_right s.s1 _ (or_left s.s2 _ h))
-    some S3 h = or_right s.s0 _ (or_right s.s1 _ (or_right s.s2 _ (or_left s.s3 _ h)))
-    some S4 h = or_right s.s0 _ (or_right s.s1 _ (or_right s.s2 _ (or_right s.s3 _ (or_left s.s4 (is_some_end s.s5) h))))
-    some (S5 how) h = or_right s.s0 _ (or_right s.s1 _ (or_right s.s2 _ (or_right s.s3 _ (or_right s.s4 (is_some_end s.s5) (some_end how s.s5 h)))))
+pub is_some : (s : States) (t : State) → has s t ≡ true → is_some_state s ≡ true
+is_some s S0 h = or_left s.s0 _ h
+is_some s S1 h = or_right s.s0 _ (or_left s.s1 _ h)
+is_some s S2 h = or_right s.s0 _ (or_right s.s1 _ (or_left s.s2 _ h))
+is_some s S3 h = or_right s.s0 _ (or_right s.s1 _ (or_right s.s2 _ (or_left s.s3 _ h)))
+is_some s S4 h = or_right s.s0 _ (or_right s.s1 _ (or_right s.s2 _ (or_right s.s3 _ (or_left s.s4 (is_some_end s.s5) h))))
+is_some s (S5 how) h =
+    or_right s.s0 _ (or_right s.s1 _ (or_right s.s2 _ (or_right s.s3 _ (or_right s.s4 (is_some_end s.s5) (some_end how s.s5 h)))))
 
-    by_value : (t : State) (b : Bool) → has s t ≡ b → has s t ≡ false
-    by_value t true h = absurd (let a : is_some_state s ≡ true = some t h in let no : ⊥ = cc in no)
-    by_value t false h = h
+pub no_state : (s : States) → is_some_state s ≡ false → (t : State) → has s t ≡ false
+no_state s e t = by_value (has s t) refl
+  where
+    by_value : (b : Bool) → has s t ≡ b → has s t ≡ false
+    by_value true h = absurd (let a : is_some_state s ≡ true = is_some s t h in let no : ⊥ = cc in no)
+    by_value false h = h
 
 pub some_state : (s : States) → is_some_state s ≡ true → (t : State) × (has s t ≡ true)
 some_state s e = by0 (or_true s.s0 _ e)
@@ -661,19 +673,26 @@ pub empty_iff : (s : States) (b : Bool) → b ≡ is_some_state s → IsTrue (no
 empty_iff s true e = (λ i. absurd (cc), λ none. let t = some_state s (sym e) in absurd (let h = none t.0 in let k = t.1 in let no : ⊥ = cc in no))
 empty_iff s false e = (λ i. no_state s (sym e), λ none. refl)
 
+-- where there is one, there is this
+pub not_empty : (s : States) (b : Bool) → IsTrue b ↔ ((t : State) → has s t ≡ false) → b ≡ false → (t : State) × (has s t ≡ true)
+not_empty s b iff e = by (is_some_state s) refl
+  where
+    by : (u : Bool) → is_some_state s ≡ u → (t : State) × (has s t ≡ true)
+    by true h = some_state s h
+    by false h = let yes : b ≡ true = iff.1 (no_state s h) in let no : true ≡ false = sym yes ∙ e in absurd (let never : ⊥ = cc in never)
+
 -- ** what an older incarnation left
 
-any_there : (how : How) → has_end any_end how ≡ true
+pub any_there : (how : How) → has_end any_end how ≡ true
 any_there Hows.Com = refl
 any_there Hows.Rb = refl
 any_there Hows.Mix = refl
 any_there Hows.Haz = refl
 
-pub found_iff : (r : States) → ((s : State) → has r s ≡ true ↔ (s ≡ S0)) → (f : Standing)
-    → has (record r { s3 = true; s5 = any_end }) (state_of f) ≡ true ↔ (broken f ≡ f)
-found_iff r alone Active = (λ h. let e = (alone S1).0 h in let no : ⊥ = cc in absurd no, λ e. let no : ⊥ = cc in absurd no)
-found_iff r alone Idle = (λ h. let e = (alone S2).0 h in let no : ⊥ = cc in absurd no, λ e. let no : ⊥ = cc in absurd no)
-found_iff r alone RollbackOnly = (λ h. let e = (alone S4).0 h in let no : ⊥ = cc in absurd no, λ e. let no : ⊥ = cc in absurd no)
-found_iff r alone Prepared = (λ h. refl, λ e. refl)
-found_iff r alone (Completed how) = (λ h. refl, λ e. any_there how)
-found_iff r alone _ = (λ h. refl, λ e. (alone S0).1 refl)
+pub found_iff : (f : Standing) → has found_states (state_of f) ≡ true ↔ (broken f ≡ f)
+found_iff Active = (λ h. let no : ⊥ = cc in absurd no, λ e. let no : ⊥ = cc in absurd no)
+found_iff Idle = (λ h. let no : ⊥ = cc in absurd no, λ e. let no : ⊥ = cc in absurd no)
+found_iff RollbackOnly = (λ h. let no : ⊥ = cc in absurd no, λ e. let no : ⊥ = cc in absurd no)
+found_iff Prepared = (λ h. refl, λ e. refl)
+found_iff (Completed how) = (λ h. refl, λ e. any_there how)
+found_iff _ = (λ h. refl, λ e. refl)

@@ -1,5 +1,7 @@
 pub mod Across
+pub mod Entries
 pub mod Explained
+pub mod Monitor
 pub mod Rows
 pub mod Seen
 pub mod Standings

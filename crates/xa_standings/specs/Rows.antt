@@ -21,6 +21,14 @@ any_end = record { heurcom = true; heurrb = true; heurmix = true; heurhaz = true
 abbrev pub none : States
 none = record { s0 = false; s1 = false; s2 = false; s3 = false; s4 = false; s5 = no_end }
 
+-- S0 alone
+abbrev pub unstarted_states : States
+unstarted_states = record none { s0 = true }
+
+-- S0, S3 and S5: those that a break leaves as they are
+abbrev pub found_states : States
+found_states = record none { s0 = true; s3 = true; s5 = any_end }
+
 -- whether there is one among them
 abbrev pub is_some_end : HeuristicEnds → Bool
 is_some_end e = e.heurcom || (e.heurrb || (e.heurmix || e.heurhaz))
@@ -139,3 +147,8 @@ any_row_if None s = s
 
 abbrev pub break_row : States → States
 break_row s = record s { s0 = s.s0 || (s.s1 || (s.s2 || s.s4)); s1 = false; s2 = false; s4 = false }
+
+-- ** a page that lists the branch
+
+abbrev pub page_row : States → States
+page_row s = record none { s3 = s.s3; s5 = s.s5 }

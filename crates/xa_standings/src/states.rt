@@ -82,7 +82,7 @@ impl States {
     ghost use Rattle.xa_base.specs.Standing.{is_in_doubt};
     ghost use Rattle.xa_base.specs.StateTable.{Kind, State, asks_of, broken, commit_kind, state_of};
     ghost use Rattle.xa_base.specs.declared.state.Standing.{Standing};
-    ghost use Rattle.xa_standings.specs.Rows.{after_commit, after_end, after_forget, after_join, after_one_phase, after_prepare, after_rollback, after_start, any_row, any_row_if, break_row, found_by_call, is_some_state, none, row_if};
+    ghost use Rattle.xa_standings.specs.Rows.{after_commit, after_end, after_forget, after_join, after_one_phase, after_prepare, after_rollback, after_start, any_row, any_row_if, break_row, found_by_call, is_some_state, none, page_row, row_if};
     ghost use Rattle.xa_standings.specs.States.{Asked, AskedOrNot, LeadsInto, LeadsOnto, has};
 
     const NONE: States = States {
@@ -94,14 +94,24 @@ impl States {
         s5: HeuristicEnds::NONE,
     };
 
+    /// S0 alone.
+    pub(crate) const UNSTARTED: States = States {
+        s0: true,
+        ..States::NONE
+    };
+
+    /// S0, S3 and S5.
+    pub(crate) const FOUND: States = States {
+        s3: true,
+        s5: HeuristicEnds::ANY,
+        ..States::UNSTARTED
+    };
+
     /// The states of a branch that was never started: S0 alone.
     pub fn unstarted() -> States
         ensures { (s : State) → has result s ≡ true ↔ (s ≡ State.S0) }
     {
-        States {
-            s0: true,
-            ..States::NONE
-        }
+        States::UNSTARTED
     }
 
     /// The states of a branch of which nothing was heard, and which an older incarnation may have started: it is prepared
@@ -109,11 +119,7 @@ impl States {
     pub fn found() -> States
         ensures { (f : Standing) → has result (state_of f) ≡ true ↔ (broken f ≡ f) }
     {
-        States {
-            s3: true,
-            s5: HeuristicEnds::ANY,
-            ..States::unstarted()
-        }
+        States::FOUND
     }
 
     /// Whether there is no state: nothing explains what was answered.
@@ -158,6 +164,13 @@ impl States {
         ensures into { LeadsInto self (λ f g. (g ≡ f) × (is_in_doubt f ≡ true)) result }
         ensures onto { LeadsOnto self (λ f g. (g ≡ f) × (is_in_doubt f ≡ true)) result }
     {
+        self.by_page()
+    }
+
+    /// S3 and S5, if they are among them.
+    pub(crate) fn by_page(self) -> States
+        ensures { result ≡ page_row self }
+    {
         States {
             s3: self.s3,
             s5: self.s5,
@@ -186,7 +199,7 @@ impl States {
     }
 
     /// Whether there is one.
-    fn is_some(self) -> bool
+    pub(crate) fn is_some(self) -> bool
         ensures { result ≡ is_some_state self }
     {
         self.s0 || self.s1 || self.s2 || self.s3 || self.s4 || self.s5.is_some()

@@ -1,0 +1,65 @@
+-- The states of the branches of which something was heard, as a map has them; any other branch is as it was before.
+use Rattle.std.specs.Prelude.{◌≡◌, ◌&&◌, ℕ, nat_lt, true, if◌then◌else◌, unwrap_or, List, [], ◌∷◌, IsSome, Option}
+use Rattle.std.specs.Option.{option_and_then}
+use Rattle.std.specs.BTreeMap.{BTreeMap, get}
+use Rattle.xa_base.specs.Branch.{branch_cmp, branch_eq, branch_of_xid}
+use Rattle.xa_base.specs.Call.{xid_in}
+use Rattle.xa_base.specs.Xid.{Xid}
+use Rattle.xa_base.specs.declared.call.Call.{Call}
+use Rattle.xa_model.specs.Facts.{fits}
+use Rattle.xa_model.specs.Replies.History.{name_of}
+use Rattle.xa_model.specs.Trace.{Branch, Line, Name, Name.Foreign, Name.Ours, line_eq, line_of}
+use Rattle.xa_standings.specs.Rows.{break_row, found_states, is_some_state, page_row, unstarted_states}
+use Rattle.xa_standings.specs.declared.states.States.{States}
+
+-- ** the states of a branch
+
+-- those of a branch of which nothing was heard: one of an older incarnation may be found
+abbrev pub states_before : (incarnation : ℕ) → Branch → States
+states_before i b = if fits b && nat_lt b.gtrid.incarnation i then found_states else unstarted_states
+
+-- those of any
+abbrev pub states_at : (incarnation : ℕ) → BTreeMap Branch States → Branch → States
+states_at i m b = unwrap_or (get branch_cmp m b) (states_before i b)
+
+-- the branch of this manager that a call names, if it names one
+abbrev pub branch_asked : Call Xid → Option Branch
+branch_asked call = option_and_then branch_of_xid (xid_in call)
+
+-- ** a line that breaks
+
+abbrev pub off_line_at : Line → Branch → States → States
+off_line_at l b s = if line_eq l (line_of b) then break_row s else s
+
+-- ** a page
+
+-- the branch may be in doubt at the resource manager, if the name is a branch
+abbrev pub IsListable : (rm : ℕ) → (Branch → States) → Name → Type 0
+IsListable rm states (Ours b) = (b.rm ≡ rm) × (is_some_state (page_row (states b)) ≡ true)
+IsListable rm states (Foreign x) = Unit
+
+abbrev pub AreListable : (rm : ℕ) → (Branch → States) → List Xid → Type 0
+AreListable rm states [] = Unit
+AreListable rm states (x ∷ xs) = IsListable rm states (name_of x) × AreListable rm states xs
+
+-- there is an entry for the branch, if the name is one
+abbrev pub HasRoom : BTreeMap Branch States → Name → Type 0
+HasRoom m (Ours b) = IsSome (get branch_cmp m b)
+HasRoom m (Foreign x) = Unit
+
+abbrev pub HaveRoom : BTreeMap Branch States → List Xid → Type 0
+HaveRoom m [] = Unit
+HaveRoom m (x ∷ xs) = HasRoom m (name_of x) × HaveRoom m xs
+
+-- what there was an entry for, there still is
+abbrev pub HasKept : (old new : BTreeMap Branch States) → Type 0
+HasKept old new = (q : Branch) → IsSome (get branch_cmp old q) → IsSome (get branch_cmp new q)
+
+-- the states of a branch once a page listed the name, and these
+abbrev pub listed : Name → Branch → States → States
+listed (Ours b) q s = if branch_eq b q then page_row s else s
+listed (Foreign x) q s = s
+
+abbrev pub listed_by : List Xid → Branch → States → States
+listed_by [] q s = s
+listed_by (x ∷ xs) q s = listed_by xs q (listed (name_of x) q s)

@@ -1,0 +1,66 @@
+-- What a monitor knows of each branch, and when it follows what was seen.
+use Rattle.std.specs.Prelude.{◌≡◌, true, Option, Some, None}
+use Rattle.xa_base.specs.Call.{map_call}
+use Rattle.xa_base.specs.StateTable.{State, state_of}
+use Rattle.xa_base.specs.Xid.{Xid}
+use Rattle.xa_base.specs.declared.call.Call.{Call as Waiting}
+use Rattle.xa_base.specs.declared.state.Standing.{Standing}
+use Rattle.xa_model.specs.Replies.History.{name_of}
+use Rattle.xa_model.specs.Replies.Steps.{accepted}
+use Rattle.xa_model.specs.Trace.{Answer, Branch, Call, Line, Origin}
+use Rattle.xa_standings.specs.Entries.{states_at}
+use Rattle.xa_standings.specs.Seen.{Seen}
+use Rattle.xa_standings.specs.Standings.{Explained, MayStand}
+use Rattle.xa_standings.specs.States.{LeadsInto, LeadsOnto, has}
+use Rattle.xa_standings.specs.declared.monitor.Monitor.{Monitor}
+use Rattle.xa_standings.specs.declared.states.States.{States}
+
+-- ** what it knows
+
+-- the states in which it says that a branch may be
+abbrev pub states_of : Monitor → Branch → States
+states_of m b = states_at m.incarnation m.branches b
+
+-- the branch is in some state
+abbrev pub IsSomewhere : (Branch → States) → Branch → Type 0
+IsSomewhere states b = (s : State) × (has (states b) s ≡ true)
+
+-- these are, for each branch, exactly the states in which it may stand by all that was seen; and there is one
+pub record AreStatesBy (o : Origin) (seen : Seen) (states : Branch → States) : Type 0 where
+  pub into : (b : Branch) (f : Standing) → MayStand o seen b f → has (states b) (state_of f) ≡ true
+  pub onto : (b : Branch) (s : State) → has (states b) s ≡ true → (f : Standing) × MayStand o seen b f × (state_of f ≡ s)
+  pub some : (b : Branch) → IsSomewhere states b
+
+-- the monitor has followed what was seen
+abbrev pub Monitors : Origin → Seen → Monitor → Type 0
+Monitors o seen m = AreStatesBy o seen (states_of m)
+
+-- ** what it is told
+
+-- a call as a history knows it: one on a branch of this manager, or on none
+abbrev pub known : Waiting Xid → Option Call
+known call = accepted (map_call name_of call)
+
+abbrev pub known_if : Option (Waiting Xid) → Option Call
+known_if (Some call) = known call
+known_if None = None
+
+-- ** what explains an answer
+
+-- the answer leads on from some standing in one of these states of the branch
+pub record CanExplain (states : Branch → States) (l : Line) (c : Call) (a : Answer) (b : Branch) : Type 0 where
+  pub from : Standing
+  pub to : Standing
+  pub among : has (states b) (state_of from) ≡ true
+  pub leads : Explained l c a b from to
+
+-- by what was seen the branch can stand nowhere
+abbrev pub IsUnexplained : Origin → Seen → Branch → Type 0
+IsUnexplained o seen b = (f : Standing) → MayStand o seen b f → ⊥
+
+-- ** steps
+
+-- the steps of each branch lead its states exactly into those
+pub record Leads (before : Branch → States) (Step : Branch → Standing → Standing → Type 0) (after : Branch → States) : Type 0 where
+  pub into : (b : Branch) → LeadsInto (before b) (Step b) (after b)
+  pub onto : (b : Branch) → LeadsOnto (before b) (Step b) (after b)
