@@ -86,7 +86,9 @@ class Bank:
         with self.lock:
             if t is not None and t.outcome in (Outcome.COMMITTED, Outcome.ROLLED_BACK):
                 self.told.write(f"{t.gtrid} {kind} {end.replace(' ', '-')}\n")
-            self.counts[f"{end}{' by itself' if isinstance(error, HeuristicEnd) else ''}"] += 1
+            self.counts[end] += 1
+            if isinstance(error, HeuristicEnd):
+                logging.error("%s", error)
             if error is not None and not isinstance(error, OnPurpose):
                 self.counts[f"raised {type(error).__name__}"] += 1
         if t is None:

@@ -16,7 +16,7 @@ from world import HERE, SUM
 #: What is killed together, and how often.
 TARGETS = {"coordinator": 6, "driver": 6, "db0": 2, "db1": 2, "db0 db1": 1, "driver db0": 1, "driver db1": 1, "coordinator db0": 1}
 #: From one kill to the next, in seconds.
-PAUSE = 0.1, 1.2
+PAUSE = 0.05, 0.8
 
 
 class Kills:
@@ -40,6 +40,11 @@ class Kills:
             self.note_failure()
             self.driver.stdout.close()
             self.start_driver()
+
+    def unexplained(self):
+        """How many answers of a database no state of the branch explained, by the drivers' notes."""
+        with open(f"{self.world.home}/driver.log") as it:
+            return sum("the branch is in no such state" in line for line in it)
 
     def note_failure(self):
         self.failed += 1
@@ -111,6 +116,7 @@ def run(world, kills, threads, seed):
     print(f"kills: {sum(it.done.values())} in {time.monotonic() - begun:.0f} seconds, seed {seed}:", dict(sorted(it.done.items())))
     for name, count in found.items():
         print(f"kills: {count} {name}")
+    print(f"kills: {it.unexplained()} answers that no state of the branch explains")
     print(f"kills: {it.failed} drivers that failed otherwise; the last one: {dict(it.counts)}")
     wrong = found["in one and not the other, or different"] + found["told, and otherwise in the databases"] + found["in doubt"]
     return wrong + it.failed + (found["sum"] != SUM)

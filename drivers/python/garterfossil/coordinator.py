@@ -14,7 +14,7 @@ from .errors import CoordinatorGone, Refused, RequestError, Unexplained
 from .xid import Xid
 
 #: Refusals by their number (docs/PROTOCOL.md).
-MANAGER_DOWN, UNKNOWN_TRANSACTION, LIMIT, LOG_FAULT = 1, 5, 14, 15
+MANAGER_DOWN, UNKNOWN_TRANSACTION, LOG_FAULT = 1, 5, 15
 #: The coordinator ends so where another one has the log, or the log can't be opened.
 LOG_STATUS = 2
 UNEXPLAINED = "error the branch is in no such state"

@@ -10,8 +10,7 @@ from types import TracebackType
 from typing import Iterator, Optional, Sequence, Tuple, Type
 
 from .adapters.base import Database
-from .coordinator import LIMIT
-from .errors import CoordinatorGone, Refused
+from .errors import CoordinatorGone
 from .line import PAUSE
 from .session import Session
 from .transaction import Outcome, Transaction
@@ -84,7 +83,6 @@ class TransactionManager:
         """A transaction that has begun, in the session that is up, or else in the next one."""
         until = time.monotonic() + self._patience
         while True:
-            session = None
             try:
                 session = self._current()
                 session.recover_what_is_due()
@@ -96,14 +94,8 @@ class TransactionManager:
             except CoordinatorGone as gone:
                 if self._is_closed or time.monotonic() >= until:
                     raise
-                if session is None or not session.is_closed:
-                    log.warning("%s", gone)
-                    time.sleep(PAUSE)
-            except Refused as refused:
-                if refused.number != LIMIT or time.monotonic() >= until:
-                    raise
-                # The session has seen as much as it can: the next one goes on.
-                session.close()
+                log.warning("%s", gone)
+                time.sleep(PAUSE)
 
     def _current(self) -> Session:
         """The session that is up."""

@@ -29,8 +29,6 @@ class Session:
 
     def __init__(self, command: Sequence[str], databases: Sequence[Database], threads: int, patience: float):
         self.patience = patience
-        #: Whether it was ended here.
-        self.is_closed = False
         self.coordinator = Coordinator.start(command, patience)
         self.threads = Threads(threads)
         self.debts = Debts()
@@ -120,7 +118,6 @@ class Session:
             with self._done_lock:
                 gtrids, self._done = self._done, []
             self._finish(gtrids)
-            self.is_closed = True
             self.coordinator.quit()
             for lines in self._lines:
                 for line in lines:
