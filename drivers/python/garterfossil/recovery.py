@@ -8,7 +8,7 @@ from typing import TYPE_CHECKING
 
 from .calls import Call
 from .coordinator import UNKNOWN_TRANSACTION, Coordinator
-from .errors import ConnectionLost, Refused, Unexplained
+from .errors import ConnectionLost, CoordinatorGone, Refused, Unexplained
 from .line import PAUSE, Line
 from .resource_manager import ResourceManager
 
@@ -29,18 +29,28 @@ def recover(session: Session, rm: ResourceManager) -> None:
             line.lose()
     line = session.line(0, rm.number)
     line.make_ready()
-    until = time.monotonic() + session.patience
-    # A call that was put off is listed again.
-    while scan(session.coordinator, line) > 0:
-        if time.monotonic() >= until:
-            raise ConnectionLost(f"database {rm.number} lists the same branches again and again")
-        time.sleep(PAUSE)
+    try:
+        scan_until_done(session, line)
+    except Unexplained as error:
+        # A database may forget in a crash that it rolled a branch back. To the next session the branch is an earlier one's,
+        # and so it may stand there.
+        session.coordinator.quit()
+        raise CoordinatorGone(f"the session is ended: {error}") from error
     for call in session.debts.at(rm.number):
         try:
             pay(session, line, call)
         except Unexplained as error:
             log.error("how %s ended isn't known: %s", call.xid, error)
     rm.is_recovery_due = False
+
+
+def scan_until_done(session: Session, line: Line) -> None:
+    """Scans, and once more where something was found: a call that was put off is listed again."""
+    until = time.monotonic() + session.patience
+    while scan(session.coordinator, line) > 0:
+        if time.monotonic() >= until:
+            raise ConnectionLost(f"database {line.rm.number} lists the same branches again and again")
+        time.sleep(PAUSE)
 
 
 def pay(session: Session, line: Line, call: Call) -> None:

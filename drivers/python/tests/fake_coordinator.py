@@ -21,7 +21,7 @@ class Coordinator:
         # The rows that it found: those of its own incarnation aren't owed.
         self.found = {gtrid: list(xids) for gtrid, xids in self.log["rows"].items()}
         self.sequence = 0
-        self.live, self.votes, self.waiting, self.pages = set(), {}, {}, {}
+        self.live, self.rolled_back, self.votes, self.waiting, self.pages = set(), set(), {}, {}, {}
         self.save()
 
     def save(self):
@@ -55,10 +55,15 @@ class Coordinator:
         waiting = self.waiting[thread, rm]
         if not waiting or waiting[0].split(" ")[0] != name:
             return "error another call waits first"
-        waiting.pop(0)
+        call = waiting.pop(0)
         if name == "xa_recover":
+            if self.rolled_back.intersection(words[1:]):
+                waiting.insert(0, call)
+                return "error the branch is in no such state"
             self.pages[rm] = words[1:]
             return f"heard {name} {words[0]}"
+        if name == "xa_rollback" and words[1] == "0":
+            self.rolled_back.add(words[0])
         if name == "xa_prepare" and words[1] == "0":
             self.votes.setdefault(words[0].split(":")[1], []).append(words[0])
         return f"heard {name} {words[-1]}"

@@ -221,6 +221,25 @@ class Transactions(unittest.TestCase):
             self.move(xa)
         self.assertEqual(self.written(), (["take", "take"], ["give"]))
 
+    def test_a_database_forgets_a_rollback(self):
+        with self.manager() as xa:
+            self.right.next["prepare"] = Code.RBINTEGRITY
+            with self.assertRaises(RolledBack):
+                with xa.transaction() as t:
+                    t[0].execute("take")
+                    t[1].execute("give")
+                    xid = t[0].xid
+            self.assertIn(f"roll_back_prepared {xid}", self.left.calls)
+            self.left.prepared[xid] = ["take"]
+            self.left.next["work"] = "lost"
+            with self.assertRaises(ConnectionLost):
+                self.move(xa)
+            xa._session._rms[0]._tried = 0
+            self.move(xa)
+        self.assertEqual(self.written(), (["take"], ["give"]))
+        self.assertEqual(self.left.prepared, {})
+        self.assertEqual(self.in_the_log()["incarnation"], 2)
+
     def test_the_connections_of_an_earlier_driver_are_ended_first(self):
         stray = self.right.connect()
         with self.manager() as xa:
