@@ -6,7 +6,6 @@ use Rattle.std.proofs.lemmas.Bool.{and_parts, lt-ltb, ltb-true}
 use mathlib.Core.Logic.{◌⊎◌.inl, ◌⊎◌.inr}
 use Rattle.xa_base.proofs.BranchKeys.{branch_eq-refl, branch_eq-true}
 use Rattle.xa_base.specs.Branch.{branch_eq, branch_of_xid}
-use Rattle.xa_base.specs.Standing.{is_in_doubt}
 use Rattle.xa_base.specs.StateTable.{Kind, Kind.End, Kind.Forget, Kind.Prepare, Kind.Rollback, State, State.S0, State.S1, State.S2, State.S3, State.S4, State.S5, asks_of, broken, commit_kind, start_kind, state_of}
 use Rattle.xa_base.specs.Xid.{Xid}
 use Rattle.xa_base.specs.Answer.{map_answer}
@@ -15,7 +14,7 @@ use Rattle.xa_base.specs.declared.answer.Answer.TheVariants.{Page, Ret}
 use Rattle.xa_base.specs.declared.call.Call.{Call as Waiting}
 use Rattle.xa_base.specs.declared.call.Call.TheVariants as Calls
 use Rattle.xa_base.specs.declared.state.Standing.{Standing}
-use Rattle.xa_base.specs.declared.state.Standing.TheVariants.{Unstarted, Active, Idle, Prepared, RollbackOnly, Completed, Committed, RolledBack, Lost, ReadOnly, Forgotten}
+use Rattle.xa_base.specs.declared.state.Standing.TheVariants.{Unstarted, Active, Idle, Prepared, RollbackOnly, Completed}
 use Rattle.xa_model.specs.Facts.{fits}
 use Rattle.xa_model.specs.Protocol.{Lists}
 use Rattle.xa_model.specs.Replies.History.{name_by, name_of}
@@ -24,8 +23,8 @@ use Rattle.xa_model.specs.Trace.{Answer, Branch, Call, Code, Happening, Line, Na
 use Rattle.xa_standings.proofs.Pages.{is_listed, listed_if, listed_once, lists_if}
 use Rattle.xa_standings.proofs.RowLemmas.{any_there, is_some, none_ended, off_into, off_onto, page_into, page_onto, some_state}
 use Rattle.xa_standings.specs.Entries.{AreListable, IsListable, branch_asked, listed_by, off_line_at, states_before}
-use Rattle.xa_standings.specs.Monitor.{AreStatesBy, CanExplain, IsSomewhere, IsUnexplained, Leads, known, known_if}
-use Rattle.xa_standings.specs.Rows.{break_row, found_states, is_some_state, page_row, unstarted_states}
+use Rattle.xa_standings.specs.Monitor.{AreStatesBy, CanExplain, IsSomewhere, IsUnexplained, Leads, known}
+use Rattle.xa_standings.specs.Rows.{break_row, found_states, page_row, unstarted_states}
 use Rattle.xa_standings.specs.Seen.{Seen, Seen.Answered, Seen.Did, Seen.Lost as Seen_Lost, Seen.Start}
 use Rattle.xa_standings.specs.Standings.{Explained, ExplainsIf, MayBeDone, MayBeFound, MayStand, Takes}
 use Rattle.xa_standings.specs.States.{Asked, AskedOrNot, LeadsInto, LeadsOnto, has}

@@ -1,6 +1,6 @@
 -- The branches that a page lists, one after another.
-use Rattle.std.proofs.Common.{◌≡◌, ℕ, zero, suc, ◌+◌, ◌<◌, ◌≤◌, Bool, true, false, ◌||◌, List, [], ◌∷◌, map, length, drop, get_or, Option, Some, None, IsSome, refl, sym, ap, ◌∙◌, subst}
-use Rattle.std.specs.Prelude.{if◌then◌else◌, slice_get}
+use Rattle.std.proofs.Common.{◌≡◌, ℕ, zero, suc, ◌+◌, ◌<◌, ◌≤◌, Bool, true, false, ◌||◌, List, [], ◌∷◌, map, length, drop, get_or, Some, refl, sym, ap, ◌∙◌, subst}
+use Rattle.std.specs.Prelude.{if◌then◌else◌}
 use Rattle.std.specs.BTreeMap.{BTreeMap}
 use Rattle.std.proofs.lemmas.List.{drop_all, drop_more}
 use Rattle.xa_base.proofs.BranchKeys.{branch_eq-refl, branch_eq-true}
@@ -10,7 +10,7 @@ use Rattle.xa_model.specs.Protocol.{Lists}
 use Rattle.xa_model.specs.Replies.History.{name_of}
 use Rattle.xa_model.specs.Trace.{Branch, Name, Name.Foreign, Name.Ours}
 use Rattle.xa_standings.specs.Entries.{HasKept, HasRoom, HaveRoom, listed, listed_by, states_at}
-use Rattle.xa_standings.specs.Rows.{none, page_row}
+use Rattle.xa_standings.specs.Rows.{page_row}
 use Rattle.xa_standings.specs.declared.states.States.{States}
 
 -- the one that comes next stands before the others
