@@ -391,7 +391,11 @@ pub page_stuck : (rm t : ℕ) (states : Branch → States) (xs : List Xid) (b : 
     → (IsListable rm states (Ours b) → ⊥) → (c : Call) → CanExplain states (line t rm) c (Page (map name_of xs)) b → ⊥
 page_stuck rm t states xs b lists never c can =
     let here = can.leads.1 lists in
-    never (here.0, is_some (page_row (states b)) (state_of can.from) (page_into (states b) (page_row (states b)) refl can.from can.from can.among (refl, here.1)))
+    never (
+      here.0,
+      is_some (page_row (states b)) (state_of can.from)
+          (page_into (states b) (page_row (states b)) refl can.from can.from can.among (refl, here.1)),
+    )
 
 pub page_can : (rm t : ℕ) (states : Branch → States) (xs : List Xid) → AreListable rm states xs → (c : Call) (q : Branch) → IsSomewhere states q
     → CanExplain states (line t rm) c (Page (map name_of xs)) q

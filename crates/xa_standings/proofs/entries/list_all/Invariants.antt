@@ -5,4 +5,5 @@ use Rattle.xa_standings.proofs.entries.list_all.Given as goal
 
 abbrev pub invariant-loop-xid : goal.invariant-loop-xid
 invariant-loop-xid l = HaveRoom l.branches (drop l.xid-index l.xids)
-    × ((q : Branch) → listed_by (drop l.xid-index l.xids) q (states_at l.incarnation l.branches q) ≡ listed_by l.xids q (states_at l.incarnation l.fn.branches q))
+    × ((q : Branch) → listed_by (drop l.xid-index l.xids) q (states_at l.incarnation l.branches q)
+    ≡ listed_by l.xids q (states_at l.incarnation l.fn.branches q))
