@@ -3,9 +3,9 @@
 use crate::full::FullRm;
 use crate::play::{NO_FAULT, play_over};
 use std::test::Fail;
-use xa_base::Gtrid;
-use xa_log::{DecisionLog, FailLog, MemLog};
-use xa_system::{NewFault, System};
+use xa_base::{Branch, Call, Gtrid, Step};
+use xa_log::{DecisionLog, FailLog, FailPlan, LogCall, MemLog};
+use xa_system::{NewFault, Remains, ResumeFault, System};
 
 /// The same as in the first incarnation, in the next.
 const SECOND_INCARNATION: &str = "\
@@ -77,5 +77,63 @@ fn refused_logs(rt: HostRuntime) -> Result<(), Fail> {
     let rms = Vec::from_array(alloc, [FullRm::new(alloc, false)])?;
     let made = System::new(alloc, 1, rms, FailLog::new(ahead, NO_FAULT));
     assert!(rt; matches!(made, Err(NewFault::Log)));
+    Ok(())
+}
+
+/// No system is made over a log that fails at the start, and that is told as a fault of the log: where a system is new, and
+/// where it goes on from what another has left.
+#[test]
+fn failing_logs(rt: HostRuntime) -> Result<(), Fail> {
+    let alloc = rt.alloc();
+    for kind in [LogCall::Rows, LogCall::Bump] {
+        let plan = FailPlan::Every { kind };
+        let rms = Vec::from_array(alloc, [FullRm::new(alloc, false)])?;
+        let made = System::new(alloc, 1, rms, FailLog::new(MemLog::new(alloc), plan));
+        assert!(rt; matches!(made, Err(NewFault::Log)));
+        let rms = Vec::from_array(alloc, [FullRm::new(alloc, false)])?;
+        let made = System::resume(alloc, 1, rms, FailLog::new(MemLog::new(alloc), plan));
+        assert!(rt; matches!(made, Err(ResumeFault::Log)));
+    }
+    Ok(())
+}
+
+/// Where a branch was started in the incarnation that the log gives, the log has lost what it had: that is told as Newer, and
+/// neither as a fault of the log nor as want of memory.
+#[test]
+fn newer_branches(rt: HostRuntime) -> Result<(), Fail> {
+    let alloc = rt.alloc();
+    let rms = Vec::from_array(alloc, [FullRm::new(alloc, false)])?;
+    let mut system = System::new(alloc, 1, rms, MemLog::new(alloc))?;
+    let first = Branch {
+        gtrid: FIRST,
+        thread: 0,
+        rm: 0,
+    };
+    let start = Call::Start {
+        xid: first.xid(),
+        join: false,
+    };
+    let steps = [
+        Step::Begin { thread: 0 },
+        Step::Issue {
+            thread: 0,
+            rm: 0,
+            call: Call::OpenRm,
+        },
+        Step::Take { thread: 0, rm: 0 },
+        Step::Hear { thread: 0, rm: 0 },
+        Step::Issue {
+            thread: 0,
+            rm: 0,
+            call: start,
+        },
+        Step::Take { thread: 0, rm: 0 },
+    ];
+    assert!(rt; system.run(&steps) == Ok(()));
+    let Ok(Remains { rms, .. }) = system.into_parts() else {
+        return Err(Fail::from("out of memory"));
+    };
+    let made = System::resume(alloc, 1, rms, MemLog::new(alloc));
+    assert!(rt; matches!(made, Err(ResumeFault::Newer)));
     Ok(())
 }
