@@ -7,6 +7,7 @@ ghost use Rattle.xatm.specs.declared.failure.Failure.TheVariants.{Run};
 use std::alloc::{AllocError, AllocFailed};
 use std::io;
 use std::io::ErrorKind;
+use xa_chart::ChartFault;
 use xa_files::RunFault;
 use xa_listing::run_fault;
 use xa_log::LogFault;
@@ -26,6 +27,8 @@ pub enum Failure {
     Run(RunFault),
     /// The file at this path, one of several, is refused.
     RunAt(RunFault, String),
+    /// The run of the file has more events than a picture shows.
+    TooLong,
 }
 
 impl Failure {
@@ -64,6 +67,7 @@ impl Failure {
             Failure::CommandLine(_) | Failure::Words => 3,
             Failure::NotReadable => 1,
             Failure::NotReadableAt(_) => 1,
+            Failure::TooLong => 2,
             Failure::Run(fault) | Failure::RunAt(fault, _) => fault.status(),
         }
     }
@@ -77,6 +81,7 @@ impl Failure {
             Failure::NotReadableAt(path) => eprintln!(rt; "xatm: scenario: not readable: {path}"),
             Failure::Run(fault) => eprintln!(rt; "{fault}"),
             Failure::RunAt(fault, path) => eprintln!(rt; "{fault}: {path}"),
+            Failure::TooLong => eprintln!(rt; "xatm: chart: more than 200 events"),
         }
     }
 }
@@ -86,6 +91,15 @@ impl From<RunFault> for Failure {
 
     fn from(fault: RunFault) -> Failure {
         Failure::Run(fault)
+    }
+}
+
+impl From<ChartFault> for Failure {
+    fn from(fault: ChartFault) -> Failure {
+        match fault {
+            ChartFault::Run(fault) => Failure::Run(fault),
+            ChartFault::TooLong => Failure::TooLong,
+        }
     }
 }
 

@@ -8,12 +8,14 @@
 mod command;
 mod failure;
 mod stores;
+mod stories;
 
 use crate::command::{Command, command_of, parser};
 use crate::failure::Failure;
 use crate::stores::{
     close_in_files, list_in_files, run_in_files, run_jobs_in_files, run_jobs_over, run_over,
 };
+use crate::stories::{draw, explain};
 use std::io::Write;
 use std::process::ExitCode;
 use std::sync::Wait;
@@ -68,6 +70,8 @@ fn perform<T: Threads + Wait + Clock + Sync>(
             with_trace,
         } => run(rt, files, log, with_trace, &mut out),
         Command::Check { file } => Ok(check_scenario(rt.alloc(), &text_of(rt, file)?, &mut out)?),
+        Command::Explain { file } => explain(rt.alloc(), &text_of(rt, file)?, &mut out),
+        Command::Chart { file } => draw(rt.alloc(), &text_of(rt, file)?, &mut out),
         Command::Threads { file, log } => run_threads(
             rt,
             threads,
@@ -75,7 +79,7 @@ fn perform<T: Threads + Wait + Clock + Sync>(
             log,
             &mut out,
         ),
-        Command::Log { path } => list(rt, path, &mut out),
+        Command::Log { path, explains } => list(rt, path, explains, &mut out),
     }
 }
 
@@ -167,9 +171,14 @@ fn run_threads<T: Threads + Wait + Clock + Sync, W: Write>(
     Ok(())
 }
 
-/// Lists the log at a path. Where there is none it fails: who looks at a log makes none.
-fn list<W: Write>(rt: &HostRuntime, path: &str, out: &mut W) -> Result<(), Failure> {
-    list_in_files(SqlLog::look(rt, path)?, out)
+/// Lists or explains the log at a path. Where there is none it fails: who looks at a log makes none.
+fn list<W: Write>(
+    rt: &HostRuntime,
+    path: &str,
+    explains: bool,
+    out: &mut W,
+) -> Result<(), Failure> {
+    list_in_files(SqlLog::look(rt, path)?, explains, out)
 }
 
 /// Copies the journal of the log at a path into its file, once a run has ended.

@@ -11,7 +11,7 @@ use std::thread::Threads;
 use std::time::Clock;
 use xa_files::RunFault;
 use xa_jobs::run_job_file;
-use xa_listing::list_log;
+use xa_listing::{explain_log, list_log};
 use xa_log::LogFault;
 use xa_scenario::{FileFault, read_scenarios, run_scenarios};
 use xa_sql_log::SqlLog;
@@ -67,17 +67,26 @@ pub(crate) fn run_jobs_in_files<D: Disk + Drop, T: Threads + Wait + Clock + Sync
     run_jobs_over(threads, alloc, text, log, out)
 }
 
-/// Lists a log.
-fn list_over<S: Alter, W: Write>(log: &mut SqlLog<S>, out: &mut W) -> Result<(), RunFault> {
-    list_log(log, out)
+/// Lists a log, or tells what it asks of an operator.
+fn list_over<S: Alter, W: Write>(
+    log: &mut SqlLog<S>,
+    explains: bool,
+    out: &mut W,
+) -> Result<(), RunFault> {
+    if explains {
+        explain_log(log, out)
+    } else {
+        list_log(log, out)
+    }
 }
 
-/// Lists a log in files, and closes it.
+/// Does so over a log in files, and closes it.
 pub(crate) fn list_in_files<D: Disk + Drop, W: Write>(
     mut log: SqlLog<FileStore<D>>,
+    explains: bool,
     out: &mut W,
 ) -> Result<(), Failure> {
-    let listed = list_over(&mut log, out);
+    let listed = list_over(&mut log, explains, out);
     let closed = close_in_files(log);
     listed?;
     closed?;

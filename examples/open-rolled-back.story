@@ -1,0 +1,23 @@
+  1  thread 0 → manager begin a                transaction 1 of incarnation 1
+  2  thread 0 → rm 0    xa_open                waits
+  3  rm 0 → thread 0    xa_open                XA_OK
+  4  thread 0 ← rm 0    xa_open                XA_OK
+  5  thread 0 → rm 0    xa_start a             waits
+  6  rm 0 → thread 0    xa_start a             XA_OK         active
+  7  thread 0 ← rm 0    xa_start a             XA_OK
+  8  thread 0 → rm 0    xa_end a               waits
+  9  rm 0 → thread 0    xa_end a               XA_OK         idle
+ 10  thread 0 ← rm 0    xa_end a               XA_OK
+ 11  thread 0 → rm 0    xa_prepare a           waits
+ 12  rm 0 → thread 0    xa_prepare a           XA_OK         prepared
+ 13  thread 0 ← rm 0    xa_prepare a           XA_OK         votes yes
+ 14  manager → rm 0     xa_recover             waits
+ 15  rm 0 → thread 0    xa_recover             XA_OK         in doubt here: a
+ 16  thread 0 ← rm 0    xa_recover             XA_OK
+ 17  manager → rm 0     resolve-open           1 call        each listed branch: a row means commit, no row rollback
+ 18  manager            claim a                refused 8 Decided: how it ends is settled already: decided, claimed or handed over
+ 19  rm 0 → thread 0    xa_rollback a          XA_OK         rolled back: its transaction has no row in the log
+ 20  thread 0 ← rm 0    xa_rollback a          XA_OK
+
+      a at rm 0        rolled-back
+      No decision to commit a is in the log, and what has no row there is never committed.
