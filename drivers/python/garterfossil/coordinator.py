@@ -3,11 +3,10 @@
 from __future__ import annotations
 
 import collections
-import contextlib
 import subprocess
 import threading
 import time
-from typing import Deque, Iterable, Iterator, List, Optional, Sequence
+from typing import Callable, Deque, Iterable, List, Optional, Sequence
 
 from .calls import Answer, Call
 from .errors import CoordinatorGone, Refused, RequestError, Unexplained
@@ -26,6 +25,8 @@ class Reply:
     def __init__(self, request: str):
         self.request = request
         self.line: Optional[str] = None
+        #: What wakes the thread that waits for it, where another one reads.
+        self.arrival: Optional[threading.Condition] = None
 
 
 class Coordinator:
@@ -39,8 +40,10 @@ class Coordinator:
             command, stdin=subprocess.PIPE, stdout=subprocess.PIPE, stderr=subprocess.PIPE, start_new_session=True
         )
         self._writing = threading.Lock()
-        self._reading = threading.Condition()
+        self._reading = threading.Lock()
+        # Whether a thread reads, and the requests whose threads wait for that one; both under the lock `_reading`.
         self._is_read = False
+        self._asleep: List[Reply] = []
         self._waiting: Deque[Reply] = collections.deque()
         self._ending = threading.Lock()
         self._fault: Optional[str] = None
@@ -136,16 +139,15 @@ class Coordinator:
         with self._writing:
             if self._fault is not None:
                 raise self._gone(self._fault)
-            with self._whole():
-                self._waiting.append(reply)
-                self._process.stdin.write(line)
+            self._waiting.append(reply)
+            self._write(self._process.stdin.write, line)
         return reply
 
     def wait(self, reply: Reply) -> str:
         """The reply to a request that was posted. Raises Refused, RequestError or CoordinatorGone."""
         if reply.line is None:
-            with self._writing, self._whole():
-                self._process.stdin.flush()
+            with self._writing:
+                self._write(self._process.stdin.flush)
             self._read_until(reply)
         kind, _, rest = reply.line.partition(" ")
         if kind == "error":
@@ -158,11 +160,10 @@ class Coordinator:
             raise Refused(int(number), name, reply.request)
         return reply.line
 
-    @contextlib.contextmanager
-    def _whole(self) -> Iterator[None]:
+    def _write(self, write: Callable[..., object], *line: bytes) -> None:
         """Requests are written whole, or the session is over: the replies would no longer fit the requests."""
         try:
-            yield
+            write(*line)
         except (OSError, ValueError) as error:
             raise self._gone(str(error)) from None
         except BaseException:
@@ -170,14 +171,28 @@ class Coordinator:
             raise
 
     def _read_until(self, reply: Reply) -> None:
+        """Waits for a reply: reads, or lets another thread read, which wakes this one."""
         with self._reading:
-            while reply.line is None:
-                if self._fault is not None:
-                    raise self._gone(self._fault)
-                if self._is_read:
-                    self._reading.wait()
-                else:
-                    self._read_one()
+            try:
+                while reply.line is None:
+                    if self._fault is not None:
+                        raise self._gone(self._fault)
+                    if self._is_read:
+                        self._sleep_until(reply)
+                    else:
+                        self._read_one()
+            finally:
+                if self._asleep and not self._is_read:
+                    # Somebody has to read on.
+                    self._asleep[0].arrival.notify()
+
+    def _sleep_until(self, reply: Reply) -> None:
+        reply.arrival = threading.Condition(self._reading)
+        self._asleep.append(reply)
+        try:
+            reply.arrival.wait()
+        finally:
+            self._asleep.remove(reply)
 
     def _read_one(self) -> None:
         """Reads a line, which is the reply to the request that was posted first. Called with the lock `_reading`, which is free
@@ -189,8 +204,10 @@ class Coordinator:
         finally:
             self._reading.acquire()
             self._is_read = False
-            self._reading.notify_all()
-        self._waiting.popleft().line = line
+        first = self._waiting.popleft()
+        first.line = line
+        if first.arrival is not None:
+            first.arrival.notify()
 
     def _read_line(self) -> str:
         try:
@@ -233,4 +250,5 @@ class Coordinator:
         # Whoever still reads finds its end first.
         self._process.stdout.close()
         with self._reading:
-            self._reading.notify_all()
+            for reply in self._asleep:
+                reply.arrival.notify()
