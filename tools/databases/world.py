@@ -17,21 +17,22 @@ ACCOUNTS = 50
 SUM = 2 * ACCOUNTS * 1000
 
 
-def see_modules(kinds):
-    """Sees that the modules are there; of psycopg2 a stand-in will do. Whether that is used."""
-    if MariaDBServer in kinds:
+def see_module(kind):
+    """Sees that the module for a kind of server is there. Of psycopg2 a stand-in will do: then it says so."""
+    if kind is MariaDBServer:
         try:
             import pymysql  # noqa: F401
         except ImportError:
             raise Missing("the module pymysql (of Debian the package python3-pymysql)") from None
+        return "module"
     try:
         import psycopg2  # noqa: F401
     except ImportError:
         import pq
 
         pq.install()
-        return True
-    return False
+        return "stand-in"
+    return "module"
 
 
 class World:
@@ -62,7 +63,8 @@ class World:
         with open(f"{home}/world.json") as it:
             found = json.load(it)
         kinds = {"PostgreSQLServer": PostgreSQLServer, "MariaDBServer": MariaDBServer}
-        see_modules([kinds[name] for name in found["kinds"]])
+        for name in found["kinds"]:
+            see_module(kinds[name])
         world = cls.__new__(cls)
         world.home, world.coordinator = home, found["coordinator"]
         world.servers = [kinds[name].found(home, f"db{number}") for number, name in enumerate(found["kinds"])]
