@@ -1,7 +1,7 @@
 -- The statements on decisions and participants, from their texts to the content of the log.
-use Rattle.std.proofs.Common.{◌≡◌, inl, inr, ℕ, pos, List, [], ◌∷◌, true, None, Ok, IsTrue, refl, sym, ap, subst, ◌∙◌, ◌≤◌, to_z, of_z, w64}
+use Rattle.std.proofs.Common.{◌≡◌, inl, inr, ℕ, pos, ◌==◌, not, Option, unwrap_or, List, [], ◌∷◌, true, None, Ok, IsTrue, refl, sym, ap, subst, ◌∙◌, ◌≤◌, to_z, of_z, w64}
 use Rattle.std.specs.List.{AllByRecursion}
-use Rattle.std.specs.FinMap.{get}
+use Rattle.std.specs.FinMap.{contains_key, get}
 use Rattle.xa_log.specs.KeySet.{KeySet, insert, empty}
 use Rattle.sqlite.specs.declared.types.Value.TheVariants.{Null, Int}
 use Rattle.sqlite.specs.Order.{Row}
@@ -12,7 +12,7 @@ use Rattle.sqlite.specs.Command.TheVariants.{Insert, Delete}
 use Rattle.sqlite.specs.Does.{Tally, Does}
 use Rattle.sqlite.specs.Source.TheVariants.{Values}
 use Rattle.sqlite.specs.Effect.{Database}
-use Rattle.sqlite.specs.State.{State, Executes, CommitsBy}
+use Rattle.sqlite.specs.State.{State, Executes, CommitsBy, Writes}
 use Rattle.sqlite.proofs.Callers.{runs_as, statement_of}
 use Rattle.sqlite.specs.Listing.{understood}
 use Rattle.sqlite_trees.proofs.TreeLemmas.{all-put_row, IsTable-put_row}
@@ -46,6 +46,7 @@ use Rattle.xa_sql_log.specs.Rows.{IsLog, IsDecisionRow, AreHeuristicRows, IsPart
 use Rattle.xa_sql_log.specs.Sql.{HasLogTables}
 use Rattle.xa_sql_log.proofs.Texts.{over, insert_decision, insert_decision_is, insert_decision_plain, delete_decision, delete_decision_is, delete_decision_plain}
 use Rattle.sqlite_rules.specs.Calls.{ids_of}
+use Rattle.xa_sql_log.proofs.DecisionReads.{some_found}
 use Rattle.xa_sql_log.proofs.Deletes.{Takes, takes_decision}
 use Rattle.xa_sql_log.proofs.Inserts.{Puts, puts_decision}
 use Rattle.xa_sql_log.proofs.Contents.{bound_number, gtrid_params, gtrid_tests, all_left, table_left, any_gone, has_gone, has_own}
@@ -124,7 +125,7 @@ has_pairs : (olds : List Row) (move : Row × Row) → Has (pairs olds []) move �
 has_pairs [] move h = absurd h
 has_pairs (old ∷ olds) move h = elim h [ inl same ↦ inl (ap (λ (m : Row × Row). m.0) same) | inr later ↦ inr (has_pairs olds move later) ]
 
-module _ (g : Gtrid) (db after : Database) (is : IsLog db) (takes : Takes gtrid_tests (col 1 0 ∷ []) (gtrid_params g) db after) where
+module _ (g : Gtrid) (db after : Database) (told : Option ℕ) (is : IsLog db) (takes : Takes gtrid_tests (col 1 0 ∷ []) (gtrid_params g) db after told) where
   -- a decision that is taken is one of the transaction
   taken_is : (old : Row) → Has (taken_rows db.trees takes.found) old → IsDecisionRow old × (gtrid_eq g (gtrid_of_row old) ≡ true)
   taken_is old h =
@@ -176,20 +177,35 @@ module _ (g : Gtrid) (db after : Database) (is : IsLog db) (takes : Takes gtrid_
       )
 
 module _ (g : Gtrid) (params : Row) (given : params ≡ gtrid_params g) (old : State) (ready : HasLogTables old) where
+  takes_rows : (text : List ℕ) (tally : Tally) (after : Database) → Does old.step_limit at_once (gtrid_params g) old.now text None delete_command (Ok (tally, after))
+      → Takes gtrid_tests (col 1 0 ∷ []) (gtrid_params g) old.now after tally.rows
+  takes_rows text tally after h = takes_decision old.step_limit (gtrid_params g) gtrid_tests (col 1 0 ∷ []) old.now after text tally ready.now.schema h
+
   delete_makes : (text : List ℕ) (tally : Tally) (after : Database)
       → Does old.step_limit at_once (gtrid_params g) old.now text None delete_command (Ok (tally, after))
       → IsLog after × (content_of after.trees ≡ without_decision g (content_of old.now.trees))
-  delete_makes text tally after h =
-      taken_content g old.now after ready.now
-      (takes_decision old.step_limit (gtrid_params g) gtrid_tests (col 1 0 ∷ []) old.now after text tally ready.now.schema h)
+  delete_makes text tally after h = taken_content g old.now after tally.rows ready.now (takes_rows text tally after h)
+
+  ran_as : (new : State) (count : ℕ) → Executes delete_decision params old new (Ok count)
+      → Writes old new None delete_command delete_text (gtrid_params g) count
+  ran_as new count h =
+      runs_as delete_decision (gtrid_params g) old new log_schema ready.now.schema delete_command delete_decision_is delete_decision_plain count
+      (subst (λ p. Executes delete_decision p old new (Ok count)) given h)
 
   pub deletes : (new : State) (count : ℕ) → Executes delete_decision params old new (Ok count) → Did (without_decision g) old new
   deletes new count h =
-      let w =
-      runs_as delete_decision (gtrid_params g) old new log_schema ready.now.schema delete_command delete_decision_is delete_decision_plain count
-      (subst (λ p. Executes delete_decision p old new (Ok count)) given h) in
+      let w = ran_as new count h in
       let made = delete_makes delete_text w.tally new.now w.changed in
       wrote (without_decision g) old new ready w.shown made.0 made.1
+
+  -- it counts a row just where there was one
+  pub deletes_some : (new : State) (count : ℕ) → Executes delete_decision params old new (Ok count)
+      → not (count == 0) ≡ contains_key (content_of old.now.trees).decisions g
+  deletes_some new count h =
+      let w = ran_as new count h in
+      let takes = takes_rows delete_text w.tally new.now w.changed in
+      ap (λ n. not (n == 0)) (w.counted ∙ ap (λ rows. unwrap_or rows 0) takes.told)
+      ∙ some_found g old.now (col 1 0 ∷ []) takes.found ready.now takes.answer
 
   pub delete_commits : IsTrue old.is_open → (db : Trees) → CommitsBy delete_decision params old db
       → (content_of db ≡ without_decision g (content_of old.now.trees)) × AreLogTrees db

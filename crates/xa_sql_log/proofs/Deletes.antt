@@ -1,6 +1,7 @@
 -- What the DELETE of a decision does, with the participants that go with it.
-use Rattle.std.proofs.Common.{◌≡◌, ℕ, ℤ, List, [], map, None, Option, Ok, true, refl, sym, ap, subst, ◌∙◌}
+use Rattle.std.proofs.Common.{◌≡◌, ℕ, ℤ, List, [], map, length, None, Option, Some, Ok, true, refl, sym, ap, subst, ◌∙◌}
 use Rattle.std.proofs.lemmas.Bool.{eqb-false}
+use Rattle.std.proofs.lemmas.List.{length-map}
 use Rattle.std.specs.List.{list_any}
 use Rattle.std.specs.List.Sorted.{IsPermutation}
 use Rattle.sqlite.specs.declared.types.Value.TheVariants.{Int}
@@ -28,11 +29,12 @@ use Rattle.xa_sql_log.proofs.Cascade.{cascade, cascaded}
 abbrev pub taken_rows : Trees → List Row → List Row
 taken_rows db found = taken_by db (edit_of db decision (ids_of found) Given 0 [])
 
--- The decisions with the rowids that the query answered are gone, and of the participants only children of theirs.
-pub record Takes (tests project : List Term) (params : Row) (db after : Database) : Type 0 where
+-- The decisions with the rowids that the query answered are gone, and counted, and of the participants only children of theirs are gone.
+pub record Takes (tests project : List Term) (params : Row) (db after : Database) (rows_told : Option ℕ) : Type 0 where
   pub schema : after.schema ≡ log_schema
   pub found : List Row
   pub answer : IsPermutation (map (shown project params) (chosen tests params (db.trees 1))) found
+  pub told : rows_told ≡ Some (length found)
   pub rows : after.trees 1 ≡ without_all (db.trees 1) (ids_of found)
   pub ids : List ℤ
   pub sound : (id : ℤ) → Has ids id
@@ -46,12 +48,13 @@ pub record Takes (tests project : List Term) (params : Row) (db after : Database
 pub takes_decision : (limit : Option ℕ) (params : Row) (tests project : List Term) (db after : Database) (text : List ℕ) (tally : Tally)
     → db.schema ≡ log_schema
     → Does limit at_once params db text None (Delete 1 (record { lets = []; body = over 1 tests project })) (Ok (tally, after))
-    → Takes tests project params db after
+    → Takes tests project params db after tally.rows
 takes_decision limit params tests project db after text tally has h =
     let command = Delete 1 (record { lets = []; body = over 1 tests project }) in
     let done = went (subst (λ s. Does limit at_once params (record db { schema = s }) text None command (Ok (tally, after))) has h) in
     let tested = went done.2 in
-    let now = ap (λ (p : Tally × Database). p.1) (same_value (went tested.2).2) in
+    let noted = same_value (went tested.2).2 in
+    let now = ap (λ (p : Tally × Database). p.1) noted in
     let found = went done.1 in
     let written = went found.2 in
     let trees : done.0.trees ≡ written.0 = ap (λ (it : Written). it.trees) (same_value written.2) in
@@ -65,6 +68,8 @@ takes_decision limit params tests project db after text tally has h =
       schema = ap (λ (d : Database). d.schema) now;
       found = found.0;
       answer = plain_rows 1 tests project db.trees params found.0 found.1.answer;
+      told = ap (λ (p : Tally × Database). p.0.rows) noted ∙ ap (λ (it : Written). Some (length it.rows)) (same_value written.2)
+          ∙ ap Some (length-map _ _ ∙ length-map _ _);
       rows = as_after 1 ∙ follows.decisions ∙ applied.rows;
       ids = follows.ids;
       sound = λ id k. let it = follows.sound id k in (it.0, subst (λ rows. Has rows it.0) stay it.1, it.2, it.3);

@@ -3,8 +3,7 @@ use Rattle.std.proofs.Common.{◌≡◌, ◌⊎◌, inl, inr, ℕ, ◌<◌, ◌+
 use Rattle.std.proofs.lemmas.Bool.{cases_Bool, true≢false}
 use Rattle.std.proofs.lemmas.List.{take_more}
 use Rattle.std.specs.List.{AllByRecursion}
-use Rattle.std.specs.FinMap.{get, contains_key, same_map, get-remove}
-use Rattle.std.specs.Ordering.{eq_by_cmp}
+use Rattle.std.specs.FinMap.{get, contains_key}
 use Rattle.xa_log.specs.KeySet.{KeySet, insert, from_list, from_list_push, empty}
 use Rattle.sqlite_trees.proofs.ListLemmas.{all-get_or}
 use Rattle.sqlite.specs.Tree.{Trees}
@@ -15,17 +14,14 @@ use Rattle.sqlite.specs.Steps.{FailsToCommit}
 use Rattle.sqlite.proofs.StateLemmas.{survives_then}
 use Rattle.xa_base.specs.declared.branch.Gtrid.{Gtrid}
 use Rattle.xa_base.specs.declared.branch.Branch.{Branch}
-use Rattle.xa_base.specs.Branch.{gtrid_cmp, branch_cmp}
-use Rattle.xa_base.proofs.BranchOrder.{gtrids_total, exact_gtrids, branches_total, exact_branches}
-use Rattle.xa_log.specs.Content.{Content, with_decision, without_decision, with_commit}
+use Rattle.xa_base.specs.Branch.{branch_cmp}
+use Rattle.xa_base.proofs.BranchOrder.{branches_total, exact_branches}
+use Rattle.xa_log.specs.Content.{Content, with_decision, with_commit}
 use Rattle.xa_log.specs.Contract.{Makes, MayMake}
 use Rattle.xa_sql_log.specs.Rows.{IsLog, content_of}
 use Rattle.xa_sql_log.specs.Sql.{AreLogTrees, HasLogTables, IsOrderly, content_in, OnlyReads, MayChange, HasWritten, MayInsert, IsShutOrAsBefore}
 use Rattle.xa_sql_log.proofs.States.{Did, did_makes, changes_then}
 use Rattle.xa_sql_log.proofs.Lasting.{as_log}
-use Rattle.xa_log.proofs.Alike.{same_content}
-use Rattle.xa_base.proofs.Orders.{equal_is}
-use Rattle.xa_log.proofs.Parts.{no_some}
 
 -- ---- the loop
 
@@ -202,18 +198,3 @@ pub found_one : (x : Gtrid) (set : KeySet branch_cmp) (a b : Option Content)
     → IsSomeAnd a (λ y. (b ≡ Some y) × (true ≡ contains_key y.decisions x)) → Makes (with_commit x set) a b
 found_one x set None b h = h
 found_one x set (Some y) b h = h.0 ∙ ap Some (ap (λ t. cond t y (with_decision x set y)) h.1)
-
--- ---- one fewer
-
-pub without_itself : (g : Gtrid) (c : Content) → contains_key c.decisions g ≡ false → without_decision g c ≡ c
-without_itself g c none =
-    same_content _ _ (same_map gtrids_total exact_gtrids _ _ (λ q. get-remove gtrids_total c.decisions g q ∙ absent q (eq_by_cmp gtrid_cmp q g) refl)) refl refl
-  where
-    absent : (q : Gtrid) (b : Bool) → eq_by_cmp gtrid_cmp q g ≡ b → cond b None (get c.decisions q) ≡ get c.decisions q
-    absent q true same = sym (subst (λ x. get c.decisions x ≡ None) (sym (exact_gtrids q g (equal_is _ same))) (no_some _ (sym none)))
-    absent q false apart = refl
-
-pub found_gone : (g : Gtrid) (old new : Option Content)
-    → IsSomeAnd old (λ c. (new ≡ Some c) × (false ≡ contains_key c.decisions g)) → Makes (without_decision g) old new
-found_gone g None new h = h
-found_gone g (Some c) new h = h.0 ∙ ap Some (sym (without_itself g c (sym h.1)))

@@ -1,5 +1,5 @@
 -- What a statement leaves of a log, whichever it is.
-use Rattle.std.proofs.Common.{◌≡◌, ◌⊎◌, inl, inr, ℕ, List, [], Bool, true, false, cond, Option, Some, None, Result, Ok, Err, IsTrue, IsSomeAnd, OnOk, OnErr, refl, sym, ap, subst, subst₂, ◌∙◌, arith, append-nil}
+use Rattle.std.proofs.Common.{◌≡◌, ◌⊎◌, inl, inr, ℕ, List, [], Bool, true, false, cond, Option, Some, None, Result, Ok, Err, IsTrue, IsSomeAnd, IfOk, OnOk, OnErr, refl, sym, ap, subst, subst₂, ◌∙◌, arith, append-nil}
 use Rattle.std.proofs.lemmas.Bool.{cases_Bool, true≢false}
 use Rattle.sqlite_trees.specs.View.{doubt}
 use Rattle.sqlite_trees.proofs.Doubt.{no_doubt}
@@ -20,7 +20,7 @@ use Rattle.xa_log.specs.Content.{Content}
 use Rattle.xa_log.specs.Contract.{Makes, MayMake}
 use Rattle.xa_sql_log.specs.Tables.{log_schema}
 use Rattle.xa_sql_log.specs.Rows.{IsLog, content_of}
-use Rattle.xa_sql_log.specs.Sql.{AreLogTrees, HasLogTables, IsOrderly, content_in, OnlyReads, MayChange, Rests, RunsFrom, LeavesBy}
+use Rattle.xa_sql_log.specs.Sql.{AreLogTrees, HasLogTables, IsOrderly, content_in, OnlyReads, MayChange, Rests, Changes, RunsFrom, LeavesBy}
 
 pub rests_not_run : (old new : State) (sql : List ℕ) (params : Row) (e : Error) → IsNotRun old new sql params e → Rests old new
 unfolding IsNotRun
@@ -243,7 +243,7 @@ module _ {S : Type 0} (g : Ghosts S) (sql : List ℕ) (params : Row) (change : C
     (commits : (mid : State) → IsUnchanged (state g old) mid → HasLogTables mid → IsTrue mid.is_open → (db : Trees)
     → CommitsBy sql params mid db → (content_of db ≡ change (content_of mid.now.trees)) × AreLogTrees db) where
   pub run_makes : IsOrderly (state g old) → RunsFrom g sql params old new → Did change (state g old) (state g new)
-  run_makes order ran = did_after change _ (state g ran.0) _ ran.1 (makes (state g ran.0) ran.1 (ready_after _ (state g ran.0) ran.1 order) ran.2.0 ran.2.1)
+  run_makes order (rows, ran) = did_after change _ (state g ran.0) _ ran.1 (makes (state g ran.0) ran.1 (ready_after _ (state g ran.0) ran.1 order) rows ran.2)
 
   pub run_ok : {A E : Type 0} (r : Result A E) → IsOrderly (state g old) → OnOk r (RunsFrom g sql params old new)
       → OnOk r (Makes change (content_in (state g old)) (content_in (state g new)))
@@ -287,7 +287,20 @@ module _ {S : Type 0} (g : Ghosts S) (sql : List ℕ) (params : Row) (change : C
     ];
   }
 
+-- a statement that ran changed some number of rows
+pub ran_however_many : {S E : Type 0} (g : Ghosts S) (sql : List ℕ) (params : Row) (old new : Held S) (r : Result ℕ E)
+    → IfOk r (Changes g sql params old new) → OnOk r (RunsFrom g sql params old new)
+ran_however_many g sql params old new (Ok rows) ran = (rows, ran)
+ran_however_many g sql params old new (Err e) ran = tt
+
 -- ---- what a query told of the log
+
+-- what is so of the content that a statement ran on was so before it
+pub held_before : (old mid : State) → IsOrderly old → IsUnchanged old mid → (Q : Content → Type 0) → (HasLogTables mid → Q (content_of mid.now.trees))
+    → IsSomeAnd (content_in old) Q
+held_before old mid order same Q says =
+    let was : old.is_open ≡ true = same.0.was_open in
+    rw was (subst (λ (d : Database). Q (content_of d.trees)) same.0.now_is (says (ready_after old mid same order)))
 
 pub answered : (old mid new : State) → IsOrderly old → IsUnchanged old mid → IsUnchanged mid new → (Q : Content → Type 0)
     → (IsLog mid.now → Q (content_of mid.now.trees))

@@ -87,10 +87,14 @@ abbrev pub Answers : {S : Type 0} → Ghosts S → List ℕ → Row → Held S �
 Answers {S} g sql params old new rows =
     (mid : Held S) × IsUnchanged (state g old) (state g mid) × IsUnchanged (state g mid) (state g new) × Shown sql params (state g mid) (state g new) rows
 
--- the log is open, and the statement ran on it
+-- the log is open, and the statement ran on it and changed so many rows
+abbrev pub Changes : {S : Type 0} → Ghosts S → List ℕ → Row → Held S → Held S → (rows : ℕ) → Type 0
+Changes {S} g sql params old new rows =
+    (mid : Held S) × IsUnchanged (state g old) (state g mid) × Executes sql params (state g mid) (state g new) (Ok rows)
+
+-- the same, however many
 abbrev pub RunsFrom : {S : Type 0} → Ghosts S → List ℕ → Row → Held S → Held S → Type 0
-RunsFrom {S} g sql params old new =
-    (mid : Held S) × IsUnchanged (state g old) (state g mid) × ((count : ℕ) × Executes sql params (state g mid) (state g new) (Ok count))
+RunsFrom g sql params old new = (rows : ℕ) × Changes g sql params old new rows
 
 -- a crash leaves what it might have left before, or what the statement commits
 abbrev pub LeavesBy : {S : Type 0} → Ghosts S → List ℕ → Row → Held S → Held S → Type 0

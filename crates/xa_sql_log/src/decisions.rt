@@ -12,7 +12,7 @@ ghost use Rattle.xa_sql_log.specs.Rows.{IsLog, content_of};
 ghost use Rattle.xa_sql_log.specs.Sql.{IsOrderly, content_in, OnlyReads, MayChange, HasWritten, MayInsert};
 ghost use Rattle.xa_log.specs.declared.log_fault.LogFault.{LogFault};
 
-use crate::statements::{ask, of_store, run, stored};
+use crate::statements::{ask, changed, of_store, stored};
 use sqlite::{Alter, Connection, Transaction, params};
 use xa_base::{Branch, Gtrid};
 use xa_log::{LogFault, Logged};
@@ -34,23 +34,6 @@ pub(crate) fn find_decision<S: Alter>(conn: &mut Connection<S>, g: Gtrid) -> Res
         params![stored(g.incarnation), stored(g.sequence)],
     )?;
     Ok(!rows.is_empty())
-}
-
-/// Takes the row of a transaction away. Its participants go with it.
-fn delete_decision<S: Alter>(conn: &mut Connection<S>, g: Gtrid) -> Result<(), LogFault>
-    requires { FitsRow g }
-    ensures changes { MayChange (without_decision g) (state S.Store conn.old)
-        (state S.Store conn.new) }
-    ensures ok { IsOrderly (state S.Store conn.old) → HasCleanDisk (state S.Store conn.new)
-        → OnOk result (Makes (without_decision g) (content_in (state S.Store conn.old))
-        (content_in (state S.Store conn.new))) }
-    ensures unspent { IfErr result (λ fault. fault ≢ LogFault.Spent) }
-{
-    run(
-        conn,
-        "DELETE FROM decision WHERE inc = ?1 AND seq = ?2",
-        params![stored(g.incarnation), stored(g.sequence)],
-    )
 }
 
 /// Writes the first row of a transaction, its decision.
@@ -213,7 +196,8 @@ pub(crate) fn commit<S: Alter>(
     }
 }
 
-/// Takes a decision away with its participants, and answers whether it was there.
+/// Takes a decision away with its participants, and answers whether it was there. No look comes first: the DELETE
+/// tells how many rows it took.
 pub(crate) fn done<S: Alter>(conn: &mut Connection<S>, g: Gtrid) -> Result<bool, LogFault>
     requires { FitsRow g }
     ensures changes { MayChange (without_decision g) (state S.Store conn.old)
@@ -226,9 +210,10 @@ pub(crate) fn done<S: Alter>(conn: &mut Connection<S>, g: Gtrid) -> Result<bool,
         IsSomeAnd (content_in (state S.Store conn.old)) (λ c. found ≡ contains_key c.decisions g)) }
     ensures unspent { IfErr result (λ fault. fault ≢ LogFault.Spent) }
 {
-    if !find_decision(conn, g)? {
-        return Ok(false);
-    }
-    delete_decision(conn, g)?;
-    Ok(true)
+    let rows = changed(
+        conn,
+        "DELETE FROM decision WHERE inc = ?1 AND seq = ?2",
+        params![stored(g.incarnation), stored(g.sequence)],
+    )?;
+    Ok(rows != 0)
 }

@@ -10,7 +10,7 @@ ghost use Rattle.xa_sql_log.specs.Tables.{log_schema};
 ghost use Rattle.xa_log.specs.Contract.{IsStoreFault};
 ghost use Rattle.xa_log.specs.Content.{last_number};
 ghost use Rattle.xa_sql_log.specs.Faults.{store_fault_of};
-ghost use Rattle.xa_sql_log.specs.Sql.{IsOrderly, OnlyReads, Rests, Answers, RunsFrom, LeavesBy};
+ghost use Rattle.xa_sql_log.specs.Sql.{Changes, IsOrderly, OnlyReads, Rests, Answers, RunsFrom, LeavesBy};
 
 use sqlite::{Alter, Connection, Error, ErrorCode, Row};
 use sqlite_value::value::ValueRef;
@@ -65,6 +65,27 @@ pub(crate) fn ask<S: Alter>(
     Ok(rows)
 }
 
+/// Runs a statement that writes, and answers how many rows it changed.
+pub(crate) fn changed<S: Alter>(
+    conn: &mut Connection<S>,
+    sql: &str,
+    params: &[ValueRef<'_>],
+) -> Result<usize, LogFault>
+    requires { IsPlain (understood log_schema sql.now) }
+    ensures honest { HasCleanDisk (state S.Store conn.new) → HasCleanDisk (state S.Store conn.old) }
+    ensures ran { IsOrderly (state S.Store conn.old) → HasCleanDisk (state S.Store conn.new)
+        → IfOk result (Changes S.Store sql.now (bound params.now) conn.old conn.new) }
+    ensures rests { IsOrderly (state S.Store conn.old) → HasCleanDisk (state S.Store conn.new)
+        → OnErr result (Rests (state S.Store conn.old) (state S.Store conn.new)) }
+    ensures crash { IsOrderly (state S.Store conn.old) → HasCleanDisk (state S.Store conn.new)
+        → LeavesBy S.Store sql.now (bound params.now) conn.old conn.new }
+    ensures cause { IfErr result IsStoreFault }
+{
+    let statement = of_store(conn.prepare(sql))?;
+    let rows = of_store(statement.execute(conn, params))?;
+    Ok(rows)
+}
+
 /// Runs a statement that writes.
 pub(crate) fn run<S: Alter>(
     conn: &mut Connection<S>,
@@ -81,7 +102,6 @@ pub(crate) fn run<S: Alter>(
         → LeavesBy S.Store sql.now (bound params.now) conn.old conn.new }
     ensures cause { IfErr result IsStoreFault }
 {
-    let statement = of_store(conn.prepare(sql))?;
-    of_store(statement.execute(conn, params))?;
+    let _rows = changed(conn, sql, params)?;
     Ok(())
 }

@@ -4,7 +4,7 @@ use Rattle.sqlite.specs.Held.{state}
 use Rattle.sqlite.specs.Values.{bound}
 use Rattle.xa_log.proofs.Parts.{on_err}
 use Rattle.xa_sql_log.proofs.States.{rests_not_run, rests_execute, rests_after}
-use Rattle.xa_sql_log.proofs.statements.run.Goals as goal
+use Rattle.xa_sql_log.proofs.statements.changed.Goals as goal
 
 pub returns-in_err-statement-clause-rests : goal.returns-in_err-statement-clause-rests
 returns-in_err-statement-clause-rests g c order clean =
@@ -14,17 +14,17 @@ returns-in_err-statement-clause-rests g c order clean =
 pub returns-in_err-statement-clause-crash : goal.returns-in_err-statement-clause-crash
 returns-in_err-statement-clause-crash g c order clean db h = elim (c.prepare.ensures.survives.crash clean db h) [ inl was ↦ inl was | inr none ↦ absurd none ]
 
-pub returns-in_err-of_store-clause-rests : goal.returns-in_err-of_store-clause-rests
-returns-in_err-of_store-clause-rests g c order clean =
+pub returns-in_err-rows-clause-rests : goal.returns-in_err-rows-clause-rests
+returns-in_err-rows-clause-rests g c order clean =
     let mid = c.prepare.new.self in
     let new = c.execute.new.conn in
     let early : HasCleanDisk (state g.S.Store mid) = omega (arith, c.execute.ensures.survives.clean) in
     on_err _ _ (rests_after _ (state g.S.Store mid) (state g.S.Store new) (rw c.in_ok-statement.ensures.ok at (c.prepare.ensures.ok early)).1
-    (rests_execute _ (bound c.args.params.now) (state g.S.Store mid) (state g.S.Store new) c.in_err-of_store.ensures.err.1.0
-    (rw c.in_err-of_store.ensures.err.1.1 at (c.execute.ensures.runs clean))))
+    (rests_execute _ (bound c.args.params.now) (state g.S.Store mid) (state g.S.Store new) c.in_err-rows.ensures.err.1.0
+    (rw c.in_err-rows.ensures.err.1.1 at (c.execute.ensures.runs clean))))
 
-pub returns-in_err-of_store-clause-crash : goal.returns-in_err-of_store-clause-crash
-returns-in_err-of_store-clause-crash g c order clean db h =
+pub returns-in_err-rows-clause-crash : goal.returns-in_err-rows-clause-crash
+returns-in_err-rows-clause-crash g c order clean db h =
     let mid = c.prepare.new.self in
     let early : HasCleanDisk (state g.S.Store mid) = omega (arith, c.execute.ensures.survives.clean) in
     let same = rw c.in_ok-statement.ensures.ok at (c.prepare.ensures.ok early) in
@@ -51,9 +51,6 @@ returns-clause-ran g c order clean =
     let same = rw c.in_ok-statement.ensures.ok at (c.prepare.ensures.ok early) in (
       mid,
       same.1,
-      (
-        c.in_ok-of_store.field-0,
-        subst (λ t. Executes t (bound c.args.params.now) (state g.S.Store mid) (state g.S.Store new) (Ok c.in_ok-of_store.field-0)) same.0
-            (rw c.in_ok-of_store.ensures.ok at (c.execute.ensures.runs clean)),
-      ),
+      subst (λ t. Executes t (bound c.args.params.now) (state g.S.Store mid) (state g.S.Store new) (Ok c.in_ok-rows.rows)) same.0
+          (rw c.in_ok-rows.ensures.ok at (c.execute.ensures.runs clean)),
     )
