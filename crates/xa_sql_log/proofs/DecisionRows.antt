@@ -177,7 +177,8 @@ module _ (g : Gtrid) (db after : Database) (told : Option ℕ) (is : IsLog db) (
       )
 
 module _ (g : Gtrid) (params : Row) (given : params ≡ gtrid_params g) (old : State) (ready : HasLogTables old) where
-  takes_rows : (text : List ℕ) (tally : Tally) (after : Database) → Does old.step_limit at_once (gtrid_params g) old.now text None delete_command (Ok (tally, after))
+  takes_rows : (text : List ℕ) (tally : Tally) (after : Database)
+      → Does old.step_limit at_once (gtrid_params g) old.now text None delete_command (Ok (tally, after))
       → Takes gtrid_tests (col 1 0 ∷ []) (gtrid_params g) old.now after tally.rows
   takes_rows text tally after h = takes_decision old.step_limit (gtrid_params g) gtrid_tests (col 1 0 ∷ []) old.now after text tally ready.now.schema h
 

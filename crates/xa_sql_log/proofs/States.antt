@@ -20,7 +20,7 @@ use Rattle.xa_log.specs.Content.{Content}
 use Rattle.xa_log.specs.Contract.{Makes, MayMake}
 use Rattle.xa_sql_log.specs.Tables.{log_schema}
 use Rattle.xa_sql_log.specs.Rows.{IsLog, content_of}
-use Rattle.xa_sql_log.specs.Sql.{AreLogTrees, HasLogTables, IsOrderly, content_in, OnlyReads, MayChange, Rests, Changes, RunsFrom, LeavesBy}
+use Rattle.xa_sql_log.specs.Sql.{AreLogTrees, HasLogTables, IsOrderly, content_in, OnlyReads, MayChange, Rests, RunsChanging, RunsFrom, LeavesBy}
 
 pub rests_not_run : (old new : State) (sql : List ℕ) (params : Row) (e : Error) → IsNotRun old new sql params e → Rests old new
 unfolding IsNotRun
@@ -289,7 +289,7 @@ module _ {S : Type 0} (g : Ghosts S) (sql : List ℕ) (params : Row) (change : C
 
 -- a statement that ran changed some number of rows
 pub ran_however_many : {S E : Type 0} (g : Ghosts S) (sql : List ℕ) (params : Row) (old new : Held S) (r : Result ℕ E)
-    → IfOk r (Changes g sql params old new) → OnOk r (RunsFrom g sql params old new)
+    → IfOk r (RunsChanging g sql params old new) → OnOk r (RunsFrom g sql params old new)
 ran_however_many g sql params old new (Ok rows) ran = (rows, ran)
 ran_however_many g sql params old new (Err e) ran = tt
 

@@ -88,13 +88,13 @@ Answers {S} g sql params old new rows =
     (mid : Held S) × IsUnchanged (state g old) (state g mid) × IsUnchanged (state g mid) (state g new) × Shown sql params (state g mid) (state g new) rows
 
 -- the log is open, and the statement ran on it and changed so many rows
-abbrev pub Changes : {S : Type 0} → Ghosts S → List ℕ → Row → Held S → Held S → (rows : ℕ) → Type 0
-Changes {S} g sql params old new rows =
+abbrev pub RunsChanging : {S : Type 0} → Ghosts S → List ℕ → Row → Held S → Held S → (rows : ℕ) → Type 0
+RunsChanging {S} g sql params old new rows =
     (mid : Held S) × IsUnchanged (state g old) (state g mid) × Executes sql params (state g mid) (state g new) (Ok rows)
 
 -- the same, however many
 abbrev pub RunsFrom : {S : Type 0} → Ghosts S → List ℕ → Row → Held S → Held S → Type 0
-RunsFrom g sql params old new = (rows : ℕ) × Changes g sql params old new rows
+RunsFrom g sql params old new = (rows : ℕ) × RunsChanging g sql params old new rows
 
 -- a crash leaves what it might have left before, or what the statement commits
 abbrev pub LeavesBy : {S : Type 0} → Ghosts S → List ℕ → Row → Held S → Held S → Type 0

@@ -10,7 +10,7 @@ ghost use Rattle.xa_sql_log.specs.Tables.{log_schema};
 ghost use Rattle.xa_log.specs.Contract.{IsStoreFault};
 ghost use Rattle.xa_log.specs.Content.{last_number};
 ghost use Rattle.xa_sql_log.specs.Faults.{store_fault_of};
-ghost use Rattle.xa_sql_log.specs.Sql.{Changes, IsOrderly, OnlyReads, Rests, Answers, RunsFrom, LeavesBy};
+ghost use Rattle.xa_sql_log.specs.Sql.{RunsChanging, IsOrderly, OnlyReads, Rests, Answers, RunsFrom, LeavesBy};
 
 use sqlite::{Alter, Connection, Error, ErrorCode, Row};
 use sqlite_value::value::ValueRef;
@@ -74,7 +74,7 @@ pub(crate) fn changed<S: Alter>(
     requires { IsPlain (understood log_schema sql.now) }
     ensures honest { HasCleanDisk (state S.Store conn.new) → HasCleanDisk (state S.Store conn.old) }
     ensures ran { IsOrderly (state S.Store conn.old) → HasCleanDisk (state S.Store conn.new)
-        → IfOk result (Changes S.Store sql.now (bound params.now) conn.old conn.new) }
+        → IfOk result (RunsChanging S.Store sql.now (bound params.now) conn.old conn.new) }
     ensures rests { IsOrderly (state S.Store conn.old) → HasCleanDisk (state S.Store conn.new)
         → OnErr result (Rests (state S.Store conn.old) (state S.Store conn.new)) }
     ensures crash { IsOrderly (state S.Store conn.old) → HasCleanDisk (state S.Store conn.new)
