@@ -17,7 +17,7 @@ use Rattle.xa_base.specs.Xid.{Xid}
 use Rattle.xa_model.specs.Facts.{fits}
 use Rattle.xa_model.specs.Replies.History.{name_by, name_of}
 use Rattle.xa_model.specs.Trace.{Branch, Line, line_eq, line_of}
-use Rattle.xa_standings.specs.Entries.{HasRoom, listed, off_line_at, states_at, states_before}
+use Rattle.xa_standings.specs.Entries.{HasRoom, HasRoomIf, listed, off_line_at, states_at, states_before}
 use Rattle.xa_standings.specs.Rows.{break_row, found_states, page_row, unstarted_states}
 use Rattle.xa_standings.specs.declared.states.States.{States}
 
@@ -110,6 +110,13 @@ list_at i m n x b s names page h q =
 pub room_at : (m : BTreeMap Branch States) (x : Xid) (b : Branch) → Some b ≡ branch_of_xid x → HasRoom m (name_of x) → IsSome (get branch_cmp m b)
 room_at m x b names room = subst (λ o. HasRoom m (name_by x o)) (sym names) room
 
+pub named_room : (m : BTreeMap Branch States) (x : Xid) (o : Option Branch) → o ≡ branch_of_xid x → HasRoomIf m o → HasRoom m (name_of x)
+named_room m x o names room = subst (λ p. HasRoom m (name_by x p)) names (by o room)
+  where
+    by : (o : Option Branch) → HasRoomIf m o → HasRoom m (name_by x o)
+    by (Some b) has = has
+    by None has = tt
+
 -- ** all of them
 
 -- a name below all of a list isn't among them
@@ -159,6 +166,13 @@ retained T g before f law stays (e ∷ es) kept up r q =
         ∙ sym (ap (λ t. g q (unwrap_or (cond t (Some e.1) (lookup (is_at (branch_cmp q)) es)) (before q))) et)
     by call false false eb et rest =
         rest ∙ sym (ap (λ t. g q (unwrap_or (cond t (Some e.1) (lookup (is_at (branch_cmp q)) es)) (before q))) et)
+
+-- what says no more than before is taken out
+pub dropped_at : {F : Type 0} (T : F → Branch → States → Bool → States → F → Type 0) (i : ℕ) (f : F)
+    → ((k : Branch) (v : States) (b : Bool) (w : States) (f' : F) → T f k v b w f' → (w ≡ v) × (b ≡ false → w ≡ states_before i k) × (f' ≡ f))
+    → (m n : BTreeMap Branch States) → IsOrdered branch_cmp m → RetainsPairs T f m.entries n.entries
+    → (q : Branch) → states_at i n q ≡ states_at i m q
+dropped_at T i f law m n up r q = retained T (λ k v. v) (states_before i) f law (λ k. refl) m.entries n.entries up r q
 
 -- ** a line that breaks
 

@@ -23,7 +23,7 @@ use Rattle.xa_model.specs.Trace.{Answer, Branch, Call, Code, Happening, Line, Na
 use Rattle.xa_standings.proofs.Pages.{is_listed, listed_if, listed_once, lists_if}
 use Rattle.xa_standings.proofs.RowLemmas.{any_there, is_some, none_ended, off_into, off_onto, page_into, page_onto, some_state}
 use Rattle.xa_standings.specs.Entries.{AreListable, IsListable, branch_asked, listed_by, off_line_at, states_before}
-use Rattle.xa_standings.specs.Monitor.{AreStatesBy, CanExplain, IsSomewhere, IsUnexplained, Leads, known}
+use Rattle.xa_standings.specs.Monitor.{AllExplain, AreStatesBy, CanExplain, IsSomewhere, IsUnexplained, Leads, known}
 use Rattle.xa_standings.specs.Rows.{break_row, found_states, page_row, unstarted_states}
 use Rattle.xa_standings.specs.Seen.{Seen, Seen.Answered, Seen.Did, Seen.Lost as Seen_Lost, Seen.Start}
 use Rattle.xa_standings.specs.Standings.{Explained, ExplainsIf, MayBeDone, MayBeFound, MayStand, Takes}
@@ -105,6 +105,27 @@ by_answer o seen l c a before after leads can f = record {
       (g.0, (w.0, w.1, g.1), g.2);
   some = λ b. let x = can b in (state_of x.to, leads.into b x.from x.to x.among x.leads);
 }
+
+-- where the states are the same, what was followed still is, and what explains an answer still does
+pub still_followed : (o : Origin) (seen : Seen) (before after : Branch → States) → ((b : Branch) → after b ≡ before b) → AreStatesBy o seen before
+    → AreStatesBy o seen after
+still_followed o seen before after e f = record {
+  into = λ b g may. ap (λ z. has z (state_of g)) (e b) ∙ f.into b g may;
+  onto = λ b s h. f.onto b s (sym (ap (λ z. has z s) (e b)) ∙ h);
+  some = λ b. let s = f.some b in (s.0, ap (λ z. has z s.0) (e b) ∙ s.1);
+}
+
+pub still_explain : (before after : Branch → States) → ((b : Branch) → after b ≡ before b) → (l : Line) (c : Call) (a : Answer) → AllExplain before l c a
+    → AllExplain after l c a
+still_explain before after e l c a all b some =
+    let x = all b (some.0, sym (ap (λ z. has z some.0) (e b)) ∙ some.1) in
+    record { from = x.from; to = x.to; among = ap (λ z. has z (state_of x.from)) (e b) ∙ x.among; leads = x.leads }
+
+-- an answer that is followed once room was made for it
+pub heard_in_room : (before mid after : Branch → States) → ((b : Branch) → mid b ≡ before b) → (l : Line) (c : Call) (a : Answer) → AllExplain before l c a
+    → (AllExplain mid l c a → (o : Origin) (seen : Seen) → AreStatesBy o seen mid → AreStatesBy o (Answered seen l c a) after)
+    → (o : Origin) (seen : Seen) → AreStatesBy o seen before → AreStatesBy o (Answered seen l c a) after
+heard_in_room before mid after e l c a all follow o seen f = follow (still_explain before mid e l c a all) o seen (still_followed o seen before mid e f)
 
 -- where no state explains the answer, no standing does
 pub no_standing : (o : Origin) (seen : Seen) (l : Line) (c : Call) (a : Answer) (states : Branch → States) (b : Branch)

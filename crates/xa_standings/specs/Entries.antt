@@ -1,10 +1,12 @@
 -- The states of the branches of which something was heard, as a map has them; any other branch is as it was before.
-use Rattle.std.specs.Prelude.{◌≡◌, ◌&&◌, ℕ, nat_lt, true, if◌then◌else◌, unwrap_or, List, [], ◌∷◌, IsSome, Option}
+use Rattle.std.specs.Prelude.{◌≡◌, ◌&&◌, ℕ, nat_lt, true, if◌then◌else◌, unwrap_or, List, [], ◌∷◌, IsSome, Option, Some, None}
 use Rattle.std.specs.Option.{option_and_then}
 use Rattle.std.specs.BTreeMap.{BTreeMap, get}
 use Rattle.xa_base.specs.Branch.{branch_cmp, branch_eq, branch_of_xid}
 use Rattle.xa_base.specs.Call.{xid_in}
 use Rattle.xa_base.specs.Xid.{Xid}
+use Rattle.xa_base.specs.declared.answer.Answer.{Answer}
+use Rattle.xa_base.specs.declared.answer.Answer.TheVariants.{Page, Ret}
 use Rattle.xa_base.specs.declared.call.Call.{Call}
 use Rattle.xa_model.specs.Facts.{fits}
 use Rattle.xa_model.specs.Replies.History.{name_of}
@@ -42,9 +44,13 @@ abbrev pub AreListable : (rm : ℕ) → (Branch → States) → List Xid → Typ
 AreListable rm states [] = Unit
 AreListable rm states (x ∷ xs) = IsListable rm states (name_of x) × AreListable rm states xs
 
--- there is an entry for the branch, if the name is one
+-- there is an entry for the branch
+abbrev pub HasEntry : BTreeMap Branch States → Branch → Type 0
+HasEntry m b = IsSome (get branch_cmp m b)
+
+-- there is one, if the name is a branch
 abbrev pub HasRoom : BTreeMap Branch States → Name → Type 0
-HasRoom m (Ours b) = IsSome (get branch_cmp m b)
+HasRoom m (Ours b) = HasEntry m b
 HasRoom m (Foreign x) = Unit
 
 abbrev pub HaveRoom : BTreeMap Branch States → List Xid → Type 0
@@ -53,7 +59,17 @@ HaveRoom m (x ∷ xs) = HasRoom m (name_of x) × HaveRoom m xs
 
 -- what there was an entry for, there still is
 abbrev pub HasKept : (old new : BTreeMap Branch States) → Type 0
-HasKept old new = (q : Branch) → IsSome (get branch_cmp old q) → IsSome (get branch_cmp new q)
+HasKept old new = (q : Branch) → HasEntry old q → HasEntry new q
+
+-- there is an entry for the branch that a call names, if it names one
+abbrev pub HasRoomIf : BTreeMap Branch States → Option Branch → Type 0
+HasRoomIf m (Some b) = HasEntry m b
+HasRoomIf m None = Unit
+
+-- there is an entry for each branch that such an answer to the call is of
+abbrev pub HasRoomFor : BTreeMap Branch States → Call Xid → Answer Xid → Type 0
+HasRoomFor m call (Ret code) = HasRoomIf m (branch_asked call)
+HasRoomFor m call (Page xids) = HaveRoom m xids
 
 -- the states of a branch once a page listed the name, and these
 abbrev pub listed : Name → Branch → States → States

@@ -9,7 +9,7 @@ use Rattle.xa_model.specs.Replies.History.{name_of}
 use Rattle.xa_model.specs.Replies.Steps.{accepted}
 use Rattle.xa_model.specs.Trace.{Answer, Branch, Call, Line, Origin}
 use Rattle.xa_standings.specs.Entries.{states_at}
-use Rattle.xa_standings.specs.Seen.{Seen}
+use Rattle.xa_standings.specs.Seen.{Seen, Seen.Answered, Seen.Lost}
 use Rattle.xa_standings.specs.Standings.{Explained, MayStand}
 use Rattle.xa_standings.specs.States.{LeadsInto, LeadsOnto, has}
 use Rattle.xa_standings.specs.declared.monitor.Monitor.{Monitor}
@@ -20,6 +20,10 @@ use Rattle.xa_standings.specs.declared.states.States.{States}
 -- the states in which it says that a branch may be
 abbrev pub states_of : Monitor → Branch → States
 states_of m b = states_at m.incarnation m.branches b
+
+-- two say the same of each branch
+abbrev pub SaysTheSame : (old new : Monitor) → Type 0
+SaysTheSame old new = (b : Branch) → states_of new b ≡ states_of old b
 
 -- the branch is in some state
 abbrev pub IsSomewhere : (Branch → States) → Branch → Type 0
@@ -34,6 +38,14 @@ pub record AreStatesBy (o : Origin) (seen : Seen) (states : Branch → States) :
 -- the monitor has followed what was seen
 abbrev pub Monitors : Origin → Seen → Monitor → Type 0
 Monitors o seen m = AreStatesBy o seen (states_of m)
+
+-- what the first has followed, the second has, and this answer more
+abbrev pub Hears : Line → Call → Answer → (old new : Monitor) → Type 0
+Hears l c a old new = (o : Origin) (seen : Seen) → Monitors o seen old → Monitors o (Answered seen l c a) new
+
+-- the same, and the loss of this line more, with the call that waited first on it
+abbrev pub Loses : Line → Option Call → (old new : Monitor) → Type 0
+Loses l c old new = (o : Origin) (seen : Seen) → Monitors o seen old → Monitors o (Lost seen l c) new
 
 -- ** what it is told
 
@@ -57,6 +69,10 @@ pub record CanExplain (states : Branch → States) (l : Line) (c : Call) (a : An
 -- by what was seen the branch can stand nowhere
 abbrev pub IsUnexplained : Origin → Seen → Branch → Type 0
 IsUnexplained o seen b = (f : Standing) → MayStand o seen b f → ⊥
+
+-- each branch that is in some state explains the answer
+abbrev pub AllExplain : (Branch → States) → Line → Call → Answer → Type 0
+AllExplain states l c a = (b : Branch) → IsSomewhere states b → CanExplain states l c a b
 
 -- ** steps
 

@@ -1,11 +1,11 @@
 //! The states of the branches of which something was heard, in a map. Any other branch is as it was before.
 
-ghost use Rattle.std.specs.Prelude.{◌≡◌, map, false, if◌then◌else◌, None, IfSome, OnOk, OnErr};
+ghost use Rattle.std.specs.Prelude.{◌≡◌, map, false, if◌then◌else◌, None, IfSome, OnOk};
 ghost use Rattle.xa_base.specs.Branch.{branch_eq};
 ghost use Rattle.xa_model.specs.Protocol.{Lists};
 ghost use Rattle.xa_model.specs.Replies.History.{name_of};
 ghost use Rattle.xa_model.specs.Trace.{Name.Ours, line};
-ghost use Rattle.xa_standings.specs.Entries.{AreListable, HasKept, HasRoom, HaveRoom, IsListable, listed, listed_by, off_line_at, states_at, states_before};
+ghost use Rattle.xa_standings.specs.Entries.{AreListable, HasEntry, HasKept, HasRoom, HaveRoom, IsListable, listed, listed_by, off_line_at, states_at, states_before};
 
 use crate::States;
 use std::collections::BTreeMap;
@@ -39,25 +39,22 @@ pub(crate) fn states_at(branches: &BTreeMap<Branch, States>, incarnation: u64, b
     }
 }
 
-/// Puts the states of a branch.
+/// Puts the states of a branch that has an entry. One that is as before anything was heard of it has none then.
 pub(crate) fn put(
     branches: &mut BTreeMap<Branch, States>,
     incarnation: u64,
     b: Branch,
     states: States,
-) -> Result<(), Memory>
-    ensures ok { OnOk result ((q : _) → states_at incarnation branches.new q ≡
-        (if branch_eq b q then states else states_at incarnation branches.old q)) }
-    ensures err { OnErr result ((q : _) → states_at incarnation branches.new q
-        ≡ states_at incarnation branches.old q) }
+)
+    requires { HasEntry branches.old b }
+    ensures { (q : _) → states_at incarnation branches.new q ≡
+        (if branch_eq b q then states else states_at incarnation branches.old q) }
 {
-    if !differs_from_before(incarnation, b, states) {
+    if differs_from_before(incarnation, b, states) {
+        let done: Result<_, _> = branches.insert(b, states);
+        done.unwrap();
+    } else {
         branches.remove(&b);
-        return Ok(());
-    }
-    match branches.insert(b, states) {
-        Ok(_) => Ok(()),
-        Err(_) => Err(Memory),
     }
 }
 
@@ -128,20 +125,25 @@ pub(crate) fn first_unlistable(
     None
 }
 
-/// Makes room for the branch that an identifier names.
-fn reserve(
+/// Takes the entries away that say no more than what was known before anything was heard.
+pub(crate) fn drop_room(branches: &mut BTreeMap<Branch, States>, incarnation: u64)
+    ensures { (q : _) → states_at incarnation branches.new q
+        ≡ states_at incarnation branches.old q }
+{
+    branches.retain(|b, states| differs_from_before(incarnation, *b, *states));
+}
+
+/// Makes room for a branch.
+pub(crate) fn reserve(
     branches: &mut BTreeMap<Branch, States>,
     incarnation: u64,
-    xid: &Xid,
+    b: Branch,
 ) -> Result<(), Memory>
     ensures same { (q : _) → states_at incarnation branches.new q
         ≡ states_at incarnation branches.old q }
-    ensures room { OnOk result (HasRoom branches.new (name_of xid.now)) }
+    ensures room { OnOk result (HasEntry branches.new b) }
     ensures kept { HasKept branches.old branches.new }
 {
-    let Some(b) = xid.branch() else {
-        return Ok(());
-    };
     if branches.contains_key(&b) {
         return Ok(());
     }
@@ -151,8 +153,25 @@ fn reserve(
     }
 }
 
+/// Makes room for the branch that an identifier names.
+fn reserve_named(
+    branches: &mut BTreeMap<Branch, States>,
+    incarnation: u64,
+    xid: &Xid,
+) -> Result<(), Memory>
+    ensures same { (q : _) → states_at incarnation branches.new q
+        ≡ states_at incarnation branches.old q }
+    ensures room { OnOk result (HasRoom branches.new (name_of xid.now)) }
+    ensures kept { HasKept branches.old branches.new }
+{
+    match xid.branch() {
+        Some(b) => reserve(branches, incarnation, b),
+        None => Ok(()),
+    }
+}
+
 /// Makes room for the branches that a page lists.
-fn reserve_all(
+pub(crate) fn reserve_all(
     branches: &mut BTreeMap<Branch, States>,
     incarnation: u64,
     xids: &[Xid],
@@ -162,7 +181,7 @@ fn reserve_all(
     ensures room { OnOk result (HaveRoom branches.new xids.now) }
 {
     for xid in xids {
-        reserve(branches, incarnation, xid)?;
+        reserve_named(branches, incarnation, xid)?;
     }
     Ok(())
 }
@@ -182,8 +201,8 @@ fn list(branches: &mut BTreeMap<Branch, States>, incarnation: u64, xid: &Xid)
     done.unwrap();
 }
 
-/// A page lists these.
-fn list_all(branches: &mut BTreeMap<Branch, States>, incarnation: u64, xids: &[Xid])
+/// A page lists these: their branches are in doubt.
+pub(crate) fn list_all(branches: &mut BTreeMap<Branch, States>, incarnation: u64, xids: &[Xid])
     requires { HaveRoom branches.old xids.now }
     ensures { (q : _) → states_at incarnation branches.new q
         ≡ listed_by xids.now q (states_at incarnation branches.old q) }
@@ -191,20 +210,4 @@ fn list_all(branches: &mut BTreeMap<Branch, States>, incarnation: u64, xids: &[X
     for xid in xids {
         list(branches, incarnation, xid);
     }
-}
-
-/// A page lists these: their branches are in doubt. All room is made before any states change.
-pub(crate) fn hear_page(
-    branches: &mut BTreeMap<Branch, States>,
-    incarnation: u64,
-    xids: &[Xid],
-) -> Result<(), Memory>
-    ensures ok { OnOk result ((q : _) → states_at incarnation branches.new q
-        ≡ listed_by xids.now q (states_at incarnation branches.old q)) }
-    ensures err { OnErr result ((q : _) → states_at incarnation branches.new q
-        ≡ states_at incarnation branches.old q) }
-{
-    reserve_all(branches, incarnation, xids)?;
-    list_all(branches, incarnation, xids);
-    Ok(())
 }

@@ -7,13 +7,15 @@ ghost use Rattle.xa_base.specs.StateTable.{asks_of};
 ghost use Rattle.xa_base.specs.declared.answer.Answer.TheVariants.{Ret};
 ghost use Rattle.xa_model.specs.Replies.History.{name_of};
 ghost use Rattle.xa_model.specs.Trace.{Branch as Named, Call as KnownCall, Happening, Line, Origin, line};
-ghost use Rattle.xa_standings.specs.Entries.{branch_asked};
+ghost use Rattle.xa_standings.specs.Entries.{HasRoomFor, HasRoomIf, branch_asked};
 ghost use Rattle.xa_standings.specs.Explained.{IsExplained, IsOldLog};
 ghost use Rattle.xa_standings.specs.Seen.{KeepsRules, Seen};
 ghost use Rattle.xa_standings.specs.Standings.{Explained, MayBeDone, Takes};
 
 use crate::States;
-use crate::entries::{break_line, first_unlistable, hear_page, put, states_at};
+use crate::entries::{
+    break_line, drop_room, first_unlistable, list_all, put, reserve, reserve_all, states_at,
+};
 use std::alloc::Global;
 use std::collections::BTreeMap;
 use xa_base::{Answer, Branch, Call, Code, Memory};
@@ -41,7 +43,7 @@ pub struct Monitor {
 }
 
 impl Monitor {
-    ghost use Rattle.xa_standings.specs.Monitor.{CanExplain, IsSomewhere, IsUnexplained, Leads, Monitors, known, known_if, states_of};
+    ghost use Rattle.xa_standings.specs.Monitor.{AllExplain, CanExplain, Hears, IsSomewhere, IsUnexplained, Leads, Loses, Monitors, SaysTheSame, known, known_if, states_of};
     ghost use Rattle.xa_standings.specs.declared.monitor.HearFault.TheVariants.{Unexplained};
 
     /// Nothing was heard yet in this incarnation of the manager: a branch of an older one is in `States::found()`, any
@@ -73,8 +75,7 @@ impl Monitor {
         ensures some { IfSome result (λ b. (t : ℕ) (c : KnownCall) → known call.now ≡ Some c →
             CanExplain (states_of self.now) (line t rm) c (map_answer name_of answer.now) b → ⊥) }
         ensures none { result ≡ None → (t : ℕ) (c : KnownCall) → known call.now ≡ Some c →
-            (b : Named) → IsSomewhere (states_of self.now) b →
-            CanExplain (states_of self.now) (line t rm) c (map_answer name_of answer.now) b }
+            AllExplain (states_of self.now) (line t rm) c (map_answer name_of answer.now) }
     {
         match answer {
             Answer::Ret(code) => self.unexplained_by_code(call, *code),
@@ -87,26 +88,62 @@ impl Monitor {
         }
     }
 
-    /// A resource manager answered the call so, to any thread.
+    /// Makes room for such an answer to the call, so that [`Monitor::follow`] asks for no memory. What is known of the
+    /// branches stays, and so does the memory that is kept, where some was refused.
+    pub fn make_room(&mut self, call: &Call, answer: &Answer) -> Result<(), Memory>
+        ensures room { OnOk result (HasRoomFor self.new.branches call.now answer.now) }
+        ensures same { SaysTheSame self.old self.new }
+    {
+        match self.reserve(call, answer) {
+            Ok(()) => Ok(()),
+            Err(Memory) => {
+                self.drop_room();
+                Err(Memory)
+            }
+        }
+    }
+
+    /// Gives the room back that was made for an answer which then wasn't followed.
+    pub fn drop_room(&mut self)
+        ensures { SaysTheSame self.old self.new }
+    {
+        drop_room(&mut self.branches, self.incarnation);
+    }
+
+    /// A resource manager answered the call so, to any thread; for which there is room.
+    ///
+    /// If each branch explains the answer (`none` of [`Monitor::unexplained`]), the monitor has followed it.
+    pub fn follow(&mut self, call: &Call, answer: &Answer)
+        requires { HasRoomFor self.old.branches call.now answer.now }
+        ensures { (l : Line) (c : KnownCall) → known call.now ≡ Some c →
+            AllExplain (states_of self.old) l c (map_answer name_of answer.now) →
+            Hears l c (map_answer name_of answer.now) self.old self.new }
+    {
+        self.narrow(call, answer);
+    }
+
+    /// The same all at once: a resource manager answered the call so, to any thread.
     ///
     /// - `ok`: the monitor has followed the answer;
     /// - `unexplained`: no standing of the branch explains it, by all that was seen;
     /// - `same`: what isn't heard has changed no states.
     pub fn hear(&mut self, rm: u32, call: &Call, answer: &Answer) -> Result<(), HearFault>
-        ensures ok { OnOk result ((o : Origin) (seen : Seen) (t : ℕ) (c : KnownCall) →
-            known call.now ≡ Some c → Monitors o seen self.old →
-            Monitors o (Seen.Answered seen (line t rm) c (map_answer name_of answer.now)) self.new) }
+        ensures ok { OnOk result ((t : ℕ) (c : KnownCall) → known call.now ≡ Some c →
+            Hears (line t rm) c (map_answer name_of answer.now) self.old self.new) }
         ensures unexplained { (b : Named) → result ≡ Err (Unexplained b) →
             (o : Origin) (seen : Seen) (t : ℕ) (c : KnownCall) →
             known call.now ≡ Some c → Monitors o seen self.old →
             IsUnexplained o (Seen.Answered seen (line t rm) c (map_answer name_of answer.now)) b }
-        ensures same { OnErr result ((b : Named) → states_of self.new b ≡ states_of self.old b) }
+        ensures same { OnErr result (SaysTheSame self.old self.new) }
     {
         if let Some(b) = self.unexplained(rm, call, answer) {
             return Err(HearFault::Unexplained(b));
         }
-        match self.narrow(call, answer) {
-            Ok(()) => Ok(()),
+        match self.make_room(call, answer) {
+            Ok(()) => {
+                self.follow(call, answer);
+                Ok(())
+            }
             Err(Memory) => Err(HearFault::Memory),
         }
     }
@@ -116,9 +153,9 @@ impl Monitor {
     ///
     /// Where memory was refused, no states have changed.
     pub fn lose_line(&mut self, thread: u32, rm: u32, call: Option<&Call>) -> Result<(), Memory>
-        ensures ok { OnOk result ((o : Origin) (seen : Seen) → Monitors o seen self.old →
-            Monitors o (Seen.Lost seen (line thread rm) (known_if (option_copied call.entry))) self.new) }
-        ensures same { OnErr result ((b : Named) → states_of self.new b ≡ states_of self.old b) }
+        ensures ok { OnOk result (Loses (line thread rm) (known_if (option_copied call.entry))
+            self.old self.new) }
+        ensures same { OnErr result (SaysTheSame self.old self.new) }
     {
         self.doubt_first(call)?;
         break_line(&mut self.branches, self.incarnation, thread, rm);
@@ -141,8 +178,7 @@ impl Monitor {
         ensures some { IfSome result (λ b. (l : Line) (c : KnownCall) → known call.now ≡ Some c →
             CanExplain (states_of self.now) l c (Ret code) b → ⊥) }
         ensures none { result ≡ None → (l : Line) (c : KnownCall) → known call.now ≡ Some c →
-            (b : Named) → IsSomewhere (states_of self.now) b →
-            CanExplain (states_of self.now) l c (Ret code) b }
+            AllExplain (states_of self.now) l c (Ret code) }
     {
         let b = branch_of(call)?;
         if self.states(b).after(call, code).is_empty() {
@@ -152,32 +188,51 @@ impl Monitor {
         }
     }
 
+    /// Makes room for such an answer to the call.
+    fn reserve(&mut self, call: &Call, answer: &Answer) -> Result<(), Memory>
+        ensures room { OnOk result (HasRoomFor self.new.branches call.now answer.now) }
+        ensures same { SaysTheSame self.old self.new }
+    {
+        match answer {
+            Answer::Ret(_) => self.reserve_for(call),
+            Answer::Page(page) => { reserve_all(&mut self.branches, self.incarnation, page.xids()) }
+        }
+    }
+
+    /// Makes room for the branch that a call is on.
+    fn reserve_for(&mut self, call: &Call) -> Result<(), Memory>
+        ensures room { OnOk result (HasRoomIf self.new.branches (branch_asked call.now)) }
+        ensures same { SaysTheSame self.old self.new }
+    {
+        match branch_of(call) {
+            Some(b) => reserve(&mut self.branches, self.incarnation, b),
+            None => Ok(()),
+        }
+    }
+
     /// Leaves the states to which an answer leads that some state of each branch explains.
-    fn narrow(&mut self, call: &Call, answer: &Answer) -> Result<(), Memory>
-        ensures ok { OnOk result ((l : Line) (c : KnownCall) → known call.now ≡ Some c →
+    fn narrow(&mut self, call: &Call, answer: &Answer)
+        requires { HasRoomFor self.old.branches call.now answer.now }
+        ensures { (l : Line) (c : KnownCall) → known call.now ≡ Some c →
             ((b : Named) → CanExplain (states_of self.old) l c (map_answer name_of answer.now) b) →
             Leads (states_of self.old) (Explained l c (map_answer name_of answer.now))
-            (states_of self.new)) }
-        ensures err { OnErr result ((b : Named) → states_of self.new b ≡ states_of self.old b) }
+            (states_of self.new) }
     {
         match answer {
             Answer::Ret(code) => self.hear_code(call, *code),
-            Answer::Page(page) => hear_page(&mut self.branches, self.incarnation, page.xids()),
+            Answer::Page(page) => list_all(&mut self.branches, self.incarnation, page.xids()),
         }
     }
 
     /// The call was answered by a code.
-    fn hear_code(&mut self, call: &Call, code: Code) -> Result<(), Memory>
-        ensures ok { OnOk result ((c : KnownCall) → known call.now ≡ Some c →
-            Leads (states_of self.old) (Takes (asks_of c) code) (states_of self.new)) }
-        ensures err { OnErr result ((b : Named) → states_of self.new b ≡ states_of self.old b) }
+    fn hear_code(&mut self, call: &Call, code: Code)
+        requires { HasRoomIf self.old.branches (branch_asked call.now) }
+        ensures { (c : KnownCall) → known call.now ≡ Some c →
+            Leads (states_of self.old) (Takes (asks_of c) code) (states_of self.new) }
     {
-        match branch_of(call) {
-            Some(b) => {
-                let states = self.states(b).after(call, code);
-                put(&mut self.branches, self.incarnation, b, states)
-            }
-            None => Ok(()),
+        if let Some(b) = branch_of(call) {
+            let states = self.states(b).after(call, code);
+            put(&mut self.branches, self.incarnation, b, states);
         }
     }
 
@@ -185,7 +240,7 @@ impl Monitor {
     fn doubt_first(&mut self, call: Option<&Call>) -> Result<(), Memory>
         ensures ok { OnOk result (Leads (states_of self.old)
             (MayBeDone (known_if (option_copied call.entry))) (states_of self.new)) }
-        ensures err { OnErr result ((b : Named) → states_of self.new b ≡ states_of self.old b) }
+        ensures err { OnErr result (SaysTheSame self.old self.new) }
     {
         match call {
             Some(call) => self.doubt(call),
@@ -197,15 +252,14 @@ impl Monitor {
     fn doubt(&mut self, call: &Call) -> Result<(), Memory>
         ensures ok { OnOk result
             (Leads (states_of self.old) (MayBeDone (known call.now)) (states_of self.new)) }
-        ensures err { OnErr result ((b : Named) → states_of self.new b ≡ states_of self.old b) }
+        ensures err { OnErr result (SaysTheSame self.old self.new) }
     {
-        match branch_of(call) {
-            Some(b) => {
-                let states = self.states(b).or_done(call);
-                put(&mut self.branches, self.incarnation, b, states)
-            }
-            None => Ok(()),
+        self.reserve_for(call)?;
+        if let Some(b) = branch_of(call) {
+            let states = self.states(b).or_done(call);
+            put(&mut self.branches, self.incarnation, b, states);
         }
+        Ok(())
     }
 }
 

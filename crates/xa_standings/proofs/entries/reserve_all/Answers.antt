@@ -7,8 +7,9 @@ loop-xid-preserved c =
     let xs = c.args.xids.now in
     let i = c.loop-xid.xid-index in
     let low : i < length xs = omega arith in (
-      λ q. c.reserve.ensures.same q ∙ c.loop-xid.invariant.0 q,
-      room_more xs i c.xid-item.result c.loop-xid.branches c.reserve.new.branches low c.xid-item.is c.reserve.ensures.kept c.in_ok-reserve.ensures.room
+      λ q. c.reserve_named.ensures.same q ∙ c.loop-xid.invariant.0 q,
+      room_more xs i c.xid-item.result c.loop-xid.branches c.reserve_named.new.branches low c.xid-item.is c.reserve_named.ensures.kept
+          c.in_ok-reserve_named.ensures.room
           c.loop-xid.invariant.1,
     )
 

@@ -1,5 +1,6 @@
-use Rattle.std.proofs.Common.{refl, sym, subst}
-use Rattle.std.proofs.lemmas.Result.{on_ok_weaker}
+use Rattle.std.proofs.Common.{◌∙◌, ap, sym, subst}
+use Rattle.std.specs.Prelude.{if◌then◌else◌}
+use Rattle.xa_base.specs.Branch.{branch_eq}
 use Rattle.xa_base.specs.StateTable.{asks_of}
 use Rattle.xa_standings.proofs.Following.{doubt_leads, no_doubt_leads}
 use Rattle.xa_standings.specs.Entries.{states_at}
@@ -8,13 +9,17 @@ use Rattle.xa_standings.specs.States.{AskedOrNot, LeadsInto, LeadsOnto}
 use Rattle.xa_standings.proofs.monitor.Monitor.doubt.Goals as goal
 
 pub returns-in-Some-clause-ok : goal.returns-in-Some-clause-ok
-returns-in-Some-clause-ok c = on_ok_weaker c.put.result (λ at.
-    doubt_leads c.args.call.now c.in-Some.b (states_of c.args.self.now) (states_at c.args.self.now.incarnation c.put.new.branches)
+returns-in-Some-clause-ok c =
+    let b = c.in-Some.b in
+    let same = c.reserve_for.ensures.same in
+    let was = c.states.ensures ∙ same b in
+    doubt_leads c.args.call.now b (states_of c.args.self.now) (states_at c.reserve_for.new.self.incarnation c.put.new.branches)
     c.or_done-states.result (sym c.in-Some.ensures)
-    (subst (λ z. LeadsInto z (AskedOrNot (asks_of c.args.call.now)) c.or_done-states.result) c.states.ensures c.or_done-states.ensures.into)
-    (subst (λ z. LeadsOnto z (AskedOrNot (asks_of c.args.call.now)) c.or_done-states.result) c.states.ensures c.or_done-states.ensures.onto)
-    at) c.put.ensures.ok
+    (subst (λ z. LeadsInto z (AskedOrNot (asks_of c.args.call.now)) c.or_done-states.result) was c.or_done-states.ensures.into)
+    (subst (λ z. LeadsOnto z (AskedOrNot (asks_of c.args.call.now)) c.or_done-states.result) was c.or_done-states.ensures.onto)
+    (λ q. c.put.ensures q ∙ ap (λ z. if branch_eq b q then c.or_done-states.result else z) (same q))
 
-pub returns-in-None-clause-ok : goal.returns-in-None-clause-ok
-returns-in-None-clause-ok c =
-    no_doubt_leads c.args.call.now (states_of c.args.self.now) (states_of c.args.self.now) (sym c.in-None.ensures) (λ q. refl)
+pub returns-in_default-clause-ok : goal.returns-in_default-clause-ok
+returns-in_default-clause-ok c =
+    no_doubt_leads c.args.call.now (states_of c.args.self.now) (states_of c.reserve_for.new.self) (sym c.branch_of.ensures ∙ c.in_default.is)
+    c.reserve_for.ensures.same

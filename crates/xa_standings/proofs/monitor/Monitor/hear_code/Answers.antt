@@ -1,5 +1,4 @@
-use Rattle.std.proofs.Common.{refl, sym, subst}
-use Rattle.std.proofs.lemmas.Result.{on_ok_weaker}
+use Rattle.std.proofs.Common.{◌∙◌, refl, sym, subst}
 use Rattle.xa_base.specs.StateTable.{asks_of}
 use Rattle.xa_standings.proofs.Following.{code_leads, no_code_leads}
 use Rattle.xa_standings.specs.Entries.{states_at}
@@ -7,14 +6,15 @@ use Rattle.xa_standings.specs.Monitor.{states_of}
 use Rattle.xa_standings.specs.States.{Asked, LeadsInto, LeadsOnto}
 use Rattle.xa_standings.proofs.monitor.Monitor.hear_code.Goals as goal
 
-pub returns-in-Some-clause-ok : goal.returns-in-Some-clause-ok
-returns-in-Some-clause-ok c = on_ok_weaker c.put.result (λ at d is.
+pub returns-in-Some : goal.returns-in-Some
+returns-in-Some c = λ d is.
     code_leads c.args.call.now c.in-Some.b c.args.code (states_of c.args.self.now) (states_at c.args.self.now.incarnation c.put.new.branches)
     c.after-states.result (sym c.in-Some.ensures)
     (subst (λ z. LeadsInto z (Asked (asks_of c.args.call.now) c.args.code) c.after-states.result) c.states.ensures c.after-states.ensures.into)
     (subst (λ z. LeadsOnto z (Asked (asks_of c.args.call.now) c.args.code) c.after-states.result) c.states.ensures c.after-states.ensures.onto)
-    at d is) c.put.ensures.ok
+    c.put.ensures d is
 
-pub returns-in-None-clause-ok : goal.returns-in-None-clause-ok
-returns-in-None-clause-ok c = λ d is.
-    no_code_leads c.args.call.now c.args.code (states_of c.args.self.now) (states_of c.args.self.now) (sym c.in-None.ensures) (λ q. refl) d is
+pub returns-in_default : goal.returns-in_default
+returns-in_default c = λ d is.
+    no_code_leads c.args.call.now c.args.code (states_of c.args.self.now) (states_of c.args.self.now) (sym c.branch_of.ensures ∙ c.in_default.is)
+    (λ q. refl) d is
