@@ -6,12 +6,14 @@ use Rattle.xa_model.specs.Facts as facts
 use Rattle.xa_model.specs.Facts.Distinct.{ApartRows}
 use Rattle.xa_model.specs.Protocol.{IsRun, Right}
 use Rattle.xa_model.specs.Replies.Steps.{Step}
-use Rattle.xa_model.specs.Trace.{Happening, Trace, Trace.Then}
+use Rattle.xa_model.specs.Trace.{Happening, Origin, Trace, Trace.From, Trace.Then}
+use Rattle.xa_standings.specs.Explained.{IsOldLog}
 use Rattle.xa_tm.specs.Book.{Book, book_after, book_of, doubt_of_happening}
 use Rattle.xa_tm.specs.Laws.{IsLookedAt}
 use Rattle.xa_tm.specs.Refusing.{managers_refusal, refusal_in, resolved_in, resolved_open_in}
 use Rattle.xa_tm.specs.Release.{HasReleased, IsOver, MayFollow, book_without}
-use Rattle.xa_tm.proofs.History.Refusals.{refusal_is}
+use Rattle.xa_tm.specs.Starting.{IsOld}
+use Rattle.xa_tm.proofs.History.Refusals.{has_row_is, recorded_is, refusal_is}
 use Rattle.xa_tm.proofs.History.RowCounts.{right_book}
 use Rattle.xa_tm.proofs.Release.{one_more_is_released, recoveries_are_alike, wholes_follow, wholes_refuse_no_more}
 use Rattle.xa_serve.specs.Following.{BookStands}
@@ -50,3 +52,12 @@ module _ (tr : Trace) (k : Book) (stands : BookStands tr k) where
   -- with one transaction less
   pub book_left : (g : Gtrid) → IsOver k g → BookStands tr (book_without g k)
   book_left g done = ((λ h. gtrid_eq g h || stands.0 h), one_more_is_released stands.0 (book_of tr) k g stands.1 done)
+
+-- ** a start
+
+-- its rows and records are old, where its book's are
+pub old_log : (o : Origin) → IsOld (book_of (From o)) → IsOldLog o
+old_log o old = record {
+  rows_old = λ g lists. old.rows g (has_row_is (From o) g ∙ lists);
+  record_old = λ b has. old.records b (recorded_is (From o) b ∙ has);
+}

@@ -20,6 +20,7 @@ use Rattle.xa_model.specs.Replies.Rules.{must_refuse}
 use Rattle.xa_model.specs.Replies.Steps.{Reply, Step, happened}
 use Rattle.xa_model.specs.Trace.{Happening, Happening.Begun, Happening.Claimed, Happening.Decided, Happening.Done, Line, Trace, Trace.Then, line}
 use Rattle.xa_model.proofs.Replies.Replies.{allowed_right}
+use Rattle.xa_standings.specs.Monitor.{states_of}
 use Rattle.xa_tm.specs.Book.{Doubt.NoDoubt, after, book_after, book_of, doubt_of_happening}
 use Rattle.xa_tm.specs.Calls.{book_in}
 use Rattle.xa_tm.specs.Laws.{IsLookedAt}
@@ -28,7 +29,7 @@ use Rattle.xa_tm.specs.Refusing.{managers_refusal, refusal_in, service_refusal_i
 use Rattle.xa_tm.specs.declared.manager.Manager.{Manager}
 use Rattle.xa_serve.proofs.Books.{book_goes, next_alike, next_of, refuses_no_more, up_alike}
 use Rattle.xa_serve.proofs.Refusals.{begun_if_abandoned, begun_if_decided, begun_if_settled, up_if_begins}
-use Rattle.xa_serve.specs.Following.{Follows, StandsIn}
+use Rattle.xa_serve.specs.Following.{Follows, LeadsTo, StandsIn}
 use Rattle.xa_serve.specs.Session.{lines_by}
 use Rattle.xa_serve.specs.declared.session.Session.{Session}
 
@@ -78,7 +79,7 @@ module _ {L : Type 0} (old new : Session L) where
       → refusal_in (book_in old.manager) step ≡ None → ((tr : Trace) → StandsIn tr old → IsValue tr step reply)
       → ((tr : Trace) → IsOwn tr (happened step reply)) → MayFollow (book_in old.manager) (happened step reply)
       → book_in new.manager ≡ after (book_in old.manager) (happened step reply)
-      → new.lines ≡ old.lines → Follows (happened step reply) old new
+      → new.lines ≡ old.lines → LeadsTo (happened step reply) old new
   own_follows step reply looked same none value own may book lines tr stands =
       let e = happened step reply in
       let forced : must_refuse tr step ≡ None = sym (same tr) ∙ refuses_no_more tr (book_in old.manager) stands.book step stands.run looked none in
@@ -102,7 +103,7 @@ module _ {L : Type 0} (old new : Session L) where
       record { unbroken = λ l. refl; calls = λ l. refl; taken = λ l. refl; heard = λ l. refl; rms_up = λ r. refl; origin = refl; doubt = refl }
 
   pub begun_follows : (t : ℕ) (g : Gtrid) → service_refusal_in (book_in old.manager) t ≡ None → g ≡ next_of (book_in old.manager)
-      → book_in new.manager ≡ after (book_in old.manager) (Begun g) → new.lines ≡ old.lines → Follows (Begun g) old new
+      → book_in new.manager ≡ after (book_in old.manager) (Begun g) → new.lines ≡ old.lines → LeadsTo (Begun g) old new
   begun_follows t g none next book lines tr stands =
       let k = book_in old.manager in
       let at : g ≡ next_of (book_of tr) = next ∙ next_alike tr k stands.book in
@@ -112,40 +113,41 @@ module _ {L : Type 0} (old new : Session L) where
       (right, own_goes tr (Begun g) stands right (own_begun tr g) next book lines)
 
   pub claimed_follows : (g : Gtrid) → refusal_in (book_in old.manager) (Steps.Claim g) ≡ None
-      → book_in new.manager ≡ after (book_in old.manager) (Claimed g) → new.lines ≡ old.lines → Follows (Claimed g) old new
+      → book_in new.manager ≡ after (book_in old.manager) (Claimed g) → new.lines ≡ old.lines → LeadsTo (Claimed g) old new
   claimed_follows g none book lines =
       own_follows (Steps.Claim g) Replies.Claimed tt (λ tr. refl) none (λ tr stands. refl) (λ tr. own_claimed tr g) tt book lines
 
   pub decided_follows : (g : Gtrid) (o : Outcome) → refusal_in (book_in old.manager) (Steps.Decide g o) ≡ None
-      → book_in new.manager ≡ after (book_in old.manager) (Decided g o) → new.lines ≡ old.lines → Follows (Decided g o) old new
+      → book_in new.manager ≡ after (book_in old.manager) (Decided g o) → new.lines ≡ old.lines → LeadsTo (Decided g o) old new
   decided_follows g o none book lines =
       own_follows (Steps.Decide g o) Replies.Decided tt (λ tr. refl) none (λ tr stands. refl) (λ tr. own_decided tr g o)
       (begun_if_decided (book_in old.manager) g o none) book lines
 
   pub settled_follows : (g : Gtrid) → refusal_in (book_in old.manager) (Steps.Settle g) ≡ None
-      → book_in new.manager ≡ after (book_in old.manager) (Decided g Outcomes.Commit) → new.lines ≡ old.lines → Follows (Decided g Outcomes.Commit) old new
+      → book_in new.manager ≡ after (book_in old.manager) (Decided g Outcomes.Commit) → new.lines ≡ old.lines → LeadsTo (Decided g Outcomes.Commit) old new
   settled_follows g none book lines =
       own_follows (Steps.Settle g) Replies.Decided tt (λ tr. refl) none (λ tr stands. refl) (λ tr. own_decided tr g Outcomes.Commit)
       (begun_if_settled (book_in old.manager) g none) book lines
 
   pub abandoned_follows : (g : Gtrid) → refusal_in (book_in old.manager) (Steps.Abandon g) ≡ None
       → book_in new.manager ≡ after (book_in old.manager) (Decided g Outcomes.Rollback) → new.lines ≡ old.lines
-      → Follows (Decided g Outcomes.Rollback) old new
+      → LeadsTo (Decided g Outcomes.Rollback) old new
   abandoned_follows g none book lines =
       own_follows (Steps.Abandon g) Replies.Decided tt (λ tr. refl) none (λ tr stands. refl) (λ tr. own_decided tr g Outcomes.Rollback)
       (begun_if_abandoned (book_in old.manager) g none) book lines
 
   pub done_follows : (g : Gtrid) → refusal_in (book_in old.manager) (Steps.Done g) ≡ None
-      → book_in new.manager ≡ after (book_in old.manager) (Done g) → new.lines ≡ old.lines → Follows (Done g) old new
+      → book_in new.manager ≡ after (book_in old.manager) (Done g) → new.lines ≡ old.lines → LeadsTo (Done g) old new
   done_follows g none book lines =
       own_follows (Steps.Done g) Replies.Noted tt (λ tr. refl) none (λ tr stands. refl) (λ tr. own_done tr g) tt book lines
 
   -- where the log may have been asked, and didn't fail
   pub follows_if_ok : (step : Step) (e : Happening) (m : Manager L) (reply result : Result (Unit {0}) Refusal) → result ≡ reply
       → new.manager ≡ m → new.lines ≡ lines_by reply old.lines → OnOk reply (refusal_in (book_in old.manager) step ≡ None)
-      → OnOk reply (book_in m ≡ after (book_in old.manager) e)
-      → (refusal_in (book_in old.manager) step ≡ None → book_in new.manager ≡ after (book_in old.manager) e → new.lines ≡ old.lines → Follows e old new)
+      → OnOk reply (book_in m ≡ after (book_in old.manager) e) → new.monitor ≡ old.monitor
+      → (refusal_in (book_in old.manager) step ≡ None → book_in new.manager ≡ after (book_in old.manager) e → new.lines ≡ old.lines → LeadsTo e old new)
       → OnOk result (Follows e old new)
-  follows_if_ok step e m (Ok u) result same managers lines none book go =
-      subst (λ r. OnOk r (Follows e old new)) (sym same) (go none (ap book_in managers ∙ book) lines)
-  follows_if_ok step e m (Err n) result same managers lines none book go = subst (λ r. OnOk r (Follows e old new)) (sym same) tt
+  follows_if_ok step e m (Ok u) result same managers lines none book monitor go =
+      subst (λ r. OnOk r (Follows e old new)) (sym same)
+      (record { leads = go none (ap book_in managers ∙ book) lines; states = λ b. ap (λ n. states_of n b) monitor })
+  follows_if_ok step e m (Err n) result same managers lines none book monitor go = subst (λ r. OnOk r (Follows e old new)) (sym same) tt

@@ -1,7 +1,7 @@
 -- What a session makes of its lines.
 use Rattle.std.proofs.Common.{◌≡◌, ℕ, ◌<◌, inl, inr, Bool, true, false, not, [], Option, Some, None, refl, sym, ap, ◌∙◌, subst, arith}
-use Rattle.std.specs.Prelude.{if◌then◌else◌, ◌&&◌, ◌||◌, nat_lt}
-use Rattle.std.specs.Option.{option_or}
+use Rattle.std.specs.Prelude.{if◌then◌else◌, ◌&&◌, ◌||◌, nat_lt, slice_get}
+use Rattle.std.specs.Option.{option_and_then, option_or}
 use Rattle.std.proofs.lemmas.Bool.Decides.{eqb_tells, nat_tests}
 use Rattle.xa_base.specs.Call.{map_call}
 use Rattle.xa_base.specs.Xid.{Xid}
@@ -9,12 +9,14 @@ use Rattle.xa_base.specs.declared.call.Call.{Call}
 use Rattle.xa_base.specs.declared.refusal.Refusal.TheVariants.{Full, Limit, ManagerDown}
 use Rattle.xa_base.specs.declared.step.Step.TheVariants as Steps
 use Rattle.xa_line.specs.Grid.{Grid, HasLine, IsWhole, line_at, with_line}
+use Rattle.xa_line.specs.Histories.{known}
 use Rattle.xa_line.specs.Traffic.{Traffic, barred, is_full, issued}
 use Rattle.xa_line.proofs.GridLaws.{line_at-with_line_other_rm, line_at-with_line_other_thread, line_at-with_line_same}
 use Rattle.xa_model.specs.Replies.History.{name_of}
+use Rattle.xa_standings.specs.Monitor.{known_if}
 use Rattle.xa_tm.specs.Calls.{book_in}
 use Rattle.xa_tm.specs.Refusing.{refusal_in}
-use Rattle.xa_serve.specs.Session.{AllHeard, has_line, is_over, issue_refusal, line_refusal}
+use Rattle.xa_serve.specs.Session.{AllHeard, has_line, is_over, issue_refusal, known_waiting, line_refusal}
 use Rattle.xa_serve.specs.declared.session.Session.{Session}
 
 -- ** a line
@@ -87,6 +89,24 @@ may_issue_so s t r call none =
       book = none_first book full by_book;
       room = not_full (is_full (line_at s.lines t r)) (none_second book full by_book);
     }
+
+-- ** the call that waits first
+
+-- as a history knows it
+pub waiting_known : (g : Grid) (t r : ℕ) (call : Call Xid) → has_line g t r ≡ true → slice_get (line_at g t r).calls.waiting 0 ≡ Some call
+    → known_waiting g t r ≡ known call
+waiting_known g t r call there first =
+    ap (λ b. option_and_then known (if b then slice_get (line_at g t r).calls.waiting 0 else None)) there ∙ ap (option_and_then known) first
+
+known_if_is : (o : Option (Call Xid)) → known_if o ≡ option_and_then known o
+known_if_is (Some call) = refl
+known_if_is None = refl
+
+pub waiting_if : (g : Grid) (t r : ℕ) (o : Option (Call Xid)) → has_line g t r ≡ true → o ≡ slice_get (line_at g t r).calls.waiting 0
+    → known_if o ≡ known_waiting g t r
+waiting_if g t r o there first =
+    known_if_is o ∙ ap (option_and_then known) first
+    ∙ ap (λ b. option_and_then known (if b then slice_get (line_at g t r).calls.waiting 0 else None)) (sym there)
 
 -- ** all lines
 

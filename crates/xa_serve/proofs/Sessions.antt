@@ -1,5 +1,5 @@
 -- What a step leaves of a session.
-use Rattle.std.proofs.Common.{◌≡◌, ℕ, ◌+◌, ◌-◌, ◌<◌, ◌≤◌, ◌⊎◌, inl, inr, false, Option, Some, None, refl, sym, ap, ◌∙◌, subst, arith}
+use Rattle.std.proofs.Common.{◌≡◌, ◌≢◌, ℕ, ◌+◌, ◌-◌, ◌<◌, ◌≤◌, ◌⊎◌, inl, inr, false, Option, Some, None, refl, sym, ap, ◌∙◌, subst, arith}
 use Rattle.std.specs.Prelude.{if◌then◌else◌, Result, Ok, Err, OnOk, IfErr}
 use Rattle.xa_base.specs.declared.refusal.Refusal.{Refusal}
 use Rattle.xa_base.specs.declared.refusal.Refusal.TheVariants.{Limit, LogFault}
@@ -9,9 +9,11 @@ use Rattle.xa_line.proofs.GridLaws.{line_at-new_grid}
 use Rattle.xa_model.specs.Replies.Steps.{Step}
 use Rattle.xa_model.specs.Trace.{Fault, Happening, Happening.Failed, Happening.Nothing}
 use Rattle.xa_tm.specs.Book.{Book, Doubt, Doubt.NoDoubt, after, book_after}
-use Rattle.xa_tm.specs.Calls.{FailsBy, book_in}
+use Rattle.xa_standings.specs.Monitor.{SaysTheSame, states_of}
+use Rattle.xa_tm.specs.Calls.{FailsBy, book_in, log_in}
 use Rattle.xa_tm.specs.Refusing.{refusal_in}
 use Rattle.xa_tm.specs.declared.manager.Manager.{Manager}
+use Rattle.xa_serve.specs.Following.{StaysAs}
 use Rattle.xa_serve.specs.Headroom.{HasHeadroom, MayHappen, first_headroom}
 use Rattle.xa_serve.specs.Session.{AllHeard, IsReady, happenings_by, is_over, lines_by, refusal_at}
 use Rattle.xa_serve.specs.declared.session.Session.{Session}
@@ -74,6 +76,15 @@ refusal_is s step e = ap (λ t. if t then Some Limit else refusal_in (book_in s.
 pub refused_or : (o : Option Refusal) (k l : Book) → ((n : Refusal) → o ≡ Some n → k ≡ l) → (o ≡ None → k ≡ l) → k ≡ l
 refused_or (Some n) k l some none = some n refl
 refused_or None k l some none = none refl
+
+-- ** what stays as it was
+
+pub stays_same : {L : Type 0} (s : Session L) → StaysAs s s
+stays_same s = record { book = refl; log = refl; lines = refl; happenings = refl; states = λ b. refl }
+
+-- what only its manager was asked, which left its book and its log
+pub stays_by : {L : Type 0} (s : Session L) (m : Manager L) → book_in m ≡ book_in s.manager → log_in m ≡ log_in s.manager → StaysAs s (record s { manager = m })
+stays_by s m book log = record { book = book; log = log; lines = refl; happenings = refl; states = λ b. refl }
 
 -- ** what is left where the log may have been asked
 
@@ -139,6 +150,37 @@ module _ {L : Type 0} (old new : Session L) (m : Manager L) where
       by (Some n) is (inl fault) none same = absurd (no_fault (book_in old.manager) step (is ∙ ap (λ p. Some p) (sym (err_is q n (refused n is).0) ∙ fault)))
       by (Some n) is (inr kept) none same = same kept (ap book_in (refused n is).1)
       by None is which none same = none is
+
+  -- it stays as it was after a call that failed without the log's fault
+  pub kept_stays : (q : Refusal) → Concludes (fault_of q) → SaysTheSame old.monitor new.monitor → book_in m ≡ book_in old.manager
+      → log_in m ≡ log_in old.manager → q ≢ LogFault → StaysAs old new
+  kept_stays q done same book log not = by (fault_or_kept q)
+    where
+      by : (q ≡ LogFault) ⊎ IsKept q → StaysAs old new
+      by (inl fault) = absurd (not fault)
+      by (inr kept) = record {
+        book = ap book_in done.manager ∙ book;
+        log = ap log_in done.manager ∙ log;
+        lines = done.lines ∙ kept.1 old.lines;
+        happenings = done.happenings ∙ kept.0 old.happenings;
+        states = same;
+      }
+
+  pub book_kept : (asked : Doubt) (f : Fault) (q : Refusal) → FailsBy asked f (book_in old.manager) (book_in m) q → q ≢ LogFault
+      → book_in m ≡ book_in old.manager
+  book_kept asked f q (inl memory) not = memory.1
+  book_kept asked f q (inr fails) not = absurd (not fails.0)
+
+  pub concluded_stays : (step : Step) (asked : Doubt) (f : Fault) (reply result : Result (Unit {0}) Refusal) → Concludes reply → result ≡ reply
+      → new.monitor ≡ old.monitor → ((n : Refusal) → refusal_in (book_in old.manager) step ≡ Some n → (reply ≡ Err n) × (m ≡ old.manager))
+      → (refusal_in (book_in old.manager) step ≡ None → IfErr reply (FailsBy asked f (book_in old.manager) (book_in m)))
+      → IfErr reply (λ n. n ≢ LogFault → log_in m ≡ log_in old.manager) → IfErr result (λ n. n ≢ LogFault → StaysAs old new)
+  concluded_stays step asked f (Ok u) result done same monitor refused err log =
+      subst (λ r. IfErr r (λ n. n ≢ LogFault → StaysAs old new)) (sym same) tt
+  concluded_stays step asked f (Err q) result done same monitor refused err log =
+      subst (λ r. IfErr r (λ n. n ≢ LogFault → StaysAs old new)) (sym same) (λ not.
+      kept_stays q done (λ b. ap (λ n. states_of n b) monitor)
+      (refused_or (refusal_in (book_in old.manager) step) _ _ (λ n is. ap book_in (refused n is).1) (λ none. book_kept asked f q (err none) not)) (log not) not)
 
   -- and its book is as its manager left it, where no rule refuses
   pub concluded_err : (step : Step) (asked : Doubt) (f : Fault) (reply result : Result (Unit {0}) Refusal) → is_over old ≡ false → Concludes reply

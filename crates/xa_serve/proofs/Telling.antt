@@ -39,7 +39,7 @@ use Rattle.xa_tm.specs.Calls.{book_in}
 use Rattle.xa_tm.specs.News.{Asked}
 use Rattle.xa_tm.specs.Refusing.{manager_rules, resolved_in, resolved_open_in}
 use Rattle.xa_tm.proofs.History.Recovery.{resolved_is, resolved_open_is}
-use Rattle.xa_serve.specs.Following.{BookStands, Follows, FollowsAnswer, FollowsLoss, StandsIn}
+use Rattle.xa_serve.specs.Following.{BookStands, LeadsTo, LeadsByAnswer, LeadsByLoss, StandsIn}
 use Rattle.xa_serve.specs.Hearing.{heard_first, with_answer}
 use Rattle.xa_serve.specs.Session.{LetsWait, has_line, known_waiting, line_refusal, recovery_bar, recovery_refusal, with_more}
 use Rattle.xa_serve.specs.declared.session.Session.{Session}
@@ -156,7 +156,7 @@ module _ {L : Type 0} (old new : Session L) (t r : ℕ) where
       }
 
   pub lost_follows : MayTell old t r → book_in new.manager ≡ after (book_in old.manager) (Crashed (Parts.Line t r))
-      → new.lines ≡ with_line old.lines t r no_traffic → FollowsLoss (line t r) (known_waiting old.lines t r) old new
+      → new.lines ≡ with_line old.lines t r no_traffic → LeadsByLoss (line t r) (known_waiting old.lines t r) old new
   lost_follows may book lines tr stands =
       let at = line_at old.lines t r in
       let first : facts.next_call tr (line t r) ≡ known_waiting old.lines t r =
@@ -248,7 +248,7 @@ module _ {L : Type 0} (old new : Session L) (t r : ℕ) (call : Asking.Call Xid)
   pub issued_follows : (c : Call) → accepted (map_call name_of call) ≡ Some c → MayIssue old t r call
       → book_in new.manager ≡ after (book_in old.manager) (Issued (line t r) c)
       → new.lines ≡ with_line old.lines t r (record (line_at old.lines t r) { calls = with_one_more (line_at old.lines t r).calls call })
-      → Follows (Issued (line t r) c) old new
+      → LeadsTo (Issued (line t r) c) old new
   issued_follows c is may book lines tr stands =
       let e = Issued (line t r) c in
       let a = map_call name_of call in
@@ -342,7 +342,7 @@ module _ {L : Type 0} (old new : Session L) (t r : ℕ) (call : Asking.Call Xid)
 
   pub answered_follows : MayTell old t r → slice_get (line_at old.lines t r).calls.waiting 0 ≡ Some call → accepted (map_call name_of call) ≡ Some k
       → (line_at old.lines t r).answers.waiting ≡ [] → book_in new.manager ≡ after (book_in old.manager) (Heard (line t r) k told)
-      → new.lines ≡ with_line old.lines t r (with_answer (line_at old.lines t r) answer) → FollowsAnswer (line t r) k told old new
+      → new.lines ≡ with_line old.lines t r (with_answer (line_at old.lines t r) answer) → LeadsByAnswer (line t r) k told old new
   answered_follows may first is none book lines tr stands =
       let l = line t r in
       let at = line_at old.lines t r in
@@ -461,7 +461,7 @@ module _ {L : Type 0} (old new : Session L) (r : ℕ) where
 
   pub resolved_follows : (n : ℕ) → recovery_refusal old r n ≡ None → new.manager ≡ old.manager
       → LetsWait r (resolved_in (book_in old.manager) r) old.lines new.lines
-      → Follows (Resolved r) old new
+      → LeadsTo (Resolved r) old new
   resolved_follows n none same waits tr stands =
       let may = may_tell old 0 r (none_first (line_refusal old 0 r) (recovery_bar (line_at old.lines 0 r) n) none) in
       recovery_goes tr (Resolved r) n (facts.resolving_calls tr (facts.page tr r)) waits.calls stands
@@ -469,7 +469,7 @@ module _ {L : Type 0} (old new : Session L) (r : ℕ) where
       (waits.are ∙ ap (map Some) (resolves_alike tr (book_in old.manager) stands.book r ∙ resolved_is tr r)) tt (ap book_in same) waits.lines
 
   pub open_resolved_follows : (n : ℕ) → recovery_refusal old r n ≡ None → book_in new.manager ≡ after (book_in old.manager) (ResolvedOpen r)
-      → LetsWait r (resolved_open_in (book_in old.manager) r) old.lines new.lines → Follows (ResolvedOpen r) old new
+      → LetsWait r (resolved_open_in (book_in old.manager) r) old.lines new.lines → LeadsTo (ResolvedOpen r) old new
   open_resolved_follows n none book waits tr stands =
       let may = may_tell old 0 r (none_first (line_refusal old 0 r) (recovery_bar (line_at old.lines 0 r) n) none) in
       recovery_goes tr (ResolvedOpen r) n (facts.resolving_calls (Then tr (ResolvedOpen r)) (facts.page tr r)) waits.calls stands

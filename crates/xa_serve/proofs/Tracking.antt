@@ -1,10 +1,14 @@
 -- A session tracks what is seen.
-use Rattle.std.proofs.Common.{ℕ, Option, refl}
+use Rattle.std.proofs.Common.{◌∙◌, ℕ, Option, ap, refl, subst, sym}
+use Rattle.xa_line.specs.Grid.{HasLine, IsWhole, line_at}
+use Rattle.xa_line.specs.Histories.{LineStands}
 use Rattle.xa_model.specs.Protocol.{IsRun}
-use Rattle.xa_model.specs.Trace.{Answer, Call, Happening, Line, Origin, Trace}
+use Rattle.xa_model.specs.Trace.{Answer, Call, Happening, Line, Origin, Trace, line}
+use Rattle.xa_standings.proofs.Following.{by_did, still_followed}
+use Rattle.xa_standings.specs.Monitor.{Monitors, SaysTheSame, states_of}
 use Rattle.xa_standings.specs.Seen.{HasAnswer, IsHistory, IsHistory.Does, IsHistory.Hears, IsHistory.Loses, IsHistory.LosesAnswer, IsHistory.Starts, IsManagers, KeepsRules, Seen, Seen.Answered, Seen.Did, Seen.Lost, Seen.Start}
 use Rattle.xa_tm.specs.Begins.{BeginsWith}
-use Rattle.xa_serve.specs.Following.{Follows, FollowsAnswer, FollowsLoss, StandsAtStart, StandsIn}
+use Rattle.xa_serve.specs.Following.{BookStands, Follows, FollowsAnswer, FollowsLoss, StandsAtStart, StandsIn, StaysAs}
 use Rattle.xa_serve.specs.Tracking.{KeepsTrack, Tracks}
 use Rattle.xa_serve.specs.declared.session.Session.{Session}
 use Rattle.xa_serve.proofs.Alone.{alone_back, alone_stands}
@@ -14,40 +18,74 @@ use Rattle.xa_serve.proofs.Alone.{alone_back, alone_stands}
 module _ {L : Type 0} (threads rms : ℕ) (s : Session L) (stands : StandsAtStart threads rms s) (o : Origin) (begins : BeginsWith threads rms s.manager o) where
   start_in : (tr : Trace) → IsHistory o Start tr → IsRun tr → StandsIn tr s
   start_in _ (Starts held) run =
-      stands (record o { held = held }) (record {
+      (stands (record o { held = held }) (record {
         threads_are = begins.threads_are;
         rms_are = begins.rms_are;
         incarnation = begins.incarnation;
         rows = begins.rows;
         records = begins.records;
-      }) run
+      })).0 run
 
   pub start_tracked : KeepsTrack o Start s
-  start_tracked = (tt, start_in)
+  start_tracked = (tt, start_in, (stands o begins).1)
 
 -- ** what follows
 
-module _ {L : Type 0} (o : Origin) (seen : Seen) (old new : Session L) (keeps : KeepsRules o seen) (tracks : Tracks o seen old) where
+module _ {L : Type 0} (o : Origin) (seen : Seen) (old new : Session L) (keeps : KeepsRules o seen) (tracks : Tracks o seen old)
+    (monitors : Monitors o seen old.monitor) where
   step_in : (e : Happening) → Follows e old new → (tr : Trace) → IsHistory o (Did seen e) tr → IsRun tr → StandsIn tr new
-  step_in e follows _ (Does _ tr _ h) run = (follows tr (tracks tr h run.0)).1
+  step_in e follows _ (Does _ tr _ h) run = (follows.leads tr (tracks tr h run.0)).1
 
   pub step_tracked : (e : Happening) → IsManagers e → Follows e old new → KeepsTrack o (Did seen e) new
-  step_tracked e managers follows = ((keeps, managers, λ tr h run. (follows tr (tracks tr h run)).0), step_in e follows)
+  step_tracked e managers follows = (
+    (keeps, managers, λ tr h run. (follows.leads tr (tracks tr h run)).0),
+    step_in e follows,
+    by_did o seen (states_of new.monitor) e (still_followed o seen (states_of old.monitor) (states_of new.monitor) follows.states monitors),
+  )
 
   answer_in : (l : Line) (c : Call) (a : Answer) → FollowsAnswer l c a old new → (tr : Trace) → IsHistory o (Answered seen l c a) tr
       → IsRun tr → StandsIn tr new
   answer_in l c a follows _ (Hears _ tr now _ _ _ h alone) run =
       let stands = alone_stands old tr now alone (tracks tr h (alone_back tr now alone run.0.0)) in
-      ((follows now stands).1 run.0.1.1).1
+      ((follows.leads now stands).1 run.0.1.1).1
 
   pub answer_tracked : (l : Line) (c : Call) (a : Answer) → HasAnswer c a → FollowsAnswer l c a old new → KeepsTrack o (Answered seen l c a) new
-  answer_tracked l c a has follows = ((keeps, has, λ tr h run. (follows tr (tracks tr h run)).0), answer_in l c a follows)
+  answer_tracked l c a has follows =
+      ((keeps, has, λ tr h run. (follows.leads tr (tracks tr h run)).0), answer_in l c a follows, follows.states o seen monitors)
 
   loss_in : (l : Line) (c : Option Call) → FollowsLoss l c old new → (tr : Trace) → IsHistory o (Lost seen l c) tr → IsRun tr → StandsIn tr new
-  loss_in l c follows _ (Loses _ tr _ _ h) run = (follows tr (tracks tr h run.0)).1
+  loss_in l c follows _ (Loses _ tr _ _ h) run = (follows.leads tr (tracks tr h run.0)).1
   loss_in l _ follows _ (LosesAnswer _ tr now _ k a h alone) run =
       let stands = alone_stands old tr now alone (tracks tr h (alone_back tr now alone run.0.0)) in
-      (follows now stands).2 k a refl run.0.1.1
+      (follows.leads now stands).2 k a refl run.0.1.1
 
   pub loss_tracked : (l : Line) (c : Option Call) → FollowsLoss l c old new → KeepsTrack o (Lost seen l c) new
-  loss_tracked l c follows = ((keeps, λ tr h run. (follows tr (tracks tr h run)).0), loss_in l c follows)
+  loss_tracked l c follows = ((keeps, λ tr h run. (follows.leads tr (tracks tr h run)).0), loss_in l c follows, follows.states o seen monitors)
+
+  -- ** nothing
+
+  -- where the session stands wherever it stood, and no branch is in other states
+  pub still_tracked : ((tr : Trace) → StandsIn tr old → StandsIn tr new) → SaysTheSame old.monitor new.monitor → KeepsTrack o seen new
+  still_tracked stands same = (
+    keeps,
+    λ tr h run. stands tr (tracks tr h run),
+    still_followed o seen (states_of old.monitor) (states_of new.monitor) same monitors,
+  )
+
+-- it stands wherever it stood, where it stays as it was
+stays_there : {L : Type 0} (old new : Session L) → StaysAs old new → (tr : Trace) → StandsIn tr old → StandsIn tr new
+stays_there old new stays tr stands = record {
+  run = stands.run;
+  apart = stands.apart;
+  threads = ap (λ g. g.threads) stays.lines ∙ stands.threads;
+  rms = ap (λ g. g.rms) stays.lines ∙ stands.rms;
+  whole = subst IsWhole (sym stays.lines) stands.whole;
+  rms_up = stands.rms_up;
+  book = subst (BookStands tr) (sym stays.book) stands.book;
+  lines =
+      λ t r has. subst (λ g. LineStands tr (line t r) (line_at g t r)) (sym stays.lines)
+      (stands.lines t r (subst (λ g. HasLine g t r) stays.lines has));
+}
+
+pub refusal_tracked : {L : Type 0} (o : Origin) (seen : Seen) (old new : Session L) → KeepsTrack o seen old → StaysAs old new → KeepsTrack o seen new
+refusal_tracked o seen old new keeps stays = still_tracked o seen old new keeps.0 keeps.1 keeps.2 (stays_there old new stays) stays.states

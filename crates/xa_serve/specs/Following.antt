@@ -7,10 +7,11 @@ use Rattle.xa_model.specs.Facts.{next_call, origin, rm_up}
 use Rattle.xa_model.specs.Facts.Distinct.{ApartRows}
 use Rattle.xa_model.specs.Protocol.{IsRun, OldOrigin, Right, SoundAnswer}
 use Rattle.xa_model.specs.Trace.{Answer, Call, Happening, Happening.Heard, Happening.Took, Line, Origin, Trace, Trace.From, Trace.Then, line}
-use Rattle.xa_standings.specs.Seen.{Waits, break_of}
+use Rattle.xa_standings.specs.Monitor.{Hears, Loses, Monitors, SaysTheSame}
+use Rattle.xa_standings.specs.Seen.{Seen.Start, Waits, break_of}
 use Rattle.xa_tm.specs.Begins.{BeginsWith}
 use Rattle.xa_tm.specs.Book.{Book, book_of}
-use Rattle.xa_tm.specs.Calls.{book_in}
+use Rattle.xa_tm.specs.Calls.{book_in, log_in}
 use Rattle.xa_tm.specs.Release.{HasReleased}
 use Rattle.xa_serve.specs.declared.session.Session.{Session}
 
@@ -30,24 +31,52 @@ pub record StandsIn {L : Type 0} (tr : Trace) (s : Session L) : Type 0 where
   pub book : BookStands tr (book_in s.manager)
   pub lines : (t r : ℕ) → HasLine s.lines t r → LineStands tr (line t r) (line_at s.lines t r)
 
--- it stands in each start that has the rows and records of its log
+-- in each start that has the rows and records of its log, the session stands, and its monitor has followed that nothing is seen yet
 abbrev pub StandsAtStart : {L : Type 0} → (threads rms : ℕ) → Session L → Type 0
-StandsAtStart threads rms s = (o : Origin) → BeginsWith threads rms s.manager o → OldOrigin o → StandsIn (From o) s
+StandsAtStart threads rms s =
+    (o : Origin) → BeginsWith threads rms s.manager o → (OldOrigin o → StandsIn (From o) s) × Monitors o Start s.monitor
+
+-- ** what happens
 
 -- wherever the session stood, this was right to happen, and the session then stands where it leads
-abbrev pub Follows : {L : Type 0} → Happening → (old new : Session L) → Type 0
-Follows e old new = (tr : Trace) → StandsIn tr old → Right tr e × StandsIn (Then tr e) new
+abbrev pub LeadsTo : {L : Type 0} → Happening → (old new : Session L) → Type 0
+LeadsTo e old new = (tr : Trace) → StandsIn tr old → Right tr e × StandsIn (Then tr e) new
 
 -- Wherever the session stood, this call waited first on the line, and no answer waited. Where the resource manager may have answered so,
 -- it is right that the answer is heard, and the session then stands where both lead.
-abbrev pub FollowsAnswer : {L : Type 0} → Line → Call → Answer → (old new : Session L) → Type 0
-FollowsAnswer l c a old new =
+abbrev pub LeadsByAnswer : {L : Type 0} → Line → Call → Answer → (old new : Session L) → Type 0
+LeadsByAnswer l c a old new =
     (tr : Trace) → StandsIn tr old → Waits tr l c
     × (SoundAnswer tr l c a → Right (Then tr (Took l c a)) (Heard l c a) × StandsIn (Then (Then tr (Took l c a)) (Heard l c a)) new)
 
 -- Wherever the session stood, this call, or none, waited first on the line. The session then stands where the loss of the line leads,
 -- whether the call wasn't done, or was with any answer that the resource manager may have given.
-abbrev pub FollowsLoss : {L : Type 0} → Line → Option Call → (old new : Session L) → Type 0
-FollowsLoss l c old new =
+abbrev pub LeadsByLoss : {L : Type 0} → Line → Option Call → (old new : Session L) → Type 0
+LeadsByLoss l c old new =
     (tr : Trace) → StandsIn tr old → (next_call tr l ≡ c) × StandsIn (Then tr (break_of l)) new
     × ((k : Call) (a : Answer) → c ≡ Some k → SoundAnswer tr l k a → StandsIn (Then (Then tr (Took l k a)) (break_of l)) new)
+
+-- ** and with the monitor
+
+-- the session follows what its manager does: no branch is in other states
+pub record Follows {L : Type 0} (e : Happening) (old new : Session L) : Type 0 where
+  pub leads : LeadsTo e old new
+  pub states : SaysTheSame old.monitor new.monitor
+
+-- it follows an answer, and so does its monitor
+pub record FollowsAnswer {L : Type 0} (l : Line) (c : Call) (a : Answer) (old new : Session L) : Type 0 where
+  pub leads : LeadsByAnswer l c a old new
+  pub states : Hears l c a old.monitor new.monitor
+
+-- it follows the loss of a line, and so does its monitor
+pub record FollowsLoss {L : Type 0} (l : Line) (c : Option Call) (old new : Session L) : Type 0 where
+  pub leads : LeadsByLoss l c old new
+  pub states : Loses l c old.monitor new.monitor
+
+-- nothing happened, and all is as it was, but for room that was made
+pub record StaysAs {L : Type 0} (old new : Session L) : Type 0 where
+  pub book : book_in new.manager ≡ book_in old.manager
+  pub log : log_in new.manager ≡ log_in old.manager
+  pub lines : new.lines ≡ old.lines
+  pub happenings : new.happenings ≡ old.happenings
+  pub states : SaysTheSame old.monitor new.monitor

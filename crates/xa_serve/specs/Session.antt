@@ -15,7 +15,8 @@ use Rattle.xa_line.specs.Histories.{AreKnownAs, known}
 use Rattle.xa_line.specs.Traffic.{Flow, Traffic, barred, is_full, issued, places}
 use Rattle.xa_model.specs.Replies.History.{name_of}
 use Rattle.xa_model.specs.Replies.Steps.{Step}
-use Rattle.xa_model.specs.Trace.{Call as KnownCall}
+use Rattle.xa_model.specs.Trace.{Branch, Call as KnownCall, line}
+use Rattle.xa_standings.specs.Monitor.{CanExplain, IsSomewhere, states_of}
 use Rattle.xa_tm.specs.Calls.{book_in}
 use Rattle.xa_tm.specs.Refusing.{refusal_in, service_refusal_in}
 use Rattle.xa_serve.specs.Headroom.{HasHeadroom, first_headroom}
@@ -111,6 +112,15 @@ unfit_for (Some call) answer =
 abbrev pub unfit : {L : Type 0} → Session L → (thread rm : ℕ) → Answer Xid → Option Unfit
 unfit s t r answer =
     option_or (option_map Unfits.Refused (line_refusal s t r)) (unfit_for (slice_get (line_at s.lines t r).calls.waiting 0) answer)
+
+-- the states of the branch, as the session knows them, explain such an answer to the call that waits first on the line
+abbrev pub BranchExplains : {L : Type 0} → Session L → (thread rm : ℕ) → Answer Xid → Branch → Type 0
+BranchExplains s t r answer b =
+    (c : KnownCall) → known_waiting s.lines t r ≡ Some c → CanExplain (states_of s.monitor) (line t r) c (map_answer name_of answer) b
+
+-- those of each branch do that is in some state
+abbrev pub IsExplainable : {L : Type 0} → Session L → (thread rm : ℕ) → Answer Xid → Type 0
+IsExplainable s t r answer = (b : Branch) → IsSomewhere (states_of s.monitor) b → BranchExplains s t r answer b
 
 -- ** recoveries
 

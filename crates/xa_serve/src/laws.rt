@@ -3,7 +3,8 @@
 
 ghost use Rattle.xa_serve.specs.Headroom.{HeadroomIsSound, HeadroomIsUsedUpByOne};
 ghost use Rattle.xa_serve.specs.Headroom.{ReleasesKeepHeadroom, StartsHaveHeadroom};
-ghost use Rattle.xa_serve.specs.Tracking.{AnswersAreTracked, LossesAreTracked, StartsAreTracked, StepsAreTracked};
+ghost use Rattle.xa_serve.specs.Tracking.{AnswersAreTracked, LossesAreTracked, RefusalsAreTracked, ReleasesAreTracked};
+ghost use Rattle.xa_serve.specs.Tracking.{SessionsAreExplained, StartsAreTracked, StepsAreTracked};
 
 use xa_log::DecisionLog;
 
@@ -43,4 +44,22 @@ pub fn answers_are_tracked<L: DecisionLog + Drop>()
 /// [`Session::lose_line`](crate::Session::lose_line)).
 pub fn losses_are_tracked<L: DecisionLog + Drop>()
     ensures { LossesAreTracked L }
+{}
+
+/// And so does one that stays as it was (`stays` of its methods), as where a request for memory was refused.
+pub fn refusals_are_tracked<L: DecisionLog + Drop>()
+    ensures { RefusalsAreTracked L }
+{}
+
+/// And so does one that releases a transaction (`stands` and `monitor` of
+/// [`Session::release`](crate::Session::release)).
+pub fn releases_are_tracked<L: DecisionLog + Drop>()
+    ensures { ReleasesAreTracked L }
+{}
+
+/// What a session tracks has a right history, whatever the resource managers are: of them it is only known what they
+/// answered, and each answer that was heard was looked at. The log that the session started from is old (`old` of
+/// [`Session::new`](crate::Session::new)).
+pub fn sessions_are_explained<L: DecisionLog + Drop>()
+    ensures { SessionsAreExplained L }
 {}

@@ -1,7 +1,8 @@
-//! A session of a driver with the coordinator: the manager over its decision log, and the lines on which calls wait
-//! until the driver tells how the resource managers answered them.
+//! A session of a driver with the coordinator: the manager over its decision log, the lines on which calls wait until the
+//! driver tells how the resource managers answered them, and the monitor that looks at each answer.
 //!
-//! No answer is trusted: each method may be called whatever was answered before.
+//! No answer is trusted: each method may be called whatever was answered before. An answer that no state of its branch
+//! explains is refused, so what was heard has a right history ([`sessions_are_explained`]).
 //!
 //! "XA" in these pages is X/Open CAE Specification C193, "Distributed Transaction Processing: The XA Specification"
 //! (1991).
@@ -12,8 +13,8 @@ mod laws;
 mod session;
 
 pub use laws::{
-    answers_are_tracked, books_have_headroom, losses_are_tracked, starts_are_tracked,
-    steps_are_tracked,
+    answers_are_tracked, books_have_headroom, losses_are_tracked, refusals_are_tracked,
+    releases_are_tracked, sessions_are_explained, starts_are_tracked, steps_are_tracked,
 };
 pub use session::Session;
 pub use session::answers::Unfit;

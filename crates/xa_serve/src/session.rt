@@ -1,7 +1,10 @@
-//! A session: the manager over its log, and the lines. A file for each family of requests.
+//! A session: the manager over its log, the lines, and the monitor of the branches. A file for each family of requests.
 
 ghost use Rattle.std.specs.Prelude.{◌≡◌, ◌<◌, IfOk};
 ghost use Rattle.xa_line.specs.Grid.{new_grid};
+ghost use Rattle.xa_model.specs.Trace.{Origin};
+ghost use Rattle.xa_standings.specs.Explained.{IsOldLog};
+ghost use Rattle.xa_tm.specs.Begins.{BeginsWith};
 ghost use Rattle.xa_tm.specs.Calls.{book_in};
 ghost use Rattle.xa_serve.specs.Following.{StandsAtStart};
 ghost use Rattle.xa_serve.specs.Headroom.{first_headroom};
@@ -18,6 +21,7 @@ use std::alloc::Global;
 use xa_base::Refusal;
 use xa_line::Lines;
 use xa_log::DecisionLog;
+use xa_standings::Monitor;
 use xa_tm::{Manager, StartFault};
 
 /// The most that may happen in a session: 2 to the 62nd power.
@@ -31,6 +35,8 @@ const HAPPENING_LIMIT: u64 = 4_611_686_018_427_387_904;
 pub struct Session<L: DecisionLog + Drop> {
     pub(crate) manager: Manager<L>,
     pub(crate) lines: Lines,
+    /// The states of the branches, by all that was answered.
+    pub(crate) monitor: Monitor,
     /// How much has happened since the start.
     pub(crate) happenings: u64,
 }
@@ -41,16 +47,22 @@ impl<L: DecisionLog + Drop> Session<L> {
         ensures ready { IfOk result IsReady }
         ensures lines { IfOk result (λ s. s.lines ≡ new_grid threads rms) }
         ensures stands { IfOk result (StandsAtStart threads rms) }
+        ensures old { IfOk result (λ s. (o : Origin) → BeginsWith threads rms s.manager o →
+            IsOldLog o) }
     {
         let Ok(lines) = Lines::new(alloc, threads, rms) else {
             return Err(StartFault::Memory);
         };
         match Manager::new(alloc, threads, rms, log) {
-            Ok(manager) => Ok(Session {
-                manager,
-                lines,
-                happenings: 0,
-            }),
+            Ok(manager) => {
+                let monitor = Monitor::new(alloc, manager.incarnation());
+                Ok(Session {
+                    manager,
+                    lines,
+                    monitor,
+                    happenings: 0,
+                })
+            }
             Err(fault) => Err(fault),
         }
     }
@@ -82,6 +94,7 @@ impl<L: DecisionLog + Drop> Session<L> {
         ensures value { result ≡ reply }
         ensures manager { self.new.manager ≡ self.old.manager }
         ensures lines { self.new.lines ≡ lines_by reply self.old.lines }
+        ensures monitor { self.new.monitor ≡ self.old.monitor }
         ensures happenings { self.new.happenings ≡ happenings_by reply self.old.happenings }
     {
         match reply {

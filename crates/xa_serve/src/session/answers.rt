@@ -1,6 +1,6 @@
 //! Answers that the driver tells.
 
-ghost use Rattle.std.specs.Prelude.{◌≡◌, ◌≢◌, [], slice_get, Some, None, Err, IfErr, OnOk};
+ghost use Rattle.std.specs.Prelude.{◌≡◌, ◌≢◌, ◌⊎◌, [], slice_get, Some, None, Err, IfErr, OnOk};
 ghost use Rattle.xa_base.specs.Answer.{map_answer};
 ghost use Rattle.xa_base.specs.Call.{map_call};
 ghost use Rattle.xa_base.specs.Xid.{Xid as Named};
@@ -15,15 +15,15 @@ ghost use Rattle.xa_model.specs.Trace.{Call as KnownCall, Fault.InHear, Happenin
 ghost use Rattle.xa_standings.specs.Seen.{HasAnswer};
 ghost use Rattle.xa_tm.specs.Book.{after, doubt_of};
 ghost use Rattle.xa_tm.specs.Calls.{FailsBy, book_in, log_in};
-ghost use Rattle.xa_serve.specs.Following.{FollowsAnswer};
+ghost use Rattle.xa_serve.specs.Following.{FollowsAnswer, StaysAs};
 ghost use Rattle.xa_serve.specs.Hearing.{with_answer};
-ghost use Rattle.xa_serve.specs.Session.{IsReady, unfit};
+ghost use Rattle.xa_serve.specs.Session.{BranchExplains, IsExplainable, IsReady, unfit};
 ghost use Rattle.xa_serve.specs.declared.session.answers.Unfit.TheVariants as Unfits;
 
 use super::Session;
 use crate::hearing::can_hear;
 use crate::laws::books_have_headroom;
-use xa_base::{Answer, Refusal};
+use xa_base::{Answer, Branch, Refusal};
 use xa_line::Line;
 use xa_log::DecisionLog;
 
@@ -38,11 +38,14 @@ pub enum Unfit {
     /// more identifiers than were asked for or by XAER_INVAL, and any other call by a code, where its branch is one of
     /// this manager's whose numbers fit the log.
     NoSuchAnswer,
+    /// No state of XA's table in which this branch may be, by all that was answered, explains the answer (XA, chapter 6,
+    /// State Tables): the branch of the call, or one that the page lists.
+    NoSuchState(Branch),
 }
 
 impl<L: DecisionLog + Drop> Session<L> {
-    /// The call that waits first on a line was done, and answered so. Where the log fails, the manager is down and all
-    /// lines break.
+    /// The call that waits first on a line was done, and answered so. What is answered is heard by the manager and by the
+    /// monitor, or by neither. Where the log fails, the manager is down and all lines break.
     pub fn answer(&mut self, thread: u32, rm: u32, answer: Answer) -> Result<(), Unfit>
         requires { IsReady self.old }
         ensures ready { IsReady self.new }
@@ -50,19 +53,32 @@ impl<L: DecisionLog + Drop> Session<L> {
         ensures refused { (u : _) → unfit self.old thread rm answer ≡ Some u →
             (result ≡ Err u) × (self.new ≡ self.old) }
         ensures allowed { OnOk result (unfit self.old thread rm answer ≡ None) }
+        // Nor does what no state of a branch explains.
+        ensures unexplained { (b : Branch) → result ≡ Err (Unfits.NoSuchState b) →
+            BranchExplains self.old thread rm answer b → ⊥ }
+        ensures same { (b : Branch) → result ≡ Err (Unfits.NoSuchState b) →
+            self.new ≡ self.old }
+        ensures explained { OnOk result (IsExplainable self.old thread rm answer) }
+        ensures explained_first { (n : Refused) → result ≡ Err (Unfits.Refused n) →
+            unfit self.old thread rm answer ≡ None → IsExplainable self.old thread rm answer }
         // What the book then says.
         ensures ok { OnOk result ((call : Waiting Named) (c : KnownCall) →
             slice_get (line_at self.old.lines thread rm).calls.waiting 0 ≡ Some call →
             accepted (map_call name_of call) ≡ Some c →
             book_in self.new.manager ≡ after (book_in self.old.manager)
             (Heard (line thread rm) c (map_answer name_of answer))) }
-        ensures err { unfit self.old thread rm answer ≡ None →
-            IfErr result (λ u. (n : Refused) × (u ≡ Unfits.Refused n) ×
-            ((call : Waiting Named) (c : KnownCall) →
+        ensures err { (n : Refused) → result ≡ Err (Unfits.Refused n) →
+            unfit self.old thread rm answer ≡ None → (call : Waiting Named) (c : KnownCall) →
             slice_get (line_at self.old.lines thread rm).calls.waiting 0 ≡ Some call →
             accepted (map_call name_of call) ≡ Some c →
             FailsBy (doubt_of (record_of c (map_answer name_of answer)))
-            (InHear (line thread rm)) (book_in self.old.manager) (book_in self.new.manager) n)) }
+            (InHear (line thread rm)) (book_in self.old.manager) (book_in self.new.manager) n }
+        // What else may be refused.
+        ensures only { unfit self.old thread rm answer ≡ None →
+            IfErr result (λ u. ((n : Refused) × (u ≡ Unfits.Refused n))
+            ⊎ ((b : Branch) × (u ≡ Unfits.NoSuchState b))) }
+        ensures stays { IfErr result (λ u. u ≢ Unfits.Refused Refusals.LogFault →
+            StaysAs self.old self.new) }
         // What was seen.
         ensures has { OnOk result ((call : Waiting Named) (c : KnownCall) →
             slice_get (line_at self.old.lines thread rm).calls.waiting 0 ≡ Some call →
@@ -93,13 +109,21 @@ impl<L: DecisionLog + Drop> Session<L> {
         if !can_hear(&call, &answer) {
             return Err(Unfit::NoSuchAnswer);
         }
+        if let Some(b) = self.monitor.unexplained(rm, &call, &answer) {
+            return Err(Unfit::NoSuchState(b));
+        }
+        let Ok(()) = self.monitor.make_room(&call, &answer) else {
+            return Err(Unfit::Refused(Refusal::Memory));
+        };
         match self.manager.hear(thread, rm, &call, &answer) {
             Ok(()) => {
+                self.monitor.follow(&call, &answer);
                 answer_first(self.lines.line_mut(thread, rm), answer);
                 self.happenings += 1;
                 Ok(())
             }
             Err(refusal) => {
+                self.monitor.drop_room();
                 let _ = self.conclude(Err(refusal));
                 Err(Unfit::Refused(refusal))
             }

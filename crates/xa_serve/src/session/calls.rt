@@ -11,7 +11,7 @@ ghost use Rattle.xa_model.specs.Replies.Steps.{accepted};
 ghost use Rattle.xa_model.specs.Trace.{Call as KnownCall, Happening.Issued, line};
 ghost use Rattle.xa_tm.specs.Book.{after};
 ghost use Rattle.xa_tm.specs.Calls.{book_in, log_in};
-ghost use Rattle.xa_serve.specs.Following.{Follows};
+ghost use Rattle.xa_serve.specs.Following.{Follows, StaysAs};
 ghost use Rattle.xa_serve.specs.Session.{IsReady, first_waiting, issue_refusal, line_refusal};
 
 use super::Session;
@@ -81,6 +81,7 @@ impl<L: DecisionLog + Drop> Session<L> {
         ensures follows { OnOk result ((c : KnownCall) →
             accepted (map_call name_of call.now) ≡ Some c →
             Follows (Issued (line thread rm) c) self.old self.new) }
+        ensures stays { OnErr result (StaysAs self.old self.new) }
         // The log and the lines.
         ensures log { log_in self.new.manager ≡ log_in self.old.manager }
         ensures lines { OnOk result (self.new.lines ≡ with_line self.old.lines thread rm

@@ -1,13 +1,13 @@
 //! Transactions that begin, are claimed and are decided.
 
-ghost use Rattle.std.specs.Prelude.{◌≡◌, ◌≢◌, ◌+◌, Some, None, Err, IfErr, IfOk, OnOk};
+ghost use Rattle.std.specs.Prelude.{◌≡◌, ◌≢◌, ◌+◌, Some, None, Err, IfErr, IfOk, OnErr, OnOk};
 ghost use Rattle.xa_base.specs.declared.refusal.Refusal.TheVariants as Refusals;
 ghost use Rattle.xa_base.specs.declared.step.Outcome.TheVariants as Outcomes;
 ghost use Rattle.xa_base.specs.declared.step.Step.TheVariants as Steps;
 ghost use Rattle.xa_model.specs.Trace.{Fault.InDecide, Fault.InDone, Happening.Begun, Happening.Claimed, Happening.Decided, Happening.Done, Happening.Failed};
 ghost use Rattle.xa_tm.specs.Book.{Doubt.Adds, Doubt.Drops, after, book_after, voted_yes};
 ghost use Rattle.xa_tm.specs.Calls.{FailsBy, book_in, log_in};
-ghost use Rattle.xa_serve.specs.Following.{Follows};
+ghost use Rattle.xa_serve.specs.Following.{Follows, StaysAs};
 ghost use Rattle.xa_serve.specs.Session.{IsReady, begin_refusal, lines_by, refusal_at};
 
 use super::Session;
@@ -35,6 +35,7 @@ impl<L: DecisionLog + Drop> Session<L> {
             IfErr result (λ n. (n ≡ Refusals.Memory)
             × (book_in self.new.manager ≡ book_in self.old.manager)) }
         ensures follows { IfOk result (λ g. Follows (Begun g) self.old self.new) }
+        ensures stays { OnErr result (StaysAs self.old self.new) }
         // The log and the lines.
         ensures log { log_in self.new.manager ≡ log_in self.old.manager }
         ensures lines { self.new.lines ≡ self.old.lines }
@@ -67,6 +68,7 @@ impl<L: DecisionLog + Drop> Session<L> {
             IfErr result (λ n. (n ≡ Refusals.Memory)
             × (book_in self.new.manager ≡ book_in self.old.manager)) }
         ensures follows { OnOk result (Follows (Claimed gtrid) self.old self.new) }
+        ensures stays { OnErr result (StaysAs self.old self.new) }
         // The log and the lines.
         ensures log { log_in self.new.manager ≡ log_in self.old.manager }
         ensures lines { self.new.lines ≡ self.old.lines }
@@ -101,6 +103,8 @@ impl<L: DecisionLog + Drop> Session<L> {
             IfErr result (FailsBy (Adds gtrid (voted_yes (book_in self.old.manager) gtrid))
             (InDecide gtrid) (book_in self.old.manager) (book_in self.new.manager)) }
         ensures follows { OnOk result (Follows (Decided gtrid outcome) self.old self.new) }
+        ensures stays { IfErr result (λ n. n ≢ Refusals.LogFault →
+            StaysAs self.old self.new) }
         // The log and the lines.
         ensures log { IfErr result (λ n. n ≢ Refusals.LogFault →
             log_in self.new.manager ≡ log_in self.old.manager) }
@@ -130,6 +134,8 @@ impl<L: DecisionLog + Drop> Session<L> {
             (InDecide gtrid) (book_in self.old.manager) (book_in self.new.manager)) }
         ensures follows { OnOk result
             (Follows (Decided gtrid Outcomes.Commit) self.old self.new) }
+        ensures stays { IfErr result (λ n. n ≢ Refusals.LogFault →
+            StaysAs self.old self.new) }
         // The log and the lines.
         ensures log { IfErr result (λ n. n ≢ Refusals.LogFault →
             log_in self.new.manager ≡ log_in self.old.manager) }
@@ -159,6 +165,7 @@ impl<L: DecisionLog + Drop> Session<L> {
             × (book_in self.new.manager ≡ book_in self.old.manager)) }
         ensures follows { OnOk result
             (Follows (Decided gtrid Outcomes.Rollback) self.old self.new) }
+        ensures stays { OnErr result (StaysAs self.old self.new) }
         // The log and the lines.
         ensures log { log_in self.new.manager ≡ log_in self.old.manager }
         ensures lines { self.new.lines ≡ self.old.lines }
@@ -192,6 +199,8 @@ impl<L: DecisionLog + Drop> Session<L> {
             IfErr result (λ n. (n ≡ Refusals.LogFault) × (book_in self.new.manager ≡
             book_after (book_in self.old.manager) (Drops gtrid) (Failed (InDone gtrid)))) }
         ensures follows { OnOk result (Follows (Done gtrid) self.old self.new) }
+        ensures stays { IfErr result (λ n. n ≢ Refusals.LogFault →
+            StaysAs self.old self.new) }
         // The log and the lines.
         ensures log { IfErr result (λ n. n ≢ Refusals.LogFault →
             log_in self.new.manager ≡ log_in self.old.manager) }

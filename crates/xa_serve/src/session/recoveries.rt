@@ -8,7 +8,7 @@ ghost use Rattle.xa_model.specs.Trace.{Happening.Resolved, Happening.ResolvedOpe
 ghost use Rattle.xa_tm.specs.Book.{after};
 ghost use Rattle.xa_tm.specs.Calls.{book_in, log_in};
 ghost use Rattle.xa_tm.specs.Refusing.{resolved_in, resolved_open_in};
-ghost use Rattle.xa_serve.specs.Following.{Follows};
+ghost use Rattle.xa_serve.specs.Following.{Follows, StaysAs};
 ghost use Rattle.xa_serve.specs.Session.{IsReady, LetsWait, recovery_refusal, with_more};
 
 use super::Session;
@@ -62,6 +62,7 @@ impl<L: DecisionLog + Drop> Session<L> {
         // The manager.
         ensures manager { self.new.manager ≡ self.old.manager }
         ensures follows { OnOk result (Follows (Resolved rm) self.old self.new) }
+        ensures stays { OnErr result (StaysAs self.old self.new) }
     {
         books_have_headroom();
         recoveries_are_read();
@@ -102,6 +103,7 @@ impl<L: DecisionLog + Drop> Session<L> {
         ensures ok { OnOk result (book_in self.new.manager ≡
             after (book_in self.old.manager) (ResolvedOpen rm)) }
         ensures follows { OnOk result (Follows (ResolvedOpen rm) self.old self.new) }
+        ensures stays { OnErr result (StaysAs self.old self.new) }
         ensures log { log_in self.new.manager ≡ log_in self.old.manager }
     {
         books_have_headroom();

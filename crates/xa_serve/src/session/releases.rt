@@ -27,9 +27,10 @@ impl<L: DecisionLog + Drop> Session<L> {
         // One that isn't over stays.
         ensures owed { result ≡ false → IsOver (book_in self.old.manager) gtrid → ⊥ }
         ensures same { result ≡ false → self.new ≡ self.old }
-        // The log and the lines.
+        // The log, the lines and the monitor.
         ensures log { log_in self.new.manager ≡ log_in self.old.manager }
         ensures lines { self.new.lines ≡ self.old.lines }
+        ensures monitor { self.new.monitor ≡ self.old.monitor }
     {
         books_have_headroom();
         self.manager.release(gtrid)

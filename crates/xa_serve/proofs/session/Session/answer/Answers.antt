@@ -1,40 +1,110 @@
-use Rattle.std.proofs.Common.{◌≡◌, ◌∙◌, Some, ap, refl, subst, sym}
+use Rattle.std.proofs.Common.{◌≡◌, ◌≢◌, ◌∙◌, Some, ap, refl, subst, sym}
 use Rattle.std.specs.Prelude.{slice_get}
 use Rattle.std.specs.Option.{option_copied}
 use Rattle.xa_base.proofs.Options.{some_is}
 use Rattle.xa_base.specs.Answer.{map_answer}
 use Rattle.xa_base.specs.Call.{map_call}
-use Rattle.xa_line.specs.Grid.{with_line}
+use Rattle.xa_base.specs.declared.refusal.Refusal.TheVariants.{LogFault}
+use Rattle.xa_line.specs.Grid.{line_at, with_line}
+use Rattle.xa_line.specs.Histories.{known}
 use Rattle.xa_line.specs.Traffic.{Traffic}
 use Rattle.xa_model.specs.Facts.{record_of}
 use Rattle.xa_model.specs.Replies.History.{name_of}
-use Rattle.xa_model.specs.Replies.Steps.{accepted}
 use Rattle.xa_model.specs.Trace.{Fault.InHear, Happening.Heard, line}
+use Rattle.xa_standings.proofs.Following.{heard_in_room}
+use Rattle.xa_standings.specs.Monitor.{CanExplain, SaysTheSame, states_of}
 use Rattle.xa_tm.specs.Book.{Doubt.NoDoubt, doubt_of}
 use Rattle.xa_tm.specs.Calls.{FailsBy, book_in}
 use Rattle.xa_serve.proofs.Hearings.{answer_heard, has_answer, hearable}
-use Rattle.xa_serve.proofs.Lines.{all_with, may_tell}
-use Rattle.xa_serve.proofs.Sessions.{failed, has_few, step_leaves}
+use Rattle.xa_serve.proofs.Lines.{all_with, may_tell, waiting_known}
+use Rattle.xa_serve.proofs.Sessions.{book_kept, failed, has_few, kept_stays, step_leaves}
 use Rattle.xa_serve.proofs.Telling.{answered_follows}
 use Rattle.xa_serve.specs.Hearing.{with_answer}
+use Rattle.xa_serve.specs.declared.session.answers.Unfit.TheVariants.{Refused}
 use Rattle.xa_serve.proofs.session.Session.answer.Goals as goal
+
+pub hear-requires-clause-answers : goal.hear-requires-clause-answers
+hear-requires-clause-answers g c =
+    (hearable (map_call name_of c.copy-call.result) (map_answer name_of c.args.answer) (sym c.can_hear.ensures ∙ c.if-not-can_hear.false)).answers
 
 pub hear-requires-clause-fits : goal.hear-requires-clause-fits
 hear-requires-clause-fits g c =
     (hearable (map_call name_of c.copy-call.result) (map_answer name_of c.args.answer) (sym c.can_hear.ensures ∙ c.if-not-can_hear.false)).fits
 
-pub returns-in-Ok-clause-ready : goal.returns-in-Ok-clause-ready
-returns-in-Ok-clause-ready g c =
+pub returns-in-Some-unexplained-clause-unexplained : goal.returns-in-Some-unexplained-clause-unexplained
+returns-in-Some-unexplained-clause-unexplained g c = λ b e.
     let s = c.args.self.now in
     let t = c.args.thread in
     let r = c.args.rm in
     let may = may_tell s t r (sym c.line_refusal.ensures ∙ c.in_default.is) in
-    let known = (hearable (map_call name_of c.copy-call.result) (map_answer name_of c.args.answer) (sym c.can_hear.ensures ∙ c.if-not-can_hear.false)).known in
-    step_leaves s _ NoDoubt (Heard (line t r) known.0 (map_answer name_of c.args.answer)) c.requires (has_few s may.free) tt refl
-    (c.in-Ok.ensures.ok known.0 known.1)
+    let same : c.in-Some-unexplained.b ≡ b = cc in
+    let knows = (hearable (map_call name_of c.copy-call.result) (map_answer name_of c.args.answer) (sym c.can_hear.ensures ∙ c.if-not-can_hear.false)).known in
+    let waits : slice_get (line_at s.lines t r).calls.waiting 0 ≡ Some c.copy-call.result =
+    ap (λ (l : Traffic). slice_get l.calls.waiting 0) (sym c.line.ensures.value) ∙ sym c.front.ensures ∙ ap option_copied c.in-Some-front.is
+    ∙ ap (λ k. Some k) (sym c.copy-call.ensures)
+    in
+    λ explains.
+    subst (λ q. CanExplain (states_of s.monitor) (line t r) knows.0 (map_answer name_of c.args.answer) q → ⊥) same
+    (c.in-Some-unexplained.ensures.some t knows.0 knows.1)
+    (explains knows.0 (waiting_known s.lines t r c.copy-call.result may.there waits ∙ knows.1))
+
+pub returns-in-Ok-hear-clause-explained : goal.returns-in-Ok-hear-clause-explained
+returns-in-Ok-hear-clause-explained g c = λ q some d is.
+    let s = c.args.self.now in
+    let t = c.args.thread in
+    let r = c.args.rm in
+    let may = may_tell s t r (sym c.line_refusal.ensures ∙ c.in_default.is) in
+    let waits : slice_get (line_at s.lines t r).calls.waiting 0 ≡ Some c.copy-call.result =
+    ap (λ (l : Traffic). slice_get l.calls.waiting 0) (sym c.line.ensures.value) ∙ sym c.front.ensures ∙ ap option_copied c.in-Some-front.is
+    ∙ ap (λ k. Some k) (sym c.copy-call.ensures)
+    in
+    c.unexplained.ensures.none c.in_default-unexplained.is t d (sym (waiting_known s.lines t r c.copy-call.result may.there waits) ∙ is) q some
+
+pub returns-in-Ok-hear-clause-ready : goal.returns-in-Ok-hear-clause-ready
+returns-in-Ok-hear-clause-ready g c =
+    let s = c.args.self.now in
+    let t = c.args.thread in
+    let r = c.args.rm in
+    let may = may_tell s t r (sym c.line_refusal.ensures ∙ c.in_default.is) in
+    let knows = (hearable (map_call name_of c.copy-call.result) (map_answer name_of c.args.answer) (sym c.can_hear.ensures ∙ c.if-not-can_hear.false)).known in
+    step_leaves s _ NoDoubt (Heard (line t r) knows.0 (map_answer name_of c.args.answer)) c.requires (has_few s may.free) tt refl
+    (c.in-Ok-hear.ensures.ok knows.0 knows.1)
     (all_with s.lines t r c.answer_first.new.line c.line_mut.ensures.whole may.has
     (ap (λ (l : Traffic). l.answers.waiting) c.answer_first.ensures ∙ answer_heard c.line_mut.result.now c.args.answer
     (ap (λ (l : Traffic). l.answers.waiting) c.line_mut.ensures.value ∙ c.requires.heard t r may.has)) c.requires.heard)
+
+pub returns-in-Ok-hear-clause-follows : goal.returns-in-Ok-hear-clause-follows
+returns-in-Ok-hear-clause-follows g c = λ call d first is.
+    let s = c.args.self.now in
+    let t = c.args.thread in
+    let r = c.args.rm in
+    let may = may_tell s t r (sym c.line_refusal.ensures ∙ c.in_default.is) in
+    let waits : slice_get (line_at s.lines t r).calls.waiting 0 ≡ Some c.copy-call.result =
+    ap (λ (l : Traffic). slice_get l.calls.waiting 0) (sym c.line.ensures.value) ∙ sym c.front.ensures ∙ ap option_copied c.in-Some-front.is
+    ∙ ap (λ k. Some k) (sym c.copy-call.ensures)
+    in
+    let knows : known c.copy-call.result ≡ Some d = subst (λ k. known k ≡ Some d) (some_is _ _ (sym first ∙ waits)) is in
+    record {
+      leads =
+          answered_follows s _ t r call d c.args.answer may first is (c.requires.heard t r may.has) (c.in-Ok-hear.ensures.ok d knows)
+          (ap (with_line s.lines t r) (c.answer_first.ensures ∙ ap (λ (l : Traffic). with_answer l c.args.answer) c.line_mut.ensures.value));
+      states =
+          heard_in_room (states_of s.monitor) (states_of c.make_room.new.self) (states_of c.follow.new.self) c.make_room.ensures.same (line t r) d
+          (map_answer name_of c.args.answer) (c.unexplained.ensures.none c.in_default-unexplained.is t d knows) (c.follow.ensures (line t r) d knows);
+    }
+
+pub returns-in-Ok-hear-clause-has : goal.returns-in-Ok-hear-clause-has
+returns-in-Ok-hear-clause-has g c = λ call d first is.
+    let s = c.args.self.now in
+    let t = c.args.thread in
+    let r = c.args.rm in
+    let may = may_tell s t r (sym c.line_refusal.ensures ∙ c.in_default.is) in
+    let waits : slice_get (line_at s.lines t r).calls.waiting 0 ≡ Some c.copy-call.result =
+    ap (λ (l : Traffic). slice_get l.calls.waiting 0) (sym c.line.ensures.value) ∙ sym c.front.ensures ∙ ap option_copied c.in-Some-front.is
+    ∙ ap (λ k. Some k) (sym c.copy-call.ensures)
+    in
+    let knows : known c.copy-call.result ≡ Some d = subst (λ k. known k ≡ Some d) (some_is _ _ (sym first ∙ waits)) is in
+    has_answer (map_call name_of c.copy-call.result) (map_answer name_of c.args.answer) d (sym c.can_hear.ensures ∙ c.if-not-can_hear.false) knows
 
 pub returns-in-Err-clause-ready : goal.returns-in-Err-clause-ready
 returns-in-Err-clause-ready g c =
@@ -42,47 +112,51 @@ returns-in-Err-clause-ready g c =
     let t = c.args.thread in
     let r = c.args.rm in
     let may = may_tell s t r (sym c.line_refusal.ensures ∙ c.in_default.is) in
-    let known = (hearable (map_call name_of c.copy-call.result) (map_answer name_of c.args.answer) (sym c.can_hear.ensures ∙ c.if-not-can_hear.false)).known in
-    failed s _ _ (doubt_of (record_of known.0 (map_answer name_of c.args.answer))) (InHear (line t r)) c.in-Err.refusal c.requires may.free
+    let knows = (hearable (map_call name_of c.copy-call.result) (map_answer name_of c.args.answer) (sym c.can_hear.ensures ∙ c.if-not-can_hear.false)).known in
+    failed s _ _ (doubt_of (record_of knows.0 (map_answer name_of c.args.answer))) (InHear (line t r)) c.in-Err.refusal c.requires may.free
     (record { manager = c.conclude.ensures.manager; lines = c.conclude.ensures.lines; happenings = c.conclude.ensures.happenings }) tt
-    (c.in-Err.ensures.err may.up known.0 known.1)
+    (c.in-Err.ensures.err may.up knows.0 knows.1)
 
 pub returns-in-Err-clause-err : goal.returns-in-Err-clause-err
-returns-in-Err-clause-err g c = λ none.
-    let s = c.args.self.now in
-    let t = c.args.thread in
-    let r = c.args.rm in
-    let may = may_tell s t r (sym c.line_refusal.ensures ∙ c.in_default.is) in (
-      c.in-Err.refusal,
-      refl,
-      λ call d first is.
-          subst (λ m. FailsBy (doubt_of (record_of d (map_answer name_of c.args.answer))) (InHear (line t r)) (book_in s.manager) (book_in m) c.in-Err.refusal)
-          (sym c.conclude.ensures.manager)
-          (c.in-Err.ensures.err may.up d
-          (subst (λ k. accepted (map_call name_of k) ≡ Some d)
-          (some_is _ _ (sym first ∙ ap (λ (l : Traffic). slice_get l.calls.waiting 0)
-          (sym c.line.ensures.value) ∙ sym c.front.ensures ∙ ap option_copied c.in-Some-front.is)
-          ∙ sym c.copy-call.ensures) is)),
-    )
-
-pub returns-in-Ok-clause-follows : goal.returns-in-Ok-clause-follows
-returns-in-Ok-clause-follows g c = λ call d first is.
+returns-in-Err-clause-err g c = λ n e none call d first is.
     let s = c.args.self.now in
     let t = c.args.thread in
     let r = c.args.rm in
     let may = may_tell s t r (sym c.line_refusal.ensures ∙ c.in_default.is) in
-    answered_follows s _ t r call d c.args.answer may first is (c.requires.heard t r may.has)
-    (c.in-Ok.ensures.ok d
-    (subst (λ k. accepted (map_call name_of k) ≡ Some d)
-    (some_is _ _ (sym first ∙ ap (λ (l : Traffic). slice_get l.calls.waiting 0)
-    (sym c.line.ensures.value) ∙ sym c.front.ensures ∙ ap option_copied c.in-Some-front.is)
-    ∙ sym c.copy-call.ensures) is))
-    (ap (with_line s.lines t r) (c.answer_first.ensures ∙ ap (λ (l : Traffic). with_answer l c.args.answer) c.line_mut.ensures.value))
+    let waits : slice_get (line_at s.lines t r).calls.waiting 0 ≡ Some c.copy-call.result =
+    ap (λ (l : Traffic). slice_get l.calls.waiting 0) (sym c.line.ensures.value) ∙ sym c.front.ensures ∙ ap option_copied c.in-Some-front.is
+    ∙ ap (λ k. Some k) (sym c.copy-call.ensures)
+    in
+    let same : c.in-Err.refusal ≡ n = cc in
+    let knows : known c.copy-call.result ≡ Some d = subst (λ k. known k ≡ Some d) (some_is _ _ (sym first ∙ waits)) is in
+    let doubt = doubt_of (record_of d (map_answer name_of c.args.answer)) in
+    subst (λ m. FailsBy doubt (InHear (line t r)) (book_in s.manager) (book_in m) n) (sym c.conclude.ensures.manager)
+    (subst (FailsBy doubt (InHear (line t r)) (book_in s.manager) (book_in c.hear.new.self)) same (c.in-Err.ensures.err may.up d knows))
 
-pub returns-in-Ok-clause-has : goal.returns-in-Ok-clause-has
-returns-in-Ok-clause-has g c = λ call d first is.
-    has_answer (map_call name_of c.copy-call.result) (map_answer name_of c.args.answer) d (sym c.can_hear.ensures ∙ c.if-not-can_hear.false)
-    (subst (λ k. accepted (map_call name_of k) ≡ Some d)
-    (some_is _ _ (sym first ∙ ap (λ (l : Traffic). slice_get l.calls.waiting 0)
-    (sym c.line.ensures.value) ∙ sym c.front.ensures ∙ ap option_copied c.in-Some-front.is)
-    ∙ sym c.copy-call.ensures) is)
+pub returns-in-Err-clause-explained_first : goal.returns-in-Err-clause-explained_first
+returns-in-Err-clause-explained_first g c = λ n e none q some d is.
+    let s = c.args.self.now in
+    let t = c.args.thread in
+    let r = c.args.rm in
+    let may = may_tell s t r (sym c.line_refusal.ensures ∙ c.in_default.is) in
+    let waits : slice_get (line_at s.lines t r).calls.waiting 0 ≡ Some c.copy-call.result =
+    ap (λ (l : Traffic). slice_get l.calls.waiting 0) (sym c.line.ensures.value) ∙ sym c.front.ensures ∙ ap option_copied c.in-Some-front.is
+    ∙ ap (λ k. Some k) (sym c.copy-call.ensures)
+    in
+    c.unexplained.ensures.none c.in_default-unexplained.is t d (sym (waiting_known s.lines t r c.copy-call.result may.there waits) ∙ is) q some
+
+pub returns-in-Err-clause-stays : goal.returns-in-Err-clause-stays
+returns-in-Err-clause-stays g c = λ not.
+    let s = c.args.self.now in
+    let t = c.args.thread in
+    let r = c.args.rm in
+    let may = may_tell s t r (sym c.line_refusal.ensures ∙ c.in_default.is) in
+    let knows = (hearable (map_call name_of c.copy-call.result) (map_answer name_of c.args.answer) (sym c.can_hear.ensures ∙ c.if-not-can_hear.false)).known in
+    let fault : c.in-Err.refusal ≢ LogFault = λ e. not (ap (λ n. Refused n) e) in
+    let same : SaysTheSame s.monitor c.conclude.new.self.monitor =
+    λ b. ap (λ m. states_of m b) c.conclude.ensures.monitor ∙ c.drop_room.ensures b ∙ c.make_room.ensures.same b in
+    kept_stays s c.conclude.new.self c.hear.new.self c.in-Err.refusal
+    (record { manager = c.conclude.ensures.manager; lines = c.conclude.ensures.lines; happenings = c.conclude.ensures.happenings }) same
+    (book_kept s c.conclude.new.self c.hear.new.self (doubt_of (record_of knows.0 (map_answer name_of c.args.answer))) (InHear (line t r)) c.in-Err.refusal
+    (c.in-Err.ensures.err may.up knows.0 knows.1) fault)
+    (c.in-Err.ensures.kept fault) fault

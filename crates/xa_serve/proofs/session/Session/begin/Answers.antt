@@ -4,7 +4,7 @@ use Rattle.xa_tm.specs.Book.{Doubt.NoDoubt}
 use Rattle.xa_tm.specs.Calls.{book_in}
 use Rattle.xa_tm.specs.Refusing.{service_refusal_in}
 use Rattle.xa_serve.proofs.Following.{begun_follows}
-use Rattle.xa_serve.proofs.Sessions.{has_few, refused_or, same_leaves, step_leaves}
+use Rattle.xa_serve.proofs.Sessions.{has_few, refused_or, same_leaves, stays_by, step_leaves}
 use Rattle.xa_serve.proofs.session.Session.begin.Goals as goal
 
 pub returns-in-Ok-clause-ready : goal.returns-in-Ok-clause-ready
@@ -21,5 +21,15 @@ returns-in-Err-clause-ready g c =
     (λ n is. ap book_in (c.in-Err.ensures.refused n is).1) (λ none. (c.in-Err.ensures.err none).1)) refl
 
 pub returns-in-Ok-clause-follows : goal.returns-in-Ok-clause-follows
-returns-in-Ok-clause-follows g c = begun_follows c.args.self.now _ c.args.thread c.in-Ok.gtrid c.in-Ok.ensures.allowed c.in-Ok.ensures.value
-    c.in-Ok.ensures.ok refl
+returns-in-Ok-clause-follows g c = record {
+  leads =
+      begun_follows c.args.self.now _ c.args.thread c.in-Ok.gtrid c.in-Ok.ensures.allowed c.in-Ok.ensures.value c.in-Ok.ensures.ok refl;
+  states = λ b. refl;
+}
+
+pub returns-in-Err-clause-stays : goal.returns-in-Err-clause-stays
+returns-in-Err-clause-stays g c =
+    let s = c.args.self.now in
+    stays_by s _
+    (refused_or (service_refusal_in (book_in s.manager) c.args.thread) _ _
+    (λ n is. ap book_in (c.in-Err.ensures.refused n is).1) (λ none. (c.in-Err.ensures.err none).1)) c.in-Err.ensures.log

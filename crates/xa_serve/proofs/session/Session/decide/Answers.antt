@@ -6,7 +6,7 @@ use Rattle.xa_tm.specs.Book.{Doubt.Adds, voted_yes}
 use Rattle.xa_tm.specs.Calls.{book_in}
 use Rattle.xa_serve.proofs.Refusals.{begun_if_decided}
 use Rattle.xa_serve.proofs.Following.{decided_follows, follows_if_ok}
-use Rattle.xa_serve.proofs.Sessions.{concluded}
+use Rattle.xa_serve.proofs.Sessions.{concluded, concluded_stays}
 use Rattle.xa_serve.proofs.session.Session.decide.Goals as goal
 
 pub returns-clause-ready : goal.returns-clause-ready
@@ -24,4 +24,13 @@ returns-clause-follows g c =
     let s = c.args.self.now in
     follows_if_ok s c.conclude.new.self (Steps.Decide c.args.gtrid c.args.outcome)
     (Decided c.args.gtrid c.args.outcome) c.decide-reply.new.self c.decide-reply.result _ c.conclude.ensures.value c.conclude.ensures.manager
-    c.conclude.ensures.lines c.decide-reply.ensures.allowed c.decide-reply.ensures.ok (decided_follows s c.conclude.new.self c.args.gtrid c.args.outcome)
+    c.conclude.ensures.lines c.decide-reply.ensures.allowed c.decide-reply.ensures.ok c.conclude.ensures.monitor
+    (decided_follows s c.conclude.new.self c.args.gtrid c.args.outcome)
+
+pub returns-clause-stays : goal.returns-clause-stays
+returns-clause-stays g c =
+    let s = c.args.self.now in
+    concluded_stays s _ _ (Steps.Decide c.args.gtrid c.args.outcome) (Adds c.args.gtrid (voted_yes (book_in s.manager) c.args.gtrid)) (InDecide c.args.gtrid)
+    c.decide-reply.result _
+    (record { manager = c.conclude.ensures.manager; lines = c.conclude.ensures.lines; happenings = c.conclude.ensures.happenings })
+    c.conclude.ensures.value c.conclude.ensures.monitor c.decide-reply.ensures.refused c.decide-reply.ensures.err c.decide-reply.ensures.kept

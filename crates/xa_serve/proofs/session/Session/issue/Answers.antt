@@ -9,7 +9,7 @@ use Rattle.xa_tm.specs.Calls.{book_in}
 use Rattle.xa_serve.proofs.Lines.{all_with, may_issue_so}
 use Rattle.xa_serve.proofs.Recoveries.{line_took}
 use Rattle.xa_serve.proofs.Refusals.{known_issue}
-use Rattle.xa_serve.proofs.Sessions.{has_few, step_leaves}
+use Rattle.xa_serve.proofs.Sessions.{has_few, stays_by, step_leaves}
 use Rattle.xa_serve.proofs.Telling.{issued_follows}
 use Rattle.xa_serve.proofs.session.Session.issue.Goals as goal
 
@@ -43,7 +43,14 @@ returns-in-Ok-clause-follows g c = λ d is.
     let t = c.args.thread in
     let r = c.args.rm in
     let may = may_issue_so s t r c.args.call.now (sym c.may_issue.ensures ∙ c.in_default.is) in
-    issued_follows s _ t r c.args.call.now d is may (c.in-Ok.ensures.ok d is)
-    (ap (with_line s.lines t r)
-    (line_took (line_at s.lines t r) c.line_mut.result.now c.args.call.now c.copy.result c.issue.result c.issue.new.self c.line_mut.ensures.value c.copy.ensures
-    c.issue.ensures.reason c.issue.ensures.accepted may.bar may.room))
+    record {
+      leads =
+          issued_follows s _ t r c.args.call.now d is may (c.in-Ok.ensures.ok d is)
+          (ap (with_line s.lines t r)
+          (line_took (line_at s.lines t r) c.line_mut.result.now c.args.call.now c.copy.result c.issue.result c.issue.new.self c.line_mut.ensures.value
+          c.copy.ensures c.issue.ensures.reason c.issue.ensures.accepted may.bar may.room));
+      states = λ b. refl;
+    }
+
+pub returns-in-Err-clause-stays : goal.returns-in-Err-clause-stays
+returns-in-Err-clause-stays g c = stays_by c.args.self.now _ c.in-Err.ensures.err.1 c.in-Err.ensures.log

@@ -1,10 +1,13 @@
-use Rattle.std.proofs.Common.{◌∙◌, ap, refl, sym}
+use Rattle.std.proofs.Common.{◌∙◌, ap, refl, subst, sym}
+use Rattle.std.specs.Prelude.{slice_get}
+use Rattle.std.specs.Option.{option_copied}
 use Rattle.xa_base.specs.declared.step.Part.TheVariants as Parts
 use Rattle.xa_line.specs.Grid.{with_line}
 use Rattle.xa_line.specs.Traffic.{Traffic}
-use Rattle.xa_model.specs.Trace.{Happening.Crashed}
+use Rattle.xa_model.specs.Trace.{Happening.Crashed, line}
+use Rattle.xa_standings.specs.Monitor.{Loses}
 use Rattle.xa_tm.specs.Book.{Doubt.NoDoubt}
-use Rattle.xa_serve.proofs.Lines.{all_with, may_tell}
+use Rattle.xa_serve.proofs.Lines.{all_with, may_tell, waiting_if}
 use Rattle.xa_serve.proofs.Sessions.{has_few, step_leaves}
 use Rattle.xa_serve.proofs.Telling.{lost_follows}
 use Rattle.xa_serve.proofs.session.Session.lose_line.Goals as goal
@@ -23,4 +26,12 @@ returns-clause-follows g c =
     let s = c.args.self.now in
     let t = c.args.thread in
     let r = c.args.rm in
-    lost_follows s _ t r (may_tell s t r (sym c.line_refusal.ensures ∙ c.in_default.is)) c.crash.ensures.book (ap (with_line s.lines t r) c.renew.ensures)
+    let may = may_tell s t r (sym c.line_refusal.ensures ∙ c.in_default.is) in
+    record {
+      leads = lost_follows s _ t r may c.crash.ensures.book (ap (with_line s.lines t r) c.renew.ensures);
+      states =
+          subst (λ k. Loses (line t r) k s.monitor c.lose_line.new.self)
+          (waiting_if s.lines t r (option_copied c.front-call.result) may.there
+          (c.front-call.ensures ∙ ap (λ (l : Traffic). slice_get l.calls.waiting 0) c.line.ensures.value))
+          c.in-Ok.ensures.ok;
+    }

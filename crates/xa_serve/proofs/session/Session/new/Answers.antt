@@ -16,6 +16,7 @@ use Rattle.xa_tm.proofs.Release.{books_are_whole}
 use Rattle.xa_serve.specs.Headroom.{HasHeadroom, first_headroom}
 use Rattle.xa_serve.specs.Session.{AllHeard}
 use Rattle.xa_serve.proofs.Headroom.{starts_have_headroom}
+use Rattle.xa_serve.proofs.Books.{old_log}
 use Rattle.xa_serve.proofs.Sessions.{all_new}
 use Rattle.xa_serve.proofs.session.Session.new.Goals as goal
 
@@ -41,21 +42,26 @@ returns-in-Ok-new-clause-ready g c =
     }
 
 pub returns-in-Ok-new-clause-stands : goal.returns-in-Ok-new-clause-stands
-returns-in-Ok-new-clause-stands g c = λ o begins runs.
-    let lines = c.in-Ok.ensures in
-    record {
-      run = runs;
-      apart = subst ApartRows (sym begins.rows) c.in-Ok-new.ensures.apart;
-      threads = ap (λ l. l.threads) lines ∙ sym begins.threads_are;
-      rms = ap (λ l. l.rms) lines ∙ sym begins.rms_are;
-      whole = subst IsWhole (sym lines) (whole-new_grid c.args.threads c.args.rms);
-      rms_up = λ r. refl;
-      book = (
-        (λ g. false),
-        subst (λ w. HasReleased (λ g. false) w (book_in c.in-Ok-new.manager)) (c.in-Ok-new.ensures.start o begins)
-            (books_are_whole (book_in c.in-Ok-new.manager) c.in-Ok-new.ensures.own),
-      );
-      lines =
-          λ t r has. subst (LineStands (From o) (line t r)) (sym (ap (λ l. line_at l t r) lines ∙ line_at-new_grid c.args.threads c.args.rms t r))
-          (record { all_issued = refl; all_answered = refl; all_heard = refl; each_answered = refl });
-    }
+returns-in-Ok-new-clause-stands g c = λ o begins.
+    let lines = c.in-Ok.ensures in (
+      λ runs. record {
+        run = runs;
+        apart = subst ApartRows (sym begins.rows) c.in-Ok-new.ensures.apart;
+        threads = ap (λ l. l.threads) lines ∙ sym begins.threads_are;
+        rms = ap (λ l. l.rms) lines ∙ sym begins.rms_are;
+        whole = subst IsWhole (sym lines) (whole-new_grid c.args.threads c.args.rms);
+        rms_up = λ r. refl;
+        book = (
+          (λ g. false),
+          subst (λ w. HasReleased (λ g. false) w (book_in c.in-Ok-new.manager)) (c.in-Ok-new.ensures.start o begins)
+              (books_are_whole (book_in c.in-Ok-new.manager) c.in-Ok-new.ensures.own),
+        );
+        lines =
+            λ t r has. subst (LineStands (From o) (line t r)) (sym (ap (λ l. line_at l t r) lines ∙ line_at-new_grid c.args.threads c.args.rms t r))
+            (record { all_issued = refl; all_answered = refl; all_heard = refl; each_answered = refl });
+      },
+      c.new-monitor.ensures o (begins.incarnation ∙ sym c.incarnation.ensures),
+    )
+
+pub returns-in-Ok-new-clause-old : goal.returns-in-Ok-new-clause-old
+returns-in-Ok-new-clause-old g c = λ o begins. old_log o (subst IsOld (c.in-Ok-new.ensures.start o begins) c.in-Ok-new.ensures.old)

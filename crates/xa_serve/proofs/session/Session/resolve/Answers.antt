@@ -19,10 +19,14 @@ pub returns-in-Ok-clause-follows : goal.returns-in-Ok-clause-follows
 returns-in-Ok-clause-follows g c =
     let s = c.args.self.now in
     let r = c.args.rm in
-    resolved_follows s _ r c.resolve_len-count.result (sym c.no_recovery.ensures ∙ c.in_default.is) refl
-    (record {
-      calls = c.in-Ok.calls.items;
-      are = c.in-Ok.ensures.ok;
-      lines = ap (with_line s.lines 0 r) (c.issue_all.ensures ∙ ap (λ
-          (t : Traffic). record t { calls = with_more t.calls c.in-Ok.calls.items }) c.line_mut.ensures.value);
-    })
+    record {
+      leads =
+          resolved_follows s _ r c.resolve_len-count.result (sym c.no_recovery.ensures ∙ c.in_default.is) refl
+          (record {
+            calls = c.in-Ok.calls.items;
+            are = c.in-Ok.ensures.ok;
+            lines = ap (with_line s.lines 0 r) (c.issue_all.ensures ∙ ap (λ
+                (t : Traffic). record t { calls = with_more t.calls c.in-Ok.calls.items }) c.line_mut.ensures.value);
+          });
+      states = λ b. refl;
+    }

@@ -9,7 +9,7 @@ use Rattle.xa_serve.specs.Session.{line_refusal}
 use Rattle.xa_serve.proofs.Lines.{all_with, may_tell, none_first}
 use Rattle.xa_serve.specs.Session.{with_more}
 use Rattle.xa_serve.proofs.Recoveries.{recovery_unclosed}
-use Rattle.xa_serve.proofs.Sessions.{has_few, step_leaves}
+use Rattle.xa_serve.proofs.Sessions.{has_few, stays_by, step_leaves}
 use Rattle.xa_serve.proofs.Telling.{open_resolved_follows}
 use Rattle.xa_serve.proofs.session.Session.resolve_open.Goals as goal
 
@@ -36,10 +36,17 @@ pub returns-in-Ok-clause-follows : goal.returns-in-Ok-clause-follows
 returns-in-Ok-clause-follows g c =
     let s = c.args.self.now in
     let r = c.args.rm in
-    open_resolved_follows s _ r c.resolve_open_len-count.result (sym c.no_recovery.ensures ∙ c.in_default.is) c.in-Ok.ensures.ok
-    (record {
-      calls = c.in-Ok.calls.items;
-      are = c.in-Ok.ensures.calls;
-      lines = ap (with_line s.lines 0 r) (c.issue_all.ensures ∙ ap (λ
-          (t : Traffic). record t { calls = with_more t.calls c.in-Ok.calls.items }) c.line_mut.ensures.value);
-    })
+    record {
+      leads =
+          open_resolved_follows s _ r c.resolve_open_len-count.result (sym c.no_recovery.ensures ∙ c.in_default.is) c.in-Ok.ensures.ok
+          (record {
+            calls = c.in-Ok.calls.items;
+            are = c.in-Ok.ensures.calls;
+            lines = ap (with_line s.lines 0 r) (c.issue_all.ensures ∙ ap (λ
+                (t : Traffic). record t { calls = with_more t.calls c.in-Ok.calls.items }) c.line_mut.ensures.value);
+          });
+      states = λ b. refl;
+    }
+
+pub returns-in-Err-clause-stays : goal.returns-in-Err-clause-stays
+returns-in-Err-clause-stays g c = stays_by c.args.self.now _ c.in-Err.ensures.err.1 c.in-Err.ensures.log

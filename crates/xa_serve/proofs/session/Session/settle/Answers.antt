@@ -7,7 +7,7 @@ use Rattle.xa_tm.specs.Book.{Doubt.Adds, voted_yes}
 use Rattle.xa_tm.specs.Calls.{book_in}
 use Rattle.xa_serve.proofs.Refusals.{begun_if_settled}
 use Rattle.xa_serve.proofs.Following.{settled_follows, follows_if_ok}
-use Rattle.xa_serve.proofs.Sessions.{concluded, concluded_err}
+use Rattle.xa_serve.proofs.Sessions.{concluded, concluded_stays, concluded_err}
 use Rattle.xa_serve.proofs.session.Session.settle.Goals as goal
 
 pub returns-clause-ready : goal.returns-clause-ready
@@ -23,7 +23,7 @@ returns-clause-ready g c =
 pub returns-clause-err : goal.returns-clause-err
 returns-clause-err g c =
     let s = c.args.self.now in
-    concluded_err s _ _ (Steps.Settle c.args.gtrid) (Adds c.args.gtrid (voted_yes
+    concluded_err s c.conclude.new.self _ (Steps.Settle c.args.gtrid) (Adds c.args.gtrid (voted_yes
     (book_in s.manager) c.args.gtrid)) (InDecide c.args.gtrid) c.settle-reply.result _
     (sym c.is_over.ensures ∙ c.if-is_over.false)
     (record { manager = c.conclude.ensures.manager; lines = c.conclude.ensures.lines; happenings = c.conclude.ensures.happenings })
@@ -34,4 +34,13 @@ returns-clause-follows g c =
     let s = c.args.self.now in
     follows_if_ok s c.conclude.new.self (Steps.Settle c.args.gtrid)
     (Decided c.args.gtrid Outcomes.Commit) c.settle-reply.new.self c.settle-reply.result _ c.conclude.ensures.value c.conclude.ensures.manager
-    c.conclude.ensures.lines c.settle-reply.ensures.allowed c.settle-reply.ensures.ok (settled_follows s c.conclude.new.self c.args.gtrid)
+    c.conclude.ensures.lines c.settle-reply.ensures.allowed c.settle-reply.ensures.ok c.conclude.ensures.monitor
+    (settled_follows s c.conclude.new.self c.args.gtrid)
+
+pub returns-clause-stays : goal.returns-clause-stays
+returns-clause-stays g c =
+    let s = c.args.self.now in
+    concluded_stays s _ _ (Steps.Settle c.args.gtrid) (Adds c.args.gtrid (voted_yes (book_in s.manager) c.args.gtrid)) (InDecide c.args.gtrid)
+    c.settle-reply.result _
+    (record { manager = c.conclude.ensures.manager; lines = c.conclude.ensures.lines; happenings = c.conclude.ensures.happenings })
+    c.conclude.ensures.value c.conclude.ensures.monitor c.settle-reply.ensures.refused c.settle-reply.ensures.err c.settle-reply.ensures.kept
