@@ -1,5 +1,5 @@
 -- The map of the branches of which something was heard, entry by entry.
-use Rattle.std.proofs.Common.{◌≡◌, ℕ, Bool, true, false, ◌&&◌, cond, List, [], ◌∷◌, Option, Some, None, IsSome, Result, Ok, Err, OnOk, OnErr, is_some, is_eq, refl, sym, ap, ◌∙◌, subst, Less}
+use Rattle.std.proofs.Common.{◌≡◌, ◌≢◌, ℕ, Bool, true, false, ◌&&◌, cond, List, [], ◌∷◌, Option, Some, None, IsSome, Result, Ok, Err, OnOk, OnErr, is_some, is_eq, refl, sym, ap, ◌∙◌, subst, Less}
 use Rattle.std.specs.Prelude.{if◌then◌else◌, nat_lt, unwrap_or}
 use Rattle.std.specs.Ordering.{eq_by_cmp}
 use Rattle.std.specs.BTreeMap.{BTreeMap, IsOrdered, get, is_at}
@@ -17,7 +17,7 @@ use Rattle.xa_base.specs.Xid.{Xid}
 use Rattle.xa_model.specs.Facts.{fits}
 use Rattle.xa_model.specs.Replies.History.{name_by, name_of}
 use Rattle.xa_model.specs.Trace.{Branch, Line, line_eq, line_of}
-use Rattle.xa_standings.specs.Entries.{HasRoom, HasRoomIf, listed, off_line_at, states_at, states_before}
+use Rattle.xa_standings.specs.Entries.{HasNoRoom, HasRoom, HasRoomIf, listed, off_line_at, states_at, states_before}
 use Rattle.xa_standings.specs.Rows.{break_row, found_states, page_row, unstarted_states}
 use Rattle.xa_standings.specs.declared.states.States.{States}
 
@@ -173,6 +173,38 @@ pub dropped_at : {F : Type 0} (T : F → Branch → States → Bool → States �
     → (m n : BTreeMap Branch States) → IsOrdered branch_cmp m → RetainsPairs T f m.entries n.entries
     → (q : Branch) → states_at i n q ≡ states_at i m q
 dropped_at T i f law m n up r q = retained T (λ k v. v) (states_before i) f law (λ k. refl) m.entries n.entries up r q
+
+-- and nothing that does is left
+pub none_as_before : {F : Type 0} (T : F → Branch → States → Bool → States → F → Type 0) (before : Branch → States) (f : F)
+    → ((k : Branch) (v : States) (b : Bool) (w : States) (f' : F) → T f k v b w f' → (b ≡ true → w ≢ before k) × (f' ≡ f))
+    → (es kept : List (Branch × States)) → RetainsPairs T f es kept → (q : Branch) → IsSome (lookup (is_at (branch_cmp q)) kept)
+    → unwrap_or (lookup (is_at (branch_cmp q)) kept) (before q) ≢ before q
+none_as_before T before f law [] kept r q has = let no : ⊥ = none (subst (λ es. IsSome (lookup (is_at (branch_cmp q)) es)) r has) in absurd no
+  where
+    none : (let x : Option States = None in IsSome x) → ⊥
+    none e = cc
+none_as_before T before f law (e ∷ es) kept r q has =
+    let call = law e.0 e.1 r.0 r.1 r.2 r.4 in
+    subst Apart (sym r.6)
+    (by r.0 (is_at (branch_cmp q) e.0) refl refl call.0 (none_as_before T before f law es r.3 (subst (λ h. RetainsPairs T h es r.3) call.1 r.5) q))
+    has
+  where
+    Apart : List (Branch × States) → Type 0
+    Apart xs = IsSome (lookup (is_at (branch_cmp q)) xs) → unwrap_or (lookup (is_at (branch_cmp q)) xs) (before q) ≢ before q
+
+    by : (b t : Bool) → r.0 ≡ b → is_at (branch_cmp q) e.0 ≡ t → (r.0 ≡ true → r.1 ≢ before e.0) → Apart r.3 → Apart (cond b ((e.0, r.1) ∷ r.3) r.3)
+    by false t eb et apart rest = rest
+    by true true eb et apart rest =
+        subst (λ u. IsSome (cond u (Some r.1) (lookup (is_at (branch_cmp q)) r.3)) → unwrap_or (cond u (Some r.1) (lookup (is_at (branch_cmp q)) r.3)) (before q)
+        ≢ before q) (sym et) (λ some same. apart eb (same ∙ ap before (tied_branch q e.0 et)))
+    by true false eb et apart rest =
+        subst (λ u. IsSome (cond u (Some r.1) (lookup (is_at (branch_cmp q)) r.3)) → unwrap_or (cond u (Some r.1) (lookup (is_at (branch_cmp q)) r.3)) (before q)
+        ≢ before q) (sym et) rest
+
+pub nothing_left : {F : Type 0} (T : F → Branch → States → Bool → States → F → Type 0) (i : ℕ) (f : F)
+    → ((k : Branch) (v : States) (b : Bool) (w : States) (f' : F) → T f k v b w f' → (b ≡ true → w ≢ states_before i k) × (f' ≡ f))
+    → (m n : BTreeMap Branch States) → RetainsPairs T f m.entries n.entries → HasNoRoom i n
+nothing_left T i f law m n r q has = none_as_before T (states_before i) f law m.entries n.entries r q has
 
 -- ** a line that breaks
 

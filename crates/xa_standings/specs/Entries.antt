@@ -1,5 +1,5 @@
 -- The states of the branches of which something was heard, as a map has them; any other branch is as it was before.
-use Rattle.std.specs.Prelude.{◌≡◌, ◌&&◌, ℕ, nat_lt, true, if◌then◌else◌, unwrap_or, List, [], ◌∷◌, IsSome, Option, Some, None}
+use Rattle.std.specs.Prelude.{◌≡◌, ◌≢◌, ◌&&◌, ℕ, nat_lt, true, if◌then◌else◌, unwrap_or, List, [], ◌∷◌, IsSome, Option, Some, None}
 use Rattle.std.specs.Option.{option_and_then}
 use Rattle.std.specs.BTreeMap.{BTreeMap, get}
 use Rattle.xa_base.specs.Branch.{branch_cmp, branch_eq, branch_of_xid}
@@ -56,6 +56,10 @@ HasRoom m (Foreign x) = Unit
 abbrev pub HaveRoom : BTreeMap Branch States → List Xid → Type 0
 HaveRoom m [] = Unit
 HaveRoom m (x ∷ xs) = HasRoom m (name_of x) × HaveRoom m xs
+
+-- no entry says only what was known before anything was heard
+abbrev pub HasNoRoom : (incarnation : ℕ) → BTreeMap Branch States → Type 0
+HasNoRoom i m = (b : Branch) → HasEntry m b → states_at i m b ≢ states_before i b
 
 -- what there was an entry for, there still is
 abbrev pub HasKept : (old new : BTreeMap Branch States) → Type 0

@@ -1,11 +1,11 @@
 //! The states of the branches of which something was heard, in a map. Any other branch is as it was before.
 
-ghost use Rattle.std.specs.Prelude.{◌≡◌, map, false, if◌then◌else◌, None, IfSome, OnOk};
+ghost use Rattle.std.specs.Prelude.{◌≡◌, ◌≢◌, map, true, false, if◌then◌else◌, None, IfSome, OnOk};
 ghost use Rattle.xa_base.specs.Branch.{branch_eq};
 ghost use Rattle.xa_model.specs.Protocol.{Lists};
 ghost use Rattle.xa_model.specs.Replies.History.{name_of};
 ghost use Rattle.xa_model.specs.Trace.{Name.Ours, line};
-ghost use Rattle.xa_standings.specs.Entries.{AreListable, HasEntry, HasKept, HasRoom, HaveRoom, IsListable, listed, listed_by, off_line_at, states_at, states_before};
+ghost use Rattle.xa_standings.specs.Entries.{AreListable, HasEntry, HasKept, HasNoRoom, HasRoom, HaveRoom, IsListable, listed, listed_by, off_line_at, states_at, states_before};
 
 use crate::States;
 use std::collections::BTreeMap;
@@ -24,7 +24,8 @@ fn states_before(incarnation: u64, b: Branch) -> States
 
 /// Whether a branch is in other states than before anything was heard of it. If not, it needs no entry.
 fn differs_from_before(incarnation: u64, b: Branch, states: States) -> bool
-    ensures { result ≡ false → states ≡ states_before incarnation b }
+    ensures same { result ≡ false → states ≡ states_before incarnation b }
+    ensures other { result ≡ true → states ≢ states_before incarnation b }
 {
     states != states_before(incarnation, b)
 }
@@ -127,8 +128,9 @@ pub(crate) fn first_unlistable(
 
 /// Takes the entries away that say no more than what was known before anything was heard.
 pub(crate) fn drop_room(branches: &mut BTreeMap<Branch, States>, incarnation: u64)
-    ensures { (q : _) → states_at incarnation branches.new q
+    ensures same { (q : _) → states_at incarnation branches.new q
         ≡ states_at incarnation branches.old q }
+    ensures dropped { HasNoRoom incarnation branches.new }
 {
     branches.retain(|b, states| differs_from_before(incarnation, *b, *states));
 }

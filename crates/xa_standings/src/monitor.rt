@@ -7,7 +7,7 @@ ghost use Rattle.xa_base.specs.StateTable.{asks_of};
 ghost use Rattle.xa_base.specs.declared.answer.Answer.TheVariants.{Ret};
 ghost use Rattle.xa_model.specs.Replies.History.{name_of};
 ghost use Rattle.xa_model.specs.Trace.{Branch as Named, Call as KnownCall, Happening, Line, Origin, line};
-ghost use Rattle.xa_standings.specs.Entries.{HasRoomFor, HasRoomIf, branch_asked};
+ghost use Rattle.xa_standings.specs.Entries.{HasNoRoom, HasRoomFor, HasRoomIf, branch_asked};
 ghost use Rattle.xa_standings.specs.Explained.{IsExplained, IsOldLog};
 ghost use Rattle.xa_standings.specs.Seen.{KeepsRules, Seen};
 ghost use Rattle.xa_standings.specs.Standings.{Explained, MayBeDone, Takes};
@@ -89,10 +89,11 @@ impl Monitor {
     }
 
     /// Makes room for such an answer to the call, so that [`Monitor::follow`] asks for no memory. What is known of the
-    /// branches stays, and so does the memory that is kept, where some was refused.
+    /// branches stays. Where memory was refused, there is no room left.
     pub fn make_room(&mut self, call: &Call, answer: &Answer) -> Result<(), Memory>
         ensures room { OnOk result (HasRoomFor self.new.branches call.now answer.now) }
         ensures same { SaysTheSame self.old self.new }
+        ensures dropped { OnErr result (HasNoRoom self.new.incarnation self.new.branches) }
     {
         match self.reserve(call, answer) {
             Ok(()) => Ok(()),
@@ -105,7 +106,8 @@ impl Monitor {
 
     /// Gives the room back that was made for an answer which then wasn't followed.
     pub fn drop_room(&mut self)
-        ensures { SaysTheSame self.old self.new }
+        ensures same { SaysTheSame self.old self.new }
+        ensures dropped { HasNoRoom self.new.incarnation self.new.branches }
     {
         drop_room(&mut self.branches, self.incarnation);
     }

@@ -154,7 +154,7 @@ returns-in-Err-clause-stays g c = λ not.
     let knows = (hearable (map_call name_of c.copy-call.result) (map_answer name_of c.args.answer) (sym c.can_hear.ensures ∙ c.if-not-can_hear.false)).known in
     let fault : c.in-Err.refusal ≢ LogFault = λ e. not (ap (λ n. Refused n) e) in
     let same : SaysTheSame s.monitor c.conclude.new.self.monitor =
-    λ b. ap (λ m. states_of m b) c.conclude.ensures.monitor ∙ c.drop_room.ensures b ∙ c.make_room.ensures.same b in
+    λ b. ap (λ m. states_of m b) c.conclude.ensures.monitor ∙ c.drop_room.ensures.same b ∙ c.make_room.ensures.same b in
     kept_stays s c.conclude.new.self c.hear.new.self c.in-Err.refusal
     (record { manager = c.conclude.ensures.manager; lines = c.conclude.ensures.lines; happenings = c.conclude.ensures.happenings }) same
     (book_kept s c.conclude.new.self c.hear.new.self (doubt_of (record_of knows.0 (map_answer name_of c.args.answer))) (InHear (line t r)) c.in-Err.refusal
