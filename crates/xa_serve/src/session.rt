@@ -1,11 +1,12 @@
 //! A session: the manager over its log, the lines, and the monitor of the branches. A file for each family of requests.
 
-ghost use Rattle.std.specs.Prelude.{◌≡◌, ◌<◌, IfOk};
+ghost use Rattle.std.specs.Prelude.{◌≡◌, ◌<◌, Bool, IfOk};
 ghost use Rattle.xa_line.specs.Grid.{new_grid};
 ghost use Rattle.xa_model.specs.Trace.{Origin};
 ghost use Rattle.xa_standings.specs.Explained.{IsOldLog};
 ghost use Rattle.xa_tm.specs.Begins.{BeginsWith};
-ghost use Rattle.xa_tm.specs.Calls.{book_in};
+ghost use Rattle.xa_tm.specs.BookAndLog.{IsTied};
+ghost use Rattle.xa_tm.specs.Calls.{book_in, log_in};
 ghost use Rattle.xa_serve.specs.Following.{StandsAtStart};
 ghost use Rattle.xa_serve.specs.Headroom.{first_headroom};
 ghost use Rattle.xa_serve.specs.Session.{IsReady, happenings_by, is_over, lines_by};
@@ -49,6 +50,14 @@ impl<L: DecisionLog + Drop> Session<L> {
         ensures stands { IfOk result (StandsAtStart threads rms) }
         ensures old { IfOk result (λ s. (o : Origin) → BeginsWith threads rms s.manager o →
             IsOldLog o) }
+        // The log, whose incarnation is raised.
+        ensures tied { (near : Bool) → (L.moment log).is_in_order →
+            IfOk result (λ s. (L.moment (log_in s.manager)).is_honest →
+            IsTied near (book_in s.manager) (L.moment (log_in s.manager)).content) }
+        ensures order { (L.moment log).is_in_order →
+            IfOk result (λ s. (L.moment (log_in s.manager)).is_in_order) }
+        ensures honest { IfOk result (λ s. (L.moment (log_in s.manager)).is_honest →
+            (L.moment log).is_honest) }
     {
         let Ok(lines) = Lines::new(alloc, threads, rms) else {
             return Err(StartFault::Memory);
@@ -79,6 +88,27 @@ impl<L: DecisionLog + Drop> Session<L> {
         ensures { result ≡ (book_in self.now.manager).incarnation }
     {
         self.manager.incarnation()
+    }
+
+    /// How much has happened since the start.
+    pub fn happenings(&self) -> u64
+        ensures { result ≡ self.now.happenings }
+    {
+        self.happenings
+    }
+
+    /// How many threads there are, numbered from 0.
+    pub fn threads(&self) -> u32
+        ensures { result ≡ self.now.lines.threads }
+    {
+        self.lines.threads()
+    }
+
+    /// How many resource managers there are, numbered from 0.
+    pub fn rms(&self) -> u32
+        ensures { result ≡ self.now.lines.rms }
+    {
+        self.lines.rms()
     }
 
     /// Whether so much has happened that nothing more may.

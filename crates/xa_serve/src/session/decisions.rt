@@ -1,11 +1,12 @@
 //! Transactions that begin, are claimed and are decided.
 
-ghost use Rattle.std.specs.Prelude.{◌≡◌, ◌≢◌, ◌+◌, Some, None, Err, IfErr, IfOk, OnErr, OnOk};
+ghost use Rattle.std.specs.Prelude.{◌≡◌, ◌≢◌, ◌+◌, Bool, Some, None, Err, IfErr, IfOk, OnErr, OnOk};
 ghost use Rattle.xa_base.specs.declared.refusal.Refusal.TheVariants as Refusals;
 ghost use Rattle.xa_base.specs.declared.step.Outcome.TheVariants as Outcomes;
 ghost use Rattle.xa_base.specs.declared.step.Step.TheVariants as Steps;
 ghost use Rattle.xa_model.specs.Trace.{Fault.InDecide, Fault.InDone, Happening.Begun, Happening.Claimed, Happening.Decided, Happening.Done, Happening.Failed};
 ghost use Rattle.xa_tm.specs.Book.{Doubt.Adds, Doubt.Drops, after, book_after, voted_yes};
+ghost use Rattle.xa_tm.specs.BookAndLog.{IsTied};
 ghost use Rattle.xa_tm.specs.Calls.{FailsBy, book_in, log_in};
 ghost use Rattle.xa_serve.specs.Following.{Follows, StaysAs};
 ghost use Rattle.xa_serve.specs.Session.{IsReady, begin_refusal, lines_by, refusal_at};
@@ -108,6 +109,10 @@ impl<L: DecisionLog + Drop> Session<L> {
         // The log and the lines.
         ensures log { IfErr result (λ n. n ≢ Refusals.LogFault →
             log_in self.new.manager ≡ log_in self.old.manager) }
+        ensures tied { (near : Bool) → (L.moment (log_in self.old.manager)).is_in_order →
+            (L.moment (log_in self.new.manager)).is_honest →
+            IsTied near (book_in self.old.manager) (L.moment (log_in self.old.manager)).content →
+            IsTied near (book_in self.new.manager) (L.moment (log_in self.new.manager)).content }
         ensures lines { self.new.lines ≡ lines_by result self.old.lines }
     {
         books_have_headroom();
@@ -139,6 +144,10 @@ impl<L: DecisionLog + Drop> Session<L> {
         // The log and the lines.
         ensures log { IfErr result (λ n. n ≢ Refusals.LogFault →
             log_in self.new.manager ≡ log_in self.old.manager) }
+        ensures tied { (near : Bool) → (L.moment (log_in self.old.manager)).is_in_order →
+            (L.moment (log_in self.new.manager)).is_honest →
+            IsTied near (book_in self.old.manager) (L.moment (log_in self.old.manager)).content →
+            IsTied near (book_in self.new.manager) (L.moment (log_in self.new.manager)).content }
         ensures lines { self.new.lines ≡ lines_by result self.old.lines }
     {
         books_have_headroom();
@@ -204,6 +213,10 @@ impl<L: DecisionLog + Drop> Session<L> {
         // The log and the lines.
         ensures log { IfErr result (λ n. n ≢ Refusals.LogFault →
             log_in self.new.manager ≡ log_in self.old.manager) }
+        ensures tied { (near : Bool) → (L.moment (log_in self.old.manager)).is_in_order →
+            (L.moment (log_in self.new.manager)).is_honest →
+            IsTied near (book_in self.old.manager) (L.moment (log_in self.old.manager)).content →
+            IsTied near (book_in self.new.manager) (L.moment (log_in self.new.manager)).content }
         ensures lines { self.new.lines ≡ lines_by result self.old.lines }
     {
         books_have_headroom();
