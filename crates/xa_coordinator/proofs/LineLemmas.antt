@@ -1,0 +1,166 @@
+-- Lines that are read and written.
+use Rattle.std.proofs.Common.{◌≡◌, ◌≢◌, ◌∙◌, ◌≤◌, ◌<◌, ◌+◌, ◌==◌, ◌&&◌, ℕ, Bool, true, false, cond, nat_le, List, [], ◌∷◌, ◌++◌, length, Option, Some, None, refl, sym, ap, subst, append_assoc, length-append, arith, rules, ◌||◌, ◌⊎◌, inl, inr}
+use Rattle.std.proofs.lemmas.Bool.{cases_lt}
+use Rattle.std.proofs.lemmas.Bool.Decides.{nat_tests}
+use Rattle.std.proofs.lemmas.List.{append-nil}
+use Rattle.std.proofs.lemmas.Str.{IsUtf8-from_is_utf8, is_utf8-from_IsUtf8}
+use Rattle.std.specs.Io.KnownBytes.{Appends, Consumes, IsAtEnd, Keeps}
+use Rattle.std.specs.List.{list_any}
+use Rattle.std.specs.Str.{IsUtf8, is_utf8}
+use Rattle.xa_files.specs.Outputs.{AppendsBeginning, IsWrittenBut}
+use Rattle.xa_coordinator.specs.Lines.{IsKeptOf, IsPlain, KeepsShort, ReadsOne, asked_in, lines_of, with_first}
+use Rattle.xa_coordinator.specs.declared.lines.TheConstants.{LINE_LIMIT}
+use Rattle.xa_requests.specs.Requests.{request_of}
+
+-- ** what a line asks for
+
+pub asked_of_text : (line : List ℕ) → length line ≤ LINE_LIMIT → IsUtf8 line → asked_in line ≡ request_of line
+asked_of_text line short text =
+    let fits : nat_le (length line) LINE_LIMIT ≡ true = grind (arith, nat_tests) in
+    rw fits (rw (is_utf8-from_IsUtf8 line text) refl)
+
+pub asked_of_none : (line : List ℕ) → ¬ IsUtf8 line → asked_in line ≡ None
+asked_of_none line other = by_test (nat_le (length line) LINE_LIMIT) (is_utf8 line) refl
+  where
+    by_test : (fits b : Bool) → is_utf8 line ≡ b → cond (fits && b) (request_of line) None ≡ None
+    by_test fits true is = absurd (other (IsUtf8-from_is_utf8 line is))
+    by_test true false is = refl
+    by_test false false is = refl
+
+asked_of_long : (line : List ℕ) → LINE_LIMIT < length line → asked_in line ≡ None
+asked_of_long line long =
+    let no_fit : nat_le (length line) LINE_LIMIT ≡ false = grind (arith, nat_tests) in
+    rw no_fit refl
+
+-- ** known bytes
+
+pub keeps_all : (a : Option (List ℕ)) → Keeps a a
+keeps_all None = tt
+keeps_all (Some xs) = refl
+
+pub keeps_then : (a b c : Option (List ℕ)) → Keeps a b → Keeps b c → Keeps a c
+keeps_then None b c p q = tt
+keeps_then (Some xs) None c p q = absurd p
+keeps_then (Some xs) (Some ys) None p q = absurd q
+keeps_then (Some xs) (Some ys) (Some zs) p q = q ∙ p
+
+pub kept_then_consumed : (a b c : Option (List ℕ)) (bs : List ℕ) → Keeps a b → Consumes b c bs → Consumes a c bs
+kept_then_consumed None b c bs p q = tt
+kept_then_consumed (Some xs) None c bs p q = absurd p
+kept_then_consumed (Some xs) (Some ys) None bs p q = absurd q
+kept_then_consumed (Some xs) (Some ys) (Some zs) bs p q = sym p ∙ q
+
+pub none_consumed : (a b : Option (List ℕ)) → Consumes a b [] → Keeps a b
+none_consumed None b p = tt
+none_consumed (Some xs) None p = absurd p
+none_consumed (Some xs) (Some ys) p = sym p
+
+pub consumed_none : (a b : Option (List ℕ)) → Keeps a b → Consumes a b []
+consumed_none None b p = tt
+consumed_none (Some xs) None p = absurd p
+consumed_none (Some xs) (Some ys) p = sym p
+
+pub both_consumed : (a b c : Option (List ℕ)) (bs cs : List ℕ) → Consumes a b bs → Consumes b c cs → Consumes a c (bs ++ cs)
+both_consumed None b c bs cs p q = tt
+both_consumed (Some xs) None c bs cs p q = absurd p
+both_consumed (Some xs) (Some ys) None bs cs p q = absurd q
+both_consumed (Some xs) (Some ys) (Some zs) bs cs p q = p ∙ ap (λ l. bs ++ l) q ∙ sym (append_assoc bs cs zs)
+
+-- ** what is written
+
+pub appends_none : (a : Option (List ℕ)) → Appends a a []
+appends_none None = tt
+appends_none (Some xs) = sym (append-nil xs)
+
+pub begins_with_none : (a : Option (List ℕ)) (bs : List ℕ) → AppendsBeginning a a bs
+begins_with_none a bs = (bs, record { written = []; whole = refl; appends = appends_none a })
+
+pub begins_with_all : (a b : Option (List ℕ)) (bs : List ℕ) → Appends a b bs → AppendsBeginning a b bs
+begins_with_all a b bs p = ([], record { written = bs; whole = sym (append-nil bs); appends = p })
+
+pub both_written : (a b c : Option (List ℕ)) (bs cs : List ℕ) → Appends a b bs → Appends b c cs → Appends a c (bs ++ cs)
+both_written None b c bs cs first second = tt
+both_written (Some x) None c bs cs first second = absurd first
+both_written (Some x) (Some y) None bs cs first second = absurd second
+both_written (Some x) (Some y) (Some z) bs cs first second = second ∙ ap (λ l. l ++ cs) first ∙ append_assoc x bs cs
+
+pub written_then_begun : (a b c : Option (List ℕ)) (bs cs : List ℕ) → Appends a b bs → AppendsBeginning b c cs → AppendsBeginning a c (bs ++ cs)
+written_then_begun a b c bs cs first second = (
+  second.0,
+  record {
+    written = bs ++ second.1.written;
+    whole = ap (λ l. bs ++ l) second.1.whole ∙ sym (append_assoc bs second.1.written second.0);
+    appends = both_written a b c bs second.1.written first second.1.appends;
+  },
+)
+
+-- ** lines in parts
+
+-- a part of a line was read, and so much of it is kept
+pub record ReadsPart (old new : Option (List ℕ)) (kept : List ℕ) : Type 0 where
+  pub line : List ℕ
+  pub plain : IsPlain line
+  pub keeps : IsKeptOf line kept
+  pub consumed : Consumes old new line
+
+any_last : (p : ℕ → Bool) (xs : List ℕ) (b : ℕ) → list_any p xs ≡ false → p b ≡ false → list_any p (xs ++ b ∷ []) ≡ false
+any_last p [] b none not_b = rw not_b refl
+any_last p (x ∷ xs) b none not_b = by_test (p x) none (λ rest. any_last p xs b rest not_b)
+  where
+    by_test : (c : Bool) → (c || list_any p xs) ≡ false → (list_any p xs ≡ false → list_any p (xs ++ b ∷ []) ≡ false) → (c || list_any p (xs ++ b ∷ [])) ≡ false
+    by_test true h on = h
+    by_test false h on = on h
+
+kept_on : (line old new : List ℕ) (b : ℕ) → IsKeptOf line old → KeepsShort b old new → IsKeptOf (line ++ b ∷ []) new
+kept_on line old new b so_far more = by_test (nat_le (length old) LINE_LIMIT) refl more
+  where
+    by_test : (c : Bool) → nat_le (length old) LINE_LIMIT ≡ c → new ≡ cond c (old ++ b ∷ []) old → IsKeptOf (line ++ b ∷ []) new
+    by_test true is more = record {
+      short = λ h. more ∙ ap (λ xs. xs ++ b ∷ []) (so_far.short (grind (arith, h)));
+      long = λ h. grind (arith, nat_tests, h, is, more, so_far.short, so_far.long);
+    }
+    by_test false is more = record {
+      short = λ h.
+          let shorter : length line ≤ LINE_LIMIT = omega (arith, h, length-append line (b ∷ [])) in
+          let same : length old ≡ length line = ap length (so_far.short shorter) in
+          absurd (grind (arith, nat_tests, is, same, shorter));
+      long = λ h. grind (arith, nat_tests, h, is, more);
+    }
+
+pub no_part : (a : Option (List ℕ)) → ReadsPart a a []
+no_part a = record {
+  line = [];
+  plain = refl;
+  keeps = record { short = λ _. refl; long = λ h. absurd (omega (arith, h)) };
+  consumed = consumed_none a a
+      (keeps_all a);
+}
+
+-- one byte more of it
+pub part_on : (a b c : Option (List ℕ)) (old new : List ℕ) (x : ℕ) → ReadsPart a b old → ReadsOne b c (Some x) → x ≢ 10 → KeepsShort x old new
+    → ReadsPart a c new
+part_on a b c old new x so_far more not_end keeps = record {
+  line = so_far.line ++ x ∷ [];
+  plain = any_last (λ y. y == 10) so_far.line x so_far.plain (search (not_end, rules));
+  keeps = kept_on so_far.line old new x so_far.keeps keeps;
+  consumed = both_consumed a b c so_far.line (x ∷ []) so_far.consumed more;
+}
+
+-- what is asked of a line that may be too long is what is asked of what is kept of it
+pub asked_of_kept : (line kept : List ℕ) → IsKeptOf line kept → asked_in kept ≡ asked_in line
+asked_of_kept line kept keeps = by_cases (cases_lt LINE_LIMIT (length line))
+  where
+    by_cases : (LINE_LIMIT < length line) ⊎ (length line ≤ LINE_LIMIT) → asked_in kept ≡ asked_in line
+    by_cases (inl long) = asked_of_long kept (keeps.long long) ∙ sym (asked_of_long line long)
+    by_cases (inr short) = ap asked_in (keeps.short short)
+
+nothing_less : LINE_LIMIT < 0 → ⊥
+nothing_less h = omega (arith, h)
+
+-- nothing is kept of a line only if it is empty
+pub kept_none : (line kept : List ℕ) → IsKeptOf line kept → kept ≡ [] → line ≡ []
+kept_none line kept keeps none = by_cases (cases_lt LINE_LIMIT (length line))
+  where
+    by_cases : (LINE_LIMIT < length line) ⊎ (length line ≤ LINE_LIMIT) → line ≡ []
+    by_cases (inl long) = absurd (nothing_less (subst (λ xs. LINE_LIMIT < length xs) none (keeps.long long)))
+    by_cases (inr short) = sym (keeps.short short) ∙ none

@@ -1,0 +1,30 @@
+use Rattle.std.proofs.Common.{◌∙◌, refl, sym}
+use Rattle.xa_base.specs.declared.step.Outcome.TheVariants as Outcomes
+use Rattle.xa_coordinator.proofs.RowLemmas.{settled_up, told_row}
+use Rattle.xa_coordinator.proofs.StandingLemmas.{happens_on_ok}
+use Rattle.xa_model.specs.Trace.{Happening.Decided}
+use Rattle.xa_tm.specs.Calls.{log_in}
+use Rattle.xa_coordinator.proofs.coordinator.Coordinator.settle.Goals as goal
+
+pub returns-clause-performs : goal.returns-clause-performs
+returns-clause-performs g c =
+    let call = c.settle-taken in
+    let old = c.args.self.now.session in
+    record {
+      result = call.result;
+      does = record {
+        rules = record { refused = call.ensures.refused; allowed = call.ensures.allowed };
+        asks = record { fails = call.ensures.err; stays = call.ensures.stays; lines = call.ensures.lines };
+        decided = happens_on_ok (Decided c.args.gtrid Outcomes.Commit) old call.new.self call.result call.ensures.ok call.ensures.follows;
+      };
+      told = c.reply_of.ensures;
+      rest = refl;
+    }
+
+pub returns-clause-row : goal.returns-clause-row
+returns-clause-row g c = λ near told order honest tied voted.
+    let call = c.settle-taken in
+    let old = c.args.self.now.session in
+    told_row old call.new.self c.args.gtrid near (g.L.DecisionLog.moment (log_in call.new.self.manager)).content call.result (sym c.reply_of.ensures ∙ told)
+    (settled_up old c.args.gtrid call.result call.ensures.allowed) call.ensures.ok voted
+    (call.ensures.tied near order honest tied)

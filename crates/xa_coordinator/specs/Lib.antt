@@ -1,0 +1,12 @@
+pub mod Calls
+pub mod Crashes
+pub mod Decisions
+pub mod Lines
+pub mod Looks
+pub mod Performing
+pub mod Recoveries
+pub mod Replies
+pub mod Rows
+pub mod Seeing
+pub mod Serving
+pub mod Standing

@@ -1,0 +1,54 @@
+-- What each request does, and what it is replied.
+use Rattle.std.specs.Prelude.{◌≡◌, Bool, true, false}
+use Rattle.xa_base.specs.declared.refusal.Refusal.TheVariants.{LogFault}
+use Rattle.xa_coordinator.specs.Calls.{PerformsAnswer, PerformsIssue}
+use Rattle.xa_coordinator.specs.Crashes.{PerformsCrashLine, PerformsCrashRm}
+use Rattle.xa_coordinator.specs.Decisions.{PerformsAbandon, PerformsBegin, PerformsClaim, PerformsDecide, PerformsDone, PerformsSettle}
+use Rattle.xa_coordinator.specs.Looks.{status_of, waiting_reply}
+use Rattle.xa_coordinator.specs.Recoveries.{PerformsOwed, PerformsResolve, PerformsResolveOpen}
+use Rattle.xa_coordinator.specs.Standing.{OnlyTells}
+use Rattle.xa_coordinator.specs.declared.coordinator.Coordinator.{Coordinator}
+use Rattle.xa_requests.specs.declared.request.Request.{Request}
+use Rattle.xa_requests.specs.declared.request.Request.TheVariants as requests
+use Rattle.xa_requests.specs.declared.response.Response.{Response}
+use Rattle.xa_requests.specs.declared.response.Response.TheVariants as responses
+use Rattle.xa_serve.specs.Following.{StaysAs}
+
+module _ {L : Type 0} where
+  abbrev pub Performs : Request → (old : Coordinator L) → Response → (new : Coordinator L) → Type 0
+  Performs (requests.Begin thread) old reply new = PerformsBegin thread old reply new
+  Performs (requests.Issue thread rm call) old reply new = PerformsIssue thread rm call old reply new
+  Performs (requests.Answer thread rm name answer) old reply new = PerformsAnswer thread rm name answer old reply new
+  Performs (requests.Decide gtrid outcome) old reply new = PerformsDecide gtrid outcome old reply new
+  Performs (requests.Claim gtrid) old reply new = PerformsClaim gtrid old reply new
+  Performs (requests.Settle gtrid) old reply new = PerformsSettle gtrid old reply new
+  Performs (requests.Abandon gtrid) old reply new = PerformsAbandon gtrid old reply new
+  Performs (requests.Done gtrids) old reply new = PerformsDone gtrids old reply new
+  Performs (requests.Resolve rm) old reply new = PerformsResolve rm old reply new
+  Performs (requests.ResolveOpen rm) old reply new = PerformsResolveOpen rm old reply new
+  Performs (requests.Waiting thread rm) old reply new = OnlyTells (waiting_reply thread rm old) old reply new
+  Performs (requests.Owed rm) old reply new = PerformsOwed rm old reply × (new ≡ old)
+  Performs (requests.CrashLine thread rm) old reply new = PerformsCrashLine thread rm old reply new
+  Performs (requests.CrashRm rm) old reply new = PerformsCrashRm rm old reply new
+  Performs requests.Status old reply new = OnlyTells (status_of old) old reply new
+  Performs requests.Quit old reply new = OnlyTells responses.Bye old reply new
+
+-- ** what isn't done
+
+-- the request is no more than one step
+abbrev pub is_one_step : Request → Bool
+is_one_step (requests.Done gtrids) = false
+is_one_step (requests.CrashRm rm) = false
+is_one_step request = true
+
+-- the reply tells that the request wasn't done, for another reason than a fault of the log
+abbrev pub is_not_done : Response → Bool
+is_not_done (responses.Refused LogFault) = false
+is_not_done (responses.Refused refusal) = true
+is_not_done (responses.Fault fault) = true
+is_not_done reply = false
+
+-- nothing that the coordinator says changed
+pub record ChangesNothing {L : Type 0} (old new : Coordinator L) : Type 0 where
+  pub session : StaysAs old.session new.session
+  pub owed : new.owed ≡ old.owed

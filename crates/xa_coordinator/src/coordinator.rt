@@ -1,0 +1,157 @@
+//! The coordinator: a session, and what it owes since before. A file for each family of requests.
+
+ghost use Rattle.std.specs.Prelude.{◌≡◌, Bool, true, Some, IfOk, IsSomeAnd, length};
+ghost use Rattle.std.specs.FinMap.{entries, keys};
+ghost use Rattle.xa_coordinator.specs.Performing.{ChangesNothing, Performs, is_not_done, is_one_step};
+ghost use Rattle.xa_coordinator.specs.Replies.{greeting_of};
+ghost use Rattle.xa_coordinator.specs.Rows.{HasRow, committed_by};
+ghost use Rattle.xa_base.specs.declared.branch.Gtrid.{Gtrid};
+ghost use Rattle.xa_log.specs.Content.{all_listed};
+ghost use Rattle.xa_model.specs.Trace.{Origin};
+ghost use Rattle.xa_requests.specs.declared.response.Response.TheVariants as responses;
+ghost use Rattle.xa_serve.specs.Following.{StandsAtStart};
+ghost use Rattle.xa_serve.specs.Session.{IsReady};
+ghost use Rattle.xa_standings.specs.Explained.{IsOldLog};
+ghost use Rattle.xa_tm.specs.Begins.{BeginsWith};
+ghost use Rattle.xa_tm.specs.Book.{voted_yes};
+ghost use Rattle.xa_tm.specs.BookAndLog.{IsTied};
+ghost use Rattle.xa_tm.specs.Calls.{book_in, log_in};
+
+mod calls;
+mod crashes;
+mod decisions;
+mod looks;
+mod recoveries;
+mod replies;
+
+use std::alloc::Global;
+use xa_base::Branch;
+use xa_log::DecisionLog;
+use xa_requests::{Request, Response};
+use xa_serve::Session;
+use xa_tm::StartFault;
+
+/// The coordinator of a driver, over a decision log.
+///
+/// Each method asks that its session is ready (`IsReady`), and leaves it so. A coordinator that [`Coordinator::new`] gives
+/// has one that is.
+#[derive(Drop)]
+pub struct Coordinator<L: DecisionLog + Drop> {
+    pub(crate) alloc: Global,
+    pub(crate) session: Session<L>,
+    /// The branches that rows of earlier incarnations still wait for.
+    pub(crate) owed: Vec<Branch>,
+    /// How many transactions and branches the log had rows and records of at the start.
+    pub(crate) decisions: usize,
+    pub(crate) heuristics: usize,
+}
+
+impl<L: DecisionLog + Drop> Coordinator<L> {
+    /// A coordinator over a log, of so many threads and resource managers.
+    pub fn new(
+        alloc: Global,
+        threads: u32,
+        rms: u32,
+        mut log: L,
+    ) -> Result<Coordinator<L>, StartFault>
+        ensures ready { IfOk result (λ c. IsReady c.session) }
+        ensures stands { IfOk result (λ c. StandsAtStart threads rms c.session) }
+        ensures old { IfOk result (λ c. (o : Origin) →
+            BeginsWith threads rms c.session.manager o → IsOldLog o) }
+        // What the log had.
+        ensures owed { (L.moment log).is_in_order → IfOk result (λ c.
+            (L.moment (log_in c.session.manager)).is_honest →
+            IsSomeAnd (L.moment log).content (λ content.
+            c.owed.items ≡ all_listed (entries content.decisions))) }
+        ensures decisions { (L.moment log).is_in_order → IfOk result (λ c.
+            (L.moment (log_in c.session.manager)).is_honest →
+            IsSomeAnd (L.moment log).content (λ content.
+            c.decisions ≡ length (keys content.decisions))) }
+        ensures heuristics { (L.moment log).is_in_order → IfOk result (λ c.
+            (L.moment (log_in c.session.manager)).is_honest →
+            IsSomeAnd (L.moment log).content (λ content.
+            c.heuristics ≡ length (entries content.heuristics))) }
+        // The log, whose incarnation is raised.
+        ensures tied { (near : Bool) → (L.moment log).is_in_order →
+            IfOk result (λ c. (L.moment (log_in c.session.manager)).is_honest →
+            IsTied near (book_in c.session.manager)
+            (L.moment (log_in c.session.manager)).content) }
+        ensures order { (L.moment log).is_in_order →
+            IfOk result (λ c. (L.moment (log_in c.session.manager)).is_in_order) }
+        ensures honest { IfOk result (λ c. (L.moment (log_in c.session.manager)).is_honest →
+            (L.moment log).is_honest) }
+    {
+        let Ok(rows) = log.rows() else {
+            return Err(StartFault::Log);
+        };
+        let decisions = rows.decisions.len();
+        let heuristics = rows.heuristics.len();
+        match Session::new(alloc, threads, rms, log) {
+            Ok(session) => Ok(Coordinator {
+                alloc,
+                session,
+                owed: rows.participants,
+                decisions,
+                heuristics,
+            }),
+            Err(fault) => Err(fault),
+        }
+    }
+
+    /// The first line of a session.
+    pub fn greeting(&self) -> Response
+        ensures { result ≡ greeting_of self.now }
+    {
+        Response::Restarted {
+            incarnation: self.session.incarnation(),
+            decisions: self.decisions,
+            heuristics: self.heuristics,
+        }
+    }
+
+    /// Does what a request asks for, and gives its reply.
+    ///
+    /// What is refused changes nothing, but for LogFault; of a `done` and a `crash rm`, which are several steps, those
+    /// before the one that is refused are done. Where a log that held what the book says was honest so far, the row of a
+    /// transaction is in it before its commit is replied by `decided`, if some branch voted XA_OK.
+    pub fn perform(&mut self, request: &Request) -> Response
+        requires { IsReady self.old.session }
+        ensures ready { IsReady self.new.session }
+        ensures performs { Performs request.now self.old result self.new }
+        ensures unchanged { is_one_step request.now ≡ true → is_not_done result ≡ true →
+            ChangesNothing self.old self.new }
+        ensures row { (near : Bool) (g : Gtrid) → committed_by request.now ≡ Some g →
+            result ≡ responses.Decided →
+            (L.moment (log_in self.old.session.manager)).is_in_order →
+            (L.moment (log_in self.new.session.manager)).is_honest →
+            IsTied near (book_in self.old.session.manager)
+            (L.moment (log_in self.old.session.manager)).content →
+            ((book_in self.old.session.manager).transaction g).has_yes ≡ true →
+            HasRow (L.moment (log_in self.new.session.manager)).content g
+            (voted_yes (book_in self.old.session.manager) g) }
+    {
+        match request {
+            Request::Begin { thread } => self.begin(*thread),
+            Request::Issue { thread, rm, call } => self.issue(*thread, *rm, call),
+            Request::Answer {
+                thread,
+                rm,
+                name,
+                answer,
+            } => self.answer(*thread, *rm, name, answer),
+            Request::Decide { gtrid, outcome } => self.decide(*gtrid, *outcome),
+            Request::Claim { gtrid } => self.claim(*gtrid),
+            Request::Settle { gtrid } => self.settle(*gtrid),
+            Request::Abandon { gtrid } => self.abandon(*gtrid),
+            Request::Done { gtrids } => self.done(gtrids.as_slice()),
+            Request::Resolve { rm } => self.resolve(*rm),
+            Request::ResolveOpen { rm } => self.resolve_open(*rm),
+            Request::Waiting { thread, rm } => self.waiting(*thread, *rm),
+            Request::Owed { rm } => self.owed(*rm),
+            Request::CrashLine { thread, rm } => self.crash_line(*thread, *rm),
+            Request::CrashRm { rm } => self.crash_rm(*rm),
+            Request::Status => self.status(),
+            Request::Quit => Response::Bye,
+        }
+    }
+}

@@ -1,0 +1,131 @@
+//! How the lines of a driver are read, and those of the coordinator written.
+
+ghost use Rattle.std.specs.Prelude.{◌≡◌, ◌++◌, ◌∷◌, ◌≤◌, ◌<◌, [], length, IfOk, OnErr, OnOk, vec_len};
+ghost use Rattle.std.specs.Io.KnownBytes.{Appends, Keeps};
+ghost use Rattle.std.specs.String.{string_bytes};
+ghost use Rattle.xa_coordinator.specs.Lines.{KeepsShort, ReadsLine, ReadsOne, asked_in, is_nothing, line_of};
+ghost use Rattle.xa_files.specs.Outputs.{AppendsBeginning};
+
+use crate::serving::ServeFault;
+use std::alloc::{AllocError, Global};
+use std::io::{ErrorKind, Read, Write};
+use std::str::from_utf8;
+use xa_base::Memory;
+use xa_files::write_text;
+use xa_requests::{Request, Response, read_request, response_text};
+
+/// The most bytes that a line has, without its line feed. A longer one is no request.
+pub(crate) const LINE_LIMIT: usize = 65_536;
+
+/// A line that was read.
+#[derive(Drop)]
+pub(crate) struct Line {
+    /// Its bytes, without the line feed. Of a line that is too long more than a line may have, and not all.
+    pub bytes: Vec<u8>,
+    /// Whether a line feed ended it, and not the end of the input.
+    pub is_ended: bool,
+}
+
+/// Whether nothing was left to read.
+pub(crate) fn is_nothing(line: &Line) -> bool
+    ensures { result ≡ is_nothing line.now.bytes.items line.now.is_ended }
+{
+    line.bytes.is_empty() && !line.is_ended
+}
+
+/// The next byte, if there is one.
+fn read_byte<R: Read>(input: &mut R) -> Result<Option<u8>, ServeFault>
+    ensures { IfOk result (ReadsOne (R.remaining input.old) (R.remaining input.new)) }
+{
+    let mut bytes = [0; 1];
+    for _ in 0..u64::MAX {
+        match input.read(&mut bytes) {
+            Ok(0) => return Ok(None),
+            Ok(_) => return Ok(Some(bytes[0])),
+            Err(error) => {
+                if error.kind() != ErrorKind::Interrupted {
+                    break;
+                }
+            }
+        }
+    }
+    Err(ServeFault::Input)
+}
+
+/// Adds a byte to what is kept of a line, unless that is too long already.
+fn keep(kept: &mut Vec<u8>, byte: u8) -> Result<(), AllocError>
+    ensures { OnOk result (KeepsShort byte kept.old.items kept.new.items) }
+{
+    if kept.len() <= LINE_LIMIT {
+        kept.push(byte)?;
+    }
+    Ok(())
+}
+
+/// The next line. At the end of the input it is empty, and not ended.
+pub(crate) fn read_line<R: Read>(alloc: Global, input: &mut R) -> Result<Line, ServeFault>
+    ensures { IfOk result (λ line. ReadsLine (R.remaining input.old) (R.remaining input.new)
+        line.bytes.items line.is_ended) }
+{
+    let mut bytes = Vec::new(alloc);
+    for _ in 0..u64::MAX {
+        match read_byte(input)? {
+            None => {
+                return Ok(Line {
+                    bytes,
+                    is_ended: false,
+                });
+            }
+            Some(b'\n') => {
+                return Ok(Line {
+                    bytes,
+                    is_ended: true,
+                });
+            }
+            Some(byte) => keep(&mut bytes, byte)?,
+        }
+    }
+    Err(ServeFault::Input)
+}
+
+/// What a line asks for; none, where it is no request.
+pub(crate) fn asked_in(alloc: Global, line: &[u8]) -> Result<Option<Request>, Memory>
+    ensures { IfOk result (λ request. request ≡ asked_in line.now) }
+{
+    if line.len() > LINE_LIMIT {
+        return Ok(None);
+    }
+    match from_utf8(line) {
+        Ok(text) => read_request(alloc, text),
+        Err(_) => Ok(None),
+    }
+}
+
+/// The line of a reply, with its line feed.
+fn line_of(alloc: Global, reply: &Response) -> Result<String, Memory>
+    ensures { IfOk result (λ text. string_bytes text ≡ line_of reply.now) }
+{
+    let mut text = response_text(alloc, reply)?;
+    text.push_str("\n")?;
+    Ok(text)
+}
+
+/// Writes the line of a reply, and lets the driver have it.
+pub(crate) fn write_reply<W: Write>(
+    alloc: Global,
+    reply: &Response,
+    output: &mut W,
+) -> Result<(), ServeFault>
+    ensures ok { OnOk result (Appends (W.contents output.old) (W.contents output.new)
+        (line_of reply.now)) }
+    ensures err { OnErr result (AppendsBeginning (W.contents output.old)
+        (W.contents output.new) (line_of reply.now)) }
+{
+    let Ok(text) = line_of(alloc, reply) else {
+        return Err(ServeFault::Memory);
+    };
+    match write_text(text.as_bytes(), output) {
+        Ok(()) => Ok(()),
+        Err(_) => Err(ServeFault::Output),
+    }
+}

@@ -1,0 +1,113 @@
+//! The loop over the lines of a driver.
+
+ghost use Rattle.std.specs.Prelude.{◌≡◌, ◌&&◌, not, IfOk, OnErr, OnOk};
+ghost use Rattle.xa_coordinator.specs.Replies.{greeting_of};
+ghost use Rattle.xa_coordinator.specs.Serving.{BreaksOff, BreaksSession, RepliesTo, Serves, ServesLine, is_bye};
+ghost use Rattle.xa_serve.specs.Session.{IsReady};
+
+use crate::coordinator::Coordinator;
+use crate::lines::{asked_in, is_nothing, read_line, write_reply};
+use std::alloc::AllocError;
+use std::io::{Read, Write};
+use thiserror::Error;
+use xa_log::DecisionLog;
+use xa_requests::{RequestFault, Response};
+
+/// Why a session ends early.
+#[derive(Clone, Copy, Debug, PartialEq, Eq, Error)]
+pub enum ServeFault {
+    /// The requests can't be read.
+    #[error("the requests can't be read")]
+    Input,
+    /// A reply can't be written.
+    #[error("a reply can't be written")]
+    Output,
+    /// A request for memory was refused outside of a step.
+    #[error("out of memory")]
+    Memory,
+}
+
+impl From<AllocError> for ServeFault {
+    ghost use Rattle.xa_coordinator.specs.declared.serving.ServeFault.TheVariants.{Memory};
+
+    ghost from_gives = { λ fault made. made ≡ Memory };
+
+    fn from(_fault: AllocError) -> ServeFault {
+        ServeFault::Memory
+    }
+}
+
+/// Whether the session goes on behind a line: not behind `quit`, and not where the end of the input ended it.
+fn goes_on(is_ended: bool, reply: &Response) -> bool
+    ensures { result ≡ (is_ended && not (is_bye reply.now)) }
+{
+    is_ended && !matches!(reply, Response::Bye)
+}
+
+impl<L: DecisionLog + Drop> Coordinator<L> {
+    /// Does what a line asks for, and gives its reply.
+    fn reply_to(&mut self, line: &[u8]) -> Result<Response, ServeFault>
+        requires { IsReady self.old.session }
+        ensures ready { IsReady self.new.session }
+        ensures ok { IfOk result (λ reply. RepliesTo line.now self.old reply self.new) }
+        ensures err { OnErr result (self.new ≡ self.old) }
+    {
+        match asked_in(self.alloc, line) {
+            Ok(Some(request)) => Ok(self.perform(&request)),
+            Ok(None) => Ok(Response::Fault(RequestFault::NoRequest)),
+            Err(_) => Err(ServeFault::Memory),
+        }
+    }
+
+    /// Reads a line, does what it asks for, and writes its reply. Says whether the session goes on: not behind `quit`, and
+    /// not at the end of the input.
+    fn serve_line<R: Read, W: Write>(
+        &mut self,
+        input: &mut R,
+        output: &mut W,
+    ) -> Result<bool, ServeFault>
+        requires { IsReady self.old.session }
+        ensures ready { IsReady self.new.session }
+        ensures ok { IfOk result (ServesLine (R.remaining input.old) (R.remaining input.new)
+            (W.contents output.old) (W.contents output.new) self.old self.new) }
+        ensures err { OnErr result (BreaksOff
+            (W.contents output.old) (W.contents output.new) self.old self.new) }
+    {
+        let line = read_line(self.alloc, input)?;
+        if is_nothing(&line) {
+            return Ok(false);
+        }
+        let reply = self.reply_to(&line.bytes)?;
+        write_reply(self.alloc, &reply, output)?;
+        Ok(goes_on(line.is_ended, &reply))
+    }
+
+    /// Serves a driver: first a line that says how the session starts, and then one line for each line that is read, in
+    /// their order, until `quit` or the end of the input. Each is written and flushed before the next is read. A line is
+    /// ended by a line feed, which the last one may lack.
+    ///
+    /// Input comes where the requests can't be read, Output where a reply can't be written, and Memory where a request
+    /// for memory was refused outside of a step. What was written then is a beginning of what would have been.
+    pub fn serve<R: Read, W: Write>(
+        &mut self,
+        input: &mut R,
+        output: &mut W,
+    ) -> Result<(), ServeFault>
+        requires { IsReady self.old.session }
+        ensures ready { IsReady self.new.session }
+        ensures served { OnOk result (Serves (greeting_of self.old)
+            (R.remaining input.old) (R.remaining input.new)
+            (W.contents output.old) (W.contents output.new) self.old self.new) }
+        ensures broken { OnErr result (BreaksSession (greeting_of self.old)
+            (W.contents output.old) (W.contents output.new) self.old self.new) }
+    {
+        let greeting = self.greeting();
+        write_reply(self.alloc, &greeting, output)?;
+        for _ in 0..u64::MAX {
+            if !self.serve_line(input, output)? {
+                return Ok(());
+            }
+        }
+        Err(ServeFault::Input)
+    }
+}
