@@ -1,5 +1,6 @@
 -- Why a run ended.
-use Rattle.std.proofs.Common.{◌≡◌, ◌≢◌, ◌∙◌, List, ℕ, Option, Result, Ok, Err, IfErr, OnOk, ap, refl, sym, subst}
+use Rattle.std.proofs.Common.{◌≡◌, ◌≢◌, ◌∙◌, List, ℕ, Option, Result, Ok, Err, IfErr, IfOk, OnOk, Vec, Global, ap, refl, sym, subst}
+use Rattle.xa_base.specs.declared.step.Outcome.{Outcome}
 use Rattle.xa_files.proofs.ReadingLemmas.{explained as explained_by_text}
 use Rattle.xa_files.specs.Reading.{Explains, Fails}
 use Rattle.xa_files.specs.declared.fault.RunFault.{RunFault}
@@ -8,6 +9,7 @@ use Rattle.xa_jobs.specs.JobFiles.{Plan, jobs_of}
 use Rattle.xa_jobs.specs.JobRuns.{Begins, BeginsEnds, IsRunFault, IsWorkFault, Prints, PrintsEnds, run_fault_of}
 use Rattle.xa_workers.specs.declared.fault.WorkFault.{WorkFault}
 use Rattle.xa_workers.specs.declared.fault.WorkFault.TheVariants as work
+use Rattle.xa_workers.specs.declared.outcomes.Outcomes.{Outcomes}
 use Rattle.xa_jobs.proofs.TextFaults as texts
 
 -- ** a fault of the reading
@@ -91,6 +93,18 @@ not_by_the_log work.Memory told is other same = cc
 not_by_the_log work.Log told is other same = other (ap (λ e. Err e) is)
 not_by_the_log work.Stuck told is other same = cc
 not_by_the_log work.Mixed told is other same = cc
+
+-- so it is of what is told of it
+pub not_told_as_log : {A B : Type 0} (ran : Result A WorkFault) (told : Result B RunFault)
+    → IfErr ran (λ fault. told ≡ Err (run_fault_of fault)) → told ≢ Err Log → ran ≢ Err work.Log
+not_told_as_log (Ok done) told is other = λ e. cc
+not_told_as_log (Err fault) told is other = not_by_the_log fault (run_fault_of fault) refl (λ e. other (is ∙ e))
+
+-- and the fault that is told is one of a run
+pub fault_told : {L : Type 0} (ran : Result (Outcomes L) WorkFault) (told : Result (Vec Outcome Global) RunFault)
+    → IfOk ran (λ done. told ≡ Ok done.ends) → IfErr ran (λ fault. told ≡ Err (run_fault_of fault)) → IfErr told IsWorkFault
+fault_told (Ok done) told ends is = rw ends tt
+fault_told (Err fault) told ends is = rw is (is_work_fault fault)
 
 -- it is so where it ends well, and where it ends by the work
 pub where_well : (result : Result (Unit {0}) RunFault) (P : Type 0) → (result ≢ Err Log → P) → OnOk result P

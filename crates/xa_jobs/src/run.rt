@@ -1,6 +1,6 @@
 //! Runs of jobs files, over any log and any writer.
 
-ghost use Rattle.std.specs.Prelude.{◌≡◌, ◌≢◌, Err, IfErr, IfOk, IsErr, OnOk};
+ghost use Rattle.std.specs.Prelude.{◌≡◌, ◌≢◌, Err, IfErr, IfOk, IsErr, Ok, OnOk};
 ghost use Rattle.std.specs.Io.KnownBytes.{Keeps};
 ghost use Rattle.xa_files.specs.Reading.{EndsWith, Explains};
 ghost use Rattle.xa_files.specs.declared.fault.RunFault.{RunFault};
@@ -21,7 +21,7 @@ use std::time::Clock;
 use xa_base::Outcome;
 use xa_files::RunFault;
 use xa_log::DecisionLog;
-use xa_workers::{Gate, Jobs, Point, WorkFault, run_jobs};
+use xa_workers::{Gate, Jobs, Outcomes, Point, WorkFault, run_jobs};
 
 /// A gate that holds nobody back.
 struct Open;
@@ -43,6 +43,17 @@ fn run_fault_of(fault: WorkFault) -> RunFault
     }
 }
 
+/// What a run came to, as the file tells it: how each job ended, or the fault.
+fn told<L: Drop>(ran: Result<Outcomes<L>, WorkFault>) -> Result<Vec<Outcome>, RunFault>
+    ensures ends { IfOk ran (λ done. result ≡ Ok done.ends) }
+    ensures fault { IfErr ran (λ fault. result ≡ Err (run_fault_of fault)) }
+{
+    match ran {
+        Ok(done) => Ok(done.ends),
+        Err(fault) => Err(run_fault_of(fault)),
+    }
+}
+
 /// Runs jobs over a log, and gives how each ended.
 fn ends_of_run<R: Threads + Wait + Clock + Sync, L: DecisionLog + Drop>(
     rt: &R,
@@ -55,10 +66,7 @@ fn ends_of_run<R: Threads + Wait + Clock + Sync, L: DecisionLog + Drop>(
     ensures can_begin { result ≢ Err Log → CanBegin L.DecisionLog log }
     ensures fault { IfErr result IsWorkFault }
 {
-    match run_jobs(rt, alloc, jobs, log, &Open) {
-        Ok(done) => Ok(done.ends),
-        Err(fault) => Err(run_fault_of(fault)),
-    }
+    told(run_jobs(rt, alloc, jobs, log, &Open))
 }
 
 /// Runs jobs over a log, and prints how each ended.

@@ -1,5 +1,5 @@
 -- Why a log can't be listed.
-use Rattle.std.specs.Prelude.{◌≡◌, ◌⊎◌, ℕ, Result, Err}
+use Rattle.std.specs.Prelude.{◌≡◌, ◌⊎◌, ℕ, Option, Some, Result, Err}
 use Rattle.xa_files.specs.declared.fault.RunFault.{RunFault}
 use Rattle.xa_files.specs.declared.fault.RunFault.TheVariants.{Log, Memory, Output}
 use Rattle.xa_log.specs.Contract.{one_more_fault}
@@ -27,3 +27,7 @@ abbrev pub CountsFault : Result (Unit {0}) RunFault → (old new : ℕ) → Type
 CountsFault (Err Log) old new = new ≡ one_more_fault old
 CountsFault (Err Memory) old new = (new ≡ old) ⊎ (new ≡ one_more_fault old)
 CountsFault result old new = new ≡ old
+
+-- the log says of its call that it failed by a fault that is told so
+abbrev pub TellsFault : RunFault → (says : Option LogFault → Type 0) → Type 0
+TellsFault told says = (fault : LogFault) × (fault_of_log fault ≡ told) × says (Some fault)

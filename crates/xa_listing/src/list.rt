@@ -1,12 +1,14 @@
 //! The list of a log, over any log and any writer.
 
-ghost use Rattle.std.specs.Prelude.{◌≡◌, ◌≢◌, IfErr, OnOk};
+ghost use Rattle.std.specs.Prelude.{◌≡◌, ◌≢◌, ◌⊎◌, Err, IfErr, OnOk};
 ghost use Rattle.std.specs.Io.KnownBytes.{Keeps};
-ghost use Rattle.xa_files.specs.declared.fault.RunFault.TheVariants.{Output};
-ghost use Rattle.xa_listing.specs.Faults.{CountsFault, IsListFault};
+ghost use Rattle.xa_files.specs.declared.fault.RunFault.TheVariants.{Log, Memory, Output};
+ghost use Rattle.xa_listing.specs.Faults.{CountsFault, IsListFault, TellsFault};
 ghost use Rattle.xa_listing.specs.Texts.{BeginsLog, PrintsLog};
+ghost use Rattle.xa_log.specs.Content.{unchanged};
 ghost use Rattle.xa_log.specs.Contract.{LeavesNoMore};
 ghost use Rattle.xa_log.specs.Contract.{Keeps as IsKept};
+ghost use Rattle.xa_log.specs.declared.fail_plan.LogCall.{LogCall};
 
 use crate::faults::run_fault;
 use crate::lines::rows_text;
@@ -44,6 +46,12 @@ pub fn list_log<L: DecisionLog, W: Write>(log: &mut L, out: &mut W) -> Result<()
     ensures honest { (L.moment log.new).is_honest → (L.moment log.old).is_honest }
     ensures faults { CountsFault result (L.moment log.old).fault_count
         (L.moment log.new).fault_count }
+    // A fault of the log is told as what it is.
+    ensures told { result ≡ Err Log →
+        TellsFault Log (L.says LogCall.Rows unchanged log.old log.new) }
+    ensures memory { result ≡ Err Memory →
+        ((L.moment log.new).fault_count ≡ (L.moment log.old).fault_count)
+        ⊎ TellsFault Memory (L.says LogCall.Rows unchanged log.old log.new) }
 {
     let rows = log.rows().map_err(run_fault)?;
     let text = rows_text(&rows)?;

@@ -1,3 +1,4 @@
+pub mod Ascending
 pub mod Crossing
 pub mod FateOrder
 pub mod RowGroups

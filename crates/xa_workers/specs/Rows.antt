@@ -9,6 +9,7 @@ use Rattle.xa_base.specs.declared.branch.Gtrid.{Gtrid}
 use Rattle.xa_base.specs.declared.step.Outcome.{Outcome}
 use Rattle.xa_base.specs.declared.step.Outcome.TheVariants.{Commit}
 use Rattle.xa_log.specs.Content.{Content, with_bump, with_commits}
+use Rattle.xa_log.specs.Contract.{Moment, one_more_fault}
 use Rattle.xa_log.specs.KeySet.{KeySet, from_list}
 use Rattle.xa_log.specs.declared.decision.Decision.{Decision}
 use Rattle.xa_log.specs.declared.decision_log.DecisionLog as DecisionLog
@@ -80,6 +81,14 @@ pub record CanBegin {L : Type 0} (g : DecisionLog.Ghosts L) (log : L) : Type 0 w
   pub incarnation : ℕ
   pub begins : Logs g incarnation no_rows log left
   pub faults : (g.moment left).fault_count ≡ (g.moment log).fault_count
+
+-- a call of the log has failed
+abbrev pub HasFailed : {L : Type 0} → (moment : L → Moment) → (old new : L) → Type 0
+HasFailed moment old new = (moment new).fault_count ≡ one_more_fault (moment old).fault_count
+
+-- no call of the log has failed
+abbrev pub FailsNot : {L : Type 0} → (moment : L → Moment) → (old new : L) → Type 0
+FailsNot moment old new = (moment new).fault_count ≡ (moment old).fault_count
 
 -- the log of a journal has come to have the rows of the jobs that the journal notes as written
 abbrev pub HasRowsOf : {L : Type 0} → DecisionLog.Ghosts L → Jobs → (incarnation : ℕ) → Journal L → Type 0

@@ -1,5 +1,7 @@
 //! How a run begins: its log gives it an incarnation.
-ghost use Rattle.std.specs.Prelude.{◌≡◌, ◌≤◌, ◌<◌, All, IfErr, IfOk, true};
+ghost use Rattle.std.specs.Prelude.{◌≡◌, ◌≤◌, ◌<◌, All, IfErr, IfOk, map, true};
+ghost use Rattle.std.specs.List.Sorted.{IsStrictlySortedBy};
+ghost use Rattle.xa_base.specs.Branch.{branch_cmp, gtrid_cmp};
 ghost use Rattle.xa_base.specs.declared.branch.Branch.{Branch as Named};
 ghost use Rattle.xa_base.specs.declared.code.How.{How as End};
 ghost use Rattle.xa_log.specs.Content.{last_number};
@@ -30,8 +32,9 @@ fn is_older(g: Gtrid, incarnation: u64) -> bool
 fn are_rows_older(rows: &[Gtrid], incarnation: u64) -> bool
     ensures older { result ≡ true → All (λ g. g.incarnation < incarnation) rows.now }
     ensures fit { result ≡ true → All (λ g. g.sequence ≤ last_number) rows.now }
+    ensures ascending { result ≡ true → IsStrictlySortedBy gtrid_cmp rows.now }
 {
-    rows.iter().all(|row| is_older(*row, incarnation)) && rows.iter().is_sorted_by(|a, b| **a < **b)
+    rows.iter().all(|row| is_older(*row, incarnation)) && rows.is_sorted_by(|a, b| *a < *b)
 }
 
 /// Whether all records are of older incarnations, their numbers fit, and they stand in ascending order, none twice.
@@ -40,11 +43,13 @@ fn are_records_older(records: &[(Branch, How)], incarnation: u64) -> bool
         All (λ (e : Named × End). e.0.gtrid.incarnation < incarnation) records.now }
     ensures fit { result ≡ true →
         All (λ (e : Named × End). e.0.gtrid.sequence ≤ last_number) records.now }
+    ensures ascending { result ≡ true →
+        IsStrictlySortedBy branch_cmp (map (λ (e : Named × End). e.0) records.now) }
 {
     records
         .iter()
         .all(|record| is_older(record.0.gtrid, incarnation))
-        && records.iter().is_sorted_by(|a, b| a.0 < b.0)
+        && records.is_sorted_by(|a, b| a.0 < b.0)
 }
 
 /// Raises a log's incarnation for a run. A log over which no system starts is refused: one that fails, for want of memory

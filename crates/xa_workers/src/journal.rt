@@ -1,9 +1,9 @@
 //! The log's worker.
-ghost use Rattle.std.specs.Prelude.{◌≡◌, ◌≤◌, ◌<◌, IfOk, OnOk, vec_len};
+ghost use Rattle.std.specs.Prelude.{◌≡◌, ◌≢◌, ◌≤◌, ◌<◌, Err, IfOk, OnOk, vec_len};
 ghost use Rattle.xa_log.specs.Content.{last_number};
 ghost use Rattle.xa_log.specs.Contract.{FitsRow};
 ghost use Rattle.std.specs.List.{AllByRecursion};
-ghost use Rattle.xa_workers.specs.Rows.{Adds, HasRowsOf, Logs, no_rows};
+ghost use Rattle.xa_workers.specs.Rows.{Adds, FailsNot, HasFailed, HasRowsOf, Logs, no_rows};
 
 use crate::brand::Run;
 use crate::crew::Crew;
@@ -68,6 +68,8 @@ impl<L: DecisionLog> Journal<L> {
         ensures first { self.new.first ≡ self.old.first }
         ensures len { vec_len self.new.written ≡ vec_len self.old.written }
         ensures kept { OnOk result (HasRowsOf L.DecisionLog jobs.now incarnation self.new) }
+        ensures log { result ≡ Err WorkFault.Log → HasFailed L.moment self.old.log self.new.log }
+        ensures other { result ≢ Err WorkFault.Log → FailsNot L.moment self.old.log self.new.log }
     {
         if job >= self.written.len() {
             return Err(WorkFault::Mixed);
@@ -100,6 +102,7 @@ impl<L: DecisionLog> Journal<L> {
             AllByRecursion (λ d. FitsRow d.gtrid) decisions.items) }
         ensures own { IfOk result (λ decisions. AllByRecursion (λ d.
             AllByRecursion (λ b. b.gtrid ≡ d.gtrid) d.participants.items) decisions.items) }
+        ensures fault { result ≢ Err WorkFault.Log }
     {
         let mut decisions = Vec::new(alloc);
         for Asked { job, .. } in asked {
@@ -127,6 +130,8 @@ impl<L: DecisionLog> Journal<L> {
         ensures first { self.new.first ≡ self.old.first }
         ensures len { vec_len self.new.written ≡ vec_len self.old.written }
         ensures kept { OnOk result (HasRowsOf L.DecisionLog jobs.now incarnation self.new) }
+        ensures log { result ≡ Err WorkFault.Log → HasFailed L.moment self.old.log self.new.log }
+        ensures other { result ≢ Err WorkFault.Log → FailsNot L.moment self.old.log self.new.log }
     {
         let decisions = self.gather(alloc, jobs, incarnation, asked)?;
         self.log.commit_all(alloc, decisions.as_slice())?;
@@ -147,6 +152,8 @@ fn write_asked<J: Run, G: Gate, L: DecisionLog>(
     ensures len { vec_len journal.new.written ≡ vec_len journal.old.written }
     ensures kept { OnOk result (HasRowsOf L.DecisionLog crew.now.jobs.now
         crew.now.incarnation journal.new) }
+    ensures log { result ≡ Err WorkFault.Log → HasFailed L.moment journal.old.log journal.new.log }
+    ensures other { result ≢ Err WorkFault.Log → FailsNot L.moment journal.old.log journal.new.log }
 {
     let asked = crew.docket.take_all(alloc)?;
     match asked.as_slice() {
@@ -173,6 +180,11 @@ pub(crate) fn write_rows<R: Wait + Clock, J: Run, G: Gate, L: DecisionLog>(
     ensures first { journal.new.first ≡ journal.old.first }
     ensures kept { OnOk result (HasRowsOf L.DecisionLog crew.now.jobs.now
         crew.now.incarnation journal.new) }
+    // A log that fails is told as Log, and nothing else is.
+    ensures log { result ≡ Err (Halt.Fault WorkFault.Log) →
+        HasFailed L.moment journal.old.log journal.new.log }
+    ensures other { result ≢ Err (Halt.Fault WorkFault.Log) →
+        FailsNot L.moment journal.old.log journal.new.log }
 {
     let mut idle = Idle::NEW;
     for _ in rt.forever() {
