@@ -1,8 +1,8 @@
 pub mod AnswerLemmas
-pub mod KnownLemmas
+pub mod KnownCalls
 pub mod LineLemmas
 pub mod RowLemmas
-pub mod SeeingLemmas
 pub mod ServingLemmas
 pub mod StandingLemmas
+pub mod TrackLemmas
 pub mod UnchangedLemmas

@@ -7,6 +7,7 @@ pub mod Performing
 pub mod Recoveries
 pub mod Replies
 pub mod Rows
-pub mod Seeing
 pub mod Serving
 pub mod Standing
+pub mod Telling
+pub mod Tracking

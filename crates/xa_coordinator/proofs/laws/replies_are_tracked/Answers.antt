@@ -1,5 +1,12 @@
-use Rattle.xa_coordinator.proofs.SeeingLemmas.{all_are_tracked}
+use Rattle.xa_coordinator.proofs.TrackLemmas.{Laws, reply_tracked}
 use Rattle.xa_coordinator.proofs.laws.replies_are_tracked.Goals as goal
 
 pub returns : goal.returns
-returns g c = all_are_tracked c.steps_are_tracked.ensures c.answers_are_tracked.ensures c.losses_are_tracked.ensures c.refusals_are_tracked.ensures
+returns g c = λ o seen request reply old new keeps does none.
+    let laws : Laws g.row.L.Denot = record {
+      steps = c.steps_are_tracked.ensures;
+      answers = c.answers_are_tracked.ensures;
+      losses = c.losses_are_tracked.ensures;
+      refusals = c.refusals_are_tracked.ensures;
+    } in
+    reply_tracked laws o seen request reply old new keeps does none

@@ -1,0 +1,141 @@
+-- Calls that a session takes are known to a history.
+use Rattle.std.proofs.Common.{◌≡◌, ℕ, Bool, true, false, not, ◌||◌, Option, Some, None, refl, subst}
+use Rattle.std.specs.Prelude.{if◌then◌else◌, slice_get}
+use Rattle.std.specs.Option.{option_map, option_or}
+use Rattle.std.proofs.lemmas.Bool.{true≢false}
+use Rattle.xa_base.specs.Answer.{map_answer}
+use Rattle.xa_base.specs.Call.{map_call}
+use Rattle.xa_base.specs.Xid.{Xid}
+use Rattle.xa_base.specs.declared.answer.Answer as Given
+use Rattle.xa_base.specs.declared.answer.Answer.TheVariants.{Page, Ret}
+use Rattle.xa_base.specs.declared.call.Call as Asking
+use Rattle.xa_base.specs.declared.call.Call.TheVariants as Calls
+use Rattle.xa_base.specs.declared.refusal.Refusal.{Refusal}
+use Rattle.xa_base.specs.declared.refusal.Refusal.TheVariants.{Limit, ManagerDown}
+use Rattle.xa_base.specs.declared.step.Step.TheVariants as Steps
+use Rattle.xa_coordinator.specs.Calls.{is_other, is_to, waits_for_other}
+use Rattle.xa_line.specs.Grid.{line_at}
+use Rattle.xa_line.specs.Histories.{known}
+use Rattle.xa_model.specs.Replies.History.{name_of}
+use Rattle.xa_model.specs.Replies.Steps.{accepted}
+use Rattle.xa_model.specs.Trace.{Answer, Call, Name.Foreign, Name.Ours}
+use Rattle.xa_requests.specs.declared.request.CallName.{CallName}
+use Rattle.xa_serve.specs.Hearing.{can_hear}
+use Rattle.xa_serve.specs.Session.{has_line, is_over, issue_refusal, line_refusal, unfit, unfit_for}
+use Rattle.xa_serve.specs.declared.session.Session.{Session}
+use Rattle.xa_serve.specs.declared.session.answers.Unfit.TheVariants as Unfits
+use Rattle.xa_tm.specs.Book.{Book}
+use Rattle.xa_tm.specs.Calls.{book_in}
+use Rattle.xa_tm.specs.News.{Asked}
+use Rattle.xa_tm.specs.Refusing.{forces_unknown_transaction_in, refusal_in}
+
+-- ** reasons
+
+or_none : {A : Type 0} (x y : Option A) → option_or x y ≡ None → (x ≡ None) × (y ≡ None)
+or_none None y e = (refl, e)
+or_none (Some a) y e = absurd (cc)
+
+map_none : {A B : Type 0} (f : A → B) (x : Option A) → option_map f x ≡ None → x ≡ None
+map_none f None e = refl
+map_none f (Some a) e = absurd (cc)
+
+if_none : (t : Bool) (r : Refusal) (rest : Option Refusal) → (if t then Some r else rest) ≡ None → (t ≡ false) × (rest ≡ None)
+if_none true r rest e = absurd (cc)
+if_none false r rest e = (refl, e)
+
+if_there : (t : Bool) (x : Option Refusal) (r : Refusal) → (if t then x else Some r) ≡ None → x ≡ None
+if_there true x r e = e
+if_there false x r e = absurd (cc)
+
+-- ** a call that may be issued
+
+known_asked : (k : Book) (t r : ℕ) (a : Asked) → forces_unknown_transaction_in k (Steps.Issue t r a) ≡ false → (c : Call) × (accepted a ≡ Some c)
+known_asked k t r Calls.OpenRm e = (_, refl)
+known_asked k t r Calls.CloseRm e = (_, refl)
+known_asked k t r (Calls.Start (Ours b) j) e = (_, refl)
+known_asked k t r (Calls.Start (Foreign x) j) e = absurd (true≢false e)
+known_asked k t r (Calls.End (Ours b) i) e = (_, refl)
+known_asked k t r (Calls.End (Foreign x) i) e = absurd (true≢false e)
+known_asked k t r (Calls.Prepare (Ours b)) e = (_, refl)
+known_asked k t r (Calls.Prepare (Foreign x)) e = absurd (true≢false e)
+known_asked k t r (Calls.Commit (Ours b) o) e = (_, refl)
+known_asked k t r (Calls.Commit (Foreign x) o) e = absurd (true≢false e)
+known_asked k t r (Calls.Rollback (Ours b)) e = (_, refl)
+known_asked k t r (Calls.Rollback (Foreign x)) e = absurd (true≢false e)
+known_asked k t r (Calls.Forget (Ours b)) e = (_, refl)
+known_asked k t r (Calls.Forget (Foreign x)) e = absurd (true≢false e)
+known_asked k t r (Calls.Recover n x y) e = (_, refl)
+
+pub known_issue : {L : Type 0} (s : Session L) (t r : ℕ) (call : Asking.Call Xid) → issue_refusal s t r call ≡ None → (c : Call) × (known call ≡ Some c)
+known_issue s t r call none =
+    let asked = map_call name_of call in
+    let rules : refusal_in (book_in s.manager) (Steps.Issue t r asked) ≡ None = (or_none _ _ (or_none _ _ (or_none _ _ none).1).1).0 in
+    known_asked (book_in s.manager) t r asked (if_none _ _ _ (if_none _ _ _ (if_there _ _ _ rules)).1).0
+
+-- ** a call that waits first, and is answered
+
+known_heard : (a : Asked) (answer : Answer) → can_hear a answer ≡ true → (c : Call) × (accepted a ≡ Some c)
+known_heard Calls.OpenRm answer e = (_, refl)
+known_heard Calls.CloseRm answer e = (_, refl)
+known_heard (Calls.Recover n x y) answer e = (_, refl)
+known_heard (Calls.Start (Ours b) j) answer e = (_, refl)
+known_heard (Calls.Start (Foreign x) j) (Ret code) e = absurd (cc)
+known_heard (Calls.Start (Foreign x) j) (Page names) e = absurd (cc)
+known_heard (Calls.End (Ours b) j) answer e = (_, refl)
+known_heard (Calls.End (Foreign x) j) (Ret code) e = absurd (cc)
+known_heard (Calls.End (Foreign x) j) (Page names) e = absurd (cc)
+known_heard (Calls.Prepare (Ours b)) answer e = (_, refl)
+known_heard (Calls.Prepare (Foreign x)) (Ret code) e = absurd (cc)
+known_heard (Calls.Prepare (Foreign x)) (Page names) e = absurd (cc)
+known_heard (Calls.Commit (Ours b) o) answer e = (_, refl)
+known_heard (Calls.Commit (Foreign x) o) (Ret code) e = absurd (cc)
+known_heard (Calls.Commit (Foreign x) o) (Page names) e = absurd (cc)
+known_heard (Calls.Rollback (Ours b)) answer e = (_, refl)
+known_heard (Calls.Rollback (Foreign x)) (Ret code) e = absurd (cc)
+known_heard (Calls.Rollback (Foreign x)) (Page names) e = absurd (cc)
+known_heard (Calls.Forget (Ours b)) answer e = (_, refl)
+known_heard (Calls.Forget (Foreign x)) (Ret code) e = absurd (cc)
+known_heard (Calls.Forget (Foreign x)) (Page names) e = absurd (cc)
+
+-- it waits, and is known so
+pub record IsKnownFirst (waiting : Option (Asking.Call Xid)) : Type 0 where
+  pub call : Asking.Call Xid
+  pub waits : waiting ≡ Some call
+  pub known_so : (c : Call) × (known call ≡ Some c)
+
+first_fit : (waiting : Option (Asking.Call Xid)) (answer : Given.Answer Xid) → unfit_for waiting answer ≡ None → IsKnownFirst waiting
+first_fit None answer e = absurd (cc)
+first_fit (Some call) answer e = record { call = call; waits = refl; known_so = known_heard (map_call name_of call) (map_answer name_of answer) (by _ e) }
+  where
+    by : (t : Bool) → (if t then None else Some Unfits.NoSuchAnswer) ≡ None → t ≡ true
+    by true e = refl
+    by false e = absurd (cc)
+
+pub known_first : {L : Type 0} (s : Session L) (t r : ℕ) (answer : Given.Answer Xid) → unfit s t r answer ≡ None
+    → IsKnownFirst (slice_get (line_at s.lines t r).calls.waiting 0)
+known_first s t r answer none = first_fit (slice_get (line_at s.lines t r).calls.waiting 0) answer (or_none _ _ none).1
+
+or_true : (a b : Bool) → (a || not b) ≡ false → b ≡ true
+or_true true b e = absurd (cc)
+or_true false true e = refl
+or_true false false e = absurd (cc)
+
+-- it has the name that was told
+pub named_first : {L : Type 0} (s : Session L) (t r : ℕ) (answer : Given.Answer Xid) (name : CallName) (call : Asking.Call Xid) → unfit s t r answer ≡ None
+    → slice_get (line_at s.lines t r).calls.waiting 0 ≡ Some call → waits_for_other s.lines t r name ≡ false → is_to call name ≡ true
+named_first s t r answer name call none waits same =
+    let waiting = slice_get (line_at s.lines t r).calls.waiting 0 in
+    let told : line_refusal s t r ≡ None = map_none Unfits.Refused (line_refusal s t r)
+    (or_none (option_map Unfits.Refused (line_refusal s t r)) (unfit_for waiting answer) none).0 in
+    let rest = if not (book_in s.manager).up then Some ManagerDown else None in
+    let unbarred : (is_over s || not (has_line s.lines t r)) ≡ false = (if_none (is_over s || not (has_line s.lines t r)) Limit rest told).0 in
+    let there : has_line s.lines t r ≡ true = or_true (is_over s) (has_line s.lines t r) unbarred in
+    by _ (subst (λ b. is_other (if b then slice_get (line_at s.lines t r).calls.waiting 0 else None) name ≡ false) there same) waits
+  where
+    not_not : (b : Bool) → not b ≡ false → b ≡ true
+    not_not true e = refl
+    not_not false e = absurd (cc)
+
+    by : (waiting : Option (Asking.Call Xid)) → is_other waiting name ≡ false → waiting ≡ Some call → is_to call name ≡ true
+    by None e waits = absurd (cc)
+    by (Some first) e waits = not_not (is_to call name) (subst (λ w. is_other w name ≡ false) waits e)

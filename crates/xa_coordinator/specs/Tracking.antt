@@ -1,0 +1,56 @@
+-- How a session tracks what a driver tells.
+use Rattle.std.specs.Prelude.{◌≡◌, ℕ, false, List}
+use Rattle.std.specs.List.{list_any}
+use Rattle.xa_coordinator.specs.Performing.{Performs}
+use Rattle.xa_coordinator.specs.Serving.{HaveReplies}
+use Rattle.xa_coordinator.specs.Telling.{HaveTold, Tells, is_log_fault}
+use Rattle.xa_coordinator.specs.declared.coordinator.Coordinator.{Coordinator}
+use Rattle.xa_model.specs.Trace.{Origin}
+use Rattle.xa_requests.specs.declared.request.Request.{Request}
+use Rattle.xa_requests.specs.declared.response.Response.{Response}
+use Rattle.xa_serve.specs.Following.{StandsAtStart}
+use Rattle.xa_serve.specs.Tracking.{KeepsTrack}
+use Rattle.xa_standings.specs.Explained.{IsExplained, IsOldLog}
+use Rattle.xa_standings.specs.Seen.{Seen, Seen.Start}
+use Rattle.xa_tm.specs.Begins.{BeginsWith}
+
+-- the session keeps track of what a request and its reply tell
+pub record TracksReply {L : Type 0} (o : Origin) (request : Request) (reply : Response) (seen : Seen) (old new : Coordinator L) : Type 0 where
+  pub more : Seen
+  pub told : Tells old.session.lines.threads request reply seen more
+  pub keeps : KeepsTrack o more new.session
+  pub threads : new.session.lines.threads ≡ old.session.lines.threads
+
+-- A session that keeps track of what was seen keeps track of what a request and its reply tell, unless the log failed.
+abbrev pub RepliesAreTracked : Type 0 → Type 0
+RepliesAreTracked L =
+    (o : Origin) (seen : Seen) (request : Request) (reply : Response) (old new : Coordinator L) → KeepsTrack o seen old.session
+    → Performs request old reply new → is_log_fault reply ≡ false → TracksReply o request reply seen old new
+
+-- up to where the log failed, the session keeps track of what lines and their replies tell; where it didn't, up to the end
+pub record TracksReplies {L : Type 0} (o : Origin) (threads : ℕ) (lines : List (List ℕ)) (replies : List Response) (seen : Seen)
+    (new : Coordinator L) : Type 0 where
+  pub more : Seen
+  pub told : HaveTold threads lines replies seen more
+  pub last : Coordinator L
+  pub keeps : KeepsTrack o more last.session
+  pub to_end : list_any is_log_fault replies ≡ false → last ≡ new
+
+-- And so of all lines and replies.
+abbrev pub SessionsAreTracked : Type 0 → Type 0
+SessionsAreTracked L =
+    (o : Origin) (seen : Seen) (lines : List (List ℕ)) (replies : List Response) (old new : Coordinator L) → KeepsTrack o seen old.session
+    → HaveReplies lines replies old new → TracksReplies o old.session.lines.threads lines replies seen new
+
+-- what lines and their replies tell since the start, up to where the log failed, has a right history
+pub record AreExplained (o : Origin) (lines : List (List ℕ)) (replies : List Response) : Type 0 where
+  pub seen : Seen
+  pub told : HaveTold o.threads lines replies Start seen
+  pub explained : IsExplained o seen
+
+-- Whatever a driver tells a new coordinator and is replied has a right history: of each start that has the rows and records of its log.
+abbrev pub ServedSessionsAreExplained : Type 0 → Type 0
+ServedSessionsAreExplained L =
+    (threads rms : ℕ) (lines : List (List ℕ)) (replies : List Response) (old new : Coordinator L) → StandsAtStart threads rms old.session
+    → HaveReplies lines replies old new → (o : Origin) → BeginsWith threads rms old.session.manager o → IsOldLog o
+    → AreExplained o lines replies
