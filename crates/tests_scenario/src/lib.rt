@@ -7,6 +7,8 @@ mod again;
 #[cfg(test)]
 mod early;
 #[cfg(test)]
+mod explained;
+#[cfg(test)]
 mod failing;
 #[cfg(test)]
 mod logs;

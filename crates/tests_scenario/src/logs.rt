@@ -20,7 +20,7 @@ const LISTED: &str = "\
 7:00000000000000020000000000000001:0000000000000000 heuristic-haz
 ";
 
-const FIRST: Gtrid = Gtrid {
+pub(crate) const FIRST: Gtrid = Gtrid {
     incarnation: 1,
     sequence: 1,
 };
@@ -30,25 +30,25 @@ const SECOND: Gtrid = Gtrid {
     sequence: 2,
 };
 
-const LATER: Gtrid = Gtrid {
+pub(crate) const LATER: Gtrid = Gtrid {
     incarnation: 1,
     sequence: 16,
 };
 
-const OF_LATER_START: Gtrid = Gtrid {
+pub(crate) const OF_LATER_START: Gtrid = Gtrid {
     incarnation: 2,
     sequence: 1,
 };
 
 /// A branch of a transaction.
-fn branch(gtrid: Gtrid, thread: u32, rm: u32) -> Branch
+pub(crate) fn branch(gtrid: Gtrid, thread: u32, rm: u32) -> Branch
     ensures { result.gtrid ≡ gtrid }
 {
     Branch { gtrid, thread, rm }
 }
 
 /// The log that `LISTED` lists, whose rows are written in another order.
-fn full_log(alloc: Global) -> Result<MemLog, LogFault> {
+pub(crate) fn full_log(alloc: Global) -> Result<MemLog, LogFault> {
     let mut log = MemLog::new(alloc);
     let waited_for = [
         branch(LATER, 1, 0),

@@ -124,11 +124,14 @@ fn jobs_of_another_shape_cannot_be_run(rt: HostRuntime) -> Result<(), Fail> {
     Ok(())
 }
 
+/// Fifteen jobs for each of eight threads.
+const MANY: usize = 120;
+
 #[test]
 fn many_jobs_on_all_threads(rt: HostRuntime) -> Result<(), Fail> {
     let alloc = rt.alloc();
     let mut votes = Vec::new(alloc);
-    for job in 0..1000 {
+    for job in 0..MANY {
         let last = if job % 7 == 0 { NO } else { YES };
         let row = [YES, READ_ONLY, None, last, YES, YES, None, YES];
         votes.push(row.as_slice().to_vec(alloc)?)?;
@@ -141,8 +144,8 @@ fn many_jobs_on_all_threads(rt: HostRuntime) -> Result<(), Fail> {
             votes: votes.clone()?,
         };
         let done = run(&rt, alloc, &many, MemLog::new(alloc), &Counting::new())?;
-        assert_eq!(rt; done.ends.len(), 1000);
-        assert_eq!(rt; done.fates.len(), 6000);
+        assert_eq!(rt; done.ends.len(), MANY);
+        assert_eq!(rt; done.fates.len(), 6 * MANY);
         for (job, end) in done.ends.iter().enumerate() {
             assert!(rt; job % 7 != 0 || *end == Outcome::Rollback);
             assert!(rt; sweep || job % 7 == 0 || *end == Outcome::Commit);

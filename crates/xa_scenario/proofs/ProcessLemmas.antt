@@ -1,7 +1,10 @@
 -- Processes in turn.
 use Rattle.std.proofs.Common.{◌≡◌, ◌∙◌, ℕ, ◌+◌, List, [], ◌∷◌, ◌++◌, length, Option, Some, None, ap, refl, subst, sym}
+use Rattle.std.specs.Option.{ok_or}
+use Rattle.std.specs.Prelude.{Ok}
 use Rattle.xa_base.specs.Xid.{Xid}
 use Rattle.xa_base.specs.declared.branch.Gtrid.{Gtrid}
+use Rattle.xa_files.specs.declared.fault.RunFault.TheVariants.{Log}
 use Rattle.xa_log.specs.Content.{Content}
 use Rattle.xa_log.specs.Contract.{Moment}
 use Rattle.xa_log.specs.declared.decision_log.DecisionLog as DecisionLog
@@ -48,6 +51,11 @@ module _ {L : Type 0} (moment : L → Moment) (log : L) where
       resumes_both _ _ _ next (gone_right past earlier) (joined_faces past p.origin p.events earlier (is.resumes order honest) is.is.allowed).1 r
 
 -- ** why none can go on
+
+-- a log that was there to go on with was left
+pub left_there : {L : Type 0} (left : Option L) (log : L) → Ok log ≡ ok_or left Log → left ≡ Some log
+left_there (Some other) log is = cc
+left_there None log is = absurd (cc)
 
 module _ {R L : Type 0} (look : Looks R) (logs : DecisionLog.Ghosts L) (s : SystemView R L) (log : L) (held : log_held s.log ≡ Some log) where
   abbrev Hinders : L → Type 0

@@ -1,10 +1,11 @@
 //! The system that a run of a scenario leaves, for those who tell of it in other ways than `run_scenario`.
 
-ghost use Rattle.std.specs.Prelude.{◌≡◌, ◌⊎◌, [], IfErr, IfOk};
-ghost use Rattle.xa_files.specs.declared.fault.RunFault.TheVariants.{Memory};
+ghost use Rattle.std.specs.Prelude.{◌≡◌, ◌⊎◌, [], Err, IfErr, IfOk};
+ghost use Rattle.xa_files.specs.declared.fault.RunFault.TheVariants.{Log, Memory};
 ghost use Rattle.xa_model.specs.Protocol.{RightOrigin};
 ghost use Rattle.xa_scenario.specs.Runs.{IsRunOf, IsStartFault, IsStartOf, StartsOverLog};
 ghost use Rattle.xa_scenario.specs.Scenarios.{IsSized, plan_of};
+ghost use Rattle.xa_system.specs.StartFaults.{IsToBlame};
 ghost use Rattle.xa_system.specs.SystemView.{origin_in};
 ghost use Rattle.xa_system.specs.RmInHistory.{looks};
 
@@ -57,6 +58,7 @@ pub fn system_after<L: DecisionLog + Drop>(
     ensures over { IfOk result (λ after. StartsOverLog L.moment log
         (origin_in (looks ⟦<MemRm as ResourceManager>⟧.held_of
         ⟦<MemRm as ResourceManager>⟧.scan_of ⟦<MemRm as ResourceManager>⟧.in_doubt_of) after)) }
+    ensures log { result ≡ Err Log → IsToBlame L.DecisionLog log }
     ensures fault { IfErr result IsStartFault }
 {
     let rms = rms_of(alloc, scenario.rms)?;

@@ -1,7 +1,8 @@
 //! Several scenarios, each a process of the manager over what the one before it has left.
 
-ghost use Rattle.std.specs.Prelude.{◌≡◌, ◌⊎◌, ◌+◌, ◌++◌, ◌∷◌, [], ℕ, All, List, length, map, vec_len, Err, IfErr, IfOk, OnOk};
+ghost use Rattle.std.specs.Prelude.{◌≡◌, ◌≢◌, ◌⊎◌, ◌↔◌, ◌+◌, ◌++◌, ◌∷◌, [], ℕ, All, List, length, map, vec_len, Err, IfErr, IfOk, OnOk};
 ghost use Rattle.std.specs.Io.KnownBytes.{Keeps};
+ghost use Rattle.std.specs.Option.{ok_or};
 ghost use Rattle.std.specs.String.{string_bytes};
 ghost use Rattle.xa_base.specs.Xid.{Xid as KnownXid};
 ghost use Rattle.xa_base.specs.declared.state.Fate.{Fate};
@@ -118,6 +119,29 @@ fn fates_of<R: ResourceManager + Drop, L: DecisionLog + Drop>(
     Ok(fates)
 }
 
+/// The log that an earlier process has left. Where it has lost it, none can go on.
+fn log_left<L: Drop>(log: Option<L>) -> Result<L, RunFault>
+    ensures { result ≡ ok_or log Log }
+{
+    log.ok_or(RunFault::Log)
+}
+
+/// The fault of a run in which no process can go on over what is left: as many resource managers as there were.
+fn resume_fault(fault: ResumeFault) -> RunFault
+    requires { fault ≢ ResumeFault.Limit }
+    ensures log { (result ≡ Log) ↔ ((fault ≡ ResumeFault.Log) ⊎ (fault ≡ ResumeFault.Newer)) }
+    ensures memory { (result ≡ Memory) ↔ (fault ≡ ResumeFault.Memory) }
+    ensures fault { IsStartFault result }
+{
+    match fault {
+        ResumeFault::Memory => RunFault::Memory,
+        ResumeFault::Log => RunFault::Log,
+        // The log has lost what it had: a resource manager holds a branch that is newer.
+        ResumeFault::Newer => RunFault::Log,
+        ResumeFault::Limit => unreachable!(),
+    }
+}
+
 /// The system of the next process: it starts over what an earlier one has left.
 fn next_system<R: ResourceManager + Drop, L: DecisionLog + Drop>(
     alloc: Global,
@@ -138,17 +162,10 @@ fn next_system<R: ResourceManager + Drop, L: DecisionLog + Drop>(
         return Err(RunFault::Memory);
     };
     let rms = remains.rms;
-    let Some(log) = remains.log else {
-        return Err(RunFault::Log);
-    };
+    let log = log_left(remains.log)?;
     match System::resume(alloc, threads, rms, log) {
         Ok(system) => Ok(system),
-        Err(ResumeFault::Memory) => Err(RunFault::Memory),
-        Err(ResumeFault::Log) => Err(RunFault::Log),
-        // The log has lost what it had: a resource manager holds a branch that is newer.
-        Err(ResumeFault::Newer) => Err(RunFault::Log),
-        // As many resource managers are left as there were.
-        Err(ResumeFault::Limit) => unreachable!(),
+        Err(fault) => Err(resume_fault(fault)),
     }
 }
 

@@ -1,6 +1,6 @@
 //! The work of the program, over any log and any writer.
 
-ghost use Rattle.std.specs.Prelude.{◌≡◌, ◌≢◌, ◌⊎◌, [], All, Err, IfErr, IfOk, IsErr, OnOk, vec_len};
+ghost use Rattle.std.specs.Prelude.{◌≡◌, ◌≢◌, ◌⊎◌, ◌↔◌, [], All, Err, IfErr, IfOk, IsErr, OnOk, vec_len};
 ghost use Rattle.std.specs.Io.KnownBytes.{Keeps};
 ghost use Rattle.std.specs.String.{string_bytes};
 ghost use Rattle.xa_files.specs.Reading.{EndsWith, Explains};
@@ -38,6 +38,22 @@ pub fn rms_of(alloc: Global, count: u32) -> Result<Vec<MemRm>, RunFault>
     Ok(rms)
 }
 
+/// The fault of a run whose system couldn't be started. A scenario is as large as a system can be, and no branch ever was
+/// at its resource managers.
+fn start_fault(fault: NewFault) -> RunFault
+    requires limit { fault ≢ NewFault.Limit }
+    requires clear { fault ≢ NewFault.NotClear }
+    ensures log { (result ≡ Log) ↔ (fault ≡ NewFault.Log) }
+    ensures memory { (result ≡ Memory) ↔ (fault ≡ NewFault.Memory) }
+    ensures fault { IsStartFault result }
+{
+    match fault {
+        NewFault::Log => RunFault::Log,
+        NewFault::Memory => RunFault::Memory,
+        NewFault::Limit | NewFault::NotClear => unreachable!(),
+    }
+}
+
 /// The system of a scenario over a log, at new resource managers.
 pub fn system_of<R: ResourceManager + Drop, L: DecisionLog + Drop>(
     alloc: Global,
@@ -63,11 +79,7 @@ pub fn system_of<R: ResourceManager + Drop, L: DecisionLog + Drop>(
 {
     match System::new(alloc, scenario.threads, rms, log) {
         Ok(system) => Ok(system),
-        Err(NewFault::Log) => Err(RunFault::Log),
-        Err(NewFault::Memory) => Err(RunFault::Memory),
-        // A scenario is as large as a system can be, and no branch ever was at its resource managers.
-        Err(NewFault::Limit) => unreachable!(),
-        Err(NewFault::NotClear) => unreachable!(),
+        Err(fault) => Err(start_fault(fault)),
     }
 }
 

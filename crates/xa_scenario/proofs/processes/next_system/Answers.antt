@@ -1,5 +1,6 @@
-use Rattle.std.proofs.Common.{◌≡◌, ◌∙◌, Err, Some, ap, refl, rules, subst, sym, IsSomeAnd}
-use Rattle.xa_scenario.proofs.ProcessLemmas.{goes_on, over_a_branch, over_the_log}
+use Rattle.std.proofs.Common.{◌≡◌, ◌∙◌, Err, Some, refl, subst, sym, IsSomeAnd, ⊎_elim}
+use Rattle.xa_files.proofs.TablesInTurnLemmas.{same_err}
+use Rattle.xa_scenario.proofs.ProcessLemmas.{goes_on, left_there, over_a_branch, over_the_log}
 use Rattle.xa_scenario.proofs.StartLemmas.{has_started}
 use Rattle.xa_system.specs.LogInHistory.{StartsOver}
 use Rattle.xa_system.specs.RmInHistory.{looks}
@@ -12,8 +13,7 @@ returns-in-Ok-resume-clause-goes_on g c =
     let look = looks g.R.ResourceManager.held_of g.R.ResourceManager.scan_of g.R.ResourceManager.in_doubt_of in
     let moment = g.L.DecisionLog.moment in
     let new = c.in-Ok-resume.system in
-    let known : c.in-Ok.remains.log ≡ Some c.in-Some.log = c.in-Some.is in
-    let at = known ∙ ap Some (sym c.in-Some.log-is) in
+    let at : c.in-Ok.remains.log ≡ Some c.in_ok-log.log = left_there _ _ (c.in_ok-log.ensures) in
     let resumed = c.in-Ok-resume.ensures in
     goes_on look moment _ c.in-Ok.remains.rms.items c.args.system new (sym c.in-Ok.ensures.log ∙ at)
     (has_started (observes g.R.ResourceManager.held_of g.R.ResourceManager.scan_of g.R.ResourceManager.in_doubt_of moment) _ new refl
@@ -26,18 +26,16 @@ returns-in-Ok-resume-clause-goes_on g c =
     (λ order honest near content is. c.in-Ok.ensures.left order honest near _ content at is)
     resumed.follows
 
-pub returns-in-Err-Log-clause-log : goal.returns-in-Err-Log-clause-log
-returns-in-Err-Log-clause-log g c = λ told.
+pub returns-in-Err-clause-log : goal.returns-in-Err-clause-log
+returns-in-Err-clause-log g c = λ told.
     let look = looks g.R.ResourceManager.held_of g.R.ResourceManager.scan_of g.R.ResourceManager.in_doubt_of in
-    let known : c.in-Ok.remains.log ≡ Some c.in-Some.log = c.in-Some.is in
-    let failed : c.resume.result ≡ Err faults.Log = search rules in
-    over_the_log look g.L.DecisionLog c.args.system _ (sym c.in-Ok.ensures.log ∙ (known ∙ ap Some (sym c.in-Some.log-is)))
-    (c.resume.ensures.log_fault failed)
-
-pub returns-in-Err-Newer-clause-log : goal.returns-in-Err-Newer-clause-log
-returns-in-Err-Newer-clause-log g c = λ told.
-    let look = looks g.R.ResourceManager.held_of g.R.ResourceManager.scan_of g.R.ResourceManager.in_doubt_of in
-    let known : c.in-Ok.remains.log ≡ Some c.in-Some.log = c.in-Some.is in
-    let newer : c.resume.result ≡ Err faults.Newer = search rules in
-    over_a_branch look g.L.DecisionLog c.args.system _ (sym c.in-Ok.ensures.log ∙ (known ∙ ap Some (sym c.in-Some.log-is)))
-    c.in-Ok.remains.rms.items c.in-Ok.ensures.rms (c.resume.ensures.only_newer newer)
+    let at : c.in-Ok.remains.log ≡ Some c.in_ok-log.log = left_there _ _ (c.in_ok-log.ensures) in
+    let fault = c.resume_fault.ensures.log.0 (same_err _ _ told) in
+    ⊎_elim
+    (λ (is : c.in-Err.fault ≡ faults.Log).
+    over_the_log look g.L.DecisionLog c.args.system _ (sym c.in-Ok.ensures.log ∙ at)
+    (c.resume.ensures.log_fault (let failed : c.resume.result ≡ Err faults.Log = cc in failed)))
+    (λ (is : c.in-Err.fault ≡ faults.Newer).
+    over_a_branch look g.L.DecisionLog c.args.system _ (sym c.in-Ok.ensures.log ∙ at) c.in-Ok.remains.rms.items c.in-Ok.ensures.rms
+    (c.resume.ensures.only_newer (let newer : c.resume.result ≡ Err faults.Newer = cc in newer)))
+    fault

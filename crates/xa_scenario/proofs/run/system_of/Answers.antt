@@ -1,4 +1,4 @@
-use Rattle.std.proofs.Common.{◌≡◌, All, Err, IsSomeAnd, ap, arith, length, refl, rules, slice_get, subst, sym}
+use Rattle.std.proofs.Common.{◌≡◌, All, Err, IsSomeAnd, ap, arith, length, refl, slice_get, subst, sym}
 use Rattle.xa_scenario.proofs.StartLemmas.{new_at, none_in_doubt, none_open, not_wrong, has_started, unstarted}
 use Rattle.xa_scenario.specs.Runs.{IsNewRm}
 use Rattle.xa_scenario.proofs.run.system_of.Goals as goal
@@ -32,8 +32,8 @@ returns-in-Ok-clause-over g c =
     (c.in-Ok.ensures.ok.4.log.start (subst (λ log. (moment log).is_in_order) (sym c.in-Ok.ensures.handed.1) order) honest))
     c.in-Ok.ensures.near c.in-Ok.ensures.held.1
 
-pub unreachable-requires : goal.unreachable-requires
-unreachable-requires g c =
-    let limit : c.new.result ≡ Err faults.Limit = search rules in
+pub start_fault-requires-clause-limit : goal.start_fault-requires-clause-limit
+start_fault-requires-clause-limit g c = λ is.
+    let limit : c.new.result ≡ Err faults.Limit = cc in
     not_wrong c.args.scenario.now.threads c.args.scenario.now.rms c.requires.sized.threads c.requires.sized.rms
     (subst (HasWrongSize c.args.scenario.now.threads) c.requires.count (c.new.ensures.only_limit limit))

@@ -1,0 +1,92 @@
+//! What the rows of a log ask of an operator, as text.
+
+use crate::logs::{FIRST, LATER, OF_LATER_START, branch, full_log};
+use std::alloc::Global;
+use std::test::Fail;
+use xa_base::How;
+use xa_files::RunFault;
+use xa_listing::explain_log;
+use xa_log::{DecisionLog, FailLog, FailPlan, LogCall, LogFault, MemLog};
+
+/// What is told of a log with two decisions and an end of each kind.
+const TOLD: &str = "\
+00000000000000010000000000000002 is decided to commit, and its row names no branch.
+00000000000000010000000000000010 is decided to commit, and its row names 3 branches:
+    7:00000000000000010000000000000010:0000000000000000 at resource manager 0: \
+committed by a recovery there, if it is not yet
+    7:00000000000000010000000000000010:0000000000000001 at resource manager 1: \
+committed by a recovery there, if it is not yet
+    7:00000000000000010000000000000010:0000000100000000 at resource manager 0: \
+committed by a recovery there, if it is not yet
+7:00000000000000010000000000000001:0000000000000000 was ended by resource manager 0 itself: \
+committed: look whether its transaction was, which has no row any more
+7:00000000000000010000000000000010:0000000000000001 was ended by resource manager 1 itself: \
+rolled back, against the decision to commit: do its work again there, \
+or undo that of the other branches
+7:00000000000000010000000000000010:0000000100000000 was ended by resource manager 0 itself: \
+committed in part, and the rest rolled back against the decision to commit: \
+look which part is lacking there
+7:00000000000000020000000000000001:0000000000000000 was ended by resource manager 0 itself: \
+perhaps ended: look what is there, and how its transaction ended
+";
+
+/// The same where the ends with a decision and those without one have changed places.
+const TOLD_THE_OTHER_WAY: &str = "\
+00000000000000010000000000000010 is decided to commit, and its row names 1 branch:
+    7:00000000000000010000000000000010:0000000000000000 at resource manager 0: \
+committed by a recovery there, if it is not yet
+7:00000000000000010000000000000001:0000000000000000 was ended by resource manager 0 itself: \
+rolled back: look whether its transaction was, which has no row any more
+7:00000000000000010000000000000010:0000000000000000 was ended by resource manager 0 itself: \
+committed, as was decided: nothing is left to do
+7:00000000000000010000000000000010:0000000000000001 was ended by resource manager 1 itself: \
+perhaps rolled back, against the decision to commit: look what is there
+7:00000000000000020000000000000001:0000000000000000 was ended by resource manager 0 itself: \
+committed in part: look how its transaction ended, which has no row any more
+";
+
+/// A log of which that is told.
+fn other_log(alloc: Global) -> Result<MemLog, LogFault> {
+    let mut log = MemLog::new(alloc);
+    log.commit(LATER, &[branch(LATER, 0, 0)])?;
+    log.note_heuristic(branch(LATER, 0, 0), How::Com)?;
+    log.note_heuristic(branch(LATER, 0, 1), How::Haz)?;
+    log.note_heuristic(branch(FIRST, 0, 0), How::Rb)?;
+    log.note_heuristic(branch(OF_LATER_START, 0, 0), How::Mix)?;
+    Ok(log)
+}
+
+/// What is told of a log, or the fault of it.
+fn told_of<L: DecisionLog>(alloc: Global, log: &mut L) -> Result<String, RunFault> {
+    let mut out = Vec::new(alloc);
+    explain_log(log, &mut out)?;
+    String::from_utf8(out).map_err(|_| RunFault::Output)
+}
+
+#[test]
+fn every_row_is_explained(rt: HostRuntime) -> Result<(), Fail> {
+    let alloc = rt.alloc();
+    let told = told_of(alloc, &mut full_log(alloc)?)?;
+    assert!(rt; told.as_str() == TOLD, "{told}");
+    let told = told_of(alloc, &mut other_log(alloc)?)?;
+    assert!(rt; told.as_str() == TOLD_THE_OTHER_WAY, "{told}");
+    let told = told_of(alloc, &mut MemLog::new(alloc))?;
+    assert!(rt; told.as_str() == "Nothing waits: the log has no row and no record.\n");
+    Ok(())
+}
+
+/// A log whose rows can't be read is a fault of the log, and nothing is told of it.
+#[test]
+fn log_fails(rt: HostRuntime) -> Result<(), Fail> {
+    let alloc = rt.alloc();
+    let plan = FailPlan::Once {
+        kind: LogCall::Rows,
+        at: 1,
+        made: false,
+    };
+    let mut log = FailLog::new(full_log(alloc)?, plan);
+    let mut out = Vec::new(alloc);
+    assert!(rt; explain_log(&mut log, &mut out) == Err(RunFault::Log));
+    assert!(rt; out.is_empty());
+    Ok(())
+}
