@@ -1,5 +1,5 @@
 -- Answers that a session hears.
-use Rattle.std.proofs.Common.{◌≡◌, ◌≢◌, ◌⊎◌, inl, inr, ℕ, Bool, false, Option, Some, None, refl, sym, subst}
+use Rattle.std.proofs.Common.{◌≡◌, ◌≢◌, ◌⊎◌, inl, ℕ, false, Some, None, sym, subst}
 use Rattle.std.specs.Prelude.{Result, Ok, Err, IfErr, OnOk, MatchBool, slice_get}
 use Rattle.xa_base.specs.Answer.{answer_number, map_answer}
 use Rattle.xa_base.specs.Call.{map_call}

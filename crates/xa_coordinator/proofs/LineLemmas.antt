@@ -1,14 +1,14 @@
 -- Lines that are read and written.
-use Rattle.std.proofs.Common.{◌≡◌, ◌≢◌, ◌∙◌, ◌≤◌, ◌<◌, ◌+◌, ◌==◌, ◌&&◌, ℕ, Bool, true, false, cond, nat_le, List, [], ◌∷◌, ◌++◌, length, Option, Some, None, refl, sym, ap, subst, append_assoc, length-append, arith, rules, ◌||◌, ◌⊎◌, inl, inr}
+use Rattle.std.proofs.Common.{◌≡◌, ◌≢◌, ◌∙◌, ◌≤◌, ◌<◌, ◌==◌, ◌&&◌, ℕ, Bool, true, false, cond, nat_le, List, [], ◌∷◌, ◌++◌, length, Option, Some, None, refl, sym, ap, subst, append_assoc, length-append, arith, rules, ◌||◌, ◌⊎◌, inl, inr}
 use Rattle.std.proofs.lemmas.Bool.{cases_lt}
 use Rattle.std.proofs.lemmas.Bool.Decides.{nat_tests}
 use Rattle.std.proofs.lemmas.List.{append-nil}
 use Rattle.std.proofs.lemmas.Str.{IsUtf8-from_is_utf8, is_utf8-from_IsUtf8}
-use Rattle.std.specs.Io.KnownBytes.{Appends, Consumes, IsAtEnd, Keeps}
+use Rattle.std.specs.Io.KnownBytes.{Appends, Consumes, Keeps}
 use Rattle.std.specs.List.{list_any}
 use Rattle.std.specs.Str.{IsUtf8, is_utf8}
-use Rattle.xa_files.specs.Outputs.{AppendsBeginning, IsWrittenBut}
-use Rattle.xa_coordinator.specs.Lines.{IsKeptOf, IsPlain, KeepsShort, ReadsOne, asked_in, lines_of, with_first}
+use Rattle.xa_files.specs.Outputs.{AppendsBeginning}
+use Rattle.xa_coordinator.specs.Lines.{IsKeptOf, IsPlain, KeepsShort, ReadsOne, asked_in}
 use Rattle.xa_coordinator.specs.declared.lines.TheConstants.{LINE_LIMIT}
 use Rattle.xa_requests.specs.Requests.{request_of}
 

@@ -1,16 +1,15 @@
 -- Lines and their replies, in turn.
-use Rattle.std.proofs.Common.{◌≡◌, ◌≢◌, ◌∙◌, ◌==◌, ℕ, Bool, true, false, cond, List, [], ◌∷◌, ◌++◌, Option, Some, None, refl, sym, ap, subst, append_assoc, arith, ◌||◌, ◌&&◌, not}
+use Rattle.std.proofs.Common.{◌≡◌, ◌≢◌, ◌∙◌, ◌==◌, ℕ, Bool, true, false, cond, List, [], ◌∷◌, ◌++◌, Option, refl, sym, ap, subst, append_assoc, arith, ◌||◌, ◌&&◌, not}
 use Rattle.std.specs.Prelude.{MatchBool, Result, Ok, Err, OnErr}
 use Rattle.std.proofs.lemmas.List.{append-nil}
-use Rattle.std.specs.Io.KnownBytes.{Appends, Consumes, IsAtEnd, Keeps}
-use Rattle.std.specs.List.{flat_map, list_any}
+use Rattle.std.specs.Io.KnownBytes.{Appends, Consumes, IsAtEnd}
+use Rattle.std.specs.List.{list_any}
 use Rattle.xa_files.specs.Outputs.{AppendsBeginning}
 use Rattle.xa_coordinator.proofs.LineLemmas.{appends_none, asked_of_kept, kept_none, begins_with_all, begins_with_none, both_consumed, both_written, consumed_none, keeps_all, written_then_begun}
-use Rattle.xa_coordinator.specs.Lines.{IsKeptOf, IsPlain, ReadsLine, asked_in, is_nothing, line_of, lines_of, with_end, with_first}
+use Rattle.xa_coordinator.specs.Lines.{IsKeptOf, IsPlain, ReadsLine, is_nothing, line_of, lines_of, with_first}
 use Rattle.xa_coordinator.specs.Serving.{BreaksOff, BreaksSession, EndsBy, HaveReplies, IsWholeLines, RepliesBy, RepliesTo, Serves, ServesLine, is_bye, text_of}
 use Rattle.xa_coordinator.specs.declared.coordinator.Coordinator.{Coordinator}
 use Rattle.xa_requests.specs.declared.response.Response.{Response}
-use Rattle.xa_requests.specs.declared.response.Response.TheVariants as responses
 
 true_is_not_false : true ≡ false → ⊥
 true_is_not_false h = cc

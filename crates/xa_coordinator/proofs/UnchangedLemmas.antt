@@ -9,7 +9,6 @@ use Rattle.xa_base.specs.declared.refusal.Refusal.{Refusal}
 use Rattle.xa_base.specs.declared.refusal.Refusal.TheVariants as Refusals
 use Rattle.xa_coordinator.specs.Calls.{Hears, PerformsAnswer, answer_reply, waits_for_other}
 use Rattle.xa_coordinator.specs.Crashes.{Loses}
-use Rattle.xa_coordinator.specs.Decisions.{ObeysRules}
 use Rattle.xa_coordinator.specs.Performing.{ChangesNothing, Performs, is_not_done, is_one_step}
 use Rattle.xa_coordinator.specs.Replies.{reply_of}
 use Rattle.xa_coordinator.specs.Standing.{LacksMemory, OnlyTells, StandsFor}

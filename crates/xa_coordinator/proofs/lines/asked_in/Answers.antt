@@ -1,7 +1,6 @@
-use Rattle.std.proofs.Common.{◌≡◌, ◌≤◌, ◌∙◌, List, length, ℕ, refl, sym, ap, subst}
+use Rattle.std.proofs.Common.{◌≡◌, ◌∙◌, sym, ap, subst}
 use Rattle.std.specs.Result.{IfOk}
 use Rattle.xa_coordinator.proofs.LineLemmas.{asked_of_none, asked_of_text}
-use Rattle.xa_coordinator.specs.Lines.{asked_in}
 use Rattle.xa_requests.specs.Requests.{request_of}
 use Rattle.xa_coordinator.proofs.lines.asked_in.Goals as goal
 

@@ -1,4 +1,4 @@
-use Rattle.std.proofs.Common.{Some, subst}
+use Rattle.std.proofs.Common.{subst}
 use Rattle.xa_coordinator.proofs.LineLemmas.{part_on}
 use Rattle.xa_coordinator.specs.Lines.{ReadsOne}
 use Rattle.xa_coordinator.proofs.lines.read_line.Goals as goal

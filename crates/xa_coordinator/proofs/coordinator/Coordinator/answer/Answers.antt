@@ -1,4 +1,4 @@
-use Rattle.std.proofs.Common.{◌∙◌, ap, inl, inr, refl, subst, sym}
+use Rattle.std.proofs.Common.{◌∙◌, ap, refl, subst, sym}
 use Rattle.xa_coordinator.proofs.AnswerLemmas.{hears_by, hears_it}
 use Rattle.xa_coordinator.specs.Calls.{Hears, answer_reply}
 use Rattle.xa_coordinator.proofs.coordinator.Coordinator.answer.Goals as goal

@@ -1,8 +1,6 @@
 use Rattle.std.proofs.Common.{refl}
-use Rattle.xa_base.specs.declared.branch.Gtrid.{Gtrid}
 use Rattle.xa_coordinator.proofs.StandingLemmas.{happens_if_ok, memory_alone}
 use Rattle.xa_model.specs.Trace.{Happening.Begun}
-use Rattle.xa_tm.specs.Calls.{book_in}
 use Rattle.xa_coordinator.proofs.coordinator.Coordinator.begin.Goals as goal
 
 pub returns-clause-performs : goal.returns-clause-performs

@@ -1,4 +1,4 @@
-use Rattle.std.proofs.Common.{ℕ, ◌+◌, suc, drop, add-one, subst}
+use Rattle.std.proofs.Common.{drop, add-one, subst}
 use Rattle.xa_base.specs.declared.branch.Gtrid.{Gtrid}
 use Rattle.xa_coordinator.proofs.StandingLemmas.{next_is_done, next_is_not}
 use Rattle.xa_coordinator.specs.Decisions.{PerformsDone}

@@ -1,4 +1,4 @@
-use Rattle.std.proofs.Common.{◌∙◌, ◌≡◌, false, true, refl, subst, sym}
+use Rattle.std.proofs.Common.{subst}
 use Rattle.xa_coordinator.proofs.ServingLemmas.{broken_off, greeted, no_more, not_greeted, on_err, one_more, the_last}
 use Rattle.xa_coordinator.specs.Lines.{line_of}
 use Rattle.xa_coordinator.specs.Replies.{greeting_of}

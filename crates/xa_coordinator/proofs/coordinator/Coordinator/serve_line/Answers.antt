@@ -1,4 +1,4 @@
-use Rattle.std.proofs.Common.{◌∙◌, refl, subst, sym}
+use Rattle.std.proofs.Common.{◌∙◌, subst, sym}
 use Rattle.xa_coordinator.proofs.ServingLemmas.{at_end, off_at_once, off_behind, on_err, one_line}
 use Rattle.xa_coordinator.specs.Serving.{BreaksOff, RepliesTo, ServesLine}
 use Rattle.xa_coordinator.proofs.coordinator.Coordinator.serve_line.Goals as goal
