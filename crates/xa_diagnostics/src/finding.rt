@@ -1,0 +1,270 @@
+//! What is wrong with a table, and what is allowed there.
+
+use crate::allowed::{allowed_at, flags_of_call, name_of_call};
+use std::fmt;
+use toml::Value;
+use xa_base::CallKind;
+
+/// What is wrong with the table of an entry, or with the top of a file.
+#[derive(Clone, Copy)]
+pub enum Finding<'a> {
+    /// A table of this kind has these keys, and this is none of them.
+    OtherKey {
+        of: &'static str,
+        key: &'a str,
+        keys: &'static [&'static str],
+    },
+    /// A table of this kind needs the key.
+    Missing {
+        of: &'static str,
+        key: &'static str,
+    },
+    /// The key holds something else than what it may.
+    Unfit {
+        key: &'static str,
+        value: &'a Value,
+    },
+    /// A `begin` before it has the name.
+    BegunBefore(&'a str),
+    /// No `begin` before it has the name.
+    NotBegun(&'a str),
+    /// `of` stands beside no `tx`.
+    NoTransaction,
+    /// The text names no flag.
+    NoFlag(&'a str),
+    /// The flag is named twice.
+    FlagTwice(&'a str),
+    /// An item of the flags is no text.
+    FlagNoText(&'a Value),
+    /// Such a call doesn't take these flags.
+    FlagsOfCall(CallKind),
+    /// A recovery doesn't take these flags.
+    FlagsOfRecovery,
+    /// Such a call names a branch.
+    NeedsBranch(CallKind),
+    /// Such a call names no branch.
+    NamesNoBranch(CallKind),
+    /// An xa_recover needs a count.
+    NeedsCount,
+    /// Such a call has no count.
+    HasNoCount(CallKind),
+    /// A line is restarted.
+    RestartOfLine,
+    /// There are more than so many entries.
+    TooMany(&'static str),
+    /// The item is none of a list of entries.
+    NoTable,
+    /// There are so many votes, but so many resource managers.
+    VoteForEach {
+        votes: usize,
+        rms: u32,
+    },
+    /// The item is no vote of a job.
+    NoVote(&'a Value),
+}
+
+impl Finding<'_> {
+    /// The key that is wrong.
+    pub fn key(&self) -> Option<&str> {
+        match self {
+            Finding::OtherKey { key, .. } => Some(key),
+            Finding::Unfit { key, .. } => Some(key),
+            Finding::BegunBefore(_) | Finding::NotBegun(_) | Finding::NamesNoBranch(_) => {
+                Some("tx")
+            }
+            Finding::NoTransaction => Some("of"),
+            Finding::NoFlag(_)
+            | Finding::FlagTwice(_)
+            | Finding::FlagNoText(_)
+            | Finding::FlagsOfCall(_)
+            | Finding::FlagsOfRecovery => Some("flags"),
+            Finding::HasNoCount(_) => Some("count"),
+            Finding::RestartOfLine => Some("part"),
+            Finding::VoteForEach { .. } | Finding::NoVote(_) => Some("votes"),
+            Finding::Missing { .. }
+            | Finding::NeedsBranch(_)
+            | Finding::NeedsCount
+            | Finding::TooMany(_)
+            | Finding::NoTable => None,
+        }
+    }
+}
+
+/// Writes words with commas between them, and `and` before the last.
+fn write_list<W: fmt::Write>(f: &mut fmt::Formatter<W>, words: &[&str]) -> fmt::Result {
+    let last = words.len().saturating_sub(1);
+    for (i, word) in words.iter().enumerate() {
+        if i == 0 {
+            write!(f, "{word}")?;
+        } else if i == last {
+            write!(f, " and {word}")?;
+        } else {
+            write!(f, ", {word}")?;
+        }
+    }
+    Ok(())
+}
+
+/// Writes what a key holds: a text or a number as it is, else of which kind it is.
+fn write_value<W: fmt::Write>(f: &mut fmt::Formatter<W>, value: &Value) -> fmt::Result {
+    match value {
+        Value::String(text) => write!(f, "{text:?}"),
+        Value::Integer(number) => write!(f, "{number}"),
+        Value::Float(_) => write!(f, "a float"),
+        Value::Boolean(truth) => write!(f, "{truth}"),
+        Value::Datetime(_) => write!(f, "a date or time"),
+        Value::Array(_) => write!(f, "an array"),
+        Value::Table(_) => write!(f, "a table"),
+    }
+}
+
+/// Writes what is wrong with the keys of a table.
+fn write_key<W: fmt::Write>(f: &mut fmt::Formatter<W>, finding: &Finding<'_>) -> fmt::Result {
+    match finding {
+        Finding::OtherKey { of, key, keys } => {
+            write!(f, "{key:?} is no key of {of}, which has ")?;
+            write_list(f, keys)
+        }
+        Finding::Missing { of, key } => {
+            write!(
+                f,
+                "{of} needs the key {key}, which holds {}",
+                allowed_at(key)
+            )
+        }
+        Finding::Unfit { key, value } => {
+            write!(f, "{key} is ")?;
+            write_value(f, value)?;
+            write!(f, "; it has to be {}", allowed_at(key))
+        }
+        _ => Ok(()),
+    }
+}
+
+/// Writes what is wrong with the flags of a table.
+fn write_flags<W: fmt::Write>(f: &mut fmt::Formatter<W>, finding: &Finding<'_>) -> fmt::Result {
+    match finding {
+        Finding::NoFlag(word) => {
+            write!(
+                f,
+                "{word:?} is a flag of no call: there are {}",
+                allowed_at("flag")
+            )
+        }
+        Finding::FlagTwice(word) => write!(f, "flags names {word} twice"),
+        Finding::FlagNoText(value) => {
+            write!(f, "flags has ")?;
+            write_value(f, value)?;
+            write!(f, "; it is {}", allowed_at("flags"))
+        }
+        Finding::FlagsOfCall(kind) => {
+            write!(f, "{} takes {}", name_of_call(*kind), flags_of_call(*kind))
+        }
+        Finding::FlagsOfRecovery => {
+            write!(f, "a recover takes {}", flags_of_call(CallKind::Recover))
+        }
+        _ => Ok(()),
+    }
+}
+
+/// Writes what is wrong with the branch or the count of a call.
+fn write_call<W: fmt::Write>(f: &mut fmt::Formatter<W>, finding: &Finding<'_>) -> fmt::Result {
+    match finding {
+        Finding::NeedsBranch(kind) => {
+            write!(
+                f,
+                "{} is of a branch: it needs the key tx",
+                name_of_call(*kind)
+            )
+        }
+        Finding::NamesNoBranch(kind) => {
+            write!(
+                f,
+                "{} is of no branch: it has no key tx",
+                name_of_call(*kind)
+            )
+        }
+        Finding::NeedsCount => {
+            write!(
+                f,
+                "xa_recover needs the key count, which holds {}",
+                allowed_at("count")
+            )
+        }
+        Finding::HasNoCount(kind) => {
+            write!(
+                f,
+                "{} has no key count: only xa_recover has",
+                name_of_call(*kind)
+            )
+        }
+        _ => Ok(()),
+    }
+}
+
+/// Writes what is wrong with the names of transactions.
+fn write_name<W: fmt::Write>(f: &mut fmt::Formatter<W>, finding: &Finding<'_>) -> fmt::Result {
+    match finding {
+        Finding::BegunBefore(name) => {
+            write!(
+                f,
+                "a begin before it has the name {name:?}: each begin needs a name of its own"
+            )
+        }
+        Finding::NotBegun(name) => write!(f, "no begin before it has the name {name:?}"),
+        Finding::NoTransaction => write!(f, "of stands only beside tx"),
+        _ => Ok(()),
+    }
+}
+
+/// Writes what is wrong with the votes of a job.
+fn write_votes<W: fmt::Write>(f: &mut fmt::Formatter<W>, finding: &Finding<'_>) -> fmt::Result {
+    match finding {
+        Finding::VoteForEach { votes, rms } => {
+            write!(
+                f,
+                "votes has a text for each resource manager: {rms}, and not {votes}"
+            )
+        }
+        Finding::NoVote(value) => {
+            write!(f, "votes has ")?;
+            write_value(f, value)?;
+            write!(
+                f,
+                "; it has ok, ro, 100 to 107 or none for each resource manager, as a text"
+            )
+        }
+        _ => Ok(()),
+    }
+}
+
+impl fmt::Display for Finding<'_> {
+    fn fmt<W: fmt::Write>(&self, f: &mut fmt::Formatter<W>) -> fmt::Result {
+        match self {
+            Finding::OtherKey { .. } | Finding::Missing { .. } | Finding::Unfit { .. } => {
+                write_key(f, self)
+            }
+            Finding::BegunBefore(_) | Finding::NotBegun(_) | Finding::NoTransaction => {
+                write_name(f, self)
+            }
+            Finding::NoFlag(_)
+            | Finding::FlagTwice(_)
+            | Finding::FlagNoText(_)
+            | Finding::FlagsOfCall(_)
+            | Finding::FlagsOfRecovery => write_flags(f, self),
+            Finding::NeedsBranch(_)
+            | Finding::NamesNoBranch(_)
+            | Finding::NeedsCount
+            | Finding::HasNoCount(_) => write_call(f, self),
+            Finding::RestartOfLine => {
+                write!(
+                    f,
+                    "a line is never down, so it isn't restarted: part is rm or manager"
+                )
+            }
+            Finding::TooMany(most) => write!(f, "there are at most {most}"),
+            Finding::NoTable => write!(f, "it is no table"),
+            Finding::VoteForEach { .. } | Finding::NoVote(_) => write_votes(f, self),
+        }
+    }
+}

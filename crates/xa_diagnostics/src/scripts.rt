@@ -1,0 +1,96 @@
+//! The tables that tell a resource manager what to do with a branch.
+
+ghost use Rattle.std.specs.Prelude.{◌≡◌, codes, map, option_and_then};
+ghost use Rattle.std.specs.Result.{result_ok};
+ghost use Rattle.toml.specs.View.{table_view};
+ghost use Rattle.xa_files.specs.Fields.{text_at};
+ghost use Rattle.xa_files.specs.Words.{vote_named};
+ghost use Rattle.xa_scenario.specs.Scripts.{busy_entry, heuristic_entry, vote_entry};
+ghost use Rattle.xa_scenario.specs.Words.{how_named};
+
+use crate::branches::branch_at;
+use crate::fields::{index, number, only, text, unfit};
+use crate::finding::Finding;
+use crate::words::how_named;
+use toml::Table;
+use xa_base::{How, Vote};
+use xa_files::vote_named;
+use xa_scenario::{Entry, Script};
+
+/// The most times that a commit is put off.
+const MAX_TIMES: u32 = 1000;
+
+/// The vote.
+fn vote_at<'a>(table: &'a Table) -> Result<Vote, Finding<'a>>
+    ensures { result_ok result
+        ≡ option_and_then vote_named (text_at (codes "vote") (table_view table.now)) }
+{
+    let word = text(table, "a vote", "vote")?;
+    match vote_named(word) {
+        Some(vote) => Ok(vote),
+        None => Err(unfit(table, "a vote", "vote")),
+    }
+}
+
+/// How the resource manager ends the branch.
+fn how_at<'a>(table: &'a Table) -> Result<How, Finding<'a>>
+    ensures { result_ok result
+        ≡ option_and_then how_named (text_at (codes "how") (table_view table.now)) }
+{
+    let word = text(table, "a heuristic", "how")?;
+    match how_named(word) {
+        Some(how) => Ok(how),
+        None => Err(unfit(table, "a heuristic", "how")),
+    }
+}
+
+/// What a `vote` asks for.
+#[tactic(auto, unfolding(xa_scenario::specs::Scripts::vote_entry))]
+pub fn vote_entry<'a>(table: &'a Table, begun: &[&str]) -> Result<Entry, Finding<'a>>
+    ensures { result_ok result ≡ vote_entry (map (λ name. name.now) begun.now)
+        (table_view table.now) }
+{
+    only(table, "a vote", &["do", "rm", "tx", "of", "vote"])?;
+    let rm = index(table, "a vote", "rm")?;
+    let branch = branch_at(table, "a vote", begun, 0)?;
+    let vote = vote_at(table)?;
+    Ok(Entry::Script {
+        rm,
+        branch,
+        script: Script::Vote(vote),
+    })
+}
+
+/// What a `busy` asks for.
+#[tactic(auto, unfolding(xa_scenario::specs::Scripts::busy_entry))]
+pub fn busy_entry<'a>(table: &'a Table, begun: &[&str]) -> Result<Entry, Finding<'a>>
+    ensures { result_ok result ≡ busy_entry (map (λ name. name.now) begun.now)
+        (table_view table.now) }
+{
+    only(table, "a busy", &["do", "rm", "tx", "of", "times"])?;
+    let rm = index(table, "a busy", "rm")?;
+    let branch = branch_at(table, "a busy", begun, 0)?;
+    let times = number(table, "a busy", "times", MAX_TIMES)?;
+    Ok(Entry::Script {
+        rm,
+        branch,
+        script: Script::Busy(times),
+    })
+}
+
+/// What a `heuristic` asks for.
+#[tactic(auto, unfolding(xa_scenario::specs::Scripts::heuristic_entry))]
+pub fn heuristic_entry<'a>(table: &'a Table, begun: &[&str]) -> Result<Entry, Finding<'a>>
+    ensures { result_ok result ≡ heuristic_entry (map (λ name. name.now) begun.now)
+        (table_view table.now) }
+{
+    only(table, "a heuristic", &["do", "rm", "tx", "of", "how"])?;
+    let rm = index(table, "a heuristic", "rm")?;
+    let branch = branch_at(table, "a heuristic", begun, 0)?;
+    let how = how_at(table)?;
+    Ok(Entry::Script {
+        rm,
+        branch,
+        script: Script::Heuristic(how),
+    })
+}
