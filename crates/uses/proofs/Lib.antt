@@ -8,4 +8,5 @@ mod LogSwaps
 mod OwnLogs
 mod Recoveries
 mod Results
+mod Sessions
 mod StartRows

@@ -1,3 +1,4 @@
 pub mod Crashes
 pub mod Processes
+pub mod Sessions
 pub mod Starts

@@ -1,6 +1,6 @@
 //! One caller of each library, each proved to do what its contract says, and run here. A file is named after its
-//! library, without the `xa_`; `own_log`, `processes`, `recovery`, `swaps` and `crash` are further callers of
-//! `xa_system`, and `sql_jobs` of `xa_workers`.
+//! library, without the `xa_`; `serve` is a caller of `xa_coordinator`, `own_log`, `processes`, `recovery`, `swaps` and
+//! `crash` are further callers of `xa_system`, and `sql_jobs` of `xa_workers`.
 #![tactic(auto)]
 
 ghost use Rattle.std.specs.Prelude.{IsTrue};
@@ -18,6 +18,7 @@ mod processes;
 mod recovery;
 mod rm;
 mod scenario;
+mod serve;
 mod sql_jobs;
 mod sql_log;
 mod swaps;
@@ -63,6 +64,17 @@ step = [
     { do = 'crash', part = 'manager' },
     { do = 'restart', part = 'manager' },
 ]
+";
+
+/// A driver's part of a session: a branch is started, and its line is lost.
+const SESSION: &str = "issue 0 0 xa_open
+answer 0 0 xa_open 0
+begin 0
+issue 0 0 xa_start 00000000000000010000000000000001
+answer 0 0 xa_start 00000000000000010000000000000001 0
+answer 0 0 xa_end 00000000000000010000000000000001 0
+crash line 0 0
+quit
 ";
 
 const JOBS: &str = "threads = 1\nrms = 1\njob = [{ votes = ['ok'] }, { votes = ['102'] }]\n";
@@ -285,6 +297,14 @@ fn show_scenario(rt: &HostRuntime) -> anyhow::Result<()> {
     Ok(())
 }
 
+/// What a driver is told in a session.
+fn show_session(rt: &HostRuntime) -> anyhow::Result<()> {
+    if let Ok(written) = serve::served(rt.alloc(), SESSION.as_bytes()) {
+        println!(rt; "xa_coordinator:\n{}", String::from_utf8(written)?)?;
+    }
+    Ok(())
+}
+
 fn main(rt: HostRuntime) -> anyhow::Result<()> {
     show_parts(&rt)?;
     show_log(&rt)?;
@@ -294,5 +314,6 @@ fn main(rt: HostRuntime) -> anyhow::Result<()> {
     show_crashes(&rt)?;
     show_processes(&rt)?;
     show_jobs(&rt, &rt)?;
-    show_scenario(&rt)
+    show_scenario(&rt)?;
+    show_session(&rt)
 }
