@@ -45,6 +45,7 @@ is_served threads rms old new text unread before written stands is_old none serv
       seen = right.seen;
       whole = serves.consumed;
       replied = subst (λ xs. written ≡ xs ++ text_of (greeting_of old ∷ serves.replies)) none serves.appended;
+      ends = serves.ends;
       told = right.told;
       right = record {
         history = right.explained.history;

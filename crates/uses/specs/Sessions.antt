@@ -1,7 +1,7 @@
 -- What a driver writes is served, and what it told has a right history.
-use Rattle.std.specs.Prelude.{◌≡◌, ℕ, List, ◌∷◌, ◌++◌}
+use Rattle.std.specs.Prelude.{◌≡◌, ℕ, List, [], ◌∷◌, ◌++◌}
 use Rattle.xa_coordinator.specs.Lines.{lines_of}
-use Rattle.xa_coordinator.specs.Serving.{text_of}
+use Rattle.xa_coordinator.specs.Serving.{EndsBy, text_of}
 use Rattle.xa_coordinator.specs.Telling.{HaveTold}
 use Rattle.xa_model.specs.Promises.Processes.{OwnAreAlike}
 use Rattle.xa_model.specs.Protocol.{IsRun}
@@ -18,8 +18,8 @@ pub record HasAlikeHistory (o : Origin) (seen : Seen) : Type 0 where
   pub runs : IsRun history
   pub alike : OwnAreAlike history
 
--- The driver was told the first line of a session, and a line for each line of what was read of its text. What these tell, up to where
--- the log failed, has such a history.
+-- The driver was told the first line of a session, and a line for each line of what was read of its text: up to `quit`, or all. What
+-- these tell, up to where the log failed, has such a history.
 pub record IsServed (threads : ℕ) (text written : List ℕ) : Type 0 where
   pub read : List ℕ
   pub unread : List ℕ
@@ -30,5 +30,6 @@ pub record IsServed (threads : ℕ) (text written : List ℕ) : Type 0 where
   pub seen : Seen
   pub whole : text ≡ read ++ unread
   pub replied : written ≡ text_of (responses.Restarted start.incarnation decisions heuristics ∷ replies)
+  pub ends : EndsBy replies (unread ≡ [])
   pub told : HaveTold threads (lines_of read) replies Start seen
   pub right : HasAlikeHistory start seen
