@@ -1,6 +1,7 @@
 pub mod AnswerLemmas
 pub mod KnownCalls
 pub mod LineLemmas
+pub mod ReleaseLemmas
 pub mod RowLemmas
 pub mod ServingLemmas
 pub mod StandingLemmas

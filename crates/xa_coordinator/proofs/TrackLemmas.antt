@@ -16,8 +16,9 @@ use Rattle.xa_coordinator.specs.Calls.{Hears, Issues, PerformsAnswer, answer_rep
 use Rattle.xa_coordinator.specs.Crashes.{Loses, LosesFrom}
 use Rattle.xa_coordinator.specs.Decisions.{Abandons, Begins, Claims, Decides, PerformsDone, Settles}
 use Rattle.xa_coordinator.specs.Lines.{asked_in}
-use Rattle.xa_coordinator.specs.Performing.{Performs}
+use Rattle.xa_coordinator.specs.Performing.{Does, Performs}
 use Rattle.xa_coordinator.specs.Recoveries.{Resolves, ResolvesOpen}
+use Rattle.xa_coordinator.specs.Releasing.{ReleasesAll}
 use Rattle.xa_coordinator.specs.Replies.{reply_of}
 use Rattle.xa_coordinator.specs.Serving.{HaveReplies, RepliesBy}
 use Rattle.xa_coordinator.specs.Standing.{LacksMemory, OnlyTells, StandsFor}
@@ -34,7 +35,7 @@ use Rattle.xa_requests.specs.declared.response.Response.{Response}
 use Rattle.xa_requests.specs.declared.response.Response.TheVariants as responses
 use Rattle.xa_serve.specs.Following.{Follows, StaysAs}
 use Rattle.xa_serve.specs.Session.{known_waiting, line_refusal}
-use Rattle.xa_serve.specs.Tracking.{AnswersAreTracked, KeepsTrack, LossesAreTracked, RefusalsAreTracked, StepsAreTracked}
+use Rattle.xa_serve.specs.Tracking.{AnswersAreTracked, KeepsTrack, LossesAreTracked, RefusalsAreTracked, ReleasesAreTracked, StepsAreTracked}
 use Rattle.xa_serve.specs.declared.session.Session.{Session}
 use Rattle.xa_serve.specs.declared.session.answers.Unfit.{Unfit}
 use Rattle.xa_serve.specs.declared.session.answers.Unfit.TheVariants as Unfits
@@ -46,6 +47,7 @@ pub record Laws (L : Type 0) : Type 0 where
   pub answers : AnswersAreTracked L
   pub losses : LossesAreTracked L
   pub refusals : RefusalsAreTracked L
+  pub releases : ReleasesAreTracked L
 
 -- the session keeps track of what is told
 record Goes {L : Type 0} (o : Origin) (Told : Seen → Type 0) (old new : Session L) : Type 0 where
@@ -236,7 +238,7 @@ module _ {L : Type 0} (laws : Laws L) (o : Origin) where
         threads = ap (λ c. c.session.lines.threads) rest.1 ∙ goes.threads;
       }
 
-  performed : (request : Request) (reply : Response) (seen : Seen) (old new : Coordinator L) → KeepsTrack o seen old.session → Performs request old reply new
+  performed : (request : Request) (reply : Response) (seen : Seen) (old new : Coordinator L) → KeepsTrack o seen old.session → Does request old reply new
       → is_log_fault reply ≡ false → Goes o (Tells old.session.lines.threads request reply seen) old.session new.session
   performed (requests.Begin t) reply seen old new keeps does none = stands seen old new keeps (Begins t) (reply_of responses.Begun)
       (λ reply. Tells old.session.lines.threads (requests.Begin t) reply seen) reply does none
@@ -274,10 +276,30 @@ module _ {L : Type 0} (laws : Laws L) (o : Origin) where
   performed requests.Status reply seen old new keeps does none = looked seen old new keeps does.1
   performed requests.Quit reply seen old new keeps does none = looked seen old new keeps does.1
 
+  -- what is over is forgotten, and nothing more is seen
+  forgot : (Told : Seen → Type 0) (gs : List Gtrid) (old mid new : Coordinator L) → Goes o Told old.session mid.session → ReleasesAll gs mid new
+      → Goes o Told old.session new.session
+  forgot Told [] old mid new goes same = subst (λ c. Goes o Told old.session c.session) (sym same) goes
+  forgot Told (g ∷ gs) old mid new goes (next, inl (forgets, rest), others) =
+      let still : Goes o Told old.session next.session = record {
+        more = goes.more;
+        told = goes.told;
+        keeps = laws.releases o goes.more mid.session next.session goes.keeps forgets.stands forgets.monitor;
+        threads = ap (λ g. g.threads) forgets.lines ∙ goes.threads;
+      } in
+      forgot Told gs old next new still others
+  forgot Told (g ∷ gs) old mid new goes (next, inr (open_still, same), others) =
+      forgot Told gs old next new (subst (λ c. Goes o Told old.session c.session) (sym same) goes) others
+
+  done_and_forgot : (request : Request) (reply : Response) (seen : Seen) (old new : Coordinator L) → KeepsTrack o seen old.session
+      → Performs request old reply new → is_log_fault reply ≡ false → Goes o (Tells old.session.lines.threads request reply seen) old.session new.session
+  done_and_forgot request reply seen old new keeps (mid, does, releases) none =
+      forgot (Tells old.session.lines.threads request reply seen) _ old mid new (performed request reply seen old mid keeps does none) releases
+
   pub reply_tracked : (seen : Seen) (request : Request) (reply : Response) (old new : Coordinator L) → KeepsTrack o seen old.session
       → Performs request old reply new → is_log_fault reply ≡ false → TracksReply o request reply seen old new
   reply_tracked seen request reply old new keeps does none =
-      let goes = performed request reply seen old new keeps does none in
+      let goes = done_and_forgot request reply seen old new keeps does none in
       record { more = goes.more; told = goes.told; keeps = goes.keeps; threads = goes.threads }
 
   -- ** all lines and their replies
@@ -285,7 +307,7 @@ module _ {L : Type 0} (laws : Laws L) (o : Origin) where
   line_told : (asks : Option Request) (reply : Response) (seen : Seen) (old new : Coordinator L) → KeepsTrack o seen old.session
       → RepliesBy asks old reply new → is_log_fault reply ≡ false → Goes o (TellsBy old.session.lines.threads asks reply seen) old.session new.session
   line_told None reply seen old new keeps does none = looked seen old new keeps does.1
-  line_told (Some request) reply seen old new keeps does none = performed request reply seen old new keeps does none
+  line_told (Some request) reply seen old new keeps does none = done_and_forgot request reply seen old new keeps does none
 
   no_fault_behind : (b c : Bool) → (b || c) ≡ false → b ≡ false → c ≡ false
   no_fault_behind true c e is = absurd (fault_is_told is)

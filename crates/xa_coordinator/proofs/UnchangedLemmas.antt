@@ -9,7 +9,7 @@ use Rattle.xa_base.specs.declared.refusal.Refusal.{Refusal}
 use Rattle.xa_base.specs.declared.refusal.Refusal.TheVariants as Refusals
 use Rattle.xa_coordinator.specs.Calls.{Hears, PerformsAnswer, answer_reply, waits_for_other}
 use Rattle.xa_coordinator.specs.Crashes.{Loses}
-use Rattle.xa_coordinator.specs.Performing.{ChangesNothing, Performs, is_not_done, is_one_step}
+use Rattle.xa_coordinator.specs.Performing.{ChangesNothing, Does, is_not_done, is_one_step}
 use Rattle.xa_coordinator.specs.Replies.{reply_of}
 use Rattle.xa_coordinator.specs.Standing.{LacksMemory, OnlyTells, StandsFor}
 use Rattle.xa_coordinator.specs.declared.coordinator.Coordinator.{Coordinator}
@@ -89,7 +89,7 @@ module _ {L : Type 0} (old new : Coordinator L) (reply : Response) (undone : is_
       by_first false (inl h) = by_answer old new reply (responses.Heard name.kind (answer_number answer)) h.result refl h.does.stays h.told h.rest undone
       by_first false (inr h) = same old new h.1
 
-  pub not_done : (q : Request) → Performs q old reply new → is_one_step q ≡ true → ChangesNothing old new
+  pub not_done : (q : Request) → Does q old reply new → is_one_step q ≡ true → ChangesNothing old new
   not_done (requests.Begin t) h one = by_result old new reply responses.Begun h.result (λ x. refl) (stays_unless h.result _ h.does.quiet.stays) h.told h.rest
       undone
   not_done (requests.Issue t r call) h one = by_result old new reply (λ _. responses.Issued call) h.result (λ x. refl) (stays_unless h.result _ h.does.stays)

@@ -5,6 +5,7 @@ pub mod Lines
 pub mod Looks
 pub mod Performing
 pub mod Recoveries
+pub mod Releasing
 pub mod Replies
 pub mod Rows
 pub mod Serving

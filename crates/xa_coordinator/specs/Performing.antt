@@ -6,6 +6,7 @@ use Rattle.xa_coordinator.specs.Crashes.{PerformsCrashLine, PerformsCrashRm}
 use Rattle.xa_coordinator.specs.Decisions.{PerformsAbandon, PerformsBegin, PerformsClaim, PerformsDecide, PerformsDone, PerformsSettle}
 use Rattle.xa_coordinator.specs.Looks.{status_of, waiting_reply}
 use Rattle.xa_coordinator.specs.Recoveries.{PerformsOwed, PerformsResolve, PerformsResolveOpen}
+use Rattle.xa_coordinator.specs.Releasing.{ReleasesAll, ended_by}
 use Rattle.xa_coordinator.specs.Standing.{OnlyTells}
 use Rattle.xa_coordinator.specs.declared.coordinator.Coordinator.{Coordinator}
 use Rattle.xa_requests.specs.declared.request.Request.{Request}
@@ -15,23 +16,28 @@ use Rattle.xa_requests.specs.declared.response.Response.TheVariants as responses
 use Rattle.xa_serve.specs.Following.{StaysAs}
 
 module _ {L : Type 0} where
+  -- what is done, and so replied
+  abbrev pub Does : Request → (old : Coordinator L) → Response → (new : Coordinator L) → Type 0
+  Does (requests.Begin thread) old reply new = PerformsBegin thread old reply new
+  Does (requests.Issue thread rm call) old reply new = PerformsIssue thread rm call old reply new
+  Does (requests.Answer thread rm name answer) old reply new = PerformsAnswer thread rm name answer old reply new
+  Does (requests.Decide gtrid outcome) old reply new = PerformsDecide gtrid outcome old reply new
+  Does (requests.Claim gtrid) old reply new = PerformsClaim gtrid old reply new
+  Does (requests.Settle gtrid) old reply new = PerformsSettle gtrid old reply new
+  Does (requests.Abandon gtrid) old reply new = PerformsAbandon gtrid old reply new
+  Does (requests.Done gtrids) old reply new = PerformsDone gtrids old reply new
+  Does (requests.Resolve rm) old reply new = PerformsResolve rm old reply new
+  Does (requests.ResolveOpen rm) old reply new = PerformsResolveOpen rm old reply new
+  Does (requests.Waiting thread rm) old reply new = OnlyTells (waiting_reply thread rm old) old reply new
+  Does (requests.Owed rm) old reply new = PerformsOwed rm old reply × (new ≡ old)
+  Does (requests.CrashLine thread rm) old reply new = PerformsCrashLine thread rm old reply new
+  Does (requests.CrashRm rm) old reply new = PerformsCrashRm rm old reply new
+  Does requests.Status old reply new = OnlyTells (status_of old) old reply new
+  Does requests.Quit old reply new = OnlyTells responses.Bye old reply new
+
+  -- and then what is over is forgotten of the transactions whose last step that may have been
   abbrev pub Performs : Request → (old : Coordinator L) → Response → (new : Coordinator L) → Type 0
-  Performs (requests.Begin thread) old reply new = PerformsBegin thread old reply new
-  Performs (requests.Issue thread rm call) old reply new = PerformsIssue thread rm call old reply new
-  Performs (requests.Answer thread rm name answer) old reply new = PerformsAnswer thread rm name answer old reply new
-  Performs (requests.Decide gtrid outcome) old reply new = PerformsDecide gtrid outcome old reply new
-  Performs (requests.Claim gtrid) old reply new = PerformsClaim gtrid old reply new
-  Performs (requests.Settle gtrid) old reply new = PerformsSettle gtrid old reply new
-  Performs (requests.Abandon gtrid) old reply new = PerformsAbandon gtrid old reply new
-  Performs (requests.Done gtrids) old reply new = PerformsDone gtrids old reply new
-  Performs (requests.Resolve rm) old reply new = PerformsResolve rm old reply new
-  Performs (requests.ResolveOpen rm) old reply new = PerformsResolveOpen rm old reply new
-  Performs (requests.Waiting thread rm) old reply new = OnlyTells (waiting_reply thread rm old) old reply new
-  Performs (requests.Owed rm) old reply new = PerformsOwed rm old reply × (new ≡ old)
-  Performs (requests.CrashLine thread rm) old reply new = PerformsCrashLine thread rm old reply new
-  Performs (requests.CrashRm rm) old reply new = PerformsCrashRm rm old reply new
-  Performs requests.Status old reply new = OnlyTells (status_of old) old reply new
-  Performs requests.Quit old reply new = OnlyTells responses.Bye old reply new
+  Performs request old reply new = (mid : Coordinator L) × Does request old reply mid × ReleasesAll (ended_by request reply) mid new
 
 -- ** what isn't done
 

@@ -1,8 +1,9 @@
 //! The coordinator: a session, and what it owes since before. A file for each family of requests.
 
-ghost use Rattle.std.specs.Prelude.{◌≡◌, Bool, true, Some, IfOk, IsSomeAnd, length};
+ghost use Rattle.std.specs.Prelude.{◌≡◌, ◌∷◌, [], Bool, true, Some, IfOk, IsSomeAnd, length};
 ghost use Rattle.std.specs.FinMap.{entries, keys};
-ghost use Rattle.xa_coordinator.specs.Performing.{ChangesNothing, Performs, is_not_done, is_one_step};
+ghost use Rattle.xa_coordinator.specs.Performing.{ChangesNothing, Does, Performs, is_not_done, is_one_step};
+ghost use Rattle.xa_coordinator.specs.Releasing.{ended_by};
 ghost use Rattle.xa_coordinator.specs.Replies.{greeting_of};
 ghost use Rattle.xa_coordinator.specs.Rows.{HasRow, committed_by};
 ghost use Rattle.xa_base.specs.declared.branch.Gtrid.{Gtrid};
@@ -16,12 +17,14 @@ ghost use Rattle.xa_tm.specs.Begins.{BeginsWith};
 ghost use Rattle.xa_tm.specs.Book.{voted_yes};
 ghost use Rattle.xa_tm.specs.BookAndLog.{IsTied};
 ghost use Rattle.xa_tm.specs.Calls.{book_in, log_in};
+ghost use Rattle.xa_tm.specs.Release.{HoldsNothingOf, IsOver};
 
 mod calls;
 mod crashes;
 mod decisions;
 mod looks;
 mod recoveries;
+mod releases;
 mod replies;
 
 use std::alloc::Global;
@@ -110,14 +113,10 @@ impl<L: DecisionLog + Drop> Coordinator<L> {
     }
 
     /// Does what a request asks for, and gives its reply.
-    ///
-    /// What is refused changes nothing, but for LogFault; of a `done` and a `crash rm`, which are several steps, those
-    /// before the one that is refused are done. Where a log that held what the book says was honest so far, the row of a
-    /// transaction is in it before its commit is replied by `decided`, if some branch voted XA_OK.
-    pub fn perform(&mut self, request: &Request) -> Response
+    fn act(&mut self, request: &Request) -> Response
         requires { IsReady self.old.session }
         ensures ready { IsReady self.new.session }
-        ensures performs { Performs request.now self.old result self.new }
+        ensures does { Does request.now self.old result self.new }
         ensures unchanged { is_one_step request.now ≡ true → is_not_done result ≡ true →
             ChangesNothing self.old self.new }
         ensures row { (near : Bool) (g : Gtrid) → committed_by request.now ≡ Some g →
@@ -153,5 +152,36 @@ impl<L: DecisionLog + Drop> Coordinator<L> {
             Request::Status => self.status(),
             Request::Quit => Response::Bye,
         }
+    }
+
+    /// Does what a request asks for, and gives its reply. Of the transactions whose last step that may have been, what is
+    /// over is then forgotten, so that memory is taken only for those that are open.
+    ///
+    /// What is refused changes nothing, but for LogFault; of a `done` and a `crash rm`, which are several steps, those
+    /// before the one that is refused are done. Where a log that held what the book says was honest so far, the row of a
+    /// transaction is in it before its commit is replied by `decided`, if some branch voted XA_OK.
+    pub fn perform(&mut self, request: &Request) -> Response
+        requires { IsReady self.old.session }
+        ensures ready { IsReady self.new.session }
+        ensures performs { Performs request.now self.old result self.new }
+        ensures unchanged { is_one_step request.now ≡ true → is_not_done result ≡ true →
+            ChangesNothing self.old self.new }
+        // Nothing is held of the transaction of an answered call, or of one that is decided, if it is over.
+        ensures forgotten { (g : Gtrid) → ended_by request.now result ≡ g ∷ [] →
+            IsOver (book_in self.new.session.manager) g →
+            HoldsNothingOf g self.new.session.manager }
+        ensures row { (near : Bool) (g : Gtrid) → committed_by request.now ≡ Some g →
+            result ≡ responses.Decided →
+            (L.moment (log_in self.old.session.manager)).is_in_order →
+            (L.moment (log_in self.new.session.manager)).is_honest →
+            IsTied near (book_in self.old.session.manager)
+            (L.moment (log_in self.old.session.manager)).content →
+            ((book_in self.old.session.manager).transaction g).has_yes ≡ true →
+            HasRow (L.moment (log_in self.new.session.manager)).content g
+            (voted_yes (book_in self.old.session.manager) g) }
+    {
+        let reply = self.act(request);
+        self.release_ended(request, &reply);
+        reply
     }
 }

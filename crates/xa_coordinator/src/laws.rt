@@ -4,8 +4,8 @@ ghost use Rattle.xa_coordinator.specs.Tracking.{RepliesAreTracked, ServedSession
 
 use xa_log::DecisionLog;
 use xa_serve::{
-    answers_are_tracked, losses_are_tracked, refusals_are_tracked, sessions_are_explained,
-    starts_are_tracked, steps_are_tracked,
+    answers_are_tracked, losses_are_tracked, refusals_are_tracked, releases_are_tracked,
+    sessions_are_explained, starts_are_tracked, steps_are_tracked,
 };
 
 /// A session that tracks what was seen does so with each request and its reply (`performs` of
@@ -18,6 +18,7 @@ pub fn replies_are_tracked<L: DecisionLog + Drop>()
     answers_are_tracked::<L>();
     losses_are_tracked::<L>();
     refusals_are_tracked::<L>();
+    releases_are_tracked::<L>();
 }
 
 /// And so it does with all lines and their replies (`served` and `broken` of
@@ -29,6 +30,7 @@ pub fn sessions_are_tracked<L: DecisionLog + Drop>()
     answers_are_tracked::<L>();
     losses_are_tracked::<L>();
     refusals_are_tracked::<L>();
+    releases_are_tracked::<L>();
 }
 
 /// What a driver told a new coordinator has a right history, wherever it was cut off and whatever the resource managers

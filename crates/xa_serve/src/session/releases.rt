@@ -27,6 +27,7 @@ impl<L: DecisionLog + Drop> Session<L> {
         // One that isn't over stays.
         ensures owed { result ≡ false → IsOver (book_in self.old.manager) gtrid → ⊥ }
         ensures same { result ≡ false → self.new ≡ self.old }
+        ensures happenings { self.new.happenings ≡ self.old.happenings }
         // The log, the lines and the monitor.
         ensures log { log_in self.new.manager ≡ log_in self.old.manager }
         ensures lines { self.new.lines ≡ self.old.lines }

@@ -8,5 +8,6 @@ returns g c = λ o seen request reply old new keeps does none.
       answers = c.answers_are_tracked.ensures;
       losses = c.losses_are_tracked.ensures;
       refusals = c.refusals_are_tracked.ensures;
+      releases = c.releases_are_tracked.ensures;
     } in
     reply_tracked laws o seen request reply old new keeps does none

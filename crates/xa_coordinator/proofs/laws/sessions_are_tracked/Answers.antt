@@ -9,5 +9,6 @@ returns g c = λ o seen lines replies old new keeps have.
       answers = c.answers_are_tracked.ensures;
       losses = c.losses_are_tracked.ensures;
       refusals = c.refusals_are_tracked.ensures;
+      releases = c.releases_are_tracked.ensures;
     } in
     replies_tracked laws o lines replies old.session.lines.threads seen old new keeps refl have

@@ -1,22 +1,30 @@
-use Rattle.std.proofs.Common.{refl, subst, sym}
-use Rattle.xa_coordinator.proofs.UnchangedLemmas.{not_done}
-use Rattle.xa_coordinator.specs.Performing.{Performs}
-use Rattle.xa_requests.specs.declared.request.Request.TheVariants as requests
+use Rattle.std.proofs.Common.{subst, sym}
+use Rattle.xa_coordinator.proofs.ReleaseLemmas.{all_is_same, is_forgotten, log_stays}
+use Rattle.xa_coordinator.specs.Performing.{ChangesNothing}
+use Rattle.xa_coordinator.specs.Releasing.{ReleasesAll, ended_by}
+use Rattle.xa_coordinator.specs.Rows.{HasRow}
+use Rattle.xa_tm.specs.Book.{voted_yes}
+use Rattle.xa_tm.specs.Calls.{book_in}
 use Rattle.xa_coordinator.proofs.coordinator.Coordinator.perform.Goals as goal
 
-pub returns-in-Answer-clause-performs : goal.returns-in-Answer-clause-performs
-returns-in-Answer-clause-performs g c = subst (λ q. Performs q c.args.self.now c.answer.result c.answer.new.self) (sym c.in-Answer.is) c.answer.ensures.performs
+pub returns-clause-performs : goal.returns-clause-performs
+returns-clause-performs g c = (c.act-reply.new.self, c.act-reply.ensures.does, c.release_ended.ensures.releases)
 
-pub returns-in-Answer-clause-unchanged : goal.returns-in-Answer-clause-unchanged
-returns-in-Answer-clause-unchanged g c = λ one undone.
-    not_done c.args.self.now c.answer.new.self c.answer.result undone (requests.Answer c.in-Answer.thread c.in-Answer.rm c.in-Answer.name c.in-Answer.answer)
-    c.answer.ensures.performs refl
+pub returns-clause-unchanged : goal.returns-clause-unchanged
+returns-clause-unchanged g c = λ one undone.
+    subst (ChangesNothing c.args.self.now)
+    (sym (all_is_same c.args.request.now c.act-reply.result c.act-reply.new.self c.release_ended.new.self one undone c.release_ended.ensures.releases))
+    (c.act-reply.ensures.unchanged one undone)
 
-pub returns-in-Settle-clause-unchanged : goal.returns-in-Settle-clause-unchanged
-returns-in-Settle-clause-unchanged g c = λ one undone.
-    not_done c.args.self.now c.settle.new.self c.settle.result undone (requests.Settle c.in-Settle.gtrid) c.settle.ensures.performs refl
+pub returns-clause-forgotten : goal.returns-clause-forgotten
+returns-clause-forgotten g c = λ h ends over.
+    is_forgotten h c.act-reply.new.self c.release_ended.new.self
+    (subst (λ gs. ReleasesAll gs c.act-reply.new.self c.release_ended.new.self) ends c.release_ended.ensures.releases) over
 
-pub returns-in-CrashLine-clause-unchanged : goal.returns-in-CrashLine-clause-unchanged
-returns-in-CrashLine-clause-unchanged g c = λ one undone.
-    not_done c.args.self.now c.crash_line.new.self c.crash_line.result undone (requests.CrashLine c.in-CrashLine.thread c.in-CrashLine.rm)
-    c.crash_line.ensures.performs refl
+pub returns-clause-row : goal.returns-clause-row
+returns-clause-row g c = λ near h commits told order honest tied voted.
+    let same = log_stays (ended_by c.args.request.now c.act-reply.result) c.act-reply.new.self c.release_ended.new.self c.release_ended.ensures.releases in
+    let moment = g.L.DecisionLog.moment in
+    let k = book_in c.args.self.now.session.manager in
+    subst (λ log. HasRow (moment log).content h (voted_yes k h)) (sym same)
+    (c.act-reply.ensures.row near h commits told order (subst (λ log. (moment log).is_honest) same honest) tied voted)

@@ -1,0 +1,66 @@
+-- Transactions that are over are forgotten.
+use Rattle.std.specs.Prelude.{◌≡◌, ◌⊎◌, Bool, true, false, if◌then◌else◌, List, [], ◌∷◌, Option, Some, None, option_and_then, option_map}
+use Rattle.xa_base.specs.Branch.{branch_of_xid}
+use Rattle.xa_base.specs.declared.branch.Gtrid.{Gtrid}
+use Rattle.xa_coordinator.specs.declared.coordinator.Coordinator.{Coordinator}
+use Rattle.xa_model.specs.Trace.{Trace}
+use Rattle.xa_requests.specs.declared.request.CallName.{CallName}
+use Rattle.xa_requests.specs.declared.request.Request.{Request}
+use Rattle.xa_requests.specs.declared.request.Request.TheVariants as requests
+use Rattle.xa_requests.specs.declared.response.Response.{Response}
+use Rattle.xa_requests.specs.declared.response.Response.TheVariants as responses
+use Rattle.xa_serve.specs.Following.{StandsIn}
+use Rattle.xa_serve.specs.declared.session.Session.{Session}
+use Rattle.xa_tm.specs.Calls.{book_in, log_in}
+use Rattle.xa_tm.specs.Release.{HoldsNothingOf, IsOver, book_without}
+
+-- ** which
+
+-- the transaction of the branch that a call is on
+abbrev pub transaction_of : CallName → Option Gtrid
+transaction_of name = option_map (λ b. b.gtrid) (option_and_then branch_of_xid name.xid)
+
+-- the reply tells that an answer was heard, or that a decision was taken
+abbrev pub is_taken : Response → Bool
+is_taken (responses.Heard kind number) = true
+is_taken responses.Decided = true
+is_taken reply = false
+
+-- this one, if the reply tells so
+abbrev pub if_taken : Response → Option Gtrid → List Gtrid
+if_taken reply None = []
+if_taken reply (Some g) = if is_taken reply then g ∷ [] else []
+
+-- the transactions whose last step a request may have been: that of the branch whose call was answered, one that is decided, those that
+-- are done
+abbrev pub ended_by : Request → Response → List Gtrid
+ended_by (requests.Answer thread rm name answer) reply = if_taken reply (transaction_of name)
+ended_by (requests.Decide g outcome) reply = if_taken reply (Some g)
+ended_by (requests.Settle g) reply = if_taken reply (Some g)
+ended_by (requests.Abandon g) reply = if_taken reply (Some g)
+ended_by (requests.Done gs) reply = gs
+ended_by request reply = []
+
+-- ** what a release does
+
+module _ {L : Type 0} where
+  -- The transaction was over, and nothing is held of it any more. Nothing happened: wherever the session stood, it still stands.
+  pub record Forgets (g : Gtrid) (old new : Session L) : Type 0 where
+    pub over : IsOver (book_in old.manager) g
+    pub nothing_held : HoldsNothingOf g new.manager
+    pub book : book_in new.manager ≡ book_without g (book_in old.manager)
+    pub stands : (tr : Trace) → StandsIn tr old → StandsIn tr new
+    pub happenings : new.happenings ≡ old.happenings
+    pub log : log_in new.manager ≡ log_in old.manager
+    pub lines : new.lines ≡ old.lines
+    pub monitor : new.monitor ≡ old.monitor
+
+  -- a transaction is forgotten if it is over, and else stays
+  abbrev pub Releases : Gtrid → (old new : Coordinator L) → Type 0
+  Releases g old new =
+      (Forgets g old.session new.session × (new ≡ record old { session = new.session })) ⊎ ((IsOver (book_in old.session.manager) g → ⊥) × (new ≡ old))
+
+  -- these in turn
+  abbrev pub ReleasesAll : List Gtrid → (old new : Coordinator L) → Type 0
+  ReleasesAll [] old new = new ≡ old
+  ReleasesAll (g ∷ gs) old new = (next : Coordinator L) × Releases g old next × ReleasesAll gs next new

@@ -1,0 +1,76 @@
+//! Transactions that are over are forgotten, so that a session takes memory only for those that are open.
+
+ghost use Rattle.std.specs.Prelude.{◌≡◌, ◌∷◌, []};
+ghost use Rattle.xa_coordinator.specs.Releasing.{Releases, ReleasesAll, ended_by, if_taken, is_taken, transaction_of};
+ghost use Rattle.xa_serve.specs.Session.{IsReady};
+
+use super::Coordinator;
+use xa_base::Gtrid;
+use xa_log::DecisionLog;
+use xa_requests::{CallName, Request, Response};
+
+impl<L: DecisionLog + Drop> Coordinator<L> {
+    /// Forgets all that is noted of a transaction, if it is over.
+    fn release(&mut self, gtrid: Gtrid)
+        requires { IsReady self.old.session }
+        ensures ready { IsReady self.new.session }
+        ensures releases { Releases gtrid self.old self.new }
+    {
+        let _ = self.session.release(gtrid);
+    }
+
+    /// So with these in turn.
+    fn release_all(&mut self, gtrids: &[Gtrid])
+        requires { IsReady self.old.session }
+        ensures ready { IsReady self.new.session }
+        ensures releases { ReleasesAll gtrids.now self.old self.new }
+    {
+        for gtrid in gtrids {
+            self.release(*gtrid);
+        }
+    }
+
+    /// So with this one, if the reply tells that a step of it was taken.
+    fn release_taken(&mut self, gtrid: Option<Gtrid>, reply: &Response)
+        requires { IsReady self.old.session }
+        ensures ready { IsReady self.new.session }
+        ensures releases { ReleasesAll (if_taken reply.now gtrid) self.old self.new }
+    {
+        if let Some(gtrid) = gtrid {
+            if is_taken(reply) {
+                self.release(gtrid);
+            }
+        }
+    }
+
+    /// So with the transactions whose last step this request may have been.
+    pub(super) fn release_ended(&mut self, request: &Request, reply: &Response)
+        requires { IsReady self.old.session }
+        ensures ready { IsReady self.new.session }
+        ensures releases { ReleasesAll (ended_by request.now reply.now) self.old self.new }
+    {
+        match request {
+            Request::Answer { name, .. } => self.release_taken(transaction_of(name), reply),
+            Request::Decide { gtrid, .. } => self.release_taken(Some(*gtrid), reply),
+            Request::Settle { gtrid } => self.release_taken(Some(*gtrid), reply),
+            Request::Abandon { gtrid } => self.release_taken(Some(*gtrid), reply),
+            Request::Done { gtrids } => self.release_all(gtrids.as_slice()),
+            _ => {}
+        }
+    }
+}
+
+/// Whether a reply tells that an answer was heard, or that a decision was taken.
+fn is_taken(reply: &Response) -> bool
+    ensures { result ≡ is_taken reply.now }
+{
+    matches!(reply, Response::Heard { .. } | Response::Decided)
+}
+
+/// The transaction of the branch that a call is on.
+fn transaction_of(name: &CallName) -> Option<Gtrid>
+    ensures { result ≡ transaction_of name.now }
+{
+    let branch = name.xid.as_ref()?.branch()?;
+    Some(branch.gtrid)
+}
