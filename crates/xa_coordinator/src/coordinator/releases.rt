@@ -19,7 +19,7 @@ impl<L: DecisionLog + Drop> Coordinator<L> {
         let _ = self.session.release(gtrid);
     }
 
-    /// So with these in turn.
+    /// Forgets these in turn, each if it is over.
     fn release_all(&mut self, gtrids: &[Gtrid])
         requires { IsReady self.old.session }
         ensures ready { IsReady self.new.session }
@@ -30,7 +30,7 @@ impl<L: DecisionLog + Drop> Coordinator<L> {
         }
     }
 
-    /// So with this one, if the reply tells that a step of it was taken.
+    /// Forgets this one if it is over, where the reply tells that a step of it was taken.
     fn release_taken(&mut self, gtrid: Option<Gtrid>, reply: &Response)
         requires { IsReady self.old.session }
         ensures ready { IsReady self.new.session }
@@ -43,7 +43,7 @@ impl<L: DecisionLog + Drop> Coordinator<L> {
         }
     }
 
-    /// So with the transactions whose last step this request may have been.
+    /// Forgets the transactions whose last step this request may have been, each if it is over.
     pub(super) fn release_ended(&mut self, request: &Request, reply: &Response)
         requires { IsReady self.old.session }
         ensures ready { IsReady self.new.session }
