@@ -34,7 +34,7 @@
  34  thread 0 ← rm 0    xa_recover             XA_OK
  35  rm 0 → thread 0    take a call                          nothing waits there
  36  thread 0 ← rm 0    hear an answer                       nothing waits there
- 37  manager → rm 0     resolve                1 call        each listed branch: a row means commit, no row rollback
+ 37  manager → rm 0     resolve                1 call        each listed branch: commit with a row, rollback without
  38  thread 0 → rm 1    xa_open                waits
  39  rm 1 → thread 0    xa_open                XA_OK
  40  thread 0 ← rm 1    xa_open                XA_OK
@@ -43,7 +43,7 @@
  43  thread 0 ← rm 1    xa_recover             XA_OK
  44  rm 1 → thread 0    take a call                          nothing waits there
  45  thread 0 ← rm 1    hear an answer                       nothing waits there
- 46  manager → rm 1     resolve                1 call        each listed branch: a row means commit, no row rollback
+ 46  manager → rm 1     resolve                1 call        each listed branch: commit with a row, rollback without
  47  rm 0 → thread 0    xa_commit a            XA_OK         committed: its transaction has a row in the log
  48  thread 0 ← rm 0    xa_commit a            XA_OK         acknowledged: the row still waits for rm 1
  49  rm 0 → thread 0    take a call                          nothing waits there
@@ -57,4 +57,4 @@
 
       a at rm 0        committed
       a at rm 1        committed
-      a was decided to commit at 26. The decision is a row in the log, which outlives a crash: a branch with a row is committed.
+      a was decided to commit at 26. The decision is a row in the log, which outlives a crash: a branch with a row is told to commit.

@@ -23,7 +23,7 @@
  23  manager → rm 0     xa_recover             waits
  24  rm 0 → thread 0    xa_recover             XA_OK         in doubt here: a
  25  thread 0 ← rm 0    xa_recover             XA_OK
- 26  manager → rm 0     resolve                1 call        each listed branch: a row means commit, no row rollback
+ 26  manager → rm 0     resolve                1 call        each listed branch: commit with a row, rollback without
  27  rm 0 → thread 0    xa_rollback a          XA_OK         rolled back: its transaction has no row in the log
  28  thread 0 ← rm 0    xa_rollback a          XA_OK
 

@@ -23,4 +23,4 @@
  23  manager            done a                 done          the row leaves the log
 
       a at rm 0        committed
-      a was decided to commit at 19. The decision is a row in the log, which outlives a crash: a branch with a row is committed.
+      a was decided to commit at 19. The decision is a row in the log, which outlives a crash: a branch with a row is told to commit.

@@ -32,7 +32,7 @@
  32  manager → rm 0     xa_recover             waits
  33  rm 0 → thread 0    xa_recover             XA_OK         in doubt here: a
  34  thread 0 ← rm 0    xa_recover             XA_OK
- 35  manager → rm 0     resolve                1 call        each listed branch: a row means commit, no row rollback
+ 35  manager → rm 0     resolve                1 call        each listed branch: commit with a row, rollback without
  36  rm 0 → thread 0    xa_commit a            XA_OK         committed: its transaction has a row in the log
  37  thread 0 ← rm 0    xa_commit a            XA_OK         acknowledged: the row still waits for rm 1
  38  thread 0 → rm 1    xa_open                waits
@@ -41,11 +41,11 @@
  41  manager → rm 1     xa_recover             waits
  42  rm 1 → thread 0    xa_recover             XA_OK         in doubt here: a
  43  thread 0 ← rm 1    xa_recover             XA_OK
- 44  manager → rm 1     resolve                1 call        each listed branch: a row means commit, no row rollback
+ 44  manager → rm 1     resolve                1 call        each listed branch: commit with a row, rollback without
  45  rm 1 → thread 0    xa_commit a            XA_OK         committed: its transaction has a row in the log
  46  thread 0 ← rm 1    xa_commit a            XA_OK         acknowledged: the row waits for no more
  47  manager            done a                 done          the row leaves the log
 
       a at rm 0        committed
       a at rm 1        committed
-      a was decided to commit at 26. The decision is a row in the log, which outlives a crash: a branch with a row is committed.
+      a was decided to commit at 26. The decision is a row in the log, which outlives a crash: a branch with a row is told to commit.

@@ -19,7 +19,7 @@
  19  manager → rm 0     xa_recover             waits
  20  rm 0 → thread 0    xa_recover             XA_OK         in doubt here: a
  21  thread 0 ← rm 0    xa_recover             XA_OK
- 22  manager → rm 0     resolve                1 call        each listed branch: a row means commit, no row rollback
+ 22  manager → rm 0     resolve                1 call        each listed branch: commit with a row, rollback without
  23  rm 0 → thread 0    xa_rollback a          XA_OK         rolled back: its transaction has no row in the log
  24  thread 0 ← rm 0    xa_rollback a          XA_OK
  25  rm 0 → thread 0    take a call                          nothing waits there

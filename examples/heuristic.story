@@ -39,5 +39,5 @@
 
       a at rm 0        committed
       a at rm 1        heuristic-rb: its resource manager rolled it back without being told
-      a was decided to commit at 27. The decision is a row in the log, which outlives a crash: a branch with a row is committed.
+      a was decided to commit at 27. The decision is a row in the log, which outlives a crash: a branch with a row is told to commit.
       The branches of a ended differently: a resource manager has ended its own without being told, and the log's record of that stays.

@@ -60,6 +60,6 @@
       c at rm 0        prepared: it waits to be told how it ends
       d at rm 0        prepared: it waits to be told how it ends
       No decision to commit a is in the log, and what has no row there is never committed.
-      b was decided to commit at 47. The decision is a row in the log, which outlives a crash: a branch with a row is committed.
+      b was decided to commit at 47. The decision is a row in the log, which outlives a crash: a branch with a row is told to commit.
       No decision to commit c is in the log, and what has no row there is never committed.
       No decision to commit d is in the log, and what has no row there is never committed.

@@ -36,11 +36,11 @@
  36  manager → rm 1     xa_recover             waits
  37  rm 1 → thread 0    xa_recover             XA_OK         in doubt here: a
  38  thread 0 ← rm 1    xa_recover             XA_OK
- 39  manager → rm 1     resolve                1 call        each listed branch: a row means commit, no row rollback
+ 39  manager → rm 1     resolve                1 call        each listed branch: commit with a row, rollback without
  40  rm 1 → thread 0    xa_commit a            XA_OK         committed: its transaction has a row in the log
  41  thread 0 ← rm 1    xa_commit a            XA_OK         acknowledged: the row waits for no more
  42  manager            done a                 done          the row leaves the log
 
       a at rm 0        committed
       a at rm 1        committed
-      a was decided to commit at 26. The decision is a row in the log, which outlives a crash: a branch with a row is committed.
+      a was decided to commit at 26. The decision is a row in the log, which outlives a crash: a branch with a row is told to commit.

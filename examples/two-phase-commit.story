@@ -34,4 +34,4 @@
 
       a at rm 0        committed
       a at rm 1        committed
-      a was decided to commit at 26. The decision is a row in the log, which outlives a crash: a branch with a row is committed.
+      a was decided to commit at 26. The decision is a row in the log, which outlives a crash: a branch with a row is told to commit.

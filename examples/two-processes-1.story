@@ -51,6 +51,6 @@
       decided at rm 1  prepared: it waits to be told how it ends
       open at rm 0     prepared: it waits to be told how it ends
       heuristic at rm 1 heuristic-rb: its resource manager rolled it back without being told
-      decided was decided to commit at 26. The decision is a row in the log, which outlives a crash: a branch with a row is committed.
+      decided was decided to commit at 26. The decision is a row in the log, which outlives a crash: a branch with a row is told to commit.
       No decision to commit open is in the log, and what has no row there is never committed.
-      heuristic was decided to commit at 47. The decision is a row in the log, which outlives a crash: a branch with a row is committed.
+      heuristic was decided to commit at 47. The decision is a row in the log, which outlives a crash: a branch with a row is told to commit.

@@ -87,7 +87,7 @@ impl<'a> Scene<'a> {
         };
         let change = match count {
             0 => "",
-            _ => "each listed branch: a row means commit, no row rollback",
+            _ => "each listed branch: commit with a row, rollback without",
         };
         plain_effect(self.alloc, reply.as_str(), change)
     }

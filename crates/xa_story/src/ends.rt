@@ -84,7 +84,7 @@ fn reason_text(alloc: Global, scene: &Scene, gtrid: Gtrid) -> Result<String, Mem
         Settlement::Row => Ok(format!(in alloc;
             "      {name} was decided to commit at {since}. \
             The decision is a row in the log, which outlives a crash: a branch with a row is \
-            committed.\n"
+            told to commit.\n"
         )?),
         Settlement::NoRow => Ok(format!(in alloc;
             "      {name} was decided to commit at {since}. \
