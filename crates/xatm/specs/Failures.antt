@@ -2,15 +2,32 @@
 use Rattle.std.specs.Prelude.{ℕ}
 use Rattle.xa_files.specs.Faults.{fault_status}
 use Rattle.xatm.specs.declared.failure.Failure.{Failure}
-use Rattle.xatm.specs.declared.failure.Failure.TheVariants.{CommandLine, Words, NotReadable, NotReadableAt, Run, RunAt, TooLong}
+use Rattle.xa_coordinator.specs.declared.serving.ServeFault.{ServeFault}
+use Rattle.xa_coordinator.specs.declared.serving.ServeFault.TheVariants as services
+use Rattle.xa_files.specs.declared.fault.RunFault.TheVariants as faults
+use Rattle.xa_tm.specs.declared.manager.start.StartFault.{StartFault}
+use Rattle.xa_tm.specs.declared.manager.start.StartFault.TheVariants as starts
+use Rattle.xatm.specs.declared.failure.Failure.TheVariants.{CommandLine, Words, NotReadable, NotReadableAt, Run, RunAt, TooLong, Input}
 
--- 3 where the command line is refused, 1 where the file can't be read, 2 where its run is too long for a picture, else the status of
--- the fault
+-- 3 where the command line is refused, 1 where the file can't be read, 2 where its run is too long for a picture or the requests of a
+-- driver can't be read, else the status of the fault
 abbrev pub failure_status : Failure → ℕ
 failure_status (CommandLine error) = 3
 failure_status Words = 3
 failure_status NotReadable = 1
 failure_status (NotReadableAt path) = 1
 failure_status TooLong = 2
+failure_status Input = 2
 failure_status (Run fault) = fault_status fault
 failure_status (RunAt fault path) = fault_status fault
+
+-- why a coordinator didn't start
+abbrev pub failure_of_start : StartFault → Failure
+failure_of_start starts.Log = Run faults.Log
+failure_of_start starts.Memory = Run faults.Memory
+
+-- why a session with a driver ended early
+abbrev pub failure_of_service : ServeFault → Failure
+failure_of_service services.Input = Input
+failure_of_service services.Output = Run faults.Output
+failure_of_service services.Memory = Run faults.Memory

@@ -8,9 +8,11 @@ use std::alloc::{AllocError, AllocFailed};
 use std::io;
 use std::io::ErrorKind;
 use xa_chart::ChartFault;
+use xa_coordinator::ServeFault;
 use xa_files::RunFault;
 use xa_listing::run_fault;
 use xa_log::LogFault;
+use xa_tm::StartFault;
 
 /// Why the program ends early.
 #[derive(Debug, Drop)]
@@ -29,6 +31,8 @@ pub enum Failure {
     RunAt(RunFault, String),
     /// The run of the file has more events than a picture shows.
     TooLong,
+    /// The requests of a driver can't be read.
+    Input,
 }
 
 impl Failure {
@@ -67,7 +71,7 @@ impl Failure {
             Failure::CommandLine(_) | Failure::Words => 3,
             Failure::NotReadable => 1,
             Failure::NotReadableAt(_) => 1,
-            Failure::TooLong => 2,
+            Failure::TooLong | Failure::Input => 2,
             Failure::Run(fault) | Failure::RunAt(fault, _) => fault.status(),
         }
     }
@@ -82,6 +86,7 @@ impl Failure {
             Failure::Run(fault) => eprintln!(rt; "{fault}"),
             Failure::RunAt(fault, path) => eprintln!(rt; "{fault}: {path}"),
             Failure::TooLong => eprintln!(rt; "xatm: chart: more than 200 events"),
+            Failure::Input => eprintln!(rt; "xatm: input"),
         }
     }
 }
@@ -99,6 +104,33 @@ impl From<ChartFault> for Failure {
         match fault {
             ChartFault::Run(fault) => Failure::Run(fault),
             ChartFault::TooLong => Failure::TooLong,
+        }
+    }
+}
+
+impl From<StartFault> for Failure {
+    ghost use Rattle.xatm.specs.Failures.{failure_of_start};
+
+    ghost from_gives = { λ fault failure. failure ≡ failure_of_start fault };
+
+    fn from(fault: StartFault) -> Failure {
+        match fault {
+            StartFault::Log => Failure::Run(RunFault::Log),
+            StartFault::Memory => Failure::Run(RunFault::Memory),
+        }
+    }
+}
+
+impl From<ServeFault> for Failure {
+    ghost use Rattle.xatm.specs.Failures.{failure_of_service};
+
+    ghost from_gives = { λ fault failure. failure ≡ failure_of_service fault };
+
+    fn from(fault: ServeFault) -> Failure {
+        match fault {
+            ServeFault::Input => Failure::Input,
+            ServeFault::Output => Failure::Run(RunFault::Output),
+            ServeFault::Memory => Failure::Run(RunFault::Memory),
         }
     }
 }

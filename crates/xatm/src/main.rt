@@ -1,5 +1,5 @@
 //! Runs and checks scenario files, the calls of threads to the resource managers of distributed transactions; runs jobs
-//! files, such transactions on threads; and lists decision logs.
+//! files, such transactions on threads; serves drivers of real databases; and lists decision logs.
 //!
 //! "XA" in these pages is X/Open CAE Specification C193, "Distributed Transaction Processing: The XA Specification"
 //! (1991).
@@ -7,16 +7,18 @@
 
 mod command;
 mod failure;
+mod service;
 mod stores;
 mod stories;
 
 use crate::command::{Command, command_of, parser};
 use crate::failure::Failure;
+use crate::service::serve_in_files;
 use crate::stores::{
     close_in_files, list_in_files, run_in_files, run_jobs_in_files, run_jobs_over, run_over,
 };
-use crate::stories::{draw, explain};
-use std::io::Write;
+use crate::stories::{check, draw, explain};
+use std::io::{BufReader, Input, Write};
 use std::process::ExitCode;
 use std::sync::Wait;
 use std::thread::Threads;
@@ -24,7 +26,6 @@ use std::time::Clock;
 use std::{env, fs, io};
 use xa_files::RunFault;
 use xa_log::LogFault;
-use xa_scenario::check_scenario;
 use xa_sql_log::SqlLog;
 
 fn main(rt: HostRuntime) -> ExitCode {
@@ -69,7 +70,9 @@ fn perform<T: Threads + Wait + Clock + Sync>(
             log,
             with_trace,
         } => run(rt, files, log, with_trace, &mut out),
-        Command::Check { file } => Ok(check_scenario(rt.alloc(), &text_of(rt, file)?, &mut out)?),
+        Command::Check { file, explains } => {
+            check(rt.alloc(), &text_of(rt, file)?, explains, &mut out)
+        }
         Command::Explain { file } => explain(rt.alloc(), &text_of(rt, file)?, &mut out),
         Command::Chart { file } => draw(rt.alloc(), &text_of(rt, file)?, &mut out),
         Command::Threads { file, log } => run_threads(
@@ -79,6 +82,7 @@ fn perform<T: Threads + Wait + Clock + Sync>(
             log,
             &mut out,
         ),
+        Command::Serve { log, threads, rms } => serve(rt, log, threads, rms, &mut out),
         Command::Log { path, explains } => list(rt, path, explains, &mut out),
     }
 }
@@ -168,6 +172,24 @@ fn run_threads<T: Threads + Wait + Clock + Sync, W: Write>(
         }
         None => run_jobs_over(threads, alloc, text, SqlLog::open_in_memory(alloc)?, out)?,
     }
+    Ok(())
+}
+
+/// Serves the driver behind standard input and output over the log at a path.
+fn serve<W: Write>(
+    rt: &HostRuntime,
+    log: &str,
+    threads: u32,
+    rms: u32,
+    out: &mut W,
+) -> Result<(), Failure> {
+    let alloc = rt.alloc();
+    let mut input = BufReader::new(alloc, rt.reader()).map_err(|_| Failure::Run(RunFault::Memory))?;
+    let opened = SqlLog::open(rt, log)?;
+    let served = serve_in_files(alloc, threads, rms, opened, &mut input, out);
+    let gathered = gather(rt, log);
+    served?;
+    gathered?;
     Ok(())
 }
 
