@@ -11,9 +11,10 @@ pub(crate) fn order_of_bytes(bytes: &[u8], others: &[u8]) -> Ordering
 {
     let mut rest = bytes;
     let mut other_rest = others;
-    'words: while let (Some((word, later)), Some((other, other_later))) =
-        (rest.split_first_chunk::<8>(), other_rest.split_first_chunk::<8>())
-    {
+    'words: while let (Some((word, later)), Some((other, other_later))) = (
+        rest.split_first_chunk::<8>(),
+        other_rest.split_first_chunk::<8>(),
+    ) {
         let order = order_of_words(*word, *other);
         if order.is_ne() {
             return order;

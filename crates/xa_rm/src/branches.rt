@@ -54,7 +54,7 @@ fn apply_held(
     ensures err { OnErr result (held.new ≡ held.old) }
     ensures goes_in_doubt { OnErr result ((kind : Kind) (x : Xid) → asks_of call.now ≡ Some (kind, x) →
         is_in_doubt (called thread kind (held_branch held.old)).standing
-            ≢ is_in_doubt held.old.standing) }
+        ≢ is_in_doubt held.old.standing) }
 {
     let mut after = *held;
     let code = after.apply(thread, call);
