@@ -22,11 +22,7 @@ impl FullRm {
 }
 
 impl ResourceManager for FullRm {
-    ghost held_of = { λ m. ⟦<MemRm as ResourceManager>⟧.held_of m.rm };
-
-    ghost scan_of = { λ m. ⟦<MemRm as ResourceManager>⟧.scan_of m.rm };
-
-    ghost in_doubt_of = { λ m. ⟦<MemRm as ResourceManager>⟧.in_doubt_of m.rm };
+    ghost look = { λ m. ⟦<MemRm as ResourceManager>⟧.look m.rm };
 
     fn apply(&mut self, thread: u32, call: &Call) -> Result<Answer, Memory> {
         if self.is_full && matches!(call, Call::Start { join: false, .. }) {

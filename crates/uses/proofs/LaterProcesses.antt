@@ -20,6 +20,7 @@ use Rattle.xa_system.specs.declared.system.TheConstants.{EVENT_LIMIT}
 use Rattle.xa_tm.specs.Slots.{honest_in, last_out, log_held, slot_moment}
 use Rattle.uses.proofs.Results.{there_is}
 use Rattle.uses.specs.Processes.{AreDone, AreProcesses, HaveRun.First, HaveRun.Next, IsEndOf, IsLastOf}
+use Rattle.xa_rm.specs.Look.{Look}
 
 -- ** what there is
 
@@ -91,9 +92,9 @@ module _ {R L : Type 0} (see : Observes R L) where
   }
   one_more lists steps old so_far (Err e) does holds resumes last = tt
 
-module _ {R L : Type 0} (held_of : R → Xid → HeldBranch) (scan_of : R → ℕ → Scan Xid) (in_doubt_of : R → List Xid) (moment : L → Moment) where
+module _ {R L : Type 0} (look : R → Look) (moment : L → Moment) where
   abbrev sees_of : Observes R L
-  sees_of = observes held_of scan_of in_doubt_of moment
+  sees_of = observes look moment
 
   -- the last process's end is the end of the whole
   pub end_of : (whole : Trace) (s : SystemView R L) (remains : Remains R L) → IsLastOf sees_of whole s → remains.log ≡ log_held s.log

@@ -24,6 +24,7 @@ use Rattle.xa_tm.specs.declared.swap_fault.SwapFault.{SwapFault}
 use Rattle.xa_tm.specs.declared.swap_fault.SwapFault.TheVariants as Faults
 use Rattle.uses.proofs.Results.{there_is}
 use Rattle.uses.specs.Crashes.{IsLeft}
+use Rattle.xa_rm.specs.Look.{Look}
 
 -- a fault that is neither of these two
 abbrev pub IsItsOwn : SwapFault → Type 0
@@ -79,9 +80,9 @@ none_failed old new step reply n m adds causes same few fails = by causes
     by (inl most) = omega (arith, most, same, few)
     by (inr more) = omega (arith, more, same, grown)
 
-module _ {R L : Type 0} (held_of : R → Xid → HeldBranch) (scan_of : R → ℕ → Scan Xid) (in_doubt_of : R → List Xid) (moment : L → Moment) where
+module _ {R L : Type 0} (look : R → Look) (moment : L → Moment) where
   abbrev see : Observes R L
-  see = observes held_of scan_of in_doubt_of moment
+  see = observes look moment
 
   -- a log that was taken out and is given straight back
   pub given_back : {A : Type 0} (old taken : SystemView R L) (log : L) (out : Option L) (result : Result A (SwapFault × L)) → HoldsItsTrace see old
@@ -118,9 +119,9 @@ module _ {R L : Type 0} (held_of : R → Xid → HeldBranch) (scan_of : R → �
   not_there_yet u held down none (inl is_up) = true≢false (sym is_up ∙ down)
   not_there_yet u held down none (inr some) = let no : IsSome (let o : Option L = None in o) = subst IsSome none some in absurd (cc)
 
-module _ {R L : Type 0} (held_of : R → Xid → HeldBranch) (scan_of : R → ℕ → Scan Xid) (in_doubt_of : R → List Xid) (logs : DecisionLog.Ghosts L) where
+module _ {R L : Type 0} (look : R → Look) (logs : DecisionLog.Ghosts L) where
   abbrev sees_of : Observes R L
-  sees_of = observes held_of scan_of in_doubt_of logs.moment
+  sees_of = observes look logs.moment
 
   -- a restart over what a crash left isn't refused for the log's sake where that counted no failure
   pub not_blamed : (old given new : SystemView R L) (left : L) (c : Content) (step : Step Xid) (reply : Reply Xid)

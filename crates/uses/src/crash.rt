@@ -16,7 +16,6 @@ ghost use Rattle.xa_model.specs.Facts.{up};
 ghost use Rattle.xa_model.specs.Promises.Headline.{Headline};
 ghost use Rattle.xa_model.specs.Protocol.{RightOrigin};
 ghost use Rattle.xa_system.specs.SystemView.{MayRestartAfterCrash, observes, origin_in, trace_in};
-ghost use Rattle.xa_system.specs.RmInHistory.{looks};
 ghost use Rattle.xa_tm.specs.Slots.{log_held, slot_moment};
 ghost use Rattle.xa_tm.specs.declared.swap_fault.SwapFault.TheVariants as SwapFault;
 
@@ -123,22 +122,19 @@ pub(crate) fn restart_after_crash<R: ResourceManager + Drop, S: Alter + Reopen +
     alloc: Global,
     system: &mut System<R, SqlLog<S>>,
 ) -> Result<Result<Reply, (SwapFault, SqlLog<S>)>, Option<(LogFault, S)>>
-    ensures no_log { result ≡ Err None →
-        (up (trace_in (looks R.held_of R.scan_of R.in_doubt_of) system.old) ≡ Bool.true)
+    ensures no_log { result ≡ Err None → (up (trace_in R.look system.old) ≡ Bool.true)
         ⊎ (log_held system.old.log ≡ None) }
     ensures accepted { IfErr result (λ no. IfSome no (λ e.
         (⟦<SqlLog<S> as DecisionLog>⟧.moment system.old.handed).is_in_order →
         IsClean (S.Store.view e.1) → IsStoreFault e.0)) }
-    ensures given { IfOk result (λ went_on. IfErr went_on (λ e.
-        (⟦<SqlLog<S> as DecisionLog>⟧.moment system.old.handed).is_in_order →
-        MayRestartAfterCrash (observes R.held_of R.scan_of R.in_doubt_of
-        ⟦<SqlLog<S> as DecisionLog>⟧.moment) system.old →
+    ensures given { IfOk result (λ went_on. IfErr went_on
+        (λ e. (⟦<SqlLog<S> as DecisionLog>⟧.moment system.old.handed).is_in_order →
+        MayRestartAfterCrash (observes R.look ⟦<SqlLog<S> as DecisionLog>⟧.moment) system.old →
         (⟦<SqlLog<S> as DecisionLog>⟧.moment e.1).is_honest →
         (e.0 ≡ SwapFault.Memory) ⊎ (e.0 ≡ SwapFault.Log))) }
-    ensures restarted { IfOk result (λ went_on. IfOk went_on (λ reply.
-        (⟦<SqlLog<S> as DecisionLog>⟧.moment system.old.handed).is_in_order →
-        MayRestartAfterCrash (observes R.held_of R.scan_of R.in_doubt_of
-        ⟦<SqlLog<S> as DecisionLog>⟧.moment) system.old →
+    ensures restarted { IfOk result (λ went_on. IfOk went_on
+        (λ reply. (⟦<SqlLog<S> as DecisionLog>⟧.moment system.old.handed).is_in_order →
+        MayRestartAfterCrash (observes R.look ⟦<SqlLog<S> as DecisionLog>⟧.moment) system.old →
         (slot_moment ⟦<SqlLog<S> as DecisionLog>⟧.moment system.new.log).is_honest →
         (slot_moment ⟦<SqlLog<S> as DecisionLog>⟧.moment system.new.log).fault_count ≡ 0 →
         reply ≢ Replies.Refused Refusals.LogFault)) }
@@ -149,11 +145,9 @@ pub(crate) fn restart_after_crash<R: ResourceManager + Drop, S: Alter + Reopen +
     ensures honest { IfOk result (λ went_on. IfOk went_on (λ reply.
         (slot_moment ⟦<SqlLog<S> as DecisionLog>⟧.moment system.new.log).is_honest →
         (slot_moment ⟦<SqlLog<S> as DecisionLog>⟧.moment system.old.log).is_honest)) }
-    ensures start { origin_in (looks R.held_of R.scan_of R.in_doubt_of) system.new
-        ≡ origin_in (looks R.held_of R.scan_of R.in_doubt_of) system.old }
-    ensures headline { RightOrigin
-        (origin_in (looks R.held_of R.scan_of R.in_doubt_of) system.new) → Headline
-        (origin_in (looks R.held_of R.scan_of R.in_doubt_of) system.new) system.new.events }
+    ensures start { origin_in R.look system.new ≡ origin_in R.look system.old }
+    ensures headline { RightOrigin (origin_in R.look system.new) →
+        Headline (origin_in R.look system.new) system.new.events }
 {
     system.agree();
     let Some(log) = system.take_log() else {
@@ -193,8 +187,7 @@ pub(crate) fn restart_after_fault<R: ResourceManager + Drop, S: Alter + Reopen +
         (slot_moment ⟦<SqlLog<S> as DecisionLog>⟧.moment it.1.log).is_honest →
         (slot_moment ⟦<SqlLog<S> as DecisionLog>⟧.moment it.1.log).fault_count ≡ 0 →
         reply ≢ Replies.Refused Refusals.LogFault))) }
-    ensures headline { IfOk result (λ it. Headline
-        (origin_in (looks R.held_of R.scan_of R.in_doubt_of) it.1) it.1.events) }
+    ensures headline { IfOk result (λ it. Headline (origin_in R.look it.1) it.1.events) }
 {
     let mut system = System::new(alloc, threads, rms, log)?;
     let _ran = system.run(steps);
@@ -218,8 +211,7 @@ pub(crate) fn restart_in_memory(
         (slot_moment ⟦<SqlLog<MemStore> as DecisionLog>⟧.moment it.1.log).fault_count ≡ 0 →
         reply ≢ Replies.Refused Refusals.LogFault))) }
     ensures headline { IfOk result (λ it. Headline
-        (origin_in (looks ⟦<MemRm as ResourceManager>⟧.held_of ⟦<MemRm as ResourceManager>⟧.scan_of
-        ⟦<MemRm as ResourceManager>⟧.in_doubt_of) it.1) it.1.events) }
+        (origin_in ⟦<MemRm as ResourceManager>⟧.look it.1) it.1.events) }
 {
     let mut rms = Vec::new(alloc);
     rms.push(MemRm::new(alloc))?;

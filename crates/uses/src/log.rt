@@ -2,7 +2,7 @@
 
 ghost use Rattle.std.specs.Prelude.{◌≡◌, true, IfOk};
 ghost use Rattle.std.specs.List.{AllByRecursion};
-ghost use Rattle.xa_log.specs.Contract.{FitsRow};
+ghost use Rattle.xa_log.specs.Contract.{FitsRow, Honestly};
 
 use xa_base::{Branch, Gtrid};
 use xa_log::{DecisionLog, LogFault};
@@ -15,8 +15,7 @@ pub(crate) fn found_again<L: DecisionLog>(
 ) -> Result<bool, LogFault>
     requires fits { FitsRow g }
     requires own { AllByRecursion (λ b. b.gtrid ≡ g) participants.now }
-    ensures { (L.moment log.old).is_in_order → (L.moment log.new).is_honest →
-        IfOk result (λ found. found ≡ true) }
+    ensures { Honestly (L.moment log.old) (L.moment log.new) (IfOk result (λ found. found ≡ true)) }
 {
     let _logged = log.commit(g, participants)?;
     let _incarnation = log.bump()?;

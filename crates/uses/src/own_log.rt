@@ -4,7 +4,6 @@ ghost use Rattle.std.specs.Prelude.{IfOk, IsSomeAnd};
 ghost use Rattle.xa_log.specs.Content.{Content};
 ghost use Rattle.xa_system.specs.LogInHistory.{LogStands, MayBeLeft, StartsOver};
 ghost use Rattle.xa_system.specs.SystemView.{origin_in, trace_in};
-ghost use Rattle.xa_system.specs.RmInHistory.{looks};
 ghost use Rattle.xa_tm.specs.Slots.{slot_moment};
 
 use std::alloc::{AllocError, Global};
@@ -26,14 +25,12 @@ pub(crate) fn run_over<R: ResourceManager + Drop, L: DecisionLog + Drop>(
 ) -> Result<System<R, L>, NewFault>
     requires { (L.moment log).is_in_order }
     ensures starts { IfOk result (λ system. (slot_moment L.moment system.log).is_honest →
-        IsSomeAnd (L.moment log).content
-        (StartsOver (origin_in (looks R.held_of R.scan_of R.in_doubt_of) system))) }
+        IsSomeAnd (L.moment log).content (StartsOver (origin_in R.look system))) }
     ensures stands { IfOk result (λ system. (slot_moment L.moment system.log).is_honest →
-        LogStands (trace_in (looks R.held_of R.scan_of R.in_doubt_of) system)
-        (slot_moment L.moment system.log).content) }
+        LogStands (trace_in R.look system) (slot_moment L.moment system.log).content) }
     ensures leaves { IfOk result (λ system. (slot_moment L.moment system.log).is_honest →
         (c : Content) → (slot_moment L.moment system.log).may_leave c →
-        MayBeLeft (trace_in (looks R.held_of R.scan_of R.in_doubt_of) system) c) }
+        MayBeLeft (trace_in R.look system) c) }
 {
     let mut system = System::new(alloc, threads, rms, log)?;
     let _ran = system.run(steps);
@@ -46,8 +43,7 @@ pub(crate) fn run_in_memory(
     steps: &[Step],
 ) -> Result<Result<System<MemRm, MemLog>, NewFault>, AllocError>
     ensures { IfOk result (λ made. IfOk made (λ system. LogStands
-        (trace_in (looks ⟦<MemRm as ResourceManager>⟧.held_of ⟦<MemRm as ResourceManager>⟧.scan_of
-        ⟦<MemRm as ResourceManager>⟧.in_doubt_of) system)
+        (trace_in ⟦<MemRm as ResourceManager>⟧.look system)
         (slot_moment ⟦<MemLog as DecisionLog>⟧.moment system.log).content)) }
 {
     let mut rms = Vec::new(alloc);

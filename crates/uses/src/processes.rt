@@ -9,7 +9,6 @@ ghost use Rattle.xa_model.specs.Promises.Headline.{HeadlineSince};
 ghost use Rattle.xa_model.specs.Promises.Processes.{Resumes, joined, resumed};
 ghost use Rattle.xa_model.specs.Trace.{Trace};
 ghost use Rattle.xa_system.specs.NextProcess.{FindsNewer};
-ghost use Rattle.xa_system.specs.RmInHistory.{looks};
 ghost use Rattle.xa_system.specs.StartFaults.{IsToBlame};
 ghost use Rattle.xa_system.specs.SystemView.{HasWrongSize, HoldsItsTrace, MayRestart, observes, origin_in};
 ghost use Rattle.xa_system.specs.declared.resume.ResumeFault.TheVariants as ResumeFault;
@@ -52,34 +51,30 @@ pub(crate) fn go_on<R: ResourceManager + Drop, L: DecisionLog + Drop>(
         HasWrongSize threads (vec_len remains.rms) }
     ensures log_fault { result ≡ Err (NextFault.Resume ResumeFault.Log) →
         IfSome remains.log (IsToBlame L.DecisionLog) }
-    ensures only_newer { result ≡ Err (NextFault.Resume ResumeFault.Newer) → IfSome remains.log
-        (FindsNewer (looks R.held_of R.scan_of R.in_doubt_of) L.DecisionLog remains.rms.items) }
+    ensures only_newer { result ≡ Err (NextFault.Resume ResumeFault.Newer) →
+        IfSome remains.log (FindsNewer R.look L.DecisionLog remains.rms.items) }
     // What it did, and where its parts are.
-    ensures parts { IfOk result (HoldsItsTrace
-        (observes R.held_of R.scan_of R.in_doubt_of L.moment)) }
+    ensures parts { IfOk result (HoldsItsTrace (observes R.look L.moment)) }
     ensures does { IfOk result (λ system. AreDone steps.now system.events) }
     // Its log.
     ensures order { IfSome remains.log (λ log. (L.moment log).is_in_order) →
         IfOk result (λ system. (L.moment system.handed).is_in_order) }
     ensures near { IfSome remains.log (λ log. (L.moment log).is_in_order) →
         IfOk result (λ system. (slot_moment L.moment system.log).is_honest →
-        MayRestart (observes R.held_of R.scan_of R.in_doubt_of L.moment) system) }
+        MayRestart (observes R.look L.moment) system) }
     ensures honest { IfOk result (λ system. (slot_moment L.moment system.log).is_honest →
         IfSome remains.log (λ log. (L.moment log).is_honest)) }
     // It goes on from each history that ended in what was left.
-    ensures follows { (past : Trace) →
-        IsEndOf (observes R.held_of R.scan_of R.in_doubt_of L.moment) past remains →
+    ensures follows { (past : Trace) → IsEndOf (observes R.look L.moment) past remains →
         IfOk result (λ system. (slot_moment L.moment system.log).is_honest →
-        Resumes past (origin_in (looks R.held_of R.scan_of R.in_doubt_of) system)) }
-    ensures headline { (past : Trace) →
-        IsEndOf (observes R.held_of R.scan_of R.in_doubt_of L.moment) past remains →
-        IfOk result (λ system. (slot_moment L.moment system.log).is_honest → HeadlineSince
-        (resumed past (origin_in (looks R.held_of R.scan_of R.in_doubt_of) system)) system.events) }
-    ensures chain { (past : Trace) →
-        IsEndOf (observes R.held_of R.scan_of R.in_doubt_of L.moment) past remains →
+        Resumes past (origin_in R.look system)) }
+    ensures headline { (past : Trace) → IsEndOf (observes R.look L.moment) past remains →
         IfOk result (λ system. (slot_moment L.moment system.log).is_honest →
-        IsLastOf (observes R.held_of R.scan_of R.in_doubt_of L.moment) (joined past
-        (origin_in (looks R.held_of R.scan_of R.in_doubt_of) system) system.events) system) }
+        HeadlineSince (resumed past (origin_in R.look system)) system.events) }
+    ensures chain { (past : Trace) → IsEndOf (observes R.look L.moment) past remains →
+        IfOk result (λ system. (slot_moment L.moment system.log).is_honest →
+        IsLastOf (observes R.look L.moment) (joined past (origin_in R.look system) system.events)
+        system) }
 {
     let Remains { rms, log } = remains;
     let Some(log) = log else {
@@ -106,15 +101,13 @@ pub(crate) fn next_process<R: ResourceManager + Drop, L: DecisionLog + Drop>(
     ensures only_limit { result ≡ Err (NextFault.Resume ResumeFault.Limit) →
         HasWrongSize threads (length system.rms) }
     ensures does { IfOk result (λ next. AreDone steps.now next.events) }
-    ensures headline { (past : Trace) →
-        IsLastOf (observes R.held_of R.scan_of R.in_doubt_of L.moment) past system →
-        IfOk result (λ next. (slot_moment L.moment next.log).is_honest → HeadlineSince
-        (resumed past (origin_in (looks R.held_of R.scan_of R.in_doubt_of) next)) next.events) }
-    ensures chain { (lists : List (List (Step Xid))) →
-        AreProcesses (observes R.held_of R.scan_of R.in_doubt_of L.moment) lists system →
+    ensures headline { (past : Trace) → IsLastOf (observes R.look L.moment) past system →
         IfOk result (λ next. (slot_moment L.moment next.log).is_honest →
-        AreProcesses (observes R.held_of R.scan_of R.in_doubt_of L.moment)
-        (lists ++ steps.now ∷ []) next) }
+        HeadlineSince (resumed past (origin_in R.look next)) next.events) }
+    ensures chain { (lists : List (List (Step Xid))) →
+        AreProcesses (observes R.look L.moment) lists system →
+        IfOk result (λ next. (slot_moment L.moment next.log).is_honest →
+        AreProcesses (observes R.look L.moment) (lists ++ steps.now ∷ []) next) }
 {
     match system.into_parts() {
         Ok(remains) => go_on(alloc, threads, remains, steps),
@@ -124,8 +117,7 @@ pub(crate) fn next_process<R: ResourceManager + Drop, L: DecisionLog + Drop>(
 
 /// The first process, over a resource manager and a log in memory.
 fn first_process(alloc: Global, steps: &[Step]) -> Result<System<MemRm, MemLog>, NextFault>
-    ensures { IfOk result (AreProcesses (observes ⟦<MemRm as ResourceManager>⟧.held_of
-        ⟦<MemRm as ResourceManager>⟧.scan_of ⟦<MemRm as ResourceManager>⟧.in_doubt_of
+    ensures { IfOk result (AreProcesses (observes ⟦<MemRm as ResourceManager>⟧.look
         ⟦<MemLog as DecisionLog>⟧.moment) (steps.now ∷ [])) }
 {
     let mut rms = Vec::new(alloc);
@@ -150,13 +142,12 @@ pub(crate) fn two_processes(
     second_steps: &[Step],
 ) -> Result<System<MemRm, MemLog>, NextFault>
     ensures headline { IfOk result (λ system. (past : Trace) × HaveRun (first_steps.now ∷ []) past
-        × HeadlineSince (resumed past (origin_in (looks ⟦<MemRm as ResourceManager>⟧.held_of
-        ⟦<MemRm as ResourceManager>⟧.scan_of ⟦<MemRm as ResourceManager>⟧.in_doubt_of) system))
+        × HeadlineSince (resumed past (origin_in ⟦<MemRm as ResourceManager>⟧.look system))
         system.events) }
     ensures does { IfOk result (λ system. AreDone second_steps.now system.events) }
-    ensures together { IfOk result (AreProcesses (observes ⟦<MemRm as ResourceManager>⟧.held_of
-        ⟦<MemRm as ResourceManager>⟧.scan_of ⟦<MemRm as ResourceManager>⟧.in_doubt_of
-        ⟦<MemLog as DecisionLog>⟧.moment) (first_steps.now ∷ second_steps.now ∷ [])) }
+    ensures together { IfOk result (AreProcesses
+        (observes ⟦<MemRm as ResourceManager>⟧.look ⟦<MemLog as DecisionLog>⟧.moment)
+        (first_steps.now ∷ second_steps.now ∷ [])) }
 {
     let first = first_process(alloc, first_steps)?;
     next_process(alloc, 1, first, second_steps)
@@ -168,10 +159,8 @@ pub(crate) fn processes(
     first: &[Step],
     later: &[Vec<Step>],
 ) -> Result<System<MemRm, MemLog>, NextFault>
-    ensures { IfOk result (AreProcesses (observes ⟦<MemRm as ResourceManager>⟧.held_of
-        ⟦<MemRm as ResourceManager>⟧.scan_of ⟦<MemRm as ResourceManager>⟧.in_doubt_of
-        ⟦<MemLog as DecisionLog>⟧.moment)
-        (first.now ∷ map (λ steps. steps.items) later.now)) }
+    ensures { IfOk result (AreProcesses (observes ⟦<MemRm as ResourceManager>⟧.look
+        ⟦<MemLog as DecisionLog>⟧.moment) (first.now ∷ map (λ steps. steps.items) later.now)) }
 {
     let mut system = first_process(alloc, first)?;
     for steps in later {
@@ -197,11 +186,9 @@ pub(crate) fn recover_next<R: ResourceManager + Drop, L: DecisionLog + Drop>(
     ensures only_limit { result ≡ Err (NextFault.Resume ResumeFault.Limit) →
         HasWrongSize threads (vec_len remains.rms) }
     ensures does { IfOk result (λ system. AreDone steps.now system.events) }
-    ensures recovers { (past : Trace) →
-        IsEndOf (observes R.held_of R.scan_of R.in_doubt_of L.moment) past remains →
-        IfOk result (λ system. (slot_moment L.moment system.log).is_honest →
-        (before : List Event) → EndsRecovered
-        (origin_in (looks R.held_of R.scan_of R.in_doubt_of) system) before system.events) }
+    ensures recovers { (past : Trace) → IsEndOf (observes R.look L.moment) past remains →
+        IfOk result (λ system. (slot_moment L.moment system.log).is_honest → (before : List Event) →
+        EndsRecovered (origin_in R.look system) before system.events) }
 {
     let system = go_on(alloc, threads, remains, steps)?;
     system.agree();

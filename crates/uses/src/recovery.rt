@@ -9,7 +9,6 @@ ghost use Rattle.xa_model.specs.Protocol.{AllRight, RightOrigin};
 ghost use Rattle.xa_model.specs.Replies.History.{read};
 ghost use Rattle.xa_model.specs.Trace.{Answer as KnownAnswer, Call as KnownCall, Name, Trace, line};
 ghost use Rattle.xa_system.specs.SystemView.{origin_in, trace_in};
-ghost use Rattle.xa_system.specs.RmInHistory.{looks};
 
 use xa_base::{Refusal, Step};
 use xa_log::DecisionLog;
@@ -25,16 +24,13 @@ pub(crate) fn recover<R: ResourceManager + Drop, L: DecisionLog + Drop>(
     steps: &[Step],
 ) -> Result<(), Refusal>
     ensures { (r count : ℕ) (names : List Name) (answers : List (KnownCall × KnownAnswer)) →
-        RightOrigin (origin_in (looks R.held_of R.scan_of R.in_doubt_of) system.old)
-        ⊎ ((past : Trace) × AllRight past ×
-        Resumes past (origin_in (looks R.held_of R.scan_of R.in_doubt_of) system.old)) →
+        RightOrigin (origin_in R.look system.old)
+        ⊎ ((past : Trace) × AllRight past × Resumes past (origin_in R.look system.old)) →
         map read system.new.events ≡ map read system.old.events ++ recovery r count names answers →
-        length (taken (trace_in (looks R.held_of R.scan_of R.in_doubt_of) system.old) (line 0 r)) ≡
-        length (issued (trace_in (looks R.held_of R.scan_of R.in_doubt_of) system.old) (line 0 r)) →
-        length (in_doubt (trace_in (looks R.held_of R.scan_of R.in_doubt_of) system.old) r)
-        ≤ count →
-        NonePutOff answers →
-        IsRecovered (trace_in (looks R.held_of R.scan_of R.in_doubt_of) system.new) r }
+        length (taken (trace_in R.look system.old) (line 0 r)) ≡
+        length (issued (trace_in R.look system.old) (line 0 r)) →
+        length (in_doubt (trace_in R.look system.old) r) ≤ count → NonePutOff answers →
+        IsRecovered (trace_in R.look system.new) r }
 {
     system.agree();
     let ran = system.run(steps);

@@ -8,7 +8,6 @@ ghost use Rattle.xa_model.specs.Promises.Headline.{Headline};
 ghost use Rattle.xa_model.specs.Protocol.{RightOrigin};
 ghost use Rattle.xa_system.specs.LogInHistory.{greatest_count};
 ghost use Rattle.xa_system.specs.SystemView.{observes, origin_in};
-ghost use Rattle.xa_system.specs.RmInHistory.{looks};
 ghost use Rattle.xa_tm.specs.Slots.{slot_moment};
 ghost use Rattle.xa_tm.specs.declared.swap_fault.SwapFault.TheVariants as SwapFault;
 ghost use Rattle.uses.specs.Crashes.{IsLeft};
@@ -44,10 +43,10 @@ pub(crate) fn restart_over<R: ResourceManager + Drop, L: DecisionLog + Drop>(
     left: L,
 ) -> Result<Reply, (SwapFault, L)>
     ensures given { IfErr result (λ e. (c : Content) →
-        IsLeft (observes R.held_of R.scan_of R.in_doubt_of L.moment) system.old left c →
-        (L.moment e.1).is_honest → (e.0 ≡ SwapFault.Memory) ⊎ (e.0 ≡ SwapFault.Log)) }
+        IsLeft (observes R.look L.moment) system.old left c → (L.moment e.1).is_honest →
+        (e.0 ≡ SwapFault.Memory) ⊎ (e.0 ≡ SwapFault.Log)) }
     ensures restarted { IfOk result (λ reply. (c : Content) →
-        IsLeft (observes R.held_of R.scan_of R.in_doubt_of L.moment) system.old left c →
+        IsLeft (observes R.look L.moment) system.old left c →
         (slot_moment L.moment system.new.log).is_honest →
         (slot_moment L.moment system.new.log).fault_count ≡ (L.moment left).fault_count →
         (L.moment left).fault_count < greatest_count → reply ≢ Replies.Refused Refusals.LogFault) }
@@ -55,11 +54,9 @@ pub(crate) fn restart_over<R: ResourceManager + Drop, L: DecisionLog + Drop>(
     ensures back { IfErr result (λ e. (L.moment e.1).is_honest → (L.moment left).is_honest) }
     ensures honest { IfOk result (λ reply. (slot_moment L.moment system.new.log).is_honest →
         (L.moment left).is_honest) }
-    ensures start { origin_in (looks R.held_of R.scan_of R.in_doubt_of) system.new
-        ≡ origin_in (looks R.held_of R.scan_of R.in_doubt_of) system.old }
-    ensures headline { RightOrigin
-        (origin_in (looks R.held_of R.scan_of R.in_doubt_of) system.new) → Headline
-        (origin_in (looks R.held_of R.scan_of R.in_doubt_of) system.new) system.new.events }
+    ensures start { origin_in R.look system.new ≡ origin_in R.look system.old }
+    ensures headline { RightOrigin (origin_in R.look system.new) →
+        Headline (origin_in R.look system.new) system.new.events }
 {
     system.agree();
     match system.give_log(left) {
@@ -76,8 +73,7 @@ pub(crate) fn restart_in_memory(
     ensures given { IfSome result (λ it. IfErr it.0 (λ e.
         (e.0 ≡ SwapFault.Memory) ⊎ (e.0 ≡ SwapFault.Log))) }
     ensures headline { IfSome result (λ it. Headline
-        (origin_in (looks ⟦<MemRm as ResourceManager>⟧.held_of ⟦<MemRm as ResourceManager>⟧.scan_of
-        ⟦<MemRm as ResourceManager>⟧.in_doubt_of) it.1) it.1.events) }
+        (origin_in ⟦<MemRm as ResourceManager>⟧.look it.1) it.1.events) }
 {
     let mut rms = Vec::new(alloc);
     let Ok(()) = rms.push(MemRm::new(alloc)) else {

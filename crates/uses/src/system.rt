@@ -6,7 +6,6 @@ ghost use Rattle.xa_model.specs.Promises.Processes.{Resumes, joined};
 ghost use Rattle.xa_model.specs.Protocol.{AllRight, RightOrigin};
 ghost use Rattle.xa_model.specs.Trace.{Trace};
 ghost use Rattle.xa_system.specs.SystemView.{origin_in, trace_in};
-ghost use Rattle.xa_system.specs.RmInHistory.{looks};
 
 use xa_base::{Branch, Call, Gtrid, Outcome, Refusal, Step};
 use xa_log::DecisionLog;
@@ -25,12 +24,10 @@ pub(crate) fn run_alike<R: ResourceManager + Drop, L: DecisionLog + Drop>(
     system: &mut System<R, L>,
     steps: &[Step],
 ) -> Result<(), Refusal>
-    ensures alike { RightOrigin (origin_in (looks R.held_of R.scan_of R.in_doubt_of) system.new) →
-        AreAlike (trace_in (looks R.held_of R.scan_of R.in_doubt_of) system.new) }
-    ensures resumed { (past : Trace) → AllRight past →
-        Resumes past (origin_in (looks R.held_of R.scan_of R.in_doubt_of) system.new) →
-        AreAlike (joined past (origin_in (looks R.held_of R.scan_of R.in_doubt_of) system.new)
-        system.new.events) }
+    ensures alike { RightOrigin (origin_in R.look system.new) →
+        AreAlike (trace_in R.look system.new) }
+    ensures resumed { (past : Trace) → AllRight past → Resumes past (origin_in R.look system.new) →
+        AreAlike (joined past (origin_in R.look system.new) system.new.events) }
 {
     system.run(steps)
 }

@@ -1,20 +1,25 @@
 -- Which branch a call names, and what it asks of it.
-use Rattle.std.proofs.Common.{◌≡◌, ℕ, zero, suc, ℤ, ◌==◌, Bool, true, false, if◌then◌else◌, Option, Some, None, IsSome, refl, sym, ◌∙◌, ap, subst}
+use Rattle.std.proofs.Common.{◌≡◌, ℕ, zero, suc, ℤ, ◌==◌, Bool, true, false, if◌then◌else◌, Option, Some, None, IsSome, IfOk, Result, Ok, Err, refl, sym, ◌∙◌, ap, subst}
+use Rattle.std.specs.Option.{option_map_or}
 use Rattle.xa_base.proofs.XidOrder.{xid_eq-same}
 use Rattle.xa_base.specs.Call.{xid_in}
-use Rattle.xa_base.specs.HeldBranch.{HeldBranch, new_branch, called, answer_of, starter_after, retries_after}
+use Rattle.xa_base.specs.HeldBranch.{HeldBranch, new_branch, called, answer_of, held_by, starter_after, retries_after}
 use Rattle.xa_base.specs.Standing.{is_in_doubt}
 use Rattle.xa_base.specs.StateTable.{Kind, Kind.Start, Kind.Join, Kind.End, Kind.Prepare, Kind.Commit, Kind.OnePhase, Kind.Rollback, Kind.Forget, answer, moved, state_of, start_kind, commit_kind, asks_of}
 use Rattle.xa_base.specs.Xid.{Xid, xid_eq}
+use Rattle.xa_base.specs.declared.answer.Answer.{Answer}
+use Rattle.xa_base.specs.declared.answer.Answer.TheVariants.{Ret}
 use Rattle.xa_base.specs.declared.call.Call.{Call}
 use Rattle.xa_base.specs.declared.call.Call.TheVariants as Calls
 use Rattle.xa_base.specs.declared.code.Code.TheVariants as Codes
+use Rattle.xa_base.specs.declared.fault.Memory.{Memory}
 use Rattle.xa_base.specs.declared.state.Standing.{Standing}
 use Rattle.xa_base.specs.declared.state.Standing.TheVariants.{Unstarted, Active, Idle, Prepared, RollbackOnly, Completed, Committed, RolledBack, Lost, ReadOnly, Forgotten}
 use Rattle.xa_base.specs.declared.vote.Vote.{Vote}
 use Rattle.xa_base.specs.declared.vote.Vote.TheVariants as Votes
 use Rattle.xa_rm.specs.Branches.{branch_or_new}
-use Rattle.xa_rm.specs.ResourceManager.{recover_of}
+use Rattle.xa_rm.specs.Look.{Look}
+use Rattle.xa_rm.specs.ResourceManager.{Answers, Recovers, answer_to, recover_of, scan_after_call}
 use Rattle.xa_rm.specs.declared.table_entry.TableEntry.{TableEntry}
 
 -- what is asked, or else k
@@ -143,3 +148,28 @@ none_chosen false false false false p q r s t u v w e = refl
 -- flags that make no xa_recover of one count make none of another
 pub recover_of_none : (m n : ℤ) (flags : ℕ) → recover_of m flags ≡ None → recover_of n flags ≡ None
 recover_of_none m n flags e = none_chosen (0 == flags) (0x0080_0000 == flags) (0x0100_0000 == flags) (0x0180_0000 == flags) _ _ _ _ _ _ _ _ e
+
+-- xa_recover asks nothing of a branch
+asks_chosen : (n : ℤ) (a b c d : Bool) (call : Call Xid) → (if a then Some (Calls.Recover n false false) else if b then Some (Calls.Recover n false true)
+    else if c then Some (Calls.Recover n true false) else if d then Some (Calls.Recover n true true) else None) ≡ Some call → asks_of call ≡ None
+asks_chosen n true b c d call e = ap (λ (o : Option (Call Xid)). option_map_or asks_of o None) (sym e)
+asks_chosen n false true c d call e = ap (λ (o : Option (Call Xid)). option_map_or asks_of o None) (sym e)
+asks_chosen n false false true d call e = ap (λ (o : Option (Call Xid)). option_map_or asks_of o None) (sym e)
+asks_chosen n false false false true call e = ap (λ (o : Option (Call Xid)). option_map_or asks_of o None) (sym e)
+asks_chosen n false false false false call e = let no : ⊥ = cc in absurd no
+
+recover_asks : (n : ℤ) (flags : ℕ) (call : Call Xid) → recover_of n flags ≡ Some call → asks_of call ≡ None
+recover_asks n flags call e = asks_chosen n (0 == flags) (0x0080_0000 == flags) (0x0100_0000 == flags) (0x0180_0000 == flags) call e
+
+-- what was answered to the call that is made of these flags was answered to an xa_recover with them
+pub recovered : (thread : ℕ) (count : ℤ) (flags : ℕ) (call : Call Xid) (result : Result (Answer Xid) Memory) (old new : Look)
+    → recover_of count flags ≡ Some call → IfOk result (λ given. Answers thread call given old new)
+    → IfOk result (λ given. Recovers thread count flags given old new)
+recovered thread count flags call (Ok given) old new made did = record {
+  answer = did.answer ∙ ap (λ asked. option_map_or (answer_to old thread) asked (Ret Codes.Invalid)) (sym made);
+  held = λ x. did.held x ∙ ap (λ asked. held_by thread asked x (old.held x)) (recover_asks count flags call made);
+  scans = λ t. did.scans t
+      ∙ ap (λ asked. option_map_or (λ call. scan_after_call thread call old.in_doubt t (old.scan t)) asked (old.scan t)) (sym made);
+  in_doubt = did.in_doubt;
+}
+recovered thread count flags call (Err e) old new made did = tt

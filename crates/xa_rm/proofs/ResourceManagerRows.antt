@@ -2,7 +2,7 @@
 use Rattle.std.proofs.Common.{◌≡◌, ℕ, pos, negsuc, true, false, List, [], ◌∷◌, map, refl}
 use Rattle.std.specs.Prelude.{Some}
 use Rattle.xa_base.specs.HeldBranch.{HeldBranch, called}
-use Rattle.xa_base.specs.Scan.{Scan, Scan.NotOpen, Scan.Behind}
+use Rattle.xa_base.specs.Scan.{Scan.NotOpen, Scan.Behind}
 use Rattle.xa_base.specs.StateTable.{Kind.Commit, Kind.Prepare}
 use Rattle.xa_base.specs.Xid.{Xid}
 use Rattle.xa_base.specs.declared.answer.Answer.TheVariants.{Ret, Page}
@@ -13,6 +13,7 @@ use Rattle.xa_base.specs.declared.state.Standing.{Standing}
 use Rattle.xa_base.specs.declared.state.Standing.TheVariants.{Idle, Prepared, RolledBack}
 use Rattle.xa_base.specs.declared.vote.Vote.{Vote}
 use Rattle.xa_base.specs.declared.vote.Vote.TheVariants as Votes
+use Rattle.xa_rm.specs.Look.{Look}
 use Rattle.xa_rm.specs.ResourceManager.{answer_to, changed_at, retrying, scan_after_call, voting}
 
 -- a branch that thread 1 started
@@ -44,16 +45,15 @@ one_named = refl
 -- ** answers
 
 -- xa_open and xa_close are answered XA_OK, whatever is held, in doubt or listed
-opened : (held : Xid → HeldBranch) (scan : Scan Xid) (in_doubt : List Xid)
-    → answer_to held scan in_doubt Calls.OpenRm ∷ answer_to held scan in_doubt Calls.CloseRm ∷ [] ≡ Ret Codes.Success ∷ Ret Codes.Success ∷ []
-opened held scan in_doubt = refl
+opened : (look : Look) (thread : ℕ) → answer_to look thread Calls.OpenRm ∷ answer_to look thread Calls.CloseRm ∷ [] ≡ Ret Codes.Success ∷ Ret Codes.Success ∷ []
+opened look thread = refl
 
 -- the branches in doubt
 doubted : List Xid
 doubted = xid 1 ∷ xid 2 ∷ xid 3 ∷ []
 
 -- a page from where the scan stands, and XAER_INVAL for a negative count
-pages : map (answer_to (λ x. held Prepared Votes.Yes 0) (Behind (Some (xid 1))) doubted)
+pages : map (answer_to (record { held = λ x. held Prepared Votes.Yes 0; scan = λ t. Behind (Some (xid 1)); in_doubt = doubted }) 1)
     (Calls.Recover (pos 1) false false ∷ Calls.Recover (negsuc 0) false false ∷ Calls.Recover (pos 1) true false ∷ [])
     ≡ Page (xid 2 ∷ []) ∷ Ret Codes.Invalid ∷ Page (xid 1 ∷ []) ∷ []
 unfolding doubted

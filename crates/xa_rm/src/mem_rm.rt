@@ -30,9 +30,9 @@ impl MemRm {
 
     /// A resource manager at which no branch was ever named and no scan is open.
     pub fn new(alloc: Global) -> MemRm
-        ensures held { (x : Xid) → ⟦<MemRm as ResourceManager>⟧.held_of result x ≡ new_branch }
-        ensures scans { (t : ℕ) → ⟦<MemRm as ResourceManager>⟧.scan_of result t ≡ NotOpen }
-        ensures in_doubt { ⟦<MemRm as ResourceManager>⟧.in_doubt_of result ≡ [] }
+        ensures held { (x : Xid) → (⟦<MemRm as ResourceManager>⟧.look result).held x ≡ new_branch }
+        ensures scans { (t : ℕ) → (⟦<MemRm as ResourceManager>⟧.look result).scan t ≡ NotOpen }
+        ensures in_doubt { (⟦<MemRm as ResourceManager>⟧.look result).in_doubt ≡ [] }
     {
         MemRm {
             branches: Branches::new(alloc),
@@ -86,11 +86,11 @@ impl ResourceManager for MemRm {
     ghost use Rattle.xa_rm.specs.Branches.{held_at};
     ghost use Rattle.xa_rm.specs.Scans.{scan_at};
 
-    ghost held_of = { λ m. held_at m.branches.table };
-
-    ghost scan_of = { λ m. scan_at m.scans.cursors };
-
-    ghost in_doubt_of = { λ m. m.branches.index.keys };
+    ghost look = { λ m. record {
+      held = held_at m.branches.table;
+      scan = scan_at m.scans.cursors;
+      in_doubt = m.branches.index.keys;
+    } };
 
     fn apply(&mut self, thread: u32, call: &Call) -> Result<Answer, Memory> {
         match call {

@@ -21,12 +21,12 @@ use Rattle.xa_scenario.specs.Scenarios.{Plan}
 use Rattle.xa_scenario.proofs.StartLemmas.{in_slot, out_of_slot}
 use Rattle.xa_system.specs.LogInHistory.{StartsOver}
 use Rattle.xa_system.specs.NextProcess.{FindsNewer, Leaves}
-use Rattle.xa_system.specs.RmInHistory.{Looks}
 use Rattle.xa_system.specs.StartFaults.{IsToBlame}
 use Rattle.xa_system.specs.SystemView.{MayRestart, Observes, SystemView, origin_in, trace_in}
 use Rattle.xa_tm.specs.Slots.{log_held, order_in, slot_moment}
 use Rattle.xa_tm.specs.declared.slot.Slot.{Slot}
 use Rattle.std.proofs.Common.{IsSomeAnd, MatchOption, inl, inr, ◌⊎◌}
+use Rattle.xa_rm.specs.Look.{Look}
 
 -- ** the whole history
 
@@ -57,7 +57,7 @@ pub left_there : {L : Type 0} (left : Option L) (log : L) → Ok log ≡ ok_or l
 left_there (Some other) log is = cc
 left_there None log is = absurd (cc)
 
-module _ {R L : Type 0} (look : Looks R) (logs : DecisionLog.Ghosts L) (s : SystemView R L) (log : L) (held : log_held s.log ≡ Some log) where
+module _ {R L : Type 0} (look : R → Look) (logs : DecisionLog.Ghosts L) (s : SystemView R L) (log : L) (held : log_held s.log ≡ Some log) where
   abbrev Hinders : L → Type 0
   Hinders l = IsToBlame logs l ⊎ FindsNewer look logs s.rms l
 
@@ -76,7 +76,7 @@ out_in_order : {L : Type 0} (moment : L → Moment) (slot : Slot L) (left : L) �
     → (moment left).is_in_order
 out_in_order moment slot left is h = subst (λ (it : Option _). order_in (λ l. (moment l).is_in_order) it) is h
 
-module _ {R L : Type 0} (look : Looks R) (moment : L → Moment) where
+module _ {R L : Type 0} (look : R → Look) (moment : L → Moment) where
   abbrev see : Observes R L
   see = record { look = look; moment = moment; place = slot_moment moment }
 

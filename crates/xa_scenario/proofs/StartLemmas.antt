@@ -12,11 +12,12 @@ use Rattle.xa_scenario.specs.Runs.{IsNewRm}
 use Rattle.xa_scenario.specs.Scenarios.{IsSize}
 use Rattle.xa_system.specs.LogInHistory.{StartsOver}
 use Rattle.xa_system.specs.SystemView.{HasWrongSize, MayRestart, Observes, SystemView, origin_in}
-use Rattle.xa_system.specs.RmInHistory.{Looks, scan_by}
+use Rattle.xa_system.specs.RmInHistory.{scan_by}
 use Rattle.xa_tm.specs.Slots.{honest_in, log_held, slot_moment}
 use Rattle.xa_tm.specs.declared.slot.Slot.{Slot}
+use Rattle.xa_rm.specs.Look.{Look}
 
-module _ {R : Type 0} (look : Looks R) where
+module _ {R : Type 0} (look : R → Look) where
   -- where each resource manager is new, so is what is found at a place
   new_found : (rms : List R) → All (IsNewRm look) rms → (r : ℕ) (found : Option R) → slice_get rms r ≡ found → IfSome found (IsNewRm look)
   new_found rms each r None is = tt
@@ -26,16 +27,16 @@ module _ {R : Type 0} (look : Looks R) where
   new_at rms each r = new_found rms each r (slice_get rms r) refl
 
   -- what is seen of it, or of none
-  pub unstarted : (found : Option R) → IfSome found (IsNewRm look) → (x : Xid) → option_map_or look.held_of found (λ y. new_branch) x ≡ new_branch
+  pub unstarted : (found : Option R) → IfSome found (IsNewRm look) → (x : Xid) → option_map_or (λ rm. (look rm).held) found (λ y. new_branch) x ≡ new_branch
   unstarted None new x = refl
   unstarted (Some rm) new x = new.held x
 
-  pub none_in_doubt : (found : Option R) → IfSome found (IsNewRm look) → option_map_or look.in_doubt_of found [] ≡ []
+  pub none_in_doubt : (found : Option R) → IfSome found (IsNewRm look) → option_map_or (λ rm. (look rm).in_doubt) found [] ≡ []
   none_in_doubt None new = refl
   none_in_doubt (Some rm) new = new.in_doubt
 
   pub none_open : (found : Option R) → IfSome found (IsNewRm look)
-      → option_map_or (λ rm. scan_by (λ x. Foreign x) (look.scan_of rm 0)) found NotOpen ≡ NotOpen
+      → option_map_or (λ rm. scan_by (λ x. Foreign x) ((look rm).scan 0)) found NotOpen ≡ NotOpen
   none_open None new = refl
   none_open (Some rm) new = ap (λ scan. scan_by (λ x. Foreign x) scan) (new.scans 0)
 

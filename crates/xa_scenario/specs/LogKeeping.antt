@@ -4,10 +4,10 @@ use Rattle.xa_log.specs.declared.decision_log.DecisionLog as DecisionLog
 use Rattle.xa_model.specs.Promises.Processes.{Resumes}
 use Rattle.xa_scenario.specs.Runs.{StartsOverLog}
 use Rattle.xa_system.specs.NextProcess.{FindsNewer}
-use Rattle.xa_system.specs.RmInHistory.{Looks}
 use Rattle.xa_system.specs.StartFaults.{IsToBlame}
 use Rattle.xa_system.specs.SystemView.{MayRestart, Observes, SystemView, origin_in, trace_in}
 use Rattle.xa_tm.specs.Slots.{log_held}
+use Rattle.xa_rm.specs.Look.{Look}
 
 -- A system has just started over this log; and a restart may follow.
 pub record HasStarted {R L : Type 0} (see : Observes R L) (log : L) (s : SystemView R L) : Type 0 where
@@ -35,5 +35,5 @@ pub record KeepsLog {R L : Type 0} (see : Observes R L) (old new : SystemView R 
 
 -- No system can go on from what this one leaves: it holds no log, or its log is to blame, or a branch at its resource managers
 -- is newer than that.
-abbrev pub CannotGoOn : {R L : Type 0} → Looks R → DecisionLog.Ghosts L → SystemView R L → Type 0
+abbrev pub CannotGoOn : {R L : Type 0} → (R → Look) → DecisionLog.Ghosts L → SystemView R L → Type 0
 CannotGoOn look logs s = MatchOption (log_held s.log) (Unit {0}) (λ log. IsToBlame logs log ⊎ FindsNewer look logs s.rms log)

@@ -22,15 +22,15 @@ use Rattle.xa_scenario.specs.Replies.{trace_lines}
 use Rattle.xa_scenario.specs.Scenarios.{Plan, scenario_of}
 use Rattle.xa_system.specs.LogInHistory.{StartsOver}
 use Rattle.xa_system.specs.Report.{IsReported}
-use Rattle.xa_system.specs.RmInHistory.{Looks}
+use Rattle.xa_rm.specs.Look.{Look}
 
 -- ** runs
 
 -- a resource manager at which no branch ever was, nothing is in doubt and no scan is open
-pub record IsNewRm {R : Type 0} (look : Looks R) (rm : R) : Type 0 where
-  pub held : (x : Xid) → look.held_of rm x ≡ new_branch
-  pub in_doubt : look.in_doubt_of rm ≡ []
-  pub scans : (thread : ℕ) → look.scan_of rm thread ≡ NotOpen
+pub record IsNewRm {R : Type 0} (look : R → Look) (rm : R) : Type 0 where
+  pub held : (x : Xid) → (look rm).held x ≡ new_branch
+  pub in_doubt : (look rm).in_doubt ≡ []
+  pub scans : (thread : ℕ) → (look rm).scan thread ≡ NotOpen
 
 -- where a run of a scenario starts: a system as large as it says, with new resource managers
 pub record IsStartOf (plan : Plan) (o : Origin) : Type 0 where

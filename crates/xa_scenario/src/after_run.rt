@@ -7,7 +7,6 @@ ghost use Rattle.xa_scenario.specs.Runs.{IsRunOf, IsStartFault, IsStartOf, Start
 ghost use Rattle.xa_scenario.specs.Scenarios.{IsSized, plan_of};
 ghost use Rattle.xa_system.specs.StartFaults.{IsToBlame};
 ghost use Rattle.xa_system.specs.SystemView.{origin_in};
-ghost use Rattle.xa_system.specs.RmInHistory.{looks};
 
 use crate::document::Scenario;
 use crate::play::play;
@@ -25,14 +24,11 @@ fn after_play<R: ResourceManager + Drop, L: DecisionLog + Drop>(
     mut system: System<R, L>,
 ) -> Result<System<R, L>, RunFault>
     requires empty { system.events ≡ [] }
-    requires start { IsStartOf (plan_of scenario.now)
-        (origin_in (looks R.held_of R.scan_of R.in_doubt_of) system) }
-    requires right { RightOrigin (origin_in (looks R.held_of R.scan_of R.in_doubt_of) system) }
-    ensures run { IfOk result (λ after. IsRunOf (plan_of scenario.now)
-        (origin_in (looks R.held_of R.scan_of R.in_doubt_of) after) after.events) }
-    ensures start { IfOk result (λ after.
-        origin_in (looks R.held_of R.scan_of R.in_doubt_of) after
-        ≡ origin_in (looks R.held_of R.scan_of R.in_doubt_of) system) }
+    requires start { IsStartOf (plan_of scenario.now) (origin_in R.look system) }
+    requires right { RightOrigin (origin_in R.look system) }
+    ensures run { IfOk result (λ after. IsRunOf (plan_of scenario.now) (origin_in R.look after)
+        after.events) }
+    ensures start { IfOk result (λ after. origin_in R.look after ≡ origin_in R.look system) }
     ensures fault { IfErr result (λ e. e ≡ Memory) }
 {
     play(&mut system, &mut Vec::new(alloc), &scenario.entries)?;
@@ -52,12 +48,9 @@ pub fn system_after<L: DecisionLog + Drop>(
     requires sized { IsSized (plan_of scenario.now) }
     // Its events are a run of the scenario, from a start over this log.
     ensures run { IfOk result (λ after. IsRunOf (plan_of scenario.now)
-        (origin_in (looks ⟦<MemRm as ResourceManager>⟧.held_of
-        ⟦<MemRm as ResourceManager>⟧.scan_of ⟦<MemRm as ResourceManager>⟧.in_doubt_of) after)
-        after.events) }
+        (origin_in ⟦<MemRm as ResourceManager>⟧.look after) after.events) }
     ensures over { IfOk result (λ after. StartsOverLog L.moment log
-        (origin_in (looks ⟦<MemRm as ResourceManager>⟧.held_of
-        ⟦<MemRm as ResourceManager>⟧.scan_of ⟦<MemRm as ResourceManager>⟧.in_doubt_of) after)) }
+        (origin_in ⟦<MemRm as ResourceManager>⟧.look after)) }
     ensures log { result ≡ Err Log → IsToBlame L.DecisionLog log }
     ensures fault { IfErr result IsStartFault }
 {

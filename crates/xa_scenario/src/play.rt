@@ -5,7 +5,6 @@ ghost use Rattle.std.specs.Option.{option_to_list};
 ghost use Rattle.xa_scenario.specs.Plays.{HaveSteps, IsAnswered, IsDrain, IsPlay, MakesEvents, Performs, events_after, gtrids_of, moves};
 ghost use Rattle.xa_scenario.specs.LogKeeping.{KeepsLog};
 ghost use Rattle.xa_system.specs.SystemView.{observes, origin_in};
-ghost use Rattle.xa_system.specs.RmInHistory.{looks};
 
 use crate::entry::Entry;
 use crate::names::{begins, gtrid_in, issue_of, step_of};
@@ -23,10 +22,8 @@ fn act<R: ResourceManager + Drop, L: DecisionLog + Drop>(
     ensures answered { IsAnswered system.old.events result }
     ensures added { system.new.events
         ≡ events_after system.old.events (record { step = step; reply = result }) }
-    ensures start { origin_in (looks R.held_of R.scan_of R.in_doubt_of) system.new
-        ≡ origin_in (looks R.held_of R.scan_of R.in_doubt_of) system.old }
-    ensures log { KeepsLog (observes R.held_of R.scan_of R.in_doubt_of L.moment) system.old
-        system.new }
+    ensures start { origin_in R.look system.new ≡ origin_in R.look system.old }
+    ensures log { KeepsLog (observes R.look L.moment) system.old system.new }
 {
     system.step(step)
 }
@@ -52,10 +49,8 @@ fn drain<R: ResourceManager + Drop, L: DecisionLog + Drop>(
     rm: u32,
 )
     ensures performs { Performs (IsDrain thread rm) system.old.events system.new.events }
-    ensures start { origin_in (looks R.held_of R.scan_of R.in_doubt_of) system.new
-        ≡ origin_in (looks R.held_of R.scan_of R.in_doubt_of) system.old }
-    ensures log { KeepsLog (observes R.held_of R.scan_of R.in_doubt_of L.moment) system.old
-        system.new }
+    ensures start { origin_in R.look system.new ≡ origin_in R.look system.old }
+    ensures log { KeepsLog (observes R.look L.moment) system.old system.new }
 {
     'pairs: loop {
         let took = act(system, Step::Take { thread, rm });
@@ -74,10 +69,8 @@ fn play_step<R: ResourceManager + Drop, L: DecisionLog + Drop>(
     ensures performs { Performs (λ here. HaveSteps (step ∷ []) here
         × (gtrids_of here ≡ option_to_list result))
         system.old.events system.new.events }
-    ensures start { origin_in (looks R.held_of R.scan_of R.in_doubt_of) system.new
-        ≡ origin_in (looks R.held_of R.scan_of R.in_doubt_of) system.old }
-    ensures log { KeepsLog (observes R.held_of R.scan_of R.in_doubt_of L.moment) system.old
-        system.new }
+    ensures start { origin_in R.look system.new ≡ origin_in R.look system.old }
+    ensures log { KeepsLog (observes R.look L.moment) system.old system.new }
 {
     let is_begin = begins(&step);
     let reply = act(system, step);
@@ -94,10 +87,8 @@ fn play_entry<R: ResourceManager + Drop, L: DecisionLog + Drop>(
     ensures performs { Performs (λ here. MakesEvents gtrids.now entry.now here
         × (gtrids_of here ≡ option_to_list result))
         system.old.events system.new.events }
-    ensures start { origin_in (looks R.held_of R.scan_of R.in_doubt_of) system.new
-        ≡ origin_in (looks R.held_of R.scan_of R.in_doubt_of) system.old }
-    ensures log { KeepsLog (observes R.held_of R.scan_of R.in_doubt_of L.moment) system.old
-        system.new }
+    ensures start { origin_in R.look system.new ≡ origin_in R.look system.old }
+    ensures log { KeepsLog (observes R.look L.moment) system.old system.new }
 {
     match *entry {
         Entry::Call {
@@ -127,10 +118,8 @@ pub fn play<R: ResourceManager + Drop, L: DecisionLog + Drop>(
     ensures performs { OnOk result (Performs (λ steps. IsPlay gtrids.old.items entries.now steps
         × (gtrids.new.items ≡ gtrids.old.items ++ gtrids_of steps))
         system.old.events system.new.events) }
-    ensures start { origin_in (looks R.held_of R.scan_of R.in_doubt_of) system.new
-        ≡ origin_in (looks R.held_of R.scan_of R.in_doubt_of) system.old }
-    ensures log { KeepsLog (observes R.held_of R.scan_of R.in_doubt_of L.moment) system.old
-        system.new }
+    ensures start { origin_in R.look system.new ≡ origin_in R.look system.old }
+    ensures log { KeepsLog (observes R.look L.moment) system.old system.new }
 {
     for entry in entries {
         if let Some(gtrid) = play_entry(system, gtrids, entry) {

@@ -15,7 +15,6 @@ ghost use Rattle.xa_scenario.specs.Processes.{StopsAnywhere, StopsBetween, headi
 ghost use Rattle.xa_scenario.specs.Replies.{trace_lines};
 ghost use Rattle.xa_scenario.specs.Runs.{IsNewRm, IsStartFault};
 ghost use Rattle.xa_scenario.specs.Scenarios.{IsSized, Plan, plan_of};
-ghost use Rattle.xa_system.specs.RmInHistory.{looks};
 ghost use Rattle.xa_system.specs.StartFaults.{IsToBlame};
 ghost use Rattle.xa_system.specs.SystemView.{HasWrongSize, observes, origin_in, trace_in};
 
@@ -91,8 +90,7 @@ fn add_started<R: ResourceManager + Drop, L: DecisionLog + Drop>(
     system: &System<R, L>,
     names: &mut Vec<Xid>,
 ) -> Result<(), RunFault>
-    ensures added { OnOk result (AddsStarted
-        (trace_in (looks R.held_of R.scan_of R.in_doubt_of) system.now) names.old.items
+    ensures added { OnOk result (AddsStarted (trace_in R.look system.now) names.old.items
         names.new.items) }
     ensures fault { IfErr result (λ e. e ≡ Memory) }
 {
@@ -106,8 +104,7 @@ fn fates_of<R: ResourceManager + Drop, L: DecisionLog + Drop>(
     system: &System<R, L>,
     names: Vec<Xid>,
 ) -> Result<Vec<(Xid, Fate)>, RunFault>
-    ensures fates { IfOk result (λ fates. AreFates
-        (origin_in (looks R.held_of R.scan_of R.in_doubt_of) system.now) system.now.events
+    ensures fates { IfOk result (λ fates. AreFates (origin_in R.look system.now) system.now.events
         names.items fates.items) }
     ensures fault { IfErr result (λ e. e ≡ Memory) }
 {
@@ -152,10 +149,8 @@ fn next_system<R: ResourceManager + Drop, L: DecisionLog + Drop>(
     ensures empty { IfOk result (λ next. next.events ≡ []) }
     ensures threads { IfOk result (λ next. next.lines.threads ≡ threads) }
     ensures rms { IfOk result (λ next. length next.start ≡ length system.rms) }
-    ensures goes_on { IfOk result (HasGoneOn
-        (observes R.held_of R.scan_of R.in_doubt_of L.moment) system) }
-    ensures log { result ≡ Err Log → CannotGoOn
-        (looks R.held_of R.scan_of R.in_doubt_of) L.DecisionLog system }
+    ensures goes_on { IfOk result (HasGoneOn (observes R.look L.moment) system) }
+    ensures log { result ≡ Err Log → CannotGoOn R.look L.DecisionLog system }
     ensures fault { IfErr result IsStartFault }
 {
     let Ok(remains) = system.into_parts() else {
@@ -187,8 +182,7 @@ fn play_process<R: ResourceManager + Drop, L: DecisionLog + Drop>(
     names: &mut Vec<Xid>,
     scenario: &Scenario,
 ) -> Result<(), RunFault>
-    ensures played { OnOk result (HasPlayed
-        (observes R.held_of R.scan_of R.in_doubt_of L.moment) (plan_of scenario.now)
+    ensures played { OnOk result (HasPlayed (observes R.look L.moment) (plan_of scenario.now)
         gtrids.old.items gtrids.new.items names.old.items names.new.items system.old system.new) }
     ensures fault { IfErr result (λ e. e ≡ Memory) }
 {
@@ -207,9 +201,8 @@ fn first_process<R: ResourceManager + Drop, L: DecisionLog + Drop>(
 ) -> Result<Process<R, L>, RunFault>
     requires sized { IsSized (plan_of scenario.now) }
     requires count { vec_len rms ≡ scenario.now.rms }
-    requires new { All (IsNewRm (looks R.held_of R.scan_of R.in_doubt_of)) rms.items }
-    ensures last { IfOk result (λ p. IsLast
-        (observes R.held_of R.scan_of R.in_doubt_of L.moment) log scenario.now.rms
+    requires new { All (IsNewRm R.look) rms.items }
+    ensures last { IfOk result (λ p. IsLast (observes R.look L.moment) log scenario.now.rms
         (plan_of scenario.now ∷ []) p.gtrids.items p.names.items p.system
         (trace_lines 1 p.system.events)) }
     ensures text { IfOk result (λ p. string_bytes p.text
@@ -241,16 +234,14 @@ fn next_process<R: ResourceManager + Drop, L: DecisionLog + Drop>(
     requires sized { IsSized (plan_of scenario.now) }
     requires count { length before.system.rms ≡ scenario.now.rms }
     ensures last { IfOk result (λ p. (log : L) (plans : List Plan) (traces : List ℕ) →
-        number ≡ length plans + 1 →
-        IsLast (observes R.held_of R.scan_of R.in_doubt_of L.moment) log scenario.now.rms
-        plans before.gtrids.items before.names.items before.system traces →
-        IsLast (observes R.held_of R.scan_of R.in_doubt_of L.moment) log scenario.now.rms
-        (plans ++ plan_of scenario.now ∷ []) p.gtrids.items p.names.items p.system
-        (traces ++ (heading number ++ trace_lines 1 p.system.events))) }
+        number ≡ length plans + 1 → IsLast (observes R.look L.moment) log scenario.now.rms plans
+        before.gtrids.items before.names.items before.system traces →
+        IsLast (observes R.look L.moment) log scenario.now.rms (plans ++ plan_of scenario.now ∷ [])
+        p.gtrids.items p.names.items p.system (traces
+        ++ (heading number ++ trace_lines 1 p.system.events))) }
     ensures text { IfOk result (λ p. string_bytes p.text
         ≡ shown with_trace (heading number ++ trace_lines 1 p.system.events)) }
-    ensures log { result ≡ Err Log → CannotGoOn
-        (looks R.held_of R.scan_of R.in_doubt_of) L.DecisionLog before.system }
+    ensures log { result ≡ Err Log → CannotGoOn R.look L.DecisionLog before.system }
     ensures fault { IfErr result IsStartFault }
 {
     let mut gtrids = before.gtrids;
@@ -273,8 +264,7 @@ fn last_text<R: ResourceManager + Drop, L: DecisionLog + Drop>(
     last: Process<R, L>,
 ) -> Result<String, RunFault>
     ensures text { IfOk result (λ text. (fates : List (KnownXid × Fate)) × AreFates
-        (origin_in (looks R.held_of R.scan_of R.in_doubt_of) last.system) last.system.events
-        last.names.items fates
+        (origin_in R.look last.system) last.system.events last.names.items fates
         × (string_bytes text ≡ string_bytes last.text ++ fate_lines fates)) }
     ensures fault { IfErr result (λ e. e ≡ Memory) }
 {
@@ -309,9 +299,8 @@ pub fn run_scenarios<L: DecisionLog + Drop, W: Write>(
     ensures none { scenarios.now ≡ [] → Keeps (W.contents out.old) (W.contents out.new) }
     // Why it ends early, and what is printed then.
     ensures fault { IfErr result (λ e. IsStartFault e ⊎ (e ≡ Output)) }
-    ensures log { result ≡ Err Log → LogStops (observes ⟦<MemRm as ResourceManager>⟧.held_of
-        ⟦<MemRm as ResourceManager>⟧.scan_of ⟦<MemRm as ResourceManager>⟧.in_doubt_of L.moment) log
-        L.DecisionLog (map plan_of scenarios.now) }
+    ensures log { result ≡ Err Log → LogStops (observes ⟦<MemRm as ResourceManager>⟧.look L.moment)
+        log L.DecisionLog (map plan_of scenarios.now) }
     ensures stopped { IfErr result (λ e. IsStartFault e → StopsBetween L.moment log
         (map plan_of scenarios.now) with_trace (W.contents out.old) (W.contents out.new)) }
     ensures begun { IfErr result (λ e. e ≡ Output → StopsAnywhere L.moment log

@@ -11,7 +11,6 @@ ghost use Rattle.xa_scenario.specs.LogKeeping.{HasStarted};
 ghost use Rattle.xa_scenario.specs.Runs.{Begins, BeginsCheck, BeginsRun, IsNewRm, IsStartFault, IsStartOf, IsTextOf, Prints, PrintsCheck, PrintsRun};
 ghost use Rattle.xa_scenario.specs.Scenarios.{IsSized, plan_of, scenario_of};
 ghost use Rattle.xa_system.specs.SystemView.{observes, origin_in};
-ghost use Rattle.xa_system.specs.RmInHistory.{looks};
 ghost use Rattle.xa_system.specs.StartFaults.{IsToBlame};
 
 use crate::document::{Scenario, read_scenario};
@@ -27,8 +26,7 @@ use xa_system::{NewFault, System};
 /// New resource managers.
 pub fn rms_of(alloc: Global, count: u32) -> Result<Vec<MemRm>, RunFault>
     ensures count { IfOk result (λ rms. vec_len rms ≡ count) }
-    ensures new { IfOk result (λ rms. All (IsNewRm (looks ⟦<MemRm as ResourceManager>⟧.held_of
-        ⟦<MemRm as ResourceManager>⟧.scan_of ⟦<MemRm as ResourceManager>⟧.in_doubt_of)) rms.items) }
+    ensures new { IfOk result (λ rms. All (IsNewRm ⟦<MemRm as ResourceManager>⟧.look) rms.items) }
     ensures fault { IfErr result (λ e. e ≡ Memory) }
 {
     let mut rms = Vec::new(alloc);
@@ -63,16 +61,13 @@ pub fn system_of<R: ResourceManager + Drop, L: DecisionLog + Drop>(
 ) -> Result<System<R, L>, RunFault>
     requires sized { IsSized (plan_of scenario.now) }
     requires count { vec_len rms ≡ scenario.now.rms }
-    requires new { All (IsNewRm (looks R.held_of R.scan_of R.in_doubt_of)) rms.items }
+    requires new { All (IsNewRm R.look) rms.items }
     // It has just started, over this log.
     ensures empty { IfOk result (λ system. system.events ≡ []) }
-    ensures start { IfOk result (λ system.
-        IsStartOf (plan_of scenario.now)
-        (origin_in (looks R.held_of R.scan_of R.in_doubt_of) system)) }
-    ensures right { IfOk result (λ system.
-        RightOrigin (origin_in (looks R.held_of R.scan_of R.in_doubt_of) system)) }
-    ensures over { IfOk result (HasStarted
-        (observes R.held_of R.scan_of R.in_doubt_of L.moment) log) }
+    ensures start { IfOk result (λ system. IsStartOf (plan_of scenario.now)
+        (origin_in R.look system)) }
+    ensures right { IfOk result (λ system. RightOrigin (origin_in R.look system)) }
+    ensures over { IfOk result (HasStarted (observes R.look L.moment) log) }
     // Why there is none.
     ensures log { result ≡ Err Log → IsToBlame L.DecisionLog log }
     ensures fault { IfErr result IsStartFault }
@@ -89,9 +84,8 @@ fn text_of<R: ResourceManager + Drop, L: DecisionLog + Drop>(
     system: &System<R, L>,
     with_trace: bool,
 ) -> Result<String, RunFault>
-    ensures text { IfOk result (λ text. IsTextOf with_trace
-        (origin_in (looks R.held_of R.scan_of R.in_doubt_of) system.now) system.now.events
-        (string_bytes text)) }
+    ensures text { IfOk result (λ text. IsTextOf with_trace (origin_in R.look system.now)
+        system.now.events (string_bytes text)) }
     ensures fault { IfErr result (λ e. e ≡ Memory) }
 {
     let fates = system.report(alloc)?;
@@ -107,15 +101,13 @@ fn run<R: ResourceManager + Drop, L: DecisionLog + Drop, W: Write>(
     out: &mut W,
 ) -> Result<(), RunFault>
     requires empty { system.events ≡ [] }
-    requires start { IsStartOf (plan_of scenario.now)
-        (origin_in (looks R.held_of R.scan_of R.in_doubt_of) system) }
-    requires right { RightOrigin (origin_in (looks R.held_of R.scan_of R.in_doubt_of) system) }
+    requires start { IsStartOf (plan_of scenario.now) (origin_in R.look system) }
+    requires right { RightOrigin (origin_in R.look system) }
     ensures prints { OnOk result (PrintsRun (plan_of scenario.now) with_trace
-        (origin_in (looks R.held_of R.scan_of R.in_doubt_of) system)
-        (W.contents out.old) (W.contents out.new)) }
-    ensures begun { IfErr result (λ e. e ≡ Output → BeginsRun (plan_of scenario.now) with_trace
-        (origin_in (looks R.held_of R.scan_of R.in_doubt_of) system)
-        (W.contents out.old) (W.contents out.new)) }
+        (origin_in R.look system) (W.contents out.old) (W.contents out.new)) }
+    ensures begun { IfErr result (λ e. e ≡ Output →
+        BeginsRun (plan_of scenario.now) with_trace (origin_in R.look system) (W.contents out.old)
+        (W.contents out.new)) }
     ensures memory { IfErr result (λ e. e ≡ Memory
         → Keeps (W.contents out.old) (W.contents out.new)) }
     ensures fault { IfErr result (λ e. (e ≡ Memory) ⊎ (e ≡ Output)) }

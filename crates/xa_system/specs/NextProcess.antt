@@ -11,8 +11,8 @@ use Rattle.xa_model.specs.Promises.Processes.{gone}
 use Rattle.xa_model.specs.Trace.{Trace}
 use Rattle.xa_system.specs.LogInHistory.{MayHoldRows}
 use Rattle.xa_system.specs.Parts.{held_at_rm}
-use Rattle.xa_system.specs.RmInHistory.{Looks}
 use Rattle.xa_system.specs.SystemView.{HasNewer}
+use Rattle.xa_rm.specs.Look.{Look}
 
 -- ** what is left
 
@@ -24,7 +24,7 @@ pub record LeavesBranch (past : Trace) (b : Branch) (h : HeldBranch) : Type 0 wh
   pub retries_are : h.retries ≡ retries past b
 
 -- what is held of a branch at its resource manager: nothing, where it has no identifier or is at none of these
-abbrev pub held_among : {R : Type 0} → Looks R → List R → Branch → HeldBranch
+abbrev pub held_among : {R : Type 0} → (R → Look) → List R → Branch → HeldBranch
 held_among look rms b = if fits b then held_at_rm look rms b.rm (xid_of_branch b) else new_branch
 
 -- it leaves a log so: with its rows and its records, with or without the change in doubt, in its incarnation or a later one
@@ -33,14 +33,14 @@ pub record LeavesLog (past : Trace) (c : Content) : Type 0 where
   pub least : incarnation past ≤ c.incarnation
 
 -- it leaves the resource managers and the log so
-pub record Leaves {R : Type 0} (look : Looks R) (past : Trace) (rms : List R) (c : Content) : Type 0 where
+pub record Leaves {R : Type 0} (look : R → Look) (past : Trace) (rms : List R) (c : Content) : Type 0 where
   pub branches : (b : Branch) → LeavesBranch past b (held_among look rms b)
   pub log : LeavesLog past c
 
 -- ** why nothing can go on from there
 
 -- the incarnation was raised, and some branch was started that no earlier incarnation left
-pub record FindsNewer {R L : Type 0} (look : Looks R) (logs : DecisionLog.Ghosts L) (rms : List R) (handed : L) : Type 0 where
+pub record FindsNewer {R L : Type 0} (look : R → Look) (logs : DecisionLog.Ghosts L) (rms : List R) (handed : L) : Type 0 where
   pub incarnation : ℕ
   pub newer : HasNewer look incarnation rms
   pub left : L

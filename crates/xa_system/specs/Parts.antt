@@ -23,7 +23,7 @@ use Rattle.xa_log.specs.Content.{last_number}
 use Rattle.xa_line.specs.Histories.{LineStands}
 use Rattle.xa_log.specs.Contract.{Moment}
 use Rattle.xa_system.specs.LogInHistory.{LogFollows}
-use Rattle.xa_system.specs.RmInHistory.{BeginsOver, Looks, RmStands, looks, scan_by}
+use Rattle.xa_system.specs.RmInHistory.{BeginsOver, RmStands, scan_by}
 use Rattle.xa_system.specs.Steps.{IsSame}
 use Rattle.xa_system.specs.Trace.{IsKept}
 use Rattle.xa_rm.specs.declared.fault.RmFault.{RmFault}
@@ -37,30 +37,31 @@ use Rattle.xa_tm.specs.LedgerBook.{IsSound}
 use Rattle.xa_tm.specs.Calls.{book_in, log_in}
 use Rattle.xa_tm.specs.Limits.{HasRoomForRun, happenings}
 use Rattle.xa_tm.specs.declared.manager.Manager.{Manager}
+use Rattle.xa_rm.specs.Look.{Look}
 
 -- what contracts see of the resource managers and the log of a system
 pub record Sees (R L : Type 0) : Type 1 where
-  pub look : Looks R
+  pub look : R → Look
   pub moment : L → Moment
 
-abbrev pub sees : {R L : Type 0} → (R → Xid → HeldBranch) → (R → ℕ → Scan Xid) → (R → List Xid) → (L → Moment) → Sees R L
-sees held_of scan_of in_doubt_of moment = record { look = looks held_of scan_of in_doubt_of; moment = moment }
+abbrev pub sees : {R L : Type 0} → (R → Look) → (L → Moment) → Sees R L
+sees look moment = record { look = look; moment = moment }
 
 -- ** the start
 
 -- what the resource managers hold, the first being number 0, and none beyond them
-abbrev pub held_at_rm : {R : Type 0} → Looks R → List R → (rm : ℕ) → Xid → HeldBranch
-held_at_rm look rms r = option_map_or look.held_of (slice_get rms r) (λ x. new_branch)
+abbrev pub held_at_rm : {R : Type 0} → (R → Look) → List R → (rm : ℕ) → Xid → HeldBranch
+held_at_rm look rms r = option_map_or (λ rm. (look rm).held) (slice_get rms r) (λ x. new_branch)
 
-abbrev pub doubt_in : {R : Type 0} → Looks R → List R → (rm : ℕ) → List Xid
-doubt_in look rms r = option_map_or look.in_doubt_of (slice_get rms r) []
+abbrev pub doubt_in : {R : Type 0} → (R → Look) → List R → (rm : ℕ) → List Xid
+doubt_in look rms r = option_map_or (λ rm. (look rm).in_doubt) (slice_get rms r) []
 
 -- where the first thread's scan stands: behind an identifier, whatever that names
-abbrev pub first_scan : {R : Type 0} → Looks R → List R → (rm : ℕ) → Scan Name
-first_scan look rms r = option_map_or (λ rm. scan_by (λ x. Foreign x) (look.scan_of rm 0)) (slice_get rms r) NotOpen
+abbrev pub first_scan : {R : Type 0} → (R → Look) → List R → (rm : ℕ) → Scan Name
+first_scan look rms r = option_map_or (λ rm. scan_by (λ x. Foreign x) ((look rm).scan 0)) (slice_get rms r) NotOpen
 
 -- where a system starts whose manager begins so
-abbrev pub origin_from : {R : Type 0} → Looks R → (threads : ℕ) → List R
+abbrev pub origin_from : {R : Type 0} → (R → Look) → (threads : ℕ) → List R
     → (incarnation : ℕ) → List Row → List Recorded → Origin
 origin_from look threads rms incarnation rows records = record {
   threads = threads;

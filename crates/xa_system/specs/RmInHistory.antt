@@ -15,16 +15,7 @@ use Rattle.xa_model.specs.Trace.{Origin, Trace}
 use Rattle.xa_base.specs.declared.branch.Branch.{Branch}
 use Rattle.xa_log.specs.Content.{last_number}
 use Rattle.xa_base.specs.Xid.{Xid}
-
--- what a contract sees of a resource manager: the branch of each identifier, the scan of each thread, and what is in
--- doubt
-pub record Looks (R : Type 0) : Type 0 where
-  pub held_of : R → Xid → HeldBranch
-  pub scan_of : R → ℕ → Scan Xid
-  pub in_doubt_of : R → List Xid
-
-abbrev pub looks : {R : Type 0} → (R → Xid → HeldBranch) → (R → ℕ → Scan Xid) → (R → List Xid) → Looks R
-looks held_of scan_of in_doubt_of = record { held_of = held_of; scan_of = scan_of; in_doubt_of = in_doubt_of }
+use Rattle.xa_rm.specs.Look.{Look}
 
 -- ** branches
 
@@ -70,6 +61,6 @@ pub record BeginsOver (o : Origin) : Type 0 where
 -- ** the whole
 
 -- what a contract sees of a resource manager is what the history says: its branches, and the first thread's scan
-pub record RmStands {R : Type 0} (look : Looks R) (tr : Trace) (r : ℕ) (rm : R) : Type 0 where
-  pub branches : BranchesStand tr r (look.held_of rm)
-  pub scan : look.scan_of rm 0 ≡ scan_by xid_of_name (scan tr r)
+pub record RmStands {R : Type 0} (look : R → Look) (tr : Trace) (r : ℕ) (rm : R) : Type 0 where
+  pub branches : BranchesStand tr r (look rm).held
+  pub scan : (look rm).scan 0 ≡ scan_by xid_of_name (scan tr r)

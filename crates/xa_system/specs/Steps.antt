@@ -1,8 +1,6 @@
 -- What each step does to a resource manager and to a line, whatever the history.
-use Rattle.std.specs.Prelude.{◌≡◌, ◌==◌, ℕ, List, [], length, if◌then◌else◌, Some, slice_get}
-use Rattle.xa_base.specs.Scan.{Scan.NotOpen}
+use Rattle.std.specs.Prelude.{◌≡◌, ℕ, List, [], length, Some, slice_get}
 use Rattle.xa_system.specs.declared.site.Site.{Site}
-use Rattle.xa_base.specs.HeldBranch.{broken_by, crashed, held_after}
 use Rattle.xa_model.specs.Replies.ReadBack.{CallHasXid}
 use Rattle.xa_base.specs.Recover.{IsInDoubtList}
 use Rattle.xa_base.specs.Xid.{Xid}
@@ -13,26 +11,24 @@ use Rattle.xa_base.specs.declared.refusal.Refusal.TheVariants as Refusals
 use Rattle.xa_base.specs.declared.reply.Reply.{Reply}
 use Rattle.xa_base.specs.declared.reply.Reply.TheVariants as Replies
 use Rattle.xa_line.specs.Traffic.{PassesOn, Traffic, with_one_more}
-use Rattle.xa_rm.specs.ResourceManager.{answer_to, scan_after_call}
-use Rattle.xa_system.specs.RmInHistory.{Looks}
+use Rattle.xa_rm.specs.ResourceManager as rms
+use Rattle.xa_rm.specs.ResourceManager.{Keeps}
+use Rattle.xa_rm.specs.Look.{Look}
 
 -- how many identifiers an answer lists
 abbrev pub page_len : Answer Xid → ℕ
 page_len (Answers.Ret code) = 0
 page_len (Answers.Page xids) = length xids
 
-module _ {R : Type 0} (look : Looks R) where
+module _ {R : Type 0} (look : R → Look) where
   -- the resource manager holds what it held
-  pub record IsSame (old new : R) : Type 0 where
-    pub held : (x : Xid) → look.held_of new x ≡ look.held_of old x
-    pub scans : (t : ℕ) → look.scan_of new t ≡ look.scan_of old t
+  abbrev pub IsSame : R → R → Type 0
+  IsSame old new = Keeps (look old) (look new)
 
-  -- it answered a thread's call
+  -- it answered a thread's call, and all that was in doubt is listed
   pub record Applies (thread : ℕ) (call : Call Xid) (answer : Answer Xid) (old new : R) : Type 0 where
-    pub answers : answer ≡ answer_to (look.held_of old) (look.scan_of old thread) (look.in_doubt_of old) call
-    pub held : (x : Xid) → look.held_of new x ≡ held_after thread call x (look.held_of old x)
-    pub scans : (t : ℕ) → look.scan_of new t ≡ scan_after_call thread call (look.in_doubt_of old) t (look.scan_of old t)
-    pub listed : IsInDoubtList (look.held_of old) (look.in_doubt_of old)
+    pub answers : rms.Answers thread call answer (look old) (look new)
+    pub listed : IsInDoubtList (look old).held (look old).in_doubt
 
   -- a call was taken from the line and answered
   pub record TakesOne (thread : ℕ) (call : Call Xid) (answer : Answer Xid)
@@ -50,14 +46,12 @@ module _ {R : Type 0} (look : Looks R) where
   Takes thread old new before after reply = ⊥
 
   -- it crashed, or all its lines broke
-  pub record Crashes (old new : R) : Type 0 where
-    pub held : (x : Xid) → look.held_of new x ≡ crashed (look.held_of old x)
-    pub scans : (t : ℕ) → look.scan_of new t ≡ NotOpen
+  abbrev pub Crashes : R → R → Type 0
+  Crashes old new = rms.Crashes (look old) (look new)
 
   -- a line of a thread broke
-  pub record Breaks (thread : ℕ) (old new : R) : Type 0 where
-    pub held : (x : Xid) → look.held_of new x ≡ broken_by thread (look.held_of old x)
-    pub scans : (t : ℕ) → look.scan_of new t ≡ (if t == thread then NotOpen else look.scan_of old t)
+  abbrev pub Breaks : (thread : ℕ) → R → R → Type 0
+  Breaks thread old new = rms.Breaks thread (look old) (look new)
 
   -- the lines of all of them broke, and each that was up is up
   pub record AllCrash (old new : List (Site R)) : Type 0 where

@@ -26,7 +26,7 @@ use Rattle.xa_line.specs.Histories.{LineStands}
 use Rattle.xa_system.specs.LogInHistory.{AreTied, IsBeforeNext, LogStands, MayBeLeft, MayRestartOver, StartsOver, greatest_count, log_faults, log_faults_but_restarts}
 use Rattle.xa_system.specs.Parts.{Sees, Stands, origin_from, origin_of}
 use Rattle.xa_system.specs.declared.system.TheConstants.{EVENT_LIMIT}
-use Rattle.xa_system.specs.RmInHistory.{Looks, RmStands, looks}
+use Rattle.xa_system.specs.RmInHistory.{RmStands}
 use Rattle.xa_system.specs.Steps.{IsSame}
 use Rattle.xa_system.specs.declared.parts.Parts.{Parts}
 use Rattle.xa_system.specs.declared.system.System.TheInside.{Inside}
@@ -40,16 +40,16 @@ use Rattle.xa_tm.specs.Slots.{slot_moment}
 use Rattle.xa_tm.specs.BookAndLog.{IsTied}
 use Rattle.xa_tm.specs.declared.slot.Slot.{Slot}
 use Rattle.xa_tm.specs.declared.manager.Manager.{Manager}
+use Rattle.xa_rm.specs.Look.{Look}
 
 -- what contracts see of the resource managers, of a log, and of the place that a system has for one
 pub record Observes (R L : Type 0) : Type 1 where
-  pub look : Looks R
+  pub look : R → Look
   pub moment : L → Moment
   pub place : Slot L → Moment
 
-abbrev pub observes : {R L : Type 0} → (R → Xid → HeldBranch) → (R → ℕ → Scan Xid) → (R → List Xid) → (L → Moment) → Observes R L
-observes held_of scan_of in_doubt_of moment =
-    record { look = looks held_of scan_of in_doubt_of; moment = moment; place = slot_moment moment }
+abbrev pub observes : {R L : Type 0} → (R → Look) → (L → Moment) → Observes R L
+observes look moment = record { look = look; moment = moment; place = slot_moment moment }
 
 -- `start` has the resource managers and `first` the log as they were handed in; `begun` is the place of that log as the
 -- manager began over it, and `incarnation`, `rows` and `records` are what it began with; `handed` is the log as it was
@@ -83,11 +83,11 @@ view_of a = record {
 }
 
 -- where the system started
-abbrev pub origin_in : {R L : Type 0} → Looks R → SystemView R L → Origin
+abbrev pub origin_in : {R L : Type 0} → (R → Look) → SystemView R L → Origin
 origin_in look s = origin_from look s.lines.threads s.start s.incarnation s.rows s.records
 
 -- its history
-abbrev pub trace_in : {R L : Type 0} → Looks R → SystemView R L → Trace
+abbrev pub trace_in : {R L : Type 0} → (R → Look) → SystemView R L → Trace
 trace_in look s = history (origin_in look s) s.events
 
 module _ {R L : Type 0} (see : Observes R L) where
@@ -204,11 +204,11 @@ pub record IsStarted {L : Type 0} (threads rms : ℕ) (manager : Manager L) : Ty
   pub sound : books.IsSound (book_in manager)
   pub room : HasRoomForRun (book_in manager)
 
-module _ {R : Type 0} (look : Looks R) where
+module _ {R : Type 0} (look : R → Look) where
   -- no branch of this manager's format was ever started there, and what is in doubt is listed
   pub record IsClear (rm : R) : Type 0 where
-    pub no_branch : HoldsNoFormat (look.held_of rm) own_format
-    pub listed : IsInDoubtList (look.held_of rm) (look.in_doubt_of rm)
+    pub no_branch : HoldsNoFormat (look rm).held own_format
+    pub listed : IsInDoubtList (look rm).held (look rm).in_doubt
 
   abbrev pub AreClear : List R → Type 0
   AreClear rms = (r : ℕ) (rm : R) → slice_get rms r ≡ Some rm → IsClear rm
@@ -218,13 +218,13 @@ module _ {R : Type 0} (look : Looks R) where
     pub place : ℕ
     pub rm : R
     pub there : slice_get rms place ≡ Some rm
-    pub holds : HoldsFormat (look.held_of rm) own_format
+    pub holds : HoldsFormat (look rm).held own_format
 
   -- each branch of this manager that was ever started there is one that earlier incarnations may have left at the resource
   -- manager of this number, and what is in doubt is listed
   pub record IsOfPast (incarnation r : ℕ) (rm : R) : Type 0 where
-    pub past : HoldsPast (look.held_of rm) r incarnation
-    pub listed : IsInDoubtList (look.held_of rm) (look.in_doubt_of rm)
+    pub past : HoldsPast (look rm).held r incarnation
+    pub listed : IsInDoubtList (look rm).held (look rm).in_doubt
 
   abbrev pub ArePast : (incarnation : ℕ) → List R → Type 0
   ArePast incarnation rms = (r : ℕ) (rm : R) → slice_get rms r ≡ Some rm → IsOfPast incarnation r rm
@@ -234,7 +234,7 @@ module _ {R : Type 0} (look : Looks R) where
     pub place : ℕ
     pub rm : R
     pub there : slice_get rms place ≡ Some rm
-    pub holds : HoldsNewer (look.held_of rm) place incarnation
+    pub holds : HoldsNewer (look rm).held place incarnation
 
 abbrev pub new_site : {R : Type 0} → R → Site R
 new_site rm = record { rm = rm; is_up = true }

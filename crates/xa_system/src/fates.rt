@@ -3,7 +3,6 @@ ghost use Rattle.std.specs.Prelude.{◌≡◌, ◌↔◌, Contains, IfOk};
 ghost use Rattle.std.specs.List.Sorted.{IsStrictlySortedBy};
 ghost use Rattle.std.specs.Map.{keys_of};
 ghost use Rattle.xa_base.specs.Xid.{xid_cmp};
-ghost use Rattle.xa_system.specs.RmInHistory.{looks};
 
 use crate::system::System;
 use std::alloc::Global;
@@ -22,7 +21,7 @@ impl<R: ResourceManager + Drop, L: DecisionLog + Drop> System<R, L> {
     /// What became of a branch; `Unstarted` where the identifier names no branch of this system.
     pub fn fate(&self, xid: &Xid) -> Fate
         ensures own { (b : Branch) → IsOwnIn self.now b → xid.now ≡ xid_of_branch b →
-            result ≡ fate (trace_in (looks R.held_of R.scan_of R.in_doubt_of) self.now) b }
+            result ≡ fate (trace_in R.look self.now) b }
         ensures other { ((b : Branch) → IsOwnIn self.now b → xid.now ≡ xid_of_branch b → ⊥) →
             result ≡ Fates.Unstarted }
     {
@@ -37,8 +36,8 @@ impl<R: ResourceManager + Drop, L: DecisionLog + Drop> System<R, L> {
     /// All branches whose xa_start was accepted, in the order of their identifiers, each with what became of it.
     pub fn report(&self, alloc: Global) -> Result<Vec<(Xid, Fate)>, Memory>
         ensures in_order { IfOk result (λ list. IsStrictlySortedBy xid_cmp (keys_of list.items)) }
-        ensures listed { IfOk result (λ list. (x : _) (f : _) → Contains list.items (x, f)
-            ↔ IsReported (trace_in (looks R.held_of R.scan_of R.in_doubt_of) self.now) x f) }
+        ensures listed { IfOk result (λ list. (x : _) (f : _) →
+            Contains list.items (x, f) ↔ IsReported (trace_in R.look self.now) x f) }
     {
         let branches = self.parts.manager.started()?;
         let mut list = Vec::with_capacity(alloc, branches.len())?;

@@ -45,11 +45,9 @@ impl<R: ResourceManager + Drop, L: DecisionLog + Drop> Parts<R, L> {
 
     /// Does a step, or refuses it.
     pub(crate) fn step(&mut self, step: &Step) -> Twin
-        requires stands { StandsSomewhere
-            (sees R.held_of R.scan_of R.in_doubt_of L.moment) self.old }
+        requires stands { StandsSomewhere (sees R.look L.moment) self.old }
         requires has_xids { StepHasXids step.now }
-        ensures goes { GoesOn (sees R.held_of R.scan_of R.in_doubt_of L.moment)
-            step.now result self.old self.new }
+        ensures goes { GoesOn (sees R.look L.moment) step.now result self.old self.new }
         ensures read { (i d h : ℕ) → step.now ≡ Steps.Restart Sides.Manager →
             result ≡ Replies.Restarted i d h →
             IsReadFrom L.DecisionLog i d h (log_in self.old.manager) (log_in self.new.manager) }

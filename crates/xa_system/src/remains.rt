@@ -3,7 +3,6 @@ ghost use Rattle.std.specs.Prelude.{◌≡◌, ◌+◌, ◌++◌, ◌≤◌, Som
 ghost use Rattle.std.specs.Vec.{vec_capacity};
 ghost use Rattle.xa_log.specs.Content.{Content};
 ghost use Rattle.xa_system.specs.NextProcess.{Leaves};
-ghost use Rattle.xa_system.specs.RmInHistory.{looks};
 ghost use Rattle.xa_system.specs.SystemView.{MayRestart, observes, trace_in};
 ghost use Rattle.xa_tm.specs.Slots.{log_held, slot_moment};
 
@@ -42,12 +41,10 @@ impl<R: ResourceManager + Drop, L: DecisionLog + Drop> System<R, L> {
         ensures err { IfErr result (λ system. system ≡ self) }
         // What is left is what the history leaves.
         ensures left { (L.moment self.handed).is_in_order →
-            (slot_moment L.moment self.log).is_honest →
-            MayRestart (observes R.held_of R.scan_of R.in_doubt_of L.moment) self →
+            (slot_moment L.moment self.log).is_honest → MayRestart (observes R.look L.moment) self →
             IfOk result (λ remains. (log : L) (content : Content) → remains.log ≡ Some log →
-            (L.moment log).content ≡ Some content →
-            Leaves (looks R.held_of R.scan_of R.in_doubt_of)
-            (trace_in (looks R.held_of R.scan_of R.in_doubt_of) self) remains.rms.items content) }
+            (L.moment log).content ≡ Some content → Leaves R.look (trace_in R.look self)
+            remains.rms.items content) }
         // So the log is one over which the next system may start.
         ensures order { (L.moment self.handed).is_in_order →
             IfOk result (λ remains. (log : L) → remains.log ≡ Some log →

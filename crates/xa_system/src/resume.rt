@@ -4,7 +4,6 @@ ghost use Rattle.xa_model.specs.Promises.Processes.{Resumes};
 ghost use Rattle.xa_model.specs.Protocol.{RightOrigin};
 ghost use Rattle.xa_model.specs.Trace.{Trace};
 ghost use Rattle.xa_system.specs.NextProcess.{FindsNewer, Leaves};
-ghost use Rattle.xa_system.specs.RmInHistory.{looks};
 ghost use Rattle.xa_system.specs.StartFaults.{IsToBlame};
 ghost use Rattle.xa_system.specs.Steps.{AreCrashed};
 ghost use Rattle.xa_system.specs.SystemView.{AreClear, ArePast, HasNewer, HasWrongSize, HoldsItsTrace, MayRestart};
@@ -47,10 +46,8 @@ pub enum ResumeFault {
 /// is.
 fn are_past<R: ResourceManager + Drop>(sites: &[Site<R>], incarnation: u64) -> bool
     requires few { length sites.now ≤ 8 }
-    ensures past { result ≡ true → ArePast (looks R.held_of R.scan_of R.in_doubt_of) incarnation
-        (map (λ site. site.rm) sites.now) }
-    ensures newer { result ≡ false → HasNewer (looks R.held_of R.scan_of R.in_doubt_of) incarnation
-        (map (λ site. site.rm) sites.now) }
+    ensures past { result ≡ true → ArePast R.look incarnation (map (λ site. site.rm) sites.now) }
+    ensures newer { result ≡ false → HasNewer R.look incarnation (map (λ site. site.rm) sites.now) }
 {
     for rm in 0..sites.len() {
         let site = &sites[rm];
@@ -79,24 +76,19 @@ impl<R: ResourceManager + Drop, L: DecisionLog + Drop> System<R, L> {
         ensures limit { HasWrongSize threads (vec_len rms) → result ≡ Err ResumeFault.Limit }
         ensures only_limit { result ≡ Err ResumeFault.Limit → HasWrongSize threads (vec_len rms) }
         ensures log_fault { result ≡ Err ResumeFault.Log → IsToBlame L.DecisionLog log }
-        ensures newer { IfOk result (λ system.
-            HasNewer (looks R.held_of R.scan_of R.in_doubt_of) system.incarnation rms.items → ⊥) }
+        ensures newer { IfOk result (λ system. HasNewer R.look system.incarnation rms.items → ⊥) }
         ensures only_newer { result ≡ Err ResumeFault.Newer →
-            FindsNewer (looks R.held_of R.scan_of R.in_doubt_of) L.DecisionLog rms.items log }
+            FindsNewer R.look L.DecisionLog rms.items log }
         // What is made.
-        ensures ok { IfOk result
-            (λ system. (system.events ≡ []) × (system.start ≡ system.rms)
-            × AreCrashed (looks R.held_of R.scan_of R.in_doubt_of) rms.items system.start
-            × (system.lines.threads ≡ threads) × HoldsItsTrace
-            (observes R.held_of R.scan_of R.in_doubt_of L.moment) system) }
-        ensures fresh { AreClear (looks R.held_of R.scan_of R.in_doubt_of) rms.items →
-            IfOk result (λ system.
-            RightOrigin (origin_in (looks R.held_of R.scan_of R.in_doubt_of) system)) }
+        ensures ok { IfOk result (λ system. (system.events ≡ []) × (system.start ≡ system.rms)
+            × AreCrashed R.look rms.items system.start × (system.lines.threads ≡ threads)
+            × HoldsItsTrace (observes R.look L.moment) system) }
+        ensures fresh { AreClear R.look rms.items →
+            IfOk result (λ system. RightOrigin (origin_in R.look system)) }
         ensures follows { (L.moment log).is_in_order →
             IfOk result (λ system. (slot_moment L.moment system.log).is_honest →
             IsSomeAnd (L.moment log).content (λ content. (past : Trace) →
-            Leaves (looks R.held_of R.scan_of R.in_doubt_of) past rms.items content →
-            Resumes past (origin_in (looks R.held_of R.scan_of R.in_doubt_of) system))) }
+            Leaves R.look past rms.items content → Resumes past (origin_in R.look system))) }
         // Its log.
         ensures handed { IfOk result (λ system. (system.handed ≡ log) × (system.first ≡ log)) }
         ensures held { IfOk result
@@ -110,10 +102,10 @@ impl<R: ResourceManager + Drop, L: DecisionLog + Drop> System<R, L> {
             IsSomeAnd (L.moment log).content IsPast) }
         ensures near { (L.moment log).is_in_order →
             IfOk result (λ system. (slot_moment L.moment system.log).is_honest →
-            MayRestart (observes R.held_of R.scan_of R.in_doubt_of L.moment) system) }
+            MayRestart (observes R.look L.moment) system) }
         ensures crash { (L.moment log).is_in_order →
             IfOk result (λ system. (slot_moment L.moment system.log).is_honest →
-            MayRestartAfterCrash (observes R.held_of R.scan_of R.in_doubt_of L.moment) system) }
+            MayRestartAfterCrash (observes R.look L.moment) system) }
     {
         if threads == 0 || threads > 8 || rms.is_empty() || rms.len() > 8 {
             return Err(ResumeFault::Limit);

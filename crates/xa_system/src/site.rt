@@ -9,7 +9,6 @@ ghost use Rattle.xa_base.specs.declared.refusal.Refusal.TheVariants as Refusals;
 ghost use Rattle.xa_line.specs.Grid.{new_grid};
 ghost use Rattle.xa_line.specs.Traffic.{barred, issued, places};
 ghost use Rattle.xa_system.specs.Lines.{with_more};
-ghost use Rattle.xa_system.specs.RmInHistory.{looks};
 ghost use Rattle.xa_system.specs.Steps.{AllCrash, Applies, AreCrashed, HearsOne, IsSame, Takes};
 
 use crate::spare::Spare;
@@ -42,11 +41,11 @@ fn apply_thrice<R: ResourceManager>(
     thread: u32,
     call: &Call,
 ) -> Result<(Answer, Answer, Answer), Memory>
-    ensures applied { IfOk result (λ answers.
-        Applies (looks R.held_of R.scan_of R.in_doubt_of) thread call.now answers.0 rm.old rm.new) }
+    ensures applied { IfOk result (λ answers. Applies R.look thread call.now answers.0 rm.old
+        rm.new) }
     ensures second { IfOk result (λ answers. answers.1 ≡ answers.0) }
     ensures third { IfOk result (λ answers. answers.2 ≡ answers.0) }
-    ensures err { OnErr result (IsSame (looks R.held_of R.scan_of R.in_doubt_of) rm.old rm.new) }
+    ensures err { OnErr result (IsSame R.look rm.old rm.new) }
 {
     let len = rm.in_doubt_len();
     let second = Spare::new(alloc, len)?;
@@ -66,8 +65,7 @@ pub(crate) fn take<R: ResourceManager>(
     thread: u32,
 ) -> Twin
     requires { length line.old.answers.waiting < places }
-    ensures { Takes (looks R.held_of R.scan_of R.in_doubt_of) thread rm.old rm.new line.old line.new
-        result }
+    ensures { Takes R.look thread rm.old rm.new line.old line.new result }
 {
     let Some(call) = line.front() else {
         return Twin::new(Reply::Nothing, Reply::Nothing);
@@ -86,7 +84,7 @@ pub(crate) fn take<R: ResourceManager>(
 
 /// All lines of all resource managers break.
 pub(crate) fn crash_all<R: ResourceManager + Drop>(sites: &mut Vec<Site<R>>)
-    ensures { AllCrash (looks R.held_of R.scan_of R.in_doubt_of) sites.old.items sites.new.items }
+    ensures { AllCrash R.look sites.old.items sites.new.items }
 {
     for rm in 0..sites.len() {
         sites[rm].rm.crash();
@@ -95,7 +93,7 @@ pub(crate) fn crash_all<R: ResourceManager + Drop>(sites: &mut Vec<Site<R>>)
 
 /// All lines of resource managers that aren't part of a system yet break.
 pub(crate) fn crash_rms<R: ResourceManager>(rms: &mut Vec<R>)
-    ensures { AreCrashed (looks R.held_of R.scan_of R.in_doubt_of) rms.old.items rms.new.items }
+    ensures { AreCrashed R.look rms.old.items rms.new.items }
 {
     for rm in 0..rms.len() {
         rms[rm].crash();
@@ -136,8 +134,7 @@ pub(crate) fn undone<R: ResourceManager + Drop>(
     refusal: Refusal,
 ) -> Twin
     ensures reply { result ≡ Replies.Refused refusal }
-    ensures failed { refusal ≡ Refusals.LogFault →
-        AllCrash (looks R.held_of R.scan_of R.in_doubt_of) sites.old.items sites.new.items }
+    ensures failed { refusal ≡ Refusals.LogFault → AllCrash R.look sites.old.items sites.new.items }
     ensures broken { refusal ≡ Refusals.LogFault →
         lines.new ≡ new_grid lines.old.threads lines.old.rms }
     ensures sites_stay { refusal ≢ Refusals.LogFault → sites.new ≡ sites.old }

@@ -18,7 +18,6 @@ ghost use Rattle.xa_model.specs.Trace.{Happening.Nothing, Trace};
 ghost use Rattle.xa_system.specs.LogInHistory.{IsBeforeNext, MayHaveFailed};
 ghost use Rattle.xa_system.specs.SystemView.{AddsSteps, FaultsHaveCauses, HoldsItsTrace, IsAsBefore, IsFailed, MayRestart};
 ghost use Rattle.xa_system.specs.SystemView.{MayRestartAfterCrash, OtherFaultsHaveCauses, observes, origin_in, trace_in};
-ghost use Rattle.xa_system.specs.RmInHistory.{looks};
 ghost use Rattle.xa_tm.specs.Slots.{log_held, slot_moment};
 
 use crate::system::{EVENT_LIMIT, System};
@@ -58,34 +57,28 @@ impl<R: ResourceManager + Drop, L: DecisionLog + Drop> System<R, L> {
         ensures adds { length self.old.events < EVENT_LIMIT →
             self.new.events ≡ self.old.events ++ record { step = step; reply = result } ∷ [] }
         ensures allowed { length self.old.events < EVENT_LIMIT →
-            Allowed (trace_in (looks R.held_of R.scan_of R.in_doubt_of) self.old)
-            (step_of step) (reply_of result) }
+            Allowed (trace_in R.look self.old) (step_of step) (reply_of result) }
         // What all events then say, and where the parts are.
-        ensures headline { RightOrigin
-            (origin_in (looks R.held_of R.scan_of R.in_doubt_of) self.new) → Headline
-            (origin_in (looks R.held_of R.scan_of R.in_doubt_of) self.new) self.new.events }
+        ensures headline { RightOrigin (origin_in R.look self.new) →
+            Headline (origin_in R.look self.new) self.new.events }
         ensures resumed { (past : Trace) → AllRight past →
-            Resumes past (origin_in (looks R.held_of R.scan_of R.in_doubt_of) self.new) →
-            HeadlineSince (resumed past
-            (origin_in (looks R.held_of R.scan_of R.in_doubt_of) self.new)) self.new.events }
-        ensures parts { HoldsItsTrace
-            (observes R.held_of R.scan_of R.in_doubt_of L.moment) self.new }
-        ensures start { origin_in (looks R.held_of R.scan_of R.in_doubt_of) self.new
-            ≡ origin_in (looks R.held_of R.scan_of R.in_doubt_of) self.old }
+            Resumes past (origin_in R.look self.new) →
+            HeadlineSince (resumed past (origin_in R.look self.new)) self.new.events }
+        ensures parts { HoldsItsTrace (observes R.look L.moment) self.new }
+        ensures start { origin_in R.look self.new ≡ origin_in R.look self.old }
         ensures handed { (self.new.handed ≡ self.old.handed) × (self.new.first ≡ self.old.first)
             × (self.new.begun ≡ self.old.begun) }
         // A step that is refused, but not by the log, is nothing.
         ensures refused { (n : Refusal) → result ≡ Replies.Refused n → n ≢ Refusals.LogFault →
-            IsAsBefore (observes R.held_of R.scan_of R.in_doubt_of L.moment) self.old self.new }
+            IsAsBefore (observes R.look L.moment) self.old self.new }
         ensures nothing { (n : Refusal) → result ≡ Replies.Refused n → n ≢ Refusals.LogFault →
             happened (step_of step) (reply_of result) ≡ Nothing }
         // One in which the log failed.
         ensures down { result ≡ Replies.Refused Refusals.LogFault →
-            up (trace_in (looks R.held_of R.scan_of R.in_doubt_of) self.new) ≡ Bool.false }
+            up (trace_in R.look self.new) ≡ Bool.false }
         ensures failed { result ≡ Replies.Refused Refusals.LogFault →
             (L.moment self.old.handed).is_in_order → (slot_moment L.moment self.new.log).is_honest →
-            MayHaveFailed (trace_in (looks R.held_of R.scan_of R.in_doubt_of) self.old)
-            (log_failed (step_of step))
+            MayHaveFailed (trace_in R.look self.old) (log_failed (step_of step))
             (slot_moment L.moment self.old.log).content
             (slot_moment L.moment self.new.log).content }
         // The log, and whether a restart may follow over it.
@@ -93,32 +86,27 @@ impl<R: ResourceManager + Drop, L: DecisionLog + Drop> System<R, L> {
             (slot_moment L.moment self.old.log).is_honest }
         ensures near { (L.moment self.old.handed).is_in_order →
             (slot_moment L.moment self.new.log).is_honest →
-            MayRestart (observes R.held_of R.scan_of R.in_doubt_of L.moment) self.old →
-            MayRestart (observes R.held_of R.scan_of R.in_doubt_of L.moment) self.new }
+            MayRestart (observes R.look L.moment) self.old →
+            MayRestart (observes R.look L.moment) self.new }
         ensures crash { (L.moment self.old.handed).is_in_order →
             (slot_moment L.moment self.new.log).is_honest →
-            MayRestart (observes R.held_of R.scan_of R.in_doubt_of L.moment) self.old →
-            MayRestartAfterCrash (observes R.held_of R.scan_of R.in_doubt_of L.moment) self.old →
-            MayRestartAfterCrash (observes R.held_of R.scan_of R.in_doubt_of L.moment) self.new }
+            MayRestart (observes R.look L.moment) self.old →
+            MayRestartAfterCrash (observes R.look L.moment) self.old →
+            MayRestartAfterCrash (observes R.look L.moment) self.new }
         ensures faults { (L.moment self.old.handed).is_in_order →
             (slot_moment L.moment self.new.log).is_honest →
-            MayRestart (observes R.held_of R.scan_of R.in_doubt_of L.moment) self.old →
-            FaultsHaveCauses (observes R.held_of R.scan_of R.in_doubt_of L.moment) self.old
-            self.new }
-        ensures other_faults { OtherFaultsHaveCauses
-            (observes R.held_of R.scan_of R.in_doubt_of L.moment) self.old self.new }
+            MayRestart (observes R.look L.moment) self.old →
+            FaultsHaveCauses (observes R.look L.moment) self.old self.new }
+        ensures other_faults { OtherFaultsHaveCauses (observes R.look L.moment) self.old self.new }
         // A restart that can't be.
         ensures out { log_held self.old.log ≡ None → step ≡ Steps.Restart Sides.Manager →
-            length self.old.events < EVENT_LIMIT →
-            up (trace_in (looks R.held_of R.scan_of R.in_doubt_of) self.old) ≡ Bool.false →
+            length self.old.events < EVENT_LIMIT → up (trace_in R.look self.old) ≡ Bool.false →
             IsFailed result }
         ensures other_incarnation { (c : Content) → step ≡ Steps.Restart Sides.Manager →
-            length self.old.events < EVENT_LIMIT →
-            up (trace_in (looks R.held_of R.scan_of R.in_doubt_of) self.old) ≡ Bool.false →
+            length self.old.events < EVENT_LIMIT → up (trace_in R.look self.old) ≡ Bool.false →
             (L.moment self.old.handed).is_in_order → (slot_moment L.moment self.new.log).is_honest →
             (slot_moment L.moment self.old.log).content ≡ Some c →
-            (IsBeforeNext (trace_in (looks R.held_of R.scan_of R.in_doubt_of) self.old) c → ⊥) →
-            IsFailed result }
+            (IsBeforeNext (trace_in R.look self.old) c → ⊥) → IsFailed result }
     {
         if self.events.len() >= EVENT_LIMIT {
             self.agree();
@@ -140,17 +128,13 @@ impl<R: ResourceManager + Drop, L: DecisionLog + Drop> System<R, L> {
         ensures err { OnErr result (self.new ≡ self.old) }
         ensures adds { OnOk result (AddsSteps steps.now self.old.events self.new.events) }
         // What they then say, and where the parts are.
-        ensures headline { RightOrigin
-            (origin_in (looks R.held_of R.scan_of R.in_doubt_of) self.new) → Headline
-            (origin_in (looks R.held_of R.scan_of R.in_doubt_of) self.new) self.new.events }
+        ensures headline { RightOrigin (origin_in R.look self.new) →
+            Headline (origin_in R.look self.new) self.new.events }
         ensures resumed { (past : Trace) → AllRight past →
-            Resumes past (origin_in (looks R.held_of R.scan_of R.in_doubt_of) self.new) →
-            HeadlineSince (resumed past
-            (origin_in (looks R.held_of R.scan_of R.in_doubt_of) self.new)) self.new.events }
-        ensures parts { HoldsItsTrace
-            (observes R.held_of R.scan_of R.in_doubt_of L.moment) self.new }
-        ensures start { origin_in (looks R.held_of R.scan_of R.in_doubt_of) self.new
-            ≡ origin_in (looks R.held_of R.scan_of R.in_doubt_of) self.old }
+            Resumes past (origin_in R.look self.new) →
+            HeadlineSince (resumed past (origin_in R.look self.new)) self.new.events }
+        ensures parts { HoldsItsTrace (observes R.look L.moment) self.new }
+        ensures start { origin_in R.look self.new ≡ origin_in R.look self.old }
         ensures handed { (self.new.handed ≡ self.old.handed) × (self.new.first ≡ self.old.first)
             × (self.new.begun ≡ self.old.begun) }
         // The log, and whether a restart may follow over it.
@@ -158,20 +142,18 @@ impl<R: ResourceManager + Drop, L: DecisionLog + Drop> System<R, L> {
             (slot_moment L.moment self.old.log).is_honest }
         ensures near { (L.moment self.old.handed).is_in_order →
             (slot_moment L.moment self.new.log).is_honest →
-            MayRestart (observes R.held_of R.scan_of R.in_doubt_of L.moment) self.old →
-            MayRestart (observes R.held_of R.scan_of R.in_doubt_of L.moment) self.new }
+            MayRestart (observes R.look L.moment) self.old →
+            MayRestart (observes R.look L.moment) self.new }
         ensures crash { (L.moment self.old.handed).is_in_order →
             (slot_moment L.moment self.new.log).is_honest →
-            MayRestart (observes R.held_of R.scan_of R.in_doubt_of L.moment) self.old →
-            MayRestartAfterCrash (observes R.held_of R.scan_of R.in_doubt_of L.moment) self.old →
-            MayRestartAfterCrash (observes R.held_of R.scan_of R.in_doubt_of L.moment) self.new }
+            MayRestart (observes R.look L.moment) self.old →
+            MayRestartAfterCrash (observes R.look L.moment) self.old →
+            MayRestartAfterCrash (observes R.look L.moment) self.new }
         ensures faults { (L.moment self.old.handed).is_in_order →
             (slot_moment L.moment self.new.log).is_honest →
-            MayRestart (observes R.held_of R.scan_of R.in_doubt_of L.moment) self.old →
-            FaultsHaveCauses (observes R.held_of R.scan_of R.in_doubt_of L.moment) self.old
-            self.new }
-        ensures other_faults { OtherFaultsHaveCauses
-            (observes R.held_of R.scan_of R.in_doubt_of L.moment) self.old self.new }
+            MayRestart (observes R.look L.moment) self.old →
+            FaultsHaveCauses (observes R.look L.moment) self.old self.new }
+        ensures other_faults { OtherFaultsHaveCauses (observes R.look L.moment) self.old self.new }
     {
         if self.room() < steps.len() {
             self.agree();

@@ -10,7 +10,6 @@ ghost use Rattle.xa_model.specs.Protocol.{AllRight, RightOrigin};
 ghost use Rattle.xa_model.specs.Trace.{Trace};
 ghost use Rattle.xa_system.specs.LogInHistory.{MayHoldRows};
 ghost use Rattle.xa_system.specs.SystemView.{HoldsItsTrace, observes, origin_in, trace_in};
-ghost use Rattle.xa_system.specs.RmInHistory.{looks};
 ghost use Rattle.xa_tm.specs.Slots.{FailsToRead, LooksAt, ReadsRows, TakesIn, last_out, log_held};
 ghost use Rattle.xa_tm.specs.declared.swap_fault.SwapFault.TheVariants as SwapFault;
 
@@ -25,27 +24,21 @@ impl<R: ResourceManager + Drop, L: DecisionLog + Drop> System<R, L> {
     /// added. Until a log is put in, each restart of the manager is refused as where the log failed.
     pub fn take_log(&mut self) -> Option<L>
         // What comes out.
-        ensures up { up (trace_in (looks R.held_of R.scan_of R.in_doubt_of) self.old) ≡ Bool.true →
+        ensures up { up (trace_in R.look self.old) ≡ Bool.true →
             (result ≡ None) × (self.new ≡ self.old) }
         ensures empty { log_held self.old.log ≡ None → (result ≡ None) × (self.new ≡ self.old) }
-        ensures taken { up (trace_in (looks R.held_of R.scan_of R.in_doubt_of) self.old)
-            ≡ Bool.false →
+        ensures taken { up (trace_in R.look self.old) ≡ Bool.false →
             result ≡ log_held self.old.log }
-        ensures out { up (trace_in (looks R.held_of R.scan_of R.in_doubt_of) self.old)
-            ≡ Bool.false →
-            log_held self.new.log ≡ None }
+        ensures out { up (trace_in R.look self.old) ≡ Bool.false → log_held self.new.log ≡ None }
         ensures was { (log : L) → result ≡ Some log → last_out self.new.log ≡ log }
         // What stays.
         ensures others { self.new ≡ record self.old { log = self.new.log } }
-        ensures parts { HoldsItsTrace
-            (observes R.held_of R.scan_of R.in_doubt_of L.moment) self.new }
-        ensures headline { RightOrigin
-            (origin_in (looks R.held_of R.scan_of R.in_doubt_of) self.new) → Headline
-            (origin_in (looks R.held_of R.scan_of R.in_doubt_of) self.new) self.new.events }
+        ensures parts { HoldsItsTrace (observes R.look L.moment) self.new }
+        ensures headline { RightOrigin (origin_in R.look self.new) →
+            Headline (origin_in R.look self.new) self.new.events }
         ensures resumed { (past : Trace) → AllRight past →
-            Resumes past (origin_in (looks R.held_of R.scan_of R.in_doubt_of) self.new) →
-            HeadlineSince (resumed past
-            (origin_in (looks R.held_of R.scan_of R.in_doubt_of) self.new)) self.new.events }
+            Resumes past (origin_in R.look self.new) →
+            HeadlineSince (resumed past (origin_in R.look self.new)) self.new.events }
     {
         let log = self.parts.manager.take_log();
         self.agree();
@@ -62,13 +55,12 @@ impl<R: ResourceManager + Drop, L: DecisionLog + Drop> System<R, L> {
     /// - [`SwapFault::OtherRows`]: its rows and records are others.
     pub fn give_log(&mut self, log: L) -> Result<(), (SwapFault, L)>
         // Where no log can be put in, the one handed in isn't looked at.
-        ensures up { up (trace_in (looks R.held_of R.scan_of R.in_doubt_of) self.old) ≡ Bool.true →
+        ensures up { up (trace_in R.look self.old) ≡ Bool.true →
             (result ≡ Err (SwapFault.Up, log)) × (self.new ≡ self.old) }
         ensures held { IsSome (log_held self.old.log) →
             (result ≡ Err (SwapFault.Up, log)) × (self.new ≡ self.old) }
         ensures only_up { IfErr result (λ e. e.0 ≡ SwapFault.Up →
-            (up (trace_in (looks R.held_of R.scan_of R.in_doubt_of) self.old) ≡ Bool.true)
-            ⊎ IsSome (log_held self.old.log)) }
+            (up (trace_in R.look self.old) ≡ Bool.true) ⊎ IsSome (log_held self.old.log)) }
         // A fault changes nothing but the log that comes back.
         ensures err { OnErr result (self.new ≡ self.old) }
         ensures back { IfErr result (λ e. LooksAt (L.moment log) (L.moment e.1)) }
@@ -87,21 +79,17 @@ impl<R: ResourceManager + Drop, L: DecisionLog + Drop> System<R, L> {
             (L.moment e.1).fault_count ≡ (L.moment log).fault_count) }
         ensures only_other_rows { IfErr result (λ e. e.0 ≡ SwapFault.OtherRows →
             (L.moment log).is_in_order → (L.moment e.1).is_honest → (c : Content) →
-            (L.moment log).content ≡ Some c →
-            MayHoldRows (trace_in (looks R.held_of R.scan_of R.in_doubt_of) self.old) c → ⊥) }
+            (L.moment log).content ≡ Some c → MayHoldRows (trace_in R.look self.old) c → ⊥) }
         // The log that is put in, and what stays.
         ensures ok { OnOk result (TakesIn L.DecisionLog log (log_held self.new.log)) }
         ensures others { OnOk result
             (self.new ≡ record self.old { handed = log; log = self.new.log }) }
-        ensures parts { HoldsItsTrace
-            (observes R.held_of R.scan_of R.in_doubt_of L.moment) self.new }
-        ensures headline { RightOrigin
-            (origin_in (looks R.held_of R.scan_of R.in_doubt_of) self.new) → Headline
-            (origin_in (looks R.held_of R.scan_of R.in_doubt_of) self.new) self.new.events }
+        ensures parts { HoldsItsTrace (observes R.look L.moment) self.new }
+        ensures headline { RightOrigin (origin_in R.look self.new) →
+            Headline (origin_in R.look self.new) self.new.events }
         ensures resumed { (past : Trace) → AllRight past →
-            Resumes past (origin_in (looks R.held_of R.scan_of R.in_doubt_of) self.new) →
-            HeadlineSince (resumed past
-            (origin_in (looks R.held_of R.scan_of R.in_doubt_of) self.new)) self.new.events }
+            Resumes past (origin_in R.look self.new) →
+            HeadlineSince (resumed past (origin_in R.look self.new)) self.new.events }
     {
         let handed = Snapshot::of(&log);
         let given = self.parts.manager.give_log(log);

@@ -1,6 +1,5 @@
 //! The system: its parts, with the events that left them where they stand.
 ghost use Rattle.std.specs.Prelude.{◌≡◌, ◌+◌, true, false, [], length, Err, IfOk, IsSome, IsSomeAnd, vec_len};
-ghost use Rattle.xa_system.specs.RmInHistory.{looks};
 ghost use Rattle.xa_system.specs.SystemView.{AreClear, IsUnclear};
 ghost use Rattle.xa_system.specs.StartFaults.{IsToBlame};
 ghost use Rattle.xa_system.specs.declared.system.NewFault.{NewFault};
@@ -41,7 +40,7 @@ impl<R: ResourceManager + Drop, L: DecisionLog + Drop> Model for System<R, L> {
     ghost view = { view_of };
 
     ghost invariant = { IsSound
-        (sees R.held_of R.scan_of R.in_doubt_of (slot_moment L.moment)) L.moment };
+        (sees R.look (slot_moment L.moment)) L.moment };
 }
 
 /// Why a system can't be made.
@@ -67,8 +66,8 @@ const OWN_FORMAT: i32 = 7;
 
 /// Whether no resource manager ever held a branch of this manager's format.
 fn are_clear<R: ResourceManager>(rms: &[R]) -> bool
-    ensures clear { result ≡ true → AreClear (looks R.held_of R.scan_of R.in_doubt_of) rms.now }
-    ensures unclear { result ≡ false → IsUnclear (looks R.held_of R.scan_of R.in_doubt_of) rms.now }
+    ensures clear { result ≡ true → AreClear R.look rms.now }
+    ensures unclear { result ≡ false → IsUnclear R.look rms.now }
 {
     for rm in rms {
         if rm.holds_format(OWN_FORMAT) {
@@ -99,20 +98,16 @@ impl<R: ResourceManager + Drop, L: DecisionLog + Drop> System<R, L> {
     pub fn new(alloc: Global, threads: u32, rms: Vec<R>, log: L) -> Result<System<R, L>, NewFault>
         // Why none is made.
         ensures limit { HasWrongSize threads (vec_len rms) → result ≡ Err NewFault.Limit }
-        ensures not_clear { (HasWrongSize threads (vec_len rms) → ⊥) →
-            IsUnclear (looks R.held_of R.scan_of R.in_doubt_of) rms.items →
+        ensures not_clear { (HasWrongSize threads (vec_len rms) → ⊥) → IsUnclear R.look rms.items →
             result ≡ Err NewFault.NotClear }
         ensures only_limit { result ≡ Err NewFault.Limit → HasWrongSize threads (vec_len rms) }
-        ensures only_not_clear { result ≡ Err NewFault.NotClear →
-            IsUnclear (looks R.held_of R.scan_of R.in_doubt_of) rms.items }
+        ensures only_not_clear { result ≡ Err NewFault.NotClear → IsUnclear R.look rms.items }
         ensures log_fault { result ≡ Err NewFault.Log → IsToBlame L.DecisionLog log }
         // What is made.
-        ensures ok { IfOk result
-            (λ system. (system.events ≡ []) × (system.start ≡ rms.items) × (system.rms ≡ rms.items)
-            × (system.lines.threads ≡ threads) × HoldsItsTrace
-            (observes R.held_of R.scan_of R.in_doubt_of L.moment) system) }
-        ensures right { IfOk result (λ system.
-            RightOrigin (origin_in (looks R.held_of R.scan_of R.in_doubt_of) system)) }
+        ensures ok { IfOk result (λ system. (system.events ≡ []) × (system.start ≡ rms.items)
+            × (system.rms ≡ rms.items) × (system.lines.threads ≡ threads) × HoldsItsTrace
+            (observes R.look L.moment) system) }
+        ensures right { IfOk result (λ system. RightOrigin (origin_in R.look system)) }
         // Its log.
         ensures handed { IfOk result (λ system. (system.handed ≡ log) × (system.first ≡ log)) }
         ensures held { IfOk result
@@ -126,10 +121,10 @@ impl<R: ResourceManager + Drop, L: DecisionLog + Drop> System<R, L> {
             IsSomeAnd (L.moment log).content IsPast) }
         ensures near { (L.moment log).is_in_order →
             IfOk result (λ system. (slot_moment L.moment system.log).is_honest →
-            MayRestart (observes R.held_of R.scan_of R.in_doubt_of L.moment) system) }
+            MayRestart (observes R.look L.moment) system) }
         ensures crash { (L.moment log).is_in_order →
             IfOk result (λ system. (slot_moment L.moment system.log).is_honest →
-            MayRestartAfterCrash (observes R.held_of R.scan_of R.in_doubt_of L.moment) system) }
+            MayRestartAfterCrash (observes R.look L.moment) system) }
     {
         if threads == 0 || threads > 8 || rms.is_empty() || rms.len() > 8 {
             return Err(NewFault::Limit);
@@ -170,15 +165,12 @@ impl<R: ResourceManager + Drop, L: DecisionLog + Drop> System<R, L> {
 
     /// What all that happened so far means, at every moment of it. Nothing is done.
     pub fn agree(&self)
-        ensures parts { HoldsItsTrace
-            (observes R.held_of R.scan_of R.in_doubt_of L.moment) self.now }
-        ensures headline { RightOrigin
-            (origin_in (looks R.held_of R.scan_of R.in_doubt_of) self.now) → Headline
-            (origin_in (looks R.held_of R.scan_of R.in_doubt_of) self.now) self.now.events }
+        ensures parts { HoldsItsTrace (observes R.look L.moment) self.now }
+        ensures headline { RightOrigin (origin_in R.look self.now) →
+            Headline (origin_in R.look self.now) self.now.events }
         ensures resumed { (past : Trace) → AllRight past →
-            Resumes past (origin_in (looks R.held_of R.scan_of R.in_doubt_of) self.now) →
-            HeadlineSince (resumed past
-            (origin_in (looks R.held_of R.scan_of R.in_doubt_of) self.now)) self.now.events }
+            Resumes past (origin_in R.look self.now) →
+            HeadlineSince (resumed past (origin_in R.look self.now)) self.now.events }
     {
         let _ = &self.events;
         xa_model::headline_holds();

@@ -50,7 +50,7 @@ AreInOrder fates = IsStrictlySortedBy xid_cmp (map (λ f. f.0) fates)
 
 -- what a resource manager in memory holds of each identifier
 abbrev pub held_in_memory : MemRm → Xid → HeldBranch
-held_in_memory = (memory.ghosts).held_of
+held_in_memory rm = ((memory.ghosts).look rm).held
 
 abbrev pub fate_in : MemRm → Xid → Fate
 fate_in rm x = fate_of (held_in_memory rm x).standing

@@ -46,7 +46,7 @@ module _ {R L : Type 0} (see : Sees R (Slot L)) (moment : L → Moment) (a : Ins
       }
 
   at_rm : (b : Branch) (o : Option R) → slice_get rms b.rm ≡ o → IsBranch b
-      → LeavesBranch tr b (option_map_or see.look.held_of o (λ x. new_branch) (xid_of_branch b))
+      → LeavesBranch tr b (option_map_or (λ rm. (see.look rm).held) o (λ x. new_branch) (xid_of_branch b))
   at_rm b (Some rm) at own =
       let held = ((holds see moment a sound).rms b.rm rm at).branches.own b own refl in
       record {

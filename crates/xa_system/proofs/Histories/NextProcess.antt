@@ -18,27 +18,27 @@ use Rattle.xa_tm.specs.declared.slot.Slot.{Slot}
 use Rattle.xa_system.specs.LogInHistory.{StartsOver}
 use Rattle.xa_system.specs.NextProcess.{FindsNewer, Leaves, held_among}
 use Rattle.xa_system.specs.Parts.{held_at_rm, origin_from}
-use Rattle.xa_system.specs.RmInHistory.{Looks}
 use Rattle.xa_system.specs.Steps.{AreCrashed}
 use Rattle.xa_system.specs.SystemView.{HasNewer}
 use Rattle.xa_system.proofs.Histories.Past.{crashed_from, newer_before}
 use Rattle.xa_system.proofs.Log.NextLog.{next_records, next_rows}
+use Rattle.xa_rm.specs.Look.{Look}
 
-module _ {R : Type 0} (look : Looks R) (old new : List R) (crashes : AreCrashed look old new) where
+module _ {R : Type 0} (look : R → Look) (old new : List R) (crashes : AreCrashed look old new) where
   -- what is held after the crash
   held_crashed : (r : ℕ) (x : Xid) → held_at_rm look new r x ≡ crashed (held_at_rm look old r x)
   held_crashed r x = from_option (slice_get new r) refl
     where
-      none_old : (o : Option R) → slice_get old r ≡ o → slice_get new r ≡ None → new_branch ≡ crashed (option_map_or look.held_of o (λ y. new_branch) x)
+      none_old : (o : Option R) → slice_get old r ≡ o → slice_get new r ≡ None → new_branch ≡ crashed (option_map_or (λ rm. (look rm).held) o (λ y. new_branch) x)
       none_old None e at = refl
       none_old (Some rm) e at = absurd (let after = crashes.each r rm e in let no : None ≡ Some after.0 = sym at ∙ after.1 in cc)
 
       from_option : (o : Option R) → slice_get new r ≡ o
-          → option_map_or look.held_of o (λ y. new_branch) x ≡ crashed (option_map_or look.held_of (slice_get old r) (λ y. new_branch) x)
+          → option_map_or (λ rm. (look rm).held) o (λ y. new_branch) x ≡ crashed (option_map_or (λ rm. (look rm).held) (slice_get old r) (λ y. new_branch) x)
       from_option None at = none_old (slice_get old r) refl at
       from_option (Some rm) at =
           let from = crashed_from look old new crashes r rm at in
-          from.2.held x ∙ sym (ap (λ o. crashed (option_map_or look.held_of o (λ y. new_branch) x)) from.1)
+          from.2.held x ∙ sym (ap (λ o. crashed (option_map_or (λ rm. (look rm).held) o (λ y. new_branch) x)) from.1)
 
   crashed_among : (b : Branch) → held_among look new b ≡ crashed (held_among look old b)
   crashed_among b = by (fits b)

@@ -30,10 +30,11 @@ use Rattle.xa_tm.specs.Starting.{IsOld}
 use Rattle.xa_tm.specs.declared.manager.Manager.{Manager}
 use Rattle.xa_system.specs.Parts.{Sees, origin_of}
 use Rattle.xa_system.specs.SystemView.{AreClear, ArePast, HasNewer, IsOfPast, IsStarted, new_site}
-use Rattle.xa_system.specs.RmInHistory.{BeginsOver, IsOwnAt, Looks}
+use Rattle.xa_system.specs.RmInHistory.{BeginsOver, IsOwnAt}
 use Rattle.xa_system.specs.Steps.{AreCrashed, Crashes}
 use Rattle.xa_system.specs.declared.site.Site.{Site}
 use Rattle.xa_system.proofs.Histories.Start.{back_again, begun, never, none_listed}
+use Rattle.xa_rm.specs.Look.{Look}
 
 -- ** what a crash leaves
 
@@ -64,7 +65,7 @@ never_broken Lost e = absurd (cc)
 never_broken ReadOnly e = absurd (cc)
 never_broken (Forgotten how) e = absurd (cc)
 
-module _ {R : Type 0} (look : Looks R) (old new : List R) (crashes : AreCrashed look old new) where
+module _ {R : Type 0} (look : R → Look) (old new : List R) (crashes : AreCrashed look old new) where
   -- each that is there now crashed
   pub crashed_from : (r : ℕ) (rm : R) → slice_get new r ≡ Some rm → (before : R) × (slice_get old r ≡ Some before) × Crashes look before rm
   crashed_from r rm at = elim ((slice_get_cases old r).1) [
@@ -77,11 +78,11 @@ module _ {R : Type 0} (look : Looks R) (old new : List R) (crashes : AreCrashed 
   ]
 
   -- so none of its branches is at work
-  pub all_still : (r : ℕ) (rm : R) → slice_get new r ≡ Some rm → (x : Xid) → broken (look.held_of rm x).standing ≡ (look.held_of rm x).standing
+  pub all_still : (r : ℕ) (rm : R) → slice_get new r ≡ Some rm → (x : Xid) → broken ((look rm).held x).standing ≡ ((look rm).held x).standing
   all_still r rm at x =
       let from = crashed_from r rm at in
       let is = ap (λ (h : HeldBranch). h.standing) (from.2.held x) in
-      ap broken is ∙ broken_once (look.held_of from.0 x).standing ∙ sym is
+      ap broken is ∙ broken_once ((look from.0).held x).standing ∙ sym is
 
   -- what is clear before is clear
   pub still_clear : (incarnation : ℕ) → ArePast look incarnation new → AreClear look old → AreClear look new
@@ -90,7 +91,7 @@ module _ {R : Type 0} (look : Looks R) (old new : List R) (crashes : AreCrashed 
       record {
         no_branch = record {
           unstarted = λ x own. ap (λ (h : HeldBranch). fate_of h.standing) (from.2.held x)
-              ∙ ap (λ f. fate_of (broken f)) (never (look.held_of from.0 x).standing ((clear r from.0 from.1).no_branch.unstarted x own));
+              ∙ ap (λ f. fate_of (broken f)) (never ((look from.0).held x).standing ((clear r from.0 from.1).no_branch.unstarted x own));
         };
         listed = (past r rm at).listed;
       }
@@ -107,7 +108,7 @@ module _ {R : Type 0} (look : Looks R) (old new : List R) (crashes : AreCrashed 
           xid = newer.holds.xid;
           newer = newer.holds.newer;
           started = λ none. newer.holds.started
-              (never_broken (look.held_of newer.rm newer.holds.xid).standing
+              (never_broken ((look newer.rm).held newer.holds.xid).standing
               (sym (ap (λ (h : HeldBranch). fate_of h.standing) (after.2.held newer.holds.xid)) ∙ none));
         };
       }
@@ -125,7 +126,7 @@ module _ {R : Type 0} (look : Looks R) (old new : List R) (crashes : AreCrashed 
           newer = newer.holds.newer;
           started = λ none. newer.holds.started
               (ap (λ (h : HeldBranch). fate_of h.standing) (from.2.held newer.holds.xid)
-              ∙ ap (λ f. fate_of (broken f)) (never (look.held_of from.0 newer.holds.xid).standing none));
+              ∙ ap (λ f. fate_of (broken f)) (never ((look from.0).held newer.holds.xid).standing none));
         };
       }
 
@@ -133,7 +134,7 @@ module _ {R : Type 0} (look : Looks R) (old new : List R) (crashes : AreCrashed 
 
 module _ {R L : Type 0} (see : Sees R L) (threads : ℕ) (rms : List R) (manager : Manager L) (new : IsStarted threads (length rms) manager)
     (few : length rms ≤ 8) (past : ArePast see.look (book_in manager).incarnation rms)
-    (still : (r : ℕ) (rm : R) → slice_get rms r ≡ Some rm → (x : Xid) → broken (see.look.held_of rm x).standing ≡ (see.look.held_of rm x).standing) where
+    (still : (r : ℕ) (rm : R) → slice_get rms r ≡ Some rm → (x : Xid) → broken ((see.look rm).held x).standing ≡ ((see.look rm).held x).standing) where
   here : Origin
   here = origin_of see threads rms manager
 
@@ -147,7 +148,7 @@ module _ {R L : Type 0} (see : Sees R L) (threads : ℕ) (rms : List R) (manager
     where
       from_option : (o : Option R) → slice_get rms r ≡ o
           → (is_past_as r (book_in manager).incarnation x b ≡ true) ⊎ (is_past_as r (book_in manager).incarnation x b ≡ false)
-          → ((option_map_or see.look.held_of o (λ y. new_branch) x).standing ≡ Unstarted) ⊎ (is_past_as r (book_in manager).incarnation x b ≡ true)
+          → ((option_map_or (λ rm. (see.look rm).held) o (λ y. new_branch) x).standing ≡ Unstarted) ⊎ (is_past_as r (book_in manager).incarnation x b ≡ true)
       from_option o at (inl is) = inr is
       from_option None at (inr other) = inl refl
       from_option (Some rm) at (inr other) =
@@ -198,7 +199,7 @@ module _ {R L : Type 0} (see : Sees R L) (threads : ℕ) (rms : List R) (manager
   all_rest r x = from_option (slice_get rms r) refl
     where
       from_option : (o : Option R) → slice_get rms r ≡ o
-          → broken (option_map_or see.look.held_of o (λ y. new_branch) x).standing ≡ (option_map_or see.look.held_of o (λ y. new_branch) x).standing
+          → broken (option_map_or (λ rm. (see.look rm).held) o (λ y. new_branch) x).standing ≡ (option_map_or (λ rm. (see.look rm).held) o (λ y. new_branch) x).standing
       from_option None at = refl
       from_option (Some rm) at = still r rm at x
 
@@ -207,7 +208,7 @@ module _ {R L : Type 0} (see : Sees R L) (threads : ℕ) (rms : List R) (manager
   all_in_doubt r = from_option (slice_get rms r) refl
     where
       from_option : (o : Option R) → slice_get rms r ≡ o
-          → IsInDoubtList (option_map_or see.look.held_of o (λ x. new_branch)) (option_map_or see.look.in_doubt_of o [])
+          → IsInDoubtList (option_map_or (λ rm. (see.look rm).held) o (λ x. new_branch)) (option_map_or (λ rm. (see.look rm).in_doubt) o [])
       from_option None at = none_listed
       from_option (Some rm) at = (past r rm at).listed
 
@@ -216,7 +217,7 @@ module _ {R L : Type 0} (see : Sees R L) (threads : ℕ) (rms : List R) (manager
   unfolding here
   there_is_one r x e = from_option (slice_get rms r) refl e
     where
-      from_option : (o : Option R) → slice_get rms r ≡ o → is_in_doubt (option_map_or see.look.held_of o (λ y. new_branch) x).standing ≡ true → r < length rms
+      from_option : (o : Option R) → slice_get rms r ≡ o → is_in_doubt (option_map_or (λ rm. (see.look rm).held) o (λ y. new_branch) x).standing ≡ true → r < length rms
       from_option None at h = absurd (cc)
       from_option (Some rm) at h = slice_get_within rms r rm at
 
@@ -279,7 +280,7 @@ module _ {R L : Type 0} (see : Sees R L) (threads : ℕ) (rms : List R) (manager
 
 -- ** the look at the resource managers
 
-module _ {R : Type 0} (look : Looks R) (incarnation : ℕ) (sites : List (Site R)) where
+module _ {R : Type 0} (look : R → Look) (incarnation : ℕ) (sites : List (Site R)) where
   abbrev rms_of : List R
   rms_of = map (λ (s : Site R). s.rm) sites
 
@@ -290,7 +291,7 @@ module _ {R : Type 0} (look : Looks R) (incarnation : ℕ) (sites : List (Site R
       from_option None e is = absurd cc
       from_option (Some site) e is = subst (IsOfPast look incarnation r) (let same : site.rm ≡ rm = cc in same) (all r site e)
 
-  pub one_newer : (r : ℕ) (site : Site R) → slice_get sites r ≡ Some site → HoldsNewer (look.held_of site.rm) r incarnation → HasNewer look incarnation rms_of
+  pub one_newer : (r : ℕ) (site : Site R) → slice_get sites r ≡ Some site → HoldsNewer (look site.rm).held r incarnation → HasNewer look incarnation rms_of
   one_newer r site at holds = record {
     place = r;
     rm = site.rm;
@@ -299,7 +300,7 @@ module _ {R : Type 0} (look : Looks R) (incarnation : ℕ) (sites : List (Site R
   }
 
 -- what is of the past has nothing newer
-pub none_newer : {R : Type 0} (look : Looks R) (incarnation : ℕ) (rms : List R) → ArePast look incarnation rms → HasNewer look incarnation rms → ⊥
+pub none_newer : {R : Type 0} (look : R → Look) (incarnation : ℕ) (rms : List R) → ArePast look incarnation rms → HasNewer look incarnation rms → ⊥
 none_newer look incarnation rms past newer = newer.holds.started ((past newer.place newer.rm newer.there).past.unstarted newer.holds.xid newer.holds.newer)
 
 -- what holds of the resource managers of new sites

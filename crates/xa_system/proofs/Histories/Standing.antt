@@ -29,7 +29,7 @@ use Rattle.xa_tm.specs.Calls.{book_in, log_in}
 use Rattle.xa_line.specs.Histories.{LineStands}
 use Rattle.xa_system.specs.LogInHistory.{LogFollows}
 use Rattle.xa_system.specs.Parts.{GoesOn, IsUnchanged, OneMore, Sees, SiteStands, Stands, origin_of}
-use Rattle.xa_system.specs.RmInHistory.{Looks, RmStands}
+use Rattle.xa_system.specs.RmInHistory.{RmStands}
 use Rattle.xa_system.specs.Steps.{IsSame}
 use Rattle.xa_system.proofs.LineLaws.{line_stays}
 use Rattle.xa_system.proofs.Log.Changes.{log_same_book}
@@ -38,6 +38,7 @@ use Rattle.xa_system.specs.declared.site.Site.{Site}
 use Rattle.xa_system.proofs.Histories.OneMoreEvent.{kept_then}
 use Rattle.xa_system.proofs.Rms.Unaffected.{IsQuiet, rm_stays, same_held}
 use Rattle.xa_tm.specs.Book.{Book, book_of}
+use Rattle.xa_rm.specs.Look.{Look}
 
 -- ** lists
 
@@ -105,7 +106,7 @@ abbrev pub IsEvent : Happening → Type 0
 IsEvent Nothing = ⊥
 IsEvent e = Unit {0}
 
-pub stays_same : {R : Type 0} (look : Looks R) (rm : R) → IsSame look rm rm
+pub stays_same : {R : Type 0} (look : R → Look) (rm : R) → IsSame look rm rm
 stays_same look rm = record { held = λ x. refl; scans = λ t. refl }
 
 module _ {R L : Type 0} (see : Sees R L) where
@@ -235,7 +236,7 @@ module _ {R L : Type 0} (see : Sees R L) where
 
   pub same_rm : (tr : Trace) (r : ℕ) (old new : R) → IsSame see.look old new → RmStands see.look tr r old → RmStands see.look tr r new
   same_rm tr r old new same stand = record {
-    branches = same_held tr r (see.look.held_of old) (see.look.held_of new) same.held stand.branches;
+    branches = same_held tr r (see.look old).held (see.look new).held same.held stand.branches;
     scan = same.scans 0 ∙ stand.scan;
   }
 

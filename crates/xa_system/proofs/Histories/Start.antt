@@ -53,8 +53,9 @@ use Rattle.xa_system.specs.Parts.{Sees, SiteStands, Stands, origin_of}
 use Rattle.xa_system.specs.declared.system.TheConstants.{EVENT_LIMIT}
 use Rattle.xa_system.specs.SystemView.{AreClear, AreNew, IsStarted, IsSound, IsUnclear, MayRestart, new_site, observes_parts, view_of, start_of}
 use Rattle.xa_system.specs.Trace.{IsElsewhere, IsUnknown}
-use Rattle.xa_system.specs.RmInHistory.{BeginsOver, Looks, RmStands, scan_by}
+use Rattle.xa_system.specs.RmInHistory.{BeginsOver, RmStands, scan_by}
 use Rattle.xa_system.specs.declared.site.Site.{Site}
+use Rattle.xa_rm.specs.Look.{Look}
 
 -- ** branches that never were
 
@@ -95,8 +96,8 @@ module _ {R L : Type 0} (see : Sees R L) (threads : ℕ) (rms : List R) (manager
   pub begun : book_in manager ≡ book_of (From (origin_of see threads rms manager))
   begun = new.book (origin_of see threads rms manager) (record { threads_are = refl; rms_are = refl; incarnation = refl; rows = refl; records = refl })
 
-  held_there : (r : ℕ) (rm : R) → slice_get rms r ≡ Some rm → (origin_of see threads rms manager).held r ≡ see.look.held_of rm
-  held_there r rm at = ap (λ o. option_map_or see.look.held_of o (λ x. new_branch)) at
+  held_there : (r : ℕ) (rm : R) → slice_get rms r ≡ Some rm → (origin_of see threads rms manager).held r ≡ (see.look rm).held
+  held_there r rm at = ap (λ o. option_map_or (λ rm. (see.look rm).held) o (λ x. new_branch)) at
 
   -- what is held of a branch with an identifier is what its resource manager holds
   held_as : (b : Branch) → IsBranch b
@@ -105,7 +106,7 @@ module _ {R L : Type 0} (see : Sees R L) (threads : ℕ) (rms : List R) (manager
 
   -- and that is where the history begins
   held_at_first : (r : ℕ) (rm : R) (b : Branch) → slice_get rms r ≡ Some rm → IsBranch b → b.rm ≡ r
-      → see.look.held_of rm (xid_of_branch b) ≡ held_of (origin_of see threads rms manager) b
+      → (see.look rm).held (xid_of_branch b) ≡ held_of (origin_of see threads rms manager) b
   held_at_first r rm b at h here =
       ap (λ (f : Xid → HeldBranch). f (xid_of_branch b)) (sym (ap (origin_of see threads rms manager).held here ∙ held_there r rm at)) ∙ sym (held_as b h)
 
@@ -113,7 +114,7 @@ module _ {R L : Type 0} (see : Sees R L) (threads : ℕ) (rms : List R) (manager
   held_elsewhere : (b : Branch) → IsElsewhere (origin_of see threads rms manager) b → held_of (origin_of see threads rms manager) b ≡ new_branch
   held_elsewhere b away = by_fit (fits b) refl
     where
-      from_option : (o : Option R) → slice_get rms b.rm ≡ o → IsBranch b → option_map_or see.look.held_of o (λ x. new_branch) (xid_of_branch b) ≡ new_branch
+      from_option : (o : Option R) → slice_get rms b.rm ≡ o → IsBranch b → option_map_or (λ rm. (see.look rm).held) o (λ x. new_branch) (xid_of_branch b) ≡ new_branch
       from_option None at own = refl
       from_option (Some rm) at own = absurd (away (own, slice_get_within rms b.rm rm at))
 
@@ -143,8 +144,8 @@ module _ {R L : Type 0} (see : Sees R L) (threads : ℕ) (rms : List R) (manager
       };
       others = λ x other. ap (λ (f : Xid → HeldBranch). is_in_doubt (f x).standing) (sym (held_there r rm at));
     };
-    scan = scan_back (see.look.scan_of rm 0)
-        ∙ ap (λ o. scan_by xid_of_name (option_map_or (λ q. scan_by (λ x. Foreign x) (see.look.scan_of q 0)) o NotOpen)) (sym at);
+    scan = scan_back ((see.look rm).scan 0)
+        ∙ ap (λ o. scan_by xid_of_name (option_map_or (λ q. scan_by (λ x. Foreign x) ((see.look q).scan 0)) o NotOpen)) (sym at);
   }
 
 -- ** a start where nothing of this manager's was
@@ -158,7 +159,7 @@ module _ {R L : Type 0} (see : Sees R L) (threads : ℕ) (rms : List R) (manager
   none_started : (r : ℕ) (x : Xid) → x.format ≡ own_format → ((origin_of see threads rms manager).held r x).standing ≡ Unstarted
   none_started r x e = from_option (slice_get rms r) refl
     where
-      from_option : (o : Option R) → slice_get rms r ≡ o → (option_map_or see.look.held_of o (λ x. new_branch) x).standing ≡ Unstarted
+      from_option : (o : Option R) → slice_get rms r ≡ o → (option_map_or (λ rm. (see.look rm).held) o (λ x. new_branch) x).standing ≡ Unstarted
       from_option None at = refl
       from_option (Some rm) at = never _ ((clear r rm at).no_branch.unstarted x e)
 
@@ -166,7 +167,7 @@ module _ {R L : Type 0} (see : Sees R L) (threads : ℕ) (rms : List R) (manager
   all_listed r = from_option (slice_get rms r) refl
     where
       from_option : (o : Option R) → slice_get rms r ≡ o
-          → IsInDoubtList (option_map_or see.look.held_of o (λ x. new_branch)) (option_map_or see.look.in_doubt_of o [])
+          → IsInDoubtList (option_map_or (λ rm. (see.look rm).held) o (λ x. new_branch)) (option_map_or (λ rm. (see.look rm).in_doubt) o [])
       from_option None at = none_listed
       from_option (Some rm) at = (clear r rm at).listed
 
@@ -402,7 +403,7 @@ module _ {X : Type 0} (P : ℕ → X → Type 0) where
   pub below_all : (xs : List X) (n : ℕ) → length xs ≤ n → HoldsBelow xs n → (r : ℕ) (x : X) → slice_get xs r ≡ Some x → P r x
   below_all xs n past below r x at = below r x at (let within = slice_get_within xs r x at in omega (arith, within, past))
 
-module _ {R : Type 0} (look : Looks R) where
+module _ {R : Type 0} (look : R → Look) where
   -- what is clear isn't unclear
   pub not_both : (rms : List R) → AreClear look rms → IsUnclear look rms → ⊥
   not_both rms clear un = un.holds.started ((clear un.place un.rm un.there).no_branch.unstarted un.holds.xid un.holds.format)

@@ -345,8 +345,8 @@ module _ {R L : Type 0} (see : Sees R (Slot L)) (moment : L → Moment) where
   -- what became of a branch, as its resource manager says
   pub fate_is : (a : Inside R L) → IsSound see moment a → (x : Xid) (found b : Branch) (site : Site R) → Some found ≡ Some b → IsBranch b
       → x ≡ xid_of_branch b → slice_get a.parts.sites.items found.rm ≡ Some site
-      → fate_of (see.look.held_of site.rm x).standing ≡ fate (history (start_of see moment a.parts) a.events.items) b
+      → fate_of ((see.look site.rm).held x).standing ≡ fate (history (start_of see moment a.parts) a.events.items) b
   fate_is a sound x found b site same fits e at =
       let is : found ≡ b = cc in
-      ap (λ y. fate_of (see.look.held_of site.rm y).standing) e
+      ap (λ y. fate_of ((see.look site.rm).held y).standing) e
       ∙ ap fate_of ((sound.stands.sites found.rm site at).rm.branches.own b fits (ap (λ (d : Branch). d.rm) (sym is))).standing

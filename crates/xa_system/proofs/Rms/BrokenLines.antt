@@ -17,8 +17,9 @@ use Rattle.xa_base.specs.declared.state.Standing.TheVariants.{Unstarted, Active,
 use Rattle.xa_base.specs.declared.step.Part.TheVariants as Parts
 use Rattle.xa_base.proofs.StateLemmas.{broken_in_doubt}
 use Rattle.xa_rm.proofs.TableLemmas.{broken_by_in_doubt}
-use Rattle.xa_system.specs.RmInHistory.{IsHeldAs, Looks, RmStands, scan_by}
+use Rattle.xa_system.specs.RmInHistory.{IsHeldAs, RmStands, scan_by}
 use Rattle.xa_system.specs.Steps.{Breaks, Crashes}
+use Rattle.xa_rm.specs.Look.{Look}
 
 broken_twice : (f : Standing) → broken (broken f) ≡ broken f
 broken_twice Unstarted = refl
@@ -42,7 +43,7 @@ pub record BreaksAll (tr : Trace) (e : Happening) (r : ℕ) : Type 0 where
   pub retries : (b : Branch) → b.rm ≡ r → facts.retries (Then tr e) b ≡ facts.retries tr b
   pub closed : scan (Then tr e) r ≡ NotOpen
 
-module _ {R : Type 0} (look : Looks R) where
+module _ {R : Type 0} (look : R → Look) where
   pub crash_stands : (tr : Trace) (e : Happening) (r : ℕ) (old new : R) → BreaksAll tr e r → Crashes look old new
       → RmStands look tr r old → RmStands look (Then tr e) r new
   crash_stands tr e r old new breaks did stand = record {
@@ -51,10 +52,10 @@ module _ {R : Type 0} (look : Looks R) where
         standing = ap broken (stand.branches.own b h at).standing ∙ sym (breaks.standing b at);
         vote = (stand.branches.own b h at).vote ∙ sym (breaks.vote b at);
         retries = (stand.branches.own b h at).retries ∙ sym (breaks.retries b at);
-        starter = inl (broken_twice (look.held_of old (xid_of_branch b)).standing);
+        starter = inl (broken_twice ((look old).held (xid_of_branch b)).standing);
       });
       others =
-          λ x other. ap (λ (h : HeldBranch). is_in_doubt h.standing) (did.held x) ∙ broken_in_doubt (look.held_of old x).standing
+          λ x other. ap (λ (h : HeldBranch). is_in_doubt h.standing) (did.held x) ∙ broken_in_doubt ((look old).held x).standing
           ∙ stand.branches.others x other;
     };
     scan = did.scans 0 ∙ sym (ap (scan_by xid_of_name) breaks.closed);
@@ -114,8 +115,8 @@ module _ {R : Type 0} (look : Looks R) where
   break_stands tr t r old new did stand = record {
     branches = record {
       own = λ b h at. subst (IsHeldAs (Then tr (Crashed (Parts.Line t r))) b) (sym (did.held (xid_of_branch b)))
-          (broke_one tr t r b (look.held_of old (xid_of_branch b)) at (stand.branches.own b h at));
-      others = λ x other. ap (λ (h : HeldBranch). is_in_doubt h.standing) (did.held x) ∙ broken_by_in_doubt t (look.held_of old x)
+          (broke_one tr t r b ((look old).held (xid_of_branch b)) at (stand.branches.own b h at));
+      others = λ x other. ap (λ (h : HeldBranch). is_in_doubt h.standing) (did.held x) ∙ broken_by_in_doubt t ((look old).held x)
           ∙ stand.branches.others x other;
     };
     scan = did.scans 0 ∙ ap (λ s. if (0 == t) then NotOpen else s) stand.scan ∙ scan_broken tr t r;

@@ -6,7 +6,8 @@ use Rattle.xa_model.specs.Facts.InDoubt.{scan, xid_of_name}
 use Rattle.xa_model.specs.Trace.{Happening, Trace, Trace.Then}
 use Rattle.xa_base.specs.Xid.{Xid}
 use Rattle.xa_base.specs.declared.branch.Branch.{Branch}
-use Rattle.xa_system.specs.RmInHistory.{BranchesStand, Looks, RmStands, scan_by}
+use Rattle.xa_system.specs.RmInHistory.{BranchesStand, RmStands, scan_by}
+use Rattle.xa_rm.specs.Look.{Look}
 
 -- its branches stand as they stood
 pub record LeavesBranches (tr : Trace) (e : Happening) (r : ℕ) : Type 0 where
@@ -35,9 +36,9 @@ branches_stay tr e r held quiet stand = record {
 pub same_held : (tr : Trace) (r : ℕ) (held now : Xid → HeldBranch) → ((x : Xid) → now x ≡ held x) → BranchesStand tr r held → BranchesStand tr r now
 same_held tr r held now same stand = subst (BranchesStand tr r) (sym (λ i x. same x i)) stand
 
-pub rm_stays : {R : Type 0} (look : Looks R) (tr : Trace) (e : Happening) (r : ℕ) (rm : R) → IsQuiet tr e r
+pub rm_stays : {R : Type 0} (look : R → Look) (tr : Trace) (e : Happening) (r : ℕ) (rm : R) → IsQuiet tr e r
     → RmStands look tr r rm → RmStands look (Then tr e) r rm
 rm_stays look tr e r rm quiet stand = record {
-  branches = branches_stay tr e r (look.held_of rm) quiet.branches stand.branches;
+  branches = branches_stay tr e r (look rm).held quiet.branches stand.branches;
   scan = stand.scan ∙ ap (scan_by xid_of_name) (sym quiet.scan_stays);
 }

@@ -4,10 +4,10 @@ use Rattle.std.specs.Prelude.{Some, nat_eq, slice_get}
 use Rattle.std.proofs.lemmas.Bool.Decides.{eqb_tells}
 use Rattle.std.proofs.lemmas.List.{length-set}
 use Rattle.std.proofs.lemmas.Option.{slice_get_read, slice_get_within}
-use Rattle.xa_system.specs.RmInHistory.{Looks}
 use Rattle.xa_system.specs.Steps.{AllCrash, AreCrashed, Crashes}
 use Rattle.xa_system.specs.declared.site.Site.{Site}
 use Rattle.xa_system.proofs.Histories.Standing.{get_set_other, get_set_same}
+use Rattle.xa_rm.specs.Look.{Look}
 
 module _ {X : Type 0} (Does : X → X → Type 0) where
   -- those below the index are done, and the others are as they were
@@ -48,7 +48,7 @@ module _ {X : Type 0} (Does : X → X → Type 0) where
   all_done old now n past below r before at =
       below.done r before at (let within = slice_get_within old r before at in omega (arith, within, below.count, past))
 
-module _ {R : Type 0} (look : Looks R) where
+module _ {R : Type 0} (look : R → Look) where
   -- a resource manager crashed, and is up where it was
   abbrev pub SiteCrashes : Site R → Site R → Type 0
   SiteCrashes before after = (after.is_up ≡ before.is_up) × Crashes look before.rm after.rm

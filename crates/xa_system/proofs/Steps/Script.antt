@@ -32,14 +32,15 @@ use Rattle.xa_base.specs.declared.step.Step.{Step}
 use Rattle.xa_base.specs.declared.vote.Vote.{Vote}
 use Rattle.xa_base.proofs.BranchKeys.{branch_eq-refl, branch_eq-true}
 use Rattle.xa_line.specs.Grid.{line_at}
-use Rattle.xa_rm.specs.ResourceManager.{changed_at, retrying, voting}
+use Rattle.xa_rm.specs.ResourceManager.{Sets, retrying, voting}
 use Rattle.xa_tm.specs.Calls.{book_in}
 use Rattle.xa_rm.specs.declared.fault.RmFault.{RmFault}
 use Rattle.xa_rm.specs.declared.fault.RmFault.TheVariants as Faults
 use Rattle.xa_system.specs.Parts.{GoesOn, HindersScript, OneMore, Sees, Stands, noted_as, script_why}
-use Rattle.xa_system.specs.RmInHistory.{IsHeldAs, Looks, RmStands, scan_by}
+use Rattle.xa_system.specs.RmInHistory.{IsHeldAs, RmStands, scan_by}
 use Rattle.xa_system.specs.declared.parts.Parts.{Parts}
 use Rattle.xa_system.specs.declared.site.Site.{Site}
+use Rattle.xa_system.specs.Steps.{IsSame}
 use Rattle.xa_system.proofs.Steps.Crash.{rm_missing, rm_there}
 use Rattle.xa_system.proofs.LineLaws.{line_stays}
 use Rattle.xa_system.proofs.Log.Changes.{IsUncounted, log_stays}
@@ -49,6 +50,7 @@ use Rattle.xa_system.proofs.Histories.Standing.{Follows, IsEvent, goes_as, nothi
 use Rattle.xa_system.proofs.Steps.Take.{elsewhere}
 use Rattle.xa_system.proofs.Rms.AfterTake.{other_apart, same_tests}
 use Rattle.xa_tm.specs.Book.{book_of}
+use Rattle.xa_rm.specs.Look.{Look}
 
 -- ** the change of one branch
 
@@ -58,33 +60,32 @@ pub record Scripts (tr : Trace) (e : Happening) (c : Branch) (change : HeldBranc
   pub others : (b : Branch) → branch_eq c b ≡ false → (h : HeldBranch) → IsHeldAs tr b h → IsHeldAs (Then tr e) b h
   pub scan_stays : scan (Then tr e) c.rm ≡ scan tr c.rm
 
-script_stands : {R : Type 0} (look : Looks R) (tr : Trace) (e : Happening) (c : Branch) (change : HeldBranch → HeldBranch) (old new : R)
+script_stands : {R : Type 0} (look : R → Look) (tr : Trace) (e : Happening) (c : Branch) (change : HeldBranch → HeldBranch) (old new : R)
     → IsBranch c → Scripts tr e c change
-    → ((x : Xid) → look.held_of new x ≡ changed_at (xid_of_branch c) change x (look.held_of old x))
-    → ((t : ℕ) → look.scan_of new t ≡ look.scan_of old t) → RmStands look tr c.rm old → RmStands look (Then tr e) c.rm new
-script_stands look tr e c change old new fits scripts held scans stand = record {
+    → Sets (xid_of_branch c) change (look old) (look new) → RmStands look tr c.rm old → RmStands look (Then tr e) c.rm new
+script_stands look tr e c change old new fits scripts sets stand = record {
   branches = record {
     own = λ b h at. by_test b h at (branch_eq c b) refl;
     others =
         λ x other. ap (λ (h : HeldBranch). is_in_doubt h.standing)
-        (held x ∙ ap (λ t. if t then change (look.held_of old x) else look.held_of old x) (other_apart c.rm x c fits refl other))
+        (sets.held x ∙ ap (λ t. if t then change ((look old).held x) else (look old).held x) (other_apart c.rm x c fits refl other))
         ∙ stand.branches.others x other;
   };
-  scan = scans 0 ∙ stand.scan ∙ ap (scan_by xid_of_name) (sym scripts.scan_stays);
+  scan = sets.scans 0 ∙ stand.scan ∙ ap (scan_by xid_of_name) (sym scripts.scan_stays);
 }
   where
-    by_test : (b : Branch) → IsBranch b → b.rm ≡ c.rm → (t : Bool) → branch_eq c b ≡ t → IsHeldAs (Then tr e) b (look.held_of new (xid_of_branch b))
+    by_test : (b : Branch) → IsBranch b → b.rm ≡ c.rm → (t : Bool) → branch_eq c b ≡ t → IsHeldAs (Then tr e) b ((look new).held (xid_of_branch b))
     by_test b h at t is =
-        subst (IsHeldAs (Then tr e) b) (sym (held (xid_of_branch b) ∙ ap (λ u. if u then change (look.held_of old (xid_of_branch b)) else look.held_of old
+        subst (IsHeldAs (Then tr e) b) (sym (sets.held (xid_of_branch b) ∙ ap (λ u. if u then change ((look old).held (xid_of_branch b)) else (look old).held
         (xid_of_branch b)) (same_tests b c h fits ∙ is))) (by_case t is)
       where
         by_case : (t : Bool) → branch_eq c b ≡ t
-            → IsHeldAs (Then tr e) b (if t then change (look.held_of old (xid_of_branch b)) else look.held_of old (xid_of_branch b))
+            → IsHeldAs (Then tr e) b (if t then change ((look old).held (xid_of_branch b)) else (look old).held (xid_of_branch b))
         by_case true is =
             let same = branch_eq-true c b is in
-            subst (λ d. IsHeldAs (Then tr e) d (change (look.held_of old (xid_of_branch d)))) same
-            (scripts.own (look.held_of old (xid_of_branch c)) (stand.branches.own c fits refl))
-        by_case false is = scripts.others b is (look.held_of old (xid_of_branch b)) (stand.branches.own b h at)
+            subst (λ d. IsHeldAs (Then tr e) d (change ((look old).held (xid_of_branch d)))) same
+            (scripts.own ((look old).held (xid_of_branch c)) (stand.branches.own c fits refl))
+        by_case false is = scripts.others b is ((look old).held (xid_of_branch b)) (stand.branches.own b h at)
 
 pub voted : (tr : Trace) (c : Branch) (v : Vote) → Scripts tr (Voted c v) c (voting v)
 voted tr c v = record {
@@ -253,9 +254,9 @@ module _ {R L : Type 0} (see : Sees R L) where
   -- what is held of the branch that an identifier names
   pub held_here : (tr : Trace) (parts : Parts R L) (r : ℕ) (site : Site R) (x : Xid) (b : Branch)
       → slice_get parts.sites.items r ≡ Some site → IsXid x → name_of x ≡ Ours b → b.rm ≡ r → Stands see tr parts
-      → (see.look.held_of site.rm x).standing ≡ facts.standing tr b
+      → ((see.look site.rm).held x).standing ≡ facts.standing tr b
   held_here tr parts r site x b at has is here stands =
-      ap (λ y. (see.look.held_of site.rm y).standing) (named_is x b has is) ∙ ((stands.sites r site at).rm.branches.own b (named_fits x b has is) here).standing
+      ap (λ y. ((see.look site.rm).held y).standing) (named_is x b has is) ∙ ((stands.sites r site at).rm.branches.own b (named_fits x b has is) here).standing
 
   -- the script was followed
   pub script_did : (tr : Trace) (step : Step Xid) (e : Happening) (parts : Parts R L) (r : ℕ) (site : Site R) (rm : R) (reply : Reply Xid)
@@ -265,11 +266,9 @@ module _ {R L : Type 0} (see : Sees R L) where
       → IsXid x → name_of x ≡ Ours c → c.rm ≡ r → Scripts tr e c change → IsScript tr e c
       → ((l : Line) → facts.breaks tr e l ≡ false) → ((l : Line) → facts.new_calls tr e l ≡ [])
       → ((l : Line) → facts.new_taken e l ≡ []) → ((l : Line) → facts.new_heard e l ≡ []) → book_in parts.manager ≡ book_of (Then tr e)
-      → ((y : Xid) → see.look.held_of rm y ≡ changed_at x change y (see.look.held_of site.rm y))
-      → ((t : ℕ) → see.look.scan_of rm t ≡ see.look.scan_of site.rm t)
-      → OneMore see step reply tr parts (with_rm parts r site rm)
+      → Sets x change (see.look site.rm) (see.look rm) → OneMore see step reply tr parts (with_rm parts r site rm)
   script_did tr step e parts r site rm reply x c change stands has at is none value happens xid is_name here scripts quiet unbroken calls taken heard book
-      held scans =
+      sets =
       goes_as see tr step reply Replies.Noted parts _ stands has (ap reply_of is) (As_value none value)
       (subst (λ h. Follows see tr h parts (with_rm parts r site rm)) (sym happens) (record {
         start = refl;
@@ -284,7 +283,7 @@ module _ {R L : Type 0} (see : Sees R L) where
               is_up = (stands.sites r site at).is_up ∙ sym (quiet.ups r);
               rm = subst (λ n. RmStands see.look (Then tr e) n rm) here
                   (script_stands see.look tr e c change site.rm rm (named_fits x c xid is_name) scripts
-                  (λ y. held y ∙ ap (λ z. changed_at z change y (see.look.held_of site.rm y)) (named_is x c xid is_name)) scans
+                  (subst (λ z. Sets z change (see.look site.rm) (see.look rm)) (named_is x c xid is_name) sets)
                   (subst (λ n. RmStands see.look tr n site.rm) (sym here) (stands.sites r site at).rm));
             })
             (λ s apart. record { quiet = quiet.quiet s (λ q. apart (q ∙ here)); is_up = quiet.ups s }) stands.sites;
@@ -300,9 +299,8 @@ module _ {R L : Type 0} (see : Sees R L) where
   pub script_refused : (tr : Trace) (step : Step Xid) (parts : Parts R L) (r : ℕ) (site : Site R) (rm : R) (reply : Reply Xid) (seen : known.Reply)
       → Stands see tr parts → StepHasXids step → slice_get parts.sites.items r ≡ Some site
       → reply_of reply ≡ seen → Allowed tr (step_of step) seen → happened (step_of step) seen ≡ Nothing
-      → ((y : Xid) → see.look.held_of rm y ≡ see.look.held_of site.rm y) → ((t : ℕ) → see.look.scan_of rm t ≡ see.look.scan_of site.rm t)
-      → OneMore see step reply tr parts (with_rm parts r site rm)
-  script_refused tr step parts r site rm reply seen stands has at is allowed nothing held scans =
+      → IsSame see.look site.rm rm → OneMore see step reply tr parts (with_rm parts r site rm)
+  script_refused tr step parts r site rm reply seen stands has at is allowed nothing same =
       goes_as see tr step reply seen parts _ stands has is allowed
       (subst (λ h. Follows see tr h parts (with_rm parts r site rm)) (sym nothing) (record {
         start = refl;
@@ -316,17 +314,14 @@ module _ {R L : Type 0} (see : Sees R L) where
             (site_stays see tr Nothing r (record { rm = rm; is_up = site.is_up }) (nothing_to see tr r)
             (record {
               is_up = (stands.sites r site at).is_up;
-              rm = same_rm see tr r site.rm rm (record {
-                held = held;
-                scans = scans;
-              }) (stands.sites r site at).rm;
+              rm = same_rm see tr r site.rm rm same (stands.sites r site at).rm;
             }))
             (λ s apart. nothing_to see tr s) stands.sites;
         lines = λ t q has_q. line_stays tr Nothing (line t q) (line_at parts.lines t q) refl refl refl refl (stands.lines t q has_q);
         book = stands.book;
         log = log_stays see.moment Nothing parts.manager (λ n. refl);
         unchanged = λ q. record {
-          sites = site_same see parts.sites r site (record { rm = rm; is_up = site.is_up }) at refl (record { held = held; scans = scans });
+          sites = site_same see parts.sites r site (record { rm = rm; is_up = site.is_up }) at refl same;
           lines = λ t q has_q. refl;
           book = refl;
           log = refl;
@@ -357,13 +352,11 @@ module _ {R L : Type 0} (see : Sees R L) where
       → ((c : Branch) (l : Line) → facts.breaks tr (e c) l ≡ false) → ((c : Branch) (l : Line) → facts.new_calls tr (e c) l ≡ [])
       → ((c : Branch) (l : Line) → facts.new_taken (e c) l ≡ []) → ((c : Branch) (l : Line) → facts.new_heard (e c) l ≡ [])
       → ((c : Branch) → book_in parts.manager ≡ book_of (Then tr (e c)))
-      → OnOk told ((y : Xid) → see.look.held_of rm y ≡ changed_at x change y (see.look.held_of site.rm y))
-      → OnErr told ((y : Xid) → see.look.held_of rm y ≡ see.look.held_of site.rm y)
-      → ((t : ℕ) → see.look.scan_of rm t ≡ see.look.scan_of site.rm t)
+      → OnOk told (Sets x change (see.look site.rm) (see.look rm)) → OnErr told (IsSame see.look site.rm rm)
       → OneMore see step reply tr parts (with_rm parts r site rm)
   script_told tr step e parts r site rm reply x change told stands has at is hinders rule bad fine value may happens xid scripts quiet unbroken calls taken
-      heard book held same scans =
-      by told (is) (bad b here.1 here.2) (fine b here.1 here.2) held same
+      heard book sets same =
+      by told (is) (bad b here.1 here.2) (fine b here.1 here.2) sets same
     where
       free : (has_rm tr r ≡ true) × (rm_up tr r ≡ true) × (is_at r (name_of x) ≡ true)
       free = script_free (has_rm tr r) (rm_up tr r) (is_at r (name_of x)) (hinders tr stands)
@@ -379,15 +372,14 @@ module _ {R L : Type 0} (see : Sees R L) where
 
       by : (o : Result (Unit {0}) RmFault) → reply ≡ noted_as o → (o ≡ Err Faults.Script → forces_script tr (step_of step) ≡ true)
           → ((o ≡ Err Faults.Script → ⊥) → forces_script tr (step_of step) ≡ false)
-          → OnOk o ((y : Xid) → see.look.held_of rm y ≡ changed_at x change y (see.look.held_of site.rm y))
-          → OnErr o ((y : Xid) → see.look.held_of rm y ≡ see.look.held_of site.rm y)
+          → OnOk o (Sets x change (see.look site.rm) (see.look rm)) → OnErr o (IsSame see.look site.rm rm)
           → OneMore see step reply tr parts (with_rm parts r site rm)
-      by (Ok u) q bad fine held same =
+      by (Ok u) q bad fine sets same =
           script_did tr step (e b) parts r site rm reply x b change stands has at q (why false (fine (λ w. absurd (cc)))) value
-          (happens b here.1) xid here.1 here.2 (scripts b) (quiet b) (unbroken b) (calls b) (taken b) (heard b) (book b) held scans
-      by (Err Faults.Script) q bad fine held same =
+          (happens b here.1) xid here.1 here.2 (scripts b) (quiet b) (unbroken b) (calls b) (taken b) (heard b) (book b) sets
+      by (Err Faults.Script) q bad fine sets same =
           script_refused tr step parts r site rm reply (Replies.Refused Refusals.Script) stands has at (ap reply_of q)
-          (By_rule Refusals.Script (why true (bad refl)) refl) refl same scans
-      by (Err Faults.Memory) q bad fine held same =
+          (By_rule Refusals.Script (why true (bad refl)) refl) refl same
+      by (Err Faults.Memory) q bad fine sets same =
           script_refused tr step parts r site rm reply (Replies.Refused Refusals.Memory) stands has at (ap reply_of q)
-          (For_memory (why false (fine (λ w. absurd (cc)))) may refl) refl same scans
+          (For_memory (why false (fine (λ w. absurd (cc)))) may refl) refl same

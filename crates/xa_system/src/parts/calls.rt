@@ -14,11 +14,10 @@ impl<R: ResourceManager + Drop, L: DecisionLog + Drop> Parts<R, L> {
     /// A call is issued on a line. The reasons to refuse it are looked for in their order, at the line and at the
     /// manager.
     pub(super) fn issue(&mut self, thread: u32, rm: u32, call: &Call) -> Twin
-        requires stands { StandsSomewhere
-            (sees R.held_of R.scan_of R.in_doubt_of L.moment) self.old }
+        requires stands { StandsSomewhere (sees R.look L.moment) self.old }
         requires has_xid { CallHasXid call.now }
-        ensures { GoesOn (sees R.held_of R.scan_of R.in_doubt_of L.moment)
-            (Steps.Issue thread rm call.now) result self.old self.new }
+        ensures { GoesOn (sees R.look L.moment) (Steps.Issue thread rm call.now) result self.old
+            self.new }
     {
         if !self.has_line(thread, rm) {
             return Twin::refused(Refusal::Limit);
@@ -47,9 +46,9 @@ impl<R: ResourceManager + Drop, L: DecisionLog + Drop> Parts<R, L> {
 
     /// The manager asks a resource manager what is in doubt there.
     pub(super) fn recover(&mut self, rm: u32, count: i64, start_scan: bool, end_scan: bool) -> Twin
-        requires { StandsSomewhere (sees R.held_of R.scan_of R.in_doubt_of L.moment) self.old }
-        ensures { GoesOn (sees R.held_of R.scan_of R.in_doubt_of L.moment)
-            (Steps.Recover rm count start_scan end_scan) result self.old self.new }
+        requires { StandsSomewhere (sees R.look L.moment) self.old }
+        ensures { GoesOn (sees R.look L.moment) (Steps.Recover rm count start_scan end_scan) result
+            self.old self.new }
     {
         let call = Call::Recover {
             count,
@@ -61,9 +60,8 @@ impl<R: ResourceManager + Drop, L: DecisionLog + Drop> Parts<R, L> {
 
     /// A resource manager takes the oldest call that waits on a line.
     pub(super) fn take(&mut self, thread: u32, rm: u32) -> Twin
-        requires { StandsSomewhere (sees R.held_of R.scan_of R.in_doubt_of L.moment) self.old }
-        ensures { GoesOn (sees R.held_of R.scan_of R.in_doubt_of L.moment)
-            (Steps.Take thread rm) result self.old self.new }
+        requires { StandsSomewhere (sees R.look L.moment) self.old }
+        ensures { GoesOn (sees R.look L.moment) (Steps.Take thread rm) result self.old self.new }
     {
         if !self.has_line(thread, rm) {
             return Twin::refused(Refusal::Limit);
@@ -80,9 +78,8 @@ impl<R: ResourceManager + Drop, L: DecisionLog + Drop> Parts<R, L> {
 
     /// The manager hears the oldest answer that waits on a line. Where its log fails, it is down and all lines break.
     pub(super) fn hear(&mut self, thread: u32, rm: u32) -> Twin
-        requires { StandsSomewhere (sees R.held_of R.scan_of R.in_doubt_of L.moment) self.old }
-        ensures { GoesOn (sees R.held_of R.scan_of R.in_doubt_of L.moment)
-            (Steps.Hear thread rm) result self.old self.new }
+        requires { StandsSomewhere (sees R.look L.moment) self.old }
+        ensures { GoesOn (sees R.look L.moment) (Steps.Hear thread rm) result self.old self.new }
     {
         if !self.has_line(thread, rm) {
             return Twin::refused(Refusal::Limit);

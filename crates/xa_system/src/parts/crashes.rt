@@ -19,9 +19,9 @@ use xa_tm::Found;
 impl<R: ResourceManager + Drop, L: DecisionLog + Drop> Parts<R, L> {
     /// A line crashes.
     pub(super) fn crash_line(&mut self, thread: u32, rm: u32) -> Twin
-        requires { StandsSomewhere (sees R.held_of R.scan_of R.in_doubt_of L.moment) self.old }
-        ensures { GoesOn (sees R.held_of R.scan_of R.in_doubt_of L.moment)
-            (Steps.Crash (KnownParts.Line thread rm)) result self.old self.new }
+        requires { StandsSomewhere (sees R.look L.moment) self.old }
+        ensures { GoesOn (sees R.look L.moment) (Steps.Crash (KnownParts.Line thread rm)) result
+            self.old self.new }
     {
         if !self.has_line(thread, rm) {
             return Twin::refused(Refusal::Limit);
@@ -40,9 +40,9 @@ impl<R: ResourceManager + Drop, L: DecisionLog + Drop> Parts<R, L> {
 
     /// A resource manager crashes, and with it all its lines.
     pub(super) fn crash_rm(&mut self, rm: u32) -> Twin
-        requires { StandsSomewhere (sees R.held_of R.scan_of R.in_doubt_of L.moment) self.old }
-        ensures { GoesOn (sees R.held_of R.scan_of R.in_doubt_of L.moment)
-            (Steps.Crash (KnownParts.Rm rm)) result self.old self.new }
+        requires { StandsSomewhere (sees R.look L.moment) self.old }
+        ensures { GoesOn (sees R.look L.moment) (Steps.Crash (KnownParts.Rm rm)) result self.old
+            self.new }
     {
         if rm >= self.lines.rms() {
             return Twin::refused(Refusal::Limit);
@@ -60,9 +60,9 @@ impl<R: ResourceManager + Drop, L: DecisionLog + Drop> Parts<R, L> {
 
     /// The manager crashes, and with it all lines.
     pub(super) fn crash_manager(&mut self) -> Twin
-        requires { StandsSomewhere (sees R.held_of R.scan_of R.in_doubt_of L.moment) self.old }
-        ensures { GoesOn (sees R.held_of R.scan_of R.in_doubt_of L.moment)
-            (Steps.Crash KnownParts.Manager) result self.old self.new }
+        requires { StandsSomewhere (sees R.look L.moment) self.old }
+        ensures { GoesOn (sees R.look L.moment) (Steps.Crash KnownParts.Manager) result self.old
+            self.new }
     {
         if !self.manager.is_up() {
             return Twin::refused(Refusal::ManagerDown);
@@ -75,9 +75,9 @@ impl<R: ResourceManager + Drop, L: DecisionLog + Drop> Parts<R, L> {
 
     /// A resource manager that is down is started again.
     pub(super) fn restart_rm(&mut self, rm: u32) -> Twin
-        requires { StandsSomewhere (sees R.held_of R.scan_of R.in_doubt_of L.moment) self.old }
-        ensures { GoesOn (sees R.held_of R.scan_of R.in_doubt_of L.moment)
-            (Steps.Restart (Sides.Rm rm)) result self.old self.new }
+        requires { StandsSomewhere (sees R.look L.moment) self.old }
+        ensures { GoesOn (sees R.look L.moment) (Steps.Restart (Sides.Rm rm)) result self.old
+            self.new }
     {
         if rm >= self.lines.rms() {
             return Twin::refused(Refusal::Limit);
@@ -91,9 +91,9 @@ impl<R: ResourceManager + Drop, L: DecisionLog + Drop> Parts<R, L> {
 
     /// A manager that is down is started again. A restart that fails leaves all else as it is.
     pub(super) fn restart_manager(&mut self) -> Twin
-        requires { StandsSomewhere (sees R.held_of R.scan_of R.in_doubt_of L.moment) self.old }
-        ensures goes { GoesOn (sees R.held_of R.scan_of R.in_doubt_of L.moment)
-            (Steps.Restart Sides.Manager) result self.old self.new }
+        requires { StandsSomewhere (sees R.look L.moment) self.old }
+        ensures goes { GoesOn (sees R.look L.moment) (Steps.Restart Sides.Manager) result self.old
+            self.new }
         ensures read { (i d h : ℕ) → result ≡ Replies.Restarted i d h →
             IsReadFrom L.DecisionLog i d h (log_in self.old.manager) (log_in self.new.manager) }
     {

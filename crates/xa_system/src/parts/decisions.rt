@@ -12,9 +12,8 @@ use xa_rm::ResourceManager;
 impl<R: ResourceManager + Drop, L: DecisionLog + Drop> Parts<R, L> {
     /// A thread begins a transaction.
     pub(super) fn begin(&mut self, thread: u32) -> Twin
-        requires { StandsSomewhere (sees R.held_of R.scan_of R.in_doubt_of L.moment) self.old }
-        ensures { GoesOn (sees R.held_of R.scan_of R.in_doubt_of L.moment)
-            (Steps.Begin thread) result self.old self.new }
+        requires { StandsSomewhere (sees R.look L.moment) self.old }
+        ensures { GoesOn (sees R.look L.moment) (Steps.Begin thread) result self.old self.new }
     {
         match self.manager.begin(thread) {
             Ok(gtrid) => Twin::new(Reply::Begun(gtrid), Reply::Begun(gtrid)),
@@ -24,9 +23,8 @@ impl<R: ResourceManager + Drop, L: DecisionLog + Drop> Parts<R, L> {
 
     /// A transaction is claimed.
     pub(super) fn claim(&mut self, gtrid: Gtrid) -> Twin
-        requires { StandsSomewhere (sees R.held_of R.scan_of R.in_doubt_of L.moment) self.old }
-        ensures { GoesOn (sees R.held_of R.scan_of R.in_doubt_of L.moment)
-            (Steps.Claim gtrid) result self.old self.new }
+        requires { StandsSomewhere (sees R.look L.moment) self.old }
+        ensures { GoesOn (sees R.look L.moment) (Steps.Claim gtrid) result self.old self.new }
     {
         match self.manager.claim(gtrid) {
             Ok(()) => Twin::new(Reply::Claimed, Reply::Claimed),
@@ -36,9 +34,9 @@ impl<R: ResourceManager + Drop, L: DecisionLog + Drop> Parts<R, L> {
 
     /// A transaction is decided.
     pub(super) fn decide(&mut self, gtrid: Gtrid, outcome: Outcome) -> Twin
-        requires { StandsSomewhere (sees R.held_of R.scan_of R.in_doubt_of L.moment) self.old }
-        ensures { GoesOn (sees R.held_of R.scan_of R.in_doubt_of L.moment)
-            (Steps.Decide gtrid outcome) result self.old self.new }
+        requires { StandsSomewhere (sees R.look L.moment) self.old }
+        ensures { GoesOn (sees R.look L.moment) (Steps.Decide gtrid outcome) result self.old
+            self.new }
     {
         match self.manager.decide(gtrid, outcome) {
             Ok(()) => Twin::new(Reply::Decided, Reply::Decided),
@@ -48,9 +46,8 @@ impl<R: ResourceManager + Drop, L: DecisionLog + Drop> Parts<R, L> {
 
     /// A claimed transaction is committed.
     pub(super) fn settle(&mut self, gtrid: Gtrid) -> Twin
-        requires { StandsSomewhere (sees R.held_of R.scan_of R.in_doubt_of L.moment) self.old }
-        ensures { GoesOn (sees R.held_of R.scan_of R.in_doubt_of L.moment)
-            (Steps.Settle gtrid) result self.old self.new }
+        requires { StandsSomewhere (sees R.look L.moment) self.old }
+        ensures { GoesOn (sees R.look L.moment) (Steps.Settle gtrid) result self.old self.new }
     {
         match self.manager.settle(gtrid) {
             Ok(()) => Twin::new(Reply::Decided, Reply::Decided),
@@ -60,9 +57,8 @@ impl<R: ResourceManager + Drop, L: DecisionLog + Drop> Parts<R, L> {
 
     /// The row of a transaction leaves the log.
     pub(super) fn done(&mut self, gtrid: Gtrid) -> Twin
-        requires { StandsSomewhere (sees R.held_of R.scan_of R.in_doubt_of L.moment) self.old }
-        ensures { GoesOn (sees R.held_of R.scan_of R.in_doubt_of L.moment)
-            (Steps.Done gtrid) result self.old self.new }
+        requires { StandsSomewhere (sees R.look L.moment) self.old }
+        ensures { GoesOn (sees R.look L.moment) (Steps.Done gtrid) result self.old self.new }
     {
         match self.manager.done(gtrid) {
             Ok(()) => Twin::new(Reply::Noted, Reply::Noted),
@@ -72,9 +68,8 @@ impl<R: ResourceManager + Drop, L: DecisionLog + Drop> Parts<R, L> {
 
     /// A claimed transaction is rolled back.
     pub(super) fn abandon(&mut self, gtrid: Gtrid) -> Twin
-        requires { StandsSomewhere (sees R.held_of R.scan_of R.in_doubt_of L.moment) self.old }
-        ensures { GoesOn (sees R.held_of R.scan_of R.in_doubt_of L.moment)
-            (Steps.Abandon gtrid) result self.old self.new }
+        requires { StandsSomewhere (sees R.look L.moment) self.old }
+        ensures { GoesOn (sees R.look L.moment) (Steps.Abandon gtrid) result self.old self.new }
     {
         match self.manager.abandon(gtrid) {
             Ok(()) => Twin::new(Reply::Decided, Reply::Decided),

@@ -12,9 +12,8 @@ use xa_rm::ResourceManager;
 impl<R: ResourceManager + Drop, L: DecisionLog + Drop> Parts<R, L> {
     /// Why no recovery of so many calls may begin at a resource manager, looked for in the order of the numbers.
     fn no_recovery(&self, rm: u32, count: usize) -> Option<Refusal>
-        requires { StandsSomewhere (sees R.held_of R.scan_of R.in_doubt_of L.moment) self.now }
-        ensures { HindersRecovery (sees R.held_of R.scan_of R.in_doubt_of L.moment)
-            rm count self.now result }
+        requires { StandsSomewhere (sees R.look L.moment) self.now }
+        ensures { HindersRecovery (sees R.look L.moment) rm count self.now result }
     {
         if rm >= self.lines.rms() {
             return Some(Refusal::Limit);
@@ -40,9 +39,8 @@ impl<R: ResourceManager + Drop, L: DecisionLog + Drop> Parts<R, L> {
 
     /// The manager ends the branches that a resource manager listed last: all of them, or none.
     pub(super) fn resolve(&mut self, rm: u32) -> Twin
-        requires { StandsSomewhere (sees R.held_of R.scan_of R.in_doubt_of L.moment) self.old }
-        ensures { GoesOn (sees R.held_of R.scan_of R.in_doubt_of L.moment)
-            (Steps.Resolve rm) result self.old self.new }
+        requires { StandsSomewhere (sees R.look L.moment) self.old }
+        ensures { GoesOn (sees R.look L.moment) (Steps.Resolve rm) result self.old self.new }
     {
         let count = self.manager.resolve_len(rm);
         if let Some(refusal) = self.no_recovery(rm, count) {
@@ -59,9 +57,8 @@ impl<R: ResourceManager + Drop, L: DecisionLog + Drop> Parts<R, L> {
 
     /// The same, and before that it rolls back all that is open of what is listed.
     pub(super) fn resolve_open(&mut self, rm: u32) -> Twin
-        requires { StandsSomewhere (sees R.held_of R.scan_of R.in_doubt_of L.moment) self.old }
-        ensures { GoesOn (sees R.held_of R.scan_of R.in_doubt_of L.moment)
-            (Steps.ResolveOpen rm) result self.old self.new }
+        requires { StandsSomewhere (sees R.look L.moment) self.old }
+        ensures { GoesOn (sees R.look L.moment) (Steps.ResolveOpen rm) result self.old self.new }
     {
         let count = self.manager.resolve_open_len(rm);
         if let Some(refusal) = self.no_recovery(rm, count) {

@@ -26,9 +26,8 @@ fn noted(told: Result<(), RmFault>) -> Twin
 impl<R: ResourceManager + Drop, L: DecisionLog + Drop> Parts<R, L> {
     /// Why no resource manager is told anything of the branch, looked for in the order of the numbers.
     fn no_script(&self, rm: u32, xid: &Xid) -> Option<Refusal>
-        requires { StandsSomewhere (sees R.held_of R.scan_of R.in_doubt_of L.moment) self.now }
-        ensures why { HindersScript (sees R.held_of R.scan_of R.in_doubt_of L.moment)
-            rm (name_of xid.now) self.now result }
+        requires { StandsSomewhere (sees R.look L.moment) self.now }
+        ensures why { HindersScript (sees R.look L.moment) rm (name_of xid.now) self.now result }
         ensures there { result ≡ None → rm < self.now.lines.rms }
     {
         if rm >= self.lines.rms() {
@@ -45,11 +44,10 @@ impl<R: ResourceManager + Drop, L: DecisionLog + Drop> Parts<R, L> {
 
     /// A resource manager is told how to vote.
     pub(super) fn vote(&mut self, rm: u32, xid: &Xid, vote: Vote) -> Twin
-        requires stands { StandsSomewhere
-            (sees R.held_of R.scan_of R.in_doubt_of L.moment) self.old }
+        requires stands { StandsSomewhere (sees R.look L.moment) self.old }
         requires has_xid { IsXid xid.now }
-        ensures { GoesOn (sees R.held_of R.scan_of R.in_doubt_of L.moment)
-            (Steps.Vote rm xid.now vote) result self.old self.new }
+        ensures { GoesOn (sees R.look L.moment) (Steps.Vote rm xid.now vote) result self.old
+            self.new }
     {
         if let Some(refusal) = self.no_script(rm, xid) {
             return Twin::refused(refusal);
@@ -59,11 +57,10 @@ impl<R: ResourceManager + Drop, L: DecisionLog + Drop> Parts<R, L> {
 
     /// A resource manager is told how many commits to put off.
     pub(super) fn busy(&mut self, rm: u32, xid: &Xid, times: u32) -> Twin
-        requires stands { StandsSomewhere
-            (sees R.held_of R.scan_of R.in_doubt_of L.moment) self.old }
+        requires stands { StandsSomewhere (sees R.look L.moment) self.old }
         requires has_xid { IsXid xid.now }
-        ensures { GoesOn (sees R.held_of R.scan_of R.in_doubt_of L.moment)
-            (Steps.Busy rm xid.now times) result self.old self.new }
+        ensures { GoesOn (sees R.look L.moment) (Steps.Busy rm xid.now times) result self.old
+            self.new }
     {
         if let Some(refusal) = self.no_script(rm, xid) {
             return Twin::refused(refusal);
@@ -73,11 +70,10 @@ impl<R: ResourceManager + Drop, L: DecisionLog + Drop> Parts<R, L> {
 
     /// A resource manager ends a prepared branch by itself.
     pub(super) fn heuristic(&mut self, rm: u32, xid: &Xid, how: How) -> Twin
-        requires stands { StandsSomewhere
-            (sees R.held_of R.scan_of R.in_doubt_of L.moment) self.old }
+        requires stands { StandsSomewhere (sees R.look L.moment) self.old }
         requires has_xid { IsXid xid.now }
-        ensures { GoesOn (sees R.held_of R.scan_of R.in_doubt_of L.moment)
-            (Steps.Heuristic rm xid.now how) result self.old self.new }
+        ensures { GoesOn (sees R.look L.moment) (Steps.Heuristic rm xid.now how) result self.old
+            self.new }
     {
         if let Some(refusal) = self.no_script(rm, xid) {
             return Twin::refused(refusal);

@@ -13,7 +13,7 @@ returns-in-Ok-clause-given g c =
     let went_on = c.restart_over.ensures in
     from_both_err c.restart_over.result _ _ _
     (λ e given back order near honest.
-    let left = found_left rm.held_of rm.scan_of rm.in_doubt_of logs c.args.system.now c.take_log.new.self c.in-Some.log c.in-Ok.left
+    let left = found_left rm.look logs c.args.system.now c.take_log.new.self c.in-Some.log c.in-Ok.left
     c.take_log.result c.agree.ensures.parts took.up took.taken took.out took.was took.others c.in-Some.is found.honest found.order found.leaves
     order near (back honest) in
     given left.0 left.1 honest) went_on.given went_on.back
@@ -27,7 +27,7 @@ returns-in-Ok-clause-restarted g c =
     let went_on = c.restart_over.ensures in
     from_both c.restart_over.result _ _ _
     (λ reply restarted back order near honest count.
-    let left = found_left rm.held_of rm.scan_of rm.in_doubt_of logs c.args.system.now c.take_log.new.self c.in-Some.log c.in-Ok.left
+    let left = found_left rm.look logs c.args.system.now c.take_log.new.self c.in-Some.log c.in-Ok.left
     c.take_log.result c.agree.ensures.parts took.up took.taken took.out took.was took.others c.in-Some.is found.honest found.order found.leaves
     order near (back honest) in
     restarted left.0 left.1 honest (count ∙ sym found.faults) (omega (arith, found.faults))) went_on.restarted went_on.honest
@@ -40,9 +40,9 @@ returns-in-Ok-clause-back g c =
     let old = c.args.system.now in
     let log = c.in-Some.log in
     let some = sym c.in-Some.is in
-    let down = down_taken rm.held_of rm.scan_of rm.in_doubt_of logs old c.take_log.new.self log c.take_log.result took.up some in
+    let down = down_taken rm.look logs old c.take_log.new.self log c.take_log.result took.up some in
     for_err c.restart_over.result _ _
-    (λ e back honest. held_honest rm.held_of rm.scan_of rm.in_doubt_of logs old log (some ∙ took.taken down)
+    (λ e back honest. held_honest rm.look logs old log (some ∙ took.taken down)
     (c.in-Ok.ensures.honest (back honest))) c.restart_over.ensures.back
 
 pub returns-in-Ok-clause-honest : goal.returns-in-Ok-clause-honest
@@ -53,7 +53,7 @@ returns-in-Ok-clause-honest g c =
     let old = c.args.system.now in
     let log = c.in-Some.log in
     let some = sym c.in-Some.is in
-    let down = down_taken rm.held_of rm.scan_of rm.in_doubt_of logs old c.take_log.new.self log c.take_log.result took.up some in
+    let down = down_taken rm.look logs old c.take_log.new.self log c.take_log.result took.up some in
     for_ok c.restart_over.result _ _
-    (λ reply was honest. held_honest rm.held_of rm.scan_of rm.in_doubt_of logs old log (some ∙ took.taken down)
+    (λ reply was honest. held_honest rm.look logs old log (some ∙ took.taken down)
     (c.in-Ok.ensures.honest (was honest))) c.restart_over.ensures.honest

@@ -2,14 +2,13 @@ use Rattle.std.proofs.Common.{◌∙◌, subst, sym}
 use Rattle.std.specs.Prelude.{IsSomeAnd}
 use Rattle.xa_system.specs.LogInHistory.{StartsOver}
 use Rattle.xa_system.specs.SystemView.{origin_in}
-use Rattle.xa_system.specs.RmInHistory.{looks}
 use Rattle.xa_tm.specs.Slots.{slot_moment}
 use Rattle.uses.proofs.own_log.run_over.Goals as goal
 
 pub returns-clause-starts : goal.returns-clause-starts
 returns-clause-starts g c honest =
     let moment = g.L.DecisionLog.moment in
-    let look = looks g.R.ResourceManager.held_of g.R.ResourceManager.scan_of g.R.ResourceManager.in_doubt_of in
+    let look = g.R.ResourceManager.look in
     let ran = c.run-ran.ensures in
     let made = c.in_ok-system.ensures in
     let first = ran.handed.1 ∙ made.handed.1 in

@@ -10,7 +10,7 @@ use Rattle.uses.proofs.processes.first_process.Goals as goal
 pub returns-in-Ok-new : goal.returns-in-Ok-new
 returns-in-Ok-new c =
     let moment = (memory.ghosts).moment in
-    let see = observes (mem_rm.ghosts).held_of (mem_rm.ghosts).scan_of (mem_rm.ghosts).in_doubt_of moment in
+    let see = observes (mem_rm.ghosts).look moment in
     let made = c.in-Ok-new.ensures in
     let ran = c.run-ran.ensures in
     let began = c.in-Ok-new.system in

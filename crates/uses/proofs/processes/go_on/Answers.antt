@@ -1,6 +1,5 @@
 use Rattle.std.proofs.Common.{◌∙◌, subst, sym}
 use Rattle.xa_model.specs.Promises.Processes.{Resumes}
-use Rattle.xa_system.specs.RmInHistory.{looks}
 use Rattle.xa_system.specs.SystemView.{observes, origin_in}
 use Rattle.uses.proofs.LaterProcesses.{of_held, resumes}
 use Rattle.uses.proofs.processes.go_on.Goals as goal
@@ -16,7 +15,7 @@ returns-in-Ok-clause-near g c order honest =
 pub returns-in-Ok-clause-follows : goal.returns-in-Ok-clause-follows
 returns-in-Ok-clause-follows g c past ends honest =
     let moment = g.L.DecisionLog.moment in
-    let see = observes g.R.ResourceManager.held_of g.R.ResourceManager.scan_of g.R.ResourceManager.in_doubt_of moment in
+    let see = observes g.R.ResourceManager.look moment in
     let made = c.in-Ok.ensures in
     let ran = c.run-ran.ensures in
     let log = c.in-Some.log in
@@ -34,7 +33,7 @@ returns-in-Ok-clause-chain g c past ends honest =
     let moment = g.L.DecisionLog.moment in
     let made = c.in-Ok.ensures in
     let ran = c.run-ran.ensures in
-    let look = looks g.R.ResourceManager.held_of g.R.ResourceManager.scan_of g.R.ResourceManager.in_doubt_of in
+    let look = g.R.ResourceManager.look in
     let start = origin_in look c.run-ran.new.self in
     let events = c.run-ran.new.self.events in
     let resumed : Resumes past start = returns-in-Ok-clause-follows g c past ends honest in

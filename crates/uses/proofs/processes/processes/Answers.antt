@@ -12,7 +12,7 @@ loop-steps-init c = c.in_ok-system.ensures
 
 pub loop-steps-preserved : goal.loop-steps-preserved
 loop-steps-preserved c =
-    let see = observes (mem_rm.ghosts).held_of (mem_rm.ghosts).scan_of (mem_rm.ghosts).in_doubt_of (memory.ghosts).moment in
+    let see = observes (mem_rm.ghosts).look (memory.ghosts).moment in
     let first = c.args.first.now in
     let later = c.args.later.now in
     let i = c.loop-steps.steps-index in
@@ -26,7 +26,7 @@ loop-steps-preserved c =
 
 pub returns : goal.returns
 returns c =
-    let see = observes (mem_rm.ghosts).held_of (mem_rm.ghosts).scan_of (mem_rm.ghosts).in_doubt_of (memory.ghosts).moment in
+    let see = observes (mem_rm.ghosts).look (memory.ghosts).moment in
     let later = c.args.later.now in
     let i = c.loop-steps.steps-index in
     let many : length later ≤ i = omega (arith, c.loop-steps-test.false) in

@@ -8,5 +8,5 @@ use Rattle.uses.proofs.processes.processes.Given as goal
 -- the processes so far
 abbrev pub invariant-loop-steps : goal.invariant-loop-steps
 invariant-loop-steps l =
-    AreProcesses (observes (mem_rm.ghosts).held_of (mem_rm.ghosts).scan_of (mem_rm.ghosts).in_doubt_of (memory.ghosts).moment)
+    AreProcesses (observes (mem_rm.ghosts).look (memory.ghosts).moment)
     (l.first ∷ map (λ steps. steps.items) (take l.steps-index l.later)) l.system

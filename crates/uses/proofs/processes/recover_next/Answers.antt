@@ -1,12 +1,11 @@
 use Rattle.xa_system.proofs.Rms.InDoubt.{lists_found}
-use Rattle.xa_system.specs.RmInHistory.{looks}
 use Rattle.xa_system.specs.SystemView.{origin_in}
 use Rattle.uses.proofs.Recoveries.{ends_recovered}
 use Rattle.uses.proofs.processes.recover_next.Goals as goal
 
 pub returns-clause-recovers : goal.returns-clause-recovers
 returns-clause-recovers g c past ends honest before =
-    let look = looks g.R.ResourceManager.held_of g.R.ResourceManager.scan_of g.R.ResourceManager.in_doubt_of in
+    let look = g.R.ResourceManager.look in
     let system = c.in_ok-system.system in
     let start = origin_in look system in
     let parts = c.agree.ensures.parts in

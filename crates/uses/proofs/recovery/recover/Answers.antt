@@ -1,7 +1,6 @@
 use Rattle.std.proofs.Common.{inl, inr}
 use Rattle.xa_system.proofs.Rms.InDoubt.{lists_found}
 use Rattle.xa_system.specs.SystemView.{origin_in}
-use Rattle.xa_system.specs.RmInHistory.{looks}
 use Rattle.uses.proofs.Recoveries.{recovered}
 use Rattle.uses.proofs.recovery.recover.Goals as goal
 
@@ -13,7 +12,7 @@ returns g c r count names answers (inl right) is none enough put_off =
     old.numbers c.run-ran.ensures.start c.run-ran.ensures.parts.allowed is none enough put_off
 returns g c r count names answers (inr resumed) is none enough put_off =
     let old = c.agree.ensures.parts in
-    let start = origin_in (looks g.R.ResourceManager.held_of g.R.ResourceManager.scan_of g.R.ResourceManager.in_doubt_of) c.args.system.now in
+    let start = origin_in g.R.ResourceManager.look c.args.system.now in
     recovered _ _ _ _ r count names answers
     (c.across_processes.ensures.recovers resumed.0 start _ r count names answers resumed.1 resumed.2 old.old (lists_found start old.listed) old.allowed)
     old.numbers c.run-ran.ensures.start c.run-ran.ensures.parts.allowed is none enough put_off

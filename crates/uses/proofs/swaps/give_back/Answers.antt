@@ -6,6 +6,6 @@ pub returns-in-Some : goal.returns-in-Some
 returns-in-Some g c =
     let took = c.take_log.ensures in
     let gave = c.give_log.ensures in
-    given_back g.R.ResourceManager.held_of g.R.ResourceManager.scan_of g.R.ResourceManager.in_doubt_of g.L.DecisionLog.moment _ _ c.in-Some.log
+    given_back g.R.ResourceManager.look g.L.DecisionLog.moment _ _ c.in-Some.log
     c.take_log.result c.give_log.result c.agree.ensures.parts took.up took.taken took.out took.others (sym c.in-Some.is) gave.back gave.only_up
     gave.only_other_rows

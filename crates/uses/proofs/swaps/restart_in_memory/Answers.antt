@@ -9,9 +9,7 @@ use Rattle.uses.proofs.swaps.restart_in_memory.Goals as goal
 
 pub returns-clause-given : goal.returns-clause-given
 returns-clause-given c =
-    let held_of = (mem_rm.ghosts).held_of in
-    let scan_of = (mem_rm.ghosts).scan_of in
-    let in_doubt_of = (mem_rm.ghosts).in_doubt_of in
+    let look = (mem_rm.ghosts).look in
     let moment = (memory.ghosts).moment in
     let made = c.in-Ok-new.ensures in
     let crashed = c.step-crashed.ensures in
@@ -21,7 +19,7 @@ returns-clause-given c =
     let taken = c.take_log.new.self in
     let log = c.in-Some.log in
     let some = sym c.in-Some.is in
-    let down = down_taken held_of scan_of in_doubt_of memory.ghosts old taken log c.take_log.result took.up some in
+    let down = down_taken look memory.ghosts old taken log c.take_log.result took.up some in
     let here = some ∙ took.taken down in
     let order = c.new-2.ensures.order in
     let first_order = subst (λ l. (moment l).is_in_order) (sym made.handed.0) order in
@@ -29,7 +27,7 @@ returns-clause-given c =
     let began = always_honest (λ l. Unit {0}) first.log.was.value first.log.log (λ l. tt) in
     let now = always_honest (λ l. Unit {0}) old.log.was.value old.log.log (λ l. tt) in
     let near = crashed.crash first_order now (made.near order began) (made.crash order began) in
-    let left_order = order_taken held_of scan_of in_doubt_of memory.ghosts old log crashed.parts old_order here in
-    let is = is_left held_of scan_of in_doubt_of memory.ghosts old taken log log (content_held log) crashed.parts down took.others here
+    let left_order = order_taken look memory.ghosts old log crashed.parts old_order here in
+    let is = is_left look memory.ghosts old taken log log (content_held log) crashed.parts down took.others here
     (took.out down) (took.was log c.in-Some.is) old_order near tt refl left_order refl in
     for_err c.restart_over-restarted.result _ _ (λ e given. given (content_held log) is tt) c.restart_over-restarted.ensures.given

@@ -2,7 +2,6 @@ use Rattle.std.proofs.Common.{◌∙◌}
 use Rattle.std.specs.Prelude.{Err}
 use Rattle.xa_model.specs.Facts.{up}
 use Rattle.xa_system.specs.SystemView.{trace_in}
-use Rattle.xa_system.specs.RmInHistory.{Looks, looks}
 use Rattle.xa_tm.specs.Slots.{log_held}
 use Rattle.uses.proofs.LogSwaps.{left_down, not_blamed, not_there_yet, same_start, was_honest, why_not}
 use Rattle.uses.proofs.swaps.restart_over.Goals as goal
@@ -11,28 +10,28 @@ pub returns-in-Ok-clause-restarted : goal.returns-in-Ok-clause-restarted
 returns-in-Ok-clause-restarted g c content is =
     let gave = c.in-Ok.ensures in
     let did = c.step.ensures in
-    not_blamed g.R.ResourceManager.held_of g.R.ResourceManager.scan_of g.R.ResourceManager.in_doubt_of g.L.DecisionLog c.args.system.now
+    not_blamed g.R.ResourceManager.look g.L.DecisionLog c.args.system.now
     c.give_log.new.self c.step.new.self c.args.left content _
     c.step.result gave.others gave.ok is.order is.content (is.near content is.leaves) did.full did.adds did.honest did.faults
 
 pub returns-in-Ok-clause-honest : goal.returns-in-Ok-clause-honest
 returns-in-Ok-clause-honest g c honest =
-    was_honest g.R.ResourceManager.held_of g.R.ResourceManager.scan_of g.R.ResourceManager.in_doubt_of g.L.DecisionLog
+    was_honest g.R.ResourceManager.look g.L.DecisionLog
     c.give_log.new.self c.args.left c.in-Ok.ensures.ok (c.step.ensures.honest honest)
 
 pub returns-in-Ok-clause-start : goal.returns-in-Ok-clause-start
 returns-in-Ok-clause-start g c =
     c.step.ensures.start
-    ∙ same_start g.R.ResourceManager.held_of g.R.ResourceManager.scan_of g.R.ResourceManager.in_doubt_of g.L.DecisionLog
+    ∙ same_start g.R.ResourceManager.look g.L.DecisionLog
     c.args.system.now c.give_log.new.self c.args.left c.in-Ok.ensures.others
 
 pub returns-in-Err-clause-given : goal.returns-in-Err-clause-given
 returns-in-Err-clause-given g c content is =
-    let look : Looks g.row.R.Denot = looks g.R.ResourceManager.held_of g.R.ResourceManager.scan_of g.R.ResourceManager.in_doubt_of in
+    let look = g.R.ResourceManager.look in
     let old = c.args.system.now in
     let tr = trace_in look old in
     let gave = c.in-Err.ensures in
     why_not {A = Unit {0}} g.L.DecisionLog.moment tr c.args.left (Err c.in-Err.fault) _ gave.back gave.only_up gave.only_other_rows
-    (not_there_yet g.R.ResourceManager.held_of g.R.ResourceManager.scan_of g.R.ResourceManager.in_doubt_of g.L.DecisionLog.moment
+    (not_there_yet g.R.ResourceManager.look g.L.DecisionLog.moment
     (up tr) (log_held old.log) is.down is.out) is.order content is.content
     (λ honest. left_down tr content is.down (c.agree.ensures.parts.log.leaves is.was_in_order is.was_honest content is.leaves))

@@ -6,12 +6,11 @@ use Rattle.xa_scenario.specs.Scenarios.{plan_of}
 use Rattle.xa_scenario.proofs.PlayLemmas.{performs_also}
 use Rattle.xa_scenario.proofs.RunLemmas.{is_run}
 use Rattle.xa_system.specs.SystemView.{origin_in}
-use Rattle.xa_system.specs.RmInHistory.{looks}
 use Rattle.xa_scenario.proofs.after_run.after_play.Goals as goal
 
 pub returns-clause-run : goal.returns-clause-run
 returns-clause-run g c =
-    let look = looks g.R.ResourceManager.held_of g.R.ResourceManager.scan_of g.R.ResourceManager.in_doubt_of in
+    let look = g.R.ResourceManager.look in
     let plan = plan_of c.args.scenario.now in
     let system = c.play.new.system in
     let played = subst (λ entries. Performs (IsPlay [] entries) c.args.system.events system.events) c.deref.ensures.value

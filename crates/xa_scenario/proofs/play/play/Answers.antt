@@ -8,7 +8,7 @@ use Rattle.xa_scenario.proofs.play.play.Goals.{in-Some+in_ok-push, in_default}
 
 pub loop-entry-preserved : goal.loop-entry-preserved
 loop-entry-preserved g c =
-    let see = observes g.R.ResourceManager.held_of g.R.ResourceManager.scan_of g.R.ResourceManager.in_doubt_of g.L.DecisionLog.moment in
+    let see = observes g.R.ResourceManager.look g.L.DecisionLog.moment in
     let gtrids = c.loop-entry.gtrids.items in
     let entries = c.args.entries.now in
     let i = c.loop-entry.entry-index in
@@ -33,5 +33,5 @@ returns-clause-performs g c =
 
 pub returns-in_err-push-clause-log : goal.returns-in_err-push-clause-log
 returns-in_err-push-clause-log g c =
-    let see = observes g.R.ResourceManager.held_of g.R.ResourceManager.scan_of g.R.ResourceManager.in_doubt_of g.L.DecisionLog.moment in
+    let see = observes g.R.ResourceManager.look g.L.DecisionLog.moment in
     kept_on see c.args.system.now c.loop-entry.system c.play_entry.new.system c.loop-entry.invariant.log c.play_entry.ensures.log

@@ -1,6 +1,5 @@
 use Rattle.std.proofs.lemmas.Result.{on_ok_weaker}
 use Rattle.xa_scenario.proofs.ReportLemmas.{adds_report}
-use Rattle.xa_system.specs.RmInHistory.{looks}
 use Rattle.xa_system.specs.SystemView.{trace_in}
 use Rattle.xa_scenario.proofs.processes.add_started.Goals as goal
 
@@ -8,7 +7,7 @@ pub returns-clause-added : goal.returns-clause-added
 returns-clause-added g c =
     on_ok_weaker c.add_names.result
     (λ is. adds_report
-    (trace_in (looks g.R.ResourceManager.held_of g.R.ResourceManager.scan_of g.R.ResourceManager.in_doubt_of) c.args.system.now)
+    (trace_in g.R.ResourceManager.look c.args.system.now)
     c.in_ok-report.report.items c.in_ok-report.ensures.listed
     c.args.names.now.items c.add_names.new.names.items c.in_ok-report.ensures.in_order is)
     c.add_names.ensures.added

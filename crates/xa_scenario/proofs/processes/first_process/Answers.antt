@@ -2,14 +2,13 @@ use Rattle.std.proofs.Common.{[], subst}
 use Rattle.xa_scenario.specs.Processes.{HasPlayed}
 use Rattle.xa_scenario.specs.Scenarios.{plan_of}
 use Rattle.xa_scenario.proofs.ProcessLemmas.{first_stands}
-use Rattle.xa_system.specs.RmInHistory.{looks}
 use Rattle.xa_system.specs.SystemView.{observes}
 use Rattle.xa_scenario.proofs.processes.first_process.Goals as goal
 
 pub returns-clause-last : goal.returns-clause-last
 returns-clause-last g c =
-    let look = looks g.R.ResourceManager.held_of g.R.ResourceManager.scan_of g.R.ResourceManager.in_doubt_of in
-    let see = observes g.R.ResourceManager.held_of g.R.ResourceManager.scan_of g.R.ResourceManager.in_doubt_of g.L.DecisionLog.moment in
+    let look = g.R.ResourceManager.look in
+    let see = observes g.R.ResourceManager.look g.L.DecisionLog.moment in
     let plan = plan_of c.args.scenario.now in
     let begun = c.in_ok-system.system in
     let s = c.play_process.new.system in

@@ -3,20 +3,19 @@ use Rattle.xa_files.proofs.TablesInTurnLemmas.{same_err}
 use Rattle.xa_scenario.proofs.ProcessLemmas.{goes_on, left_there, over_a_branch, over_the_log}
 use Rattle.xa_scenario.proofs.StartLemmas.{has_started}
 use Rattle.xa_system.specs.LogInHistory.{StartsOver}
-use Rattle.xa_system.specs.RmInHistory.{looks}
 use Rattle.xa_system.specs.SystemView.{observes, origin_in}
 use Rattle.xa_system.specs.declared.resume.ResumeFault.TheVariants as faults
 use Rattle.xa_scenario.proofs.processes.next_system.Goals as goal
 
 pub returns-in-Ok-resume-clause-goes_on : goal.returns-in-Ok-resume-clause-goes_on
 returns-in-Ok-resume-clause-goes_on g c =
-    let look = looks g.R.ResourceManager.held_of g.R.ResourceManager.scan_of g.R.ResourceManager.in_doubt_of in
+    let look = g.R.ResourceManager.look in
     let moment = g.L.DecisionLog.moment in
     let new = c.in-Ok-resume.system in
     let at : c.in-Ok.remains.log ≡ Some c.in_ok-log.log = left_there _ _ (c.in_ok-log.ensures) in
     let resumed = c.in-Ok-resume.ensures in
     goes_on look moment _ c.in-Ok.remains.rms.items c.args.system new (sym c.in-Ok.ensures.log ∙ at)
-    (has_started (observes g.R.ResourceManager.held_of g.R.ResourceManager.scan_of g.R.ResourceManager.in_doubt_of moment) _ new refl
+    (has_started (observes g.R.ResourceManager.look moment) _ new refl
     resumed.held.0 resumed.handed.0 resumed.honest
     (λ order honest.
     subst (λ log. IsSomeAnd (moment log).content (StartsOver (origin_in look new))) resumed.handed.1
@@ -28,7 +27,7 @@ returns-in-Ok-resume-clause-goes_on g c =
 
 pub returns-in-Err-clause-log : goal.returns-in-Err-clause-log
 returns-in-Err-clause-log g c = λ told.
-    let look = looks g.R.ResourceManager.held_of g.R.ResourceManager.scan_of g.R.ResourceManager.in_doubt_of in
+    let look = g.R.ResourceManager.look in
     let at : c.in-Ok.remains.log ≡ Some c.in_ok-log.log = left_there _ _ (c.in_ok-log.ensures) in
     let fault = c.resume_fault.ensures.log.0 (same_err _ _ told) in
     ⊎_elim

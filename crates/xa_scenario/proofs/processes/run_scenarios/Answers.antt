@@ -54,7 +54,7 @@ returns-in_err-write_text-clause-begun g c =
     let later = c.in-Some.later.now in
     let i = c.loop-i.i in
     let process = c.loop-i.process in
-    let see = observes (memory.ghosts).held_of (memory.ghosts).scan_of (memory.ghosts).in_doubt_of g.L.DecisionLog.moment in
+    let see = observes (memory.ghosts).look g.L.DecisionLog.moment in
     rw (p.1, p.2) (λ e. stops_in see c.args.log inv.0.rms c.args.with_trace (map plan_of c.args.scenarios.now) process.gtrids.items process.names.items
     process.system inv.0 (map plan_of (take i later)) (map plan_of (drop i later)) (with_rest plan_of inv.0 later i ∙ inv.1) (string_bytes process.text)
     (contents c.args.out.now) (contents c.loop-i.out) (contents c.write_text.new.out) inv.2
@@ -69,7 +69,7 @@ returns-in_err-process-2-clause-stopped g c =
     let later = c.in-Some.later.now in
     let i = c.loop-i.i in
     let process = c.loop-i.process in
-    let see = observes (memory.ghosts).held_of (memory.ghosts).scan_of (memory.ghosts).in_doubt_of g.L.DecisionLog.moment in
+    let see = observes (memory.ghosts).look g.L.DecisionLog.moment in
     rw (p.1, p.2) (λ e. stops_between see c.args.log inv.0.rms c.args.with_trace (map plan_of c.args.scenarios.now) process.gtrids.items process.names.items
     process.system inv.0 (map plan_of (take i later)) (map plan_of (drop i later)) (with_rest plan_of inv.0 later i ∙ inv.1) (string_bytes process.text)
     (contents c.args.out.now) (contents c.loop-i.out) (contents c.write_text.new.out) inv.2
@@ -86,7 +86,7 @@ loop-i-preserved g c =
     let process = c.loop-i.process in
     let next = c.in_ok-process-2.process in
     let all = map plan_of c.args.scenarios.now in
-    let see = observes (memory.ghosts).held_of (memory.ghosts).scan_of (memory.ghosts).in_doubt_of g.L.DecisionLog.moment in
+    let see = observes (memory.ghosts).look g.L.DecisionLog.moment in
     let plans = inv.0 ∷ map plan_of (take i later) in
     let more = plans ++ plan_of x ∷ [] in
     let printed = inv.2 in
@@ -122,7 +122,7 @@ returns-clause-ok g c =
     let later = c.in-Some.later.now in
     let process = c.loop-i.process in
     let all = map plan_of c.args.scenarios.now in
-    let see = observes (memory.ghosts).held_of (memory.ghosts).scan_of (memory.ghosts).in_doubt_of g.L.DecisionLog.moment in
+    let see = observes (memory.ghosts).look g.L.DecisionLog.moment in
     let printed = subst (λ plans. HavePrinted see c.args.log inv.0.rms c.args.with_trace all process.gtrids.items process.names.items process.system plans
     (string_bytes process.text) (contents c.args.out.now) (contents c.loop-i.out))
     (all_are plan_of inv.0 later c.loop-i.i c.loop-i-test.false ∙ inv.1) inv.2 in
@@ -141,7 +141,7 @@ returns-clause-begun g c =
     let later = c.in-Some.later.now in
     let process = c.loop-i.process in
     let all = map plan_of c.args.scenarios.now in
-    let see = observes (memory.ghosts).held_of (memory.ghosts).scan_of (memory.ghosts).in_doubt_of g.L.DecisionLog.moment in
+    let see = observes (memory.ghosts).look g.L.DecisionLog.moment in
     let printed = subst (λ plans. HavePrinted see c.args.log inv.0.rms c.args.with_trace all process.gtrids.items process.names.items process.system plans
     (string_bytes process.text) (contents c.args.out.now) (contents c.loop-i.out))
     (all_are plan_of inv.0 later c.loop-i.i c.loop-i-test.false ∙ inv.1) inv.2 in
@@ -161,7 +161,7 @@ returns-in_err-process-2-clause-log g c =
     let i = c.loop-i.i in
     let process = c.loop-i.process in
     let x = c.index-later-i.result in
-    let see = observes (memory.ghosts).held_of (memory.ghosts).scan_of (memory.ghosts).in_doubt_of g.L.DecisionLog.moment in
+    let see = observes (memory.ghosts).look g.L.DecisionLog.moment in
     rw (p.1, p.2) (λ e. stops_behind see c.args.log inv.0.rms c.args.with_trace (map plan_of c.args.scenarios.now) process.gtrids.items
     process.names.items process.system inv.0 (map plan_of (take i later)) (map plan_of (drop i later)) (with_rest plan_of inv.0 later i ∙ inv.1)
     (string_bytes process.text) (g.W.Write.contents c.args.out.now) (g.W.Write.contents c.loop-i.out) (g.W.Write.contents c.write_text.new.out) inv.2

@@ -7,6 +7,6 @@ use Rattle.xa_scenario.proofs.processes.run_scenarios.Given as goal
 
 abbrev pub invariant-loop-i : goal.invariant-loop-i
 invariant-loop-i g l = (plan : Plan) × (plan ∷ map plan_of l.later ≡ map plan_of l.scenarios)
-    × HavePrinted (observes (memory.ghosts).held_of (memory.ghosts).scan_of (memory.ghosts).in_doubt_of g.L.DecisionLog.moment) l.fn.log plan.rms
+    × HavePrinted (observes (memory.ghosts).look g.L.DecisionLog.moment) l.fn.log plan.rms
     l.with_trace (map plan_of l.scenarios) l.process.gtrids.items l.process.names.items l.process.system (plan ∷ map plan_of (take l.i l.later))
     (string_bytes l.process.text) (g.W.Write.contents l.fn.out) (g.W.Write.contents l.out)

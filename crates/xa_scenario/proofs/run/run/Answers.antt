@@ -7,12 +7,11 @@ use Rattle.xa_scenario.specs.Scenarios.{plan_of}
 use Rattle.xa_scenario.proofs.PlayLemmas.{performs_also}
 use Rattle.xa_scenario.proofs.RunLemmas.{is_run, on_output_of}
 use Rattle.xa_system.specs.SystemView.{origin_in}
-use Rattle.xa_system.specs.RmInHistory.{looks}
 use Rattle.xa_scenario.proofs.run.run.Goals as goal
 
 pub returns-clause-prints : goal.returns-clause-prints
 returns-clause-prints g c =
-    let look = looks g.R.ResourceManager.held_of g.R.ResourceManager.scan_of g.R.ResourceManager.in_doubt_of in
+    let look = g.R.ResourceManager.look in
     let contents = g.W.Write.contents in
     let plan = plan_of c.args.scenario.now in
     let system = c.play.new.system in
@@ -36,7 +35,7 @@ returns-clause-prints g c =
 
 pub returns-clause-begun : goal.returns-clause-begun
 returns-clause-begun g c =
-    let look = looks g.R.ResourceManager.held_of g.R.ResourceManager.scan_of g.R.ResourceManager.in_doubt_of in
+    let look = g.R.ResourceManager.look in
     let contents = g.W.Write.contents in
     let plan = plan_of c.args.scenario.now in
     let system = c.play.new.system in

@@ -4,12 +4,11 @@ use Rattle.xa_scenario.specs.Runs.{IsNewRm}
 use Rattle.xa_scenario.proofs.run.system_of.Goals as goal
 use Rattle.xa_system.specs.LogInHistory.{StartsOver}
 use Rattle.xa_system.specs.SystemView.{HasWrongSize, observes, origin_in}
-use Rattle.xa_system.specs.RmInHistory.{looks}
 use Rattle.xa_system.specs.declared.system.NewFault.TheVariants as faults
 
 pub returns-in-Ok-clause-start : goal.returns-in-Ok-clause-start
 returns-in-Ok-clause-start g c =
-    let look = looks g.R.ResourceManager.held_of g.R.ResourceManager.scan_of g.R.ResourceManager.in_doubt_of in
+    let look = g.R.ResourceManager.look in
     let rms = c.in-Ok.system.start in
     let each : All (IsNewRm look) rms = subst (All (IsNewRm look)) (sym c.in-Ok.ensures.ok.1) c.requires.new in
     record {
@@ -22,10 +21,10 @@ returns-in-Ok-clause-start g c =
 
 pub returns-in-Ok-clause-over : goal.returns-in-Ok-clause-over
 returns-in-Ok-clause-over g c =
-    let look = looks g.R.ResourceManager.held_of g.R.ResourceManager.scan_of g.R.ResourceManager.in_doubt_of in
+    let look = g.R.ResourceManager.look in
     let moment = g.L.DecisionLog.moment in
     let system = c.in-Ok.system in
-    has_started (observes g.R.ResourceManager.held_of g.R.ResourceManager.scan_of g.R.ResourceManager.in_doubt_of moment) c.args.log system refl
+    has_started (observes g.R.ResourceManager.look moment) c.args.log system refl
     c.in-Ok.ensures.held.0 c.in-Ok.ensures.handed.0 c.in-Ok.ensures.honest
     (λ order honest.
     subst (λ log. IsSomeAnd (moment log).content (StartsOver (origin_in look system))) c.in-Ok.ensures.handed.1

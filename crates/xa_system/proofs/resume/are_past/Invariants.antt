@@ -1,4 +1,3 @@
-use Rattle.xa_system.specs.RmInHistory.{looks}
 use Rattle.xa_system.specs.SystemView.{IsOfPast}
 use Rattle.xa_system.specs.declared.site.Site.{Site}
 use Rattle.xa_system.proofs.Histories.Start.{HoldsBelow}
@@ -7,5 +6,5 @@ use Rattle.xa_system.proofs.resume.are_past.Given as goal
 -- those so far are of the past
 abbrev pub invariant-loop-rm : goal.invariant-loop-rm
 invariant-loop-rm g l = HoldsBelow (λ r (site : Site g.row.R.Denot).
-    IsOfPast (looks g.R.ResourceManager.held_of g.R.ResourceManager.scan_of g.R.ResourceManager.in_doubt_of) l.fn.incarnation r site.rm)
+    IsOfPast g.R.ResourceManager.look l.fn.incarnation r site.rm)
     l.sites l.rm

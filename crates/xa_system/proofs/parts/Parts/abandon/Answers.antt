@@ -2,14 +2,13 @@ use Rattle.std.proofs.Common.{inl, refl, sym, ap, subst}
 use Rattle.xa_base.specs.declared.step.Step.TheVariants as Steps
 use Rattle.xa_tm.specs.Calls.{book_in, log_in}
 use Rattle.xa_tm.specs.BookAndLog.{IsTied}
-use Rattle.xa_system.specs.Parts.{Sees, sees}
+use Rattle.xa_system.specs.Parts.{sees}
 use Rattle.xa_system.proofs.Steps.OfManager.{abandon_did, manager_refused}
 use Rattle.xa_system.proofs.parts.Parts.abandon.Goals as goal
 
 pub returns-in-Ok : goal.returns-in-Ok
 returns-in-Ok g c =
-    let see : Sees g.row.R.Denot g.row.L.Denot =
-    sees g.R.ResourceManager.held_of g.R.ResourceManager.scan_of g.R.ResourceManager.in_doubt_of g.L.DecisionLog.moment in
+    let see = sees g.R.ResourceManager.look g.L.DecisionLog.moment in
     let old = c.args.self.now.manager in
     let new = c.abandon.new.self in
     let same = c.in-Ok.ensures.log in
@@ -24,8 +23,7 @@ returns-in-Ok g c =
 
 pub returns-in-Err : goal.returns-in-Err
 returns-in-Err g c =
-    let see : Sees g.row.R.Denot g.row.L.Denot =
-    sees g.R.ResourceManager.held_of g.R.ResourceManager.scan_of g.R.ResourceManager.in_doubt_of g.L.DecisionLog.moment in
+    let see = sees g.R.ResourceManager.look g.L.DecisionLog.moment in
     manager_refused see {A = Unit {0}} (Steps.Abandon c.args.gtrid) c.args.self.now c.abandon.new.self c.in-Err.refusal c.refused.result tt tt
     (λ tr. refl) (λ tr. tt) c.refused.ensures c.in-Err.ensures.refused c.in-Err.ensures.err
     (λ other. c.in-Err.ensures.log)

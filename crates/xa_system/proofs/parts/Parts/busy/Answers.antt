@@ -6,15 +6,14 @@ use Rattle.xa_model.specs.Replies.Steps as known
 use Rattle.xa_model.specs.Trace.{Happening.PutOff}
 use Rattle.xa_base.specs.declared.step.Step.TheVariants as Steps
 use Rattle.xa_rm.specs.ResourceManager.{retrying}
-use Rattle.xa_system.specs.Parts.{Sees, sees}
+use Rattle.xa_system.specs.Parts.{sees}
 use Rattle.xa_system.proofs.Steps.Crash.{rm_read}
 use Rattle.xa_system.proofs.Steps.Script.{is_there, never_scripts, put_off, put_off_script, script_hinders, script_told}
 use Rattle.xa_system.proofs.parts.Parts.busy.Goals as goal
 
 pub returns-in-Some : goal.returns-in-Some
 returns-in-Some g c =
-    let see : Sees g.row.R.Denot g.row.L.Denot =
-    sees g.R.ResourceManager.held_of g.R.ResourceManager.scan_of g.R.ResourceManager.in_doubt_of g.L.DecisionLog.moment in
+    let see = sees g.R.ResourceManager.look g.L.DecisionLog.moment in
     let p = c.args.self.now in
     let r = c.args.rm in
     let x = c.args.xid.now in
@@ -24,8 +23,7 @@ returns-in-Some g c =
 
 pub returns : goal.returns
 returns g c tr stands few =
-    let see : Sees g.row.R.Denot g.row.L.Denot =
-    sees g.R.ResourceManager.held_of g.R.ResourceManager.scan_of g.R.ResourceManager.in_doubt_of g.L.DecisionLog.moment in
+    let see = sees g.R.ResourceManager.look g.L.DecisionLog.moment in
     let p = c.args.self.now in
     let r = c.args.rm in
     let x = c.args.xid.now in
@@ -37,4 +35,4 @@ returns g c tr stands few =
     (λ b named here other. ap not (is_there r (name_of x) b named here))
     refl tt (λ b named. ap (λ m. known.happened (Steps.Busy r m v) Replies.Noted) named) c.requires.has_xid (λ b. put_off tr b v)
     (λ b. put_off_script tr b v) (λ b l. refl) (λ b l. refl) (λ b l. refl) (λ b l. refl) (λ b. stands.book)
-    c.retry.ensures.held c.retry.ensures.err c.retry.ensures.scans
+    c.retry.ensures.ok c.retry.ensures.err

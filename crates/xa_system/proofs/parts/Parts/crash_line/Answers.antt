@@ -4,23 +4,21 @@ use Rattle.xa_base.specs.declared.step.Part.TheVariants as KnownParts
 use Rattle.xa_base.specs.declared.step.Step.TheVariants as Steps
 use Rattle.xa_model.specs.Trace.{Happening.Crashed}
 use Rattle.xa_system.proofs.Log.Changes.{log_kept}
-use Rattle.xa_system.specs.Parts.{Sees, sees}
+use Rattle.xa_system.specs.Parts.{sees}
 use Rattle.xa_system.proofs.Steps.Crash.{crash_line_down, crash_line_leads, crash_line_limit, crash_line_rm_down, same_up}
 use Rattle.xa_system.proofs.Histories.Standing.{refused_goes, site_read}
 use Rattle.xa_system.proofs.parts.Parts.crash_line.Goals as goal
 
 pub returns-then-not-has_line : goal.returns-then-not-has_line
 returns-then-not-has_line g c =
-    let see : Sees g.row.R.Denot g.row.L.Denot =
-    sees g.R.ResourceManager.held_of g.R.ResourceManager.scan_of g.R.ResourceManager.in_doubt_of g.L.DecisionLog.moment in
+    let see = sees g.R.ResourceManager.look g.L.DecisionLog.moment in
     let p = c.args.self.now in
     refused_goes see (Steps.Crash (KnownParts.Line c.args.thread c.args.rm)) p c.refused.result Refusals.Limit tt c.refused.ensures
     (λ tr stands. crash_line_limit see tr p c.args.thread c.args.rm (sym c.has_line.ensures ∙ c.if-not-has_line.true) stands)
 
 pub returns-then-not-is_up : goal.returns-then-not-is_up
 returns-then-not-is_up g c =
-    let see : Sees g.row.R.Denot g.row.L.Denot =
-    sees g.R.ResourceManager.held_of g.R.ResourceManager.scan_of g.R.ResourceManager.in_doubt_of g.L.DecisionLog.moment in
+    let see = sees g.R.ResourceManager.look g.L.DecisionLog.moment in
     let p = c.args.self.now in
     refused_goes see (Steps.Crash (KnownParts.Line c.args.thread c.args.rm)) p c.refused-then-not-is_up.result Refusals.ManagerDown tt
     c.refused-then-not-is_up.ensures
@@ -29,8 +27,7 @@ returns-then-not-is_up g c =
 
 pub returns-then-not-index : goal.returns-then-not-index
 returns-then-not-index g c =
-    let see : Sees g.row.R.Denot g.row.L.Denot =
-    sees g.R.ResourceManager.held_of g.R.ResourceManager.scan_of g.R.ResourceManager.in_doubt_of g.L.DecisionLog.moment in
+    let see = sees g.R.ResourceManager.look g.L.DecisionLog.moment in
     let p = c.args.self.now in
     refused_goes see (Steps.Crash (KnownParts.Line c.args.thread c.args.rm)) p c.refused-then-not-index.result Refusals.RmDown tt
     c.refused-then-not-index.ensures
@@ -41,14 +38,13 @@ returns-then-not-index g c =
 
 pub returns : goal.returns
 returns g c tr stands few =
-    let see : Sees g.row.R.Denot g.row.L.Denot =
-    sees g.R.ResourceManager.held_of g.R.ResourceManager.scan_of g.R.ResourceManager.in_doubt_of g.L.DecisionLog.moment in
+    let see = sees g.R.ResourceManager.look g.L.DecisionLog.moment in
     let p = c.args.self.now in
     let there = sym c.has_line.ensures ∙ c.if-not-has_line.false in
     let at = site_read see tr p c.args.thread c.args.rm c.index_mut.result.now stands there c.index_mut.ensures.value in
     let up =
     same_up p.sites.items c.args.rm at (site_read see tr p c.args.thread c.args.rm c.index.result.now stands there c.index.ensures) c.if-not-index.false in
     crash_line_leads see p c.args.thread c.args.rm c.index_mut.result.now c.break_line.new.self c.renew.new.self c.crash.new.self c.new.result c.new.ensures
-    there (sym c.is_up.ensures ∙ c.if-not-is_up.false) up c.renew.ensures (record { held = c.break_line.ensures.held; scans = c.break_line.ensures.scans })
+    there (sym c.is_up.ensures ∙ c.if-not-is_up.false) up c.renew.ensures c.break_line.ensures
     c.crash.ensures.book (λ tr. log_kept see.moment (Crashed (KnownParts.Line c.args.thread c.args.rm)) p.manager c.crash.new.self (λ n. refl)
     c.crash.ensures.log c.crash.ensures.tied) tr stands at

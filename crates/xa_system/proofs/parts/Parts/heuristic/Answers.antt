@@ -5,15 +5,14 @@ use Rattle.xa_model.specs.Replies.Steps as known
 use Rattle.xa_model.specs.Trace.{Happening.CompletedAlone}
 use Rattle.xa_base.specs.declared.step.Step.TheVariants as Steps
 use Rattle.xa_base.specs.HeldBranch.{completed_by}
-use Rattle.xa_system.specs.Parts.{Sees, sees}
+use Rattle.xa_system.specs.Parts.{sees}
 use Rattle.xa_system.proofs.Steps.Crash.{rm_read}
 use Rattle.xa_system.proofs.Steps.Script.{alone_script, ended_alone, held_here, heuristic_bad, heuristic_elsewhere, heuristic_fine, script_hinders, script_told}
 use Rattle.xa_system.proofs.parts.Parts.heuristic.Goals as goal
 
 pub returns-in-Some : goal.returns-in-Some
 returns-in-Some g c =
-    let see : Sees g.row.R.Denot g.row.L.Denot =
-    sees g.R.ResourceManager.held_of g.R.ResourceManager.scan_of g.R.ResourceManager.in_doubt_of g.L.DecisionLog.moment in
+    let see = sees g.R.ResourceManager.look g.L.DecisionLog.moment in
     let p = c.args.self.now in
     let r = c.args.rm in
     let x = c.args.xid.now in
@@ -23,8 +22,7 @@ returns-in-Some g c =
 
 pub returns : goal.returns
 returns g c tr stands few =
-    let see : Sees g.row.R.Denot g.row.L.Denot =
-    sees g.R.ResourceManager.held_of g.R.ResourceManager.scan_of g.R.ResourceManager.in_doubt_of g.L.DecisionLog.moment in
+    let see = sees g.R.ResourceManager.look g.L.DecisionLog.moment in
     let p = c.args.self.now in
     let r = c.args.rm in
     let x = c.args.xid.now in
@@ -33,10 +31,10 @@ returns g c tr stands few =
     script_told see tr (Steps.Heuristic r x v) (λ b. CompletedAlone b v) p r c.index_mut.result.now c.heuristic.new.self c.noted.result x
     (completed_by v) c.heuristic.result stands c.requires.has_xid at c.noted.ensures
     (λ tr stands. sym c.in_default.is ∙ c.no_script.ensures.why tr stands) refl
-    (λ b named here told. heuristic_bad tr r (name_of x) b v (g.R.ResourceManager.held_of c.index_mut.result.now.rm x).standing named here
+    (λ b named here told. heuristic_bad tr r (name_of x) b v ((see.look c.index_mut.result.now.rm).held x).standing named here
     (held_here see tr p r c.index_mut.result.now x b at c.requires.has_xid named here stands) (c.heuristic.ensures.script.0 told))
-    (λ b named here other. heuristic_fine tr r (name_of x) b v (g.R.ResourceManager.held_of c.index_mut.result.now.rm x).standing named here
+    (λ b named here other. heuristic_fine tr r (name_of x) b v ((see.look c.index_mut.result.now.rm).held x).standing named here
     (held_here see tr p r c.index_mut.result.now x b at c.requires.has_xid named here stands) (λ e. other (c.heuristic.ensures.script.1 e)))
     refl tt (λ b named. ap (λ m. known.happened (Steps.Heuristic r m v) Replies.Noted) named) c.requires.has_xid (λ b. ended_alone tr b v)
     (λ b. alone_script tr b v) (λ b l. refl) (λ b l. refl) (λ b l. refl) (λ b l. refl) (λ b. stands.book)
-    c.heuristic.ensures.held c.heuristic.ensures.err c.heuristic.ensures.scans
+    c.heuristic.ensures.ok c.heuristic.ensures.err

@@ -8,7 +8,7 @@ use Rattle.xa_base.specs.declared.step.Step.TheVariants as Steps
 use Rattle.xa_line.specs.Grid.{line_at}
 use Rattle.xa_line.specs.Traffic.{barred, issued}
 use Rattle.xa_tm.specs.Calls.{book_in}
-use Rattle.xa_system.specs.Parts.{Sees, sees}
+use Rattle.xa_system.specs.Parts.{sees}
 use Rattle.xa_system.proofs.Steps.Issue.{has_room_at, is_full_at, issue_did, issue_found, issue_limit, issue_manager_down, issue_why, line_took}
 use Rattle.xa_system.proofs.Steps.OfManager.{sound_book}
 use Rattle.xa_system.proofs.Histories.Standing.{lacking_goes, refused_goes, site_read}
@@ -17,8 +17,7 @@ use Rattle.xa_system.proofs.parts.Parts.issue.Goals as goal
 
 pub note_issued-requires : goal.note_issued-requires
 note_issued-requires g c =
-    let see : Sees g.row.R.Denot g.row.L.Denot =
-    sees g.R.ResourceManager.held_of g.R.ResourceManager.scan_of g.R.ResourceManager.in_doubt_of g.L.DecisionLog.moment in
+    let see = sees g.R.ResourceManager.look g.L.DecisionLog.moment in
     let p = c.args.self.now in
     let t = c.args.thread in
     let r = c.args.rm in
@@ -27,8 +26,7 @@ note_issued-requires g c =
 
 pub returns-then-not-has_line : goal.returns-then-not-has_line
 returns-then-not-has_line g c =
-    let see : Sees g.row.R.Denot g.row.L.Denot =
-    sees g.R.ResourceManager.held_of g.R.ResourceManager.scan_of g.R.ResourceManager.in_doubt_of g.L.DecisionLog.moment in
+    let see = sees g.R.ResourceManager.look g.L.DecisionLog.moment in
     let p = c.args.self.now in
     let t = c.args.thread in
     let r = c.args.rm in
@@ -38,8 +36,7 @@ returns-then-not-has_line g c =
 
 pub returns-then-not-is_up : goal.returns-then-not-is_up
 returns-then-not-is_up g c =
-    let see : Sees g.row.R.Denot g.row.L.Denot =
-    sees g.R.ResourceManager.held_of g.R.ResourceManager.scan_of g.R.ResourceManager.in_doubt_of g.L.DecisionLog.moment in
+    let see = sees g.R.ResourceManager.look g.L.DecisionLog.moment in
     let p = c.args.self.now in
     let t = c.args.thread in
     let r = c.args.rm in
@@ -50,8 +47,7 @@ returns-then-not-is_up g c =
 
 pub returns-then-not-index : goal.returns-then-not-index
 returns-then-not-index g c =
-    let see : Sees g.row.R.Denot g.row.L.Denot =
-    sees g.R.ResourceManager.held_of g.R.ResourceManager.scan_of g.R.ResourceManager.in_doubt_of g.L.DecisionLog.moment in
+    let see = sees g.R.ResourceManager.look g.L.DecisionLog.moment in
     let p = c.args.self.now in
     let t = c.args.thread in
     let r = c.args.rm in
@@ -66,8 +62,7 @@ returns-then-not-index g c =
 
 pub returns-in-Some : goal.returns-in-Some
 returns-in-Some g c =
-    let see : Sees g.row.R.Denot g.row.L.Denot =
-    sees g.R.ResourceManager.held_of g.R.ResourceManager.scan_of g.R.ResourceManager.in_doubt_of g.L.DecisionLog.moment in
+    let see = sees g.R.ResourceManager.look g.L.DecisionLog.moment in
     let p = c.args.self.now in
     let t = c.args.thread in
     let r = c.args.rm in
@@ -83,8 +78,7 @@ returns-in-Some g c =
 
 pub returns-in-Some-may_issue : goal.returns-in-Some-may_issue
 returns-in-Some-may_issue g c =
-    let see : Sees g.row.R.Denot g.row.L.Denot =
-    sees g.R.ResourceManager.held_of g.R.ResourceManager.scan_of g.R.ResourceManager.in_doubt_of g.L.DecisionLog.moment in
+    let see = sees g.R.ResourceManager.look g.L.DecisionLog.moment in
     let p = c.args.self.now in
     let t = c.args.thread in
     let r = c.args.rm in
@@ -101,8 +95,7 @@ returns-in-Some-may_issue g c =
 
 pub returns-then-free_calls-eq0 : goal.returns-then-free_calls-eq0
 returns-then-free_calls-eq0 g c =
-    let see : Sees g.row.R.Denot g.row.L.Denot =
-    sees g.R.ResourceManager.held_of g.R.ResourceManager.scan_of g.R.ResourceManager.in_doubt_of g.L.DecisionLog.moment in
+    let see = sees g.R.ResourceManager.look g.L.DecisionLog.moment in
     let p = c.args.self.now in
     let t = c.args.thread in
     let r = c.args.rm in
@@ -121,8 +114,7 @@ returns-then-free_calls-eq0 g c =
 
 pub returns-in-Err : goal.returns-in-Err
 returns-in-Err g c tr stands few =
-    let see : Sees g.row.R.Denot g.row.L.Denot =
-    sees g.R.ResourceManager.held_of g.R.ResourceManager.scan_of g.R.ResourceManager.in_doubt_of g.L.DecisionLog.moment in
+    let see = sees g.R.ResourceManager.look g.L.DecisionLog.moment in
     let p = c.args.self.now in
     let t = c.args.thread in
     let r = c.args.rm in
@@ -142,8 +134,7 @@ returns-in-Err g c tr stands few =
 
 pub returns : goal.returns
 returns g c tr stands few =
-    let see : Sees g.row.R.Denot g.row.L.Denot =
-    sees g.R.ResourceManager.held_of g.R.ResourceManager.scan_of g.R.ResourceManager.in_doubt_of g.L.DecisionLog.moment in
+    let see = sees g.R.ResourceManager.look g.L.DecisionLog.moment in
     let p = c.args.self.now in
     let t = c.args.thread in
     let r = c.args.rm in

@@ -3,15 +3,14 @@ use Rattle.std.specs.Prelude.{◌+◌, nat_lt}
 use Rattle.xa_line.specs.Grid.{line_at}
 use Rattle.xa_base.specs.Opening.{has_closed, has_opened}
 use Rattle.xa_line.specs.Traffic.{issued}
-use Rattle.xa_system.specs.Parts.{Sees, recovery_why, sees}
+use Rattle.xa_system.specs.Parts.{recovery_why, sees}
 use Rattle.xa_system.proofs.Steps.Crash.{rm_read}
 use Rattle.xa_system.proofs.Steps.Resolve.{recovery_found}
 use Rattle.xa_system.proofs.parts.Parts.no_recovery.Goals as goal
 
 pub returns-then-not-index : goal.returns-then-not-index
 returns-then-not-index g c tr stands =
-    let see : Sees g.row.R.Denot g.row.L.Denot =
-    sees g.R.ResourceManager.held_of g.R.ResourceManager.scan_of g.R.ResourceManager.in_doubt_of g.L.DecisionLog.moment in
+    let see = sees g.R.ResourceManager.look g.L.DecisionLog.moment in
     let p = c.args.self.now in
     let r = c.args.rm in
     let within : c.args.rm < p.lines.rms = omega (arith, c.if-rm-rms.false, c.rms.ensures.value) in
@@ -22,8 +21,7 @@ returns-then-not-index g c tr stands =
 
 pub returns-then-not-is_open : goal.returns-then-not-is_open
 returns-then-not-is_open g c tr stands =
-    let see : Sees g.row.R.Denot g.row.L.Denot =
-    sees g.R.ResourceManager.held_of g.R.ResourceManager.scan_of g.R.ResourceManager.in_doubt_of g.L.DecisionLog.moment in
+    let see = sees g.R.ResourceManager.look g.L.DecisionLog.moment in
     let p = c.args.self.now in
     let r = c.args.rm in
     let within : c.args.rm < p.lines.rms = omega (arith, c.if-rm-rms.false, c.rms.ensures.value) in
@@ -35,8 +33,7 @@ returns-then-not-is_open g c tr stands =
 
 pub returns-then-is_closed : goal.returns-then-is_closed
 returns-then-is_closed g c tr stands =
-    let see : Sees g.row.R.Denot g.row.L.Denot =
-    sees g.R.ResourceManager.held_of g.R.ResourceManager.scan_of g.R.ResourceManager.in_doubt_of g.L.DecisionLog.moment in
+    let see = sees g.R.ResourceManager.look g.L.DecisionLog.moment in
     let p = c.args.self.now in
     let r = c.args.rm in
     let within : c.args.rm < p.lines.rms = omega (arith, c.if-rm-rms.false, c.rms.ensures.value) in
@@ -49,8 +46,7 @@ returns-then-is_closed g c tr stands =
 
 pub returns-then-is_full_for : goal.returns-then-is_full_for
 returns-then-is_full_for g c tr stands =
-    let see : Sees g.row.R.Denot g.row.L.Denot =
-    sees g.R.ResourceManager.held_of g.R.ResourceManager.scan_of g.R.ResourceManager.in_doubt_of g.L.DecisionLog.moment in
+    let see = sees g.R.ResourceManager.look g.L.DecisionLog.moment in
     let p = c.args.self.now in
     let r = c.args.rm in
     let within : c.args.rm < p.lines.rms = omega (arith, c.if-rm-rms.false, c.rms.ensures.value) in
@@ -64,8 +60,7 @@ returns-then-is_full_for g c tr stands =
 
 pub returns : goal.returns
 returns g c tr stands =
-    let see : Sees g.row.R.Denot g.row.L.Denot =
-    sees g.R.ResourceManager.held_of g.R.ResourceManager.scan_of g.R.ResourceManager.in_doubt_of g.L.DecisionLog.moment in
+    let see = sees g.R.ResourceManager.look g.L.DecisionLog.moment in
     let p = c.args.self.now in
     let r = c.args.rm in
     let within : c.args.rm < p.lines.rms = omega (arith, c.if-rm-rms.false, c.rms.ensures.value) in

@@ -2,15 +2,14 @@ use Rattle.std.proofs.Common.{true, false, arith, sym, ap, ◌∙◌}
 use Rattle.std.specs.Prelude.{not}
 use Rattle.xa_model.specs.Replies.History.{name_of}
 use Rattle.xa_model.specs.Replies.Rules.{is_at}
-use Rattle.xa_system.specs.Parts.{Sees, script_why, sees}
+use Rattle.xa_system.specs.Parts.{script_why, sees}
 use Rattle.xa_system.proofs.Steps.Crash.{rm_read}
 use Rattle.xa_system.proofs.Steps.Script.{script_found, script_limit}
 use Rattle.xa_system.proofs.parts.Parts.no_script.Goals as goal
 
 pub returns-then-rm-rms-clause-why : goal.returns-then-rm-rms-clause-why
 returns-then-rm-rms-clause-why g c tr stands =
-    let see : Sees g.row.R.Denot g.row.L.Denot =
-    sees g.R.ResourceManager.held_of g.R.ResourceManager.scan_of g.R.ResourceManager.in_doubt_of g.L.DecisionLog.moment in
+    let see = sees g.R.ResourceManager.look g.L.DecisionLog.moment in
     let p = c.args.self.now in
     let r = c.args.rm in
     let x = c.args.xid.now in
@@ -18,8 +17,7 @@ returns-then-rm-rms-clause-why g c tr stands =
 
 pub returns-then-not-index-clause-why : goal.returns-then-not-index-clause-why
 returns-then-not-index-clause-why g c tr stands =
-    let see : Sees g.row.R.Denot g.row.L.Denot =
-    sees g.R.ResourceManager.held_of g.R.ResourceManager.scan_of g.R.ResourceManager.in_doubt_of g.L.DecisionLog.moment in
+    let see = sees g.R.ResourceManager.look g.L.DecisionLog.moment in
     let p = c.args.self.now in
     let r = c.args.rm in
     let x = c.args.xid.now in
@@ -28,8 +26,7 @@ returns-then-not-index-clause-why g c tr stands =
 
 pub returns-then-not-is_at-clause-why : goal.returns-then-not-is_at-clause-why
 returns-then-not-is_at-clause-why g c tr stands =
-    let see : Sees g.row.R.Denot g.row.L.Denot =
-    sees g.R.ResourceManager.held_of g.R.ResourceManager.scan_of g.R.ResourceManager.in_doubt_of g.L.DecisionLog.moment in
+    let see = sees g.R.ResourceManager.look g.L.DecisionLog.moment in
     let p = c.args.self.now in
     let r = c.args.rm in
     let x = c.args.xid.now in
@@ -39,8 +36,7 @@ returns-then-not-is_at-clause-why g c tr stands =
 
 pub returns-clause-why : goal.returns-clause-why
 returns-clause-why g c tr stands =
-    let see : Sees g.row.R.Denot g.row.L.Denot =
-    sees g.R.ResourceManager.held_of g.R.ResourceManager.scan_of g.R.ResourceManager.in_doubt_of g.L.DecisionLog.moment in
+    let see = sees g.R.ResourceManager.look g.L.DecisionLog.moment in
     let p = c.args.self.now in
     let r = c.args.rm in
     let x = c.args.xid.now in

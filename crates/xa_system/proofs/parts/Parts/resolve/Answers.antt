@@ -2,15 +2,14 @@ use Rattle.std.proofs.Common.{sym, ap, ◌∙◌}
 use Rattle.xa_line.specs.Traffic.{Traffic}
 use Rattle.xa_tm.specs.Calls.{book_in}
 use Rattle.xa_system.specs.Lines.{with_more}
-use Rattle.xa_system.specs.Parts.{Sees, sees}
+use Rattle.xa_system.specs.Parts.{sees}
 use Rattle.xa_system.proofs.Steps.Resolve.{resolved_closes_none, recovery_open, recovery_room, recovery_unclosed, resolve_did, resolve_hindered, resolve_lacks}
 use Rattle.xa_tm.specs.Refusing.{resolved_in}
 use Rattle.xa_system.proofs.parts.Parts.resolve.Goals as goal
 
 pub returns-in-Some : goal.returns-in-Some
 returns-in-Some g c =
-    let see : Sees g.row.R.Denot g.row.L.Denot =
-    sees g.R.ResourceManager.held_of g.R.ResourceManager.scan_of g.R.ResourceManager.in_doubt_of g.L.DecisionLog.moment in
+    let see = sees g.R.ResourceManager.look g.L.DecisionLog.moment in
     let p = c.args.self.now in
     let r = c.args.rm in
     resolve_hindered see p r c.resolve_len-count.result c.in-Some.refusal c.refused.result c.refused.ensures c.resolve_len-count.ensures
@@ -18,8 +17,7 @@ returns-in-Some g c =
 
 pub issue_all-requires-clause-room : goal.issue_all-requires-clause-room
 issue_all-requires-clause-room g c =
-    let see : Sees g.row.R.Denot g.row.L.Denot =
-    sees g.R.ResourceManager.held_of g.R.ResourceManager.scan_of g.R.ResourceManager.in_doubt_of g.L.DecisionLog.moment in
+    let see = sees g.R.ResourceManager.look g.L.DecisionLog.moment in
     let p = c.args.self.now in
     let r = c.args.rm in
     recovery_room see p r c.resolve_len-count.result (resolved_in (book_in p.manager) r) c.in-Ok.calls.items
@@ -28,8 +26,7 @@ issue_all-requires-clause-room g c =
 
 pub issue_all-requires-clause-open : goal.issue_all-requires-clause-open
 issue_all-requires-clause-open g c =
-    let see : Sees g.row.R.Denot g.row.L.Denot =
-    sees g.R.ResourceManager.held_of g.R.ResourceManager.scan_of g.R.ResourceManager.in_doubt_of g.L.DecisionLog.moment in
+    let see = sees g.R.ResourceManager.look g.L.DecisionLog.moment in
     let p = c.args.self.now in
     let r = c.args.rm in
     recovery_open see p r c.resolve_len-count.result (resolved_in (book_in p.manager) r) c.in-Ok.calls.items
@@ -37,8 +34,7 @@ issue_all-requires-clause-open g c =
 
 pub issue_all-requires-clause-unclosed : goal.issue_all-requires-clause-unclosed
 issue_all-requires-clause-unclosed g c =
-    let see : Sees g.row.R.Denot g.row.L.Denot =
-    sees g.R.ResourceManager.held_of g.R.ResourceManager.scan_of g.R.ResourceManager.in_doubt_of g.L.DecisionLog.moment in
+    let see = sees g.R.ResourceManager.look g.L.DecisionLog.moment in
     let p = c.args.self.now in
     let r = c.args.rm in
     recovery_unclosed see p r c.resolve_len-count.result (resolved_in (book_in p.manager) r) c.in-Ok.calls.items
@@ -47,8 +43,7 @@ issue_all-requires-clause-unclosed g c =
 
 pub returns-in-Ok : goal.returns-in-Ok
 returns-in-Ok g c =
-    let see : Sees g.row.R.Denot g.row.L.Denot =
-    sees g.R.ResourceManager.held_of g.R.ResourceManager.scan_of g.R.ResourceManager.in_doubt_of g.L.DecisionLog.moment in
+    let see = sees g.R.ResourceManager.look g.L.DecisionLog.moment in
     let p = c.args.self.now in
     let r = c.args.rm in
     let put = c.issue_all.ensures ∙ ap (λ (t : Traffic). record t { calls = with_more t.calls c.in-Ok.calls.items }) c.line_mut.ensures.value in
@@ -57,8 +52,7 @@ returns-in-Ok g c =
 
 pub returns-in-Err : goal.returns-in-Err
 returns-in-Err g c =
-    let see : Sees g.row.R.Denot g.row.L.Denot =
-    sees g.R.ResourceManager.held_of g.R.ResourceManager.scan_of g.R.ResourceManager.in_doubt_of g.L.DecisionLog.moment in
+    let see = sees g.R.ResourceManager.look g.L.DecisionLog.moment in
     let p = c.args.self.now in
     let r = c.args.rm in
     resolve_lacks see p r c.resolve_len-count.result c.in-Err.refusal c.refused-in-Err.result c.refused-in-Err.ensures c.in-Err.ensures.err

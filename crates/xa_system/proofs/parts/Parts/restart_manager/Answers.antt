@@ -7,7 +7,7 @@ use Rattle.std.specs.Prelude.{Result, Ok, Err}
 use Rattle.xa_model.specs.Trace.{Happening.Restarted}
 use Rattle.xa_base.specs.declared.refusal.Refusal.{Refusal}
 use Rattle.xa_system.proofs.Log.Changes.{log_done, restart_counts}
-use Rattle.xa_system.specs.Parts.{Sees, sees}
+use Rattle.xa_system.specs.Parts.{sees}
 use Rattle.xa_system.proofs.Steps.OfManager.{err_is, sound_book}
 use Rattle.xa_system.proofs.Steps.Restart.{restart_did, restart_undone}
 use Rattle.xa_tm.specs.declared.manager.restart.Found.{Found}
@@ -15,15 +15,13 @@ use Rattle.xa_system.proofs.parts.Parts.restart_manager.Goals as goal
 
 pub restart-requires : goal.restart-requires
 restart-requires g c =
-    let see : Sees g.row.R.Denot g.row.L.Denot =
-    sees g.R.ResourceManager.held_of g.R.ResourceManager.scan_of g.R.ResourceManager.in_doubt_of g.L.DecisionLog.moment in
+    let see = sees g.R.ResourceManager.look g.L.DecisionLog.moment in
     let p = c.args.self.now in
     sound_book see p c.requires
 
 pub returns-in-Ok-clause-goes : goal.returns-in-Ok-clause-goes
 returns-in-Ok-clause-goes g c tr stands few =
-    let see : Sees g.row.R.Denot g.row.L.Denot =
-    sees g.R.ResourceManager.held_of g.R.ResourceManager.scan_of g.R.ResourceManager.in_doubt_of g.L.DecisionLog.moment in
+    let see = sees g.R.ResourceManager.look g.L.DecisionLog.moment in
     let p = c.args.self.now in
     restart_did see p c.restart.new.self c.in-Ok.field-0.incarnation c.in-Ok.field-0.decisions c.in-Ok.field-0.heuristics c.new.result c.new.ensures
     c.in-Ok.ensures.down c.in-Ok.ensures.ok c.in-Ok.ensures.found c.in-Ok.ensures.most
@@ -41,8 +39,7 @@ returns-in-Ok-clause-goes g c tr stands few =
 
 pub returns-in-Err-clause-goes : goal.returns-in-Err-clause-goes
 returns-in-Err-clause-goes g c tr stands few =
-    let see : Sees g.row.R.Denot g.row.L.Denot =
-    sees g.R.ResourceManager.held_of g.R.ResourceManager.scan_of g.R.ResourceManager.in_doubt_of g.L.DecisionLog.moment in
+    let see = sees g.R.ResourceManager.look g.L.DecisionLog.moment in
     let p = c.args.self.now in
     restart_undone see p c.restart.new.self c.in-Err.refusal c.refused.result c.refused.ensures
     (λ e. (err_is {A = Found} _ _ (c.in-Err.ensures.busy e).0, ap book_in (c.in-Err.ensures.busy e).1)) c.in-Err.ensures.err

@@ -7,7 +7,7 @@ use Rattle.xa_base.specs.declared.refusal.Refusal.{Refusal}
 use Rattle.xa_base.specs.declared.step.Step.TheVariants as Steps
 use Rattle.xa_tm.specs.Calls.{book_in}
 use Rattle.xa_tm.specs.BookAndLog.{changed_by}
-use Rattle.xa_system.specs.Parts.{Sees, sees}
+use Rattle.xa_system.specs.Parts.{sees}
 use Rattle.xa_system.proofs.Steps.Decide.{row_is_asked, manager_undone}
 use Rattle.xa_system.proofs.Steps.OfManager.{settle_did, sound_book, up_where}
 use Rattle.xa_system.proofs.Log.Changes.{log_called, log_undone}
@@ -16,23 +16,20 @@ use Rattle.xa_system.proofs.parts.Parts.settle.Goals as goal
 
 pub settle-requires : goal.settle-requires
 settle-requires g c =
-    let see : Sees g.row.R.Denot g.row.L.Denot =
-    sees g.R.ResourceManager.held_of g.R.ResourceManager.scan_of g.R.ResourceManager.in_doubt_of g.L.DecisionLog.moment in
+    let see = sees g.R.ResourceManager.look g.L.DecisionLog.moment in
     let p = c.args.self.now in
     sound_book see p c.requires
 
 pub returns-in-Ok : goal.returns-in-Ok
 returns-in-Ok g c =
-    let see : Sees g.row.R.Denot g.row.L.Denot =
-    sees g.R.ResourceManager.held_of g.R.ResourceManager.scan_of g.R.ResourceManager.in_doubt_of g.L.DecisionLog.moment in
+    let see = sees g.R.ResourceManager.look g.L.DecisionLog.moment in
     let p = c.args.self.now in
     settle_did see p c.settle.new.self c.args.gtrid c.new.result c.new.ensures c.in-Ok.ensures.allowed c.in-Ok.ensures.ok
     (log_called see.moment _ _ p.manager c.settle.new.self c.in-Ok.ensures.asks c.in-Ok.ensures.tied)
 
 pub returns-in-Err : goal.returns-in-Err
 returns-in-Err g c =
-    let see : Sees g.row.R.Denot g.row.L.Denot =
-    sees g.R.ResourceManager.held_of g.R.ResourceManager.scan_of g.R.ResourceManager.in_doubt_of g.L.DecisionLog.moment in
+    let see = sees g.R.ResourceManager.look g.L.DecisionLog.moment in
     let p = c.args.self.now in
     manager_undone see {A = Unit {0}} (Steps.Settle c.args.gtrid) (InDecide c.args.gtrid)
     (Adds c.args.gtrid (voted_yes (book_in p.manager) c.args.gtrid))

@@ -1,23 +1,21 @@
 use Rattle.std.proofs.Common.{sym, ◌∙◌}
 use Rattle.xa_base.specs.declared.refusal.Refusal.TheVariants as Refusals
 use Rattle.xa_base.specs.declared.step.Step.TheVariants as Steps
-use Rattle.xa_system.specs.Parts.{Sees, sees}
+use Rattle.xa_system.specs.Parts.{sees}
 use Rattle.xa_system.proofs.Histories.Standing.{refused_goes, site_read}
 use Rattle.xa_system.proofs.Steps.Take.{take_down, take_full, take_leads, take_limit, take_may}
 use Rattle.xa_system.proofs.parts.Parts.take.Goals as goal
 
 pub returns-then-not-has_line : goal.returns-then-not-has_line
 returns-then-not-has_line g c =
-    let see : Sees g.row.R.Denot g.row.L.Denot =
-    sees g.R.ResourceManager.held_of g.R.ResourceManager.scan_of g.R.ResourceManager.in_doubt_of g.L.DecisionLog.moment in
+    let see = sees g.R.ResourceManager.look g.L.DecisionLog.moment in
     let p = c.args.self.now in
     refused_goes see (Steps.Take c.args.thread c.args.rm) p c.refused.result Refusals.Limit tt c.refused.ensures
     (λ tr. take_limit see tr p c.args.thread c.args.rm (sym c.has_line.ensures ∙ c.if-not-has_line.true))
 
 pub returns-then-not-index : goal.returns-then-not-index
 returns-then-not-index g c =
-    let see : Sees g.row.R.Denot g.row.L.Denot =
-    sees g.R.ResourceManager.held_of g.R.ResourceManager.scan_of g.R.ResourceManager.in_doubt_of g.L.DecisionLog.moment in
+    let see = sees g.R.ResourceManager.look g.L.DecisionLog.moment in
     let p = c.args.self.now in
     let there = sym c.has_line.ensures ∙ c.if-not-has_line.false in
     refused_goes see (Steps.Take c.args.thread c.args.rm) p c.refused-then-not-index.result Refusals.RmDown tt c.refused-then-not-index.ensures
@@ -26,8 +24,7 @@ returns-then-not-index g c =
 
 pub returns-then-free_answers-eq0 : goal.returns-then-free_answers-eq0
 returns-then-free_answers-eq0 g c =
-    let see : Sees g.row.R.Denot g.row.L.Denot =
-    sees g.R.ResourceManager.held_of g.R.ResourceManager.scan_of g.R.ResourceManager.in_doubt_of g.L.DecisionLog.moment in
+    let see = sees g.R.ResourceManager.look g.L.DecisionLog.moment in
     let p = c.args.self.now in
     let there = sym c.has_line.ensures ∙ c.if-not-has_line.false in
     refused_goes see (Steps.Take c.args.thread c.args.rm) p c.refused-then-free_answers-eq0.result Refusals.Full tt c.refused-then-free_answers-eq0.ensures
@@ -37,8 +34,7 @@ returns-then-free_answers-eq0 g c =
 
 pub returns : goal.returns
 returns g c tr stands few =
-    let see : Sees g.row.R.Denot g.row.L.Denot =
-    sees g.R.ResourceManager.held_of g.R.ResourceManager.scan_of g.R.ResourceManager.in_doubt_of g.L.DecisionLog.moment in
+    let see = sees g.R.ResourceManager.look g.L.DecisionLog.moment in
     let p = c.args.self.now in
     let there = sym c.has_line.ensures ∙ c.if-not-has_line.false in
     let at = site_read see tr p c.args.thread c.args.rm c.index_mut.result.now stands there c.index_mut.ensures.value in

@@ -5,15 +5,14 @@ use Rattle.xa_model.specs.Replies.Steps as known
 use Rattle.xa_model.specs.Trace.{Happening.Voted}
 use Rattle.xa_base.specs.declared.step.Step.TheVariants as Steps
 use Rattle.xa_rm.specs.ResourceManager.{voting}
-use Rattle.xa_system.specs.Parts.{Sees, sees}
+use Rattle.xa_system.specs.Parts.{sees}
 use Rattle.xa_system.proofs.Steps.Crash.{rm_read}
 use Rattle.xa_system.proofs.Steps.Script.{held_here, script_hinders, script_told, vote_bad, vote_elsewhere, vote_fine, voted, voted_script}
 use Rattle.xa_system.proofs.parts.Parts.vote.Goals as goal
 
 pub returns-in-Some : goal.returns-in-Some
 returns-in-Some g c =
-    let see : Sees g.row.R.Denot g.row.L.Denot =
-    sees g.R.ResourceManager.held_of g.R.ResourceManager.scan_of g.R.ResourceManager.in_doubt_of g.L.DecisionLog.moment in
+    let see = sees g.R.ResourceManager.look g.L.DecisionLog.moment in
     let p = c.args.self.now in
     let r = c.args.rm in
     let x = c.args.xid.now in
@@ -23,8 +22,7 @@ returns-in-Some g c =
 
 pub returns : goal.returns
 returns g c tr stands few =
-    let see : Sees g.row.R.Denot g.row.L.Denot =
-    sees g.R.ResourceManager.held_of g.R.ResourceManager.scan_of g.R.ResourceManager.in_doubt_of g.L.DecisionLog.moment in
+    let see = sees g.R.ResourceManager.look g.L.DecisionLog.moment in
     let p = c.args.self.now in
     let r = c.args.rm in
     let x = c.args.xid.now in
@@ -32,10 +30,10 @@ returns g c tr stands few =
     let at = rm_read see tr p r c.index_mut.result.now stands (c.no_script.ensures.there c.in_default.is) c.index_mut.ensures.value in
     script_told see tr (Steps.Vote r x v) (λ b. Voted b v) p r c.index_mut.result.now c.vote.new.self c.noted.result x
     (voting v) c.vote.result stands c.requires.has_xid at c.noted.ensures (λ tr stands. sym c.in_default.is ∙ c.no_script.ensures.why tr stands) refl
-    (λ b named here told. vote_bad tr r (name_of x) b v (g.R.ResourceManager.held_of c.index_mut.result.now.rm x).standing named here
+    (λ b named here told. vote_bad tr r (name_of x) b v ((see.look c.index_mut.result.now.rm).held x).standing named here
     (held_here see tr p r c.index_mut.result.now x b at c.requires.has_xid named here stands) (c.vote.ensures.script.0 told))
-    (λ b named here other. vote_fine tr r (name_of x) b v (g.R.ResourceManager.held_of c.index_mut.result.now.rm x).standing named here
+    (λ b named here other. vote_fine tr r (name_of x) b v ((see.look c.index_mut.result.now.rm).held x).standing named here
     (held_here see tr p r c.index_mut.result.now x b at c.requires.has_xid named here stands) (λ e. other (c.vote.ensures.script.1 e)))
     refl tt (λ b named. ap (λ m. known.happened (Steps.Vote r m v) Replies.Noted) named) c.requires.has_xid (λ b. voted tr b v)
     (λ b. voted_script tr b v) (λ b l. refl) (λ b l. refl) (λ b l. refl) (λ b l. refl) (λ b. stands.book)
-    c.vote.ensures.held c.vote.ensures.err c.vote.ensures.scans
+    c.vote.ensures.ok c.vote.ensures.err

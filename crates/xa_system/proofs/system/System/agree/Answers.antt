@@ -9,21 +9,18 @@ use Rattle.xa_system.proofs.system.System.agree.Goals as goal
 
 pub returns-clause-parts : goal.returns-clause-parts
 returns-clause-parts g c =
-    let see : Observes g.row.R.Denot g.row.L.Denot =
-    observes g.R.ResourceManager.held_of g.R.ResourceManager.scan_of g.R.ResourceManager.in_doubt_of g.L.DecisionLog.moment in
+    let see = observes g.R.ResourceManager.look g.L.DecisionLog.moment in
     subst (λ v. HoldsItsTrace see v) c.self.view_is (holds _ _ c.self.inside c.self.invariant)
 
 pub returns-clause-headline : goal.returns-clause-headline
 returns-clause-headline g c =
-    let see : Observes g.row.R.Denot g.row.L.Denot =
-    observes g.R.ResourceManager.held_of g.R.ResourceManager.scan_of g.R.ResourceManager.in_doubt_of g.L.DecisionLog.moment in
+    let see = observes g.R.ResourceManager.look g.L.DecisionLog.moment in
     subst (λ v. RightOrigin (origin_in see.look v) → Headline (origin_in see.look v) v.events) c.self.view_is
     (λ right. c.headline_holds.ensures (origin_in see.look (view_of c.self.inside)) (view_of c.self.inside).events right c.self.invariant.allowed)
 
 pub returns-clause-resumed : goal.returns-clause-resumed
 returns-clause-resumed g c =
-    let see : Observes g.row.R.Denot g.row.L.Denot =
-    observes g.R.ResourceManager.held_of g.R.ResourceManager.scan_of g.R.ResourceManager.in_doubt_of g.L.DecisionLog.moment in
+    let see = observes g.R.ResourceManager.look g.L.DecisionLog.moment in
     subst (λ v. (past : Trace) → AllRight past → Resumes past (origin_in see.look v)
     → HeadlineSince (resumed past (origin_in see.look v)) v.events) c.self.view_is
     (λ past right resumes. c.across_processes.ensures.headline past (origin_in see.look (view_of c.self.inside)) (view_of c.self.inside).events right resumes

@@ -17,8 +17,7 @@ use Rattle.xa_system.proofs.system.System.give_log.Goals as goal
 
 pub returns-clause-only_other_rows : goal.returns-clause-only_other_rows
 returns-clause-only_other_rows g c =
-    let see : Observes g.row.R.Denot g.row.L.Denot =
-    observes g.R.ResourceManager.held_of g.R.ResourceManager.scan_of g.R.ResourceManager.in_doubt_of g.L.DecisionLog.moment in
+    let see = observes g.R.ResourceManager.look g.L.DecisionLog.moment in
     let tr = trace_in see.look (view_of c.self.inside) in
     if_err c.give_log-given.result _ _ (λ e only is order honest content held may.
     only is order honest content held
@@ -29,7 +28,7 @@ pub invariant_of-self : goal.invariant_of-self
 invariant_of-self g c =
     let moment = g.L.DecisionLog.moment in
     let see : Sees g.row.R.Denot (Slot g.row.L.Denot) =
-    sees g.R.ResourceManager.held_of g.R.ResourceManager.scan_of g.R.ResourceManager.in_doubt_of (slot_moment moment) in
+    sees g.R.ResourceManager.look (slot_moment moment) in
     let a = c.self.inside in
     let gave = c.give_log-given.ensures in
     let manager = c.give_log-given.new.self in

@@ -11,7 +11,7 @@ use Rattle.xa_system.proofs.system.System.into_parts.Goals as goal
 pub returns-clause-left : goal.returns-clause-left
 returns-clause-left g c order honest may log content is holds =
     let see : Sees g.row.R.Denot (Slot g.row.L.Denot) =
-    sees g.R.ResourceManager.held_of g.R.ResourceManager.scan_of g.R.ResourceManager.in_doubt_of (slot_moment g.L.DecisionLog.moment) in
+    sees g.R.ResourceManager.look (slot_moment g.L.DecisionLog.moment) in
     let moment = g.L.DecisionLog.moment in
     let a = c.self.inside in
     let down : (book_in c.crash.new.self).up ≡ false = ap (λ (k : Book). k.up) c.crash.ensures.book in

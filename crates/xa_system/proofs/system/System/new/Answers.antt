@@ -14,7 +14,7 @@ use Rattle.xa_system.proofs.system.System.new.Goals as goal
 pub invariant_of-result : goal.invariant_of-result
 invariant_of-result g c =
     let see : Sees g.row.R.Denot (Slot g.row.L.Denot) =
-    sees g.R.ResourceManager.held_of g.R.ResourceManager.scan_of g.R.ResourceManager.in_doubt_of (slot_moment g.L.DecisionLog.moment) in
+    sees g.R.ResourceManager.look (slot_moment g.L.DecisionLog.moment) in
     let clear = rw c.as_slice.ensures.value at (c.if-not-are_clear.ensures.clear refl) in
     let moment = g.L.DecisionLog.moment in
     let some : 0 < c.args.threads = omega (arith, c.if-threads-eq0.false) in
@@ -40,7 +40,7 @@ returns-in-Ok-start_parts-clause-ok g c =
 pub returns-in-Ok-start_parts-clause-right : goal.returns-in-Ok-start_parts-clause-right
 returns-in-Ok-start_parts-clause-right g c =
     let see : Sees g.row.R.Denot (Slot g.row.L.Denot) =
-    sees g.R.ResourceManager.held_of g.R.ResourceManager.scan_of g.R.ResourceManager.in_doubt_of (slot_moment g.L.DecisionLog.moment) in
+    sees g.R.ResourceManager.look (slot_moment g.L.DecisionLog.moment) in
     let clear = rw c.as_slice.ensures.value at (c.if-not-are_clear.ensures.clear refl) in
     let parts = c.in-Ok-start_parts.parts in
     let made = c.in-Ok-start_parts.ensures in
@@ -50,29 +50,26 @@ returns-in-Ok-start_parts-clause-right g c =
 
 pub returns-in_default-clause-not_clear : goal.returns-in_default-clause-not_clear
 returns-in_default-clause-not_clear g c size un =
-    let see : Observes g.row.R.Denot g.row.L.Denot =
-    observes g.R.ResourceManager.held_of g.R.ResourceManager.scan_of g.R.ResourceManager.in_doubt_of g.L.DecisionLog.moment in
+    let see = observes g.R.ResourceManager.look g.L.DecisionLog.moment in
     let clear = rw c.as_slice.ensures.value at (c.if-not-are_clear.ensures.clear refl) in
     absurd (not_both see.look c.args.rms.items clear un)
 
 pub returns-in-Ok-start_parts-clause-not_clear : goal.returns-in-Ok-start_parts-clause-not_clear
 returns-in-Ok-start_parts-clause-not_clear g c size un =
-    let see : Observes g.row.R.Denot g.row.L.Denot =
-    observes g.R.ResourceManager.held_of g.R.ResourceManager.scan_of g.R.ResourceManager.in_doubt_of g.L.DecisionLog.moment in
+    let see = observes g.R.ResourceManager.look g.L.DecisionLog.moment in
     let clear = rw c.as_slice.ensures.value at (c.if-not-are_clear.ensures.clear refl) in
     absurd (not_both see.look c.args.rms.items clear un)
 
 pub returns-clause-not_clear : goal.returns-clause-not_clear
 returns-clause-not_clear g c size un =
-    let see : Observes g.row.R.Denot g.row.L.Denot =
-    observes g.R.ResourceManager.held_of g.R.ResourceManager.scan_of g.R.ResourceManager.in_doubt_of g.L.DecisionLog.moment in
+    let see = observes g.R.ResourceManager.look g.L.DecisionLog.moment in
     let clear = rw c.as_slice.ensures.value at (c.if-not-are_clear.ensures.clear refl) in
     absurd (not_both see.look c.args.rms.items clear un)
 
 pub returns-in-Ok-start_parts-clause-near : goal.returns-in-Ok-start_parts-clause-near
 returns-in-Ok-start_parts-clause-near g c order h =
     let see : Sees g.row.R.Denot (Slot g.row.L.Denot) =
-    sees g.R.ResourceManager.held_of g.R.ResourceManager.scan_of g.R.ResourceManager.in_doubt_of (slot_moment g.L.DecisionLog.moment) in
+    sees g.R.ResourceManager.look (slot_moment g.L.DecisionLog.moment) in
     let made = c.in-Ok-start_parts.ensures in
     new_may_restart see g.L.DecisionLog.moment c.args.threads c.args.rms.items c.in-Ok-start_parts.parts made.parts made.manager c.args.log made.log _
     (invariant_of-result g c) refl order h
@@ -80,7 +77,7 @@ returns-in-Ok-start_parts-clause-near g c order h =
 pub returns-in-Ok-start_parts-clause-crash : goal.returns-in-Ok-start_parts-clause-crash
 returns-in-Ok-start_parts-clause-crash g c order h =
     let see : Sees g.row.R.Denot (Slot g.row.L.Denot) =
-    sees g.R.ResourceManager.held_of g.R.ResourceManager.scan_of g.R.ResourceManager.in_doubt_of (slot_moment g.L.DecisionLog.moment) in
+    sees g.R.ResourceManager.look (slot_moment g.L.DecisionLog.moment) in
     let moment = g.L.DecisionLog.moment in
     let made = c.in-Ok-start_parts.ensures in
     let in_order = subst (λ l. (moment l).is_in_order) (sym c.of-handed.ensures) order in
@@ -90,7 +87,6 @@ returns-in-Ok-start_parts-clause-crash g c order h =
 
 pub returns-in-Err-Log-clause-not_clear : goal.returns-in-Err-Log-clause-not_clear
 returns-in-Err-Log-clause-not_clear g c size un =
-    let see : Observes g.row.R.Denot g.row.L.Denot =
-    observes g.R.ResourceManager.held_of g.R.ResourceManager.scan_of g.R.ResourceManager.in_doubt_of g.L.DecisionLog.moment in
+    let see = observes g.R.ResourceManager.look g.L.DecisionLog.moment in
     let clear = rw c.as_slice.ensures.value at (c.if-not-are_clear.ensures.clear refl) in
     absurd (not_both see.look c.args.rms.items clear un)

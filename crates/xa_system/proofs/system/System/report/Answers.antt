@@ -5,8 +5,7 @@ use Rattle.xa_system.proofs.system.System.report.Goals as goal
 
 pub loop-branch-preserved : goal.loop-branch-preserved
 loop-branch-preserved g c =
-    let see : Observes g.row.R.Denot g.row.L.Denot =
-    observes g.R.ResourceManager.held_of g.R.ResourceManager.scan_of g.R.ResourceManager.in_doubt_of g.L.DecisionLog.moment in
+    let see = observes g.R.ResourceManager.look g.L.DecisionLog.moment in
     let xs = c.deref-branch-items.result.now in
     let i = c.loop-branch.branch-index in
     let low : i < length xs = omega (arith, c.loop-branch-test.true) in
@@ -23,8 +22,7 @@ loop-branch-preserved g c =
 
 pub returns-clause-in_order : goal.returns-clause-in_order
 returns-clause-in_order g c =
-    let see : Observes g.row.R.Denot g.row.L.Denot =
-    observes g.R.ResourceManager.held_of g.R.ResourceManager.scan_of g.R.ResourceManager.in_doubt_of g.L.DecisionLog.moment in
+    let see = observes g.R.ResourceManager.look g.L.DecisionLog.moment in
     let xs = c.deref-branch-items.result.now in
     let i = c.loop-branch.branch-index in
     let past : length xs ≤ i = omega (arith, c.loop-branch-test.false) in
@@ -33,8 +31,7 @@ returns-clause-in_order g c =
 
 pub returns-clause-listed : goal.returns-clause-listed
 returns-clause-listed g c =
-    let see : Observes g.row.R.Denot g.row.L.Denot =
-    observes g.R.ResourceManager.held_of g.R.ResourceManager.scan_of g.R.ResourceManager.in_doubt_of g.L.DecisionLog.moment in
+    let see = observes g.R.ResourceManager.look g.L.DecisionLog.moment in
     let xs = c.deref-branch-items.result.now in
     let i = c.loop-branch.branch-index in
     let past : length xs ≤ i = omega (arith, c.loop-branch-test.false) in

@@ -10,7 +10,6 @@ use Rattle.xa_model.specs.Protocol.{RightOrigin}
 use Rattle.xa_model.specs.Trace.{Origin, Trace}
 use Rattle.xa_system.specs.NextProcess.{Leaves}
 use Rattle.xa_system.specs.Parts.{Sees, origin_of, sees}
-use Rattle.xa_system.specs.RmInHistory.{Looks, looks}
 use Rattle.xa_system.specs.Steps.{AreCrashed}
 use Rattle.xa_system.specs.SystemView.{ArePast, HasNewer}
 use Rattle.xa_system.specs.declared.site.Site.{Site}
@@ -24,7 +23,7 @@ use Rattle.xa_system.proofs.system.System.resume.Goals as goal
 pub invariant_of-result : goal.invariant_of-result
 invariant_of-result g c =
     let see : Sees g.row.R.Denot (Slot g.row.L.Denot) =
-    sees g.R.ResourceManager.held_of g.R.ResourceManager.scan_of g.R.ResourceManager.in_doubt_of (slot_moment g.L.DecisionLog.moment) in
+    sees g.R.ResourceManager.look (slot_moment g.L.DecisionLog.moment) in
     let moment = g.L.DecisionLog.moment in
     let crashes = c.crash_rms.ensures in
     let some : 0 < c.args.threads = omega (arith, c.if-threads-eq0.false) in
@@ -45,7 +44,7 @@ invariant_of-result g c =
 pub returns-then-not-are_past-clause-only_newer : goal.returns-then-not-are_past-clause-only_newer
 returns-then-not-are_past-clause-only_newer g c _ =
     let see : Sees g.row.R.Denot (Slot g.row.L.Denot) =
-    sees g.R.ResourceManager.held_of g.R.ResourceManager.scan_of g.R.ResourceManager.in_doubt_of (slot_moment g.L.DecisionLog.moment) in
+    sees g.R.ResourceManager.look (slot_moment g.L.DecisionLog.moment) in
     let rms = c.crash_rms.new.rms.items in
     let parts = c.in-Ok-start_parts.parts in
     let made = c.in-Ok-start_parts.ensures in
@@ -58,7 +57,7 @@ returns-then-not-are_past-clause-only_newer g c _ =
 
 pub returns-clause-newer : goal.returns-clause-newer
 returns-clause-newer g c newer =
-    let look : Looks g.row.R.Denot = looks g.R.ResourceManager.held_of g.R.ResourceManager.scan_of g.R.ResourceManager.in_doubt_of in
+    let look = g.R.ResourceManager.look in
     let rms = c.crash_rms.new.rms.items in
     let parts = c.in-Ok-start_parts.parts in
     let made = c.in-Ok-start_parts.ensures in
@@ -71,7 +70,7 @@ returns-clause-newer g c newer =
 
 pub returns-clause-ok : goal.returns-clause-ok
 returns-clause-ok g c =
-    let look : Looks g.row.R.Denot = looks g.R.ResourceManager.held_of g.R.ResourceManager.scan_of g.R.ResourceManager.in_doubt_of in
+    let look = g.R.ResourceManager.look in
     let first = c.in-Ok-start_parts.ensures.parts in
     let rms = c.crash_rms.new.rms.items in (
       c.in-Ok.ensures.items,
@@ -84,7 +83,7 @@ returns-clause-ok g c =
 pub returns-clause-fresh : goal.returns-clause-fresh
 returns-clause-fresh g c clear =
     let see : Sees g.row.R.Denot (Slot g.row.L.Denot) =
-    sees g.R.ResourceManager.held_of g.R.ResourceManager.scan_of g.R.ResourceManager.in_doubt_of (slot_moment g.L.DecisionLog.moment) in
+    sees g.R.ResourceManager.look (slot_moment g.L.DecisionLog.moment) in
     let rms = c.crash_rms.new.rms.items in
     let parts = c.in-Ok-start_parts.parts in
     let made = c.in-Ok-start_parts.ensures in
@@ -98,7 +97,7 @@ returns-clause-fresh g c clear =
 pub returns-clause-follows : goal.returns-clause-follows
 returns-clause-follows g c order h =
     let see : Sees g.row.R.Denot (Slot g.row.L.Denot) =
-    sees g.R.ResourceManager.held_of g.R.ResourceManager.scan_of g.R.ResourceManager.in_doubt_of (slot_moment g.L.DecisionLog.moment) in
+    sees g.R.ResourceManager.look (slot_moment g.L.DecisionLog.moment) in
     let moment = g.L.DecisionLog.moment in
     let rms = c.crash_rms.new.rms.items in
     let parts = c.in-Ok-start_parts.parts in
@@ -112,7 +111,7 @@ returns-clause-follows g c order h =
 pub returns-clause-near : goal.returns-clause-near
 returns-clause-near g c order h =
     let see : Sees g.row.R.Denot (Slot g.row.L.Denot) =
-    sees g.R.ResourceManager.held_of g.R.ResourceManager.scan_of g.R.ResourceManager.in_doubt_of (slot_moment g.L.DecisionLog.moment) in
+    sees g.R.ResourceManager.look (slot_moment g.L.DecisionLog.moment) in
     let made = c.in-Ok-start_parts.ensures in
     new_may_restart see g.L.DecisionLog.moment c.args.threads c.crash_rms.new.rms.items c.in-Ok-start_parts.parts made.parts made.manager c.args.log
     made.log _ (invariant_of-result g c) refl order h
@@ -120,7 +119,7 @@ returns-clause-near g c order h =
 pub returns-clause-crash : goal.returns-clause-crash
 returns-clause-crash g c order h =
     let see : Sees g.row.R.Denot (Slot g.row.L.Denot) =
-    sees g.R.ResourceManager.held_of g.R.ResourceManager.scan_of g.R.ResourceManager.in_doubt_of (slot_moment g.L.DecisionLog.moment) in
+    sees g.R.ResourceManager.look (slot_moment g.L.DecisionLog.moment) in
     let moment = g.L.DecisionLog.moment in
     let made = c.in-Ok-start_parts.ensures in
     let in_order = subst (λ l. (moment l).is_in_order) (sym c.of-handed.ensures) order in

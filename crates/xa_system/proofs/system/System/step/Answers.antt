@@ -16,28 +16,24 @@ use Rattle.xa_system.proofs.system.System.step.Goals as goal
 pub returns-then-len-ge-EVENT_LIMIT-clause-parts :
     goal.returns-then-len-ge-EVENT_LIMIT-clause-parts
 returns-then-len-ge-EVENT_LIMIT-clause-parts g c =
-    let see : Observes g.row.R.Denot g.row.L.Denot =
-    observes g.R.ResourceManager.held_of g.R.ResourceManager.scan_of g.R.ResourceManager.in_doubt_of g.L.DecisionLog.moment in
+    let see = observes g.R.ResourceManager.look g.L.DecisionLog.moment in
     subst (λ v. HoldsItsTrace see v) c.self.view_is (holds _ _ c.self.inside c.self.invariant)
 
 pub step-requires-clause-stands : goal.step-requires-clause-stands
 step-requires-clause-stands g c =
-    let see : Observes g.row.R.Denot g.row.L.Denot =
-    observes g.R.ResourceManager.held_of g.R.ResourceManager.scan_of g.R.ResourceManager.in_doubt_of g.L.DecisionLog.moment in
+    let see = observes g.R.ResourceManager.look g.L.DecisionLog.moment in
     somewhere _ _ c.self.inside c.self.invariant (rw c.len.ensures at c.if-len-ge-EVENT_LIMIT.false)
 
 pub invariant_of-self : goal.invariant_of-self
 invariant_of-self g c =
-    let see : Observes g.row.R.Denot g.row.L.Denot =
-    observes g.R.ResourceManager.held_of g.R.ResourceManager.scan_of g.R.ResourceManager.in_doubt_of g.L.DecisionLog.moment in
+    let see = observes g.R.ResourceManager.look g.L.DecisionLog.moment in
     sound_then _ _ c.self.inside c.step.new.self c.push_reserved.new.self c.args.step c.step.result c.split-reply.result.1
     (slot_durable g.L.DecisionLog.moment g.met.L.DecisionLog.durable) c.self.invariant c.step.ensures.goes (ap (λ p. p.1) c.split-reply.ensures)
     (rw c.len.ensures at c.if-len-ge-EVENT_LIMIT.false) c.push_reserved.ensures.len c.push_reserved.ensures.items c.push_reserved.ensures.capacity
 
 pub returns-clause-allowed : goal.returns-clause-allowed
 returns-clause-allowed g c few =
-    let see : Observes g.row.R.Denot g.row.L.Denot =
-    observes g.R.ResourceManager.held_of g.R.ResourceManager.scan_of g.R.ResourceManager.in_doubt_of g.L.DecisionLog.moment in
+    let see = observes g.R.ResourceManager.look g.L.DecisionLog.moment in
     subst (λ r. Allowed (trace_in see.look c.args.self.now) (step_of c.args.step) (reply_of r)) (sym (ap (λ p. p.0) c.split-reply.ensures))
     (subst (λ v. Allowed (trace_in see.look v) (step_of c.args.step) (reply_of c.step.result)) c.self.view_is
     (was_allowed _ _ c.self.inside c.step.new.self c.args.step c.step.result c.self.invariant c.step.ensures.goes
@@ -45,8 +41,7 @@ returns-clause-allowed g c few =
 
 pub returns-clause-parts : goal.returns-clause-parts
 returns-clause-parts g c =
-    let see : Observes g.row.R.Denot g.row.L.Denot =
-    observes g.R.ResourceManager.held_of g.R.ResourceManager.scan_of g.R.ResourceManager.in_doubt_of g.L.DecisionLog.moment in
+    let see = observes g.R.ResourceManager.look g.L.DecisionLog.moment in
     holds _ _ _ (sound_then _ _ c.self.inside c.step.new.self c.push_reserved.new.self c.args.step c.step.result c.split-reply.result.1
     (slot_durable g.L.DecisionLog.moment g.met.L.DecisionLog.durable) c.self.invariant
     c.step.ensures.goes (ap (λ p. p.1) c.split-reply.ensures) (rw c.len.ensures at c.if-len-ge-EVENT_LIMIT.false) c.push_reserved.ensures.len
@@ -54,8 +49,7 @@ returns-clause-parts g c =
 
 pub returns-clause-start : goal.returns-clause-start
 returns-clause-start g c =
-    let see : Observes g.row.R.Denot g.row.L.Denot =
-    observes g.R.ResourceManager.held_of g.R.ResourceManager.scan_of g.R.ResourceManager.in_doubt_of g.L.DecisionLog.moment in
+    let see = observes g.R.ResourceManager.look g.L.DecisionLog.moment in
     subst (λ v. origin_in see.look (view_of (record {
       first = c.self.inside.first;
       handed = c.self.inside.handed;
@@ -67,16 +61,14 @@ returns-clause-start g c =
 
 pub returns-clause-honest : goal.returns-clause-honest
 returns-clause-honest g c =
-    let see : Observes g.row.R.Denot g.row.L.Denot =
-    observes g.R.ResourceManager.held_of g.R.ResourceManager.scan_of g.R.ResourceManager.in_doubt_of g.L.DecisionLog.moment in
+    let see = observes g.R.ResourceManager.look g.L.DecisionLog.moment in
     subst (λ v. (see.place (log_in c.step.new.self.manager)).is_honest → (see.place v.log).is_honest) c.self.view_is
     (honest_before _ _ c.self.inside c.step.new.self c.args.step c.step.result c.self.invariant c.step.ensures.goes
     (rw c.len.ensures at c.if-len-ge-EVENT_LIMIT.false))
 
 pub returns-clause-faults : goal.returns-clause-faults
 returns-clause-faults g c =
-    let see : Observes g.row.R.Denot g.row.L.Denot =
-    observes g.R.ResourceManager.held_of g.R.ResourceManager.scan_of g.R.ResourceManager.in_doubt_of g.L.DecisionLog.moment in
+    let see = observes g.R.ResourceManager.look g.L.DecisionLog.moment in
     subst (λ v. (see.moment v.handed).is_in_order → (see.place (log_in c.step.new.self.manager)).is_honest
     → MayRestart see v → FaultsHaveCauses see v (view_of (record {
       first = c.self.inside.first;
@@ -89,8 +81,7 @@ returns-clause-faults g c =
 
 pub returns-clause-other_faults : goal.returns-clause-other_faults
 returns-clause-other_faults g c =
-    let see : Observes g.row.R.Denot g.row.L.Denot =
-    observes g.R.ResourceManager.held_of g.R.ResourceManager.scan_of g.R.ResourceManager.in_doubt_of g.L.DecisionLog.moment in
+    let see = observes g.R.ResourceManager.look g.L.DecisionLog.moment in
     subst (λ v. OtherFaultsHaveCauses see v (view_of (record {
       first = c.self.inside.first;
       handed = c.self.inside.handed;
@@ -121,8 +112,7 @@ returns-then-len-ge-EVENT_LIMIT-clause-faults g c order honest may = inr (omega 
 pub returns-then-len-ge-EVENT_LIMIT-clause-refused :
     goal.returns-then-len-ge-EVENT_LIMIT-clause-refused
 returns-then-len-ge-EVENT_LIMIT-clause-refused g c n is other =
-    let see : Observes g.row.R.Denot g.row.L.Denot =
-    observes g.R.ResourceManager.held_of g.R.ResourceManager.scan_of g.R.ResourceManager.in_doubt_of g.L.DecisionLog.moment in
+    let see = observes g.R.ResourceManager.look g.L.DecisionLog.moment in
     record { rms = λ r rm at. (rm, at, stays_same see.look rm); lines = λ t r has. refl; log = refl }
 
 pub returns-then-len-ge-EVENT_LIMIT-clause-nothing :
@@ -131,8 +121,7 @@ returns-then-len-ge-EVENT_LIMIT-clause-nothing g c n is other = refl
 
 pub returns-clause-refused : goal.returns-clause-refused
 returns-clause-refused g c n is other =
-    let see : Observes g.row.R.Denot g.row.L.Denot =
-    observes g.R.ResourceManager.held_of g.R.ResourceManager.scan_of g.R.ResourceManager.in_doubt_of g.L.DecisionLog.moment in
+    let see = observes g.R.ResourceManager.look g.L.DecisionLog.moment in
     subst (λ v. IsAsBefore see v (view_of (record {
       first = c.self.inside.first;
       handed = c.self.inside.handed;
@@ -148,16 +137,14 @@ returns-clause-nothing g c n is other =
 
 pub returns-clause-down : goal.returns-clause-down
 returns-clause-down g c is =
-    let see : Observes g.row.R.Denot g.row.L.Denot =
-    observes g.R.ResourceManager.held_of g.R.ResourceManager.scan_of g.R.ResourceManager.in_doubt_of g.L.DecisionLog.moment in
+    let see = observes g.R.ResourceManager.look g.L.DecisionLog.moment in
     down_after _ _ c.self.inside c.step.new.self c.push_reserved.new.self c.args.step c.step.result c.split-reply.result.1 c.self.invariant c.step.ensures.goes
     (ap (λ p. p.1) c.split-reply.ensures) (rw c.len.ensures at c.if-len-ge-EVENT_LIMIT.false) c.push_reserved.ensures.items
     (sym (ap (λ p. p.0) c.split-reply.ensures) ∙ is)
 
 pub returns-clause-failed : goal.returns-clause-failed
 returns-clause-failed g c is =
-    let see : Observes g.row.R.Denot g.row.L.Denot =
-    observes g.R.ResourceManager.held_of g.R.ResourceManager.scan_of g.R.ResourceManager.in_doubt_of g.L.DecisionLog.moment in
+    let see = observes g.R.ResourceManager.look g.L.DecisionLog.moment in
     subst (λ v. (see.moment v.handed).is_in_order → (see.place (log_in c.step.new.self.manager)).is_honest
     → MayHaveFailed (trace_in see.look v) (log_failed (step_of c.args.step)) (see.place v.log).content
     (see.place (log_in c.step.new.self.manager)).content) c.self.view_is
@@ -166,8 +153,7 @@ returns-clause-failed g c is =
 
 pub returns-clause-near : goal.returns-clause-near
 returns-clause-near g c =
-    let see : Observes g.row.R.Denot g.row.L.Denot =
-    observes g.R.ResourceManager.held_of g.R.ResourceManager.scan_of g.R.ResourceManager.in_doubt_of g.L.DecisionLog.moment in
+    let see = observes g.R.ResourceManager.look g.L.DecisionLog.moment in
     subst (λ v. (see.moment v.handed).is_in_order → (see.place (log_in c.step.new.self.manager)).is_honest → MayRestart see v → MayRestart see
     (view_of (record { first = c.self.inside.first; handed = c.self.inside.handed; parts = c.step.new.self; events = c.push_reserved.new.self })))
     c.self.view_is
@@ -177,8 +163,7 @@ returns-clause-near g c =
 
 pub returns-clause-crash : goal.returns-clause-crash
 returns-clause-crash g c =
-    let see : Observes g.row.R.Denot g.row.L.Denot =
-    observes g.R.ResourceManager.held_of g.R.ResourceManager.scan_of g.R.ResourceManager.in_doubt_of g.L.DecisionLog.moment in
+    let see = observes g.R.ResourceManager.look g.L.DecisionLog.moment in
     subst (λ v. (see.moment v.handed).is_in_order → (see.place (log_in c.step.new.self.manager)).is_honest → MayRestart see v
     → MayRestartAfterCrash see v → MayRestartAfterCrash see
     (view_of (record { first = c.self.inside.first; handed = c.self.inside.handed; parts = c.step.new.self; events = c.push_reserved.new.self })))
@@ -189,8 +174,7 @@ returns-clause-crash g c =
 
 pub returns-clause-out : goal.returns-clause-out
 returns-clause-out g c none is few down =
-    let see : Observes g.row.R.Denot g.row.L.Denot =
-    observes g.R.ResourceManager.held_of g.R.ResourceManager.scan_of g.R.ResourceManager.in_doubt_of g.L.DecisionLog.moment in
+    let see = observes g.R.ResourceManager.look g.L.DecisionLog.moment in
     let same = ap (λ p. p.0) c.split-reply.ensures in
     let allowed = was_allowed _ _ c.self.inside c.step.new.self c.args.step c.step.result c.self.invariant c.step.ensures.goes
     (rw c.len.ensures at c.if-len-ge-EVENT_LIMIT.false) in
@@ -203,8 +187,7 @@ returns-clause-out g c none is few down =
 
 pub returns-clause-other_incarnation : goal.returns-clause-other_incarnation
 returns-clause-other_incarnation g c content is few down order honest holds other =
-    let see : Observes g.row.R.Denot g.row.L.Denot =
-    observes g.R.ResourceManager.held_of g.R.ResourceManager.scan_of g.R.ResourceManager.in_doubt_of g.L.DecisionLog.moment in
+    let see = observes g.R.ResourceManager.look g.L.DecisionLog.moment in
     let same = ap (λ p. p.0) c.split-reply.ensures in
     let allowed = was_allowed _ _ c.self.inside c.step.new.self c.args.step c.step.result c.self.invariant c.step.ensures.goes
     (rw c.len.ensures at c.if-len-ge-EVENT_LIMIT.false) in

@@ -8,5 +8,5 @@ invariant_of-self g c =
     record {
       only = only_answered g.J.Run.is_own (is_xid_of c.args.jobs.now c.args.incarnation) c.args.self.now.number c.args.self.now.rm c.apply.new.self
           c.args.thread c.args.call.now c.apply.result c.requires.own c.args.self.now.only
-          (c.names_own.ensures (search rules)) c.apply.ensures.held c.apply.ensures.err_held;
+          (c.names_own.ensures (search rules)) c.apply.ensures.ok c.apply.ensures.err;
     }
