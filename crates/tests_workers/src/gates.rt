@@ -112,3 +112,38 @@ impl Gate for After {
         true
     }
 }
+
+/// A gate at which resource manager 0 gives its fifth answer only once all others together have given eight.
+#[derive(Drop)]
+pub(crate) struct Lagging {
+    answered: AtomicU64,
+    others: AtomicU64,
+}
+
+impl Lagging {
+    pub(crate) fn new() -> Lagging {
+        Lagging {
+            answered: AtomicU64::new(0),
+            others: AtomicU64::new(0),
+        }
+    }
+
+    fn is_shut(&self) -> bool {
+        self.answered.load(Ordering::SeqCst) == 4 && self.others.load(Ordering::SeqCst) < 8
+    }
+}
+
+impl Gate for Lagging {
+    fn at(&self, point: Point) -> bool {
+        match point {
+            Point::Answering(0) if self.is_shut() => {
+                thread::yield_now();
+                return false;
+            }
+            Point::Answered(0) => self.answered.fetch_add(1, Ordering::SeqCst),
+            Point::Answered(_) => self.others.fetch_add(1, Ordering::SeqCst),
+            _ => 0,
+        };
+        true
+    }
+}

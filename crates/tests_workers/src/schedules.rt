@@ -1,6 +1,6 @@
 //! Runs whose gates hold workers back: that they work side by side, and in which order decisions and sweeps come.
 
-use crate::gates::{After, Closed, Meeting};
+use crate::gates::{After, Closed, Lagging, Meeting};
 use crate::plans::{YES, four_jobs, jobs, run, swept};
 use std::sync::atomic::Ordering;
 use std::test::Fail;
@@ -61,6 +61,19 @@ fn the_first_to_reach_a_job_decides_it(rt: HostRuntime) -> Result<(), Fail> {
     let decided_first = After::new(Point::Sweeping(0), Point::Answered(0), 5);
     let done = run(&rt, alloc, &one, MemLog::new(alloc), &decided_first)?;
     assert_eq!(rt; done.ends.as_slice(), [Outcome::Commit].as_slice());
+    assert!(rt; done.fates.iter().all(|fate| fate.1 == Fate::Committed));
+    Ok(())
+}
+
+/// Resource manager 1 answers xa_open, four calls of the first job and three of the second before resource manager 0 answers the
+/// first job's xa_commit.
+#[test]
+fn a_job_begins_before_the_last_answers_of_the_one_before(rt: HostRuntime) -> Result<(), Fail> {
+    let alloc = rt.alloc();
+    let two = jobs(alloc, 1, 2, &[&[YES, YES], &[YES, YES]])?;
+    let done = run(&rt, alloc, &two, MemLog::new(alloc), &Lagging::new())?;
+    let ends = [Outcome::Commit, Outcome::Commit];
+    assert_eq!(rt; done.ends.as_slice(), ends.as_slice());
     assert!(rt; done.fates.iter().all(|fate| fate.1 == Fate::Committed));
     Ok(())
 }

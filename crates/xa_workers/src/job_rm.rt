@@ -9,7 +9,7 @@ use crate::limits::JOB_LIMIT;
 use crate::{Jobs, WorkFault};
 use std::alloc::Global;
 use std::marker::PhantomData;
-use xa_base::{Answer, Call};
+use xa_base::{Answer, Call, Vote};
 use xa_rm::{MemRm, ResourceManager};
 
 /// A resource manager at which no branch was started but those of the jobs.
@@ -22,7 +22,7 @@ pub(crate) struct JobRm<J: Run> {
 }
 
 impl<J: Run> JobRm<J> {
-    /// A resource manager where nothing was started, with all votes of the jobs set.
+    /// A resource manager where nothing was started, which votes as the jobs say.
     #[tactic(auto, using(crate::proofs::OwnBranches::only_new))]
     pub(crate) fn new(
         alloc: Global,
@@ -36,7 +36,7 @@ impl<J: Run> JobRm<J> {
     {
         let mut rm = MemRm::new(alloc);
         for job in 0..jobs.votes.len() {
-            if let Some(vote) = jobs.vote(job, number) {
+            if let Some(vote) = vote_to_set(jobs, job, number) {
                 let branch = jobs.branch(incarnation, job, number);
                 rm.vote(&branch.xid(), vote)?;
             }
@@ -79,6 +79,14 @@ impl<J: Run> JobRm<J> {
     {
         let JobRm { rm, .. } = self;
         rm
+    }
+}
+
+/// What a job votes at a resource manager, if it has to be told: a branch that nobody named votes yes.
+fn vote_to_set(jobs: &Jobs, job: usize, rm: u32) -> Option<Vote> {
+    match jobs.vote(job, rm) {
+        Some(Vote::Yes) => None,
+        vote => vote,
     }
 }
 

@@ -206,11 +206,13 @@ fn run_named<
 /// for each resource manager, one for the recovery if it sweeps them, and this thread writes the log. All workers have
 /// ended when it returns.
 ///
-/// A thread of control opens its lines, and sends the branches of each of its jobs xa_start, xa_end and xa_prepare,
-/// each to all its resource managers before it awaits the first answer. Once all votes are heard it claims the job at
-/// the board, has its row written and settles the claim, and then sends xa_commit to the branches that voted yes. A job
-/// with a no, and one whose claim isn't won, gets xa_rollback. Rows that threads ask for at the same time are written at
-/// once.
+/// A thread of control opens its lines, and sends the branches of each of its jobs xa_start, xa_end and xa_prepare, all of
+/// them before it awaits the first answer. Once all votes are heard it claims the job at the board, has its row written and
+/// settles the claim, and then sends xa_commit to the branches that voted yes. A job with a no, and one whose claim isn't
+/// won, gets xa_rollback. Rows that threads ask for at the same time are written at once.
+///
+/// What a job's last calls are answered is heard together with the votes of the thread's next job, so that each job takes one
+/// round trip. All answers were heard when it returns outcomes.
 ///
 /// A worker with nothing to do looks again for a while, yields, and then sleeps until it is woken. The clock tells it only
 /// whether a yield went to another program, and then it sleeps at once.

@@ -67,21 +67,64 @@ impl<'a, J: Run, G: Gate> ThreadLines<'a, J, G> {
         Ok(())
     }
 
-    /// Sends a call for each of these branches to its resource manager, and then awaits the answers. All calls are there
-    /// before any resource manager is woken.
-    pub(crate) fn round<R: Wait + Clock>(
+    /// The votes of a job with these branches. All its calls are on their lines before a resource manager is woken, behind
+    /// the last ones of the thread's job before, which `told` were sent. All are answered before this returns.
+    pub(crate) fn votes<R: Wait + Clock>(
         &mut self,
         rt: &R,
         alloc: Global,
+        branches: &[Branch],
+        told: &[Branch],
+    ) -> Result<Vec<Code>, Halt> {
+        self.send(rt, Phase::Start, branches)?;
+        self.send(rt, Phase::End, branches)?;
+        self.send(rt, Phase::Prepare, branches)?;
+        self.wake(branches);
+        self.hear_last(rt, alloc, told)?;
+        self.hear_each(rt, alloc, branches)?;
+        self.hear_each(rt, alloc, branches)?;
+        self.hear_each(rt, alloc, branches)
+    }
+
+    /// Hears what the last calls of a job are answered, which these branches were sent.
+    pub(crate) fn hear_last<R: Wait + Clock>(
+        &mut self,
+        rt: &R,
+        alloc: Global,
+        told: &[Branch],
+    ) -> Result<(), Halt> {
+        self.wake(told);
+        self.hear_each(rt, alloc, told)?;
+        Ok(())
+    }
+
+    /// Lets a call for each of these branches wait on its line. It wakes nobody.
+    pub(crate) fn send<R: Wait + Clock>(
+        &mut self,
+        rt: &R,
         phase: Phase,
         branches: &[Branch],
-    ) -> Result<Vec<Code>, Halt> {
+    ) -> Result<(), Halt> {
         for branch in branches {
             self.issue(rt, branch.rm, phase.call(*branch))?;
         }
+        Ok(())
+    }
+
+    /// Wakes the resource managers of these branches.
+    fn wake(&self, branches: &[Branch]) {
         for branch in branches {
             self.crew.signals.wake_rm(branch.rm);
         }
+    }
+
+    /// The codes that answer the oldest unheard call for each of these branches, once all are there.
+    fn hear_each<R: Wait + Clock>(
+        &mut self,
+        rt: &R,
+        alloc: Global,
+        branches: &[Branch],
+    ) -> Result<Vec<Code>, Halt> {
         let mut codes = Vec::new(alloc);
         for branch in branches {
             let code = self.hear(rt, branch.rm)?;
