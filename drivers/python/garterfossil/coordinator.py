@@ -93,9 +93,10 @@ class Coordinator:
         kind, *words = self.ask(f"waiting {thread} {rm}").split(" ", 1)
         return Call.parse(words[0]) if kind == "waits" else None
 
-    def decide(self, gtrid: str, outcome: str) -> None:
-        """Decides the transaction: `commit` or `rollback`. Once it returns from a commit, the decision is in the log."""
-        self.ask(f"decide {gtrid} {outcome}")
+    def decide(self, gtrids: Iterable[str], outcome: str) -> None:
+        """Decides the transactions: `commit` or `rollback`. Once it returns from a commit, the decisions are in the log. Where
+        one of them is refused, none is decided."""
+        self.ask(" ".join(["decide", *gtrids, outcome]))
 
     def done(self, gtrids: Iterable[str]) -> None:
         """The rows of committed transactions, of which each branch has acknowledged, leave the log."""

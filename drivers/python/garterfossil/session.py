@@ -10,6 +10,7 @@ from typing import Iterator, List, Sequence
 
 from .adapters.base import Database
 from .calls import Call
+from .commits import Commits
 from .coordinator import Coordinator
 from .debts import Debts
 from .errors import ConnectionLost, Overdue, Refused, RequestError, XaError
@@ -20,7 +21,8 @@ from .threads import Threads
 
 log = logging.getLogger("garterfossil")
 
-#: So many rows leave the log by one request. A row that stays until the next session costs that one some calls, and no more.
+#: So many rows leave the log by one request, which is one write of the log. A row that stays until the next session costs that one
+#: some calls, and no more.
 DONE_AT_ONCE = 8
 
 
@@ -30,6 +32,7 @@ class Session:
     def __init__(self, command: Sequence[str], databases: Sequence[Database], threads: int, patience: float):
         self.patience = patience
         self.coordinator = Coordinator.start(command, patience)
+        self.commits = Commits(self.coordinator)
         self.threads = Threads(threads)
         self.debts = Debts()
         self._rms = [ResourceManager(number, database) for number, database in enumerate(databases)]
@@ -93,6 +96,12 @@ class Session:
         try:
             if gtrids:
                 self.coordinator.done(gtrids)
+        except Refused as refused:
+            # None of the rows left. The others may, without the one that can't.
+            log.warning("a row stays in the log: %s", refused)
+            if len(gtrids) > 1:
+                for gtrid in gtrids:
+                    self._finish([gtrid])
         except XaError as error:
             log.warning("rows stay in the log until the next session: %s", error)
 

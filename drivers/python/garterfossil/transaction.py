@@ -232,7 +232,7 @@ class Transaction:
     def _commit_in_two_phases(self, prepared: List[Branch]) -> None:
         self.outcome = Outcome.UNKNOWN
         try:
-            self._session.coordinator.decide(self.gtrid, "commit")
+            self._session.commits.decide(self.gtrid)
         except CoordinatorGone as error:
             raise OutcomeUnknown(f"{self.gtrid}: {error}") from error
         except XaError as error:
@@ -254,7 +254,7 @@ class Transaction:
         branches = list(self._branches.values())
         for branch in branches:
             self._try(branch.give_up)
-        self._try(lambda: self._session.coordinator.decide(self.gtrid, "rollback"))
+        self._try(lambda: self._session.coordinator.decide([self.gtrid], "rollback"))
         told = [branch for branch in branches if self._is_done("xa_rollback", branch, branch.roll_back)]
         for branch in told:
             self._is_done("xa_rollback", branch, branch.line.see_heard)

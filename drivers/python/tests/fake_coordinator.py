@@ -68,12 +68,14 @@ class Coordinator:
             self.votes.setdefault(words[0].split(":")[1], []).append(words[0])
         return f"heard {name} {words[-1]}"
 
-    def do_decide(self, gtrid, outcome):
-        if outcome == "commit" and gtrid in self.votes:
-            self.log["rows"][gtrid] = self.votes[gtrid]
+    def do_decide(self, *words):
+        *gtrids, outcome = words
+        rows = {gtrid: self.votes[gtrid] for gtrid in gtrids if outcome == "commit" and gtrid in self.votes}
+        if rows:
+            self.log["rows"].update(rows)
             self.save()
             self.die("decided")
-        self.live.discard(gtrid)
+        self.live.difference_update(gtrids)
         return "decided"
 
     def do_done(self, *gtrids):
