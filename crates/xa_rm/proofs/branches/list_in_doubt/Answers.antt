@@ -1,4 +1,4 @@
-use Rattle.std.proofs.Common.{rules, List, ap, sym, ◌∙◌, subst}
+use Rattle.std.proofs.Common.{rules, List, sym, subst}
 use Rattle.std.specs.BTreeSet.{BTreeSet}
 use Rattle.xa_base.specs.Xid.{Xid}
 use Rattle.xa_rm.specs.Branches.{Lists}
