@@ -1,12 +1,12 @@
 -- Lists of rows, with some rows more or fewer.
-use Rattle.std.proofs.Common.{◌≡◌, List, [], ◌∷◌, Bool, true, false, ◌||◌, refl, sym, ap, ◌∙◌, subst, ◌⊎◌}
+use Rattle.std.proofs.Common.{◌≡◌, List, [], ◌∷◌, ◌++◌, Bool, true, false, ◌||◌, refl, sym, ap, ◌∙◌, subst, ◌⊎◌}
 use Rattle.std.specs.Prelude.{map, if◌then◌else◌}
 use Rattle.std.proofs.lemmas.Bool.{or_cases, or_left, or_right}
 use mathlib.Core.Logic.{◌⊎◌.inl, ◌⊎◌.inr}
 use Rattle.xa_model.specs.Trace.{Gtrid, Row, Trace}
 use Rattle.xa_model.specs.Facts.Distinct.{EachOnce}
 use Rattle.xa_base.specs.Branch.{gtrid_eq}
-use Rattle.xa_model.specs.Facts.{lists_row, has_gtrid, participants_in, row_for, with_row, with_rows, without, without_each}
+use Rattle.xa_model.specs.Facts.{lists_row, has_gtrid, participants_in, row_for, without, without_each}
 use Rattle.xa_base.proofs.BranchKeys.{gtrid_eq-true, gtrid_eq-refl}
 
 -- ** lists of rows
@@ -43,32 +43,13 @@ without_drops h g (x ∷ rows) e f = drop_step (gtrid_eq x.gtrid h) h x g (witho
 
 -- ** several rows
 
-pub listed_with : (x : Row) (rows : List Row) (g : Gtrid) → lists_row (with_row x rows) g ≡ (lists_row rows g || gtrid_eq x.gtrid g)
-listed_with x rows g = by_test (lists_row rows x.gtrid) refl (gtrid_eq x.gtrid g) refl (lists_row rows g) refl
-  where
-    by_test : (t : Bool) → lists_row rows x.gtrid ≡ t → (u : Bool) → gtrid_eq x.gtrid g ≡ u → (v : Bool) → lists_row rows g ≡ v
-        → lists_row (if t then rows else x ∷ rows) g ≡ (v || u)
-    by_test true s u p true q = q
-    by_test true s true p false q = sym (ap (lists_row rows) (gtrid_eq-true x.gtrid g p)) ∙ s
-    by_test true s false p false q = q
-    by_test false s true p true q = or_left _ _ p
-    by_test false s true p false q = or_left _ _ p
-    by_test false s false p true q = or_right _ _ q
-    by_test false s false p false q = λ i. p i || q i
-
-or_joined : (a b c : Bool) → ((a || b) || c) ≡ (a || (b || c))
+or_joined : (a b c : Bool) → (a || (b || c)) ≡ ((a || b) || c)
 or_joined true b c = refl
 or_joined false b c = refl
 
-pub listed_with_all : (xs rows : List Row) (g : Gtrid) → lists_row (with_rows xs rows) g ≡ (lists_row rows g || lists_row xs g)
-listed_with_all [] rows g = by_test (lists_row rows g)
-  where
-    by_test : (t : Bool) → t ≡ (t || false)
-    by_test true = refl
-    by_test false = refl
-listed_with_all (x ∷ xs) rows g =
-    listed_with_all xs (with_row x rows) g
-    ∙ (ap (λ t. t || lists_row xs g) (listed_with x rows g) ∙ or_joined (lists_row rows g) (gtrid_eq x.gtrid g) (lists_row xs g))
+pub listed_joined : (xs rows : List Row) (g : Gtrid) → lists_row (xs ++ rows) g ≡ (lists_row xs g || lists_row rows g)
+listed_joined [] rows g = refl
+listed_joined (x ∷ xs) rows g = ap (λ t. gtrid_eq x.gtrid g || t) (listed_joined xs rows g) ∙ or_joined (gtrid_eq x.gtrid g) _ _
 
 pub without_each_keeps : (gs : List Gtrid) (g : Gtrid) (rows : List Row) → lists_row (without_each gs rows) g ≡ true → lists_row rows g ≡ true
 without_each_keeps [] g rows e = e

@@ -1,16 +1,16 @@
 -- One happening more in the log.
-use Rattle.std.proofs.Common.{◌≡◌, ℕ, List, [], ◌∷◌, length, Bool, true, false, not, ◌&&◌, ◌||◌, ◌==◌, refl, sym, ap, ◌∙◌, subst, ◌⊎◌}
+use Rattle.std.proofs.Common.{◌≡◌, ℕ, List, [], ◌∷◌, ◌++◌, length, Bool, true, false, not, ◌&&◌, ◌||◌, ◌==◌, refl, sym, ap, ◌∙◌, subst, ◌⊎◌}
 use Rattle.std.specs.Prelude.{if◌then◌else◌}
 use mathlib.Core.Logic.{◌⊎◌.inl, ◌⊎◌.inr}
 use Rattle.std.proofs.lemmas.Bool.{and_parts, or_cases, or_left, or_right}
 use Rattle.xa_model.specs.Trace.{Gtrid, Branch, Call, Answer, Row, Happening, Happening.Heard, Happening.Decided, Happening.Done, Happening.Restarted, Trace, Trace.From, Trace.Then}
 use Rattle.xa_base.specs.declared.step.Outcome.TheVariants as Outcome
 use Rattle.xa_base.specs.Branch.{gtrid_eq}
-use Rattle.xa_model.specs.Facts.{was_told, was_told_lately, row_for, participants_in, participants, is_settled_lately, says_yes_in, says_read_only, acknowledges, has_row, recorded, had_row, doubt, log, is_settled, lists_row, has_gtrid, with_row, with_rows, without, without_each, rows_changed, adds_row, Change, Change.AddRows, Change.DropRows, Change.AddRecord, Change.NoChange}
+use Rattle.xa_model.specs.Facts.{was_told, was_told_lately, row_for, participants_in, participants, is_settled_lately, says_yes_in, says_read_only, acknowledges, has_row, recorded, had_row, doubt, log, is_settled, lists_row, has_gtrid, without, without_each, rows_changed, adds_row, Change, Change.AddRows, Change.DropRows, Change.AddRecord, Change.NoChange}
 use Rattle.xa_base.proofs.BranchKeys.{gtrid_eq-true}
 use Rattle.xa_model.proofs.Invariant.Grows.{told_kept}
 use Rattle.xa_model.proofs.Invariant.Records.{recorded_kept}
-use Rattle.xa_model.proofs.Invariant.RowLists.{or_map, listed_with, listed_with_all, without_keeps, without_drops, without_each_keeps, without_each_drops}
+use Rattle.xa_model.proofs.Invariant.RowLists.{or_map, listed_joined, without_keeps, without_drops, without_each_keeps, without_each_drops}
 
 -- ** rows after one happening more
 
@@ -44,7 +44,7 @@ decided_row h g false rows s e = cc
 restarted_row : (g : Gtrid) (t : Bool) (c : Change) (rows : List Row) → not t ≡ true → adds_row c g ≡ true
     → lists_row (if t then rows else rows_changed c rows) g ≡ true
 restarted_row g true c rows s e = cc
-restarted_row g false (AddRows xs) rows s e = listed_with_all xs rows g ∙ or_right _ _ e
+restarted_row g false (AddRows xs) rows s e = listed_joined xs rows g ∙ or_left _ _ e
 restarted_row g false (DropRows gs) rows s e = absurd (cc)
 restarted_row g false (AddRecord b) rows s e = absurd (cc)
 restarted_row g false NoChange rows s e = absurd (cc)
@@ -75,11 +75,7 @@ row_rowed_decided x g false rows r f e = or_right _ _ (f e)
 
 row_rowed_changed : (g : Gtrid) (c : Change) (rows : List Row) (r : Bool) → (lists_row rows g ≡ true → r ≡ true)
     → lists_row (rows_changed c rows) g ≡ true → (adds_row c g || r) ≡ true
-row_rowed_changed g (AddRows xs) rows r f e = by_place (or_cases _ _ (sym (listed_with_all xs rows g) ∙ e))
-  where
-    by_place : (lists_row rows g ≡ true) ⊎ (lists_row xs g ≡ true) → (lists_row xs g || r) ≡ true
-    by_place (inl k) = or_right _ _ (f k)
-    by_place (inr k) = or_left _ _ k
+row_rowed_changed g (AddRows xs) rows r f e = or_map (lists_row xs g) _ _ f (sym (listed_joined xs rows g) ∙ e)
 row_rowed_changed g (DropRows gs) rows r f e = f (without_each_keeps gs g rows e)
 row_rowed_changed g (AddRecord b) rows r f e = f e
 row_rowed_changed g NoChange rows r f e = f e
@@ -112,7 +108,7 @@ row_lost_decided x g true rows e f = let k = or_right (gtrid_eq x.gtrid g) _ e i
 row_lost_decided x g false rows e f = cc
 
 row_lost_changed : (g : Gtrid) (c : Change) (rows : List Row) → lists_row rows g ≡ true → lists_row (rows_changed c rows) g ≡ false → Drops c g
-row_lost_changed g (AddRows xs) rows e f = let k = listed_with_all xs rows g ∙ or_left (lists_row rows g) _ e in absurd (cc)
+row_lost_changed g (AddRows xs) rows e f = let k = listed_joined xs rows g ∙ or_right (lists_row xs g) _ e in absurd (cc)
 row_lost_changed g (DropRows gs) rows e f = record { dropped = gs; is = refl; of = without_each_drops gs g rows e f }
 row_lost_changed g (AddRecord b) rows e f = absurd (cc)
 row_lost_changed g NoChange rows e f = absurd (cc)
@@ -130,48 +126,27 @@ row_lost tr _ g r n = cc
 
 -- ** the participants of a row
 
-none_listed : (rows : List Row) (g : Gtrid) → lists_row rows g ≡ false → participants_in rows g ≡ []
-none_listed [] g e = refl
-none_listed (x ∷ rows) g e = by_test (gtrid_eq x.gtrid g) e (none_listed rows g)
-  where
-    by_test : (t : Bool) → (t || lists_row rows g) ≡ false → (lists_row rows g ≡ false → participants_in rows g ≡ [])
-        → (if t then x.participants else participants_in rows g) ≡ []
-    by_test true e f = absurd (cc)
-    by_test false e f = f e
+-- a row is one of those in front, or one behind them
+data Front (xs rows : List Row) (g : Gtrid) : Type 0 where
+  In_front : lists_row xs g ≡ true → participants_in (xs ++ rows) g ≡ participants_in xs g → Front xs rows g
+  Behind : lists_row rows g ≡ true → participants_in (xs ++ rows) g ≡ participants_in rows g → Front xs rows g
 
--- a row that is there keeps its participants where one is added
-with_same : (x : Row) (rows : List Row) (g : Gtrid) → lists_row rows g ≡ true → participants_in (with_row x rows) g ≡ participants_in rows g
-with_same x rows g e = by_test (lists_row rows x.gtrid) refl (gtrid_eq x.gtrid g) refl
+front : (xs rows : List Row) (g : Gtrid) → lists_row (xs ++ rows) g ≡ true → Front xs rows g
+front [] rows g e = Behind e refl
+front (x ∷ xs) rows g e = by_test (gtrid_eq x.gtrid g) refl e (front xs rows g)
   where
-    by_test : (t : Bool) → lists_row rows x.gtrid ≡ t → (u : Bool) → gtrid_eq x.gtrid g ≡ u
-        → participants_in (if t then rows else x ∷ rows) g ≡ participants_in rows g
-    by_test true s u p = refl
-    by_test false s false p = ap (λ t. if t then x.participants else participants_in rows g) p
-    by_test false s true p = let k = ap (lists_row rows) (gtrid_eq-true x.gtrid g p) in absurd (cc)
+    choice : (t : Bool) (bs : List Branch) → gtrid_eq x.gtrid g ≡ t
+        → (if gtrid_eq x.gtrid g then x.participants else bs) ≡ (if t then x.participants else bs)
+    choice t bs s = ap (λ u. if u then x.participants else bs) s
 
--- one that is added has its own
-with_new : (x : Row) (rows : List Row) (g : Gtrid) → lists_row rows g ≡ false → gtrid_eq x.gtrid g ≡ true
-    → participants_in (with_row x rows) g ≡ x.participants
-with_new x rows g e p = ap (λ t. participants_in (if t then rows else x ∷ rows) g) lacks ∙ ap (λ t. if t then x.participants else participants_in rows g) p
-  where
-    lacks : lists_row rows x.gtrid ≡ false
-    lacks = ap (lists_row rows) (gtrid_eq-true x.gtrid g p) ∙ e
+    by_rest : gtrid_eq x.gtrid g ≡ false → Front xs rows g → Front (x ∷ xs) rows g
+    by_rest s (In_front l p) = In_front (or_right _ _ l) (choice false _ s ∙ (p ∙ sym (choice false _ s)))
+    by_rest s (Behind l p) = Behind l (choice false _ s ∙ p)
 
-with_all_same : (xs rows : List Row) (g : Gtrid) (t : Bool) → lists_row rows g ≡ t
-    → participants_in (with_rows xs rows) g ≡ (if t then participants_in rows g else participants_in xs g)
-with_all_same [] rows g true e = refl
-with_all_same [] rows g false e = none_listed rows g e
-with_all_same (x ∷ xs) rows g true e =
-    with_all_same xs (with_row x rows) g true (listed_with x rows g ∙ or_left _ _ e) ∙ with_same x rows g e
-with_all_same (x ∷ xs) rows g false e =
-    by_test (gtrid_eq x.gtrid g) refl (with_all_same xs (with_row x rows) g)
-  where
-    by_test : (u : Bool) → gtrid_eq x.gtrid g ≡ u
-        → ((t : Bool) → lists_row (with_row x rows) g ≡ t
-        → participants_in (with_rows xs (with_row x rows)) g ≡ (if t then participants_in (with_row x rows) g else participants_in xs g))
-        → participants_in (with_rows xs (with_row x rows)) g ≡ (if u then x.participants else participants_in xs g)
-    by_test true p f = f true (listed_with x rows g ∙ or_right _ _ p) ∙ with_new x rows g e p
-    by_test false p f = f false (listed_with x rows g ∙ (λ i. e i || p i))
+    by_test : (t : Bool) → gtrid_eq x.gtrid g ≡ t → (t || lists_row (xs ++ rows) g) ≡ true → (lists_row (xs ++ rows) g ≡ true → Front xs rows g)
+        → Front (x ∷ xs) rows g
+    by_test true s e k = In_front (or_left _ _ s) (choice true _ s ∙ sym (choice true _ s))
+    by_test false s e k = by_rest s (k e)
 
 without_none : (g : Gtrid) (rows : List Row) → lists_row (without g rows) g ≡ true → ⊥
 without_none g [] e = cc
@@ -218,27 +193,37 @@ pub data RowNow (tr : Trace) (e : Happening) (g : Gtrid) : Type 0 where
 row_decided_back : (tr : Trace) (h g : Gtrid) → (t : Bool) → was_told tr (says_yes_in h) ≡ t
     → lists_row (if t then row_for tr h ∷ log tr else log tr) g ≡ true → RowNow tr (Decided h Outcome.Commit) g
 row_decided_back tr h g false k r = Before r (ap (λ t. participants_in (if t then row_for tr h ∷ log tr else log tr) g) k)
-row_decided_back tr h g true k r = by_place (gtrid_eq h g) refl r
+row_decided_back tr h g true k r = by_place (front (row_for tr h ∷ []) (log tr) g r)
   where
     now : participants (Then tr (Decided h Outcome.Commit)) g ≡ participants_in (row_for tr h ∷ log tr) g
     now = ap (λ t. participants_in (if t then row_for tr h ∷ log tr else log tr) g) k
 
-    by_place : (t : Bool) → gtrid_eq h g ≡ t → (t || has_row tr g) ≡ true → RowNow tr (Decided h Outcome.Commit) g
-    by_place true s r =
+    first : (gtrid_eq h g || false) ≡ true → gtrid_eq h g ≡ true
+    first s = by_test (gtrid_eq h g) s
+      where
+        by_test : (t : Bool) → (t || false) ≡ true → t ≡ true
+        by_test true s = refl
+        by_test false s = s
+
+    by_row : gtrid_eq h g ≡ true → participants (Then tr (Decided h Outcome.Commit)) g ≡ participants_in (row_for tr h ∷ []) g
+        → RowNow tr (Decided h Outcome.Commit) g
+    by_row s p =
         let q = gtrid_eq-true h g s in
         Decided_now (ap (λ x. Decided x Outcome.Commit) q)
-        (now ∙ (ap (λ t. if t then (row_for tr h).participants else participants tr g) s ∙ ap (λ x. (row_for tr x).participants) q))
-    by_place false s r = Before r (now ∙ ap (λ t. if t then (row_for tr h).participants else participants tr g) s)
+        (p ∙ (ap (λ t. if t then (row_for tr h).participants else []) s ∙ ap (λ x. (row_for tr x).participants) q))
+
+    by_place : Front (row_for tr h ∷ []) (log tr) g → RowNow tr (Decided h Outcome.Commit) g
+    by_place (In_front s p) = by_row (first s) (now ∙ p)
+    by_place (Behind s p) = Before s (now ∙ p)
 
 row_changed_back : (tr : Trace) (i d n : ℕ) (g : Gtrid) (c : Change) → doubt tr ≡ c
     → participants (Then tr (Restarted i d n)) g ≡ participants_in (rows_changed c (log tr)) g
     → lists_row (rows_changed c (log tr)) g ≡ true → RowNow tr (Restarted i d n) g
-row_changed_back tr i d n g (AddRows xs) k q r = by_place (lists_row (log tr) g) refl (sym (listed_with_all xs (log tr) g) ∙ r)
+row_changed_back tr i d n g (AddRows xs) k q r = by_place (front xs (log tr) g r)
   where
-    by_place : (t : Bool) → lists_row (log tr) g ≡ t → (lists_row (log tr) g || lists_row xs g) ≡ true → RowNow tr (Restarted i d n) g
-    by_place true s l = Before s (q ∙ with_all_same xs (log tr) g true s)
-    by_place false s l =
-        Restarted_now i d n refl (record { added = xs; is = k; of = ap (λ t. t || lists_row xs g) (sym s) ∙ l }) (q ∙ with_all_same xs (log tr) g false s)
+    by_place : Front xs (log tr) g → RowNow tr (Restarted i d n) g
+    by_place (In_front s p) = Restarted_now i d n refl (record { added = xs; is = k; of = s }) (q ∙ p)
+    by_place (Behind s p) = Before s (q ∙ p)
 row_changed_back tr i d n g (DropRows gs) k q r = Before (without_each_keeps gs g (log tr) r) (q ∙ without_each_same gs g (log tr) r)
 row_changed_back tr i d n g (AddRecord b) k q r = Before r q
 row_changed_back tr i d n g NoChange k q r = Before r q

@@ -1,11 +1,11 @@
 -- What a right history leaves, the next start resumes.
-use Rattle.std.proofs.Common.{◌≡◌, ℕ, ◌+◌, ◌<◌, List, [], ◌∷◌, length, Bool, true, false, ◌&&◌, ◌==◌, refl, sym, ap, ◌∙◌, subst, arith}
+use Rattle.std.proofs.Common.{◌≡◌, ℕ, ◌+◌, ◌<◌, List, [], ◌∷◌, ◌++◌, length, Bool, true, false, ◌&&◌, ◌==◌, refl, sym, ap, ◌∙◌, subst, arith, length-append}
 use Rattle.std.specs.Prelude.{if◌then◌else◌}
 use Rattle.std.proofs.lemmas.Bool.{and_parts, ltb-true, lt-ltb, eq-eqb, eqb-true}
 use Rattle.xa_base.specs.Branch.{IsBranch, gtrid_eq, xid_of_branch}
 use Rattle.xa_base.specs.HeldBranch.{HeldBranch, new_branch}
 use Rattle.xa_base.specs.StateTable.{state_of, broken}
-use Rattle.xa_model.specs.Facts.{doubt, fits, has_record, held_of, heuristic_rows, heuristics_changed, incarnation, log, retries, rows_changed, standing, vote, lists_row, with_row, with_rows, without, without_each, Change, Change.AddRows, Change.DropRows, Change.AddRecord, Change.NoChange}
+use Rattle.xa_model.specs.Facts.{doubt, fits, has_record, held_of, heuristic_rows, heuristics_changed, incarnation, log, retries, rows_changed, standing, vote, without, without_each, Change, Change.AddRows, Change.DropRows, Change.AddRecord, Change.NoChange}
 use Rattle.xa_model.specs.Facts.InDoubt.{name_of}
 use Rattle.xa_model.specs.Promises.Processes.{AllAreNamed, IsLeft, IsLeft.Made, IsLeft.Unmade, Resumes, SameRecords, SameRows, gone, held_in, next_start}
 use Rattle.xa_model.specs.Trace.{Branch, Gtrid, Name.Ours, Recorded, Row, Trace}
@@ -59,32 +59,12 @@ without_each_all (g ∷ gs) xs e =
     let m = without_each_length gs (without g xs) in let n = without_length g xs in
     without_each_all gs (without g xs) (omega (arith, e, m, n)) ∙ without_all g xs (omega (arith, e, m, n))
 
-with_row_length : (x : Row) (xs : List Row) → length xs < length (with_row x xs) + 1
-with_row_length x xs = by_test (lists_row xs x.gtrid)
-  where
-    by_test : (t : Bool) → length xs < length (if t then xs else x ∷ xs) + 1
-    by_test true = omega arith
-    by_test false = omega arith
-
-with_rows_length : (rows xs : List Row) → length xs < length (with_rows rows xs) + 1
-with_rows_length [] xs = omega arith
-with_rows_length (x ∷ rows) xs = let m = with_rows_length rows (with_row x xs) in let n = with_row_length x xs in omega (arith, m, n)
-
-with_row_none : (x : Row) (xs : List Row) → length (with_row x xs) ≡ length xs → with_row x xs ≡ xs
-with_row_none x xs e = by_test (lists_row xs x.gtrid) e
-  where
-    by_test : (t : Bool) → length (if t then xs else x ∷ xs) ≡ length xs → (if t then xs else x ∷ xs) ≡ xs
-    by_test true e = refl
-    by_test false e = absurd (omega (arith, e))
-
-with_rows_none : (rows xs : List Row) → length (with_rows rows xs) ≡ length xs → with_rows rows xs ≡ xs
-with_rows_none [] xs e = refl
-with_rows_none (x ∷ rows) xs e =
-    let m = with_rows_length rows (with_row x xs) in let n = with_row_length x xs in
-    with_rows_none rows (with_row x xs) (omega (arith, e, m, n)) ∙ with_row_none x xs (omega (arith, e, m, n))
+joined_none : (rows xs : List Row) → length (rows ++ xs) ≡ length xs → rows ++ xs ≡ xs
+joined_none [] xs e = refl
+joined_none (x ∷ rows) xs e = let n = length-append rows xs in absurd (omega (arith, e, n))
 
 unchanged_rows : (c : Change) (xs : List Row) → length (rows_changed c xs) ≡ length xs → rows_changed c xs ≡ xs
-unchanged_rows (AddRows rows) xs e = with_rows_none rows xs e
+unchanged_rows (AddRows rows) xs e = joined_none rows xs e
 unchanged_rows (DropRows gs) xs e = without_each_all gs xs e
 unchanged_rows (AddRecord x) xs e = refl
 unchanged_rows NoChange xs e = refl

@@ -1,6 +1,6 @@
 -- The rows of the log, and the change of them that a failure may have left in doubt. Only decisions to commit are kept: no row
 -- means rollback (presumed rollback: XA, section 2.3, Transaction Completion and Recovery). Heuristic rows are of section 2.3.3.
-use Rattle.std.specs.Prelude.{List, [], ◌∷◌, length, map, Bool, false, not, ◌&&◌, ◌||◌, ◌==◌, if◌then◌else◌, Option, Some, None, filter, nat_lt}
+use Rattle.std.specs.Prelude.{List, [], ◌∷◌, ◌++◌, length, map, Bool, false, not, ◌&&◌, ◌||◌, ◌==◌, if◌then◌else◌, Option, Some, None, filter, nat_lt}
 use Rattle.xa_base.specs.Branch.{gtrid_eq, branch_eq}
 use Rattle.xa_base.specs.declared.code.Code.TheVariants as Codes
 use Rattle.xa_base.specs.declared.step.Outcome.TheVariants as Outcome
@@ -19,21 +19,12 @@ abbrev pub lists_row : List Row → Gtrid → Bool
 lists_row [] g = false
 lists_row (x ∷ xs) g = gtrid_eq x.gtrid g || lists_row xs g
 
--- with one row more: one that is there stays
-abbrev pub with_row : Row → List Row → List Row
-with_row x rows = if lists_row rows x.gtrid then rows else x ∷ rows
-
--- with each of these rows, in turn
-abbrev pub with_rows : List Row → List Row → List Row
-with_rows [] rows = rows
-with_rows (x ∷ xs) rows = with_rows xs (with_row x rows)
-
 -- the rows but for that of a transaction
 abbrev pub without : Gtrid → List Row → List Row
 without g [] = []
 without g (x ∷ xs) = if gtrid_eq x.gtrid g then without g xs else x ∷ without g xs
 
--- but for that of each of these, in turn
+-- the rows but for those of some transactions
 abbrev pub without_each : List Gtrid → List Row → List Row
 without_each [] rows = rows
 without_each (g ∷ gs) rows = without_each gs (without g rows)
@@ -78,7 +69,7 @@ pub data Change : Type 0 where
 
 -- the rows after a change
 abbrev pub rows_changed : Change → List Row → List Row
-rows_changed (AddRows xs) rows = with_rows xs rows
+rows_changed (AddRows xs) rows = xs ++ rows
 rows_changed (DropRows gs) rows = without_each gs rows
 rows_changed _ rows = rows
 
