@@ -6,7 +6,7 @@ use Rattle.std.proofs.lemmas.Bool.{and_parts, false_from_ne_true, or_cases, or_l
 use Rattle.xa_base.specs.declared.call.Call.TheVariants as Calls
 use Rattle.xa_base.specs.StateTable.{on}
 use Rattle.xa_base.specs.declared.answer.Answer.TheVariants.{Ret}
-use Rattle.xa_model.specs.Trace.{Gtrid, Branch, Line, Kind.OnePhase, Call, Answer, Outcome, Fault, Fault.InDecide, Fault.InDone, Fault.InHear, Fault.InResolve, Fault.InRestart, Happening, Happening.Begun, Happening.Issued, Happening.Decided, Happening.Crashed, Happening.Failed, Happening.Restarted, Row, Trace, Trace.From, Trace.Then}
+use Rattle.xa_model.specs.Trace.{Gtrid, Branch, Line, Kind.OnePhase, Call, Answer, Outcome, Fault, Fault.InDecide, Fault.InDone, Fault.InHear, Fault.InResolve, Fault.InRestart, Happening, Happening.Begun, Happening.Issued, Happening.Decided, Happening.Crashed, Happening.Failed, Happening.Restarted, Trace, Trace.From, Trace.Then}
 use Rattle.xa_base.specs.declared.code.Code.TheVariants as Codes
 use Rattle.xa_base.specs.declared.step.Part.TheVariants as Part
 use Rattle.xa_base.specs.Branch.{gtrid_eq, branch_eq}
