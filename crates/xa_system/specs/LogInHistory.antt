@@ -3,7 +3,7 @@ use Rattle.std.specs.Prelude.{◌≡◌, ◌≤◌, ◌⊎◌, ◌&&◌, not, �
 use Rattle.std.specs.FinMap.{get, len}
 use Rattle.xa_base.specs.Branch.{branch_cmp}
 use Rattle.xa_model.specs.Replies.Allowed.{failed_restarts}
-use Rattle.xa_model.specs.Facts.{Change, Change.AddRecord, Change.AddRow, Change.DropRow, Change.NoChange, doubt, fault_change, has_row, heuristic_rows, incarnation, log, participants, recorded_as, up}
+use Rattle.xa_model.specs.Facts.{Change, Change.AddRecord, Change.AddRows, Change.DropRows, Change.NoChange, doubt, fault_change, has_row, heuristic_rows, incarnation, log, participants, recorded_as, up}
 use Rattle.xa_model.specs.Trace.{Fault, Fault.InRestart, Happening, Happening.Failed, Origin, Trace, Trace.From}
 use Rattle.xa_base.specs.Xid.{Xid}
 use Rattle.xa_base.specs.declared.branch.Branch.{Branch}
@@ -40,8 +40,8 @@ pub record HoldsRows (tr : Trace) (c : Content) : Type 0 where
 
 -- a log with a change
 abbrev pub after_change : Change → Content → Content
-after_change (AddRow x) c = with_commit x.gtrid (from_list x.participants) c
-after_change (DropRow g) c = without_decision g c
+after_change (AddRows xs) c = with_rows (map waiting_row xs) c
+after_change (DropRows gs) c = without_decisions gs c
 after_change (AddRecord x) c = with_record x.branch x.how c
 after_change NoChange c = c
 

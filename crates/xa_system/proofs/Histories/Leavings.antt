@@ -69,7 +69,7 @@ module _ {R L : Type 0} (see : Sees R (Slot L)) (moment : L → Moment) (a : Ins
   pub leaves_all : (held : Option Content) (c : Content) → held ≡ Some c → LogStands tr held → MayRestartOver tr held → Leaves see.look tr rms c
   leaves_all held c is stands may = record {
     branches = leaves_branch;
-    log = record { rows = by_up (up tr) stands; least = (may c is).least };
+    log = record { rows = by_up (up tr) stands; is_new = doubt_is_new_to tr sound.stands.kept.run; least = (may c is).least };
   }
     where
       by_up : (u : Bool) → LogStandsBy u tr held → MayHoldRows tr c
