@@ -17,7 +17,7 @@ use Rattle.xa_model.proofs.Invariant.RowLists.{listed_joined, rows_made, without
 
 -- ** rows
 
-without_apart : (g : Gtrid) (rows : List Row) → ApartRows rows → ApartRows (without g rows)
+pub without_apart : (g : Gtrid) (rows : List Row) → ApartRows rows → ApartRows (without g rows)
 without_apart g [] h = tt
 without_apart g (x ∷ xs) h = by_test (gtrid_eq x.gtrid g) (without_apart g xs h.1)
   where
