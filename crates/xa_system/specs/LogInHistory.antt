@@ -1,5 +1,5 @@
 -- What a decision log holds, as the history of its system knows it.
-use Rattle.std.specs.Prelude.{◌≡◌, ◌≤◌, ◌⊎◌, ◌&&◌, not, ◌+◌, ◌-◌, ◌^◌, ℕ, Bool, true, false, filter, if◌then◌else◌, List, length, Option, Some, None, IsSomeAnd}
+use Rattle.std.specs.Prelude.{◌≡◌, ◌≤◌, ◌⊎◌, ◌&&◌, not, ◌+◌, ◌-◌, ◌^◌, ℕ, Bool, true, false, filter, if◌then◌else◌, List, length, map, Option, Some, None, IsSomeAnd}
 use Rattle.std.specs.FinMap.{get, len}
 use Rattle.xa_base.specs.Branch.{branch_cmp}
 use Rattle.xa_model.specs.Replies.Allowed.{failed_restarts}
@@ -16,13 +16,13 @@ use Rattle.xa_base.specs.declared.step.Side.TheVariants as Sides
 use Rattle.xa_base.specs.declared.step.Step.TheVariants as Steps
 use Rattle.xa_model.specs.Replies.History.{step_of}
 use Rattle.xa_model.specs.Replies.Steps as known
-use Rattle.xa_log.specs.Content.{Content, with_bump, with_commit, with_record, without_decision}
+use Rattle.xa_log.specs.Content.{Content, with_bump, with_record, without_decisions}
 use Rattle.xa_log.specs.Contract.{Makes, MayMake, Moment, one_more_fault}
 use Rattle.xa_log.specs.KeySet.{KeySet, from_list}
-use Rattle.xa_tm.specs.Book.{Book}
+use Rattle.xa_tm.specs.Book.{Book, waiting_row}
 use Rattle.xa_tm.specs.Calls.{book_in, log_in}
 use Rattle.xa_tm.specs.Starting.{book_at_start}
-use Rattle.xa_tm.specs.BookAndLog.{IsTied, SameRows}
+use Rattle.xa_tm.specs.BookAndLog.{IsTied, SameRows, with_rows}
 use Rattle.xa_tm.specs.declared.manager.Manager.{Manager}
 
 -- ** rows and records

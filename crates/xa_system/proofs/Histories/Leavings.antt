@@ -14,6 +14,7 @@ use Rattle.xa_log.specs.Contract.{Moment}
 use Rattle.xa_model.specs.Facts.{fits, origin, up}
 use Rattle.xa_model.specs.Replies.History.{history}
 use Rattle.xa_model.specs.Trace.{Trace}
+use Rattle.xa_model.proofs.AgreementLemmas.Distinct.{doubt_is_new_to}
 use Rattle.xa_model.proofs.ProcessLemmas.Leaving.{branch_fits, fits_branch}
 use Rattle.xa_tm.specs.declared.slot.Slot.{Slot}
 use Rattle.xa_system.specs.LogInHistory.{IsAsTold, LogStands, LogStandsBy, MayHoldRows, MayRestartOver}
