@@ -1,13 +1,17 @@
--- The order of transactions and branches is that of their identifiers.
-use Rattle.std.proofs.Common.{◌≡◌, ℕ, zero, suc, ◌+◌, ◌*◌, ◌^◌, ◌<◌, ◌≤◌, ◌%◌, ◌/◌, List, [], ◌∷◌, ◌++◌, length, refl, sym, ap, ◌∙◌, subst, arith}
-use Rattle.std.specs.Int.{byte_at, bytes_high_first, to_be_bytes, w32, w64}
+-- The order of byte strings is that of the numbers they are. So the order of transactions and branches is that of their identifiers.
+use Rattle.std.proofs.Common.{◌≡◌, ℕ, zero, suc, ◌+◌, ◌*◌, ◌^◌, ◌<◌, ◌≤◌, ◌%◌, ◌/◌, List, [], ◌∷◌, ◌++◌, length, take, drop, refl, sym, ap, ◌∙◌, subst, arith}
+use Rattle.std.specs.Int.{byte_at, bytes_high_first, from_be_bytes, to_be_bytes, w32, w64}
 use Rattle.std.specs.Cmp.{ranks, nat_cmp_is}
 use Rattle.std.specs.Cmp.Lexicographic.{slice_cmp}
 use Rattle.std.specs.Ordering.{nat_cmp, ordering_then, MatchOrdering}
 use Rattle.std.specs.declared.cmp.Ordering.{Ordering}
 use Rattle.std.specs.declared.cmp.Ordering.TheVariants.{Less, Equal, Greater}
 use Rattle.std.proofs.Math.Arith.{mod-mul}
-use Rattle.std.proofs.lemmas.Nat.{mul-le, mod_below}
+use Rattle.std.proofs.lemmas.Grind.{common_steps}
+use Rattle.std.proofs.lemmas.List.{take-append-drop}
+use Rattle.std.proofs.lemmas.Nat.{be_bytes_8, mul-le, mod_below}
+use Rattle.hex.specs.Hex.{IsBytes}
+use Rattle.xa_base.proofs.BranchLemmas.{u64_fits}
 use Rattle.xa_base.specs.Branch.{IsBranch, xid_of_branch, branch_cmp}
 use Rattle.xa_base.specs.Xid.{xid_cmp}
 use Rattle.xa_base.specs.declared.branch.Branch.{Branch}
@@ -79,6 +83,15 @@ joined_order [] (y ∷ ys) us vs l = absurd (omega arith)
 joined_order (x ∷ xs) [] us vs l = absurd (omega arith)
 joined_order (x ∷ xs) (y ∷ ys) us vs l =
     ap (λ o. ordering_then (nat_cmp x y) o) (joined_order xs ys us vs (omega arith)) ∙ sym (then_assoc (nat_cmp x y) _ _)
+
+-- words stand in the order of their bytes
+pub word_order :
+    (xs ys : List ℕ) → length xs ≡ 8 → length ys ≡ 8 → IsBytes xs → IsBytes ys
+    → nat_cmp (from_be_bytes w64 xs) (from_be_bytes w64 ys) ≡ slice_cmp nat_cmp xs ys
+word_order xs ys l m h k =
+    let x = be_bytes_8 xs (from_be_bytes w64 xs) l h refl in
+    let y = be_bytes_8 ys (from_be_bytes w64 ys) m k refl in
+    sym (u64_order (from_be_bytes w64 xs) (from_be_bytes w64 ys) (u64_fits xs h) (u64_fits ys k)) ∙ (λ i. slice_cmp nat_cmp (x i) (y i))
 
 pub branch_order : (b c : Branch) → IsBranch b → IsBranch c → xid_cmp (xid_of_branch b) (xid_of_branch c) ≡ branch_cmp b c
 branch_order b c h k =

@@ -145,6 +145,34 @@ impl Call {
     }
 }
 
+impl<X> Call<X> {
+    ghost use Rattle.xa_base.specs.Call.{are_alike, kind_of};
+
+    /// The name of the call, without its flags.
+    pub fn kind(&self) -> CallKind
+        ensures { result ≡ kind_of self.now }
+    {
+        match self {
+            Call::OpenRm => CallKind::OpenRm,
+            Call::CloseRm => CallKind::CloseRm,
+            Call::Start { .. } => CallKind::Start,
+            Call::End { .. } => CallKind::End,
+            Call::Prepare { .. } => CallKind::Prepare,
+            Call::Commit { .. } => CallKind::Commit,
+            Call::Rollback { .. } => CallKind::Rollback,
+            Call::Forget { .. } => CallKind::Forget,
+            Call::Recover { .. } => CallKind::Recover,
+        }
+    }
+
+    /// Whether the call has this name.
+    pub fn is_of_kind(&self, kind: CallKind) -> bool
+        ensures { result ≡ are_alike (kind_of self.now) kind }
+    {
+        self.kind() == kind
+    }
+}
+
 impl<X: Drop> Call<X> {
     ghost use Rattle.xa_base.specs.Call.{call_with};
 

@@ -22,6 +22,7 @@ mod reply;
 mod state;
 mod step;
 mod vote;
+mod words;
 mod xid;
 
 pub use answer::{Answer, Page};

@@ -65,14 +65,18 @@ pub record Moment : Type 1 where
   pub may_leave : Content → Type 0
   pub fault_count : ℕ
 
+-- so far as the log was in order before, and what it rests on has been honest up to the end
+abbrev pub Honestly : Moment → Moment → Type 0 → Type 0
+Honestly old new P = old.is_in_order → new.is_honest → P
+
 -- A call that changes something, by the log's moments before and after it.
 pub record Changes {A : Type 0} (change : Content → Content) (old new : Moment) (result : Result A LogFault) : Type 0 where
   -- one that succeeds has made its one change
-  pub ok : old.is_in_order → new.is_honest → OnOk result (Makes change old.content new.content)
+  pub ok : Honestly old new (OnOk result (Makes change old.content new.content))
   -- one that fails has shut the log, or left it as it was, or made the change
   pub err : old.is_in_order → OnErr result (MayMake change old.content new.content)
   -- at its end a crash leaves what it might have left before the call, or the content with the change
-  pub crash : old.is_in_order → new.is_honest → LeavesAlso change old.content old.may_leave new.may_leave
+  pub crash : Honestly old new (LeavesAlso change old.content old.may_leave new.may_leave)
   pub order : old.is_in_order → new.is_in_order
   pub honest : new.is_honest → old.is_honest
   -- a failure is counted
@@ -80,9 +84,9 @@ pub record Changes {A : Type 0} (change : Content → Content) (old new : Moment
 
 -- A call that changes nothing.
 pub record Reads {A : Type 0} (old new : Moment) (result : Result A LogFault) : Type 0 where
-  pub ok : old.is_in_order → new.is_honest → OnOk result (Makes unchanged old.content new.content)
+  pub ok : Honestly old new (OnOk result (Makes unchanged old.content new.content))
   pub err : old.is_in_order → OnErr result (Keeps old.content new.content)
-  pub crash : old.is_in_order → new.is_honest → LeavesNoMore old.may_leave new.may_leave
+  pub crash : Honestly old new (LeavesNoMore old.may_leave new.may_leave)
   pub order : old.is_in_order → new.is_in_order
   pub honest : new.is_honest → old.is_honest
   pub faults : new.fault_count ≡ faults_after result old.fault_count

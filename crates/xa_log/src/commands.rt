@@ -3,7 +3,7 @@ ghost use Rattle.std.specs.Prelude.{◌≡◌, IfErr, IfOk, OnOk, OnErr, Some, I
 ghost use Rattle.std.specs.List.{AllByRecursion};
 ghost use Rattle.xa_log.specs.Commands.{AreTold, EndsBy, Fits, LeavesFirst, Tells, content_after, after_all, kind_of};
 ghost use Rattle.xa_log.specs.Content.{Content};
-ghost use Rattle.xa_log.specs.Contract.{Changes};
+ghost use Rattle.xa_log.specs.Contract.{Changes, Honestly};
 
 use crate::{DecisionLog, LogFault, LogRows, Logged};
 use std::alloc::Global;
@@ -44,9 +44,9 @@ pub enum Told {
 /// Makes one call.
 fn run_one<L: DecisionLog>(log: &mut L, command: &Command) -> Result<Told, LogFault>
     requires { Fits command.now }
-    ensures told { (L.moment log.old).is_in_order → (L.moment log.new).is_honest →
-        IfOk result (λ told. IsSomeAnd (L.moment log.old).content (λ c.
-        Tells c command.now told)) }
+    ensures told { Honestly (L.moment log.old) (L.moment log.new)
+        (IfOk result (λ told. IsSomeAnd (L.moment log.old).content (λ c.
+        Tells c command.now told))) }
     ensures changes { Changes (content_after command.now) (L.moment log.old)
         (L.moment log.new) result }
     ensures cause { IfErr result (λ e. L.says (kind_of command.now) (content_after command.now)
@@ -80,15 +80,15 @@ pub fn run_commands<L: DecisionLog>(
 ) -> Result<Vec<Told>, LogFault>
     requires { AllByRecursion Fits commands.now }
     // What is told and left: by calls that succeed, and by the first ones where one fails.
-    ensures told { (c : Content) → (L.moment log.old).is_in_order →
-        (L.moment log.new).is_honest → (L.moment log.old).content ≡ Some c →
-        IfOk result (λ list. AreTold c commands.now list.items) }
-    ensures ok { (c : Content) → (L.moment log.old).is_in_order →
-        (L.moment log.new).is_honest → (L.moment log.old).content ≡ Some c →
-        OnOk result ((L.moment log.new).content ≡ Some (after_all commands.now c)) }
-    ensures err { (c : Content) → (L.moment log.old).is_in_order →
-        (L.moment log.new).is_honest → (L.moment log.old).content ≡ Some c →
-        OnErr result (LeavesFirst commands.now c (L.moment log.new).content) }
+    ensures told { (c : Content) → Honestly (L.moment log.old)
+        (L.moment log.new) ((L.moment log.old).content ≡ Some c →
+        IfOk result (λ list. AreTold c commands.now list.items)) }
+    ensures ok { (c : Content) → Honestly (L.moment log.old)
+        (L.moment log.new) ((L.moment log.old).content ≡ Some c →
+        OnOk result ((L.moment log.new).content ≡ Some (after_all commands.now c))) }
+    ensures err { (c : Content) → Honestly (L.moment log.old)
+        (L.moment log.new) ((L.moment log.old).content ≡ Some c →
+        OnErr result (LeavesFirst commands.now c (L.moment log.new).content)) }
     // The two premises, handed on.
     ensures order { (L.moment log.old).is_in_order → (L.moment log.new).is_in_order }
     ensures honest { (L.moment log.new).is_honest → (L.moment log.old).is_honest }

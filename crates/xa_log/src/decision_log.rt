@@ -4,7 +4,7 @@ ghost use Rattle.std.specs.FinMap.{contains_key, entries, get, keys};
 ghost use Rattle.xa_log.specs.KeySet.{from_list, items};
 ghost use Rattle.std.specs.List.{AllByRecursion};
 ghost use Rattle.xa_log.specs.Content.{AreOwn, Content, all_listed, with_bump, with_commit, with_commits, last_number, logged_as, logged_each, participants_of, with_record, unchanged, without_decision};
-ghost use Rattle.xa_log.specs.Contract.{AllFit, Changes, FitsRow, Moment, Reads, fault_of};
+ghost use Rattle.xa_log.specs.Contract.{AllFit, Changes, FitsRow, Honestly, Moment, Reads, fault_of};
 
 use crate::decision::Decision;
 use crate::log_fault::LogFault;
@@ -62,9 +62,9 @@ pub trait DecisionLog {
     fn commit(&mut self, g: Gtrid, participants: &[Branch]) -> Result<Logged, LogFault>
         requires fits { FitsRow g }
         requires own { AllByRecursion (λ b. b.gtrid ≡ g) participants.now }
-        ensures answer { (moment self.old).is_in_order → (moment self.new).is_honest →
-            IfOk result (λ logged. IsSomeAnd (moment self.old).content (λ c.
-            logged ≡ logged_as c g)) }
+        ensures answer { Honestly (moment self.old) (moment self.new)
+            (IfOk result (λ logged. IsSomeAnd (moment self.old).content (λ c.
+            logged ≡ logged_as c g))) }
         ensures changes { Changes (with_commit g (from_list participants.now))
             (moment self.old) (moment self.new) result }
         ensures cause { says LogCall.Commit (with_commit g (from_list participants.now))
@@ -77,9 +77,9 @@ pub trait DecisionLog {
         requires fits { AllByRecursion (λ d. FitsRow d.gtrid) decisions.now }
         requires own { AllByRecursion (λ d.
             AllByRecursion (λ b. b.gtrid ≡ d.gtrid) d.participants.items) decisions.now }
-        ensures answer { (moment self.old).is_in_order → (moment self.new).is_honest →
-            IfOk result (λ list. IsSomeAnd (moment self.old).content (λ c.
-            list.items ≡ logged_each decisions.now c)) }
+        ensures answer { Honestly (moment self.old) (moment self.new)
+            (IfOk result (λ list. IsSomeAnd (moment self.old).content (λ c.
+            list.items ≡ logged_each decisions.now c))) }
         ensures changes { Changes (with_commits decisions.now)
             (moment self.old) (moment self.new) result }
         ensures cause { says LogCall.Commit (with_commits decisions.now)
@@ -88,27 +88,27 @@ pub trait DecisionLog {
     /// Whether a transaction is decided to commit.
     fn contains(&mut self, g: Gtrid) -> Result<bool, LogFault>
         requires { FitsRow g }
-        ensures answer { (moment self.old).is_in_order → (moment self.new).is_honest →
-            IfOk result (λ found. IsSomeAnd (moment self.old).content (λ c.
-            found ≡ contains_key c.decisions g)) }
+        ensures answer { Honestly (moment self.old) (moment self.new)
+            (IfOk result (λ found. IsSomeAnd (moment self.old).content (λ c.
+            found ≡ contains_key c.decisions g))) }
         ensures reads { Reads (moment self.old) (moment self.new) result }
         ensures cause { says LogCall.Contains unchanged self.old self.new (fault_of result) };
 
     /// The branches whose xa_commit a transaction waits for, in the order of their identifiers; none where it has no row.
     fn participants(&mut self, g: Gtrid) -> Result<Vec<Branch>, LogFault>
         requires { FitsRow g }
-        ensures answer { (moment self.old).is_in_order → (moment self.new).is_honest →
-            IfOk result (λ list. IsSomeAnd (moment self.old).content (λ c.
-            list.items ≡ items (participants_of c g))) }
+        ensures answer { Honestly (moment self.old) (moment self.new)
+            (IfOk result (λ list. IsSomeAnd (moment self.old).content (λ c.
+            list.items ≡ items (participants_of c g)))) }
         ensures reads { Reads (moment self.old) (moment self.new) result }
         ensures cause { says LogCall.Participants unchanged self.old self.new (fault_of result) };
 
     /// Takes the row of a transaction away with its participants, and answers whether it was there.
     fn done(&mut self, g: Gtrid) -> Result<bool, LogFault>
         requires { FitsRow g }
-        ensures answer { (moment self.old).is_in_order → (moment self.new).is_honest →
-            IfOk result (λ found. IsSomeAnd (moment self.old).content (λ c.
-            found ≡ contains_key c.decisions g)) }
+        ensures answer { Honestly (moment self.old) (moment self.new)
+            (IfOk result (λ found. IsSomeAnd (moment self.old).content (λ c.
+            found ≡ contains_key c.decisions g))) }
         ensures changes { Changes (without_decision g) (moment self.old) (moment self.new) result }
         ensures cause { says LogCall.Done (without_decision g) self.old self.new
             (fault_of result) };
@@ -124,35 +124,35 @@ pub trait DecisionLog {
     /// How a branch is recorded as heuristic, or none where it isn't.
     fn heuristic_of(&mut self, b: Branch) -> Result<Option<How>, LogFault>
         requires { FitsRow b.gtrid }
-        ensures answer { (moment self.old).is_in_order → (moment self.new).is_honest →
-            IfOk result (λ how. IsSomeAnd (moment self.old).content (λ c.
-            how ≡ get c.heuristics b)) }
+        ensures answer { Honestly (moment self.old) (moment self.new)
+            (IfOk result (λ how. IsSomeAnd (moment self.old).content (λ c.
+            how ≡ get c.heuristics b))) }
         ensures reads { Reads (moment self.old) (moment self.new) result }
         ensures cause { says LogCall.HeuristicOf unchanged self.old self.new (fault_of result) };
 
     /// Adds one to the incarnation, and answers the new one. At the last one it is [`LogFault::Spent`].
     fn bump(&mut self) -> Result<u64, LogFault>
-        ensures answer { (moment self.old).is_in_order → (moment self.new).is_honest →
-            IfOk result (λ n. IsSomeAnd (moment self.old).content (λ c.
-            n ≡ c.incarnation + 1)) }
+        ensures answer { Honestly (moment self.old) (moment self.new)
+            (IfOk result (λ n. IsSomeAnd (moment self.old).content (λ c.
+            n ≡ c.incarnation + 1))) }
         ensures most { IfOk result (λ n. n ≤ last_number) }
-        ensures spent { (moment self.old).is_in_order → (moment self.new).is_honest →
-            result ≡ Err LogFault.Spent → IsSomeAnd (moment self.old).content (λ c.
-            (last_number ≤ c.incarnation) × ((moment self.new).content ≡ Some c)) }
+        ensures spent { Honestly (moment self.old) (moment self.new)
+            (result ≡ Err LogFault.Spent → IsSomeAnd (moment self.old).content (λ c.
+            (last_number ≤ c.incarnation) × ((moment self.new).content ≡ Some c))) }
         ensures changes { Changes with_bump (moment self.old) (moment self.new) result }
         ensures cause { says LogCall.Bump with_bump self.old self.new (fault_of result) };
 
     /// All rows.
     fn rows(&mut self) -> Result<LogRows, LogFault>
-        ensures decisions { (moment self.old).is_in_order → (moment self.new).is_honest →
-            IfOk result (λ rows. IsSomeAnd (moment self.old).content (λ c.
-            rows.decisions.items ≡ keys c.decisions)) }
-        ensures participants { (moment self.old).is_in_order → (moment self.new).is_honest →
-            IfOk result (λ rows. IsSomeAnd (moment self.old).content (λ c.
-            rows.participants.items ≡ all_listed (entries c.decisions))) }
-        ensures heuristics { (moment self.old).is_in_order → (moment self.new).is_honest →
-            IfOk result (λ rows. IsSomeAnd (moment self.old).content (λ c.
-            rows.heuristics.items ≡ entries c.heuristics)) }
+        ensures decisions { Honestly (moment self.old) (moment self.new)
+            (IfOk result (λ rows. IsSomeAnd (moment self.old).content (λ c.
+            rows.decisions.items ≡ keys c.decisions))) }
+        ensures participants { Honestly (moment self.old) (moment self.new)
+            (IfOk result (λ rows. IsSomeAnd (moment self.old).content (λ c.
+            rows.participants.items ≡ all_listed (entries c.decisions)))) }
+        ensures heuristics { Honestly (moment self.old) (moment self.new)
+            (IfOk result (λ rows. IsSomeAnd (moment self.old).content (λ c.
+            rows.heuristics.items ≡ entries c.heuristics))) }
         ensures reads { Reads (moment self.old) (moment self.new) result }
         ensures cause { says LogCall.Rows unchanged self.old self.new (fault_of result) };
 

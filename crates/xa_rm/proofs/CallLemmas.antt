@@ -57,7 +57,7 @@ asks_named (Calls.Forget xid) x e = (Forget, asks_as Forget xid x e)
 asks_named (Calls.Recover count start end) x e = let no : ⊥ = cc in absurd no
 
 -- no call puts a branch in doubt that was never named
-not_at_once : (thread : ℕ) (kind : Kind) → is_in_doubt (called thread kind new_branch).standing ≡ false
+pub not_at_once : (thread : ℕ) (kind : Kind) → is_in_doubt (called thread kind new_branch).standing ≡ false
 not_at_once thread Start = refl
 not_at_once thread _ = refl
 

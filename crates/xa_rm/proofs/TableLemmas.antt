@@ -1,5 +1,5 @@
 -- The table of branches and its index.
-use Rattle.std.proofs.Common.{◌≡◌, ◌==◌, ℕ, ℤ, ◌&&◌, Bool, true, false, if◌then◌else◌, cond, List, [], ◌∷◌, map, Option, Some, None, IsSome, Result, Ok, Err, OnOk, OnErr, refl, sym, ◌∙◌, ap, subst}
+use Rattle.std.proofs.Common.{◌≡◌, ◌==◌, ℕ, ℤ, ◌&&◌, Bool, true, false, if◌then◌else◌, cond, List, [], ◌∷◌, map, Option, Some, None, IsSome, Result, Ok, Err, IsOk, OnOk, OnErr, refl, sym, ◌∙◌, ap, subst}
 use Rattle.std.specs.Prelude.{Contains, ◌↔◌, ◌≢◌, ◌^◌, nat_lt, not}
 use Rattle.std.specs.List.{list_any}
 use Rattle.std.specs.BTreeMap as tree
@@ -28,7 +28,7 @@ use Rattle.xa_base.specs.declared.state.Fate.TheVariants as Fates
 use Rattle.xa_base.specs.declared.state.Standing.{Standing}
 use Rattle.xa_base.specs.declared.state.Standing.TheVariants.{Unstarted, Active, Idle, Prepared, RollbackOnly, Completed, Committed, RolledBack, Lost, ReadOnly, Forgotten}
 use Rattle.xa_base.proofs.StateLemmas.{broken_in_doubt}
-use Rattle.xa_rm.specs.Branches.{IsIndex, held_at, branch_or_new}
+use Rattle.xa_rm.specs.Branches.{IsIndex, Lists, held_at, branch_or_new}
 use Rattle.xa_rm.specs.TableEntries.{held_branch, was_started}
 use Rattle.xa_rm.specs.ResourceManager.{HoldsFormat, HoldsNewer, HoldsNoFormat, HoldsPast, is_past, is_past_as, names_newer}
 use Rattle.xa_rm.specs.declared.table_entry.TableEntry.{TableEntry}
@@ -57,14 +57,55 @@ put_at false b had h o e f = f
 
 -- the index goes along
 pub index_after_put : (table new_table : BTreeMap Xid TableEntry) (index new_index : BTreeSet Xid) (x : Xid) (h : TableEntry) (b : Bool) → IsIndex table index
-    → tree.Updates xid_cmp table new_table x (Some h) → sorted.Updates xid_cmp index new_index x b → b ≡ is_in_doubt h.standing
+    → tree.Updates xid_cmp table new_table x (Some h) → Lists index new_index x b → b ≡ is_in_doubt h.standing
     → IsIndex new_table new_index
 index_after_put table new_table index new_index x h b is_index put listed e = record {
   indexed = λ q.
-      listed.0 q
+      listed q
       ∙ put_at (is_at (xid_cmp x) q) b (contains xid_cmp index q) h (tree.get xid_cmp table q) e (is_index.indexed q)
       ∙ ap (λ (o : Option TableEntry). is_in_doubt (branch_or_new o).standing) (sym (put.0 q));
 }
+
+-- an index lists what it lists
+pub lists_same : (index : BTreeSet Xid) (x : Xid) (b : Bool) → contains xid_cmp index x ≡ b → Lists index index x b
+lists_same index x b e y =
+    elim (xid_eq x y) as (λ t. xid_eq x y ≡ t → contains xid_cmp index y ≡ (if t then b else contains xid_cmp index y)) [
+      | true ↦ λ same. ap (contains xid_cmp index) (sym (xid_eq-same x y same)) ∙ e
+      | false ↦ λ same. refl
+    ] refl
+
+-- the branches after an entry was put
+pub held_after_put :
+    (table new_table : BTreeMap Xid TableEntry) (x : Xid) (h : TableEntry) → tree.Updates xid_cmp table new_table x (Some h)
+    → (y : Xid) → held_at new_table y ≡ (if xid_eq x y then held_branch h else held_at table y)
+held_after_put table new_table x h put y =
+    ap branch_or_new (put.0 y)
+    ∙ (elim (xid_eq x y) as (λ t. branch_or_new (cond t (Some h) (tree.get xid_cmp table y)) ≡ (if t then held_branch h else held_at table y))
+    [ true ↦ refl | false ↦ refl ])
+
+-- the index stays where a new branch is put, or none was, that isn't in doubt
+pub index_after_new :
+    {T E : Type 0} (table new_table : BTreeMap Xid TableEntry) (index : BTreeSet Xid) (x : Xid) (h : TableEntry) (r : Result T E) → IsIndex table index
+    → tree.get xid_cmp table x ≡ None → is_in_doubt h.standing ≡ false → OnOk r (tree.Updates xid_cmp table new_table x (Some h))
+    → OnErr r (tree.IsUnchanged table new_table) → IsIndex new_table index
+index_after_new table new_table index x h (Ok v) is_index none e put same =
+    let unlisted = is_index.indexed x ∙ ap (λ (o : Option TableEntry). is_in_doubt (branch_or_new o).standing) none in
+    index_after_put table new_table index index x h false is_index put (lists_same index x false unlisted) (sym e)
+index_after_new table new_table index x h (Err y) is_index none e put same = record {
+  indexed = λ q.
+      is_index.indexed q
+      ∙ ap (λ (es : List (Xid × TableEntry)). is_in_doubt (branch_or_new (lookup (is_at (xid_cmp q)) es)).standing) (sym same);
+}
+
+-- what holds anyway holds at an error
+pub on_err : {T E P : Type 0} (r : Result T E) → P → OnErr r P
+on_err (Ok v) p = tt
+on_err (Err e) p = p
+
+-- what never fails goes well
+pub never_err : {T E : Type 0} (r : Result T E) → OnErr r ⊥ → IsOk r
+never_err (Ok v) never = refl
+never_err (Err e) never = absurd never
 
 -- what can't fail was done
 pub sure : {T E : Type 0} {P Q : Type 0} (r : Result T E) → OnOk r P → OnErr r Q → (Q → ⊥) → P

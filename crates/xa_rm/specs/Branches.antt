@@ -1,10 +1,10 @@
 -- The table of branches and its index.
-use Rattle.std.specs.Prelude.{◌≡◌, Option, Some, None}
+use Rattle.std.specs.Prelude.{◌≡◌, Bool, if◌then◌else◌, Option, Some, None}
 use Rattle.std.specs.BTreeMap.{BTreeMap, get}
 use Rattle.std.specs.BTreeSet.{BTreeSet, contains}
 use Rattle.xa_base.specs.HeldBranch.{HeldBranch, new_branch}
 use Rattle.xa_base.specs.Standing.{is_in_doubt}
-use Rattle.xa_base.specs.Xid.{Xid, xid_cmp}
+use Rattle.xa_base.specs.Xid.{Xid, xid_cmp, xid_eq}
 use Rattle.xa_rm.specs.TableEntries.{held_branch}
 use Rattle.xa_rm.specs.declared.table_entry.TableEntry.{TableEntry}
 
@@ -20,3 +20,7 @@ held_at table x = branch_or_new (get xid_cmp table x)
 -- the index has just the identifiers in doubt
 pub record IsIndex (table : BTreeMap Xid TableEntry) (index : BTreeSet Xid) : Type 0 where
   pub indexed : (x : Xid) → contains xid_cmp index x ≡ is_in_doubt (held_at table x).standing
+
+-- the index lists x if this holds, and every other identifier as before
+abbrev pub Lists : (old new : BTreeSet Xid) → Xid → Bool → Type 0
+Lists old new x is_listed = (y : Xid) → contains xid_cmp new y ≡ (if xid_eq x y then is_listed else contains xid_cmp old y)

@@ -1,7 +1,13 @@
 //! The table of branches, and the index of those in doubt.
 
-ghost use Rattle.std.specs.Prelude.{◌≡◌};
-ghost use Rattle.xa_rm.specs.Branches.{IsIndex};
+ghost use Rattle.std.specs.Prelude.{◌≡◌, ◌≢◌, Some, IfOk, OnOk, OnErr};
+ghost use Rattle.std.specs.BTreeSet.{contains};
+ghost use Rattle.xa_base.specs.HeldBranch.{answer_of, called};
+ghost use Rattle.xa_base.specs.StateTable.{Kind, asks_of};
+ghost use Rattle.xa_base.specs.Standing.{is_in_doubt};
+ghost use Rattle.xa_base.specs.Xid.{Xid, xid_cmp};
+ghost use Rattle.xa_rm.specs.Branches.{IsIndex, Lists};
+ghost use Rattle.xa_rm.specs.TableEntries.{held_branch};
 ghost use Rattle.xa_rm.specs.ResourceManager.{names_newer};
 
 use crate::scans::Cursor;
@@ -31,6 +37,56 @@ fn names_newer(xid: &Xid, rm: u32, incarnation: u64) -> bool
     }
 }
 
+/// Answers a call that names this branch of the table. The index lists the branch from then on just where it is in doubt.
+fn apply_held(
+    held: &mut TableEntry,
+    index: &mut BTreeSet<Xid>,
+    xid: &Xid,
+    thread: u32,
+    call: &Call,
+) -> Result<Code, Memory>
+    requires { contains xid_cmp index.old xid.now ≡ is_in_doubt held.old.standing }
+    ensures answer { IfOk result (λ code. (kind : Kind) (x : Xid) → asks_of call.now ≡ Some (kind, x) →
+        code ≡ answer_of (held_branch held.old) kind) }
+    ensures held { OnOk result ((kind : Kind) (x : Xid) → asks_of call.now ≡ Some (kind, x) →
+        held_branch held.new ≡ called thread kind (held_branch held.old)) }
+    ensures index { Lists index.old index.new xid.now (is_in_doubt held.new.standing) }
+    ensures err { OnErr result (held.new ≡ held.old) }
+    ensures goes_in_doubt { OnErr result ((kind : Kind) (x : Xid) → asks_of call.now ≡ Some (kind, x) →
+        is_in_doubt (called thread kind (held_branch held.old)).standing
+        ≢ is_in_doubt held.old.standing) }
+{
+    let mut after = *held;
+    let code = after.apply(thread, call);
+    list_in_doubt(index, xid, held.is_in_doubt(), after.is_in_doubt())?;
+    *held = after;
+    Ok(code)
+}
+
+/// Has the index list a branch where it is in doubt, and not where it isn't, as it did before.
+fn list_in_doubt(
+    index: &mut BTreeSet<Xid>,
+    xid: &Xid,
+    was_in_doubt: bool,
+    is_in_doubt: bool,
+) -> Result<(), Memory>
+    requires { contains xid_cmp index.old xid.now ≡ was_in_doubt }
+    ensures ok { OnOk result (Lists index.old index.new xid.now is_in_doubt) }
+    ensures err { OnErr result (Lists index.old index.new xid.now was_in_doubt) }
+    ensures goes_in_doubt { OnErr result (is_in_doubt ≢ was_in_doubt) }
+{
+    match (was_in_doubt, is_in_doubt) {
+        (false, true) => {
+            index.insert(xid.copy())?;
+        }
+        (true, false) => {
+            index.remove(xid);
+        }
+        (true, true) | (false, false) => {}
+    }
+    Ok(())
+}
+
 /// The branches that were ever named, with an index of those in doubt: the prepared and the heuristically completed.
 #[derive(Drop)]
 pub(crate) struct Branches {
@@ -40,8 +96,9 @@ pub(crate) struct Branches {
 }
 
 impl Branches {
-    ghost use Rattle.std.specs.Prelude.{◌≡◌, [], true, false, if◌then◌else◌, length, take, IsSome, IfOk, IsOk, OnOk, OnErr};
+    ghost use Rattle.std.specs.Prelude.{◌≡◌, [], true, false, if◌then◌else◌, length, take, None, Some, IsSome, IfOk, IsOk, OnOk, OnErr};
     ghost use Rattle.std.specs.BTreeMap.{get};
+    ghost use Rattle.xa_base.specs.Call.{xid_in};
     ghost use Rattle.xa_base.specs.HeldBranch.{new_branch, code_for, held_after, broken_by, crashed};
     ghost use Rattle.xa_base.specs.Recover.{IsInDoubtList};
     ghost use Rattle.xa_base.specs.Scan.{behind};
@@ -107,10 +164,27 @@ impl Branches {
         let Some(xid) = call.xid() else {
             return Ok(Code::Success);
         };
-        let mut held = self.get(xid);
+        match self.table.get_mut(xid) {
+            Some(held) => apply_held(held, &mut self.index, xid, thread, call),
+            None => self.apply_new(xid, thread, call),
+        }
+    }
+
+    /// Answers a call that names a branch which isn't in the table. None goes in doubt by its first call.
+    fn apply_new(&mut self, xid: &Xid, thread: u32, call: &Call) -> Result<Code, Memory>
+        requires named { xid_in call.now ≡ Some xid.now }
+        requires absent { get xid_cmp self.old.table xid.now ≡ None }
+        ensures answer { IfOk result (λ code. code ≡ code_for (held_at self.old.table) call.now) }
+        ensures held { OnOk result ((x : Xid) →
+            held_at self.new.table x ≡ held_after thread call.now x (held_at self.old.table x)) }
+        ensures err { OnErr result ((x : Xid)
+            → held_at self.new.table x ≡ held_at self.old.table x) }
+        ensures not_found { code_for (held_at self.old.table) call.now ≡ NotAnXid → IsOk result }
+    {
+        let mut held = TableEntry::NEW;
         let code = held.apply(thread, call);
         if code != Code::NotAnXid {
-            self.set(xid, held)?;
+            self.table.insert(xid.copy(), held)?;
         }
         Ok(code)
     }

@@ -15,7 +15,7 @@ invariant_of-self-then-is_in_doubt c = record {
       c.args.self.now.indexed
       (subst (λ (k : Xid). tree.Updates xid_cmp c.args.self.now.table c.insert-then-is_in_doubt.new.self k (Some c.args.held))
       c.copy-then-is_in_doubt.ensures put)
-      (subst (λ (k : Xid). sorted.Updates xid_cmp c.args.self.now.index c.insert.new.self k true) c.copy.ensures c.in_ok-insert.ensures.updates)
+      (subst (λ (k : Xid). sorted.Updates xid_cmp c.args.self.now.index c.insert.new.self k true) c.copy.ensures c.in_ok-insert.ensures.updates).0
       (sym in_doubt);
 }
 
@@ -26,5 +26,5 @@ invariant_of-self-else-is_in_doubt c = record {
       c.args.self.now.indexed
       (subst (λ (k : Xid). tree.Updates xid_cmp c.args.self.now.table c.insert-else-is_in_doubt.new.self k (Some c.args.held))
       c.copy-else-is_in_doubt.ensures c.in_ok-insert-3.ensures.updates)
-      c.remove.ensures.updates (sym c.if-is_in_doubt.false ∙ c.is_in_doubt.ensures);
+      c.remove.ensures.updates.0 (sym c.if-is_in_doubt.false ∙ c.is_in_doubt.ensures);
 }
