@@ -3,6 +3,7 @@
 #![tactic(auto)]
 
 mod decisions;
+mod deletes;
 mod fields;
 mod groups;
 mod heuristics;
