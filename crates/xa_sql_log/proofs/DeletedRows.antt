@@ -1,10 +1,10 @@
 -- What a transaction leaves that takes the rows of several decisions away, by those that have been taken so far.
-use Rattle.std.proofs.Common.{◌≡◌, ℕ, ◌+◌, ◌<◌, ◌≤◌, List, length, take, get_or, IsTrue, true, refl, ap, subst, ◌∙◌, sym, arith}
+use Rattle.std.proofs.Common.{◌≡◌, ℕ, ◌+◌, ◌<◌, ◌≤◌, List, length, take, get_or, IsTrue, refl, ap, ◌∙◌, arith}
 use Rattle.std.proofs.lemmas.List.{take_all}
-use Rattle.sqlite.specs.Effect.{Database, IsDatabase}
+use Rattle.sqlite.specs.Effect.{IsDatabase}
 use Rattle.sqlite.specs.State.{State}
 use Rattle.xa_base.specs.declared.branch.Gtrid.{Gtrid}
-use Rattle.xa_log.specs.Content.{Content, without_decision, without_decisions}
+use Rattle.xa_log.specs.Content.{without_decision, without_decisions}
 use Rattle.xa_log.proofs.TakenTogether.{one_more_taken}
 use Rattle.xa_sql_log.specs.Rows.{IsLog, content_of}
 use Rattle.xa_sql_log.specs.Sql.{HasMade, IsInsideLog, IsOrderly}

@@ -3,12 +3,12 @@
 #![tactic(auto)]
 
 mod decisions;
-mod deletes;
 mod fields;
 mod groups;
 mod heuristics;
 mod meta;
 mod participants;
+mod removals;
 mod rows;
 mod sql_log;
 mod statements;

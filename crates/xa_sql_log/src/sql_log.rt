@@ -13,7 +13,7 @@ mod closing;
 mod looking;
 mod opening;
 
-use crate::{decisions, deletes, groups, heuristics, meta, participants, rows, tables};
+use crate::{decisions, groups, heuristics, meta, participants, removals, rows, tables};
 pub use opening::memory_is_honest;
 use sqlite::{Alter, Connection};
 use std::alloc::Global;
@@ -177,7 +177,7 @@ impl<S: Alter> DecisionLog for SqlLog<S> {
     }
 
     fn done_all(&mut self, gtrids: &[Gtrid]) -> Result<(), LogFault> {
-        let taken = deletes::done_all(&mut self.conn, gtrids);
+        let taken = removals::done_all(&mut self.conn, gtrids);
         counted(&mut self.faults, taken)
     }
 

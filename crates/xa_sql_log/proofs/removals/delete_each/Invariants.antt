@@ -3,7 +3,7 @@ use Rattle.sqlite.specs.State.{HasCleanDisk, KeepsCommit, Survives}
 use Rattle.sqlite.specs.Held.{state}
 use Rattle.xa_sql_log.specs.Sql.{IsInsideLog}
 use Rattle.xa_sql_log.proofs.DeletedRows.{TakesFirst}
-use Rattle.xa_sql_log.proofs.deletes.delete_each.Given as goal
+use Rattle.xa_sql_log.proofs.removals.delete_each.Given as goal
 
 abbrev pub invariant-loop-g : goal.invariant-loop-g
 invariant-loop-g g l =

@@ -9,7 +9,7 @@ use Rattle.xa_sql_log.specs.Sql.{IsOrderly, MayChange, content_in}
 use Rattle.xa_sql_log.proofs.DeletedRows.{begins_inside}
 use Rattle.xa_sql_log.proofs.Inside.{made_committed, made_commits, made_failed, survives_none, tried, undone_after}
 use Rattle.xa_sql_log.proofs.States.{did_makes, opened_clean}
-use Rattle.xa_sql_log.proofs.deletes.delete_all.Goals as goal
+use Rattle.xa_sql_log.proofs.removals.delete_all.Goals as goal
 
 pub returns-in_err-delete_each-clause-changes : goal.returns-in_err-delete_each-clause-changes
 returns-in_err-delete_each-clause-changes g c =
@@ -41,8 +41,8 @@ returns-in_err-of_store-clause-changes g c =
     let inside = survives_begin g.S.Store old (state g.S.Store mid) _ (rw begins at c.delete_each.ensures.survives) in
     let written =
     λ (order : IsOrderly (state g.S.Store old)) (clean : HasCleanDisk (state g.S.Store mid)).
-    rw begins at (c.in_ok-delete_each.ensures.taken clean
-    (rw begins (begins_inside (state g.S.Store old) order))) in
+    rw begins at (c.in_ok-delete_each.ensures.taken
+    (rw begins (begins_inside (state g.S.Store old) order)) clean) in
     let whole =
     survives_then (state g.S.Store old) (state g.S.Store mid) (state g.S.Store end) _ _ (λ db. db ≡ (state g.S.Store mid).now.trees)
     (λ _ db none. absurd none) (λ _ db is. is) inside c.commit.ensures.survives in
@@ -66,8 +66,8 @@ returns-clause-changes g c =
     let inside = survives_begin g.S.Store old (state g.S.Store mid) _ (rw begins at c.delete_each.ensures.survives) in
     let written =
     λ (order : IsOrderly (state g.S.Store old)) (clean : HasCleanDisk (state g.S.Store mid)).
-    rw begins at (c.in_ok-delete_each.ensures.taken clean
-    (rw begins (begins_inside (state g.S.Store old) order))) in
+    rw begins at (c.in_ok-delete_each.ensures.taken
+    (rw begins (begins_inside (state g.S.Store old) order)) clean) in
     let whole =
     survives_then (state g.S.Store old) (state g.S.Store mid) (state g.S.Store end) _ _ (λ db. db ≡ (state g.S.Store mid).now.trees)
     (λ _ db none. absurd none) (λ _ db is. is) inside c.commit.ensures.survives in
@@ -89,8 +89,8 @@ returns-clause-ok g c order =
     let early : HasCleanDisk (state g.S.Store end) → HasCleanDisk (state g.S.Store mid) = λ clean. omega (arith, c.commit.ensures.survives.clean) in
     let written =
     λ (clean : HasCleanDisk (state g.S.Store mid)).
-    rw begins at (c.in_ok-delete_each.ensures.taken clean
-    (rw begins (begins_inside (state g.S.Store old) order))) in
+    rw begins at (c.in_ok-delete_each.ensures.taken
+    (rw begins (begins_inside (state g.S.Store old) order)) clean) in
     subst (λ h. HasCleanDisk (state g.S.Store h) → Makes change (content_in (state g.S.Store old)) (content_in (state g.S.Store h))) same
     (λ clean. did_makes change (state g.S.Store old) (state g.S.Store end)
     (made_committed change (state g.S.Store old) (state g.S.Store mid) (state g.S.Store end) (written (early clean))

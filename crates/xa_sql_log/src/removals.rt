@@ -81,10 +81,7 @@ fn delete_all<S: Alter>(conn: &mut Connection<S>, gtrids: &[Gtrid]) -> Result<()
 }
 
 /// Takes the decisions of these transactions away with their participants. A transaction without a row may be named.
-pub(crate) fn done_all<S: Alter>(
-    conn: &mut Connection<S>,
-    gtrids: &[Gtrid],
-) -> Result<(), LogFault>
+pub(crate) fn done_all<S: Alter>(conn: &mut Connection<S>, gtrids: &[Gtrid]) -> Result<(), LogFault>
     requires fits { AllByRecursion FitsRow gtrids.now }
     ensures changes { MayChange (without_decisions gtrids.now) (state S.Store conn.old)
         (state S.Store conn.new) }

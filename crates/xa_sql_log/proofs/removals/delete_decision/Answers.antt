@@ -4,7 +4,7 @@ use Rattle.sqlite.specs.Values.{bound_value}
 use Rattle.sqlite.specs.Value.{owned}
 use Rattle.xa_sql_log.proofs.Contents.{gtrid_params, two_params}
 use Rattle.xa_sql_log.proofs.DecisionRows.{deletes_inside}
-use Rattle.xa_sql_log.proofs.deletes.delete_decision.Goals as goal
+use Rattle.xa_sql_log.proofs.removals.delete_decision.Goals as goal
 
 pub returns-clause-taken : goal.returns-clause-taken
 returns-clause-taken g c log inside clean =

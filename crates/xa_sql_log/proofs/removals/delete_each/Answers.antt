@@ -1,10 +1,10 @@
-use Rattle.std.proofs.Common.{◌∙◌, ◌<◌, ◌≤◌, arith, length}
+use Rattle.std.proofs.Common.{◌∙◌, ◌<◌, arith, length}
 use Rattle.sqlite.specs.Held.{state}
 use Rattle.sqlite.specs.State.{HasCleanDisk}
 use Rattle.sqlite.proofs.InsideLemmas.{keeps_then}
-use Rattle.xa_sql_log.proofs.DeletedRows.{takes_one, taken_to_end}
+use Rattle.xa_sql_log.proofs.DeletedRows.{takes_one}
 use Rattle.xa_sql_log.proofs.Inside.{survives_none}
-use Rattle.xa_sql_log.proofs.deletes.delete_each.Goals as goal
+use Rattle.xa_sql_log.proofs.removals.delete_each.Goals as goal
 
 pub loop-g-preserved : goal.loop-g-preserved
 loop-g-preserved g c =
