@@ -81,6 +81,10 @@ impl DecisionLog for Unlawful {
         Ok(true)
     }
 
+    fn done_all(&mut self, _gtrids: &[Gtrid]) -> Result<(), LogFault> {
+        Ok(())
+    }
+
     fn note_heuristic(&mut self, _b: Branch, _how: How) -> Result<(), LogFault> {
         Ok(())
     }

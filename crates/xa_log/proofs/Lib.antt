@@ -7,4 +7,5 @@ pub mod OwnBranches
 pub mod Parts
 pub mod Rising
 pub mod RowsInTurn
+pub mod TakenTogether
 pub mod Together

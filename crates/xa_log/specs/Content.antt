@@ -72,6 +72,11 @@ logged_each (d ∷ ds) c = logged_as c d.gtrid ∷ logged_each ds (with_commit d
 abbrev pub without_decision : Gtrid → Content → Content
 without_decision g c = record c { decisions = remove c.decisions g }
 
+-- no row of these transactions is left
+abbrev pub without_decisions : List Gtrid → Content → Content
+without_decisions [] c = c
+without_decisions (g ∷ gs) c = without_decisions gs (without_decision g c)
+
 abbrev pub with_heuristic : Branch → How → Content → Content
 with_heuristic b how c = record c { heuristics = insert c.heuristics b how }
 

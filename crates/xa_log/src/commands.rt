@@ -9,7 +9,8 @@ use crate::{DecisionLog, LogFault, LogRows, Logged};
 use std::alloc::Global;
 use xa_base::{Branch, Gtrid, How};
 
-/// A call of a decision log, with what it is given: each but `commit_all`, which leaves what its commits leave in turn.
+/// A call of a decision log, with what it is given: each but `commit_all` and `done_all`, which leave what their commits and
+/// dones leave in turn.
 #[derive(Drop)]
 pub enum Command {
     Commit(Gtrid, Vec<Branch>),

@@ -3,7 +3,7 @@ ghost use Rattle.std.specs.Prelude.{◌≡◌, ◌≤◌, ◌+◌, Err, Option, 
 ghost use Rattle.std.specs.FinMap.{contains_key, entries, get, keys};
 ghost use Rattle.xa_log.specs.KeySet.{from_list, items};
 ghost use Rattle.std.specs.List.{AllByRecursion};
-ghost use Rattle.xa_log.specs.Content.{AreOwn, Content, all_listed, with_bump, with_commit, with_commits, last_number, logged_as, logged_each, participants_of, with_record, unchanged, without_decision};
+ghost use Rattle.xa_log.specs.Content.{AreOwn, Content, all_listed, with_bump, with_commit, with_commits, last_number, logged_as, logged_each, participants_of, with_record, unchanged, without_decision, without_decisions};
 ghost use Rattle.xa_log.specs.Contract.{AllFit, Changes, FitsRow, Honestly, Moment, Reads, fault_of};
 
 use crate::decision::Decision;
@@ -112,6 +112,15 @@ pub trait DecisionLog {
         ensures changes { Changes (without_decision g) (moment self.old) (moment self.new) result }
         ensures cause { says LogCall.Done (without_decision g) self.old self.new
             (fault_of result) };
+
+    /// Takes the rows of these transactions away with their participants. All go at once: a crash, or a call that fails,
+    /// leaves all of them or none. A transaction without a row may be named, and one may be named twice.
+    fn done_all(&mut self, gtrids: &[Gtrid]) -> Result<(), LogFault>
+        requires fits { AllByRecursion FitsRow gtrids.now }
+        ensures changes { Changes (without_decisions gtrids.now)
+            (moment self.old) (moment self.new) result }
+        ensures cause { says LogCall.Done (without_decisions gtrids.now)
+            self.old self.new (fault_of result) };
 
     /// Records for good how a resource manager ended a branch by itself (XA, section 2.3.3, Heuristic Branch
     /// Completion). The first record of a branch stays.

@@ -130,6 +130,14 @@ impl DecisionLog for FailLog {
         counted(&mut self.faults, found)
     }
 
+    fn done_all(&mut self, gtrids: &[Gtrid]) -> Result<(), LogFault> {
+        let taken = match self.turn(LogCall::Done) {
+            Turn::FailsBefore => Err(LogFault::Store),
+            turn => answer_at(turn, self.log.done_all(gtrids)),
+        };
+        counted(&mut self.faults, taken)
+    }
+
     fn note_heuristic(&mut self, b: Branch, how: How) -> Result<(), LogFault> {
         let noted = match self.turn(LogCall::NoteHeuristic) {
             Turn::FailsBefore => Err(LogFault::Store),

@@ -8,6 +8,7 @@ pub enum LogCall {
     Commit,
     Contains,
     Participants,
+    /// `done`, and `done_all`, which counts as one.
     Done,
     NoteHeuristic,
     HeuristicOf,

@@ -3,8 +3,8 @@
 //! Only decisions to commit are kept: what has no row is rolled back (presumed rollback: XA, section 2.3).
 //!
 //! [`DecisionLog`] is what every log promises. [`MemLog`] keeps it in memory, and [`FailLog`] fails by a plan, for tests.
-//! The log in the tables of a database is `SqlLog` of the crate `xa_sql_log`. [`decisions_in_turn`] does nothing: its clauses
-//! are laws.
+//! The log in the tables of a database is `SqlLog` of the crate `xa_sql_log`. [`decisions_in_turn`] and [`rows_left_together`]
+//! do nothing: their clauses are laws.
 //!
 //! "XA" in these pages is X/Open CAE Specification C193, "Distributed Transaction Processing: The XA Specification"
 //! (1991).
@@ -28,4 +28,4 @@ pub use fail_plan::{FailPlan, LogCall};
 pub use log_fault::{LogFault, counted};
 pub use log_rows::LogRows;
 pub use mem_log::MemLog;
-pub use turns::decisions_in_turn;
+pub use turns::{decisions_in_turn, rows_left_together};

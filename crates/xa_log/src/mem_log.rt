@@ -222,6 +222,11 @@ impl DecisionLog for MemLog {
         Ok(self.remove_decision(g))
     }
 
+    fn done_all(&mut self, gtrids: &[Gtrid]) -> Result<(), LogFault> {
+        self.remove_all(gtrids);
+        Ok(())
+    }
+
     fn note_heuristic(&mut self, b: Branch, how: How) -> Result<(), LogFault> {
         let noted = self.put_heuristic(b, how);
         counted(&mut self.faults, noted)

@@ -36,7 +36,7 @@ use Rattle.sqlite.specs.Edit.{without_all}
 use Rattle.sqlite.specs.Tree.{rowid}
 use Rattle.sqlite.specs.State.{ExecutesInside}
 use Rattle.std.proofs.lemmas.Bool.{and_parts}
-use Rattle.xa_sql_log.specs.Sql.{AreLogTrees, HasWritten, MayInsert}
+use Rattle.xa_sql_log.specs.Sql.{AreLogTrees, HasMade, HasWritten, MayInsert}
 use Rattle.xa_sql_log.proofs.Lasting.{as_log}
 use Rattle.xa_sql_log.proofs.Cascade.{cascade}
 use Rattle.xa_sql_log.proofs.Inserts.{at_once, puts_participant}
@@ -254,6 +254,17 @@ writes_participant b params given old new count set before has h =
     (puts_participant old.step_limit (pos b.gtrid.incarnation) (pos b.gtrid.sequence) (pos b.thread) (pos b.rm) old.now new.now
     (statement_of insert_participant (understood log_schema insert_participant)) w.tally has.now.schema w.changed) in
     record { is_open = h.1.is_open; inside = h.1.mode; now = made.0; sound = w.sound; content = made.1 }
+
+pub deletes_inside : (g : Gtrid) (params : Row) → params ≡ gtrid_params g → (old new : State) (count : ℕ)
+    → IsLog old.now → ExecutesInside 0 delete_decision params old new (Ok count) → HasMade (without_decision g) old new
+deletes_inside g params given old new count log h =
+    let w =
+    runs_as delete_decision (gtrid_params g) old new log_schema log.schema delete_command delete_decision_is delete_decision_plain count
+    (subst (λ p. Executes delete_decision p old new (Ok count)) given h.0) in
+    let made =
+    taken_content g old.now new.now w.tally.rows log
+    (takes_decision old.step_limit (gtrid_params g) gtrid_tests (col 1 0 ∷ []) old.now new.now delete_text w.tally log.schema w.changed) in
+    record { was_open = w.shown.was_open; is_open = h.1.is_open; inside = h.1.mode; now = made.0; sound = w.sound; content = made.1 }
 
 pub four_params : (b : Branch) → FitsRow b.gtrid → b.thread ≤ last_number → b.rm ≤ last_number
     → Int (to_z w64 (of_z w64 (pos b.gtrid.incarnation))) ∷ Int (to_z w64 (of_z w64 (pos b.gtrid.sequence)))

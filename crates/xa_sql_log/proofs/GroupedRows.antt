@@ -4,25 +4,21 @@ use Rattle.std.proofs.lemmas.Bool.{cases_Bool, true≢false}
 use Rattle.std.proofs.lemmas.List.{take_all, take_more}
 use Rattle.std.specs.List.{list_any}
 use Rattle.std.specs.FinMap.{get, contains_key}
-use Rattle.sqlite.specs.Tree.{Trees}
 use Rattle.sqlite.specs.Effect.{Database}
-use Rattle.sqlite.specs.declared.error.Error.{Error}
-use Rattle.sqlite.specs.State.{State, HasCleanDisk, Shows, KeepsCommit}
-use Rattle.sqlite.specs.Steps.{FailsToCommit}
+use Rattle.sqlite.specs.State.{State, HasCleanDisk}
 use Rattle.xa_base.specs.declared.branch.Gtrid.{Gtrid}
 use Rattle.xa_base.specs.Branch.{gtrid_eq}
 use Rattle.xa_log.specs.Content.{Content, is_new, logged_as, logged_each, with_commits}
 use Rattle.xa_log.specs.Contract.{Makes}
 use Rattle.xa_sql_log.specs.Rows.{IsLog, content_of}
-use Rattle.xa_sql_log.specs.Sql.{AreLogTrees, AreLoggedIn, HasWritten, HasWrittenAll, IsOrderly, IsShutOrAsBefore, MayInsert, MayInsertAll, OnlyReads, content_in}
+use Rattle.xa_sql_log.specs.Sql.{AreLoggedIn, HasWritten, HasWrittenAll, IsOrderly, MayInsert, MayInsertAll, OnlyReads, content_in}
 use Rattle.xa_log.specs.declared.decision.Decision.{Decision}
 use Rattle.xa_log.specs.declared.decision_log.Logged.{Logged}
 use Rattle.xa_log.specs.declared.decision_log.Logged.TheVariants.{New, Already}
 use Rattle.xa_log.proofs.RowsInTurn.{answer_at, has_after}
 use Rattle.xa_log.proofs.Together.{already_stays, commits_more, logged_more, waiting, with_one}
-use Rattle.xa_sql_log.proofs.Inside.{begun, fresh, undone_after}
-use Rattle.xa_sql_log.proofs.Lasting.{as_log}
-use Rattle.xa_sql_log.proofs.States.{Did, reads_then}
+use Rattle.xa_sql_log.proofs.Inside.{begun, fresh}
+use Rattle.xa_sql_log.proofs.States.{reads_then}
 use Rattle.xa_log.proofs.Parts.{no_some}
 
 -- ** whose rows are there, where some have been written
@@ -248,19 +244,3 @@ module _ (ds : List Decision) (a m e : State) where
     now = λ h. (order h).now;
     told = λ h. let was : a.is_open ≡ true = h in told (content_of a.now.trees) (rw was refl);
   }
-
-  pub committed_list : HasWrittenAll ds (begun a) m → Shows m e m.now m.now false → Did (with_commits ds) a e
-  committed_list has shown = record {
-    was_open = has.was_open;
-    is_open = shown.is_open;
-    ready = record { autocommit = shown.mode; now = subst IsLog (sym shown.now_is) has.now; committed = shown.committed_is ∙ sym shown.now_is };
-    content = ap (λ (d : Database). content_of d.trees) shown.now_is ∙ has.content;
-  }
-
-  pub failed_list : (error : Error) → KeepsCommit (begun a) m → HasWrittenAll ds (begun a) m → FailsToCommit m e error → IsShutOrAsBefore a e
-  failed_list error keeps has (inl fails) = undone_after a m e keeps fails.3
-  failed_list error keeps has (inr ended) = absurd (true≢false (sym has.inside ∙ ended.1))
-
-  pub commits_list : HasWrittenAll ds (begun a) m → (db : Trees) → db ≡ m.now.trees
-      → IsTrue a.is_open × (content_of db ≡ with_commits ds (content_of a.now.trees)) × AreLogTrees db
-  commits_list has db same = (has.was_open, ap content_of same ∙ has.content, subst AreLogTrees (sym same) (as_log m.now has.now has.sound))

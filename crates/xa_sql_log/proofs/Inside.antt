@@ -19,7 +19,7 @@ use Rattle.xa_base.proofs.BranchOrder.{branches_total, exact_branches}
 use Rattle.xa_log.specs.Content.{Content, with_decision, with_commit}
 use Rattle.xa_log.specs.Contract.{Makes, MayMake}
 use Rattle.xa_sql_log.specs.Rows.{IsLog, content_of}
-use Rattle.xa_sql_log.specs.Sql.{AreLogTrees, HasLogTables, IsOrderly, content_in, OnlyReads, MayChange, HasWritten, MayInsert, IsShutOrAsBefore}
+use Rattle.xa_sql_log.specs.Sql.{AreLogTrees, HasLogTables, IsOrderly, content_in, OnlyReads, MayChange, HasMade, HasWritten, MayInsert, IsShutOrAsBefore}
 use Rattle.xa_sql_log.proofs.States.{Did, did_makes, changes_then}
 use Rattle.xa_sql_log.proofs.Lasting.{as_log}
 
@@ -96,6 +96,25 @@ module _ (a e : State) (opened : IsTrue e.is_open → HasCleanDisk e) where
     logs = λ order clean db h. elim (survives.crash clean db h) [ inl was ↦ inl was | inr by ↦ inr (commits order clean db by).2 ];
   }
 
+-- ---- a change that was made in the transaction, and its commit
+
+module _ (change : Content → Content) (a m e : State) where
+  pub made_committed : HasMade change (begun a) m → Shows m e m.now m.now false → Did change a e
+  made_committed has shown = record {
+    was_open = has.was_open;
+    is_open = shown.is_open;
+    ready = record { autocommit = shown.mode; now = subst IsLog (sym shown.now_is) has.now; committed = shown.committed_is ∙ sym shown.now_is };
+    content = ap (λ (d : Database). content_of d.trees) shown.now_is ∙ has.content;
+  }
+
+  pub made_failed : (error : Error) → KeepsCommit (begun a) m → HasMade change (begun a) m → FailsToCommit m e error → IsShutOrAsBefore a e
+  made_failed error keeps has (inl fails) = undone_after a m e keeps fails.3
+  made_failed error keeps has (inr ended) = absurd (true≢false (sym has.inside ∙ ended.1))
+
+  pub made_commits : HasMade change (begun a) m → (db : Trees) → db ≡ m.now.trees
+      → IsTrue a.is_open × (content_of db ≡ change (content_of a.now.trees)) × AreLogTrees db
+  made_commits has db same = (has.was_open, ap content_of same ∙ has.content, subst AreLogTrees (sym same) (as_log m.now has.now has.sound))
+
 -- ---- all that was written, and its commit
 
 pub fresh : (x : Gtrid) (set : KeySet branch_cmp) (c : Content) → get c.decisions x ≡ None → with_decision x set c ≡ with_commit x set c
@@ -122,26 +141,25 @@ module _ (x : Gtrid) (set : KeySet branch_cmp) (a m e : State) where
   pub none_before : IsWritten x set a m → IsSomeAnd (content_in a) (λ c. false ≡ contains_key c.decisions x)
   none_before it = let was : a.is_open ≡ true = it.was_open in rw was (sym (ap is_some it.none))
 
-  pub committed_all : IsWritten x set a m → Shows m e m.now m.now false → Did (with_commit x set) a e
-  committed_all it shown = record {
+  as_made : IsWritten x set a m → HasMade (with_commit x set) (begun a) m
+  as_made it = record {
     was_open = it.was_open;
-    is_open = shown.is_open;
-    ready = record { autocommit = shown.mode; now = subst IsLog (sym shown.now_is) it.has.now; committed = shown.committed_is ∙ sym shown.now_is };
-    content = ap (λ (d : Database). content_of d.trees) shown.now_is ∙ it.has.content ∙ fresh x set (content_of a.now.trees) it.none;
+    is_open = it.has.is_open;
+    inside = it.has.inside;
+    now = it.has.now;
+    sound = it.has.sound;
+    content = it.has.content ∙ fresh x set (content_of a.now.trees) it.none;
   }
 
+  pub committed_all : IsWritten x set a m → Shows m e m.now m.now false → Did (with_commit x set) a e
+  committed_all it shown = made_committed (with_commit x set) a m e (as_made it) shown
+
   pub failed_all : (error : Error) → KeepsCommit (begun a) m → IsWritten x set a m → FailsToCommit m e error → IsShutOrAsBefore a e
-  failed_all error keeps it (inl fails) = undone_after a m e keeps fails.3
-  failed_all error keeps it (inr ended) = absurd (true≢false (sym it.has.inside ∙ ended.1))
+  failed_all error keeps it fails = made_failed (with_commit x set) a m e error keeps (as_made it) fails
 
   pub commits_all : IsWritten x set a m → (db : Trees) → db ≡ m.now.trees
       → IsTrue a.is_open × (content_of db ≡ with_commit x set (content_of a.now.trees)) × AreLogTrees db
-  commits_all it db same = (
-    it.was_open,
-    ap content_of same ∙ it.has.content ∙ fresh x set (content_of a.now.trees) it.none,
-    subst AreLogTrees (sym same)
-        (as_log m.now it.has.now it.has.sound),
-  )
+  commits_all it db same = made_commits (with_commit x set) a m e (as_made it) db same
 
 -- ---- a look, and then the change
 

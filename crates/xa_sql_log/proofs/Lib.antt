@@ -5,6 +5,7 @@ pub mod Closing
 pub mod Contents
 pub mod DecisionReads
 pub mod DecisionRows
+pub mod DeletedRows
 pub mod Deletes
 pub mod FoundDatabase
 pub mod GroupedRows

@@ -122,14 +122,23 @@ pub record MayInsertAll (ds : List Decision) (answers : List Logged) (s : State)
   pub now : IsTrue s.is_open → IsLog s.now
   pub told : IsTrue s.is_open → answers ≡ logged_each ds (content_of s.now.trees)
 
--- in a transaction that began over a log, these decisions have been written
-pub record HasWrittenAll (ds : List Decision) (begun s : State) : Type 0 where
-  pub was_open : IsTrue begun.is_open
+-- a transaction that began over a log, if that is open
+pub record IsInsideLog (s : State) : Type 0 where
+  pub inside : IsTrue s.in_transaction
+  pub now : IsTrue s.is_open → IsLog s.now
+
+-- in a transaction over a log this change has been made, since it was as at the start
+pub record HasMade (change : Content → Content) (start s : State) : Type 0 where
+  pub was_open : IsTrue start.is_open
   pub is_open : IsTrue s.is_open
   pub inside : IsTrue s.in_transaction
   pub now : IsLog s.now
   pub sound : IsDatabase s.now
-  pub content : content_of s.now.trees ≡ with_commits ds (content_of begun.now.trees)
+  pub content : content_of s.now.trees ≡ change (content_of start.now.trees)
+
+-- in a transaction that began over a log, these decisions have been written
+abbrev pub HasWrittenAll : List Decision → State → State → Type 0
+HasWrittenAll ds begun s = HasMade (with_commits ds) begun s
 
 -- the answers say whose rows are new in it, if it is open
 abbrev pub AreLoggedIn : List Decision → List Logged → State → Type 0

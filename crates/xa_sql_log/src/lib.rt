@@ -8,6 +8,7 @@ mod groups;
 mod heuristics;
 mod meta;
 mod participants;
+mod removals;
 mod rows;
 mod sql_log;
 mod statements;

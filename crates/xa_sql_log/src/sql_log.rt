@@ -13,7 +13,7 @@ mod closing;
 mod looking;
 mod opening;
 
-use crate::{decisions, groups, heuristics, meta, participants, rows, tables};
+use crate::{decisions, groups, heuristics, meta, participants, removals, rows, tables};
 pub use opening::memory_is_honest;
 use sqlite::{Alter, Connection};
 use std::alloc::Global;
@@ -174,6 +174,11 @@ impl<S: Alter> DecisionLog for SqlLog<S> {
     fn done(&mut self, g: Gtrid) -> Result<bool, LogFault> {
         let found = decisions::done(&mut self.conn, g);
         counted(&mut self.faults, found)
+    }
+
+    fn done_all(&mut self, gtrids: &[Gtrid]) -> Result<(), LogFault> {
+        let taken = removals::done_all(&mut self.conn, gtrids);
+        counted(&mut self.faults, taken)
     }
 
     fn note_heuristic(&mut self, b: Branch, how: How) -> Result<(), LogFault> {

@@ -1,14 +1,15 @@
-//! Several decisions at once.
+//! Several rows at once.
 
 ghost use Rattle.std.specs.Prelude.{◌≡◌, ◌≤◌, IfOk, IfErr, OnOk, OnErr, length, vec_len};
 ghost use Rattle.xa_log.specs.KeySet.{from_list};
-ghost use Rattle.xa_log.specs.Content.{Content, logged_as, logged_each, with_commit, with_commits};
+ghost use Rattle.xa_log.specs.Content.{Content, logged_as, logged_each, with_commit, with_commits, without_decisions};
 ghost use Rattle.xa_log.specs.Memory.{MadeUpTo, content_held};
 ghost use Rattle.xa_log.specs.declared.log_fault.LogFault.TheVariants.{Memory};
 
 use super::MemLog;
 use crate::{Decision, LogFault, Logged};
 use std::alloc::Global;
+use xa_base::Gtrid;
 
 impl MemLog {
     /// Takes back what a decision's row has changed. `logged` says whether it was new.
@@ -66,5 +67,16 @@ impl MemLog {
             }
         }
         Ok(answers)
+    }
+
+    /// Takes the rows of these transactions away.
+    pub(super) fn remove_all(&mut self, gtrids: &[Gtrid])
+        ensures removed { content_held self.new
+            ≡ without_decisions gtrids.now (content_held self.old) }
+        ensures faults { self.new.faults ≡ self.old.faults }
+    {
+        for g in gtrids {
+            self.remove_decision(*g);
+        }
     }
 }

@@ -6,8 +6,8 @@ use Rattle.sqlite.proofs.StateLemmas.{survives_then}
 use Rattle.xa_log.specs.Content.{with_commits}
 use Rattle.xa_log.specs.Contract.{Makes}
 use Rattle.xa_sql_log.specs.Sql.{IsOrderly, MayChange, content_in}
-use Rattle.xa_sql_log.proofs.GroupedRows.{commits_list, committed_list, failed_list, may_begin}
-use Rattle.xa_sql_log.proofs.Inside.{survives_none, tried, undone_after}
+use Rattle.xa_sql_log.proofs.GroupedRows.{may_begin}
+use Rattle.xa_sql_log.proofs.Inside.{made_committed, made_commits, made_failed, survives_none, tried, undone_after}
 use Rattle.xa_sql_log.proofs.States.{did_makes, opened_clean}
 use Rattle.xa_sql_log.proofs.groups.write_new.Goals as goal
 
@@ -50,10 +50,10 @@ returns-in_err-of_store-clause-changes g c told =
     subst (λ h. MayChange change (state g.S.Store old) (state g.S.Store h)) same
     (tried (state g.S.Store old) (state g.S.Store end) (opened_clean _ _ (g.met.S.Store.shut_if_dirty end.store))
     (λ db. db ≡ (state g.S.Store mid).now.trees) whole change
-    (λ order clean. inl (failed_list ds (state g.S.Store old) (state g.S.Store mid) (state g.S.Store end) c.in_err-of_store.ensures.err.1.0
+    (λ order clean. inl (made_failed change (state g.S.Store old) (state g.S.Store mid) (state g.S.Store end) c.in_err-of_store.ensures.err.1.0
     (rw begins at (c.insert_new.ensures.kept (early clean))) (written order (early clean))
     (rw c.in_err-of_store.ensures.err.1.1 at (c.commit.ensures.err clean))))
-    (λ order clean. commits_list ds (state g.S.Store old) (state g.S.Store mid) (state g.S.Store end) (written order (early clean))))
+    (λ order clean. made_commits change (state g.S.Store old) (state g.S.Store mid) (state g.S.Store end) (written order (early clean))))
 
 pub returns-clause-changes : goal.returns-clause-changes
 returns-clause-changes g c told =
@@ -76,9 +76,9 @@ returns-clause-changes g c told =
     subst (λ h. MayChange change (state g.S.Store old) (state g.S.Store h)) same
     (tried (state g.S.Store old) (state g.S.Store end) (opened_clean _ _ (g.met.S.Store.shut_if_dirty end.store))
     (λ db. db ≡ (state g.S.Store mid).now.trees) whole change
-    (λ order clean. inr (committed_list ds (state g.S.Store old) (state g.S.Store mid) (state g.S.Store end) (written order (early clean))
+    (λ order clean. inr (made_committed change (state g.S.Store old) (state g.S.Store mid) (state g.S.Store end) (written order (early clean))
     (rw c.in_ok-of_store.ensures.ok at (c.commit.ensures.ok clean)).1))
-    (λ order clean. commits_list ds (state g.S.Store old) (state g.S.Store mid) (state g.S.Store end) (written order (early clean))))
+    (λ order clean. made_commits change (state g.S.Store old) (state g.S.Store mid) (state g.S.Store end) (written order (early clean))))
 
 pub returns-clause-ok : goal.returns-clause-ok
 returns-clause-ok g c told order =
@@ -96,5 +96,5 @@ returns-clause-ok g c told order =
     (rw begins (may_begin ds (state g.S.Store old) (state g.S.Store mid) (state g.S.Store end) c.args.answers.now told order))) in
     subst (λ h. HasCleanDisk (state g.S.Store h) → Makes change (content_in (state g.S.Store old)) (content_in (state g.S.Store h))) same
     (λ clean. did_makes change (state g.S.Store old) (state g.S.Store end)
-    (committed_list ds (state g.S.Store old) (state g.S.Store mid) (state g.S.Store end) (written (early clean))
+    (made_committed change (state g.S.Store old) (state g.S.Store mid) (state g.S.Store end) (written (early clean))
     (rw c.in_ok-of_store.ensures.ok at (c.commit.ensures.ok clean)).1))
