@@ -10,6 +10,8 @@ ghost use Rattle.xa_tm.specs.LedgerBook.{numbered_by, transaction_at};
 mod compare;
 mod crash;
 mod decide;
+mod decide_all;
+mod done_all;
 mod hear;
 mod issue;
 pub(crate) mod load;

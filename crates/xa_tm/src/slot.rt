@@ -131,6 +131,13 @@ impl<L: DecisionLog + Drop> DecisionLog for Slot<L> {
         }
     }
 
+    fn done_all(&mut self, gtrids: &[Gtrid]) -> Result<(), LogFault> {
+        match &mut self.log {
+            Some(log) => log.done_all(gtrids),
+            None => without_log(&mut self.faults),
+        }
+    }
+
     fn note_heuristic(&mut self, b: Branch, how: How) -> Result<(), LogFault> {
         match &mut self.log {
             Some(log) => log.note_heuristic(b, how),

@@ -1,0 +1,3 @@
+-- Several transactions at once.
+pub mod Lists
+pub mod Contents

@@ -1,0 +1,96 @@
+-- Lists of transactions: which ones are named, and that none comes twice.
+use Rattle.std.proofs.Common.{◌≡◌, List, [], ◌∷◌, ◌++◌, map, filter, Bool, true, false, not, ◌&&◌, ◌||◌, cond, refl, sym, ap, ◌∙◌, subst}
+use Rattle.std.specs.Prelude.{nat_eq}
+use Rattle.std.specs.List.{list_any, AllByRecursion}
+use Rattle.std.proofs.lemmas.Bool.{and_from, and_parts, or_left, or_right, or_parts, or_from, true≢false}
+use Rattle.xa_base.specs.Branch.{gtrid_eq}
+use Rattle.xa_base.specs.declared.branch.Gtrid.{Gtrid}
+use Rattle.xa_base.proofs.BranchOrder.{gtrid_numbers}
+use Rattle.xa_base.proofs.BranchKeys.{gtrid_eq-refl, gtrid_eq-true}
+use Rattle.xa_model.specs.Facts.{has_gtrid}
+use Rattle.xa_model.specs.Facts.Distinct.{EachOnce}
+use Rattle.xa_tm.specs.Swaps.{each_once}
+
+-- ** who is named
+
+-- transactions are compared number by number
+abbrev by_numbers : Gtrid → Gtrid → Bool
+by_numbers g h = nat_eq g.incarnation h.incarnation && nat_eq g.sequence h.sequence
+
+pub named : (g : Gtrid) (gs : List Gtrid) → list_any (λ h. by_numbers h g) gs ≡ has_gtrid gs g
+named g [] = refl
+named g (h ∷ gs) = λ i. gtrid_numbers h g i || named g gs i
+
+pub other_of : (gs : List Gtrid) (g h : Gtrid) → has_gtrid gs g ≡ false → has_gtrid gs h ≡ true → gtrid_eq g h ≡ false
+other_of gs g h none some = by (gtrid_eq g h) refl
+  where
+    by : (t : Bool) → gtrid_eq g h ≡ t → t ≡ false
+    by false e = refl
+    by true e = absurd (true≢false (sym some ∙ sym (ap (has_gtrid gs) (gtrid_eq-true g h e)) ∙ none))
+
+pub named_first : (g : Gtrid) (gs : List Gtrid) → has_gtrid (g ∷ gs) g ≡ true
+named_first g gs = or_left _ _ (gtrid_eq-refl g)
+
+pub named_push : (gs : List Gtrid) (h g : Gtrid) → has_gtrid (gs ++ h ∷ []) g ≡ (gtrid_eq h g || has_gtrid gs g)
+named_push [] h g = refl
+named_push (x ∷ gs) h g = ap (λ t. gtrid_eq x g || t) (named_push gs h g) ∙ turned (gtrid_eq x g) (gtrid_eq h g) (has_gtrid gs g)
+  where
+    turned : (a b c : Bool) → (a || (b || c)) ≡ (b || (a || c))
+    turned true true c = refl
+    turned true false c = refl
+    turned false true c = refl
+    turned false false c = refl
+
+named_filter : (p : Gtrid → Bool) (gs : List Gtrid) (g : Gtrid) → has_gtrid gs g ≡ false → has_gtrid (filter p gs) g ≡ false
+named_filter p [] g e = refl
+named_filter p (h ∷ gs) g e = let parts = or_parts (gtrid_eq h g) (has_gtrid gs g) e in by (p h) (named_filter p gs g parts.1) parts.0
+  where
+    by : (t : Bool) → has_gtrid (filter p gs) g ≡ false → gtrid_eq h g ≡ false → has_gtrid (cond t (h ∷ filter p gs) (filter p gs)) g ≡ false
+    by true rest away = or_from _ _ away rest
+    by false rest away = rest
+
+-- ** none comes twice
+
+pub once_among : (P Q : Gtrid → Type 0) (gs : List Gtrid) → ((g : Gtrid) → has_gtrid gs g ≡ true → P g → Q g) → EachOnce P gs → EachOnce Q gs
+once_among P Q [] f e = tt
+once_among P Q (g ∷ gs) f e = (f g (named_first g gs) e.0, e.1, once_among P Q gs (λ h is. f h (or_right (gtrid_eq g h) (has_gtrid gs h) is)) e.2)
+
+pub once_so : (P Q : Gtrid → Type 0) (gs : List Gtrid) → ((g : Gtrid) → P g → Q g) → EachOnce P gs → EachOnce Q gs
+once_so P Q gs f e = once_among P Q gs (λ g is. f g) e
+
+pub once_filter : (P : Gtrid → Type 0) (p : Gtrid → Bool) (gs : List Gtrid) → EachOnce P gs → EachOnce P (filter p gs)
+once_filter P p [] e = tt
+once_filter P p (g ∷ gs) e = by (p g) (once_filter P p gs e.2)
+  where
+    by : (t : Bool) → EachOnce P (filter p gs) → EachOnce P (cond t (g ∷ filter p gs) (filter p gs))
+    by true rest = (e.0, named_filter p gs g e.1, rest)
+    by false rest = rest
+
+pub each_so : (P : Gtrid → Type 0) (gs : List Gtrid) → EachOnce P gs → (g : Gtrid) → has_gtrid gs g ≡ true → P g
+each_so P [] e g is = absurd (cc)
+each_so P (h ∷ gs) e g is = by (gtrid_eq h g) refl is (each_so P gs e.2 g)
+  where
+    by : (t : Bool) → gtrid_eq h g ≡ t → (t || has_gtrid gs g) ≡ true → (has_gtrid gs g ≡ true → P g) → P g
+    by true same is rest = subst P (gtrid_eq-true h g same) e.0
+    by false other is rest = rest is
+
+pub once_all : (P : Gtrid → Type 0) (gs : List Gtrid) → EachOnce P gs → AllByRecursion P gs
+once_all P [] e = tt
+once_all P (g ∷ gs) e = (e.0, once_all P gs e.2)
+
+-- ** the test
+
+pub once_is : (p : Gtrid → Bool) (gs : List Gtrid) → each_once p gs ≡ true → EachOnce (λ g. p g ≡ true) gs
+once_is p [] e = tt
+once_is p (g ∷ gs) e =
+    let parts = and_parts (p g) (not (has_gtrid gs g) && each_once p gs) e in
+    let more = and_parts (not (has_gtrid gs g)) (each_once p gs) parts.1 in
+    (parts.0, no (has_gtrid gs g) more.0, once_is p gs more.1)
+  where
+    no : (t : Bool) → not t ≡ true → t ≡ false
+    no true e = absurd (cc)
+    no false e = refl
+
+pub once_back : (p : Gtrid → Bool) (gs : List Gtrid) → EachOnce (λ g. p g ≡ true) gs → each_once p gs ≡ true
+once_back p [] e = refl
+once_back p (g ∷ gs) e = and_from (p g) _ e.0 (and_from (not (has_gtrid gs g)) _ (ap not e.1) (once_back p gs e.2))
