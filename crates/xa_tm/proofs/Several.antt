@@ -1,3 +1,6 @@
 -- Several transactions at once.
 pub mod Lists
 pub mod Contents
+pub mod Room
+pub mod Refusals
+pub mod Decisions

@@ -26,6 +26,7 @@ use Rattle.xa_log.specs.Contract.{Makes}
 use Rattle.xa_log.specs.KeySet.{from_list}
 use Rattle.xa_log.specs.declared.decision.Decision.{Decision}
 use Rattle.xa_log.specs.declared.log_rows.LogRows.{LogRows}
+use Rattle.xa_model.proofs.Invariant.RowLists.{each_is}
 use Rattle.xa_model.specs.Facts.{has_gtrid}
 use Rattle.xa_model.specs.Facts.Distinct.{EachOnce}
 use Rattle.xa_tm.specs.Book.{Book, Waiting, Doubt, Doubt.Adds, Doubt.Drops, row_among, row_with, row_without}
@@ -39,7 +40,7 @@ use Rattle.xa_tm.specs.declared.notes.BranchNotes.{BranchNotes}
 use Rattle.xa_tm.proofs.Maps.BranchSets.{sets_are}
 use Rattle.xa_tm.proofs.History.Starts.{started_as}
 use Rattle.xa_tm.proofs.Several.Contents.{added_heuristics, among_none, changed_at, changed_len, decided_names, dropped_at, dropped_heuristics, names_of, of_same, without_none, without_some}
-use Rattle.xa_tm.proofs.Several.Lists.{each_so, once_among, once_is, once_so}
+use Rattle.xa_tm.proofs.Several.Lists.{once_among, once_is, once_so}
 
 -- ** what agrees
 
@@ -227,21 +228,14 @@ module _ (k n : Ledger) (c : Content) (reads : Reads n c) where
 -- ** maps with one key more or less
 
 module _ {K X : Type 0} {R : K → K → Ordering} (o : IsTotalOrder R) (exact : (a b : K) → R a b ≡ Equal → a ≡ b) (m : FinMap R X) (k : K) (v : X) where
-  pub put_back : get m k ≡ Some v → insert (remove m k) k v ≡ m
+  put_back : get m k ≡ Some v → insert (remove m k) k v ≡ m
   put_back has = same_map o exact _ _ (λ q. get-insert o (remove m k) k v q ∙ by q (eq_by_cmp R q k) refl)
     where
       by : (q : K) (t : Bool) → eq_by_cmp R q k ≡ t → cond (eq_by_cmp R q k) (Some v) (get (remove m k) q) ≡ get m q
       by q true h = ap (λ t. cond t (Some v) (get (remove m k) q)) h ∙ sym has ∙ ap (get m) (sym (exact q k (equal_is _ h)))
       by q false h = ap (λ t. cond t (Some v) (get (remove m k) q)) h ∙ get-remove o m k q ∙ ap (λ t. cond t None (get m q)) h
 
-  take_back : get m k ≡ None → remove (insert m k v) k ≡ m
-  take_back none = same_map o exact _ _ (λ q. get-remove o (insert m k v) k q ∙ by q (eq_by_cmp R q k) refl)
-    where
-      by : (q : K) (t : Bool) → eq_by_cmp R q k ≡ t → cond (eq_by_cmp R q k) None (get (insert m k v) q) ≡ get m q
-      by q true h = ap (λ t. cond t None (get (insert m k v) q)) h ∙ sym none ∙ ap (get m) (sym (exact q k (equal_is _ h)))
-      by q false h = ap (λ t. cond t None (get (insert m k v) q)) h ∙ get-insert o m k v q ∙ ap (λ t. cond t (Some v) (get m q)) h
-
-  pub is_gone : get (remove m k) k ≡ None
+  is_gone : get (remove m k) k ≡ None
   is_gone = get-remove o m k k ∙ ap (λ t. cond t None (get m k)) ((eq_by_cmp_equiv o).refl k)
 
   gone : (q : K) → get (remove m k) q ≡ cond (eq_by_cmp R q k) None (get m q)
@@ -250,8 +244,6 @@ module _ {K X : Type 0} {R : K → K → Ordering} (o : IsTotalOrder R) (exact :
   one_less : get m k ≡ Some v → len (remove m k) ≡ len m - 1
   one_less has = len-remove o m k ∙ ap (λ w. cond (is_some w) (len m - 1) (len m)) has
 
-  one_more : get m k ≡ None → len (insert m k v) ≡ len m + 1
-  one_more none = len-insert o m k v ∙ ap (λ w. cond (is_some w) (len m) (len m + 1)) none
 
 module _ (k n : Ledger) (c : Content) (reads : Reads n c) where
   abbrev AgreeRows : Change → Type 0
@@ -348,7 +340,7 @@ module _ (k n : Ledger) (c : Content) (reads : Reads n c) where
       was q = dropped_at gs c q ∙ ap (row_without gs q) (at q) ∙ by (has_gtrid gs q) refl
         where
           by : (t : Bool) → has_gtrid gs q ≡ t → row_without gs q (row_among xs q (row_at k.rows q)) ≡ row_at k.rows q
-          by true e = without_some gs q _ e ∙ sym (each_so (λ g. row_at k.rows g ≡ None) gs none q e)
+          by true e = without_some gs q _ e ∙ sym (each_is (λ g. row_at k.rows g ≡ None) gs none q e)
           by false e = without_none gs q _ e ∙ among_none xs q (row_at k.rows q) (ap (λ l. has_gtrid l q) (decided_names v.items) ∙ e)
 
       number : len (without_decisions gs c).decisions + length xs ≡ n.row_count → n.row_count ≡ k.row_count + length v.items
@@ -410,7 +402,7 @@ module _ (k n : Ledger) (c : Content) (reads : Reads n c) where
       was q = changed_at (Adds xs) c new q ∙ by (has_gtrid gs q) refl
         where
           by : (t : Bool) → has_gtrid gs q ≡ t → row_among xs q (get c.decisions q) ≡ row_at k.rows q
-          by true e = own_among gs e ∙ kept (row_at k.rows q) (each_so (λ p. is_some (row_at k.rows p) ≡ true) gs there q e)
+          by true e = own_among gs e ∙ kept (row_at k.rows q) (each_is (λ p. is_some (row_at k.rows p) ≡ true) gs there q e)
             where
               kept : (o : Option Waiting) → is_some o ≡ true → Some (unwrap_or o (from_list [])) ≡ o
               kept None some = absurd (cc)
@@ -453,7 +445,7 @@ module _ (k n : Ledger) (c : Content) (reads : Reads n c) where
           records = λ q. gone branches_total exact_branches c.heuristics b how q ∙ by q (eq_by_cmp branch_cmp q b) refl none;
           record_number = one_less branches_total exact_branches c.heuristics b how has ∙ fewer (reads.ends ∙ nat_is n.records (k.records + 1) a.record_);
         },
-        inr (subst (λ d. SameRows c (changed_by d before)) (sym (ap doubt_of_change is)) (record {
+        inr (subst (λ d. IsChangeOf (row_at k.rows) d × SameRows c (changed_by d before)) (sym (ap doubt_of_change is)) (tt, record {
           decisions =
               sym (ap (λ t. (if t then before else with_heuristic b how before).decisions)
               (ap is_some (is_gone branches_total exact_branches c.heuristics b how)));

@@ -9,6 +9,8 @@ use Rattle.xa_base.proofs.BranchOrder.{gtrid_numbers}
 use Rattle.xa_base.proofs.BranchKeys.{gtrid_eq-refl, gtrid_eq-true}
 use Rattle.xa_model.specs.Facts.{has_gtrid}
 use Rattle.xa_model.specs.Facts.Distinct.{EachOnce}
+use Rattle.xa_log.specs.declared.decision.Decision.{Decision}
+use Rattle.xa_tm.specs.LedgerBook.{gtrids_of}
 use Rattle.xa_tm.specs.Swaps.{each_once}
 
 -- ** who is named
@@ -20,6 +22,18 @@ by_numbers g h = nat_eq g.incarnation h.incarnation && nat_eq g.sequence h.seque
 pub named : (g : Gtrid) (gs : List Gtrid) → list_any (λ h. by_numbers h g) gs ≡ has_gtrid gs g
 named g [] = refl
 named g (h ∷ gs) = λ i. gtrid_numbers h g i || named g gs i
+
+pub named_decided : (g : Gtrid) (ds : List Decision) → list_any (λ (d : Decision). gtrid_eq d.gtrid g) ds ≡ has_gtrid (gtrids_of ds) g
+named_decided g [] = refl
+named_decided g (d ∷ ds) = ap (λ t. gtrid_eq d.gtrid g || t) (named_decided g ds)
+
+-- either way round
+pub gtrid_away : (g h : Gtrid) → gtrid_eq g h ≡ false → gtrid_eq h g ≡ false
+gtrid_away g h away = by (gtrid_eq h g) refl
+  where
+    by : (t : Bool) → gtrid_eq h g ≡ t → t ≡ false
+    by false e = refl
+    by true e = absurd (true≢false (sym (ap (λ p. gtrid_eq p h) (sym (gtrid_eq-true h g e)) ∙ gtrid_eq-refl h) ∙ away))
 
 pub other_of : (gs : List Gtrid) (g h : Gtrid) → has_gtrid gs g ≡ false → has_gtrid gs h ≡ true → gtrid_eq g h ≡ false
 other_of gs g h none some = by (gtrid_eq g h) refl
@@ -65,14 +79,6 @@ once_filter P p (g ∷ gs) e = by (p g) (once_filter P p gs e.2)
     by : (t : Bool) → EachOnce P (filter p gs) → EachOnce P (cond t (g ∷ filter p gs) (filter p gs))
     by true rest = (e.0, named_filter p gs g e.1, rest)
     by false rest = rest
-
-pub each_so : (P : Gtrid → Type 0) (gs : List Gtrid) → EachOnce P gs → (g : Gtrid) → has_gtrid gs g ≡ true → P g
-each_so P [] e g is = absurd (cc)
-each_so P (h ∷ gs) e g is = by (gtrid_eq h g) refl is (each_so P gs e.2 g)
-  where
-    by : (t : Bool) → gtrid_eq h g ≡ t → (t || has_gtrid gs g) ≡ true → (has_gtrid gs g ≡ true → P g) → P g
-    by true same is rest = subst P (gtrid_eq-true h g same) e.0
-    by false other is rest = rest is
 
 pub once_all : (P : Gtrid → Type 0) (gs : List Gtrid) → EachOnce P gs → AllByRecursion P gs
 once_all P [] e = tt

@@ -1,6 +1,6 @@
 //! Whether the rows of a log that is put in are those of the book.
 
-ghost use Rattle.std.specs.Prelude.{◌≡◌, ◌&&◌, ◌||◌, ◌+◌, ◌∷◌, IfOk, nat_eq};
+ghost use Rattle.std.specs.Prelude.{◌≡◌, true, not, ◌&&◌, ◌||◌, ◌+◌, ◌∷◌, IfOk, nat_eq};
 ghost use Rattle.std.specs.List.{list_all};
 ghost use Rattle.xa_model.specs.Facts.{has_gtrid};
 ghost use Rattle.xa_tm.specs.LedgerBook.{gtrids_of, notes_at};
@@ -134,16 +134,38 @@ impl Ledger {
         true
     }
 
+    /// Whether a transaction has a row and isn't one of these.
+    fn keeps_apart(&self, g: Gtrid, others: &[Gtrid]) -> bool
+        ensures { result ≡ (keeps_row self.now g && not (has_gtrid others.now g)) }
+    {
+        self.has_row(g) && !is_named(others, g)
+    }
+
     /// Whether each of these transactions has a row, and none comes twice.
     fn keeps_each(&self, gtrids: &[Gtrid]) -> bool
         ensures { result ≡ each_once (keeps_row self.now) gtrids.now }
     {
         for (i, g) in gtrids.iter().enumerate() {
-            if !self.has_row(*g) || is_named(&gtrids[i + 1..], *g) {
+            if !self.keeps_apart(*g, &gtrids[i + 1..]) {
                 return false;
             }
         }
         true
+    }
+
+    /// The same of a first one and others.
+    fn keeps_all(&self, first: Gtrid, others: &[Gtrid]) -> bool
+        ensures { result ≡ each_once (keeps_row self.now) (first ∷ others.now) }
+    {
+        self.keeps_apart(first, others) && self.keeps_each(others)
+    }
+
+    /// Whether the row of each of these transactions is as read, with the change in doubt.
+    fn are_changed(&self, read: &Ledger, first: Gtrid, others: &[Gtrid]) -> bool
+        ensures { result ≡
+            list_all (row_agrees true self.now read.now) (first ∷ others.now) }
+    {
+        self.row_agrees(read, first, true) && others.iter().all(|g| self.row_agrees(read, *g, true))
     }
 
     /// Whether these decisions make new rows, and those are as read.
@@ -162,9 +184,7 @@ impl Ledger {
         ensures { result ≡ (each_once (keeps_row self.now) (first ∷ others.now) &&
             list_all (row_agrees true self.now read.now) (first ∷ others.now)) }
     {
-        (self.has_row(first) && (!is_named(others, first) && self.keeps_each(others)))
-            && (self.row_agrees(read, first, true)
-                && others.iter().all(|g| self.row_agrees(read, *g, true)))
+        self.keeps_all(first, others) && self.are_changed(read, first, others)
     }
 
     /// Whether what the change in doubt is of is as read, with the change.
