@@ -116,12 +116,15 @@ names_at pages r = map name_of (unwrap_or (get nat_cmp pages r) [])
 abbrev pub off_line : Part → Branch → BranchNotes → BranchNotes
 off_line p b n = record n { is_on_line = not (breaks_in true (Crashed p) (line_of b)) && n.is_on_line }
 
--- the row that a decision makes
+-- the row that a decision makes, and those of several
 abbrev pub decided_row : Decision → Gtrid × Waiting
 decided_row d = (d.gtrid, waiting_of d.participants)
 
+abbrev pub decided_rows : List Decision → List (Gtrid × Waiting)
+decided_rows ds = map decided_row ds
+
 abbrev pub doubt_of_change : Change → Doubt
-doubt_of_change (AddRows v) = Adds (map decided_row v.items)
+doubt_of_change (AddRows v) = Adds (decided_rows v.items)
 doubt_of_change (DropRows g others) = Drops (g ∷ others.items)
 doubt_of_change (AddRecord b how) = Records b how
 doubt_of_change Nothing = NoDoubt

@@ -306,7 +306,7 @@ doubt_fits (From o) g r e = absurd (cc)
 doubt_fits (Then tr (Failed f)) g r e = by (up tr) (λ k. doubt_fits tr g r.0 k) e
   where
     by : (t : Bool) → (adds_row (doubt tr) g ≡ true → g.sequence ≤ happenings tr)
-        → adds_row (if t then fault_change tr f else doubt tr) g ≡ true → g.sequence ≤ happenings tr + 1
+        → adds_row (if t then fault_change tr f else doubt tr) g ≡ true → g.sequence ≤ happenings (Then tr (Failed f))
     by true before k = as_before _ _ _ (fault_fits tr f g r.0 r.1 k)
     by false before k = as_before _ _ _ (before k)
 doubt_fits (Then tr (Restarted i d h)) g r e = absurd (cc)

@@ -1,9 +1,9 @@
 -- What several decisions, or the end of several rows, make of a book.
 use Rattle.std.proofs.Common.{◌≡◌, ℕ, ◌+◌, ◌-◌, ◌<◌, ◌≤◌, ◌^◌, List, [], ◌∷◌, ◌++◌, length, map, filter, take, drop, get_or, Bool, true, false, not, ◌&&◌, ◌||◌, cond, Option, Some, None, IsSome, is_some, refl, sym, ap, ◌∙◌, subst, arith}
-use Rattle.std.specs.Prelude.{if◌then◌else◌}
+use Rattle.std.specs.Prelude.{if◌then◌else◌, nat_eq, nat_le}
 use Rattle.std.specs.List.{AllByRecursion}
 use Rattle.std.specs.Option.{option_or}
-use Rattle.std.proofs.lemmas.Bool.{or_from, or_parts}
+use Rattle.std.proofs.lemmas.Bool.{and_parts, eqb-true, leb-true, or_from, or_parts}
 use Rattle.std.proofs.lemmas.List.{drop_all, drop_more, length-map}
 use Rattle.xa_base.specs.Branch.{gtrid_eq}
 use Rattle.xa_base.specs.declared.branch.Gtrid.{Gtrid}
@@ -12,22 +12,23 @@ use Rattle.xa_base.specs.declared.step.Outcome.{Outcome}
 use Rattle.xa_base.specs.declared.step.Outcome.TheVariants as Outcomes
 use Rattle.xa_base.specs.declared.step.Step.TheVariants as Steps
 use Rattle.xa_base.proofs.BranchKeys.{gtrid_eq-true}
-use Rattle.xa_log.specs.Contract.{FitsRow}
+use Rattle.xa_log.specs.Content.{Content, last_number, with_commits, without_decisions}
+use Rattle.xa_log.specs.Contract.{FitsRow, Makes}
 use Rattle.xa_log.specs.declared.decision.Decision.{Decision}
 use Rattle.xa_model.specs.Facts.{has_gtrid}
 use Rattle.xa_model.specs.Facts.Distinct.{EachOnce}
 use Rattle.xa_model.specs.Trace.{Happening, Happening.Decided, Happening.Done}
 use Rattle.xa_tm.specs.Book.{Book, Waiting, TransactionNotes, Doubt.Adds, Doubt.Drops, after, after_all, row_among, row_without, rows_for, transaction_after, voted_row, voted_yes}
-use Rattle.xa_tm.specs.BookAndLog.{IsChangeOf}
+use Rattle.xa_tm.specs.BookAndLog.{IsChangeOf, IsTied, changed_by, with_rows}
 use Rattle.xa_tm.specs.Calls.{IsOpenIn, written_by}
-use Rattle.xa_tm.specs.LedgerBook.{IsSound, as_book, decided_by, decided_row, row_at}
+use Rattle.xa_tm.specs.LedgerBook.{IsSound, as_book, decided_by, decided_row, gtrids_of, numbered_by, row_at, transaction_at}
 use Rattle.xa_tm.specs.Outcomes.{is_commit}
 use Rattle.xa_tm.specs.Refusing.{refusal_in, refusal_in_turn}
 use Rattle.xa_tm.specs.declared.ledger.Ledger.{Ledger}
 use Rattle.xa_tm.proofs.History.OneMore.{book_is}
-use Rattle.xa_tm.proofs.Log.Ties.{done_row}
-use Rattle.xa_tm.proofs.Several.Contents.{nothing_stays, without_first}
-use Rattle.xa_tm.proofs.Several.Lists.{gtrid_away, once_filter, once_so}
+use Rattle.xa_tm.proofs.Log.Ties.{done_row, done_up, tied_dropped, tied_same, tied_written}
+use Rattle.xa_tm.proofs.Several.Contents.{commits_are, decided_names, without_first}
+use Rattle.xa_tm.proofs.Several.Lists.{gtrid_away, once_all, once_filter, once_so}
 use Rattle.xa_tm.proofs.Several.Refusals.{decide_open}
 
 -- ** which rows are written
@@ -183,3 +184,103 @@ all_kept k (g ∷ gs) e =
     let rest = apart_from (λ h. is_some (k.row h) ≡ true) (λ h. is_some ((after k (Done g)).row h) ≡ true) g gs (λ h is. still_kept k g h is)
     (all_kept (after k (Done g)) gs parts.1) in
     (done_row k g parts.0, rest.1, rest.0)
+
+pub kept_up : (k : Book) (g : Gtrid) (gs : List Gtrid) → refusal_in_turn (λ g. Steps.Done g) (λ g. Done g) k (g ∷ gs) ≡ None → k.up ≡ true
+kept_up k g gs e = done_up k g (or_none (refusal_in k (Steps.Done g)) _ e).0
+
+-- ** numbers that fit
+
+-- what is begun fits a row
+begun_fits : (a : Ledger) (g : Gtrid) → IsSound (as_book a) → ((as_book a).transaction g).begun ≡ true → FitsRow g
+begun_fits a g sound begun =
+    let given = and_parts (numbered_by a.is_up a.incarnation a.sequence g) (transaction_at a.transactions g).is_begun begun in
+    let parts = and_parts a.is_up _ given.0 in
+    let inc = and_parts (nat_eq g.incarnation a.incarnation) _ parts.1 in
+    let seq = and_parts (nat_le 1 g.sequence) (nat_le g.sequence a.sequence) inc.1 in
+    let same = eqb-true g.incarnation a.incarnation inc.0 in
+    let few = leb-true g.sequence a.sequence seq.1 in
+    let fits = sound.fits in
+    let begins = sound.begins in
+    let most = sound.fits_begins in
+    let first : g.incarnation ≤ last_number = omega (arith, same, fits) in
+    let second : g.sequence ≤ last_number = omega (arith, few, begins, most) in
+    (first, second)
+
+pub open_fit : (a : Ledger) (gs : List Gtrid) → IsSound (as_book a) → EachOnce (IsOpenIn (as_book a)) gs → EachOnce FitsRow gs
+open_fit a gs sound open = once_so (IsOpenIn (as_book a)) FitsRow gs (λ g is. begun_fits a g sound is.begun) open
+
+pub sequences_fit : (gs : List Gtrid) → EachOnce FitsRow gs → AllByRecursion (λ (g : Gtrid). g.sequence < 2 ^ 64 - 1) gs
+sequences_fit [] each = tt
+sequences_fit (g ∷ gs) each =
+    let few = each.0.1 in let here : g.sequence < 2 ^ 64 - 1 = omega (arith, few) in (here, sequences_fit gs each.2)
+
+decided_fit : (ds : List Decision) → AllByRecursion FitsRow (gtrids_of ds) → AllByRecursion (λ (d : Decision). FitsRow d.gtrid) ds
+decided_fit [] all = tt
+decided_fit (d ∷ ds) all = (all.0, decided_fit ds all.1)
+
+pub written_fit : (a : Ledger) (o : Outcome) (gs : List Gtrid) (ds : List Decision) → IsSound (as_book a) → EachOnce (IsOpenIn (as_book a)) gs
+    → map decided_row ds ≡ rows_for (as_book a) (written_by o (as_book a) gs) → AllByRecursion (λ (d : Decision). FitsRow d.gtrid) ds
+written_fit a o gs ds sound open all =
+    decided_fit ds (subst (AllByRecursion FitsRow)
+    (sym (sym (decided_names ds) ∙ ap (map (λ (x : Gtrid × Waiting). x.0)) all ∙ names_for (as_book a) (written_by o (as_book a) gs)))
+    (once_all FitsRow (written_by o (as_book a) gs)
+    (once_filter FitsRow (λ g. is_commit (Some o) && ((as_book a).transaction g).has_yes) gs (open_fit a gs sound open))))
+
+pub kept_fit : (k : Book) (gs : List Gtrid) → IsSound k → EachOnce (λ g. is_some (k.row g) ≡ true) gs → AllByRecursion FitsRow gs
+kept_fit k gs sound kept = once_all FitsRow gs (once_so (λ g. is_some (k.row g) ≡ true) FitsRow gs (λ g some. sound.rows_fit g some) kept)
+
+-- ** none is written
+
+pub none_written : (k : Book) (o : Outcome) (gs : List Gtrid) (ds : List Decision) → map decided_row ds ≡ rows_for k (written_by o k gs) → ds ≡ []
+    → written_by o k gs ≡ []
+none_written k o gs ds all none = empty (written_by o k gs) (sym all ∙ ap (map decided_row) none)
+  where
+    empty : (ws : List Gtrid) → rows_for k ws ≡ [] → ws ≡ []
+    empty [] e = refl
+    empty (w ∷ ws) e = absurd (cc)
+
+pub some_written : (k : Book) (o : Outcome) (gs : List Gtrid) (ds : List Decision) → map decided_row ds ≡ rows_for k (written_by o k gs) → (ds ≡ [] → ⊥)
+    → written_by o k gs ≡ [] → ⊥
+some_written k o gs [] all some none = some refl
+some_written k o gs (d ∷ ds) all some none = let no : decided_row d ∷ map decided_row ds ≡ [] = all ∙ ap (rows_for k) none in absurd (cc)
+
+-- where a row is written, the manager is up
+pub written_up : (k : Book) (o : Outcome) (gs : List Gtrid) → EachOnce (IsOpenIn k) gs → (written_by o k gs ≡ [] → ⊥) → k.up ≡ true
+written_up k o [] open some = absurd (some refl)
+written_up k o (g ∷ gs) open some = open.0.up
+
+-- the book where no row is written
+pub decided_unwritten : (near : Bool) (k : Book) (o : Outcome) (gs : List Gtrid) (log : Option Content) → written_by o k gs ≡ []
+    → IsTied near k log → IsTied near (after_all k (map (λ g. Decided g o) gs)) log
+decided_unwritten near k o gs log none tied =
+    subst (λ b. IsTied near b log) (sym (all_decided o k gs)) (tied_same near k (decided_book k o gs) log (record {
+      up = refl;
+      incarnation = refl;
+      failed_restarts = refl;
+      row = λ q. ap (λ ws. row_among (rows_for k ws) q (k.row q)) none;
+      rows = ap (λ (ws : List Gtrid). k.rows + length ws) none ∙ (let same : k.rows + 0 ≡ k.rows = omega arith in same);
+      recorded = λ b. refl;
+      records = refl;
+      doubt = refl;
+    }) tied)
+
+-- and where rows are
+pub decided_written : (near : Bool) (k : Book) (o : Outcome) (gs : List Gtrid) (old new : Option Content) → k.up ≡ true
+    → IsChangeOf k.row (Adds (rows_for k (written_by o k gs))) → Makes (changed_by (Adds (rows_for k (written_by o k gs)))) old new
+    → IsTied near k old → IsTied near (after_all k (map (λ g. Decided g o) gs)) new
+decided_written near k o gs old new up of makes tied =
+    subst (λ b. IsTied near b new) (sym (all_decided o k gs))
+    (tied_written near k (decided_book k o gs) (rows_for k (written_by o k gs)) old new up up refl of (λ q. refl)
+    (ap (λ n. k.rows + n) (sym (length-map (written_by o k gs) (voted_row k)))) (λ b. refl) refl makes tied)
+
+-- the rows leave
+pub rows_dropped : (near : Bool) (k : Book) (gs : List Gtrid) (old new : Option Content) → k.up ≡ true → EachOnce (λ g. is_some (k.row g) ≡ true) gs
+    → Makes (without_decisions gs) old new → IsTied near k old → IsTied near (after_all k (map (λ g. Done g) gs)) new
+rows_dropped near k gs old new up kept makes tied =
+    subst (λ b. IsTied near b new) (sym (all_dropped k gs))
+    (tied_dropped near k (dropped_book k gs) gs old new up up refl kept (λ q. refl) refl (λ b. refl) refl makes tied)
+
+-- what the log writes for decisions is the change of the book
+pub commits_change : (k : Book) (o : Outcome) (gs : List Gtrid) (ds : List Decision) → map decided_row ds ≡ rows_for k (written_by o k gs)
+    → with_commits ds ≡ changed_by (Adds (rows_for k (written_by o k gs)))
+commits_change k o gs ds all = λ i. λ c. (commits_are ds c ∙ ap (λ rows. with_rows rows c) all) i

@@ -1,8 +1,9 @@
 -- Lists of transactions: which ones are named, and that none comes twice.
-use Rattle.std.proofs.Common.{◌≡◌, List, [], ◌∷◌, ◌++◌, map, filter, Bool, true, false, not, ◌&&◌, ◌||◌, cond, refl, sym, ap, ◌∙◌, subst}
+use Rattle.std.proofs.Common.{◌≡◌, ℕ, ◌+◌, ◌<◌, length, drop, get_or, List, [], ◌∷◌, ◌++◌, map, filter, Bool, true, false, not, ◌&&◌, ◌||◌, cond, refl, sym, ap, ◌∙◌, subst}
 use Rattle.std.specs.Prelude.{nat_eq}
 use Rattle.std.specs.List.{list_any, AllByRecursion}
 use Rattle.std.proofs.lemmas.Bool.{and_from, and_parts, or_left, or_right, or_parts, or_from, true≢false}
+use Rattle.std.proofs.lemmas.List.{drop_more}
 use Rattle.xa_base.specs.Branch.{gtrid_eq}
 use Rattle.xa_base.specs.declared.branch.Gtrid.{Gtrid}
 use Rattle.xa_base.proofs.BranchOrder.{gtrid_numbers}
@@ -12,6 +13,10 @@ use Rattle.xa_model.specs.Facts.Distinct.{EachOnce}
 use Rattle.xa_log.specs.declared.decision.Decision.{Decision}
 use Rattle.xa_tm.specs.LedgerBook.{gtrids_of}
 use Rattle.xa_tm.specs.Swaps.{each_once}
+
+-- what stands past the end of a list
+abbrev pub past_end : Gtrid
+past_end = record { incarnation = 0; sequence = 0 }
 
 -- ** who is named
 
@@ -85,6 +90,23 @@ once_all P [] e = tt
 once_all P (g ∷ gs) e = (e.0, once_all P gs e.2)
 
 -- ** the test
+
+module _ (p : Gtrid → Bool) (gs : List Gtrid) (i : ℕ) (d : Gtrid) (low : i < length gs) where
+  pub once_more : (p (get_or gs i d) && not (has_gtrid (drop (i + 1) gs) (get_or gs i d))) ≡ true → each_once p (drop (i + 1) gs) ≡ each_once p (drop i gs)
+  once_more is = sym (ap (each_once p) (drop_more gs i d low) ∙ joined (p (get_or gs i d)) (not (has_gtrid (drop (i + 1) gs) (get_or gs i d))) is)
+    where
+      joined : (a b : Bool) → (a && b) ≡ true → (a && (b && each_once p (drop (i + 1) gs))) ≡ each_once p (drop (i + 1) gs)
+      joined true true e = refl
+      joined true false e = absurd (cc)
+      joined false b e = absurd (cc)
+
+  pub once_fails : (p (get_or gs i d) && not (has_gtrid (drop (i + 1) gs) (get_or gs i d))) ≡ false → each_once p (drop i gs) ≡ false
+  once_fails is = ap (each_once p) (drop_more gs i d low) ∙ joined (p (get_or gs i d)) (not (has_gtrid (drop (i + 1) gs) (get_or gs i d))) is
+    where
+      joined : (a b : Bool) → (a && b) ≡ false → (a && (b && each_once p (drop (i + 1) gs))) ≡ false
+      joined true true e = absurd (cc)
+      joined true false e = refl
+      joined false b e = refl
 
 pub once_is : (p : Gtrid → Bool) (gs : List Gtrid) → each_once p gs ≡ true → EachOnce (λ g. p g ≡ true) gs
 once_is p [] e = tt

@@ -204,24 +204,25 @@ decide_open Outcomes.Rollback k g e =
 abbrev pub done_again : Book → Gtrid → Refusal
 done_again k g = if (k.transaction g).begun then Refusals.NotDecided else Refusals.UnknownTransaction
 
+-- the refusal of Done where the transaction has this row
+abbrev done_by : Book → Gtrid → (up begun older : Bool) → Option Waiting → Option Refusal
+done_by l h u b older row = if not u then Some Refusals.ManagerDown
+    else (if not (b || (older && is_some row)) then Some Refusals.UnknownTransaction
+    else (if not (is_some row) then Some Refusals.NotDecided
+    else (if not (if b then (l.transaction h).unsettled == 0 else waits_for_none l row) then Some Refusals.Busy else None)))
+
+row_gone : (l : Book) (h : Gtrid) (b older : Bool)
+    → done_by l h true b older None ≡ Some (if b then Refusals.NotDecided else Refusals.UnknownTransaction)
+row_gone l h true older = refl
+row_gone l h false true = refl
+row_gone l h false false = refl
+
 pub done_once : (l : Book) (g h : Gtrid) → refusal_in l (Steps.Done g) ≡ None
     → refusal_in (after l (Done g)) (Steps.Done h) ≡ (if gtrid_eq g h then Some (done_again l h) else refusal_in l (Steps.Done h))
 done_once l g h none = by (gtrid_eq g h)
   where
-    -- the refusal where the transaction has this row
-    abbrev done_by : (u b older : Bool) → Option Waiting → Option Refusal
-    done_by u b older row = if not u then Some Refusals.ManagerDown
-        else (if not (b || (older && is_some row)) then Some Refusals.UnknownTransaction
-        else (if not (is_some row) then Some Refusals.NotDecided
-        else (if not (if b then (l.transaction h).unsettled == 0 else waits_for_none l row) then Some Refusals.Busy else None)))
-
-    gone : (b older : Bool) → done_by true b older None ≡ Some (if b then Refusals.NotDecided else Refusals.UnknownTransaction)
-    gone true older = refl
-    gone false true = refl
-    gone false false = refl
-
-    by : (t : Bool) → done_by l.up (l.transaction h).begun (nat_lt h.incarnation l.incarnation) (if t then None else l.row h)
+    by : (t : Bool) → done_by l h l.up (l.transaction h).begun (nat_lt h.incarnation l.incarnation) (if t then None else l.row h)
         ≡ (if t then Some (done_again l h) else refusal_in l (Steps.Done h))
-    by true = ap (λ u. done_by u (l.transaction h).begun (nat_lt h.incarnation l.incarnation) None) (done_up l g none)
-        ∙ gone (l.transaction h).begun (nat_lt h.incarnation l.incarnation)
+    by true = ap (λ u. done_by l h u (l.transaction h).begun (nat_lt h.incarnation l.incarnation) None) (done_up l g none)
+        ∙ row_gone l h (l.transaction h).begun (nat_lt h.incarnation l.incarnation)
     by false = refl

@@ -8,7 +8,7 @@ ghost use Rattle.xa_model.specs.Trace.{Happening.Decided};
 ghost use Rattle.xa_tm.specs.Book.{after_all, rows_for};
 ghost use Rattle.xa_tm.specs.Calls.{IsOpenIn, written_by};
 ghost use Rattle.xa_tm.specs.LedgerBook.{HasRoomForDecisions, HasKept, HaveRoom, MakesRoomForDecisions, NamesOwn, as_book};
-ghost use Rattle.xa_tm.specs.LedgerBook.{decided_by, decided_row, gtrids_of};
+ghost use Rattle.xa_tm.specs.LedgerBook.{decided_by, decided_rows, gtrids_of};
 ghost use Rattle.xa_tm.specs.Refusing.{refusal_in_turn};
 
 use crate::ledger::Ledger;
@@ -46,8 +46,8 @@ impl Ledger {
         ensures book { as_book self.new ≡ as_book self.old }
         ensures room { OnOk result (MakesRoomForDecisions (g ∷ [])
             (written_by outcome (as_book self.old) (g ∷ [])) self.old self.new) }
-        ensures all { OnOk result (map decided_row decisions.new.items ≡
-            map decided_row decisions.old.items
+        ensures all { OnOk result (decided_rows decisions.new.items ≡
+            decided_rows decisions.old.items
             ++ rows_for (as_book self.old) (written_by outcome (as_book self.old) (g ∷ []))) }
         ensures own { OnOk result (AllByRecursion NamesOwn decisions.old.items →
             AllByRecursion NamesOwn decisions.new.items) }
@@ -67,8 +67,8 @@ impl Ledger {
         ensures book { as_book self.new ≡ as_book self.old }
         ensures room { OnOk result (HaveRoom self.new.rows (g ∷ [])) }
         ensures kept { HasKept self.old.rows self.new.rows }
-        ensures all { OnOk result (map decided_row decisions.new.items ≡
-            map decided_row decisions.old.items ++ rows_for (as_book self.old) (g ∷ [])) }
+        ensures all { OnOk result (decided_rows decisions.new.items ≡
+            decided_rows decisions.old.items ++ rows_for (as_book self.old) (g ∷ [])) }
         ensures own { OnOk result (AllByRecursion NamesOwn decisions.old.items →
             AllByRecursion NamesOwn decisions.new.items) }
     {
@@ -93,7 +93,7 @@ impl Ledger {
         ensures book { as_book self.new ≡ as_book self.old }
         ensures room { OnOk result (HasRoomForDecisions gtrids.now
             (written_by outcome (as_book self.old) gtrids.now) self.new) }
-        ensures all { IfOk result (λ decisions. map decided_row decisions.items ≡
+        ensures all { IfOk result (λ decisions. decided_rows decisions.items ≡
             rows_for (as_book self.old) (written_by outcome (as_book self.old) gtrids.now)) }
         ensures own { IfOk result (λ decisions. AllByRecursion NamesOwn decisions.items) }
     {
@@ -129,7 +129,7 @@ impl Ledger {
         requires room { HasRoomForDecisions gtrids.now
             (written_by outcome (as_book self.old) gtrids.now) self.old }
         requires open { EachOnce (IsOpenIn (as_book self.old)) gtrids.now }
-        requires all { map decided_row decisions.items ≡
+        requires all { decided_rows decisions.items ≡
             rows_for (as_book self.old) (written_by outcome (as_book self.old) gtrids.now) }
         requires number { self.old.row_count + length gtrids.now < 2 ^ 64 }
         ensures { as_book self.new ≡

@@ -8,7 +8,7 @@ ghost use Rattle.xa_tm.specs.BookAndLog.{may_find, rows_of};
 ghost use Rattle.xa_tm.specs.Book.{records_with, row_among, row_without, after, book_after, Doubt};
 ghost use Rattle.xa_tm.specs.News.{found_ended};
 ghost use Rattle.xa_tm.specs.LedgerBook.{HasBranch, HasRoomForDoubt, come_up_with, without_doubt, notes_at, as_book};
-ghost use Rattle.xa_tm.specs.LedgerBook.{HaveRoom, decided_row, gtrids_of, known_in, row_at};
+ghost use Rattle.xa_tm.specs.LedgerBook.{HaveRoom, decided_rows, gtrids_of, known_in, row_at};
 
 use crate::change::Change;
 use crate::ledger::Ledger;
@@ -26,10 +26,13 @@ impl Ledger {
         ensures room { OnOk result (HasRoomForDoubt self.new) }
         ensures doubt { self.new.doubt ≡ self.old.doubt }
     {
-        match self.doubt {
-            Change::AddRows(ref decisions) => reserve_decided(&mut self.rows, decisions.as_slice()),
-            Change::DropRows(g, ref others) => reserve_rows(&mut self.rows, g, others.as_slice()),
-            Change::AddRecord(b, _) => self.reserve(b),
+        match &self.doubt {
+            Change::AddRows(decisions) => reserve_decided(&mut self.rows, decisions.as_slice()),
+            Change::DropRows(g, others) => reserve_rows(&mut self.rows, *g, others.as_slice()),
+            Change::AddRecord(b, _) => {
+                let b = *b;
+                self.reserve(b)
+            }
             Change::Nothing => Ok(()),
         }
     }
@@ -166,7 +169,7 @@ impl Ledger {
         requires { HaveRoom self.old.rows (gtrids_of decisions.items) }
         ensures others { self.new ≡ record self.old { rows = self.new.rows } }
         ensures rows { (q : _) → row_at self.new.rows q ≡
-            (if is_made then row_among (map decided_row decisions.items) q (row_at self.old.rows q)
+            (if is_made then row_among (decided_rows decisions.items) q (row_at self.old.rows q)
             else row_at self.old.rows q) }
     {
         if is_made {

@@ -1,12 +1,12 @@
 //! Entries of the maps of the manager's book: first the room for one, then what stands there, which can't fail.
 
-ghost use Rattle.std.specs.Prelude.{◌≡◌, ◌<◌, ◌-◌, [], ◌∷◌, map, if◌then◌else◌, Bool, Option, None, IsSome, OnOk};
+ghost use Rattle.std.specs.Prelude.{◌≡◌, ◌<◌, ◌-◌, [], ◌∷◌, if◌then◌else◌, Bool, Option, None, IsSome, OnOk};
 ghost use Rattle.std.specs.BTreeMap.{get};
 ghost use Rattle.std.specs.Option.{option_map};
 ghost use Rattle.xa_base.specs.Branch.{gtrid_cmp, branch_cmp, gtrid_eq, branch_eq};
 ghost use Rattle.xa_log.specs.KeySet.{insert};
 ghost use Rattle.xa_tm.specs.Book.{row_among, row_without};
-ghost use Rattle.xa_tm.specs.LedgerBook.{HasKept, HaveRoom, decided_row, gtrids_of, known_in, no_transaction};
+ghost use Rattle.xa_tm.specs.LedgerBook.{HasKept, HaveRoom, decided_row, decided_rows, gtrids_of, known_in, no_transaction};
 ghost use Rattle.xa_tm.specs.LedgerBook.{notes_at, row_at};
 ghost use Rattle.xa_tm.specs.LedgerBook.{transaction_at, waiting_of};
 
@@ -178,10 +178,20 @@ pub(crate) fn put_rows(
 )
     requires { HaveRoom map.old (gtrids_of decisions.items) }
     ensures { (q : _) → row_at map.new q
-        ≡ row_among (map decided_row decisions.items) q (row_at map.old q) }
+        ≡ row_among (decided_rows decisions.items) q (row_at map.old q) }
 {
     while let Some(decision) = decisions.pop() {
         put_decision(map, decision);
+    }
+}
+
+/// Takes the rows of these transactions away.
+fn drop_each(map: &mut BTreeMap<Gtrid, Option<Vec<Branch>>>, gtrids: &[Gtrid])
+    requires { HaveRoom map.old gtrids.now }
+    ensures { (q : _) → row_at map.new q ≡ row_without gtrids.now q (row_at map.old q) }
+{
+    for g in gtrids {
+        set_row(map, *g, None);
     }
 }
 
@@ -196,9 +206,7 @@ pub(crate) fn drop_rows(
         ≡ row_without (first ∷ others.now) q (row_at map.old q) }
 {
     set_row(map, first, None);
-    for g in others {
-        set_row(map, *g, None);
-    }
+    drop_each(map, others);
 }
 
 /// Takes away what is noted of a transaction.

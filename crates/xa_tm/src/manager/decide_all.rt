@@ -11,7 +11,8 @@ ghost use Rattle.xa_model.specs.Trace.{Fault.InDecide, Happening.Decided};
 ghost use Rattle.xa_tm.specs.Book.{Doubt.Adds, after_all, rows_for};
 ghost use Rattle.xa_tm.specs.BookAndLog.{changed_by, IsTied};
 ghost use Rattle.xa_tm.specs.Calls.{AsksFor, FailsBy, IsOpenIn, book_in, log_in, written_by};
-ghost use Rattle.xa_tm.specs.LedgerBook.{HasRoomForDecisions, IsSound, NamesOwn, decided_row};
+ghost use Rattle.xa_tm.specs.Concluding.{Concludes};
+ghost use Rattle.xa_tm.specs.LedgerBook.{HasRoomForDecisions, IsSound, NamesOwn, decided_rows};
 ghost use Rattle.xa_tm.specs.Refusing.{refusal_in_turn};
 
 use crate::change::Change;
@@ -83,27 +84,8 @@ impl<L: DecisionLog + Drop> Manager<L> {
         requires sound { IsSound (book_in self.old) }
         requires room { (book_in self.old).rows + length gtrids.now < 2 ^ 64 }
         requires open { EachOnce (IsOpenIn (book_in self.old)) gtrids.now }
-        // What the book then says.
-        ensures ok { OnOk result (book_in self.new ≡
-            after_all (book_in self.old) (map (λ g. Decided g outcome) gtrids.now)) }
-        ensures err { IfErr result (FailsBy
-            (Adds (rows_for (book_in self.old) (written_by outcome (book_in self.old) gtrids.now)))
-            (InDecide (written_by outcome (book_in self.old) gtrids.now))
-            (book_in self.old) (book_in self.new)) }
-        ensures asked { result ≡ Err Refusals.LogFault →
-            written_by outcome (book_in self.old) gtrids.now ≢ [] }
-        // What becomes of the log.
-        ensures tied { (near : Bool) → (L.moment (log_in self.old)).is_in_order →
-            (L.moment (log_in self.new)).is_honest →
-            IsTied near (book_in self.old) (L.moment (log_in self.old)).content →
-            IsTied near (book_in self.new) (L.moment (log_in self.new)).content }
-        ensures kept { IfErr result
-            (λ n. n ≢ Refusals.LogFault → log_in self.new ≡ log_in self.old) }
-        ensures without_row { written_by outcome (book_in self.old) gtrids.now ≡ [] →
-            log_in self.new ≡ log_in self.old }
-        ensures asks { AsksFor (changed_by
-            (Adds (rows_for (book_in self.old) (written_by outcome (book_in self.old) gtrids.now))))
-            (L.moment (log_in self.old)) (L.moment (log_in self.new)) result }
+        ensures { Concludes L.moment outcome gtrids.now (book_in self.old) (log_in self.old)
+            self.new result }
     {
         match self.ledger.prepare_decisions(alloc, gtrids, outcome) {
             Err(_) => Err(Refusal::Memory),
@@ -124,30 +106,11 @@ impl<L: DecisionLog + Drop> Manager<L> {
         requires open { EachOnce (IsOpenIn (book_in self.old)) gtrids.now }
         requires room { HasRoomForDecisions gtrids.now
             (written_by outcome (book_in self.old) gtrids.now) self.old.ledger }
-        requires all { map decided_row decisions.items ≡
+        requires all { decided_rows decisions.items ≡
             rows_for (book_in self.old) (written_by outcome (book_in self.old) gtrids.now) }
         requires own { AllByRecursion NamesOwn decisions.items }
-        // What the book then says.
-        ensures ok { OnOk result (book_in self.new ≡
-            after_all (book_in self.old) (map (λ g. Decided g outcome) gtrids.now)) }
-        ensures err { IfErr result (FailsBy
-            (Adds (rows_for (book_in self.old) (written_by outcome (book_in self.old) gtrids.now)))
-            (InDecide (written_by outcome (book_in self.old) gtrids.now))
-            (book_in self.old) (book_in self.new)) }
-        ensures asked { result ≡ Err Refusals.LogFault →
-            written_by outcome (book_in self.old) gtrids.now ≢ [] }
-        // What becomes of the log.
-        ensures tied { (near : Bool) → (L.moment (log_in self.old)).is_in_order →
-            (L.moment (log_in self.new)).is_honest →
-            IsTied near (book_in self.old) (L.moment (log_in self.old)).content →
-            IsTied near (book_in self.new) (L.moment (log_in self.new)).content }
-        ensures kept { IfErr result
-            (λ n. n ≢ Refusals.LogFault → log_in self.new ≡ log_in self.old) }
-        ensures without_row { written_by outcome (book_in self.old) gtrids.now ≡ [] →
-            log_in self.new ≡ log_in self.old }
-        ensures asks { AsksFor (changed_by
-            (Adds (rows_for (book_in self.old) (written_by outcome (book_in self.old) gtrids.now))))
-            (L.moment (log_in self.old)) (L.moment (log_in self.new)) result }
+        ensures { Concludes L.moment outcome gtrids.now (book_in self.old) (log_in self.old)
+            self.new result }
     {
         if decisions.is_empty() {
             self.ledger.note_decisions(gtrids, outcome, decisions);

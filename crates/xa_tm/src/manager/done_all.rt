@@ -57,8 +57,8 @@ impl<L: DecisionLog + Drop> Manager<L> {
     /// Takes the rows of these transactions away, which no rule refuses.
     fn conclude_done(&mut self, gtrids: &[Gtrid]) -> Result<(), Refusal>
         requires sound { IsSound (book_in self.old) }
-        requires up { (book_in self.old).up ≡ Bool.true }
-        requires rows { EachOnce (λ g. is_some ((book_in self.old).row g) ≡ true) gtrids.now }
+        requires may { refusal_in_turn (λ g. Steps.Done g) (λ g. Done g)
+            (book_in self.old) gtrids.now ≡ None }
         // What the book then says.
         ensures ok { OnOk result (book_in self.new ≡
             after_all (book_in self.old) (map (λ g. Done g) gtrids.now)) }

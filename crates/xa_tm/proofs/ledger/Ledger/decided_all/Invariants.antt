@@ -9,8 +9,7 @@ abbrev pub invariant-loop-g : goal.invariant-loop-g
 invariant-loop-g l = record {
   others : l.self ≡ record l.fn.self { transactions = l.self.transactions };
   room : HaveRoom l.self.transactions (drop l.g-index l.gtrids);
-  open_ : EachOnce (IsOpenIn (as_book l.self)) (drop l.g-index l.gtrids);
-  book : as_book l.self ≡ record (as_book l.fn.self) { transaction = λ q. (as_book l.self).transaction q };
+  still_open : EachOnce (IsOpenIn (as_book l.self)) (drop l.g-index l.gtrids);
   rest : (q : Gtrid) → decided_by (as_book l.fn.self) l.outcome (drop l.g-index l.gtrids) q ((as_book l.self).transaction q)
       ≡ decided_by (as_book l.fn.self) l.outcome l.gtrids q ((as_book l.fn.self).transaction q);
 }

@@ -20,5 +20,5 @@ returns-else-keeps_apart c =
     let k = c.args.self.now in
     let g = c.args.first in
     let gs = c.args.others.now in
-    ap (λ t. t && each_once (keeps_row k) gs) c.if-keeps_apart.ensures
+    c.if-keeps_apart.false ∙ ap (λ t. t && each_once (keeps_row k) gs) c.if-keeps_apart.ensures
     ∙ joined (keeps_row k g) (not (has_gtrid gs g)) (each_once (keeps_row k) gs)
