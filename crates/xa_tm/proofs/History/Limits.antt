@@ -317,12 +317,12 @@ pub row_fits : (tr : Trace) (g : Gtrid) → IsRun tr → had_row tr g ≡ true �
 row_fits (From o) g r h = inl h
 row_fits (Then tr e) g r h = by (rowed_new tr e g h) (λ k. row_fits tr g r.0 k)
   where
-    later : (lists_row (origin tr).rows g ≡ true) ⊎ (g.sequence ≤ happenings tr) → (lists_row (origin tr).rows g ≡ true) ⊎ (g.sequence ≤ happenings tr + 1)
+    later : (lists_row (origin tr).rows g ≡ true) ⊎ (g.sequence ≤ happenings tr) → (lists_row (origin tr).rows g ≡ true) ⊎ (g.sequence ≤ happenings (Then tr e))
     later (inl k) = inl k
     later (inr k) = inr (as_before _ _ _ k)
 
     by : NewRow tr e g → (had_row tr g ≡ true → (lists_row (origin tr).rows g ≡ true) ⊎ (g.sequence ≤ happenings tr))
-        → (lists_row (origin tr).rows g ≡ true) ⊎ (g.sequence ≤ happenings tr + 1)
+        → (lists_row (origin tr).rows g ≡ true) ⊎ (g.sequence ≤ happenings (Then tr e))
     by (Had k) before = later (before k)
     by (By_decision q has) before = let d : Right tr (Decided g Outcome.Commit) = subst (Right tr) q r.1 in later (inr (live_fits tr g r.0 d.is_live))
     by (By_restart i d n q adds has) before = later (inr (doubt_fits tr g r.0 adds))

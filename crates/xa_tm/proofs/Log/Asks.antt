@@ -1,5 +1,5 @@
 -- What a call of the manager does to its log, by what the log's own call did.
-use Rattle.std.proofs.Common.{◌≡◌, Result, Ok, Err, subst}
+use Rattle.std.proofs.Common.{◌≡◌, Result, Ok, Err, inl, refl}
 use Rattle.xa_base.specs.declared.refusal.Refusal.{Refusal}
 use Rattle.xa_base.specs.declared.refusal.Refusal.TheVariants.{LogFault}
 use Rattle.xa_log.specs.Content.{Content}
@@ -16,7 +16,23 @@ module _ {A B : Type 0} (old new : Moment) where
       → AsksFor change old new (let r : Result B Refusal = Err LogFault in r)
   asks_failed change e did = record { fault = λ order is. did.err order; crash = did.crash; order = did.order; honest = did.honest; faults = did.faults }
 
-  -- ** a change by another name
+  -- ** another answer
 
-  pub asks_so : {C : Type 0} (change other : Content → Content) (r : Result C Refusal) → change ≡ other → AsksFor change old new r → AsksFor other old new r
-  asks_so change other r same did = subst (λ (f : Content → Content). AsksFor f old new r) same did
+  pub same_ok : (change : Content → Content) (x : A) (y : B) → Changes change old new (let r : Result A Fault = Ok x in r)
+      → Changes change old new (let r : Result B Fault = Ok y in r)
+  same_ok change x y did = record { ok = did.ok; err = λ order. tt; crash = did.crash; order = did.order; honest = did.honest; faults = did.faults }
+
+  pub same_err : (change : Content → Content) (e : Fault) → Changes change old new (let r : Result A Fault = Err e in r)
+      → Changes change old new (let r : Result B Fault = Err e in r)
+  same_err change e did =
+      record { ok = λ order honest. tt; err = did.err; crash = did.crash; order = did.order; honest = did.honest; faults = did.faults }
+
+-- a call that doesn't ask the log
+pub asks_none : {A : Type 0} (change : Content → Content) (x : A) (moment : Moment) → AsksFor change moment moment (let r : Result A Refusal = Ok x in r)
+asks_none change x moment = record {
+  fault = λ order is. absurd (cc);
+  crash = λ order honest c left. inl left;
+  order = λ order. order;
+  honest = λ honest. honest;
+  faults = refl;
+}

@@ -37,14 +37,14 @@ names_for : (k : Book) (gs : List Gtrid) → map (λ (x : Gtrid × Waiting). x.0
 names_for k [] = refl
 names_for k (g ∷ gs) = ap (λ l. g ∷ l) (names_for k gs)
 
--- the rows of open transactions are new
+-- the rows of free transactions are new
 pub written_new : (k : Book) (o : Outcome) (gs : List Gtrid)
     → ((g : Gtrid) → (k.transaction g).begun ≡ true → (k.transaction g).committed ≡ false → k.row g ≡ None)
     → EachOnce (IsOpenIn k) gs → IsChangeOf k.row (Adds (rows_for k (written_by o k gs)))
-written_new k o gs no_row open =
+written_new k o gs no_row free =
     subst (EachOnce (λ g. k.row g ≡ None)) (sym (names_for k (written_by o k gs)))
     (once_filter (λ g. k.row g ≡ None) (λ g. is_commit (Some o) && (k.transaction g).has_yes) gs
-    (once_so (IsOpenIn k) (λ g. k.row g ≡ None) gs (λ g is. no_row g is.begun is.uncommitted) open))
+    (once_so (IsOpenIn k) (λ g. k.row g ≡ None) gs (λ g is. no_row g is.begun is.uncommitted) free))
 
 -- ** the book after decisions
 
@@ -125,7 +125,7 @@ note_steps a b c o gs ds same transactions others rows all =
 
 -- ** what is not refused
 
--- a decision leaves what it doesn't name open
+-- a decision leaves what it doesn't name free
 still_open : (k : Book) (o : Outcome) (g h : Gtrid) → IsOpenIn (after k (Decided g o)) h → IsOpenIn k h × (gtrid_eq g h ≡ false)
 still_open k Outcomes.Commit g h is =
     let parts = or_parts (gtrid_eq g h) (k.transaction h).committed is.uncommitted in
@@ -207,7 +207,7 @@ begun_fits a g sound begun =
     (first, second)
 
 pub open_fit : (a : Ledger) (gs : List Gtrid) → IsSound (as_book a) → EachOnce (IsOpenIn (as_book a)) gs → EachOnce FitsRow gs
-open_fit a gs sound open = once_so (IsOpenIn (as_book a)) FitsRow gs (λ g is. begun_fits a g sound is.begun) open
+open_fit a gs sound free = once_so (IsOpenIn (as_book a)) FitsRow gs (λ g is. begun_fits a g sound is.begun) free
 
 pub sequences_fit : (gs : List Gtrid) → EachOnce FitsRow gs → AllByRecursion (λ (g : Gtrid). g.sequence < 2 ^ 64 - 1) gs
 sequences_fit [] each = tt
@@ -220,11 +220,11 @@ decided_fit (d ∷ ds) all = (all.0, decided_fit ds all.1)
 
 pub written_fit : (a : Ledger) (o : Outcome) (gs : List Gtrid) (ds : List Decision) → IsSound (as_book a) → EachOnce (IsOpenIn (as_book a)) gs
     → map decided_row ds ≡ rows_for (as_book a) (written_by o (as_book a) gs) → AllByRecursion (λ (d : Decision). FitsRow d.gtrid) ds
-written_fit a o gs ds sound open all =
+written_fit a o gs ds sound free all =
     decided_fit ds (subst (AllByRecursion FitsRow)
     (sym (sym (decided_names ds) ∙ ap (map (λ (x : Gtrid × Waiting). x.0)) all ∙ names_for (as_book a) (written_by o (as_book a) gs)))
     (once_all FitsRow (written_by o (as_book a) gs)
-    (once_filter FitsRow (λ g. is_commit (Some o) && ((as_book a).transaction g).has_yes) gs (open_fit a gs sound open))))
+    (once_filter FitsRow (λ g. is_commit (Some o) && ((as_book a).transaction g).has_yes) gs (open_fit a gs sound free))))
 
 pub kept_fit : (k : Book) (gs : List Gtrid) → IsSound k → EachOnce (λ g. is_some (k.row g) ≡ true) gs → AllByRecursion FitsRow gs
 kept_fit k gs sound kept = once_all FitsRow gs (once_so (λ g. is_some (k.row g) ≡ true) FitsRow gs (λ g some. sound.rows_fit g some) kept)
@@ -246,8 +246,8 @@ some_written k o gs (d ∷ ds) all some none = let no : decided_row d ∷ map de
 
 -- where a row is written, the manager is up
 pub written_up : (k : Book) (o : Outcome) (gs : List Gtrid) → EachOnce (IsOpenIn k) gs → (written_by o k gs ≡ [] → ⊥) → k.up ≡ true
-written_up k o [] open some = absurd (some refl)
-written_up k o (g ∷ gs) open some = open.0.up
+written_up k o [] free some = absurd (some refl)
+written_up k o (g ∷ gs) free some = free.0.up
 
 -- the book where no row is written
 pub decided_unwritten : (near : Bool) (k : Book) (o : Outcome) (gs : List Gtrid) (log : Option Content) → written_by o k gs ≡ []

@@ -1,9 +1,10 @@
 -- Lists of transactions: which ones are named, and that none comes twice.
 use Rattle.std.proofs.Common.{◌≡◌, ℕ, ◌+◌, ◌<◌, length, drop, get_or, List, [], ◌∷◌, ◌++◌, map, filter, Bool, true, false, not, ◌&&◌, ◌||◌, cond, refl, sym, ap, ◌∙◌, subst}
-use Rattle.std.specs.Prelude.{nat_eq}
+use Rattle.std.specs.Global.{Vec}
+use Rattle.std.specs.Prelude.{nat_eq, vec_len, ◌==◌}
 use Rattle.std.specs.List.{list_any, AllByRecursion}
-use Rattle.std.proofs.lemmas.Bool.{and_from, and_parts, or_left, or_right, or_parts, or_from, true≢false}
-use Rattle.std.proofs.lemmas.List.{drop_more}
+use Rattle.std.proofs.lemmas.Bool.{and_from, and_parts, eq-eqb, eqb-true, or_left, or_right, or_parts, or_from, true≢false}
+use Rattle.std.proofs.lemmas.List.{drop_more, nil_from_length}
 use Rattle.xa_base.specs.Branch.{gtrid_eq}
 use Rattle.xa_base.specs.declared.branch.Gtrid.{Gtrid}
 use Rattle.xa_base.proofs.BranchOrder.{gtrid_numbers}
@@ -122,3 +123,11 @@ once_is p (g ∷ gs) e =
 pub once_back : (p : Gtrid → Bool) (gs : List Gtrid) → EachOnce (λ g. p g ≡ true) gs → each_once p gs ≡ true
 once_back p [] e = refl
 once_back p (g ∷ gs) e = and_from (p g) _ e.0 (and_from (not (has_gtrid gs g)) _ (ap not e.1) (once_back p gs e.2))
+
+-- ** whether there is one
+
+pub no_items : {X : Type 0} (v : Vec X) → (vec_len v == 0) ≡ true → v.items ≡ []
+no_items v e = nil_from_length v.items (sym v.ok.0 ∙ eqb-true (vec_len v) 0 e)
+
+pub some_items : {X : Type 0} (v : Vec X) → (vec_len v == 0) ≡ false → v.items ≡ [] → ⊥
+some_items v e none = true≢false (sym (eq-eqb (vec_len v) 0 (v.ok.0 ∙ ap length none)) ∙ e)

@@ -95,27 +95,27 @@ after_any k l Outcomes.Rollback g q d = refl
 module _ (gs : List Gtrid) (i : ℕ) (d : Gtrid) (low : i < length gs) where
   open_other : (k l : Book) (o : Outcome) (h : Gtrid) → gtrid_eq (get_or gs i d) h ≡ false
       → l ≡ record k { transaction = λ q. transaction_after k (Decided (get_or gs i d) o) q (k.transaction q) } → IsOpenIn k h → IsOpenIn l h
-  open_other k l Outcomes.Commit h other is open = subst (λ b. IsOpenIn b h) (sym is) (record {
-    up = open.up;
-    begun = open.begun;
-    uncommitted = or_from _ _ other open.uncommitted;
-    not_rolled_back = open.not_rolled_back;
+  open_other k l Outcomes.Commit h other is free = subst (λ b. IsOpenIn b h) (sym is) (record {
+    up = free.up;
+    begun = free.begun;
+    uncommitted = or_from _ _ other free.uncommitted;
+    not_rolled_back = free.not_rolled_back;
   })
-  open_other k l Outcomes.Rollback h other is open = subst (λ b. IsOpenIn b h) (sym is) (record {
-    up = open.up;
-    begun = open.begun;
-    uncommitted = open.uncommitted;
-    not_rolled_back = or_from _ _ other open.not_rolled_back;
+  open_other k l Outcomes.Rollback h other is free = subst (λ b. IsOpenIn b h) (sym is) (record {
+    up = free.up;
+    begun = free.begun;
+    uncommitted = free.uncommitted;
+    not_rolled_back = or_from _ _ other free.not_rolled_back;
   })
 
   pub first_open : (k : Book) → EachOnce (IsOpenIn k) (drop i gs) → IsOpenIn k (get_or gs i d)
-  first_open k open = (subst (EachOnce (IsOpenIn k)) (drop_more gs i d low) open).0
+  first_open k free = (subst (EachOnce (IsOpenIn k)) (drop_more gs i d low) free).0
 
   pub others_open : (k l : Book) (o : Outcome)
       → l ≡ record k { transaction = λ q. transaction_after k (Decided (get_or gs i d) o) q (k.transaction q) }
       → EachOnce (IsOpenIn k) (drop i gs) → EachOnce (IsOpenIn l) (drop (i + 1) gs)
-  others_open k l o is open =
-      let all = subst (EachOnce (IsOpenIn k)) (drop_more gs i d low) open in
+  others_open k l o is free =
+      let all = subst (EachOnce (IsOpenIn k)) (drop_more gs i d low) free in
       once_among (IsOpenIn k) (IsOpenIn l) (drop (i + 1) gs)
       (λ h named was. open_other k l o h (other_of (drop (i + 1) gs) (get_or gs i d) h all.1 named) is was) all.2
 

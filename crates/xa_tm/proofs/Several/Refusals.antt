@@ -18,7 +18,7 @@ use Rattle.xa_model.specs.Replies.Steps.{Step}
 use Rattle.xa_model.specs.Trace.{Happening, Happening.Decided, Happening.Done}
 use Rattle.xa_tm.specs.Book.{Book, Waiting, after, voted_yes}
 use Rattle.xa_tm.specs.Calls.{IsOpenIn}
-use Rattle.xa_tm.specs.Refusing.{has_row_in, outlived_in, refusal_in, refusal_in_turn, row_settled_in, waits_for_none}
+use Rattle.xa_tm.specs.Refusing.{has_row_in, is_shut_in, outlived_in, refusal_in, refusal_in_turn, row_settled_in, waits_for_none}
 use Rattle.xa_tm.proofs.Log.Ties.{done_row, done_up}
 use Rattle.xa_tm.proofs.Several.Lists.{named_push}
 
@@ -124,15 +124,10 @@ module _ (l : Book) (g h : Gtrid) where
       || ((t || (l.transaction h).rolled_back) || (l.transaction h).handed_over))
       || (not t && (l.transaction h).claimed)
 
-  again_so : (b : Bool) (t v : Bool) → gtrid_eq g h ≡ true → l.up ≡ true → (l.transaction g).begun ≡ true → t ≡ true
+  again_so : (t v : Bool) → gtrid_eq g h ≡ true → l.up ≡ true → (l.transaction g).begun ≡ true → t ≡ true
       → refused_by l.up (l.transaction h).begun t v ≡ Some Refusals.Decided
-  again_so b t v same up begun shut = λ i. steps i
-    where
-      begun_too : (l.transaction h).begun ≡ true
-      begun_too = ap (λ p. (l.transaction p).begun) (sym (gtrid_eq-true g h same)) ∙ begun
-
-      steps : refused_by l.up (l.transaction h).begun t v ≡ Some Refusals.Decided
-      steps = (λ i. refused_by (up i) (begun_too i) (shut i) v)
+  again_so t v same up begun shut =
+      let begun_too = ap (λ p. (l.transaction p).begun) (sym (gtrid_eq-true g h same)) ∙ begun in λ i. refused_by (up i) (begun_too i) (shut i) v
 
   or_true : (a : Bool) → (a || true) ≡ true
   or_true true = refl
@@ -141,33 +136,31 @@ module _ (l : Book) (g h : Gtrid) where
   decide_commit : refusal_in l (Steps.Decide g Outcomes.Commit) ≡ None
       → refusal_in (after l (Decided g Outcomes.Commit)) (Steps.Decide h Outcomes.Commit)
       ≡ (if gtrid_eq g h then Some Refusals.Decided else refusal_in l (Steps.Decide h Outcomes.Commit))
-  decide_commit none = by (gtrid_eq g h) refl (l.transaction g).has_yes
+  decide_commit none =
+      let passed = not_refused l.up (l.transaction g).begun (is_shut_in l g) (not ((l.transaction g).unvoted == 0)) none in
+      by passed.0 passed.1 (gtrid_eq g h) refl (l.transaction g).has_yes
     where
-      passed : (l.up ≡ true) × ((l.transaction g).begun ≡ true) × (_ ≡ false)
-      passed = not_refused l.up (l.transaction g).begun _ (not ((l.transaction g).unvoted == 0)) none
-
-      by : (t : Bool) → gtrid_eq g h ≡ t → (y : Bool)
+      by : l.up ≡ true → (l.transaction g).begun ≡ true → (t : Bool) → gtrid_eq g h ≡ t → (y : Bool)
           → refused_by l.up (l.transaction h).begun
           (shut_by Outcomes.Commit t (if y then (if t then Some (voted_yes l g) else l.row h) else l.row h)) (not ((l.transaction h).unvoted == 0))
           ≡ (if t then Some Refusals.Decided else refusal_in l (Steps.Decide h Outcomes.Commit))
-      by true same y = again_so true _ (not ((l.transaction h).unvoted == 0)) same passed.0 passed.1 refl
-      by false other true = refl
-      by false other false = refl
+      by up begun true same y = again_so _ (not ((l.transaction h).unvoted == 0)) same up begun refl
+      by up begun false other true = refl
+      by up begun false other false = refl
 
   decide_rollback : refusal_in l (Steps.Decide g Outcomes.Rollback) ≡ None
       → refusal_in (after l (Decided g Outcomes.Rollback)) (Steps.Decide h Outcomes.Rollback)
       ≡ (if gtrid_eq g h then Some Refusals.Decided else refusal_in l (Steps.Decide h Outcomes.Rollback))
-  decide_rollback none = by (gtrid_eq g h) refl
+  decide_rollback none =
+      let passed = not_refused l.up (l.transaction g).begun (is_shut_in l g) false none in
+      by passed.0 passed.1 (gtrid_eq g h) refl
     where
-      passed : (l.up ≡ true) × ((l.transaction g).begun ≡ true) × (_ ≡ false)
-      passed = not_refused l.up (l.transaction g).begun _ false none
-
-      by : (t : Bool) → gtrid_eq g h ≡ t
+      by : l.up ≡ true → (l.transaction g).begun ≡ true → (t : Bool) → gtrid_eq g h ≡ t
           → refused_by l.up (l.transaction h).begun (shut_by Outcomes.Rollback t (l.row h)) false
           ≡ (if t then Some Refusals.Decided else refusal_in l (Steps.Decide h Outcomes.Rollback))
-      by true same = again_so true _ false same passed.0 passed.1
+      by up begun true same = again_so _ false same up begun
           (ap (λ s. s || false) (or_true ((l.transaction h).committed || (nat_lt h.incarnation l.incarnation && is_some (l.row h)))))
-      by false other = refl
+      by up begun false other = refl
 
 pub decided_once : (o : Outcome) (l : Book) (g h : Gtrid) → refusal_in l (Steps.Decide g o) ≡ None
     → refusal_in (after l (Decided g o)) (Steps.Decide h o) ≡ (if gtrid_eq g h then Some (decided_again l h) else refusal_in l (Steps.Decide h o))
@@ -177,7 +170,7 @@ decided_once Outcomes.Rollback l g h none = decide_rollback l g h none
 -- what is not refused is open
 pub decide_open : (o : Outcome) (k : Book) (g : Gtrid) → refusal_in k (Steps.Decide g o) ≡ None → IsOpenIn k g
 decide_open Outcomes.Commit k g e =
-    let p = not_refused k.up (k.transaction g).begun _ (not ((k.transaction g).unvoted == 0)) e in
+    let p = not_refused k.up (k.transaction g).begun (is_shut_in k g) (not ((k.transaction g).unvoted == 0)) e in
     let taken = or_parts (((k.transaction g).committed || outlived_in k g) || ((k.transaction g).rolled_back || (k.transaction g).handed_over))
     (k.transaction g).claimed p.2 in
     let parts = or_parts ((k.transaction g).committed || outlived_in k g) ((k.transaction g).rolled_back || (k.transaction g).handed_over) taken.0 in
@@ -188,7 +181,7 @@ decide_open Outcomes.Commit k g e =
       not_rolled_back = (or_parts (k.transaction g).rolled_back (k.transaction g).handed_over parts.1).0;
     }
 decide_open Outcomes.Rollback k g e =
-    let p = not_refused k.up (k.transaction g).begun _ false e in
+    let p = not_refused k.up (k.transaction g).begun (is_shut_in k g) false e in
     let taken = or_parts (((k.transaction g).committed || outlived_in k g) || ((k.transaction g).rolled_back || (k.transaction g).handed_over))
     (k.transaction g).claimed p.2 in
     let parts = or_parts ((k.transaction g).committed || outlived_in k g) ((k.transaction g).rolled_back || (k.transaction g).handed_over) taken.0 in

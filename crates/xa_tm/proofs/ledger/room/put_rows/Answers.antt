@@ -1,6 +1,8 @@
-use Rattle.std.proofs.Common.{◌∙◌, ap, map, sym}
+use Rattle.std.proofs.Common.{List, ◌∙◌, ap, sym}
+use Rattle.std.proofs.lemmas.List.{nil_from_length}
+use Rattle.xa_log.specs.declared.decision.Decision.{Decision}
 use Rattle.xa_tm.specs.Book.{row_among}
-use Rattle.xa_tm.specs.LedgerBook.{decided_row, row_at}
+use Rattle.xa_tm.specs.LedgerBook.{decided_rows, row_at}
 use Rattle.xa_tm.proofs.Several.Room.{front_room, last_room, put_last}
 use Rattle.xa_tm.proofs.ledger.room.put_rows.Goals as goal
 
@@ -20,4 +22,6 @@ loop-decision-preserved c =
 
 pub returns : goal.returns
 returns c = λ q.
-    sym (ap (λ l. row_among (map decided_row l) q (row_at c.loop-decision.map q)) c.in_default.ensures.cases.1) ∙ c.loop-decision.invariant.rows q
+    let rest = c.loop-decision.decisions in
+    let none = nil_from_length rest.items (sym rest.ok.0 ∙ c.in_default.ensures.cases.0) in
+    sym (ap (λ (l : List Decision). row_among (decided_rows l) q (row_at c.loop-decision.map q)) none) ∙ c.loop-decision.invariant.rows q
