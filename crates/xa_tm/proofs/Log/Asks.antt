@@ -1,11 +1,11 @@
 -- What a call of the manager does to its log, by what the log's own call did.
-use Rattle.std.proofs.Common.{◌≡◌, Result, Ok, Err, inl, refl}
+use Rattle.std.proofs.Common.{◌≡◌, ℕ, Bool, true, false, inr, Result, Ok, Err, inl, refl}
 use Rattle.xa_base.specs.declared.refusal.Refusal.{Refusal}
 use Rattle.xa_base.specs.declared.refusal.Refusal.TheVariants.{LogFault}
 use Rattle.xa_log.specs.Content.{Content}
 use Rattle.xa_log.specs.Contract.{Changes, Moment}
 use Rattle.xa_log.specs.declared.log_fault.LogFault.{LogFault as Fault}
-use Rattle.xa_tm.specs.Calls.{AsksFor}
+use Rattle.xa_tm.specs.Calls.{AsksFor, faults_by}
 
 module _ {A B : Type 0} (old new : Moment) where
   pub asks_made : (change : Content → Content) (x : A) (y : B) → Changes change old new (let r : Result A Fault = Ok x in r)
@@ -36,3 +36,23 @@ asks_none change x moment = record {
   honest = λ honest. honest;
   faults = refl;
 }
+
+-- whether the log failed
+abbrev pub is_fault : Refusal → Bool
+is_fault LogFault = true
+is_fault _ = false
+
+-- a call that a rule refuses doesn't ask it either
+pub asks_refused : {A : Type 0} (change : Content → Content) (n : Refusal) (moment : Moment) → is_fault n ≡ false
+    → AsksFor change moment moment (let r : Result A Refusal = Err n in r)
+asks_refused {A = A} change n moment other = record {
+  fault = λ order is. inr (inl refl);
+  crash = λ order honest c left. inl left;
+  order = λ order. order;
+  honest = λ honest. honest;
+  faults = uncounted n moment.fault_count other;
+}
+  where
+    uncounted : (n : Refusal) (m : ℕ) → is_fault n ≡ false → m ≡ faults_by (let r : Result A Refusal = Err n in r) m
+    uncounted LogFault m e = absurd (cc)
+    uncounted _ m e = refl

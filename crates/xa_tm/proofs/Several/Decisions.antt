@@ -188,6 +188,28 @@ all_kept k (g ∷ gs) e =
 pub kept_up : (k : Book) (g : Gtrid) (gs : List Gtrid) → refusal_in_turn (λ g. Steps.Done g) (λ g. Done g) k (g ∷ gs) ≡ None → k.up ≡ true
 kept_up k g gs e = done_up k g (or_none (refusal_in k (Steps.Done g)) _ e).0
 
+-- no more rows are written than are decided
+written_few : (k : Book) (o : Outcome) (gs : List Gtrid) → length (written_by o k gs) ≤ length gs
+written_few k o [] = omega arith
+written_few k o (g ∷ gs) = by (is_commit (Some o) && (k.transaction g).has_yes) (written_few k o gs)
+  where
+    by : (y : Bool) → length (written_by o k gs) ≤ length gs → length (cond y (g ∷ written_by o k gs) (written_by o k gs)) ≤ length (g ∷ gs)
+    by true few = omega (arith, few)
+    by false few = omega (arith, few)
+
+pub decisions_few : (k : Book) (o : Outcome) (gs : List Gtrid) (ds : List Decision) → map decided_row ds ≡ rows_for k (written_by o k gs)
+    → length ds ≤ length gs
+decisions_few k o gs ds all =
+    let same : length ds ≡ length (written_by o k gs) =
+    sym (length-map ds decided_row) ∙ ap length all ∙ length-map (written_by o k gs) (voted_row k) in
+    let few = written_few k o gs in
+    omega (arith, same, few)
+
+pub decisions_name : (k : Book) (o : Outcome) (gs : List Gtrid) (ds : List Decision) → map decided_row ds ≡ rows_for k (written_by o k gs)
+    → gtrids_of ds ≡ written_by o k gs
+decisions_name k o gs ds all =
+    sym (decided_names ds) ∙ ap (map (λ (x : Gtrid × Waiting). x.0)) all ∙ names_for k (written_by o k gs)
+
 -- ** numbers that fit
 
 -- what is begun fits a row
@@ -222,7 +244,7 @@ pub written_fit : (a : Ledger) (o : Outcome) (gs : List Gtrid) (ds : List Decisi
     → map decided_row ds ≡ rows_for (as_book a) (written_by o (as_book a) gs) → AllByRecursion (λ (d : Decision). FitsRow d.gtrid) ds
 written_fit a o gs ds sound free all =
     decided_fit ds (subst (AllByRecursion FitsRow)
-    (sym (sym (decided_names ds) ∙ ap (map (λ (x : Gtrid × Waiting). x.0)) all ∙ names_for (as_book a) (written_by o (as_book a) gs)))
+    (sym (decisions_name (as_book a) o gs ds all))
     (once_all FitsRow (written_by o (as_book a) gs)
     (once_filter FitsRow (λ g. is_commit (Some o) && ((as_book a).transaction g).has_yes) gs (open_fit a gs sound free))))
 

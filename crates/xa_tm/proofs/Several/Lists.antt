@@ -1,10 +1,10 @@
 -- Lists of transactions: which ones are named, and that none comes twice.
-use Rattle.std.proofs.Common.{◌≡◌, ℕ, ◌+◌, ◌<◌, length, drop, get_or, List, [], ◌∷◌, ◌++◌, map, filter, Bool, true, false, not, ◌&&◌, ◌||◌, cond, refl, sym, ap, ◌∙◌, subst}
+use Rattle.std.proofs.Common.{◌≡◌, ℕ, ◌+◌, ◌-◌, ◌<◌, length, length-drop, arith, drop, take, get_or, List, [], ◌∷◌, ◌++◌, map, filter, Bool, true, false, not, ◌&&◌, ◌||◌, cond, refl, sym, ap, ◌∙◌, subst}
 use Rattle.std.specs.Global.{Vec}
 use Rattle.std.specs.Prelude.{nat_eq, vec_len, ◌==◌}
 use Rattle.std.specs.List.{list_any, AllByRecursion}
 use Rattle.std.proofs.lemmas.Bool.{and_from, and_parts, eq-eqb, eqb-true, or_left, or_right, or_parts, or_from, true≢false}
-use Rattle.std.proofs.lemmas.List.{drop_more, nil_from_length}
+use Rattle.std.proofs.lemmas.List.{drop_more, nil_from_length, take_all}
 use Rattle.xa_base.specs.Branch.{gtrid_eq}
 use Rattle.xa_base.specs.declared.branch.Gtrid.{Gtrid}
 use Rattle.xa_base.proofs.BranchOrder.{gtrid_numbers}
@@ -18,6 +18,10 @@ use Rattle.xa_tm.specs.Swaps.{each_once}
 -- what stands past the end of a list
 abbrev pub past_end : Gtrid
 past_end = record { incarnation = 0; sequence = 0 }
+
+-- what stands behind, as a slice gives it
+pub rest_of : (gs : List Gtrid) (m : ℕ) → take (length gs - m) (drop m gs) ≡ drop m gs
+rest_of gs m = take_all (length gs - m) (drop m gs) (let long = length-drop m gs in omega (arith, long))
 
 -- ** who is named
 

@@ -67,11 +67,11 @@ module _ (g : Gtrid) where
       → HasKept was.transactions mid.transactions → mid ≡ record was { transactions = mid.transactions } → now ≡ record mid { rows = now.rows }
       → OnOk r (HaveRoom now.rows (g ∷ [])) → HasKept mid.rows now.rows
       → OnOk r (MakesRoomForDecisions (g ∷ []) (cond y (g ∷ []) []) was now)
-  room_of_one (Err e) y was mid now yes room kept others same row rows_kept = tt
-  room_of_one (Ok x) y was mid now yes room kept others same row rows_kept = record {
+  room_of_one (Err e) y was mid now is room kept others same row rows_kept = tt
+  room_of_one (Ok x) y was mid now is room kept others same row rows_kept = record {
     room = record {
       transactions = (subst (λ (m : Ledger). IsSome (get gtrid_cmp m.transactions g)) (sym same) room, tt);
-      rows = subst (λ t. HaveRoom now.rows (cond t (g ∷ []) [])) (sym yes) row;
+      rows = subst (λ t. HaveRoom now.rows (cond t (g ∷ []) [])) (sym is) row;
     };
     kept = subst (λ (m : Ledger). HasKept was.transactions m.transactions) (sym same) kept;
     rows_kept = subst (λ (m : Ledger). HasKept m.rows now.rows) others rows_kept;
@@ -80,8 +80,8 @@ module _ (g : Gtrid) where
   pub rooms_of_one : (y : Bool) (was mid : Ledger) → y ≡ false → IsSome (get gtrid_cmp mid.transactions g)
       → HasKept was.transactions mid.transactions → mid ≡ record was { transactions = mid.transactions }
       → MakesRoomForDecisions (g ∷ []) (cond y (g ∷ []) []) was mid
-  rooms_of_one y was mid no room kept others = record {
-    room = record { transactions = (room, tt); rows = subst (λ t. HaveRoom mid.rows (cond t (g ∷ []) [])) (sym no) tt };
+  rooms_of_one y was mid is room kept others = record {
+    room = record { transactions = (room, tt); rows = subst (λ t. HaveRoom mid.rows (cond t (g ∷ []) [])) (sym is) tt };
     kept = kept;
     rows_kept = subst (λ (m : Ledger). HasKept was.rows m.rows) (sym others) (λ q has. has);
   }
