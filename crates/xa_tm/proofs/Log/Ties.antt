@@ -97,6 +97,11 @@ made_incarnation (Records b how) c = by (contains_key c.heuristics b)
     by false = refl
 made_incarnation NoDoubt c = refl
 
+-- a record takes no row and adds none
+pub records_only : (row : Gtrid → Option Waiting) (b : Branch) (how : Option How) → IsChangeOf row (recording b how)
+records_only row b (Some how) = tt
+records_only row b None = tt
+
 -- a failure leaves the change in doubt
 pub tied_fault : (near : Bool) (k : Book) (asked : Doubt) (f : Fault) (old new : Option Content) → k.up ≡ true → IsChangeOf k.row asked
     → failed_restarts_after (Failed f) k.failed_restarts ≡ k.failed_restarts
