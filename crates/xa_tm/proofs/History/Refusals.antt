@@ -12,7 +12,7 @@ use Rattle.xa_base.specs.declared.refusal.Refusal.TheVariants as Refusals
 use Rattle.xa_base.specs.declared.step.Outcome.TheVariants as Outcome
 use Rattle.xa_base.specs.declared.step.Part.TheVariants as Part
 use Rattle.xa_base.specs.declared.step.Side.TheVariants as Side
-use Rattle.xa_model.specs.Facts.{begun, branches, decided_so, handed_over, claimed, each_of_some, has_row, heuristic_rows, is_older, lists_row, log, outlived, participants_in, participants_settled, recorded, is_settled, is_settled_lately, started, was_told_lately, acknowledges, all_of, finished, has_unfinished, has_voted, is_shut, is_taken_up, on_line, row_settled}
+use Rattle.xa_model.specs.Facts.{begun, branches, decided_so, handed_over, claimed, each_of_some, has_row, heuristic_rows, is_older, log, outlived, participants_in, participants_settled, recorded, is_settled, is_settled_lately, started, was_told_lately, acknowledges, all_of, finished, has_unfinished, has_voted, is_shut, is_taken_up, on_line, row_settled}
 use Rattle.xa_model.specs.Protocol.{IsRun}
 use Rattle.xa_model.specs.Replies.Rules.{applies, forces_not_decided, forces_decided, first_of, forces_busy, is_there, forces_votes, must_refuse, forces_limit, forces_already_started, forces_unknown_transaction}
 use Rattle.xa_model.specs.Replies.Steps.{Step}

@@ -1,12 +1,10 @@
 -- A log that the book may hold agrees with it, so that none is refused for its rows.
-use Rattle.std.proofs.Common.{◌≡◌, ℕ, length, map, arith, ◌⊎◌, inl, inr, ◌+◌, ◌-◌, List, [], ◌∷◌, Bool, true, false, not, ◌&&◌, ◌||◌, cond, Equal, Ordering, Option, Some, None, IsSomeAnd, is_some, refl, sym, ap, ◌∙◌, subst}
+use Rattle.std.proofs.Common.{◌≡◌, ℕ, length, map, arith, ◌⊎◌, inl, inr, ◌+◌, List, [], ◌∷◌, Bool, true, false, not, ◌&&◌, ◌||◌, cond, Option, Some, None, IsSomeAnd, is_some, refl, sym, ap, ◌∙◌, subst}
 use Rattle.std.specs.Prelude.{if◌then◌else◌, nat_eq}
 use Rattle.std.specs.Global.{Vec}
 use Rattle.std.specs.List.{list_all}
 use Rattle.std.specs.Option.{option_map}
-use Rattle.std.specs.Ordering.{eq_by_cmp}
-use Rattle.std.specs.Cmp.{IsTotalOrder}
-use Rattle.std.specs.FinMap.{FinMap, contains_key, entries, get, insert, keys, len, remove, get-insert, get-remove, len-insert, len-remove}
+use Rattle.std.specs.FinMap.{contains_key, entries, get, insert, keys, len, get-insert, len-insert}
 use Rattle.std.proofs.lemmas.Bool.{and_from, eq-eqb, or_left, or_right, true≢false}
 use Rattle.std.proofs.lemmas.List.{length-map}
 use Rattle.xa_base.specs.Branch.{branch_eq, gtrid_eq}
@@ -14,9 +12,9 @@ use Rattle.xa_base.specs.declared.branch.Branch.{Branch}
 use Rattle.xa_base.specs.declared.branch.Gtrid.{Gtrid}
 use Rattle.xa_base.specs.declared.code.How.{How}
 use Rattle.xa_base.specs.declared.code.How.TheVariants.{Haz, Com, Rb, Mix}
-use Rattle.xa_base.proofs.BranchOrder.{branches_total, exact_gtrids, gtrids_total}
-use Rattle.xa_base.proofs.BranchKeys.{branch_eq-true, gtrid_eq-true}
-use Rattle.xa_base.proofs.Orders.{branch_swap, equal_is, gtrid_swap}
+use Rattle.xa_base.proofs.BranchOrder.{branches_total}
+use Rattle.xa_base.proofs.BranchKeys.{branch_eq-true}
+use Rattle.xa_base.proofs.Orders.{branch_swap}
 use Rattle.xa_log.specs.Content.{AreOwn, Content, all_listed, with_heuristic, without_decisions}
 use Rattle.xa_log.specs.declared.decision.Decision.{Decision}
 use Rattle.xa_log.specs.declared.log_rows.LogRows.{LogRows}
@@ -25,7 +23,7 @@ use Rattle.xa_model.specs.Facts.Distinct.{EachOnce}
 use Rattle.xa_log.specs.KeySet.{from_list}
 use Rattle.xa_tm.specs.Book.{Waiting, Doubt.Adds, Doubt.Drops, row_among, row_without}
 use Rattle.xa_tm.specs.LedgerBook.{decided_row, doubt_of_change, as_book, gtrids_of, notes_at, row_at, waiting_of}
-use Rattle.xa_tm.specs.Swaps.{ReadsOf, decided_agrees, dropped_agrees, each_once, keeps_row, lacks_row, agrees, change_agrees_with, end_agrees, end_agrees_with, ends_agree, how_eq, is_how, kept_row, names_just, records_agree_with, row_agrees, row_agrees_with, rows_agree, rows_agree_with, same_how, same_row}
+use Rattle.xa_tm.specs.Swaps.{ReadsOf, decided_agrees, dropped_agrees, keeps_row, lacks_row, agrees, change_agrees_with, end_agrees, end_agrees_with, ends_agree, how_eq, is_how, kept_row, names_just, records_agree_with, row_agrees, row_agrees_with, rows_agree, rows_agree_with, same_how, same_row}
 use Rattle.xa_tm.specs.BookAndLog.{HoldsBook, IsChangeOf, MayHold, SameRows, changed_by, with_rows}
 use Rattle.xa_tm.specs.declared.change.Change.{Change}
 use Rattle.xa_tm.specs.declared.change.Change.TheVariants.{AddRecord, AddRows, DropRows, Nothing}

@@ -8,7 +8,7 @@ use Rattle.std.specs.List.{list_all}
 use Rattle.std.specs.Option.{option_map}
 use Rattle.std.specs.Ordering.{eq_by_cmp}
 use Rattle.std.specs.Cmp.{IsTotalOrder}
-use Rattle.std.specs.FinMap.{FinMap, get, len, keys, entries, insert, remove, get-insert, get-remove, len-insert, len-remove, same_map}
+use Rattle.std.specs.FinMap.{FinMap, get, len, keys, entries, insert, remove, get-insert, get-remove, len-remove, same_map}
 use Rattle.std.proofs.lemmas.Bool.{and_parts, true≢false}
 use Rattle.std.proofs.lemmas.List.{length-map}
 use Rattle.std.proofs.lemmas.Bool.Decides.{eqb_tells}
@@ -20,7 +20,7 @@ use Rattle.xa_base.specs.declared.code.How.{How}
 use Rattle.xa_base.specs.declared.code.How.TheVariants.{Haz, Com, Rb, Mix}
 use Rattle.xa_base.proofs.BranchOrder.{branches_total, exact_branches, gtrids_total, exact_gtrids}
 use Rattle.xa_base.proofs.BranchKeys.{branch_eq-refl, gtrid_eq-true}
-use Rattle.xa_base.proofs.Orders.{branch_swap, equal_is, gtrid_swap}
+use Rattle.xa_base.proofs.Orders.{branch_swap, equal_is}
 use Rattle.xa_log.specs.Content.{AreOwn, Content, all_listed, with_heuristic, without_decisions, unchanged}
 use Rattle.xa_log.specs.Contract.{Makes}
 use Rattle.xa_log.specs.KeySet.{from_list}
@@ -244,7 +244,6 @@ module _ {K X : Type 0} {R : K → K → Ordering} (o : IsTotalOrder R) (exact :
   one_less : get m k ≡ Some v → len (remove m k) ≡ len m - 1
   one_less has = len-remove o m k ∙ ap (λ w. cond (is_some w) (len m - 1) (len m)) has
 
-
 module _ (k n : Ledger) (c : Content) (reads : Reads n c) where
   abbrev AgreeRows : Change → Type 0
   AgreeRows d = (q : Gtrid) → ((kept_row k.rows q ≡ None) × (kept_row n.rows q ≡ None)) ⊎ (row_agrees_with d k.rows n.rows q ≡ true)
@@ -445,14 +444,17 @@ module _ (k n : Ledger) (c : Content) (reads : Reads n c) where
           records = λ q. gone branches_total exact_branches c.heuristics b how q ∙ by q (eq_by_cmp branch_cmp q b) refl none;
           record_number = one_less branches_total exact_branches c.heuristics b how has ∙ fewer (reads.ends ∙ nat_is n.records (k.records + 1) a.record_);
         },
-        inr (subst (λ d. IsChangeOf (row_at k.rows) d × SameRows c (changed_by d before)) (sym (ap doubt_of_change is)) (tt, record {
-          decisions =
-              sym (ap (λ t. (if t then before else with_heuristic b how before).decisions)
-              (ap is_some (is_gone branches_total exact_branches c.heuristics b how)));
-          heuristics = sym (put_back branches_total exact_branches c.heuristics b how has)
-              ∙ sym (ap (λ t. (if t then before else with_heuristic b how before).heuristics)
-              (ap is_some (is_gone branches_total exact_branches c.heuristics b how)));
-        })),
+        inr (subst (λ d. IsChangeOf (row_at k.rows) d × SameRows c (changed_by d before)) (sym (ap doubt_of_change is)) (
+          tt,
+          record {
+            decisions =
+                sym (ap (λ t. (if t then before else with_heuristic b how before).decisions)
+                (ap is_some (is_gone branches_total exact_branches c.heuristics b how)));
+            heuristics = sym (put_back branches_total exact_branches c.heuristics b how has)
+                ∙ sym (ap (λ t. (if t then before else with_heuristic b how before).heuristics)
+                (ap is_some (is_gone branches_total exact_branches c.heuristics b how)));
+          },
+        )),
       )
     where
       fewer : len c.heuristics ≡ k.records + 1 → len c.heuristics - 1 ≡ k.records

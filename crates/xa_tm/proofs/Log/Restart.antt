@@ -1,18 +1,18 @@
 -- The manager comes up again.
-use Rattle.std.proofs.Common.{◌≡◌, ◌≤◌, ◌⊎◌, inl, inr, ℕ, ◌<◌, List, length, ◌+◌, ◌-◌, ◌==◌, Bool, true, false, not, cond, Option, Some, None, IsSomeAnd, is_some, refl, sym, ap, ◌∙◌, subst, arith, Ordering}
+use Rattle.std.proofs.Common.{◌≡◌, ◌≤◌, ◌⊎◌, inl, inr, ℕ, ◌<◌, List, length, ◌+◌, ◌-◌, ◌==◌, Bool, true, false, not, cond, Option, Some, None, IsSomeAnd, is_some, refl, sym, ap, ◌∙◌, subst, arith}
 use Rattle.std.proofs.lemmas.List.{length-map}
 use Rattle.std.specs.Prelude.{if◌then◌else◌, nat_eq, nat_le, nat_lt, ◌&&◌, ◌||◌}
 use Rattle.std.specs.Option.{option_or}
-use Rattle.std.specs.FinMap.{FinMap, entries, keys, get, len, len-entries, insert, remove, contains_key, get-empty, get-insert, get-remove, len-insert, len-remove, empty_of_len}
+use Rattle.std.specs.FinMap.{entries, keys, get, len, len-entries, insert, contains_key, get-insert, len-insert}
 use Rattle.std.proofs.lemmas.Bool.{true≢false, and_parts, eqb-true, eq-eqb, leb-true, ltb-true, or_cases}
-use Rattle.xa_base.specs.Branch.{branch_eq, gtrid_eq}
+use Rattle.xa_base.specs.Branch.{branch_eq}
 use Rattle.xa_model.specs.Trace.{Fault.InRestart, Happening.Failed, Happening.Restarted}
 use Rattle.xa_base.specs.declared.branch.Branch.{Branch}
 use Rattle.xa_base.specs.declared.branch.Gtrid.{Gtrid}
 use Rattle.xa_base.specs.declared.code.How.{How}
-use Rattle.xa_base.proofs.BranchOrder.{branches_total, gtrids_total}
-use Rattle.xa_base.proofs.BranchKeys.{branch_eq-true, gtrid_eq-true}
-use Rattle.xa_base.proofs.Orders.{gtrid_swap, branch_swap}
+use Rattle.xa_base.proofs.BranchOrder.{branches_total}
+use Rattle.xa_base.proofs.BranchKeys.{branch_eq-true}
+use Rattle.xa_base.proofs.Orders.{branch_swap}
 use Rattle.xa_log.specs.Content.{Content, with_bump, unchanged}
 use Rattle.xa_log.specs.Contract.{Makes, MayMake}
 use Rattle.xa_tm.specs.Book.{Book, Waiting, Doubt, Doubt.Adds, Doubt.Drops, Doubt.Records, Doubt.NoDoubt, after, book_after, row_with, recorded_with, records_with}

@@ -2,10 +2,10 @@
 use Rattle.std.proofs.Common.{ℕ, List, [], ◌∷◌, length, ◌≡◌, ◌≤◌, ◌⊎◌, inl, inr, ◌+◌, ◌-◌, Bool, true, false, not, ◌&&◌, ◌||◌, cond, Option, Some, None, IsSomeAnd, is_some, refl, sym, ap, ◌∙◌, subst, arith}
 use Rattle.std.specs.Prelude.{if◌then◌else◌}
 use Rattle.std.specs.Ordering.{eq_by_cmp}
-use Rattle.std.specs.FinMap.{get, len, insert, contains_key, get-insert, get-remove, len-insert, len-remove}
+use Rattle.std.specs.FinMap.{get, len, insert, contains_key, get-insert, len-insert}
 use Rattle.std.proofs.lemmas.Cmp.{eq_by_cmp_equiv}
 use Rattle.xa_base.specs.declared.step.Step.TheVariants as Steps
-use Rattle.xa_base.specs.Branch.{branch_cmp, gtrid_eq, branch_eq}
+use Rattle.xa_base.specs.Branch.{branch_cmp, branch_eq}
 use Rattle.xa_base.specs.declared.branch.Branch.{Branch}
 use Rattle.xa_base.specs.declared.branch.Gtrid.{Gtrid}
 use Rattle.xa_base.specs.declared.code.How.{How}
@@ -14,12 +14,11 @@ use Rattle.xa_base.specs.declared.step.Outcome.TheVariants as Outcomes
 use Rattle.xa_base.specs.declared.refusal.Refusal.TheVariants as Refusals
 use Rattle.xa_base.specs.declared.step.Part.{Part}
 use Rattle.xa_base.specs.declared.step.Part.TheVariants as Parts
-use Rattle.xa_model.specs.Trace.{Line, Call, Answer, Fault, Happening.ResolvedOpen, Happening.Heard, Happening.Crashed, Happening.Decided, Happening.Done, Happening.Failed}
+use Rattle.xa_model.specs.Trace.{Line, Call, Answer, Fault, Happening.ResolvedOpen, Happening.Heard, Happening.Crashed, Happening.Decided, Happening.Failed}
 use Rattle.xa_tm.specs.Refusing.{refusal_in, outlived_in, has_row_in, row_settled_in}
 use Rattle.xa_model.specs.Facts.{record_of}
-use Rattle.xa_base.proofs.BranchOrder.{gtrids_total, branches_total}
+use Rattle.xa_base.proofs.BranchOrder.{branches_total}
 use Rattle.xa_base.proofs.BranchKeys.{branch_eq-true}
-use Rattle.xa_base.proofs.Orders.{gtrid_swap}
 use Rattle.xa_base.proofs.Options.{some_is}
 use Rattle.xa_log.specs.Content.{Content, without_decisions}
 use Rattle.xa_log.specs.Contract.{Makes, MayMake}
@@ -96,11 +95,6 @@ made_incarnation (Records b how) c = by (contains_key c.heuristics b)
     by true = refl
     by false = refl
 made_incarnation NoDoubt c = refl
-
--- a record takes no row and adds none
-pub records_only : (row : Gtrid → Option Waiting) (b : Branch) (how : Option How) → IsChangeOf row (recording b how)
-records_only row b (Some how) = tt
-records_only row b None = tt
 
 -- a failure leaves the change in doubt
 pub tied_fault : (near : Bool) (k : Book) (asked : Doubt) (f : Fault) (old new : Option Content) → k.up ≡ true → IsChangeOf k.row asked
@@ -349,6 +343,11 @@ tied_dropped near k l gs old new up still_up same of row rows recs number makes 
     (holds_changed k l (Drops gs) of (dropped_heuristics gs) row rows recs number) makes tied
 
 -- ** answers
+
+-- a record is no change of rows
+pub record_of_rows : (row : Gtrid → Option Waiting) (b : Branch) (how : Option How) → IsChangeOf row (recording b how)
+record_of_rows row b (Some how) = tt
+record_of_rows row b None = tt
 
 pub tied_heard : (near : Bool) (k : Book) (l : Line) (c : Call) (a : Answer) (b : Branch) (how : Option How) (old new : Option Content) → k.up ≡ true
     → doubt_of (record_of c a) ≡ recording b how → MakesOf (recording b how) old new → IsTied near k old → IsTied near (after k (Heard l c a)) new

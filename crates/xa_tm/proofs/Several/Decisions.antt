@@ -1,10 +1,10 @@
 -- What several decisions, or the end of several rows, make of a book.
-use Rattle.std.proofs.Common.{◌≡◌, ℕ, ◌+◌, ◌-◌, ◌<◌, ◌≤◌, ◌^◌, List, [], ◌∷◌, ◌++◌, length, map, filter, take, drop, get_or, Bool, true, false, not, ◌&&◌, ◌||◌, cond, Option, Some, None, IsSome, is_some, refl, sym, ap, ◌∙◌, subst, arith}
+use Rattle.std.proofs.Common.{◌≡◌, ℕ, ◌+◌, ◌-◌, ◌<◌, ◌≤◌, ◌^◌, List, [], ◌∷◌, length, map, Bool, true, false, ◌&&◌, cond, Option, Some, None, is_some, refl, sym, ap, ◌∙◌, subst, arith}
 use Rattle.std.specs.Prelude.{if◌then◌else◌, nat_eq, nat_le}
 use Rattle.std.specs.List.{AllByRecursion}
 use Rattle.std.specs.Option.{option_or}
 use Rattle.std.proofs.lemmas.Bool.{and_parts, eqb-true, leb-true, or_from, or_parts}
-use Rattle.std.proofs.lemmas.List.{drop_all, drop_more, length-map}
+use Rattle.std.proofs.lemmas.List.{length-map}
 use Rattle.xa_base.specs.Branch.{gtrid_eq}
 use Rattle.xa_base.specs.declared.branch.Gtrid.{Gtrid}
 use Rattle.xa_base.specs.declared.refusal.Refusal.{Refusal}
@@ -17,8 +17,8 @@ use Rattle.xa_log.specs.Contract.{FitsRow, Makes}
 use Rattle.xa_log.specs.declared.decision.Decision.{Decision}
 use Rattle.xa_model.specs.Facts.{has_gtrid}
 use Rattle.xa_model.specs.Facts.Distinct.{EachOnce}
-use Rattle.xa_model.specs.Trace.{Happening, Happening.Decided, Happening.Done}
-use Rattle.xa_tm.specs.Book.{Book, Waiting, TransactionNotes, Doubt.Adds, Doubt.Drops, after, after_all, row_among, row_without, rows_for, transaction_after, voted_row, voted_yes}
+use Rattle.xa_model.specs.Trace.{Happening.Decided, Happening.Done}
+use Rattle.xa_tm.specs.Book.{Book, Waiting, TransactionNotes, Doubt.Adds, after, after_all, row_among, row_without, rows_for, transaction_after, voted_row, voted_yes}
 use Rattle.xa_tm.specs.BookAndLog.{IsChangeOf, IsTied, changed_by, with_rows}
 use Rattle.xa_tm.specs.Calls.{IsOpenIn, written_by}
 use Rattle.xa_tm.specs.LedgerBook.{IsSound, as_book, decided_by, decided_row, gtrids_of, numbered_by, row_at, transaction_at}

@@ -1,5 +1,5 @@
 -- Decisions that are prepared or noted one after another.
-use Rattle.std.proofs.Common.{◌≡◌, ℕ, ◌+◌, ◌<◌, ◌≤◌, List, [], ◌∷◌, ◌++◌, length, map, filter, take, drop, get_or, Bool, true, false, ◌&&◌, ◌||◌, cond, None, is_some, refl, sym, ap, ◌∙◌, subst}
+use Rattle.std.proofs.Common.{◌≡◌, ℕ, ◌+◌, ◌<◌, ◌≤◌, List, [], ◌∷◌, ◌++◌, length, map, take, drop, get_or, Bool, true, false, ◌&&◌, cond, None, is_some, refl, sym, ap, ◌∙◌, subst}
 use Rattle.std.specs.BTreeMap.{get}
 use Rattle.std.specs.Prelude.{if◌then◌else◌, Some, IsSome, OnOk, Result, Ok, Err}
 use Rattle.std.proofs.lemmas.List.{drop_all, drop_more, take_all, take_more}
@@ -14,7 +14,7 @@ use Rattle.xa_model.specs.Facts.Distinct.{EachOnce}
 use Rattle.xa_model.specs.Trace.{Happening.Decided, Happening.Done}
 use Rattle.xa_tm.specs.Book.{Book, TransactionNotes, after, after_all, rows_for, transaction_after, voted_row}
 use Rattle.xa_tm.specs.Calls.{IsOpenIn, written_by}
-use Rattle.xa_tm.specs.LedgerBook.{HasKept, HasRoomForDecisions, HaveRoom, MakesRoomForDecisions, as_book, decided_by, decided_row, row_at}
+use Rattle.xa_tm.specs.LedgerBook.{HasKept, HasRoomForDecisions, HaveRoom, MakesRoomForDecisions, as_book, decided_by, decided_row}
 use Rattle.xa_tm.specs.Outcomes.{is_commit}
 use Rattle.xa_tm.specs.declared.ledger.Ledger.{Ledger}
 use Rattle.xa_tm.proofs.Maps.ResolveOpen.{room_kept}

@@ -1,9 +1,9 @@
 -- The refusal of the first of several steps that is refused, each after the ones before it.
-use Rattle.std.proofs.Common.{◌≡◌, ℕ, ◌+◌, ◌==◌, ◌<◌, ◌≤◌, List, [], ◌∷◌, ◌++◌, length, take, drop, get_or, Bool, true, false, not, ◌&&◌, ◌||◌, Option, Some, None, is_some, refl, sym, ap, ◌∙◌, subst}
+use Rattle.std.proofs.Common.{◌≡◌, ℕ, ◌+◌, ◌==◌, ◌<◌, ◌≤◌, List, [], ◌∷◌, ◌++◌, length, take, drop, get_or, Bool, true, false, not, ◌&&◌, ◌||◌, Option, Some, None, is_some, refl, sym, ap, ◌∙◌}
 use Rattle.std.specs.Prelude.{if◌then◌else◌, nat_lt}
 use Rattle.std.specs.List.{list_any}
 use Rattle.std.specs.Option.{option_or}
-use Rattle.std.proofs.lemmas.Bool.{or_parts, true≢false}
+use Rattle.std.proofs.lemmas.Bool.{or_parts}
 use Rattle.std.proofs.lemmas.List.{drop_all, drop_more, take_more}
 use Rattle.xa_base.specs.Branch.{gtrid_eq}
 use Rattle.xa_base.specs.declared.branch.Gtrid.{Gtrid}
@@ -14,13 +14,12 @@ use Rattle.xa_base.specs.declared.step.Outcome.TheVariants as Outcomes
 use Rattle.xa_base.specs.declared.step.Step.TheVariants as Steps
 use Rattle.xa_base.proofs.BranchKeys.{gtrid_eq-true}
 use Rattle.xa_model.specs.Facts.{has_gtrid}
-use Rattle.xa_model.specs.Facts.Distinct.{EachOnce}
 use Rattle.xa_model.specs.Replies.Rules.{first_of}
 use Rattle.xa_model.specs.Replies.Steps.{Step}
 use Rattle.xa_model.specs.Trace.{Happening, Happening.Decided, Happening.Done}
 use Rattle.xa_tm.specs.Book.{Book, Waiting, after, voted_yes}
 use Rattle.xa_tm.specs.Calls.{IsOpenIn}
-use Rattle.xa_tm.specs.Refusing.{applies_in, has_row_in, is_shut_in, is_there_in, manager_rules, outlived_in, refusal_in, refusal_in_turn, row_settled_in, waits_for_none}
+use Rattle.xa_tm.specs.Refusing.{applies_in, is_shut_in, is_there_in, manager_rules, outlived_in, refusal_in, refusal_in_turn, waits_for_none}
 use Rattle.xa_tm.proofs.Log.Asks.{is_fault}
 use Rattle.xa_tm.proofs.Log.Ties.{done_up}
 use Rattle.xa_tm.proofs.Several.Lists.{named_push}

@@ -46,7 +46,10 @@ impl Ledger {
                 is_more_by(rows, self.row_count, decisions.len() as u64)
             }
             Change::DropRows(_, others) => {
-                rows == self.row_count.saturating_sub(1).saturating_sub(others.len() as u64)
+                rows == self
+                    .row_count
+                    .saturating_sub(1)
+                    .saturating_sub(others.len() as u64)
             }
             Change::AddRecord(_, _) => rows == self.row_count,
             Change::Nothing => rows == self.row_count,

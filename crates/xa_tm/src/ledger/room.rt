@@ -172,10 +172,7 @@ fn put_decision(map: &mut BTreeMap<Gtrid, Option<Vec<Branch>>>, decision: Decisi
 }
 
 /// Puts the rows of these decisions. Of several on one transaction the first stays.
-pub(crate) fn put_rows(
-    map: &mut BTreeMap<Gtrid, Option<Vec<Branch>>>,
-    mut decisions: Vec<Decision>,
-)
+pub(crate) fn put_rows(map: &mut BTreeMap<Gtrid, Option<Vec<Branch>>>, mut decisions: Vec<Decision>)
     requires { HaveRoom map.old (gtrids_of decisions.items) }
     ensures { (q : _) → row_at map.new q
         ≡ row_among (decided_rows decisions.items) q (row_at map.old q) }

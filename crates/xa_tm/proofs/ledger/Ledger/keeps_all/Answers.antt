@@ -1,4 +1,4 @@
-use Rattle.std.proofs.Common.{◌≡◌, Bool, true, false, not, ◌&&◌, refl, sym, ap, ◌∙◌}
+use Rattle.std.proofs.Common.{◌≡◌, Bool, true, false, not, ◌&&◌, refl, ap, ◌∙◌}
 use Rattle.xa_model.specs.Facts.{has_gtrid}
 use Rattle.xa_tm.specs.Swaps.{each_once, keeps_row}
 use Rattle.xa_tm.proofs.ledger.Ledger.keeps_all.Goals as goal

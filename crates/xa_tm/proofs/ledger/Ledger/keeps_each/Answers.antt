@@ -1,4 +1,4 @@
-use Rattle.std.proofs.Common.{◌≡◌, ◌+◌, ◌<◌, ◌∙◌, ◌&&◌, Bool, List, arith, drop, get_or, length, not, subst, sym, true, false}
+use Rattle.std.proofs.Common.{◌≡◌, ◌+◌, ◌<◌, ◌∙◌, ◌&&◌, List, arith, get_or, length, not, subst, sym, true, false}
 use Rattle.xa_base.specs.declared.branch.Gtrid.{Gtrid}
 use Rattle.xa_model.specs.Facts.{has_gtrid}
 use Rattle.xa_tm.specs.Swaps.{keeps_row}

@@ -1,4 +1,4 @@
-use Rattle.std.proofs.Common.{◌≡◌, ◌<◌, ◌≤◌, ◌∙◌, Some, None, ap, arith, length, refl, sym, take}
+use Rattle.std.proofs.Common.{◌<◌, ◌≤◌, ◌∙◌, Some, None, ap, arith, length, refl, sym, take}
 use Rattle.xa_base.specs.declared.step.Step.TheVariants as Steps
 use Rattle.xa_model.specs.Trace.{Happening.Done}
 use Rattle.xa_tm.specs.LedgerBook.{as_book}

@@ -1,5 +1,5 @@
-use Rattle.std.proofs.Common.{◌≡◌, ◌≤◌, ◌+◌, ◌∙◌, ap, arith, length, refl, subst, sym}
-use Rattle.xa_tm.specs.LedgerBook.{HaveRoom, as_book}
+use Rattle.std.proofs.Common.{◌≡◌, ◌+◌, ◌∙◌, ap, arith, length, subst, sym}
+use Rattle.xa_tm.specs.LedgerBook.{HaveRoom, as_book, gtrids_of}
 use Rattle.xa_tm.specs.declared.ledger.Ledger.{Ledger}
 use Rattle.xa_tm.proofs.Several.Decisions.{decisions_few, decisions_name, note_steps}
 use Rattle.xa_tm.proofs.ledger.Ledger.note_decisions.Goals as goal
@@ -13,7 +13,7 @@ overflow_add-self c =
 
 pub put_rows-requires : goal.put_rows-requires
 put_rows-requires c =
-    subst (λ (k : Ledger). HaveRoom k.rows _) (sym c.decided_all.ensures.others)
+    subst (λ (k : Ledger). HaveRoom k.rows (gtrids_of c.args.decisions.items)) (sym c.decided_all.ensures.others)
     (subst (HaveRoom c.args.self.now.rows)
     (sym (decisions_name (as_book c.args.self.now) c.args.outcome c.args.gtrids.now c.args.decisions.items c.requires.all)) c.requires.room.rows)
 

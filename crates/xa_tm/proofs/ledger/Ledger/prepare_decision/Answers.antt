@@ -1,10 +1,7 @@
-use Rattle.std.proofs.Common.{◌≡◌, List, [], ◌∷◌, Bool, true, false, ◌&&◌, cond, Some, refl, sym, ap, ◌∙◌, subst, OnOk, Result}
-use Rattle.xa_base.specs.declared.branch.Gtrid.{Gtrid}
-use Rattle.xa_tm.specs.LedgerBook.{HaveRoom, MakesRoomForDecisions, transaction_at}
+use Rattle.std.proofs.Common.{◌≡◌, true, false, ◌&&◌, Some, sym, ap, ◌∙◌}
+use Rattle.xa_tm.specs.LedgerBook.{transaction_at}
 use Rattle.xa_tm.specs.Outcomes.{is_commit}
-use Rattle.xa_tm.specs.declared.ledger.Ledger.{Ledger}
 use Rattle.xa_tm.specs.declared.notes.Transaction.{Transaction}
-use Rattle.xa_tm.proofs.Maps.ResolveOpen.{kept_both}
 use Rattle.xa_tm.proofs.Several.Prepared.{room_of_one, rooms_of_one}
 use Rattle.xa_tm.proofs.ledger.Ledger.prepare_decision.Goals as goal
 

@@ -1,6 +1,5 @@
 use Rattle.std.proofs.Common.{◌∙◌}
 use Rattle.xa_tm.proofs.Several.Lists.{named}
-use Rattle.xa_tm.proofs.Several.Contents.{changed_at}
 use Rattle.xa_tm.proofs.ledger.compare.is_named.Goals as goal
 
 pub returns : goal.returns

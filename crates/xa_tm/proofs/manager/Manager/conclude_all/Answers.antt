@@ -1,10 +1,9 @@
-use Rattle.std.proofs.Common.{◌+◌, ◌<◌, ◌^◌, length, inl, refl, sym, ap, ◌∙◌, subst}
+use Rattle.std.proofs.Common.{◌+◌, ◌<◌, ◌^◌, length, sym, ap, ◌∙◌, subst}
 use Rattle.xa_model.specs.Facts.Distinct.{EachOnce}
 use Rattle.xa_tm.specs.Book.{Book, rows_for}
 use Rattle.xa_tm.specs.Calls.{IsOpenIn, log_in, written_by}
 use Rattle.xa_tm.specs.Concluding.{Concludes}
-use Rattle.xa_tm.specs.LedgerBook.{HasRoomForDecisions, IsSound, as_book, decided_rows}
-use Rattle.xa_tm.proofs.Log.Asks.{asks_none}
+use Rattle.xa_tm.specs.LedgerBook.{HasRoomForDecisions, IsSound}
 use Rattle.xa_tm.proofs.Several.Decisions.{open_fit, sequences_fit}
 use Rattle.xa_tm.proofs.manager.Manager.conclude_all.Goals as goal
 

@@ -1,4 +1,4 @@
-use Rattle.std.proofs.Common.{◌≡◌, refl, sym, ap, ◌∙◌, subst}
+use Rattle.std.proofs.Common.{refl, sym, ap, ◌∙◌, subst}
 use Rattle.xa_log.specs.Content.{without_decisions}
 use Rattle.xa_model.specs.Trace.{Fault.InDone, Happening.Failed}
 use Rattle.xa_tm.specs.Book.{Doubt.Drops, book_after}
