@@ -17,7 +17,7 @@ use Rattle.xa_coordinator.specs.Replies.{reply_of}
 use Rattle.xa_requests.specs.declared.response.Response.TheVariants as responses
 use Rattle.xa_serve.specs.Session.{refusal_at}
 use Rattle.xa_serve.specs.declared.session.Session.{Session}
-use Rattle.xa_tm.specs.Book.{Book, Doubt.Adds, after, row_with, voted_yes}
+use Rattle.xa_tm.specs.Book.{Book, Doubt.Adds, after, row_with, rows_for, voted_yes}
 use Rattle.xa_tm.specs.BookAndLog.{IsTied, TiedBy}
 use Rattle.xa_tm.specs.Calls.{book_in}
 use Rattle.xa_tm.specs.Refusing.{refusal_in}
@@ -47,7 +47,7 @@ row_written k l near log g up voted is tied = in_log log
   where
     in_log : (log : Option Content) → TiedBy true near (after k (Decided g Outcomes.Commit)) log → HasRow log g (voted_yes k g)
     in_log None h = absurd h
-    in_log (Some c) h = h.holds.rows g ∙ ap (λ y. if y then row_with (Adds g (voted_yes k g)) g (k.row g) else k.row g) voted
+    in_log (Some c) h = h.holds.rows g ∙ ap (λ y. if y then row_with (Adds (rows_for k (g ∷ []))) g (k.row g) else k.row g) voted
         ∙ ap (λ y. if y then Some (voted_yes k g) else k.row g) (gtrid_eq-refl g)
 
 -- what is told to be decided is so, by a manager that was up, and its row is in the log

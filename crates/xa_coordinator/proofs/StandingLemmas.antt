@@ -1,5 +1,5 @@
 -- What a session's calls ensure, put together.
-use Rattle.std.proofs.Common.{◌≡◌, ◌≢◌, ◌<◌, ◌≤◌, ◌+◌, ◌-◌, ℕ, suc, List, length, drop, get_or, Some, None, refl, sym, subst, arith}
+use Rattle.std.proofs.Common.{◌≡◌, ◌≢◌, ◌<◌, ◌≤◌, ◌+◌, ◌-◌, ℕ, suc, List, [], ◌∷◌, length, drop, get_or, Some, None, refl, sym, subst, arith}
 use Rattle.std.proofs.Math.Seq.{drop-cons}
 use Rattle.std.specs.Prelude.{Result, Ok, Err, IfErr, IfOk, OnOk}
 use Rattle.xa_base.specs.Call.{map_call}
@@ -75,7 +75,7 @@ line_is_lost t r old new result refused allowed err ok follows log lines = recor
 pub finishes_by : {L : Type 0} (g : Gtrid) (old new : Session L) (result : Result (Unit {0}) Refusal)
     → ((n : Refusal) → refusal_at old (Steps.Done g) ≡ Some n → (result ≡ Err n) × (new ≡ old)) → OnOk result (refusal_at old (Steps.Done g) ≡ None)
     → (refusal_at old (Steps.Done g) ≡ None
-    → IfErr result (λ n. (n ≡ LogFault) × (book_in new.manager ≡ book_after (book_in old.manager) (Drops g) (Failed (InDone g)))))
+    → IfErr result (λ n. (n ≡ LogFault) × (book_in new.manager ≡ book_after (book_in old.manager) (Drops (g ∷ [])) (Failed (InDone (g ∷ []))))))
     → IfErr result (λ n. n ≢ LogFault → StaysAs old new) → new.lines ≡ lines_by result old.lines
     → OnOk result (book_in new.manager ≡ after (book_in old.manager) (Done g)) → OnOk result (Follows (Done g) old new) → Finishes g old new result
 finishes_by g old new result refused allowed err stays lines ok follows = record {

@@ -16,7 +16,7 @@ use Rattle.xa_requests.specs.declared.response.Response.TheVariants as responses
 use Rattle.xa_serve.specs.Following.{Follows, StaysAs}
 use Rattle.xa_serve.specs.Session.{begin_refusal, lines_by, refusal_at}
 use Rattle.xa_serve.specs.declared.session.Session.{Session}
-use Rattle.xa_tm.specs.Book.{Book, Doubt.Adds, Doubt.Drops, after, book_after, voted_yes}
+use Rattle.xa_tm.specs.Book.{Book, Doubt.Adds, Doubt.Drops, after, book_after, rows_for}
 use Rattle.xa_tm.specs.Calls.{FailsBy, book_in, log_in}
 
 -- ** what a session does
@@ -69,18 +69,18 @@ module _ {L : Type 0} where
   pub record Decides (g : Gtrid) (outcome : Outcome) (old new : Session L) (result : Result (Unit {0}) Refusal) : Type 0 where
     pub rules : ObeysRules (refusal_at old (Steps.Decide g outcome)) old new result
     pub asks : AsksLog (refusal_at old (Steps.Decide g outcome))
-        (FailsBy (Adds g (voted_yes (book_in old.manager) g)) (InDecide g)) old new result
+        (FailsBy (Adds (rows_for (book_in old.manager) (g ∷ []))) (InDecide (g ∷ []))) old new result
     pub decided : OnOk result (Happens (Decided g outcome) old new)
 
   pub record Settles (g : Gtrid) (old new : Session L) (result : Result (Unit {0}) Refusal) : Type 0 where
     pub rules : ObeysRules (refusal_at old (Steps.Settle g)) old new result
-    pub asks : AsksLog (refusal_at old (Steps.Settle g)) (FailsBy (Adds g (voted_yes (book_in old.manager) g)) (InDecide g)) old new result
+    pub asks : AsksLog (refusal_at old (Steps.Settle g)) (FailsBy (Adds (rows_for (book_in old.manager) (g ∷ []))) (InDecide (g ∷ []))) old new result
     pub decided : OnOk result (Happens (Decided g Outcomes.Commit) old new)
 
   pub record Finishes (g : Gtrid) (old new : Session L) (result : Result (Unit {0}) Refusal) : Type 0 where
     pub rules : ObeysRules (refusal_at old (Steps.Done g)) old new result
     pub asks : AsksLog (refusal_at old (Steps.Done g))
-        (λ k l n. (n ≡ Refusals.LogFault) × (l ≡ book_after k (Drops g) (Failed (InDone g)))) old new result
+        (λ k l n. (n ≡ Refusals.LogFault) × (l ≡ book_after k (Drops (g ∷ [])) (Failed (InDone (g ∷ []))))) old new result
     pub done : OnOk result (Happens (Done g) old new)
 
 -- ** what is replied

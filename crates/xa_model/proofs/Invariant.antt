@@ -24,7 +24,7 @@ use Rattle.xa_model.specs.Trace.{Gtrid, Branch, Line, Name, Name.Ours, Name.Fore
 use Rattle.xa_base.specs.declared.code.Code.TheVariants as Codes
 use Rattle.xa_base.specs.declared.state.Standing.{Standing}
 use Rattle.xa_base.specs.declared.state.Standing.TheVariants.{Unstarted, Active, Idle, Prepared, RollbackOnly, Completed, Committed, RolledBack, Lost, ReadOnly, Forgotten}
-use Rattle.xa_model.specs.Facts.{origin, up, incarnation, sequence, begun, decided_so, handed_over, claimed, live, started, was_told, says_yes, says_read_only, acknowledges, has_branch, participants, has_row, recorded, recorded_as, had_row, doubt, Change, Change.AddRow, Change.DropRow, Change.AddRecord, Change.NoChange, taken, issued, page, standing}
+use Rattle.xa_model.specs.Facts.{origin, up, incarnation, sequence, begun, decided_so, handed_over, claimed, live, started, was_told, says_yes, says_read_only, acknowledges, has_branch, has_gtrid, lists_row, participants_in, participants, has_row, recorded, recorded_as, had_row, doubt, Change, Change.AddRows, Change.DropRows, Change.AddRecord, Change.NoChange, taken, issued, page, standing}
 use Rattle.xa_model.specs.Promises.AgreementInvariant.{Starts}
 use Rattle.xa_model.specs.Protocol.{Lists, AllHaveVoted, AllAreSettled}
 
@@ -145,8 +145,8 @@ abbrev pub Covers : Trace → List Branch → Gtrid → Type 0
 Covers tr bs g = (b : Branch) → b.gtrid ≡ g → started tr b ≡ true → (has_branch bs b ≡ true) ⊎ (was_told tr (says_read_only b) ≡ true)
 
 abbrev pub DoubtFact : Trace → Change → Type 0
-DoubtFact tr (AddRow x) = RowFact tr x.gtrid × Covers tr x.participants x.gtrid
-DoubtFact tr (DropRow g) = Closed tr g × AllAreSettled tr g
+DoubtFact tr (AddRows xs) = (g : Gtrid) → lists_row xs g ≡ true → RowFact tr g × Covers tr (participants_in xs g) g
+DoubtFact tr (DropRows gs) = (g : Gtrid) → has_gtrid gs g ≡ true → Closed tr g × AllAreSettled tr g
 DoubtFact tr (AddRecord x) = HeuristicFact tr x.branch x.how
 DoubtFact tr NoChange = Unit
 

@@ -10,6 +10,7 @@ use Rattle.xa_base.specs.declared.state.Standing.TheVariants.{Prepared, Unstarte
 use Rattle.xa_model.specs.Facts.{up, incarnation, sequence, begun, decided_so, handed_over, claimed, live, started, was_told, says_yes, says_read_only, says_yes_in, outlived, participants_settled, lists_row, has_record, heuristic_rows, held_of, log, has_row, recorded, is_settled, next_answer, next_call, standing, vote, retries, is_closed}
 use Rattle.xa_base.specs.Branch.{branch_of_xid}
 use Rattle.xa_base.specs.Xid.{Xid}
+use Rattle.xa_model.specs.Facts.Distinct.{EachOnce}
 use Rattle.xa_model.specs.Facts.InDoubt.{is_in_doubt_at, scan_answer}
 
 -- the branch answered its xa_prepare with a vote for commit, and it was heard
@@ -103,6 +104,10 @@ pub record RightDecision (tr : Trace) (g : Gtrid) (o : Outcome) : Type 0 where
   pub is_live : live tr g ≡ true
   pub votes : o ≡ Outcome.Commit → AllHaveVoted tr g ⊎ (claimed tr g ≡ true)
 
+-- the transaction may be decided to commit, and a yes of it was heard: its row may be written
+abbrev pub RightRow : Trace → Gtrid → Type 0
+RightRow tr g = RightDecision tr g Outcome.Commit × (was_told tr (says_yes_in g) ≡ true)
+
 -- a row of this incarnation waits for all branches of its transaction, one that has outlived its own for its participants
 abbrev pub IsRowSettled : Trace → Gtrid → Type 0
 IsRowSettled tr g = ((begun tr g ≡ true) × AllAreSettled tr g) ⊎ ((outlived tr g ≡ true) × (participants_settled tr g ≡ true))
@@ -115,8 +120,8 @@ pub record RightDone (tr : Trace) (g : Gtrid) : Type 0 where
 
 -- the log may have failed there
 abbrev pub RightFault : Trace → Fault → Type 0
-RightFault tr (InDecide g) = RightDecision tr g Outcome.Commit × (was_told tr (says_yes_in g) ≡ true)
-RightFault tr (InDone g) = RightDone tr g
+RightFault tr (InDecide gs) = EachOnce (RightRow tr) gs
+RightFault tr (InDone gs) = EachOnce (RightDone tr) gs
 RightFault tr (InHear l) = up tr ≡ true
 RightFault tr InResolve = up tr ≡ true
 RightFault tr InRestart = up tr ≡ false

@@ -37,10 +37,10 @@ Answer = Given.Answer Name
 
 -- ** what happens
 
--- a step in which the log failed
+-- a step in which the log failed. One write of the log decides several transactions to commit, or takes the rows of several
 pub data Fault : Type 0 where
-  InDecide : Gtrid → Fault
-  InDone : Gtrid → Fault
+  InDecide : List Gtrid → Fault
+  InDone : List Gtrid → Fault
   InHear : Line → Fault
   InResolve : Fault
   InRestart : Fault

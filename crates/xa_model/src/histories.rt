@@ -7,8 +7,8 @@ ghost use Rattle.xa_model.specs.Replies.Guards.{refused_by_guards};
 ghost use Rattle.xa_model.specs.Replies.Rules.{must_refuse};
 ghost use Rattle.xa_model.specs.Replies.History.{AreAllowed, IsAllowedEvent, happening_of, history};
 ghost use Rattle.xa_model.specs.Protocol.{AllRight, RightOrigin};
-ghost use Rattle.xa_model.specs.Facts.Distinct.{ApartBranches, ApartRecords, ApartRows};
-ghost use Rattle.xa_model.specs.Facts.{branches, heuristic_rows, log, origin};
+ghost use Rattle.xa_model.specs.Facts.Distinct.{ApartBranches, ApartRecords, ApartRows, IsNewTo};
+ghost use Rattle.xa_model.specs.Facts.{branches, doubt, heuristic_rows, log, origin};
 ghost use Rattle.xa_model.specs.Replies.Steps.{Reply, Step};
 ghost use Rattle.xa_model.specs.Trace.{Origin, Trace, Trace.Then};
 
@@ -55,10 +55,13 @@ pub fn one_more_event()
 ///
 /// - `rows`: no transaction has two rows in the log, where none had at the start;
 /// - `records`: no branch has two records, where none had at the start;
-/// - `branches`: no branch is started twice.
+/// - `branches`: no branch is started twice;
+/// - `doubt`: the change in doubt is new: the rows that it adds are of transactions without one, those that it takes away
+///   are there, and none comes twice.
 pub fn listed_once()
     ensures rows { (tr : Trace) → AllRight tr → ApartRows (origin tr).rows → ApartRows (log tr) }
     ensures records { (tr : Trace) →
         ApartRecords (origin tr).heuristic_rows → ApartRecords (heuristic_rows tr) }
     ensures branches { (tr : Trace) → AllRight tr → ApartBranches (branches tr) }
+    ensures doubt { (tr : Trace) → AllRight tr → IsNewTo (log tr) (doubt tr) }
 {}

@@ -1,9 +1,9 @@
 -- What a decision log holds, as the history of its system knows it.
-use Rattle.std.specs.Prelude.{◌≡◌, ◌≤◌, ◌⊎◌, ◌&&◌, not, ◌+◌, ◌-◌, ◌^◌, ℕ, Bool, true, false, filter, if◌then◌else◌, List, length, Option, Some, None, IsSomeAnd}
+use Rattle.std.specs.Prelude.{◌≡◌, ◌≤◌, ◌⊎◌, ◌&&◌, not, ◌+◌, ◌-◌, ◌^◌, ℕ, Bool, true, false, filter, if◌then◌else◌, List, length, map, Option, Some, None, IsSomeAnd}
 use Rattle.std.specs.FinMap.{get, len}
 use Rattle.xa_base.specs.Branch.{branch_cmp}
 use Rattle.xa_model.specs.Replies.Allowed.{failed_restarts}
-use Rattle.xa_model.specs.Facts.{Change, Change.AddRecord, Change.AddRow, Change.DropRow, Change.NoChange, doubt, fault_change, has_row, heuristic_rows, incarnation, log, participants, recorded_as, up}
+use Rattle.xa_model.specs.Facts.{Change, Change.AddRecord, Change.AddRows, Change.DropRows, Change.NoChange, doubt, fault_change, has_row, heuristic_rows, incarnation, log, participants, recorded_as, up}
 use Rattle.xa_model.specs.Trace.{Fault, Fault.InRestart, Happening, Happening.Failed, Origin, Trace, Trace.From}
 use Rattle.xa_base.specs.Xid.{Xid}
 use Rattle.xa_base.specs.declared.branch.Branch.{Branch}
@@ -16,13 +16,13 @@ use Rattle.xa_base.specs.declared.step.Side.TheVariants as Sides
 use Rattle.xa_base.specs.declared.step.Step.TheVariants as Steps
 use Rattle.xa_model.specs.Replies.History.{step_of}
 use Rattle.xa_model.specs.Replies.Steps as known
-use Rattle.xa_log.specs.Content.{Content, with_bump, with_commit, with_record, without_decision}
+use Rattle.xa_log.specs.Content.{Content, with_bump, with_record, without_decisions}
 use Rattle.xa_log.specs.Contract.{Makes, MayMake, Moment, one_more_fault}
 use Rattle.xa_log.specs.KeySet.{KeySet, from_list}
-use Rattle.xa_tm.specs.Book.{Book}
+use Rattle.xa_tm.specs.Book.{Book, waiting_row}
 use Rattle.xa_tm.specs.Calls.{book_in, log_in}
 use Rattle.xa_tm.specs.Starting.{book_at_start}
-use Rattle.xa_tm.specs.BookAndLog.{IsTied, SameRows}
+use Rattle.xa_tm.specs.BookAndLog.{IsTied, SameRows, with_rows}
 use Rattle.xa_tm.specs.declared.manager.Manager.{Manager}
 
 -- ** rows and records
@@ -40,8 +40,8 @@ pub record HoldsRows (tr : Trace) (c : Content) : Type 0 where
 
 -- a log with a change
 abbrev pub after_change : Change → Content → Content
-after_change (AddRow x) c = with_commit x.gtrid (from_list x.participants) c
-after_change (DropRow g) c = without_decision g c
+after_change (AddRows xs) c = with_rows (map waiting_row xs) c
+after_change (DropRows gs) c = without_decisions gs c
 after_change (AddRecord x) c = with_record x.branch x.how c
 after_change NoChange c = c
 

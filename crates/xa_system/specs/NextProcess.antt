@@ -6,7 +6,8 @@ use Rattle.xa_base.specs.StateTable.{broken, state_of}
 use Rattle.xa_base.specs.declared.branch.Branch.{Branch}
 use Rattle.xa_log.specs.Content.{Content}
 use Rattle.xa_log.specs.declared.decision_log.DecisionLog as DecisionLog
-use Rattle.xa_model.specs.Facts.{fits, incarnation, retries, standing, vote}
+use Rattle.xa_model.specs.Facts.{doubt, fits, incarnation, log, retries, standing, vote}
+use Rattle.xa_model.specs.Facts.Distinct.{IsNewTo}
 use Rattle.xa_model.specs.Promises.Processes.{gone}
 use Rattle.xa_model.specs.Trace.{Trace}
 use Rattle.xa_system.specs.LogInHistory.{MayHoldRows}
@@ -27,9 +28,11 @@ pub record LeavesBranch (past : Trace) (b : Branch) (h : HeldBranch) : Type 0 wh
 abbrev pub held_among : {R : Type 0} → (R → Look) → List R → Branch → HeldBranch
 held_among look rms b = if fits b then held_at_rm look rms b.rm (xid_of_branch b) else new_branch
 
--- it leaves a log so: with its rows and its records, with or without the change in doubt, in its incarnation or a later one
+-- it leaves a log so: with its rows and its records, with or without the change in doubt, which is new to them, in its
+-- incarnation or a later one
 pub record LeavesLog (past : Trace) (c : Content) : Type 0 where
   pub rows : MayHoldRows past c
+  pub is_new : IsNewTo (log past) (doubt past)
   pub least : incarnation past ≤ c.incarnation
 
 -- it leaves the resource managers and the log so

@@ -5,6 +5,7 @@ pub mod StartRows
 pub mod Counting
 pub mod CountsAsLengths
 pub mod RowCounts
+pub mod RowBounds
 pub mod Settling
 pub mod Soundness
 pub mod Limits

@@ -1,24 +1,23 @@
 -- No transaction has two rows, no branch two records, and none is started twice.
-use Rattle.std.proofs.Common.{◌≡◌, List, [], ◌∷◌, length, Bool, true, false, ◌||◌, ◌==◌, refl, ap, ◌∙◌, subst}
-use Rattle.std.specs.Prelude.{if◌then◌else◌, Option, Some, None}
-use Rattle.std.proofs.lemmas.Bool.{false_from_ne_true}
+use Rattle.std.proofs.Common.{◌≡◌, List, [], ◌∷◌, ◌++◌, length, Bool, true, false, ◌||◌, ◌==◌, refl, sym, ap, ◌∙◌, subst}
+use Rattle.std.specs.Prelude.{map, if◌then◌else◌, Option, Some, None}
+use Rattle.std.proofs.lemmas.Bool.{false_from_ne_true, or_from}
 use Rattle.xa_base.specs.declared.call.Call.TheVariants as Calls
 use Rattle.xa_base.specs.declared.answer.Answer.TheVariants.{Ret}
-use Rattle.xa_model.specs.Trace.{Gtrid, Branch, Call, Answer, Outcome, Fault, Fault.InDecide, Fault.InHear, Row, Recorded, Happening, Happening.Issued, Happening.Heard, Happening.Decided, Happening.Done, Happening.Failed, Happening.Restarted, Trace, Trace.From, Trace.Then}
+use Rattle.xa_model.specs.Trace.{Gtrid, Branch, Call, Answer, Outcome, Fault, Fault.InDecide, Fault.InDone, Fault.InHear, Fault.InResolve, Fault.InRestart, Row, Recorded, Happening, Happening.Issued, Happening.Heard, Happening.Decided, Happening.Done, Happening.Failed, Happening.Restarted, Trace, Trace.From, Trace.Then}
 use Rattle.xa_base.specs.declared.code.Code.TheVariants as Codes
 use Rattle.xa_base.specs.Branch.{gtrid_eq, branch_eq}
-use Rattle.xa_model.specs.Facts.{origin, up, live, started, branches, was_told, says_yes_in, log, heuristic_rows, doubt, fault_change, record_of, record_of_next, row_for, lists_row, without, has_branch, has_record, rows_changed, heuristics_changed, adds_row, next_answer, Change, Change.AddRow, Change.DropRow, Change.AddRecord, Change.NoChange}
-use Rattle.xa_model.specs.Facts.Distinct.{ApartRows, ApartRecords, ApartBranches}
-use Rattle.xa_model.specs.Protocol.{Right, RightFault, IsRun}
+use Rattle.xa_model.specs.Facts.{origin, up, live, started, branches, was_told, says_yes_in, log, heuristic_rows, doubt, fault_change, record_of, record_of_next, row_for, lists_row, without, without_each, has_branch, has_gtrid, has_record, rows_changed, heuristics_changed, next_answer, Change, Change.AddRows, Change.DropRows, Change.AddRecord, Change.NoChange}
+use Rattle.xa_model.specs.Facts.Distinct.{ApartRows, ApartRecords, ApartBranches, EachOnce, IsNewTo}
+use Rattle.xa_model.specs.Protocol.{Right, RightDone, RightFault, RightRow, IsRun}
 use Rattle.xa_model.proofs.Invariant.Grows.{both}
 use Rattle.xa_model.proofs.Invariant.{Inv}
-use Rattle.xa_base.proofs.BranchKeys.{gtrid_eq-true, gtrid_eq-refl}
 use Rattle.xa_model.proofs.Invariant.Preservation.{run_always}
-use Rattle.xa_model.proofs.Invariant.RowLists.{without_keeps}
+use Rattle.xa_model.proofs.Invariant.RowLists.{listed_joined, rows_made, without_keeps}
 
 -- ** rows
 
-without_apart : (g : Gtrid) (rows : List Row) → ApartRows rows → ApartRows (without g rows)
+pub without_apart : (g : Gtrid) (rows : List Row) → ApartRows rows → ApartRows (without g rows)
 without_apart g [] h = tt
 without_apart g (x ∷ xs) h = by_test (gtrid_eq x.gtrid g) (without_apart g xs h.1)
   where
@@ -26,53 +25,73 @@ without_apart g (x ∷ xs) h = by_test (gtrid_eq x.gtrid g) (without_apart g xs 
     by_test true k = k
     by_test false k = (false_from_ne_true _ (λ e. both (lists_row xs x.gtrid) (without_keeps g x.gtrid xs e) h.0), k)
 
-changed_apart :
-    (c : Change) (rows : List Row) → ((g : Gtrid) → adds_row c g ≡ true → lists_row rows g ≡ false) → ApartRows rows
-    → ApartRows (rows_changed c rows)
-changed_apart (AddRow x) rows f h = (f x.gtrid (gtrid_eq-refl x.gtrid), h)
-changed_apart (DropRow g) rows f h = without_apart g rows h
-changed_apart (AddRecord y) rows f h = h
-changed_apart NoChange rows f h = h
+without_each_apart : (gs : List Gtrid) (rows : List Row) → ApartRows rows → ApartRows (without_each gs rows)
+without_each_apart [] rows h = h
+without_each_apart (g ∷ gs) rows h = without_each_apart gs (without g rows) (without_apart g rows h)
+
+rows_named : (xs : List Row) (g : Gtrid) → has_gtrid (map (λ (x : Row). x.gtrid) xs) g ≡ lists_row xs g
+rows_named [] g = refl
+rows_named (x ∷ xs) g = ap (λ t. gtrid_eq x.gtrid g || t) (rows_named xs g)
+
+joined_apart : (xs rows : List Row) → IsNewTo rows (AddRows xs) → ApartRows rows → ApartRows (xs ++ rows)
+joined_apart [] rows n h = h
+joined_apart (x ∷ xs) rows n h =
+    (listed_joined xs rows x.gtrid ∙ or_from _ _ (sym (rows_named xs x.gtrid) ∙ n.1) n.0, joined_apart xs rows n.2 h)
+
+changed_apart : (c : Change) (rows : List Row) → IsNewTo rows c → ApartRows rows → ApartRows (rows_changed c rows)
+changed_apart (AddRows xs) rows n h = joined_apart xs rows n h
+changed_apart (DropRows gs) rows n h = without_each_apart gs rows h
+changed_apart (AddRecord y) rows n h = h
+changed_apart NoChange rows n h = h
 
 -- a live transaction has no row
 live_no_row : (tr : Trace) (g : Gtrid) → Inv tr → live tr g ≡ true → lists_row (log tr) g ≡ false
 live_no_row tr g inv l = false_from_ne_true _ (λ e. both (live tr g) l (inv.rows g (inv.row_rowed g e)).closed.not_live)
 
-record_adds_none : (c : Call) (a : Answer) (g : Gtrid) → adds_row (record_of c a) g ≡ false
-record_adds_none (Calls.Commit b false) (Ret (Codes.Heuristic how)) g = refl
-record_adds_none (Calls.Commit b true) (Ret (Codes.Heuristic how)) g = refl
-record_adds_none (Calls.Rollback b) (Ret (Codes.Heuristic how)) g = refl
-record_adds_none _ _ g = refl
+made_new : (tr : Trace) (gs : List Gtrid) → Inv tr → EachOnce (RightRow tr) gs → IsNewTo (log tr) (AddRows (map (row_for tr) gs))
+made_new tr [] inv r = tt
+made_new tr (g ∷ gs) inv r = (
+  live_no_row tr g inv r.0.0.is_live,
+  rows_named (map (row_for tr) gs) g ∙ (rows_made tr gs g ∙ r.1),
+  made_new tr gs inv r.2,
+)
 
-next_adds_none : (o : Option (Call × Answer)) (g : Gtrid) → adds_row (record_of_next o) g ≡ false
-next_adds_none (Some p) g = record_adds_none p.0 p.1 g
-next_adds_none None g = refl
+dropped_there : (tr : Trace) (gs : List Gtrid) → EachOnce (RightDone tr) gs → IsNewTo (log tr) (DropRows gs)
+dropped_there tr [] r = tt
+dropped_there tr (g ∷ gs) r = (r.0.has, r.1, dropped_there tr gs r.2)
 
-fault_new :
-    (tr : Trace) (f : Fault) (g : Gtrid) → Inv tr → RightFault tr f → adds_row (fault_change tr f) g ≡ true
-    → lists_row (log tr) g ≡ false
-fault_new tr (InDecide h) g inv r k =
-    subst (λ x. lists_row (log tr) x ≡ false) (gtrid_eq-true h g k) (live_no_row tr h inv r.0.is_live)
-fault_new tr (InHear l) g inv r k = absurd (both _ k (next_adds_none (next_answer tr l) g))
-fault_new tr _ g inv r k = absurd (cc)
+record_new : (rows : List Row) (c : Call) (a : Answer) → IsNewTo rows (record_of c a)
+record_new rows (Calls.Commit b false) (Ret (Codes.Heuristic how)) = tt
+record_new rows (Calls.Commit b true) (Ret (Codes.Heuristic how)) = tt
+record_new rows (Calls.Rollback b) (Ret (Codes.Heuristic how)) = tt
+record_new rows _ _ = tt
 
-none_in_doubt : (tr : Trace) (g : Gtrid) → Inv tr → up tr ≡ true → adds_row (doubt tr) g ≡ true → ⊥
-none_in_doubt tr g inv u e = both _ e (ap (λ c. adds_row c g) (inv.doubt_down u))
+next_new : (rows : List Row) (o : Option (Call × Answer)) → IsNewTo rows (record_of_next o)
+next_new rows (Some p) = record_new rows p.0 p.1
+next_new rows None = tt
 
--- a row in doubt is of a transaction that has none
-pub doubt_is_new : (tr : Trace) → IsRun tr → (g : Gtrid) → adds_row (doubt tr) g ≡ true → lists_row (log tr) g ≡ false
-doubt_is_new (From o) r g e = absurd (cc)
-doubt_is_new (Then tr (Failed f)) r g e = by_up (up tr) refl (λ k. doubt_is_new tr r.0 g k) e
+fault_new : (tr : Trace) (f : Fault) → Inv tr → RightFault tr f → IsNewTo (log tr) (fault_change tr f)
+fault_new tr (InDecide gs) inv r = made_new tr gs inv r
+fault_new tr (InDone gs) inv r = dropped_there tr gs r
+fault_new tr (InHear l) inv r = next_new (log tr) (next_answer tr l)
+fault_new tr InResolve inv r = tt
+fault_new tr InRestart inv r = tt
+
+none_new : (tr : Trace) (rows : List Row) → Inv tr → up tr ≡ true → IsNewTo rows (doubt tr)
+none_new tr rows inv u = subst (IsNewTo rows) (sym (inv.doubt_down u)) tt
+
+-- the change in doubt is new to the rows
+pub doubt_is_new_to : (tr : Trace) → IsRun tr → IsNewTo (log tr) (doubt tr)
+doubt_is_new_to (From o) r = tt
+doubt_is_new_to (Then tr (Failed f)) r = by_up (up tr) (doubt_is_new_to tr r.0)
   where
-    by_up :
-        (t : Bool) → up tr ≡ t → (adds_row (doubt tr) g ≡ true → lists_row (log tr) g ≡ false)
-        → adds_row (if t then fault_change tr f else doubt tr) g ≡ true → lists_row (log tr) g ≡ false
-    by_up true q before k = fault_new tr f g (run_always tr r.0) r.1 k
-    by_up false q before k = before k
-doubt_is_new (Then tr (Restarted i d n)) r g e = absurd (cc)
-doubt_is_new (Then tr (Decided h o)) r g e = absurd (none_in_doubt tr g (run_always tr r.0) r.1.is_up e)
-doubt_is_new (Then tr (Done h)) r g e = absurd (none_in_doubt tr g (run_always tr r.0) r.1.is_up e)
-doubt_is_new (Then tr _) r g e = doubt_is_new tr r.0 g e
+    by_up : (t : Bool) → IsNewTo (log tr) (doubt tr) → IsNewTo (log tr) (if t then fault_change tr f else doubt tr)
+    by_up true k = fault_new tr f (run_always tr r.0) r.1
+    by_up false k = k
+doubt_is_new_to (Then tr (Restarted i d n)) r = tt
+doubt_is_new_to (Then tr (Decided h o)) r = none_new tr (log (Then tr (Decided h o))) (run_always tr r.0) r.1.is_up
+doubt_is_new_to (Then tr (Done h)) r = none_new tr (log (Then tr (Done h))) (run_always tr r.0) r.1.is_up
+doubt_is_new_to (Then tr _) r = doubt_is_new_to tr r.0
 
 rows_step : (tr : Trace) (e : Happening) → IsRun tr → Right tr e → ApartRows (log tr) → ApartRows (log (Then tr e))
 rows_step tr (Decided g Outcome.Commit) a r h = by_test (was_told tr (says_yes_in g))
@@ -85,7 +104,7 @@ rows_step tr (Restarted i d n) a r h = by_test (d == length (log tr))
   where
     by_test : (t : Bool) → ApartRows (if t then log tr else rows_changed (doubt tr) (log tr))
     by_test true = h
-    by_test false = changed_apart (doubt tr) (log tr) (doubt_is_new tr a) h
+    by_test false = changed_apart (doubt tr) (log tr) (doubt_is_new_to tr a) h
 rows_step tr _ a r h = h
 
 pub rows_apart : (tr : Trace) → IsRun tr → ApartRows (origin tr).rows → ApartRows (log tr)
@@ -100,8 +119,8 @@ heuristics_apart (AddRecord x) xs h = by_test (has_record xs x.branch) refl
     by_test : (t : Bool) → has_record xs x.branch ≡ t → ApartRecords (if t then xs else x ∷ xs)
     by_test true q = h
     by_test false q = (q, h)
-heuristics_apart (AddRow x) xs h = h
-heuristics_apart (DropRow g) xs h = h
+heuristics_apart (AddRows rows) xs h = h
+heuristics_apart (DropRows gs) xs h = h
 heuristics_apart NoChange xs h = h
 
 records_step : (tr : Trace) (e : Happening) → ApartRecords (heuristic_rows tr) → ApartRecords (heuristic_rows (Then tr e))

@@ -11,7 +11,7 @@ use Rattle.xa_base.specs.Branch.{branch_eq}
 use Rattle.xa_base.specs.declared.state.Standing.{Standing}
 use Rattle.xa_base.specs.declared.state.Standing.TheVariants.{Unstarted, Prepared, Completed, Forgotten}
 use Rattle.xa_model.specs.Promises.AgreementInvariant.{Starts}
-use Rattle.xa_model.specs.Facts.{up, begun, decided_so, handed_over, claimed, live, started, was_told, says_read_only, acknowledges, recorded, had_row, ever, doubt, Change.AddRow, adds_row, is_settled, breaks, taken, next_call, standing, vote, retries}
+use Rattle.xa_model.specs.Facts.{up, begun, decided_so, handed_over, claimed, live, started, was_told, says_read_only, acknowledges, recorded, had_row, ever, doubt, Change.AddRows, adds_row, is_settled, breaks, taken, next_call, standing, vote, retries}
 use Rattle.xa_model.specs.Protocol.{MayBeCalled, Right, RightIssue, RightCall}
 use Rattle.xa_model.proofs.Invariant.{Closed, HasBegun, IsAtRest, IsHeuristic, IsOlder, Waits, RowFact, DoubtFact, IsFixed, Inv}
 use Rattle.xa_model.proofs.Invariant.Records.{recorded_how}
@@ -35,7 +35,7 @@ row_fact_ever tr g inv e = by_case (or_cases _ _ e)
     by_case : (adds_row (doubt tr) g ≡ true) ⊎ (had_row tr g ≡ true) → RowFact tr g
     by_case (inl h) =
         let a = adds_row-true (doubt tr) g h in
-        let f : DoubtFact tr (AddRow a.added) = subst (λ x. DoubtFact tr x) a.is inv.in_doubt in subst (RowFact tr) a.of f.0
+        let f : DoubtFact tr (AddRows a.added) = subst (λ x. DoubtFact tr x) a.is inv.in_doubt in (f g a.of).0
     by_case (inr h) = inv.rows g h
 
 at_rest_of_heuristic : (how : How) (f : Standing) → IsHeuristic how f → IsAtRest f

@@ -4,11 +4,11 @@ use Rattle.std.proofs.lemmas.Bool.{false_from_ne_true}
 use mathlib.Core.Logic.{◌⊎◌.inl, ◌⊎◌.inr}
 use Rattle.xa_base.specs.declared.call.Call.TheVariants as Calls
 use Rattle.xa_base.specs.declared.answer.Answer.TheVariants.{Ret, Page}
-use Rattle.xa_model.specs.Trace.{Gtrid, Branch, Line, Name, Name.Ours, Name.Foreign, Call, How, Answer, Outcome, Row, Happening, Happening.Issued, Trace, Trace.Then}
+use Rattle.xa_model.specs.Trace.{Gtrid, Branch, Line, Name, Name.Ours, Name.Foreign, Call, How, Answer, Outcome, Happening, Happening.Issued, Trace, Trace.Then}
 use Rattle.xa_base.specs.declared.code.Code.TheVariants as Codes
 use Rattle.xa_base.specs.declared.state.Standing.{Standing}
 use Rattle.xa_base.specs.declared.state.Standing.TheVariants.{Committed, ReadOnly}
-use Rattle.xa_model.specs.Facts.{decided_so, handed_over, claimed, live, started, says_yes, says_read_only, was_told, has_branch, ever, Change, Change.AddRow, Change.DropRow, Change.AddRecord, Change.NoChange, standing}
+use Rattle.xa_model.specs.Facts.{decided_so, handed_over, claimed, live, started, says_yes, says_read_only, was_told, has_branch, participants_in, adds_row, ever, Change, Change.AddRows, Change.DropRows, Change.AddRecord, Change.NoChange, standing}
 use Rattle.xa_model.specs.Protocol.{HasVoted, AllHaveVoted, AllAreSettled, RightDecision, Right}
 use Rattle.xa_model.proofs.Invariant.{Closed, IsEnded, IsGood, IsHeuristic, IsOlder, IsStarted, YesFact, NotKnownFact, HeuristicFact, AnswerFact, RowFact, Covers, DoubtFact, Inv}
 use Rattle.xa_model.proofs.Invariant.Moves.{begun_moves, ended_moves, heuristic_moves, rest_moves, good_moves}
@@ -129,8 +129,9 @@ decided_voted tr g inv d = by_votes (d.votes refl)
     by_votes (inr c) = inv.claimed_voted g c
 
 pub doubt_kept : (tr : Trace) (e : Happening) → Inv tr → Right tr e → (c : Change)
-    → ((x : Row) → c ≡ AddRow x → ever tr x.gtrid ≡ true) → DoubtFact tr c → DoubtFact (Then tr e) c
-doubt_kept tr e inv r (AddRow x) v f = (row_fact_kept tr e x.gtrid inv r (v x refl) f.0, covers_kept tr e x.participants x.gtrid r f.0.closed f.1)
-doubt_kept tr e inv r (DropRow g) v f = (closed_kept tr e g r f.0, all_settled_kept tr e g r f.0 f.1)
+    → ((g : Gtrid) → adds_row c g ≡ true → ever tr g ≡ true) → DoubtFact tr c → DoubtFact (Then tr e) c
+doubt_kept tr e inv r (AddRows xs) v f = λ g h.
+    let k = f g h in (row_fact_kept tr e g inv r (v g h) k.0, covers_kept tr e (participants_in xs g) g r k.0.closed k.1)
+doubt_kept tr e inv r (DropRows gs) v f = λ g h. let k = f g h in (closed_kept tr e g r k.0, all_settled_kept tr e g r k.0 k.1)
 doubt_kept tr e inv r (AddRecord x) v f = heuristic_fact_kept tr e x.branch x.how inv r f
 doubt_kept tr e inv r NoChange v f = tt

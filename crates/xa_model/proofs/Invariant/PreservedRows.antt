@@ -6,19 +6,19 @@ use Rattle.std.proofs.lemmas.Bool.{and_parts, false_from_ne_true, or_cases, or_l
 use Rattle.xa_base.specs.declared.call.Call.TheVariants as Calls
 use Rattle.xa_base.specs.StateTable.{on}
 use Rattle.xa_base.specs.declared.answer.Answer.TheVariants.{Ret}
-use Rattle.xa_model.specs.Trace.{Gtrid, Branch, Line, Kind.OnePhase, Call, Answer, Outcome, Fault, Fault.InDecide, Fault.InDone, Fault.InHear, Fault.InResolve, Fault.InRestart, Happening, Happening.Begun, Happening.Issued, Happening.Decided, Happening.Crashed, Happening.Failed, Happening.Restarted, Row, Trace, Trace.From, Trace.Then}
+use Rattle.xa_model.specs.Trace.{Gtrid, Branch, Line, Kind.OnePhase, Call, Answer, Outcome, Fault, Fault.InDecide, Fault.InDone, Fault.InHear, Fault.InResolve, Fault.InRestart, Happening, Happening.Begun, Happening.Issued, Happening.Decided, Happening.Crashed, Happening.Failed, Happening.Restarted, Trace, Trace.From, Trace.Then}
 use Rattle.xa_base.specs.declared.code.Code.TheVariants as Codes
 use Rattle.xa_base.specs.declared.step.Part.TheVariants as Part
 use Rattle.xa_base.specs.Branch.{gtrid_eq, branch_eq}
 use Rattle.xa_base.specs.declared.state.Standing.TheVariants.{Unstarted, Committed}
-use Rattle.xa_model.specs.Facts.{origin, up, incarnation, begun, decided_so, handed_over, live, started, was_told, says_read_only, has_branch, participants, is_settled, is_settled_lately, each, each_of_some, branches, takes_part, row_for, has_row, had_row, ever, doubt, fault_change, record_of, adds_row, record_of, Change.AddRow, Change.NoChange, record_of_next, heard, next_answer, standing}
-use Rattle.xa_model.specs.Protocol.{HasVoted, AllHaveVoted, AllAreSettled, RightCall, IsRowSettled, RightDecision, RightDone, Right}
+use Rattle.xa_model.specs.Facts.{origin, up, incarnation, begun, decided_so, handed_over, live, started, was_told, says_read_only, has_branch, participants_in, participants, is_settled, is_settled_lately, each, each_of_some, branches, takes_part, row_for, has_row, had_row, ever, doubt, fault_change, record_of, adds_row, record_of, Change.AddRows, Change.DropRows, Change.NoChange, record_of_next, heard, next_answer, standing}
+use Rattle.xa_model.specs.Protocol.{HasVoted, AllHaveVoted, AllAreSettled, RightCall, IsRowSettled, RightDecision, RightRow, RightDone, Right}
 use Rattle.xa_model.proofs.Invariant.{Old, Closed, IsGood, IsOlder, AnswerFact, RowFact, Covers, DoubtFact, Inv}
 use Rattle.xa_base.proofs.BranchKeys.{gtrid_eq-true, branch_eq-true, gtrid_eq-refl, branch_eq-refl}
 use Rattle.xa_model.proofs.Invariant.Moves.{good_moves, unstarted_moves, committed_moves}
 use Rattle.xa_model.proofs.Invariant.Grows.{NewBranch, old_kept, closed_kept, started_kept, started_new, handed_kept, handed_new, NewDecision, NewDecision.Was_decided, NewDecision.By_decide, NewDecision.By_recovery, decided_new}
 use Rattle.xa_model.proofs.Invariant.Rows.{RowNow, RowNow.Before, RowNow.Decided_now, RowNow.Restarted_now, row_back, settled_lately_settled, rowed_kept, NewRow, NewRow.Had, NewRow.By_decision, NewRow.By_restart, rowed_new, LeftRow, LeftRow.By_done, LeftRow.By_doubt, row_lost}
-use Rattle.xa_model.proofs.Invariant.RowLists.{or_map}
+use Rattle.xa_model.proofs.Invariant.RowLists.{or_map, each_is, rows_made, made_for}
 use Rattle.xa_model.proofs.Invariant.Now.{row_fact_ever, closed_handed, live_begun, step_move, starting_live, started_back, right_on}
 use Rattle.xa_model.proofs.Invariant.OneMore.{heuristic_fact_kept, decided_voted, row_fact_kept, covers_kept, all_settled_kept, doubt_kept}
 
@@ -213,7 +213,7 @@ row_left_after tr e g inv r h n = by_case (rowed_new tr e g h)
   where
     by_loss : LeftRow tr e g → had_row tr g ≡ true → AllAreSettled tr g
     by_loss (By_done q) k = let d : RightDone tr g = subst (Right tr) q r in done_settled tr g inv d
-    by_loss (By_doubt q) k = let f : Closed tr g × AllAreSettled tr g = subst (DoubtFact tr) q inv.in_doubt in f.1
+    by_loss (By_doubt d) k = let f : DoubtFact tr (DropRows d.dropped) = subst (DoubtFact tr) d.is inv.in_doubt in (f g d.of).1
 
     by_row : (t : Bool) → has_row tr g ≡ t → had_row tr g ≡ true → AllAreSettled tr g
     by_row true t k = by_loss (row_lost tr e g t n) k
@@ -273,9 +273,8 @@ covered_after tr e g inv r h = by_case (row_back tr e g h)
         covers_decided : RightDecision tr g Outcome.Commit → e ≡ Decided g Outcome.Commit → Covers (Then tr e) (row_for tr g).participants g
         covers_decided d q = subst (λ y. Covers (Then tr y) (row_for tr g).participants g) (sym q) (row_for_covers tr g (decided_voted tr g inv d))
     by_case (Restarted_now i d n q a p) =
-        let f : DoubtFact tr (AddRow a.added) = subst (DoubtFact tr) a.is inv.in_doubt in
-        subst (λ y. Covers (Then tr e) y g) (sym p)
-        (subst (Covers (Then tr e) a.added.participants) a.of (covers_kept tr e a.added.participants a.added.gtrid r f.0.closed f.1))
+        let f : DoubtFact tr (AddRows a.added) = subst (DoubtFact tr) a.is inv.in_doubt in let k = f g a.of in
+        subst (λ y. Covers (Then tr e) y g) (sym p) (covers_kept tr e (participants_in a.added g) g r k.0.closed k.1)
 
 -- ** what is in doubt
 
@@ -296,34 +295,37 @@ next_fact : (tr : Trace) (e : Happening) (l : Line) → Inv tr → Right tr e �
 next_fact tr e l inv r (Some p) q = record_fact tr e l p.0 p.1 inv r (inv.answered l (length (heard tr l)) p.0 p.1 q)
 next_fact tr e l inv r None q = tt
 
-failed_decision : (tr : Trace) (g : Gtrid) → Inv tr → Right tr (Failed (InDecide g)) → RowFact (Then tr (Failed (InDecide g))) g
-failed_decision tr g inv r = record {
+failed_decision : (tr : Trace) (gs : List Gtrid) (g : Gtrid) → Inv tr → Right tr (Failed (InDecide gs)) → RightDecision tr g Outcome.Commit
+    → RowFact (Then tr (Failed (InDecide gs))) g
+failed_decision tr gs g inv r d = record {
   closed = record { old = inv.begun_old g (live_begun tr g d.is_live); not_live = refl };
   good = λ b q s. let l =
       ap (live tr) q ∙ d.is_live
-      in good_moves tr b _ _ (step_move tr (Failed (InDecide g)) b inv r) s (λ c. absurd (not_both tr b.gtrid c l))
+      in good_moves tr b _ _ (step_move tr (Failed (InDecide gs)) b inv r) s (λ c. absurd (not_both tr b.gtrid c l))
       (voted_good tr b inv l (decided_voted tr g inv d b q s));
   not_handed = not_handed_live tr g d.is_live;
   not_rolled_back = not_rolled_back_live tr g d.is_live;
 }
   where
-    d : RightDecision tr g Outcome.Commit
-    d = r.0
-
     not_both : (tr : Trace) (g : Gtrid) → Closed tr g → live tr g ≡ true → ⊥
     not_both tr g c l = let n = c.not_live in cc
 
 fault_fact : (tr : Trace) (f : Fault) → Inv tr → Right tr (Failed f) → DoubtFact (Then tr (Failed f)) (fault_change tr f)
-fault_fact tr (InDecide g) inv r = (failed_decision tr g inv r, row_for_covers tr g (decided_voted tr g inv r.0))
-fault_fact tr (InDone g) inv r =
-    let c = (inv.rows g (inv.row_rowed g r.has)).closed in
-    (closed_kept tr (Failed (InDone g)) g r c, all_settled_kept tr (Failed (InDone g)) g r c (done_settled tr g inv r))
+fault_fact tr (InDecide gs) inv r = λ g l.
+    let h = sym (rows_made tr gs g) ∙ l in let d = (each_is (RightRow tr) gs r g h).0 in
+    (
+      failed_decision tr gs g inv r d,
+      subst (λ bs. Covers (Then tr (Failed (InDecide gs))) bs g) (sym (made_for tr gs g h)) (row_for_covers tr g (decided_voted tr g inv d)),
+    )
+fault_fact tr (InDone gs) inv r = λ g h.
+    let d = each_is (RightDone tr) gs r g h in let c = (inv.rows g (inv.row_rowed g d.has)).closed in
+    (closed_kept tr (Failed (InDone gs)) g r c, all_settled_kept tr (Failed (InDone gs)) g r c (done_settled tr g inv d))
 fault_fact tr (InHear l) inv r = next_fact tr (Failed (InHear l)) l inv r (next_answer tr l) refl
 fault_fact tr InResolve inv r = tt
 fault_fact tr InRestart inv r = tt
 
-doubted_row : (tr : Trace) (x : Row) → doubt tr ≡ AddRow x → ever tr x.gtrid ≡ true
-doubted_row tr x q = or_left _ _ (subst (λ y. adds_row y x.gtrid ≡ true) (sym q) (gtrid_eq-refl x.gtrid))
+doubted_row : (tr : Trace) (g : Gtrid) → adds_row (doubt tr) g ≡ true → ever tr g ≡ true
+doubted_row tr g h = or_left _ _ h
 
 pub in_doubt_after : (tr : Trace) (e : Happening) → Inv tr → Right tr e → DoubtFact (Then tr e) (doubt (Then tr e))
 in_doubt_after tr (Failed f) inv r = by_up (up tr)

@@ -4,7 +4,7 @@ use Rattle.std.specs.Prelude.{if◌then◌else◌, Some}
 use mathlib.Core.Logic.{◌⊎◌.inl, ◌⊎◌.inr}
 use Rattle.xa_base.specs.Branch.{branch_eq}
 use Rattle.xa_model.specs.Trace.{Branch, Line, Call, How, Answer, Recorded, Happening, Happening.Heard, Happening.Restarted, Trace, Trace.Then}
-use Rattle.xa_model.specs.Facts.{recorded, recorded_as, heuristic_rows, doubt, how_in, has_record, record_of, heuristics_changed, Change, Change.AddRow, Change.DropRow, Change.AddRecord, Change.NoChange}
+use Rattle.xa_model.specs.Facts.{recorded, recorded_as, heuristic_rows, doubt, how_in, has_record, record_of, heuristics_changed, Change, Change.AddRows, Change.DropRows, Change.AddRecord, Change.NoChange}
 use Rattle.xa_base.proofs.BranchKeys.{branch_eq-true}
 use Rattle.xa_model.proofs.Invariant.Grows.{both}
 
@@ -56,8 +56,8 @@ with_adds x b how false xs e = by_test (branch_eq x.branch b) refl e
 
 changed_keeps : (c : Change) (b : Branch) (how : How) (xs : List Recorded) → how_in xs b ≡ Some how → how_in (heuristics_changed c xs) b ≡ Some how
 changed_keeps (AddRecord x) b how xs e = with_keeps x b how _ xs refl e
-changed_keeps (AddRow g) b how xs e = e
-changed_keeps (DropRow g) b how xs e = e
+changed_keeps (AddRows rows) b how xs e = e
+changed_keeps (DropRows gs) b how xs e = e
 changed_keeps NoChange b how xs e = e
 
 changed_adds : (c : Change) (b : Branch) (how : How) (xs : List Recorded) → how_in (heuristics_changed c xs) b ≡ Some how
@@ -68,8 +68,8 @@ changed_adds (AddRecord x) b how xs e = by_place (with_adds x b how _ xs e)
         → (how_in xs b ≡ Some how) ⊎ (AddRecord x ≡ AddRecord (record { branch = b; how = how }))
     by_place (inl s) = inl s
     by_place (inr s) = inr (ap (λ y. AddRecord y) s)
-changed_adds (AddRow g) b how xs e = inl e
-changed_adds (DropRow g) b how xs e = inl e
+changed_adds (AddRows rows) b how xs e = inl e
+changed_adds (DropRows gs) b how xs e = inl e
 changed_adds NoChange b how xs e = inl e
 
 restarted_keeps : (t : Bool) (c : Change) (b : Branch) (how : How) (xs : List Recorded) → how_in xs b ≡ Some how

@@ -1,16 +1,16 @@
 -- One happening more in the log.
-use Rattle.std.proofs.Common.{◌≡◌, ℕ, List, [], ◌∷◌, length, Bool, true, false, not, ◌&&◌, ◌||◌, ◌==◌, refl, sym, ap, ◌∙◌, subst, ◌⊎◌}
+use Rattle.std.proofs.Common.{◌≡◌, ℕ, List, [], ◌∷◌, ◌++◌, length, Bool, true, false, not, ◌&&◌, ◌||◌, ◌==◌, refl, sym, ap, ◌∙◌, subst, ◌⊎◌}
 use Rattle.std.specs.Prelude.{if◌then◌else◌}
 use mathlib.Core.Logic.{◌⊎◌.inl, ◌⊎◌.inr}
 use Rattle.std.proofs.lemmas.Bool.{and_parts, or_cases, or_left, or_right}
 use Rattle.xa_model.specs.Trace.{Gtrid, Branch, Call, Answer, Row, Happening, Happening.Heard, Happening.Decided, Happening.Done, Happening.Restarted, Trace, Trace.From, Trace.Then}
 use Rattle.xa_base.specs.declared.step.Outcome.TheVariants as Outcome
 use Rattle.xa_base.specs.Branch.{gtrid_eq}
-use Rattle.xa_model.specs.Facts.{was_told, was_told_lately, row_for, participants_in, participants, is_settled_lately, says_yes_in, says_read_only, acknowledges, has_row, recorded, had_row, doubt, log, is_settled, lists_row, without, rows_changed, adds_row, Change, Change.AddRow, Change.DropRow, Change.AddRecord, Change.NoChange}
+use Rattle.xa_model.specs.Facts.{was_told, was_told_lately, row_for, participants_in, participants, is_settled_lately, says_yes_in, says_read_only, acknowledges, has_row, recorded, had_row, doubt, log, is_settled, lists_row, has_gtrid, without, without_each, rows_changed, adds_row, Change, Change.AddRows, Change.DropRows, Change.AddRecord, Change.NoChange}
 use Rattle.xa_base.proofs.BranchKeys.{gtrid_eq-true}
 use Rattle.xa_model.proofs.Invariant.Grows.{told_kept}
 use Rattle.xa_model.proofs.Invariant.Records.{recorded_kept}
-use Rattle.xa_model.proofs.Invariant.RowLists.{or_map, without_keeps, without_drops}
+use Rattle.xa_model.proofs.Invariant.RowLists.{or_map, listed_joined, without_keeps, without_drops, without_each_keeps, without_each_drops}
 
 -- ** rows after one happening more
 
@@ -25,15 +25,15 @@ pub data NewRow (tr : Trace) (e : Happening) (g : Gtrid) : Type 0 where
   By_decision : e ≡ Decided g Outcome.Commit → has_row (Then tr e) g ≡ true → NewRow tr e g
   By_restart : (i d n : ℕ) → e ≡ Restarted i d n → adds_row (doubt tr) g ≡ true → has_row (Then tr e) g ≡ true → NewRow tr e g
 
--- the row that a change adds
+-- the rows that a change adds, one of them of the transaction
 pub record Adds (c : Change) (g : Gtrid) : Type 0 where
-  pub added : Row
-  pub is : c ≡ AddRow added
-  pub of : added.gtrid ≡ g
+  pub added : List Row
+  pub is : c ≡ AddRows added
+  pub of : lists_row added g ≡ true
 
 pub adds_row-true : (c : Change) (g : Gtrid) → adds_row c g ≡ true → Adds c g
-adds_row-true (AddRow x) g e = record { added = x; is = refl; of = gtrid_eq-true x.gtrid g e }
-adds_row-true (DropRow h) g e = absurd (cc)
+adds_row-true (AddRows xs) g e = record { added = xs; is = refl; of = e }
+adds_row-true (DropRows gs) g e = absurd (cc)
 adds_row-true (AddRecord b) g e = absurd (cc)
 adds_row-true NoChange g e = absurd (cc)
 
@@ -44,8 +44,8 @@ decided_row h g false rows s e = cc
 restarted_row : (g : Gtrid) (t : Bool) (c : Change) (rows : List Row) → not t ≡ true → adds_row c g ≡ true
     → lists_row (if t then rows else rows_changed c rows) g ≡ true
 restarted_row g true c rows s e = cc
-restarted_row g false (AddRow x) rows s e = or_left _ _ e
-restarted_row g false (DropRow h) rows s e = absurd (cc)
+restarted_row g false (AddRows xs) rows s e = listed_joined xs rows g ∙ or_left _ _ e
+restarted_row g false (DropRows gs) rows s e = absurd (cc)
 restarted_row g false (AddRecord b) rows s e = absurd (cc)
 restarted_row g false NoChange rows s e = absurd (cc)
 
@@ -75,8 +75,8 @@ row_rowed_decided x g false rows r f e = or_right _ _ (f e)
 
 row_rowed_changed : (g : Gtrid) (c : Change) (rows : List Row) (r : Bool) → (lists_row rows g ≡ true → r ≡ true)
     → lists_row (rows_changed c rows) g ≡ true → (adds_row c g || r) ≡ true
-row_rowed_changed g (AddRow x) rows r f e = or_map (gtrid_eq x.gtrid g) _ _ f e
-row_rowed_changed g (DropRow h) rows r f e = f (without_keeps h g rows e)
+row_rowed_changed g (AddRows xs) rows r f e = or_map (lists_row xs g) _ _ f (sym (listed_joined xs rows g) ∙ e)
+row_rowed_changed g (DropRows gs) rows r f e = f (without_each_keeps gs g rows e)
 row_rowed_changed g (AddRecord b) rows r f e = f e
 row_rowed_changed g NoChange rows r f e = f e
 
@@ -92,24 +92,30 @@ row_rowed_after tr (Done h) g f r = f (without_keeps h g (log tr) r)
 row_rowed_after tr (Restarted i d n) g f r = row_rowed_restarted g _ (doubt tr) (log tr) _ f r
 row_rowed_after tr _ g f r = f r
 
+-- the rows that a change drops, one of them of the transaction
+pub record Drops (c : Change) (g : Gtrid) : Type 0 where
+  pub dropped : List Gtrid
+  pub is : c ≡ DropRows dropped
+  pub of : has_gtrid dropped g ≡ true
+
 -- why a row is gone
 pub data LeftRow (tr : Trace) (e : Happening) (g : Gtrid) : Type 0 where
   By_done : e ≡ Done g → LeftRow tr e g
-  By_doubt : doubt tr ≡ DropRow g → LeftRow tr e g
+  By_doubt : Drops (doubt tr) g → LeftRow tr e g
 
 row_lost_decided : (x : Row) (g : Gtrid) (t : Bool) (rows : List Row) → lists_row rows g ≡ true → lists_row (if t then x ∷ rows else rows) g ≡ false → ⊥
 row_lost_decided x g true rows e f = let k = or_right (gtrid_eq x.gtrid g) _ e in cc
 row_lost_decided x g false rows e f = cc
 
-row_lost_changed : (g : Gtrid) (c : Change) (rows : List Row) → lists_row rows g ≡ true → lists_row (rows_changed c rows) g ≡ false → c ≡ DropRow g
-row_lost_changed g (AddRow x) rows e f = let k = or_right (gtrid_eq x.gtrid g) _ e in cc
-row_lost_changed g (DropRow h) rows e f = ap (λ x. DropRow x) (without_drops h g rows e f)
-row_lost_changed g (AddRecord b) rows e f = cc
-row_lost_changed g NoChange rows e f = cc
+row_lost_changed : (g : Gtrid) (c : Change) (rows : List Row) → lists_row rows g ≡ true → lists_row (rows_changed c rows) g ≡ false → Drops c g
+row_lost_changed g (AddRows xs) rows e f = let k = listed_joined xs rows g ∙ or_right (lists_row xs g) _ e in absurd (cc)
+row_lost_changed g (DropRows gs) rows e f = record { dropped = gs; is = refl; of = without_each_drops gs g rows e f }
+row_lost_changed g (AddRecord b) rows e f = absurd (cc)
+row_lost_changed g NoChange rows e f = absurd (cc)
 
 row_lost_restarted : (g : Gtrid) (t : Bool) (c : Change) (rows : List Row) → lists_row rows g ≡ true
-    → lists_row (if t then rows else rows_changed c rows) g ≡ false → c ≡ DropRow g
-row_lost_restarted g true c rows e f = cc
+    → lists_row (if t then rows else rows_changed c rows) g ≡ false → Drops c g
+row_lost_restarted g true c rows e f = absurd (cc)
 row_lost_restarted g false c rows e f = row_lost_changed g c rows e f
 
 pub row_lost : (tr : Trace) (e : Happening) (g : Gtrid) → has_row tr g ≡ true → has_row (Then tr e) g ≡ false → LeftRow tr e g
@@ -120,17 +126,27 @@ row_lost tr _ g r n = cc
 
 -- ** the participants of a row
 
--- a row is the first of its list, or one behind it
-data Front (x : Row) (rows : List Row) (g : Gtrid) : Type 0 where
-  In_front : x.gtrid ≡ g → participants_in (x ∷ rows) g ≡ x.participants → Front x rows g
-  Behind : lists_row rows g ≡ true → participants_in (x ∷ rows) g ≡ participants_in rows g → Front x rows g
+-- a row is one of those in front, or one behind them
+data Front (xs rows : List Row) (g : Gtrid) : Type 0 where
+  In_front : lists_row xs g ≡ true → participants_in (xs ++ rows) g ≡ participants_in xs g → Front xs rows g
+  Behind : lists_row rows g ≡ true → participants_in (xs ++ rows) g ≡ participants_in rows g → Front xs rows g
 
-front : (x : Row) (rows : List Row) (g : Gtrid) → lists_row (x ∷ rows) g ≡ true → Front x rows g
-front x rows g e = by_test (gtrid_eq x.gtrid g) refl e
+front : (xs rows : List Row) (g : Gtrid) → lists_row (xs ++ rows) g ≡ true → Front xs rows g
+front [] rows g e = Behind e refl
+front (x ∷ xs) rows g e = by_test (gtrid_eq x.gtrid g) refl e (front xs rows g)
   where
-    by_test : (t : Bool) → gtrid_eq x.gtrid g ≡ t → (t || lists_row rows g) ≡ true → Front x rows g
-    by_test true s e = In_front (gtrid_eq-true x.gtrid g s) (ap (λ t. if t then x.participants else participants_in rows g) s)
-    by_test false s e = Behind e (ap (λ t. if t then x.participants else participants_in rows g) s)
+    choice : (t : Bool) (bs : List Branch) → gtrid_eq x.gtrid g ≡ t
+        → (if gtrid_eq x.gtrid g then x.participants else bs) ≡ (if t then x.participants else bs)
+    choice t bs s = ap (λ u. if u then x.participants else bs) s
+
+    by_rest : gtrid_eq x.gtrid g ≡ false → Front xs rows g → Front (x ∷ xs) rows g
+    by_rest s (In_front l p) = In_front (or_right _ _ l) (choice false _ s ∙ (p ∙ sym (choice false _ s)))
+    by_rest s (Behind l p) = Behind l (choice false _ s ∙ p)
+
+    by_test : (t : Bool) → gtrid_eq x.gtrid g ≡ t → (t || lists_row (xs ++ rows) g) ≡ true → (lists_row (xs ++ rows) g ≡ true → Front xs rows g)
+        → Front (x ∷ xs) rows g
+    by_test true s e k = In_front (or_left _ _ s) (choice true _ s ∙ sym (choice true _ s))
+    by_test false s e k = by_rest s (k e)
 
 without_none : (g : Gtrid) (rows : List Row) → lists_row (without g rows) g ≡ true → ⊥
 without_none g [] e = cc
@@ -163,33 +179,52 @@ without_same h g (x ∷ rows) e = by_tests (gtrid_eq x.gtrid h) (gtrid_eq x.gtri
     by_tests false false p q f e =
         ap (λ s. if s then x.participants else participants_in (without h rows) g) q ∙ f (subst (λ s. (s || lists_row (without h rows) g) ≡ true) q e)
 
+without_each_same : (gs : List Gtrid) (g : Gtrid) (rows : List Row) → lists_row (without_each gs rows) g ≡ true
+    → participants_in (without_each gs rows) g ≡ participants_in rows g
+without_each_same [] g rows e = refl
+without_each_same (h ∷ gs) g rows e = without_each_same gs g (without h rows) e ∙ without_same h g rows (without_each_keeps gs g (without h rows) e)
+
 -- why a row is there: it was, with the same participants, or it is made now
 pub data RowNow (tr : Trace) (e : Happening) (g : Gtrid) : Type 0 where
   Before : has_row tr g ≡ true → participants (Then tr e) g ≡ participants tr g → RowNow tr e g
   Decided_now : e ≡ Decided g Outcome.Commit → participants (Then tr e) g ≡ (row_for tr g).participants → RowNow tr e g
-  Restarted_now : (i d n : ℕ) → e ≡ Restarted i d n → (a : Adds (doubt tr) g) → participants (Then tr e) g ≡ a.added.participants → RowNow tr e g
+  Restarted_now : (i d n : ℕ) → e ≡ Restarted i d n → (a : Adds (doubt tr) g) → participants (Then tr e) g ≡ participants_in a.added g → RowNow tr e g
 
 row_decided_back : (tr : Trace) (h g : Gtrid) → (t : Bool) → was_told tr (says_yes_in h) ≡ t
     → lists_row (if t then row_for tr h ∷ log tr else log tr) g ≡ true → RowNow tr (Decided h Outcome.Commit) g
 row_decided_back tr h g false k r = Before r (ap (λ t. participants_in (if t then row_for tr h ∷ log tr else log tr) g) k)
-row_decided_back tr h g true k r = by_place (front (row_for tr h) (log tr) g r)
+row_decided_back tr h g true k r = by_place (front (row_for tr h ∷ []) (log tr) g r)
   where
     now : participants (Then tr (Decided h Outcome.Commit)) g ≡ participants_in (row_for tr h ∷ log tr) g
     now = ap (λ t. participants_in (if t then row_for tr h ∷ log tr else log tr) g) k
 
-    by_place : Front (row_for tr h) (log tr) g → RowNow tr (Decided h Outcome.Commit) g
-    by_place (In_front s p) = Decided_now (ap (λ x. Decided x Outcome.Commit) s) (now ∙ (p ∙ ap (λ x. (row_for tr x).participants) s))
+    first : (gtrid_eq h g || false) ≡ true → gtrid_eq h g ≡ true
+    first s = by_test (gtrid_eq h g) s
+      where
+        by_test : (t : Bool) → (t || false) ≡ true → t ≡ true
+        by_test true s = refl
+        by_test false s = s
+
+    by_row : gtrid_eq h g ≡ true → participants (Then tr (Decided h Outcome.Commit)) g ≡ participants_in (row_for tr h ∷ []) g
+        → RowNow tr (Decided h Outcome.Commit) g
+    by_row s p =
+        let q = gtrid_eq-true h g s in
+        Decided_now (ap (λ x. Decided x Outcome.Commit) q)
+        (p ∙ (ap (λ t. if t then (row_for tr h).participants else []) s ∙ ap (λ x. (row_for tr x).participants) q))
+
+    by_place : Front (row_for tr h ∷ []) (log tr) g → RowNow tr (Decided h Outcome.Commit) g
+    by_place (In_front s p) = by_row (first s) (now ∙ p)
     by_place (Behind s p) = Before s (now ∙ p)
 
 row_changed_back : (tr : Trace) (i d n : ℕ) (g : Gtrid) (c : Change) → doubt tr ≡ c
     → participants (Then tr (Restarted i d n)) g ≡ participants_in (rows_changed c (log tr)) g
     → lists_row (rows_changed c (log tr)) g ≡ true → RowNow tr (Restarted i d n) g
-row_changed_back tr i d n g (AddRow x) k q r = by_place (front x (log tr) g r)
+row_changed_back tr i d n g (AddRows xs) k q r = by_place (front xs (log tr) g r)
   where
-    by_place : Front x (log tr) g → RowNow tr (Restarted i d n) g
-    by_place (In_front s p) = Restarted_now i d n refl (record { added = x; is = k; of = s }) (q ∙ p)
+    by_place : Front xs (log tr) g → RowNow tr (Restarted i d n) g
+    by_place (In_front s p) = Restarted_now i d n refl (record { added = xs; is = k; of = s }) (q ∙ p)
     by_place (Behind s p) = Before s (q ∙ p)
-row_changed_back tr i d n g (DropRow h) k q r = Before (without_keeps h g (log tr) r) (q ∙ without_same h g (log tr) r)
+row_changed_back tr i d n g (DropRows gs) k q r = Before (without_each_keeps gs g (log tr) r) (q ∙ without_each_same gs g (log tr) r)
 row_changed_back tr i d n g (AddRecord b) k q r = Before r q
 row_changed_back tr i d n g NoChange k q r = Before r q
 

@@ -1,6 +1,6 @@
 -- A history that goes on, and the history of its last process alone: what the two have in common, kept by whatever happens in both.
 use Rattle.std.proofs.Common.{◌≡◌, ℕ, ◌<◌, ◌+◌, List, [], ◌∷◌, ◌++◌, length, Bool, true, false, not, ◌&&◌, ◌||◌, ◌==◌, ◌-◌, refl, sym, ap, ◌∙◌, subst, arith}
-use Rattle.std.specs.Prelude.{cond, filter, if◌then◌else◌, slice_get}
+use Rattle.std.specs.Prelude.{cond, filter, map, if◌then◌else◌, slice_get}
 use Rattle.std.proofs.lemmas.Bool.{or_left, or_right}
 use Rattle.xa_base.specs.Branch.{gtrid_eq, branch_eq}
 use Rattle.xa_base.proofs.BranchKeys.{gtrid_eq-true, branch_eq-refl}
@@ -9,8 +9,9 @@ use Rattle.xa_base.specs.declared.answer.Answer.TheVariants.{Page, Ret}
 use Rattle.xa_base.specs.declared.call.Call.TheVariants as Calls
 use Rattle.xa_base.specs.declared.code.Code.TheVariants as Codes
 use Rattle.xa_base.specs.declared.step.Part.TheVariants as Part
-use Rattle.xa_model.specs.Facts.{up, incarnation, sequence, begun, decided_so, handed_over, claimed, live, started, branches, was_told, was_told_lately, says_yes, says_yes_in, has_branch, has_row, recorded, record_of, record_of_next, row_for, takes_part, fault_change, doubt, log, heuristic_rows, rows_changed, heuristics_changed, Change.AddRow, page, page_after, lists_one_of, resolving_calls, new_calls, new_taken, new_heard, issued, taken, heard, next_answer, breaks, standing, vote, retries}
-use Rattle.xa_model.specs.Protocol.{Right, RightFault}
+use Rattle.xa_model.specs.Facts.{up, incarnation, sequence, begun, decided_so, handed_over, claimed, live, started, branches, was_told, was_told_lately, says_yes, says_yes_in, has_branch, has_row, recorded, record_of, record_of_next, row_for, takes_part, fault_change, doubt, log, heuristic_rows, rows_changed, heuristics_changed, Change.AddRows, page, page_after, lists_one_of, resolving_calls, new_calls, new_taken, new_heard, issued, taken, heard, next_answer, breaks, standing, vote, retries}
+use Rattle.xa_model.specs.Facts.Distinct.{EachOnce}
+use Rattle.xa_model.specs.Protocol.{Right, RightFault, RightRow}
 use Rattle.xa_model.specs.Promises.Processes.{SameRows, SameRecords}
 use Rattle.xa_model.specs.Trace.{Gtrid, Branch, Line, Name, Name.Ours, Name.Foreign, Call, Answer, Outcome, Fault, Fault.InDecide, Fault.InDone, Fault.InHear, Fault.InResolve, Fault.InRestart, Happening, Happening.Begun, Happening.Issued, Happening.Resolved, Happening.ResolvedOpen, Happening.Took, Happening.Heard, Happening.CompletedAlone, Happening.Voted, Happening.PutOff, Happening.Claimed, Happening.Decided, Happening.Done, Happening.Crashed, Happening.Failed, Happening.Restarted, Trace, Trace.Then, line, line_of, line_eq}
 use Rattle.xa_model.proofs.Invariant.{Inv}
@@ -297,14 +298,18 @@ module _ (past : Trace) (inv : Inv past) where
             ap (filter (takes_part tr g)) s.branches_are
             ∙ filter_first (takes_part tr g) (takes_part ur g) (branches ur) (branches past) (part_is s g n) (no_part g n)
 
+    rows_for_are : SameSayings past tr ur → (gs : List Gtrid) → EachOnce (RightRow ur) gs → map (row_for tr) gs ≡ map (row_for ur) gs
+    rows_for_are s [] r = refl
+    rows_for_are s (g ∷ gs) r = λ i. row_for_is s g (live_later tr ur d g r.0.0.is_live) i ∷ rows_for_are s gs r.2 i
+
     -- ** the log
 
     next_answer_is : SameLines tr ur → (l : Line) → next_answer tr l ≡ next_answer ur l
     next_answer_is m l = λ i. slice_get (m.taken_is l i) (length (m.heard_is l i))
 
     fault_is : SameSayings past tr ur → SameLines tr ur → (f : Fault) → RightFault ur f → fault_change tr f ≡ fault_change ur f
-    fault_is s m (InDecide g) r = ap (λ x. AddRow x) (row_for_is s g (live_later tr ur d g r.0.is_live))
-    fault_is s m (InDone g) r = refl
+    fault_is s m (InDecide gs) r = ap (λ x. AddRows x) (rows_for_are s gs r)
+    fault_is s m (InDone gs) r = refl
     fault_is s m (InHear l) r = ap record_of_next (next_answer_is m l)
     fault_is s m InResolve r = refl
     fault_is s m InRestart r = refl

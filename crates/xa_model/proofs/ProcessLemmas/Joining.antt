@@ -10,8 +10,9 @@ use Rattle.xa_base.specs.declared.call.Call.TheVariants as Calls
 use Rattle.xa_base.specs.declared.reply.Event.{Event}
 use Rattle.xa_base.specs.declared.step.Part.TheVariants as Part
 use Rattle.xa_model.specs.Facts.{begun, decided_so, claimed, live, started, was_told, says_yes, says_read_only, acknowledges, is_settled, is_settled_lately, participants, has_row, outlived, next_call, next_answer, is_closed, standing}
+use Rattle.xa_model.specs.Facts.Distinct.{EachOnce}
 use Rattle.xa_model.specs.Facts.InDoubt.{is_in_doubt_at}
-use Rattle.xa_model.specs.Protocol.{HasVoted, AllHaveVoted, AllAreSettled, IsOnlyBranch, IsOpen, IsKnown, MayBeCalled, RightCall, SoundAnswer, IsSoundPage, call_code, RightClaim, RightDecision, IsRowSettled, RightDone, RightFault, Right, AllRight}
+use Rattle.xa_model.specs.Protocol.{HasVoted, AllHaveVoted, AllAreSettled, IsOnlyBranch, IsOpen, IsKnown, MayBeCalled, RightCall, SoundAnswer, IsSoundPage, call_code, RightClaim, RightDecision, IsRowSettled, RightDone, RightRow, RightFault, Right, AllRight}
 use Rattle.xa_model.specs.Promises.Processes.{gone, resumed, Resumes, joined, OfProcesses, OfProcesses.Alone, OfProcesses.First, OfProcesses.Next}
 use Rattle.xa_model.specs.Replies.Allowed.{AllAllowed, with_steps}
 use Rattle.xa_model.specs.Replies.History.{AreAllowed, history}
@@ -29,6 +30,10 @@ use Rattle.xa_model.proofs.ProcessLemmas.Since.{IsLater, none_started}
 code_by_state : (tr ur : Trace) → SameBranches tr ur → (o : Option (_ × Branch)) → call_code ur o ≡ call_code tr o
 code_by_state tr ur h (Some (k, b)) = λ i. answer k (h.states b i) (h.votes b i) (h.retries b i)
 code_by_state tr ur h None = refl
+
+each_once : (P Q : Gtrid → Type 0) → ((g : Gtrid) → P g → Q g) → (gs : List Gtrid) → EachOnce P gs → EachOnce Q gs
+each_once P Q f [] h = tt
+each_once P Q f (g ∷ gs) h = (f g h.0, h.1, each_once P Q f gs h.2)
 
 module _ (past : Trace) (inv : Inv past) (tr ur : Trace) (f : Faces past tr ur) where
   live_same : (g : Gtrid) → live ur g ≡ true → live tr g ≡ true
@@ -182,8 +187,8 @@ module _ (past : Trace) (inv : Inv past) (tr ur : Trace) (f : Faces past tr ur) 
   done_same g r = record { is_up = f.deals.up_is ∙ r.is_up; has = has_row_same g r.has; is_settled = row_settled_same g r.is_settled }
 
   fault_same : (e : Fault) → RightFault ur e → RightFault tr e
-  fault_same (InDecide g) r = (decision_same g Outcome.Commit r.0, told_more _ r.1)
-  fault_same (InDone g) r = done_same g r
+  fault_same (InDecide gs) r = each_once (RightRow ur) (RightRow tr) (λ g k. (decision_same g Outcome.Commit k.0, told_more _ k.1)) gs r
+  fault_same (InDone gs) r = each_once (RightDone ur) (RightDone tr) done_same gs r
   fault_same (InHear l) r = f.deals.up_is ∙ r
   fault_same InResolve r = f.deals.up_is ∙ r
   fault_same InRestart r = f.deals.up_is ∙ r

@@ -1,11 +1,11 @@
 -- What a right history leaves, the next start resumes.
-use Rattle.std.proofs.Common.{◌≡◌, ℕ, ◌+◌, ◌<◌, List, [], ◌∷◌, length, Bool, true, false, ◌&&◌, ◌==◌, refl, sym, ap, ◌∙◌, subst, arith}
+use Rattle.std.proofs.Common.{◌≡◌, ℕ, ◌+◌, ◌<◌, List, [], ◌∷◌, ◌++◌, length, Bool, true, false, ◌&&◌, ◌==◌, refl, sym, ap, ◌∙◌, subst, arith, length-append}
 use Rattle.std.specs.Prelude.{if◌then◌else◌}
 use Rattle.std.proofs.lemmas.Bool.{and_parts, ltb-true, lt-ltb, eq-eqb, eqb-true}
 use Rattle.xa_base.specs.Branch.{IsBranch, gtrid_eq, xid_of_branch}
 use Rattle.xa_base.specs.HeldBranch.{HeldBranch, new_branch}
 use Rattle.xa_base.specs.StateTable.{state_of, broken}
-use Rattle.xa_model.specs.Facts.{doubt, fits, has_record, held_of, heuristic_rows, heuristics_changed, incarnation, log, retries, rows_changed, standing, vote, without, Change, Change.AddRow, Change.DropRow, Change.AddRecord, Change.NoChange}
+use Rattle.xa_model.specs.Facts.{doubt, fits, has_record, held_of, heuristic_rows, heuristics_changed, incarnation, log, retries, rows_changed, standing, vote, without, without_each, Change, Change.AddRows, Change.DropRows, Change.AddRecord, Change.NoChange}
 use Rattle.xa_model.specs.Facts.InDoubt.{name_of}
 use Rattle.xa_model.specs.Promises.Processes.{AllAreNamed, IsLeft, IsLeft.Made, IsLeft.Unmade, Resumes, SameRecords, SameRows, gone, held_in, next_start}
 use Rattle.xa_model.specs.Trace.{Branch, Gtrid, Name.Ours, Recorded, Row, Trace}
@@ -48,15 +48,30 @@ without_all g (x ∷ xs) e = by_test (gtrid_eq x.gtrid g) e (without_all g xs)
     by_test true e f = let l = without_length g xs in absurd (omega (arith, e, l))
     by_test false e f = ap (λ ys. x ∷ ys) (f (omega (arith, e)))
 
+without_each_length : (gs : List Gtrid) (xs : List Row) → length (without_each gs xs) < length xs + 1
+without_each_length [] xs = omega arith
+without_each_length (g ∷ gs) xs =
+    let m = without_each_length gs (without g xs) in let n = without_length g xs in omega (arith, m, n)
+
+without_each_all : (gs : List Gtrid) (xs : List Row) → length (without_each gs xs) ≡ length xs → without_each gs xs ≡ xs
+without_each_all [] xs e = refl
+without_each_all (g ∷ gs) xs e =
+    let m = without_each_length gs (without g xs) in let n = without_length g xs in
+    without_each_all gs (without g xs) (omega (arith, e, m, n)) ∙ without_all g xs (omega (arith, e, m, n))
+
+joined_none : (rows xs : List Row) → length (rows ++ xs) ≡ length xs → rows ++ xs ≡ xs
+joined_none [] xs e = refl
+joined_none (x ∷ rows) xs e = let n = length-append rows xs in absurd (omega (arith, e, n))
+
 unchanged_rows : (c : Change) (xs : List Row) → length (rows_changed c xs) ≡ length xs → rows_changed c xs ≡ xs
-unchanged_rows (AddRow x) xs e = absurd (omega (arith, e))
-unchanged_rows (DropRow g) xs e = without_all g xs e
+unchanged_rows (AddRows rows) xs e = joined_none rows xs e
+unchanged_rows (DropRows gs) xs e = without_each_all gs xs e
 unchanged_rows (AddRecord x) xs e = refl
 unchanged_rows NoChange xs e = refl
 
 unchanged_records : (c : Change) (xs : List Recorded) → length (heuristics_changed c xs) ≡ length xs → heuristics_changed c xs ≡ xs
-unchanged_records (AddRow x) xs e = refl
-unchanged_records (DropRow g) xs e = refl
+unchanged_records (AddRows rows) xs e = refl
+unchanged_records (DropRows gs) xs e = refl
 unchanged_records (AddRecord x) xs e = by_test (has_record xs x.branch) e
   where
     by_test : (t : Bool) → length (if t then xs else x ∷ xs) ≡ length xs → (if t then xs else x ∷ xs) ≡ xs

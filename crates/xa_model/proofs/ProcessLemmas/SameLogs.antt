@@ -1,12 +1,12 @@
 -- Logs that have the same rows and records, after the same changes.
-use Rattle.std.proofs.Common.{◌≡◌, ℕ, suc, ◌+◌, ◌≤◌, List, [], ◌∷◌, length, Bool, true, false, ◌&&◌, ◌||◌, ◌==◌, refl, sym, ap, ◌∙◌, subst, arith, ◌⊎◌}
+use Rattle.std.proofs.Common.{◌≡◌, ℕ, suc, ◌+◌, ◌≤◌, List, [], ◌∷◌, ◌++◌, length, Bool, true, false, ◌&&◌, ◌||◌, ◌==◌, refl, sym, ap, ◌∙◌, subst, arith, ◌⊎◌}
 use Rattle.std.specs.Prelude.{cond, filter, if◌then◌else◌}
 use mathlib.Core.Logic.{◌⊎◌.inl, ◌⊎◌.inr}
 use Rattle.std.proofs.lemmas.Bool.{and_parts, or_cases, or_left, or_right}
 use Rattle.xa_base.specs.Branch.{gtrid_eq, branch_eq}
 use Rattle.xa_base.proofs.BranchKeys.{gtrid_eq-true, gtrid_eq-refl, branch_eq-true, branch_eq-refl}
 use Rattle.xa_model.specs.Trace.{Gtrid, Branch, Row, Recorded}
-use Rattle.xa_model.specs.Facts.{lists_row, without, participants_in, has_branch, has_record, with_record, rows_changed, heuristics_changed, each, each_of_some, Change, Change.AddRow, Change.DropRow, Change.AddRecord, Change.NoChange}
+use Rattle.xa_model.specs.Facts.{lists_row, without, without_each, participants_in, has_branch, has_record, with_record, rows_changed, heuristics_changed, each, each_of_some, Change, Change.AddRows, Change.DropRows, Change.AddRecord, Change.NoChange}
 use Rattle.xa_model.specs.Promises.Processes.{row_count, SameRows, SameRecords}
 
 -- ** rows that are listed
@@ -151,11 +151,19 @@ rows_without h xs ys s = record {
     by_test g b true = refl
     by_test g b false = s.participants g b
 
+rows_joined : (rows xs ys : List Row) → SameRows xs ys → SameRows (rows ++ xs) (rows ++ ys)
+rows_joined [] xs ys s = s
+rows_joined (x ∷ rows) xs ys s = rows_cons x (rows ++ xs) (rows ++ ys) (rows_joined rows xs ys s)
+
+rows_without_each : (gs : List Gtrid) (xs ys : List Row) → SameRows xs ys → SameRows (without_each gs xs) (without_each gs ys)
+rows_without_each [] xs ys s = s
+rows_without_each (g ∷ gs) xs ys s = rows_without_each gs (without g xs) (without g ys) (rows_without g xs ys s)
+
 -- ** changes
 
 pub rows_after_change : (c : Change) (xs ys : List Row) → SameRows xs ys → SameRows (rows_changed c xs) (rows_changed c ys)
-rows_after_change (AddRow x) xs ys s = rows_cons x xs ys s
-rows_after_change (DropRow g) xs ys s = rows_without g xs ys s
+rows_after_change (AddRows rows) xs ys s = rows_joined rows xs ys s
+rows_after_change (DropRows gs) xs ys s = rows_without_each gs xs ys s
 rows_after_change (AddRecord x) xs ys s = s
 rows_after_change NoChange xs ys s = s
 
@@ -187,8 +195,8 @@ with_same x xs ys s =
 
 pub records_after_change : (c : Change) (xs ys : List Recorded) → SameRecords xs ys → SameRecords (heuristics_changed c xs) (heuristics_changed c ys)
 records_after_change (AddRecord x) xs ys s = with_same x xs ys s
-records_after_change (AddRow x) xs ys s = s
-records_after_change (DropRow g) xs ys s = s
+records_after_change (AddRows rows) xs ys s = s
+records_after_change (DropRows gs) xs ys s = s
 records_after_change NoChange xs ys s = s
 
 pub records_found : (n : ℕ) (c : Change) (xs ys : List Recorded) → SameRecords xs ys

@@ -403,11 +403,11 @@ value_right tr (Steps.Restart (Side.Rm n)) r e v = by tr (Steps.Restart (Side.Rm
 value_right tr (Steps.Restart Side.Manager) r e v = restarts_right tr r (none_applies tr (Steps.Restart Side.Manager) Refusal.Busy e) v
 
 pub fault_right : (tr : Trace) (s : Step) → must_refuse tr s ≡ None → UsesLog tr s → Right tr (happened s (Replies.Refused Refusal.LogFault))
-fault_right tr (Steps.Decide g Outcome.Commit) e u = (right_decision tr g Outcome.Commit e, u)
-fault_right tr (Steps.Settle g) e u = (right_settle tr g e, u)
+fault_right tr (Steps.Decide g Outcome.Commit) e u = ((right_decision tr g Outcome.Commit e, u), refl, tt)
+fault_right tr (Steps.Settle g) e u = ((right_settle tr g e, u), refl, tt)
 fault_right tr (Steps.ResolveOpen n) e u = is_up tr (Steps.ResolveOpen n) e refl
 fault_right tr (Steps.Hear t n) e u = is_up tr (Steps.Hear t n) e refl
-fault_right tr (Steps.Done g) e u = right_done tr g e
+fault_right tr (Steps.Done g) e u = (right_done tr g e, refl, tt)
 fault_right tr (Steps.Resolve n) e u = is_up tr (Steps.Resolve n) e refl
 fault_right tr (Steps.Restart Side.Manager) e u = none_applies tr (Steps.Restart Side.Manager) Refusal.Busy e
 fault_right tr _ e u = absurd u

@@ -1,6 +1,6 @@
 -- The rows of the log, and the change of them that a failure may have left in doubt. Only decisions to commit are kept: no row
 -- means rollback (presumed rollback: XA, section 2.3, Transaction Completion and Recovery). Heuristic rows are of section 2.3.3.
-use Rattle.std.specs.Prelude.{List, [], ◌∷◌, length, Bool, false, not, ◌&&◌, ◌||◌, ◌==◌, if◌then◌else◌, Option, Some, None, filter, nat_lt}
+use Rattle.std.specs.Prelude.{List, [], ◌∷◌, ◌++◌, length, map, Bool, false, not, ◌&&◌, ◌||◌, ◌==◌, if◌then◌else◌, Option, Some, None, filter, nat_lt}
 use Rattle.xa_base.specs.Branch.{gtrid_eq, branch_eq}
 use Rattle.xa_base.specs.declared.code.Code.TheVariants as Codes
 use Rattle.xa_base.specs.declared.step.Outcome.TheVariants as Outcome
@@ -24,10 +24,20 @@ abbrev pub without : Gtrid → List Row → List Row
 without g [] = []
 without g (x ∷ xs) = if gtrid_eq x.gtrid g then without g xs else x ∷ without g xs
 
+-- the rows but for those of some transactions
+abbrev pub without_each : List Gtrid → List Row → List Row
+without_each [] rows = rows
+without_each (g ∷ gs) rows = without_each gs (without g rows)
+
 -- the branches whose xa_commit the row of a transaction waits for
 abbrev pub participants_in : List Row → Gtrid → List Branch
 participants_in [] g = []
 participants_in (x ∷ xs) g = if gtrid_eq x.gtrid g then x.participants else participants_in xs g
+
+-- whether a transaction is among these
+abbrev pub has_gtrid : List Gtrid → Gtrid → Bool
+has_gtrid [] g = false
+has_gtrid (h ∷ gs) g = gtrid_eq h g || has_gtrid gs g
 
 -- whether a branch is among these
 abbrev pub has_branch : List Branch → Branch → Bool
@@ -50,17 +60,17 @@ with_record x xs = if has_record xs x.branch then xs else x ∷ xs
 
 -- ** changes
 
--- a change of the log
+-- a change of the log: all of it is made, or nothing of it
 pub data Change : Type 0 where
-  AddRow : Row → Change
-  DropRow : Gtrid → Change
+  AddRows : List Row → Change
+  DropRows : List Gtrid → Change
   AddRecord : Recorded → Change
   NoChange : Change
 
 -- the rows after a change
 abbrev pub rows_changed : Change → List Row → List Row
-rows_changed (AddRow x) rows = x ∷ rows
-rows_changed (DropRow g) rows = without g rows
+rows_changed (AddRows xs) rows = xs ++ rows
+rows_changed (DropRows gs) rows = without_each gs rows
 rows_changed _ rows = rows
 
 -- the heuristic rows after a change
@@ -91,8 +101,8 @@ record_of_next None = NoChange
 
 -- the change that was to be made where the log failed
 abbrev pub fault_change : Trace → Fault → Change
-fault_change tr (InDecide g) = AddRow (row_for tr g)
-fault_change tr (InDone g) = DropRow g
+fault_change tr (InDecide gs) = AddRows (map (row_for tr) gs)
+fault_change tr (InDone gs) = DropRows gs
 fault_change tr (InHear l) = record_of_next (next_answer tr l)
 fault_change tr _ = NoChange
 
@@ -124,7 +134,7 @@ participants tr g = participants_in (log tr) g
 
 -- whether a change adds a row of the transaction
 abbrev pub adds_row : Change → Gtrid → Bool
-adds_row (AddRow x) g = gtrid_eq x.gtrid g
+adds_row (AddRows xs) g = lists_row xs g
 adds_row _ g = false
 
 -- a row was there at some time, even if it has left since

@@ -1,5 +1,5 @@
 -- Steps and replies with their identifiers read as names, and what they come to.
-use Rattle.std.specs.Prelude.{Option, Some, None}
+use Rattle.std.specs.Prelude.{[], ◌∷◌, Option, Some, None}
 use Rattle.xa_base.specs.Call.{call_if, map_call}
 use Rattle.xa_base.specs.Answer.{map_answer}
 use Rattle.xa_base.specs.declared.call.Call as Called
@@ -60,11 +60,11 @@ module _ {X Y : Type 0} where
 -- a step in which the log failed. A settlement counts as a decision to commit
 abbrev pub log_failed : Step → Happening
 log_failed (Steps.Hear t r) = Happening.Failed (InHear (line t r))
-log_failed (Steps.Decide g o) = Happening.Failed (InDecide g)
-log_failed (Steps.Settle g) = Happening.Failed (InDecide g)
+log_failed (Steps.Decide g o) = Happening.Failed (InDecide (g ∷ []))
+log_failed (Steps.Settle g) = Happening.Failed (InDecide (g ∷ []))
 log_failed (Steps.Resolve r) = Happening.Failed InResolve
 log_failed (Steps.ResolveOpen r) = Happening.Failed InResolve
-log_failed (Steps.Done g) = Happening.Failed (InDone g)
+log_failed (Steps.Done g) = Happening.Failed (InDone (g ∷ []))
 log_failed (Steps.Restart Side.Manager) = Happening.Failed InRestart
 log_failed _ = Happening.Nothing
 

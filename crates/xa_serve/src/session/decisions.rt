@@ -1,11 +1,11 @@
 //! Transactions that begin, are claimed and are decided.
 
-ghost use Rattle.std.specs.Prelude.{◌≡◌, ◌≢◌, ◌+◌, Bool, Some, None, Err, IfErr, IfOk, OnErr, OnOk};
+ghost use Rattle.std.specs.Prelude.{◌≡◌, ◌≢◌, ◌+◌, [], ◌∷◌, Bool, Some, None, Err, IfErr, IfOk, OnErr, OnOk};
 ghost use Rattle.xa_base.specs.declared.refusal.Refusal.TheVariants as Refusals;
 ghost use Rattle.xa_base.specs.declared.step.Outcome.TheVariants as Outcomes;
 ghost use Rattle.xa_base.specs.declared.step.Step.TheVariants as Steps;
 ghost use Rattle.xa_model.specs.Trace.{Fault.InDecide, Fault.InDone, Happening.Begun, Happening.Claimed, Happening.Decided, Happening.Done, Happening.Failed};
-ghost use Rattle.xa_tm.specs.Book.{Doubt.Adds, Doubt.Drops, after, book_after, voted_yes};
+ghost use Rattle.xa_tm.specs.Book.{Doubt.Adds, Doubt.Drops, after, book_after, rows_for};
 ghost use Rattle.xa_tm.specs.BookAndLog.{IsTied};
 ghost use Rattle.xa_tm.specs.Calls.{FailsBy, book_in, log_in};
 ghost use Rattle.xa_serve.specs.Following.{Follows, StaysAs};
@@ -101,8 +101,8 @@ impl<L: DecisionLog + Drop> Session<L> {
         ensures ok { OnOk result (book_in self.new.manager ≡
             after (book_in self.old.manager) (Decided gtrid outcome)) }
         ensures err { refusal_at self.old (Steps.Decide gtrid outcome) ≡ None →
-            IfErr result (FailsBy (Adds gtrid (voted_yes (book_in self.old.manager) gtrid))
-            (InDecide gtrid) (book_in self.old.manager) (book_in self.new.manager)) }
+            IfErr result (FailsBy (Adds (rows_for (book_in self.old.manager) (gtrid ∷ [])))
+            (InDecide (gtrid ∷ [])) (book_in self.old.manager) (book_in self.new.manager)) }
         ensures follows { OnOk result (Follows (Decided gtrid outcome) self.old self.new) }
         ensures stays { IfErr result (λ n. n ≢ Refusals.LogFault →
             StaysAs self.old self.new) }
@@ -135,8 +135,8 @@ impl<L: DecisionLog + Drop> Session<L> {
         ensures ok { OnOk result (book_in self.new.manager ≡
             after (book_in self.old.manager) (Decided gtrid Outcomes.Commit)) }
         ensures err { refusal_at self.old (Steps.Settle gtrid) ≡ None →
-            IfErr result (FailsBy (Adds gtrid (voted_yes (book_in self.old.manager) gtrid))
-            (InDecide gtrid) (book_in self.old.manager) (book_in self.new.manager)) }
+            IfErr result (FailsBy (Adds (rows_for (book_in self.old.manager) (gtrid ∷ [])))
+            (InDecide (gtrid ∷ [])) (book_in self.old.manager) (book_in self.new.manager)) }
         ensures follows { OnOk result
             (Follows (Decided gtrid Outcomes.Commit) self.old self.new) }
         ensures stays { IfErr result (λ n. n ≢ Refusals.LogFault →
@@ -206,7 +206,7 @@ impl<L: DecisionLog + Drop> Session<L> {
             (book_in self.new.manager ≡ after (book_in self.old.manager) (Done gtrid)) }
         ensures err { refusal_at self.old (Steps.Done gtrid) ≡ None →
             IfErr result (λ n. (n ≡ Refusals.LogFault) × (book_in self.new.manager ≡
-            book_after (book_in self.old.manager) (Drops gtrid) (Failed (InDone gtrid)))) }
+            book_after (book_in self.old.manager) (Drops (gtrid ∷ [])) (Failed (InDone (gtrid ∷ []))))) }
         ensures follows { OnOk result (Follows (Done gtrid) self.old self.new) }
         ensures stays { IfErr result (λ n. n ≢ Refusals.LogFault →
             StaysAs self.old self.new) }

@@ -14,6 +14,7 @@ use Rattle.xa_log.specs.Contract.{Moment}
 use Rattle.xa_model.specs.Facts.{fits, origin, up}
 use Rattle.xa_model.specs.Replies.History.{history}
 use Rattle.xa_model.specs.Trace.{Trace}
+use Rattle.xa_model.proofs.AgreementLemmas.Distinct.{doubt_is_new_to}
 use Rattle.xa_model.proofs.ProcessLemmas.Leaving.{branch_fits, fits_branch}
 use Rattle.xa_tm.specs.declared.slot.Slot.{Slot}
 use Rattle.xa_system.specs.LogInHistory.{IsAsTold, LogStands, LogStandsBy, MayHoldRows, MayRestartOver}
@@ -69,7 +70,7 @@ module _ {R L : Type 0} (see : Sees R (Slot L)) (moment : L → Moment) (a : Ins
   pub leaves_all : (held : Option Content) (c : Content) → held ≡ Some c → LogStands tr held → MayRestartOver tr held → Leaves see.look tr rms c
   leaves_all held c is stands may = record {
     branches = leaves_branch;
-    log = record { rows = by_up (up tr) stands; least = (may c is).least };
+    log = record { rows = by_up (up tr) stands; is_new = doubt_is_new_to tr sound.stands.kept.run; least = (may c is).least };
   }
     where
       by_up : (u : Bool) → LogStandsBy u tr held → MayHoldRows tr c

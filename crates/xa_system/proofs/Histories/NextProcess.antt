@@ -53,8 +53,8 @@ module _ {R : Type 0} (look : R → Look) (old new : List R) (crashes : AreCrash
         → Resumes past (origin_from look threads new i rows records)
     start_resumes c apart over past leaves = record {
       later = let next = over.incarnation in let least = leaves.log.least in omega (arith, next, least);
-      rows = next_rows past (origin_from look threads new i rows records) c leaves.log.rows over apart;
-      records = next_records past (origin_from look threads new i rows records) c leaves.log.rows over;
+      rows = next_rows past (origin_from look threads new i rows records) c leaves.log.is_new leaves.log.rows over apart;
+      records = next_records past (origin_from look threads new i rows records) c leaves.log.is_new leaves.log.rows over;
       states = λ b. ap (λ (h : HeldBranch). state_of h.standing) (crashed_among b) ∙ (leaves.branches b).state;
       votes = λ b. ap (λ (h : HeldBranch). h.vote) (crashed_among b) ∙ (leaves.branches b).vote_is;
       retries = λ b. ap (λ (h : HeldBranch). h.retries) (crashed_among b) ∙ (leaves.branches b).retries_are;

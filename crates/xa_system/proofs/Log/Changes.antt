@@ -1,20 +1,24 @@
 -- What a happening does to the log of a manager.
 use Rattle.std.proofs.Common.{◌≡◌, ◌≢◌, ◌⊎◌, inl, inr, ℕ, zero, suc, Bool, true, false, refl, sym, ap, subst, ◌∙◌, arith}
-use Rattle.std.specs.Prelude.{Option, Some, None, IsSomeAnd, Result, Ok, Err}
+use Rattle.std.specs.Prelude.{if◌then◌else◌, Option, Some, None, IsSomeAnd, Result, Ok, Err}
 use Rattle.std.proofs.lemmas.Bool.{true≢false}
-use Rattle.xa_model.specs.Facts.{fault_change}
-use Rattle.xa_model.specs.Trace.{Call, Fault, Fault.InRestart, Happening, Happening.Begun, Happening.Claimed, Happening.Failed, Happening.Issued, Line, Trace}
+use Rattle.xa_model.specs.Facts.{doubt, fault_change, log, up}
+use Rattle.xa_model.specs.Facts.Distinct.{IsNewTo}
+use Rattle.xa_model.specs.Protocol.{IsRun, RightFault}
+use Rattle.xa_model.specs.Trace.{Call, Fault, Fault.InRestart, Happening, Happening.Begun, Happening.Claimed, Happening.Failed, Happening.Issued, Line, Trace, Trace.Then}
 use Rattle.xa_base.specs.declared.branch.Gtrid.{Gtrid}
 use Rattle.xa_base.specs.declared.refusal.Refusal.{Refusal}
 use Rattle.xa_base.specs.declared.refusal.Refusal.TheVariants as Refusals
 use Rattle.xa_log.specs.Content.{Content, with_bump}
 use Rattle.xa_log.specs.Contract.{LeavesAlso, MayMake, Moment, one_more_fault}
+use Rattle.xa_model.proofs.AgreementLemmas.Distinct.{doubt_is_new_to}
+use Rattle.xa_tm.proofs.History.RowCounts.{new_change}
 use Rattle.xa_tm.proofs.Log.Leaves.{left_by_a_fault, left_by_a_restart}
 use Rattle.xa_tm.proofs.Log.Ties.{tied_same, up_content}
-use Rattle.xa_tm.specs.Book.{Book, Doubt.NoDoubt, after, book_after, doubt_of, failed_restarts_after}
+use Rattle.xa_tm.specs.Book.{Book, Doubt.NoDoubt, after, book_after, book_of, doubt_of, failed_restarts_after}
 use Rattle.xa_tm.specs.Calls.{AsksFor, book_in, faults_by, log_in}
 use Rattle.xa_tm.specs.Slots.{durable_in, last_out, log_held, slot_moment}
-use Rattle.xa_tm.specs.BookAndLog.{IsTied, IsTiedDown, IsTiedUp, TiedBy, changed_by}
+use Rattle.xa_tm.specs.BookAndLog.{IsChangeOf, IsTied, IsTiedDown, IsTiedUp, TiedBy, changed_by}
 use Rattle.xa_tm.specs.declared.manager.Manager.{Manager}
 use Rattle.xa_system.specs.LogInHistory.{AreTied, IsDurable, LogFollows, MayHaveFailed, change_in, count_after}
 use Rattle.xa_system.proofs.Log.Laws.{made_is}
@@ -70,6 +74,13 @@ asked_is : (tr : Trace) (f : Fault) → ((m : ℕ) → failed_restarts_after (Fa
     → change_in tr f c ≡ changed_by (doubt_of (fault_change tr f)) c
 asked_is tr InRestart still c = absurd (let one : suc zero ≡ zero = still zero in cc)
 asked_is tr f still c = sym (made_is (fault_change tr f) c)
+
+-- what the log is asked for where it may have failed is a change of the rows that are there
+pub fault_is_change : (tr : Trace) (f : Fault) (k : Book) → k ≡ book_of tr → IsRun tr → RightFault tr f → up tr ≡ true
+    → IsChangeOf k.row (doubt_of (fault_change tr f))
+fault_is_change tr f k at run right is_up = subst (λ (b : Book). IsChangeOf b.row (doubt_of (fault_change tr f))) (sym at)
+    (new_change (log tr) (fault_change tr f)
+    (subst (λ (t : Bool). IsNewTo (log tr) (if t then fault_change tr f else doubt tr)) is_up (doubt_is_new_to (Then tr (Failed f)) (run, right))))
 
 -- no failure, nothing that may have changed
 none_failed : (tr : Trace) (e : Happening) (old new : Option Content) → IsUncounted e → MayHaveFailed tr e old new
@@ -192,15 +203,15 @@ module _ {L : Type 0} (moment : L → Moment) where
 
   -- the manager was up
   pub log_failing : {A : Type 0} {tr : Trace} (f : Fault) (n : Refusal) (old new : Manager L) → n ≡ Refusals.LogFault
-      → (book_in old).up ≡ true → ((m : ℕ) → failed_restarts_after (Failed f) m ≡ m)
+      → (book_in old).up ≡ true → IsChangeOf (book_in old).row (doubt_of (fault_change tr f)) → ((m : ℕ) → failed_restarts_after (Failed f) m ≡ m)
       → book_in new ≡ book_after (book_in old) (doubt_of (fault_change tr f)) (Failed f)
       → LogUndone A n (change_in tr f) old new → LogFollows moment tr (Failed f) old new
-  log_failing {A = A} {tr = tr} f n old new is up still book did =
+  log_failing {A = A} {tr = tr} f n old new is up asked still book did =
       failing_as f n old new is did (inl (counted did.called.counts)) (λ near durable order honest h may d left.
       subst (λ k. IsTied near k (Some d)) (sym book)
       (tied_down near (book_after (book_in old) (doubt_of (fault_change tr f)) (Failed f)) d refl
       (left_by_a_fault near (book_in old) (doubt_of (fault_change tr f)) f (moment (log_in old)).content (moment (log_in old)).may_leave
-      (moment (log_in new)).may_leave up (still (book_in old).failed_restarts) h (λ b c. durable (log_in old) b c order)
+      (moment (log_in new)).may_leave up asked (still (book_in old).failed_restarts) h (λ b c. durable (log_in old) b c order)
       (subst (λ (change : Content → Content). LeavesAlso change (moment (log_in old)).content (moment (log_in old)).may_leave (moment (log_in new)).may_leave)
       (λ i c. asked_is tr f still c i) (did.crash order honest)) d left)))
     where

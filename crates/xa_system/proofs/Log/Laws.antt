@@ -4,7 +4,8 @@ use Rattle.std.specs.Prelude.{◌||◌, if◌then◌else◌, Option, Some, None,
 use Rattle.xa_base.specs.Branch.{gtrid_eq}
 use Rattle.xa_model.specs.Facts as facts
 use Rattle.xa_model.specs.Replies.Allowed.{failed_restarts}
-use Rattle.xa_model.specs.Facts.{Change, Change.AddRecord, Change.AddRow, Change.DropRow, Change.NoChange, lists_row, participants_in}
+use Rattle.xa_model.specs.Facts.{Change, Change.AddRecord, Change.AddRows, Change.DropRows, Change.NoChange, lists_row, participants_in}
+use Rattle.xa_model.specs.Facts.Distinct.{IsNewTo}
 use Rattle.xa_model.specs.Trace.{Origin, Row, Trace, Trace.From}
 use Rattle.xa_base.specs.declared.branch.Gtrid.{Gtrid}
 use Rattle.xa_log.specs.Content.{Content, with_bump}
@@ -12,7 +13,8 @@ use Rattle.xa_log.specs.Contract.{Makes}
 use Rattle.xa_log.specs.KeySet.{from_list}
 use Rattle.xa_tm.specs.Book.{Book, book_of, doubt_of, row_in}
 use Rattle.xa_tm.specs.Starting.{book_at_start}
-use Rattle.xa_tm.specs.BookAndLog.{HoldsBook, IsTied, IsTiedUp, MayHold, SameRows, TiedBy, changed_by}
+use Rattle.xa_tm.proofs.History.RowCounts.{new_change}
+use Rattle.xa_tm.specs.BookAndLog.{HoldsBook, IsChangeOf, IsTied, IsTiedUp, MayHold, SameRows, TiedBy, changed_by}
 use Rattle.xa_system.specs.LogInHistory.{HoldsRows, IsBeforeNext, LeftBy, LogStands, LogStandsBy, MayBeLeft, MayHoldRows, MayRestartOver, StartsOver, after_change}
 
 -- ** rows
@@ -28,8 +30,8 @@ row_in_is (x ∷ xs) g = by (gtrid_eq x.gtrid g) (row_in_is xs g)
     by false e = e
 
 pub made_is : (d : Change) (c : Content) → changed_by (doubt_of d) c ≡ after_change d c
-made_is (AddRow x) c = refl
-made_is (DropRow g) c = refl
+made_is (AddRows xs) c = refl
+made_is (DropRows gs) c = refl
 made_is (AddRecord x) c = refl
 made_is NoChange c = refl
 
@@ -44,10 +46,10 @@ holds_rows tr c holds = record {
 may_hold_rows : (tr : Trace) (c : Content) → MayHold (book_of tr) c → MayHoldRows tr c
 may_hold_rows tr c holds = (holds.0, holds_rows tr holds.0 holds.1, by holds.2)
   where
-    by : SameRows c holds.0 ⊎ SameRows c (changed_by (doubt_of (facts.doubt tr)) holds.0) → SameRows c holds.0
-        ⊎ SameRows c (after_change (facts.doubt tr) holds.0)
+    by : SameRows c holds.0 ⊎ (IsChangeOf (book_of tr).row (doubt_of (facts.doubt tr)) × SameRows c (changed_by (doubt_of (facts.doubt tr)) holds.0))
+        → SameRows c holds.0 ⊎ SameRows c (after_change (facts.doubt tr) holds.0)
     by (inl same) = inl same
-    by (inr same) = inr (subst (SameRows c) (made_is (facts.doubt tr) holds.0) same)
+    by (inr made) = inr (subst (SameRows c) (made_is (facts.doubt tr) holds.0) made.1)
 
 -- what the history tells of is what its book says
 rows_held : (tr : Trace) (c : Content) → HoldsRows tr c → HoldsBook (book_of tr) c
@@ -58,13 +60,14 @@ rows_held tr c holds = record {
   record_number = holds.record_number;
 }
 
-pub rows_may_hold : (tr : Trace) (c : Content) → MayHoldRows tr c → MayHold (book_of tr) c
-rows_may_hold tr c holds = (holds.0, rows_held tr holds.0 holds.1, by holds.2)
+pub rows_may_hold : (tr : Trace) (c : Content) → IsNewTo (facts.log tr) (facts.doubt tr) → MayHoldRows tr c → MayHold (book_of tr) c
+rows_may_hold tr c new holds = (holds.0, rows_held tr holds.0 holds.1, by holds.2)
   where
     by : SameRows c holds.0 ⊎ SameRows c (after_change (facts.doubt tr) holds.0) → SameRows c holds.0
-        ⊎ SameRows c (changed_by (doubt_of (facts.doubt tr)) holds.0)
+        ⊎ (IsChangeOf (book_of tr).row (doubt_of (facts.doubt tr)) × SameRows c (changed_by (doubt_of (facts.doubt tr)) holds.0))
     by (inl same) = inl same
-    by (inr same) = inr (subst (SameRows c) (sym (made_is (facts.doubt tr) holds.0)) same)
+    by (inr same) =
+        inr (new_change (facts.log tr) (facts.doubt tr) new, subst (SameRows c) (sym (made_is (facts.doubt tr) holds.0)) same)
 
 -- what is tied to the book of a history is where the history leaves it
 pub tied_stands : (tr : Trace) (held : Option Content) → IsTied false (book_of tr) held → LogStands tr held

@@ -1,9 +1,10 @@
 -- A start over a log that a history leaves has the rows and the records of the history.
-use Rattle.std.proofs.Common.{◌≡◌, ◌≤◌, ◌+◌, ◌-◌, ◌⊎◌, inl, inr, suc, List, [], ◌∷◌, length, Bool, true, false, refl, sym, ap, subst, ◌∙◌, arith}
+use Rattle.std.proofs.Common.{◌≡◌, ◌≤◌, ◌+◌, ◌-◌, ◌⊎◌, inl, inr, suc, List, [], ◌∷◌, length, map, Bool, true, false, refl, sym, ap, subst, ◌∙◌, arith, length-append}
 use Rattle.std.specs.Prelude.{◌==◌, ◌||◌, cond, filter, if◌then◌else◌, is_some, Option, Some, None}
 use Rattle.std.specs.FinMap.{FinMap, contains_key, empty, get, get-empty, get-insert, insert, len, len-empty, len-insert, len-remove, remove, same_map}
 use Rattle.std.specs.List.{list_any}
 use Rattle.std.specs.Ordering.{eq_by_cmp}
+use Rattle.std.proofs.lemmas.List.{length-map}
 use Rattle.std.proofs.lemmas.Bool.{eq-eqb, eqb-true, true≢false}
 use Rattle.xa_base.specs.Branch.{branch_cmp, gtrid_cmp, gtrid_eq}
 use Rattle.xa_base.specs.declared.branch.Branch.{Branch}
@@ -13,18 +14,19 @@ use Rattle.xa_base.proofs.BranchOrder.{branches_total, exact_gtrids, gtrids_tota
 use Rattle.xa_base.proofs.Orders.{branch_swap, gtrid_swap}
 use Rattle.xa_log.specs.Content.{Content, with_bump}
 use Rattle.xa_log.specs.KeySet.{contains, contains-from_list, from_list}
-use Rattle.xa_model.specs.Facts.{Change, Change.AddRecord, Change.AddRow, Change.DropRow, Change.NoChange, doubt, has_branch, has_record, heuristic_rows, heuristics_changed, how_in, lists_row, log, participants_in, rows_changed, without}
-use Rattle.xa_model.specs.Facts.Distinct.{ApartRows}
+use Rattle.xa_model.specs.Facts.{Change, Change.AddRecord, Change.AddRows, Change.DropRows, Change.NoChange, doubt, has_branch, has_record, heuristic_rows, heuristics_changed, how_in, lists_row, log, participants_in, rows_changed, without}
+use Rattle.xa_model.specs.Facts.Distinct.{ApartRows, IsNewTo}
 use Rattle.xa_model.specs.Promises.Processes.{SameRecords, gone, resumed, row_count}
 use Rattle.xa_model.specs.Promises.Processes as processes
 use Rattle.xa_model.specs.Trace.{Happening.Restarted, Origin, Recorded, Row, Trace}
-use Rattle.xa_tm.specs.Book.{Book, Waiting, after, book_of, doubt_of, recorded_with, row_in, row_with}
-use Rattle.xa_tm.specs.BookAndLog.{FoundIn, IsTied, IsTiedDown, IsTiedUp, SameRows}
-use Rattle.xa_tm.proofs.History.OneMore.{has_record_is, how_changed, row_changed}
-use Rattle.xa_tm.proofs.History.RowCounts.{one_row_less}
+use Rattle.xa_tm.specs.Book.{Book, Waiting, after, book_of, doubt_of, recorded_with, row_in, row_with, waiting_row}
+use Rattle.xa_tm.specs.BookAndLog.{FoundIn, IsTied, IsTiedDown, IsTiedUp, SameRows, rows_of}
+use Rattle.xa_tm.proofs.History.OneMore.{has_record_is, how_changed, lists_is, row_changed}
+use Rattle.xa_tm.proofs.History.RowCounts.{each_row_less, new_change}
 use Rattle.xa_tm.proofs.Log.Restart.{tied_restart}
+use Rattle.xa_tm.proofs.Several.Contents.{added_heuristics, changed_len, dropped_heuristics, of_same}
 use Rattle.xa_system.specs.LogInHistory.{MayHoldRows, StartsOver, after_change}
-use Rattle.xa_system.proofs.Log.Laws.{row_in_is, rows_may_hold}
+use Rattle.xa_system.proofs.Log.Laws.{made_is, row_in_is, rows_may_hold}
 
 -- ** rows as a map
 
@@ -49,13 +51,6 @@ row_map_most (x ∷ xs) =
     by true e most = omega (arith, e, most)
     by false e most = omega (arith, e, most)
 
-listed_is : (xs : List Row) (g : Gtrid) → lists_row xs g ≡ is_some (row_in xs g)
-listed_is xs g = by (lists_row xs g) (row_in_is xs g)
-  where
-    by : (t : Bool) → row_in xs g ≡ (if t then Some (from_list (participants_in xs g)) else None) → t ≡ is_some (row_in xs g)
-    by true e = sym (ap is_some e)
-    by false e = sym (ap is_some e)
-
 -- rows are of different transactions where a map of as many has them
 map_apart : (xs : List Row) → len (row_map xs) ≡ length xs → ApartRows xs
 map_apart [] e = tt
@@ -66,7 +61,7 @@ map_apart (x ∷ xs) e =
         → len (insert (row_map xs) x.gtrid (from_list x.participants)) ≡ cond t (len (row_map xs)) (len (row_map xs) + 1)
         → len (row_map xs) ≤ length xs → (len (row_map xs) ≡ length xs → ApartRows xs) → ApartRows (x ∷ xs)
     by true has n most rest = absurd (omega (arith, e, n, most))
-    by false has n most rest = (listed_is xs x.gtrid ∙ ap is_some (sym (row_map_is xs x.gtrid)) ∙ has, rest (omega (arith, e, n)))
+    by false has n most rest = (lists_is xs x.gtrid ∙ ap is_some (sym (row_map_is xs x.gtrid)) ∙ has, rest (omega (arith, e, n)))
 
 held_apart : (c : Content) (xs : List Row) → ((g : Gtrid) → get c.decisions g ≡ row_in xs g) → len c.decisions ≡ length xs → ApartRows xs
 held_apart c xs rows number =
@@ -107,48 +102,30 @@ same_rows : (xs ys : List Row) → ApartRows xs → ApartRows ys → length xs �
 same_rows xs ys apart apart_too number rows = record {
   number = number;
   count = λ g. one_counted xs apart g
-      ∙ ap (λ (t : Bool). if t then 1 else 0) (listed_is xs g ∙ ap is_some (rows g) ∙ sym (listed_is ys g)) ∙ sym (one_counted ys apart_too g);
+      ∙ ap (λ (t : Bool). if t then 1 else 0) (lists_is xs g ∙ ap is_some (rows g) ∙ sym (lists_is ys g)) ∙ sym (one_counted ys apart_too g);
   participants = λ g b. waits_is xs g b ∙ ap (λ o. waits_in o b) (rows g) ∙ sym (waits_is ys g b);
 }
 
 -- ** how many there are with the change in doubt
 
-rows_then : (x : Change) (b : Content) (rows : List Row) → ApartRows rows → ((g : Gtrid) → get b.decisions g ≡ row_in rows g)
-    → len b.decisions ≡ length rows
-    → (len (after_change x b).decisions ≡ length rows) ⊎ (len (after_change x b).decisions ≡ length (rows_changed x rows))
-rows_then (AddRow r) b rows apart at number = by (contains_key b.decisions r.gtrid) refl
-  where
-    by : (t : Bool) → contains_key b.decisions r.gtrid ≡ t
-        → (len (if t then b else record b { decisions = insert b.decisions r.gtrid (from_list r.participants) }).decisions ≡ length rows)
-        ⊎ (len (if t then b else record b { decisions = insert b.decisions r.gtrid (from_list r.participants) }).decisions ≡ length (r ∷ rows))
-    by true has = inl number
-    by false has = inr (let grown = len-insert gtrids_total b.decisions r.gtrid (from_list r.participants)
-        ∙ ap (λ t. cond t (len b.decisions) (len b.decisions + 1)) has in omega (arith, grown, number))
-rows_then (DropRow g) b rows apart at number = by (contains_key b.decisions g) refl
-  where
-    by : (t : Bool) → contains_key b.decisions g ≡ t
-        → (len (remove b.decisions g) ≡ length rows) ⊎ (len (remove b.decisions g) ≡ length (without g rows))
-    by true has = inr (len-remove gtrids_total b.decisions g ∙ ap (λ t. cond t (len b.decisions - 1) (len b.decisions)) has
-        ∙ ap (λ n. n - 1) number ∙ sym (one_row_less g rows apart (listed_is rows g ∙ ap is_some (sym (at g)) ∙ has)))
-    by false has = inl (len-remove gtrids_total b.decisions g ∙ ap (λ t. cond t (len b.decisions - 1) (len b.decisions)) has ∙ number)
-rows_then (AddRecord r) b rows apart at number = by (contains_key b.heuristics r.branch)
-  where
-    by : (t : Bool) → (len (if t then b else record b { heuristics = insert b.heuristics r.branch r.how }).decisions ≡ length rows)
-        ⊎ (len (if t then b else record b { heuristics = insert b.heuristics r.branch r.how }).decisions ≡ length rows)
-    by true = inl number
-    by false = inl number
-rows_then NoChange b rows apart at number = inl number
+rows_numbered : (x : Change) (rows : List Row) → ApartRows rows → IsNewTo rows x → rows_of (doubt_of x) (length rows) ≡ length (rows_changed x rows)
+rows_numbered (AddRows xs) rows apart new = let both = length-append xs rows in let same = length-map xs waiting_row in omega (arith, both, same)
+rows_numbered (DropRows gs) rows apart new = sym (each_row_less gs rows apart new)
+rows_numbered (AddRecord r) rows apart new = refl
+rows_numbered NoChange rows apart new = refl
+
+rows_then : (x : Change) (b : Content) (rows : List Row) → ApartRows rows → IsNewTo rows x → ((g : Gtrid) → get b.decisions g ≡ row_in rows g)
+    → len b.decisions ≡ length rows → len (after_change x b).decisions ≡ length (rows_changed x rows)
+rows_then x b rows apart new at number =
+    ap (λ (c : Content). len c.decisions) (sym (made_is x b))
+    ∙ changed_len (doubt_of x) b (of_same (row_in rows) (λ g. get b.decisions g) (doubt_of x) at (new_change rows x new))
+    ∙ ap (rows_of (doubt_of x)) number ∙ rows_numbered x rows apart new
 
 records_then : (x : Change) (b : Content) (records : List Recorded) → ((q : Branch) → get b.heuristics q ≡ how_in records q)
     → len b.heuristics ≡ length records
     → (len (after_change x b).heuristics ≡ length records) ⊎ (len (after_change x b).heuristics ≡ length (heuristics_changed x records))
-records_then (AddRow r) b records at number = by (contains_key b.decisions r.gtrid)
-  where
-    by : (t : Bool) → (len (if t then b else record b { decisions = insert b.decisions r.gtrid (from_list r.participants) }).heuristics ≡ length records)
-        ⊎ (len (if t then b else record b { decisions = insert b.decisions r.gtrid (from_list r.participants) }).heuristics ≡ length records)
-    by true = inl number
-    by false = inl number
-records_then (DropRow g) b records at number = inl number
+records_then (AddRows xs) b records at number = inl (ap len (added_heuristics (map waiting_row xs) b) ∙ number)
+records_then (DropRows gs) b records at number = inl (ap len (dropped_heuristics gs b) ∙ number)
 records_then (AddRecord r) b records at number =
     by (contains_key b.heuristics r.branch) refl (has_record_is records r.branch ∙ ap is_some (sym (at r.branch)))
   where
@@ -167,13 +144,13 @@ records_then NoChange b records at number = inl number
 
 -- ** the log of the next start
 
-module _ (past : Trace) (o : Origin) (c : Content) (left : MayHoldRows past c) (over : StartsOver o c) where
+module _ (past : Trace) (o : Origin) (c : Content) (new : IsNewTo (log past) (doubt past)) (left : MayHoldRows past c) (over : StartsOver o c) where
   abbrev n : Book
   n = after (book_of (gone past)) (Restarted o.incarnation (length o.rows) (length o.heuristic_rows))
 
   tied : IsTied false (book_of (gone past)) (Some c)
   tied = λ d is. subst (IsTiedDown false (book_of (gone past))) (let same : c ≡ d = cc in same) (record {
-    holds = rows_may_hold (gone past) c (
+    holds = rows_may_hold (gone past) c new (
       left.0,
       record { rows = left.1.rows; row_number = left.1.row_number; records = left.1.records; record_number = left.1.record_number },
       left.2,
@@ -213,11 +190,8 @@ module _ (past : Trace) (o : Origin) (c : Content) (left : MayHoldRows past c) (
           → length o.rows ≡ length (if t then log past else rows_changed (doubt past) (log past))
       by true e s = eqb-true _ _ e
       by false e (inl s) = absurd (true≢false (sym (eq-eqb _ _ (sym over.rows.row_number ∙ ap len s.decisions ∙ left.1.row_number)) ∙ e))
-      by false e (inr s) =
-          elim (rows_then (doubt past) left.0 (log past) (held_apart left.0 (log past) row_at left.1.row_number) row_at left.1.row_number) [
-            | inl same ↦ absurd (true≢false (sym (eq-eqb _ _ (sym over.rows.row_number ∙ ap len s.decisions ∙ same)) ∙ e))
-            | inr same ↦ sym over.rows.row_number ∙ ap len s.decisions ∙ same
-          ]
+      by false e (inr s) = sym over.rows.row_number ∙ ap len s.decisions
+          ∙ rows_then (doubt past) left.0 (log past) (held_apart left.0 (log past) row_at left.1.row_number) new row_at left.1.row_number
 
   record_number : length o.heuristic_rows ≡ length (heuristic_rows (resumed past o))
   record_number = by (length o.heuristic_rows == length (heuristic_rows past)) refl left.2

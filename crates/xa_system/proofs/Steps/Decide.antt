@@ -20,7 +20,8 @@ use Rattle.xa_base.specs.declared.refusal.Refusal.TheVariants as Refusals
 use Rattle.xa_base.specs.declared.reply.Reply.{Reply}
 use Rattle.xa_base.specs.declared.reply.Reply.TheVariants as Replies
 use Rattle.xa_base.specs.declared.step.Step.{Step}
-use Rattle.xa_model.proofs.Replies.Replies.{IsForced, forced}
+use Rattle.xa_model.proofs.Replies.Replies.{IsForced, fault_right, forced}
+use Rattle.xa_model.specs.Protocol.{Right}
 use Rattle.xa_line.specs.Grid.{Grid, new_grid}
 use Rattle.xa_tm.specs.declared.manager.Manager.{Manager}
 use Rattle.xa_log.specs.Content.{Content}
@@ -30,7 +31,7 @@ use Rattle.xa_system.specs.Steps.{AllCrash}
 use Rattle.xa_system.specs.declared.parts.Parts.{Parts}
 use Rattle.xa_system.specs.declared.site.Site.{Site}
 use Rattle.xa_system.proofs.Steps.Hear.{fail_goes}
-use Rattle.xa_system.proofs.Log.Changes.{LogUndone, log_failing}
+use Rattle.xa_system.proofs.Log.Changes.{LogUndone, fault_is_change, log_failing}
 use Rattle.xa_system.proofs.Steps.OfManager.{err_is, judged, not_fault}
 use Rattle.xa_system.proofs.Histories.Standing.{lacking_goes, rule_goes}
 use Rattle.xa_tm.specs.Book.{Book, Doubt, doubt_of_happening, book_after, book_of, failed_restarts_after}
@@ -115,7 +116,9 @@ module _ {R L : Type 0} (see : Sees R L) where
           fail_goes see tr step f reply parts sites lines manager stands has (is ∙ ap (λ m. Replies.Refused m) w.0) none
           (uses tr stands.book free w.0) fault (up tr none) (crash w.0) (broken w.0)
           (w.1 ∙ ap (λ d. book_after (book_in parts.manager) d (Failed f)) (asks tr stands.book))
-          (log_failing see.moment f n parts.manager manager w.0 (ap (λ (k : Book). k.up) stands.book ∙ up tr none) still
+          (log_failing see.moment f n parts.manager manager w.0 (ap (λ (k : Book). k.up) stands.book ∙ up tr none)
+          (fault_is_change tr f (book_in parts.manager) stands.book stands.kept.run
+          (subst (Right tr) fault (fault_right tr (step_of step) none (uses tr stands.book free w.0))) (up tr none)) still
           (w.1 ∙ ap (λ d. book_after (book_in parts.manager) d (Failed f)) (asks tr stands.book))
           (subst (λ (d : Content → Content). LogUndone see.moment A n d parts.manager manager) (λ i c. changes tr c stands.book i) undone))
 

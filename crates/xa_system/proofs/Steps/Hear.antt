@@ -57,7 +57,7 @@ use Rattle.xa_system.proofs.OnBranch.{ours_back}
 use Rattle.xa_system.proofs.Log.Laws.{made_is}
 use Rattle.xa_log.specs.Content.{Content}
 use Rattle.xa_tm.specs.BookAndLog.{changed_by}
-use Rattle.xa_system.proofs.Log.Changes.{LogCalled, LogUndone, log_done, log_failing}
+use Rattle.xa_system.proofs.Log.Changes.{LogCalled, LogUndone, fault_is_change, log_done, log_failing}
 use Rattle.xa_system.specs.LogInHistory.{LogFollows, after_change}
 use Rattle.xa_system.proofs.Steps.OfManager.{book_then, up_where, within}
 use Rattle.xa_system.proofs.Histories.Standing.{Follows, IsEvent, goes_as, has_line, lacking_goes, lines_with, nothing_follows, site_stays, there_is}
@@ -345,7 +345,8 @@ module _ {R L : Type 0} (see : Sees R L) where
             hear_failed call a (uses w.0).0 sites lines manager reply first (is ∙ ap (λ m. Replies.Refused m) w.0) (uses w.0).1 up (crash w.0) (broken w.0)
             (λ c e. subst (λ d. book_in manager ≡ book_after (book_in parts.manager) (doubt_of (facts.record_of d (map_answer name_of a)))
             (Failed (InHear (line t r)))) (let two : Some (heard_known call a first).0 ≡ Some c = sym (heard_known call a first).1 ∙ e in some_is _ _ two) w.1)
-            (log_failing see.moment (InHear (line t r)) n parts.manager manager w.0 (ap (λ (b : Book). b.up) stands.book ∙ up) (λ m. refl)
+            (log_failing see.moment (InHear (line t r)) n parts.manager manager w.0 (ap (λ (b : Book). b.up) stands.book ∙ up)
+            (fault_is_change tr (InHear (line t r)) (book_in parts.manager) stands.book stands.kept.run up up) (λ m. refl)
             (w.1 ∙ ap (λ d. book_after (book_in parts.manager) (doubt_of d) (Failed (InHear (line t r))))
             (sym (ap facts.record_of_next (heard_known call a first).2)))
             (subst (λ (d : Content → Content). LogUndone see.moment (Unit {0}) n d parts.manager manager)

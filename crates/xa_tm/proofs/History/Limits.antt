@@ -11,15 +11,16 @@ use Rattle.xa_base.specs.declared.step.Outcome.TheVariants as Outcome
 use Rattle.xa_base.specs.declared.step.Part.TheVariants as Part
 use Rattle.xa_base.specs.Branch.{branch_eq, branch_of_xid, gtrid_eq}
 use Rattle.xa_model.specs.Replies.Allowed.{failed_restarts, with_steps}
-use Rattle.xa_model.specs.Facts.{Change, Change.AddRow, Change.DropRow, Change.AddRecord, Change.NoChange, adds_row, begun, doubt, fault_change, had_row, has_record, held_of, heuristic_rows, heuristics_changed, incarnation, lists_row, live, log, next_answer, origin, record_of, record_of_next, row_for, rows_changed, says_yes_in, sequence, started, was_told, up, without, begins, has_voted}
+use Rattle.xa_model.specs.Facts.{Change, Change.AddRows, Change.DropRows, Change.AddRecord, Change.NoChange, adds_row, begun, doubt, fault_change, had_row, has_record, held_of, heuristic_rows, heuristics_changed, incarnation, lists_row, live, log, next_answer, origin, record_of, record_of_next, sequence, started, up, begins, has_voted}
 use Rattle.xa_model.specs.Replies.History.{history, read}
-use Rattle.xa_model.specs.Protocol.{IsRun, Right, RightFault, RightOrigin}
+use Rattle.xa_model.specs.Protocol.{IsRun, Right, RightFault, RightOrigin, RightRow}
 use Rattle.xa_model.specs.Replies.Steps.{Reply, Step, happened}
-use Rattle.xa_model.specs.Trace.{Fault, Fault.InDecide, Fault.InHear, Fault.InRestart, Happening, Happening.Begun, Happening.Crashed, Happening.Decided, Happening.Done, Happening.Failed, Happening.Heard, Happening.Issued, Happening.Restarted, Origin, Recorded, Row, Trace, Trace.From, Trace.Then}
+use Rattle.xa_model.specs.Trace.{Fault, Fault.InDecide, Fault.InHear, Fault.InRestart, Happening, Happening.Begun, Happening.Crashed, Happening.Decided, Happening.Failed, Happening.Heard, Happening.Issued, Happening.Restarted, Origin, Recorded, Trace, Trace.From, Trace.Then}
 use Rattle.xa_base.specs.Xid.{Xid}
 use Rattle.xa_model.proofs.Invariant.{Inv, Old}
 use Rattle.xa_base.proofs.BranchKeys.{branch_eq-true, gtrid_eq-true}
 use Rattle.xa_model.proofs.Invariant.Preservation.{run_always}
+use Rattle.xa_model.proofs.Invariant.RowLists.{each_is, rows_made}
 use Rattle.xa_model.proofs.Invariant.Rows.{NewRow, NewRow.Had, NewRow.By_decision, NewRow.By_restart, rowed_new}
 use Rattle.xa_log.specs.Content.{last_number}
 use Rattle.xa_log.specs.Contract.{FitsRow}
@@ -29,6 +30,7 @@ use Rattle.xa_tm.specs.LedgerBook.{IsSound}
 use Rattle.xa_tm.specs.Limits.{FitsIncarnation, HasRoomForRun, IsWithinLimits, happenings, most_events}
 use Rattle.xa_tm.specs.Starting.{IsOld}
 use Rattle.xa_tm.proofs.History.Refusals.{has_row_is, recorded_is}
+use Rattle.xa_tm.proofs.History.RowBounds.{rows_begun}
 use Rattle.xa_tm.proofs.History.RowCounts.{next_or_none}
 use Rattle.xa_tm.proofs.History.Soundness.{no_row}
 
@@ -95,21 +97,7 @@ unsettled_few (Then tr (Issued l (Calls.Start b true))) g = one_up (gtrid_eq b.g
 unsettled_few (Then tr (Heard l c a)) g = one_down (is_counted (is_unsettled tr) g (settler c a)) _ _ (unsettled_few tr g)
 unsettled_few (Then tr _) g = as_before _ _ (unsettled_few tr g)
 
--- ** numbers of rows
-
-without_fewer : (g : Gtrid) (xs : List Row) → length (without g xs) ≤ length xs
-without_fewer g [] = omega arith
-without_fewer g (x ∷ xs) = by (gtrid_eq x.gtrid g) (without_fewer g xs)
-  where
-    by : (t : Bool) → length (without g xs) ≤ length xs → length (if t then without g xs else x ∷ without g xs) ≤ length (x ∷ xs)
-    by true h = omega (arith, h)
-    by false h = omega (arith, h)
-
-changed_few : (c : Change) (xs : List Row) (n : ℕ) → length xs ≤ n → length (rows_changed c xs) ≤ n + 1
-changed_few (AddRow x) xs n h = omega (arith, h)
-changed_few (DropRow g) xs n h = let less = without_fewer g xs in omega (arith, h, less)
-changed_few (AddRecord x) xs n h = omega (arith, h)
-changed_few NoChange xs n h = omega (arith, h)
+-- ** numbers of rows and of records
 
 recorded_few : (c : Change) (xs : List Recorded) (n : ℕ) → length xs ≤ n → length (heuristics_changed c xs) ≤ n + 1
 recorded_few (AddRecord x) xs n h = by (has_record xs x.branch)
@@ -117,29 +105,15 @@ recorded_few (AddRecord x) xs n h = by (has_record xs x.branch)
     by : (t : Bool) → length (if t then xs else x ∷ xs) ≤ n + 1
     by true = omega (arith, h)
     by false = omega (arith, h)
-recorded_few (AddRow x) xs n h = omega (arith, h)
-recorded_few (DropRow g) xs n h = omega (arith, h)
+recorded_few (AddRows rows) xs n h = omega (arith, h)
+recorded_few (DropRows gs) xs n h = omega (arith, h)
 recorded_few NoChange xs n h = omega (arith, h)
 
 shifted : (n a m : ℕ) → n ≤ a + m + 1 → n ≤ a + (m + 1)
 shifted n a m h = omega (arith, h)
 
-rows_few : (tr : Trace) → length (log tr) ≤ length (origin tr).rows + happenings tr
-rows_few (From o) = omega arith
-rows_few (Then tr (Decided g Outcome.Commit)) = by (was_told tr (says_yes_in g)) (rows_few tr)
-  where
-    by : (t : Bool) → length (log tr) ≤ length (origin tr).rows + happenings tr
-        → length (if t then row_for tr g ∷ log tr else log tr) ≤ length (origin tr).rows + (happenings tr + 1)
-    by true h = omega (arith, h)
-    by false h = omega (arith, h)
-rows_few (Then tr (Done g)) = let less = without_fewer g (log tr) in let h = rows_few tr in omega (arith, less, h)
-rows_few (Then tr (Restarted i d n)) = by (d == length (log tr)) (rows_few tr)
-  where
-    by : (t : Bool) → length (log tr) ≤ length (origin tr).rows + happenings tr
-        → length (if t then log tr else rows_changed (doubt tr) (log tr)) ≤ length (origin tr).rows + (happenings tr + 1)
-    by true h = omega (arith, h)
-    by false h = shifted _ (length (origin tr).rows) (happenings tr) (changed_few (doubt tr) (log tr) _ h)
-rows_few (Then tr _) = let h = rows_few tr in omega (arith, h)
+rows_few : (tr : Trace) → IsRun tr → length (log tr) ≤ length (origin tr).rows + happenings tr
+rows_few tr r = let bound = rows_begun tr r in let few = begins_few tr in omega (arith, bound, few)
 
 records_few : (tr : Trace) → length (heuristic_rows tr) ≤ length (origin tr).heuristic_rows + happenings tr
 records_few (From o) = omega arith
@@ -195,7 +169,7 @@ started_fits (Then tr _) b e r = as_before _ _ (started_fits tr b e r.0)
 -- ** rows fit the log
 
 fault_fits : (tr : Trace) (f : Fault) (g : Gtrid) → IsRun tr → RightFault tr f → adds_row (fault_change tr f) g ≡ true → g.sequence ≤ happenings tr
-fault_fits tr (InDecide h) g r right e = subst (λ (x : Gtrid). x.sequence ≤ happenings tr) (gtrid_eq-true h g e) (live_fits tr h r right.0.is_live)
+fault_fits tr (InDecide gs) g r right e = live_fits tr g r (each_is (RightRow tr) gs right g (sym (rows_made tr gs g) ∙ e)).0.is_live
 fault_fits tr (InHear l) g r right e = by (next_or_none (next_answer tr l))
   where
     by : ((x : Recorded) × (record_of_next (next_answer tr l) ≡ AddRecord x)) ⊎ (record_of_next (next_answer tr l) ≡ NoChange) → g.sequence ≤ happenings tr
@@ -260,7 +234,7 @@ module _ (tr : Trace) (limits : IsWithinLimits tr) (sound : IsSound (book_of (Fr
   book_is_sound room = record {
     begins = begins_cover tr;
     restarts = few_below (failed_restarts tr) (failed_few tr);
-    rows = room_below _ (length (origin tr).rows) (rows_few tr) room.rows;
+    rows = room_below _ (length (origin tr).rows) (rows_few tr limits.right) room.rows;
     records = room_below _ (length (origin tr).heuristic_rows) (records_few tr) room.records;
     fits = limits.fits;
     fits_begins = begins_fit;

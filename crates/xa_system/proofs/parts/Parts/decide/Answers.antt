@@ -1,4 +1,4 @@
-use Rattle.std.proofs.Common.{refl, ap, ◌∙◌}
+use Rattle.std.proofs.Common.{[], ◌∷◌, refl, ap, ◌∙◌}
 use Rattle.std.specs.Prelude.{Result, Err}
 use Rattle.xa_tm.proofs.History.Recovery.{decision_asks}
 use Rattle.xa_model.specs.Trace.{Fault.InDecide}
@@ -10,7 +10,7 @@ use Rattle.xa_system.specs.Parts.{sees}
 use Rattle.xa_system.proofs.Steps.Decide.{row_is_asked, manager_undone}
 use Rattle.xa_system.proofs.Steps.OfManager.{decide_did, sound_book, up_where}
 use Rattle.xa_system.proofs.Log.Changes.{log_called, log_undone}
-use Rattle.xa_tm.specs.Book.{Book, Doubt.Adds, voted_yes}
+use Rattle.xa_tm.specs.Book.{Book, Doubt.Adds, rows_for}
 use Rattle.xa_system.proofs.parts.Parts.decide.Goals as goal
 
 pub decide-requires : goal.decide-requires
@@ -30,14 +30,14 @@ pub returns-in-Err : goal.returns-in-Err
 returns-in-Err g c =
     let see = sees g.R.ResourceManager.look g.L.DecisionLog.moment in
     let p = c.args.self.now in
-    manager_undone see {A = Unit {0}} (Steps.Decide c.args.gtrid c.args.outcome) (InDecide c.args.gtrid)
-    (Adds c.args.gtrid (voted_yes (book_in p.manager) c.args.gtrid))
-    (changed_by (Adds c.args.gtrid (voted_yes (book_in p.manager) c.args.gtrid))) p c.in-Err.refusal c.undone.new.sites c.undone.new.lines c.decide.new.self
+    manager_undone see {A = Unit {0}} (Steps.Decide c.args.gtrid c.args.outcome) (InDecide (c.args.gtrid ∷ []))
+    (Adds (rows_for (book_in p.manager) (c.args.gtrid ∷ [])))
+    (changed_by (Adds (rows_for (book_in p.manager) (c.args.gtrid ∷ [])))) p c.in-Err.refusal c.undone.new.sites c.undone.new.lines c.decide.new.self
     c.undone.result tt tt (λ tr. refl) (λ tr. tt) refl
     (λ m. refl) (λ tr. up_where tr (Steps.Decide c.args.gtrid c.args.outcome) refl)
-    (λ tr at. ap (λ (k : Book). Adds c.args.gtrid (voted_yes k c.args.gtrid)) at ∙ decision_asks tr c.args.gtrid)
+    (λ tr at. ap (λ (k : Book). Adds (rows_for k (c.args.gtrid ∷ []))) at ∙ decision_asks tr (c.args.gtrid ∷ []))
     (λ tr at free e. row_is_asked tr c.args.gtrid c.args.outcome at
     (c.in-Err.ensures.asked free (ap (λ (m : Refusal). let x : Result (Unit {0}) Refusal = Err m in x) e))) c.undone.ensures.reply c.in-Err.ensures.refused
     c.in-Err.ensures.err c.undone.ensures.failed c.undone.ensures.broken c.undone.ensures.sites_stay c.undone.ensures.lines_stay
-    (λ tr d at. ap (λ (k : Book). changed_by (Adds c.args.gtrid (voted_yes k c.args.gtrid)) d) at ∙ ap (λ e. changed_by e d) (decision_asks tr c.args.gtrid))
+    (λ tr d at. ap (λ (k : Book). changed_by (Adds (rows_for k (c.args.gtrid ∷ []))) d) at ∙ ap (λ e. changed_by e d) (decision_asks tr (c.args.gtrid ∷ [])))
     (log_undone see.moment c.in-Err.refusal _ p.manager c.decide.new.self c.in-Err.ensures.asks c.in-Err.ensures.tied c.in-Err.ensures.kept)

@@ -1,4 +1,4 @@
-use Rattle.std.proofs.Common.{refl, inr}
+use Rattle.std.proofs.Common.{[], ◌∷◌, refl, inr}
 use Rattle.xa_model.specs.Trace.{Fault.InDone}
 use Rattle.xa_base.specs.declared.step.Step.TheVariants as Steps
 use Rattle.xa_tm.specs.BookAndLog.{changed_by}
@@ -26,8 +26,8 @@ pub returns-in-Err : goal.returns-in-Err
 returns-in-Err g c =
     let see = sees g.R.ResourceManager.look g.L.DecisionLog.moment in
     let p = c.args.self.now in
-    manager_undone see {A = Unit {0}} (Steps.Done c.args.gtrid) (InDone c.args.gtrid) (Drops c.args.gtrid)
-    (changed_by (Drops c.args.gtrid)) p c.in-Err.refusal c.undone.new.sites c.undone.new.lines c.done.new.self c.undone.result tt tt (λ tr. refl)
+    manager_undone see {A = Unit {0}} (Steps.Done c.args.gtrid) (InDone (c.args.gtrid ∷ [])) (Drops (c.args.gtrid ∷ []))
+    (changed_by (Drops (c.args.gtrid ∷ []))) p c.in-Err.refusal c.undone.new.sites c.undone.new.lines c.done.new.self c.undone.result tt tt (λ tr. refl)
     (λ tr. tt) refl
     (λ m. refl) (λ tr. up_where tr (Steps.Done c.args.gtrid) refl) (λ tr at. refl) (λ tr at free e. tt) c.undone.ensures.reply c.in-Err.ensures.refused
     (λ free. inr (c.in-Err.ensures.err free)) c.undone.ensures.failed c.undone.ensures.broken c.undone.ensures.sites_stay c.undone.ensures.lines_stay

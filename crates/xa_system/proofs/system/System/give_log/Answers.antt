@@ -10,6 +10,7 @@ use Rattle.xa_tm.specs.Slots.{TakesIn, honest_in, last_out, log_held, order_in, 
 use Rattle.xa_tm.specs.declared.slot.Slot.{Slot}
 use Rattle.xa_system.specs.LogInHistory.{MayHoldRows}
 use Rattle.xa_system.specs.SystemView.{Observes, observes, view_of, trace_in}
+use Rattle.xa_model.proofs.AgreementLemmas.Distinct.{doubt_is_new_to}
 use Rattle.xa_system.proofs.Log.Laws.{rows_may_hold}
 use Rattle.xa_tm.specs.BookAndLog.{MayHold}
 use Rattle.xa_tm.proofs.History.HeardAnswers.{if_err}
@@ -22,7 +23,7 @@ returns-clause-only_other_rows g c =
     if_err c.give_log-given.result _ _ (λ e only is order honest content held may.
     only is order honest content held
     (subst (λ k. MayHold k content) (sym c.self.invariant.stands.book)
-    (rows_may_hold tr content (subst (λ v. MayHoldRows (trace_in see.look v) content) (sym c.self.view_is) may)))) c.give_log-given.ensures.only_other_rows
+    (rows_may_hold tr content (doubt_is_new_to tr c.self.invariant.stands.kept.run) (subst (λ v. MayHoldRows (trace_in see.look v) content) (sym c.self.view_is) may)))) c.give_log-given.ensures.only_other_rows
 
 pub invariant_of-self : goal.invariant_of-self
 invariant_of-self g c =
