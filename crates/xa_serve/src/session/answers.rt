@@ -124,7 +124,7 @@ impl<L: DecisionLog + Drop> Session<L> {
             }
             Err(refusal) => {
                 self.monitor.drop_room();
-                let _ = self.conclude(Err(refusal));
+                let _ = self.conclude(Err(refusal), 1);
                 Err(Unfit::Refused(refusal))
             }
         }

@@ -87,42 +87,6 @@ impl<L: DecisionLog + Drop> Session<L> {
         }
     }
 
-    /// Decides a transaction. Where the log fails, the manager is down and all lines break.
-    pub fn decide(&mut self, gtrid: Gtrid, outcome: Outcome) -> Result<(), Refusal>
-        requires { IsReady self.old }
-        ensures ready { IsReady self.new }
-        // A rule that refuses changes nothing.
-        ensures refused { (n : Refusal) →
-            refusal_at self.old (Steps.Decide gtrid outcome) ≡ Some n →
-            (result ≡ Err n) × (self.new ≡ self.old) }
-        ensures allowed { OnOk result
-            (refusal_at self.old (Steps.Decide gtrid outcome) ≡ None) }
-        // What the book then says.
-        ensures ok { OnOk result (book_in self.new.manager ≡
-            after (book_in self.old.manager) (Decided gtrid outcome)) }
-        ensures err { refusal_at self.old (Steps.Decide gtrid outcome) ≡ None →
-            IfErr result (FailsBy (Adds gtrid (voted_yes (book_in self.old.manager) gtrid))
-            (InDecide gtrid) (book_in self.old.manager) (book_in self.new.manager)) }
-        ensures follows { OnOk result (Follows (Decided gtrid outcome) self.old self.new) }
-        ensures stays { IfErr result (λ n. n ≢ Refusals.LogFault →
-            StaysAs self.old self.new) }
-        // The log and the lines.
-        ensures log { IfErr result (λ n. n ≢ Refusals.LogFault →
-            log_in self.new.manager ≡ log_in self.old.manager) }
-        ensures tied { (near : Bool) → (L.moment (log_in self.old.manager)).is_in_order →
-            (L.moment (log_in self.new.manager)).is_honest →
-            IsTied near (book_in self.old.manager) (L.moment (log_in self.old.manager)).content →
-            IsTied near (book_in self.new.manager) (L.moment (log_in self.new.manager)).content }
-        ensures lines { self.new.lines ≡ lines_by result self.old.lines }
-    {
-        books_have_headroom();
-        if self.is_over() {
-            return Err(Refusal::Limit);
-        }
-        let reply = self.manager.decide(gtrid, outcome);
-        self.conclude(reply)
-    }
-
     /// Commits a claimed transaction. Where the log fails, the manager is down and all lines break.
     pub fn settle(&mut self, gtrid: Gtrid) -> Result<(), Refusal>
         requires { IsReady self.old }
@@ -155,7 +119,7 @@ impl<L: DecisionLog + Drop> Session<L> {
             return Err(Refusal::Limit);
         }
         let reply = self.manager.settle(gtrid);
-        self.conclude(reply)
+        self.conclude(reply, 1)
     }
 
     /// Rolls a claimed transaction back. The log is not asked.
@@ -190,40 +154,5 @@ impl<L: DecisionLog + Drop> Session<L> {
             }
             Err(refusal) => Err(refusal),
         }
-    }
-
-    /// Takes the row of a transaction away that waits for nothing more. Where the log fails, the manager is down and
-    /// all lines break.
-    pub fn done(&mut self, gtrid: Gtrid) -> Result<(), Refusal>
-        requires { IsReady self.old }
-        ensures ready { IsReady self.new }
-        // A rule that refuses changes nothing.
-        ensures refused { (n : Refusal) → refusal_at self.old (Steps.Done gtrid) ≡ Some n →
-            (result ≡ Err n) × (self.new ≡ self.old) }
-        ensures allowed { OnOk result (refusal_at self.old (Steps.Done gtrid) ≡ None) }
-        // What the book then says.
-        ensures ok { OnOk result
-            (book_in self.new.manager ≡ after (book_in self.old.manager) (Done gtrid)) }
-        ensures err { refusal_at self.old (Steps.Done gtrid) ≡ None →
-            IfErr result (λ n. (n ≡ Refusals.LogFault) × (book_in self.new.manager ≡
-            book_after (book_in self.old.manager) (Drops gtrid) (Failed (InDone gtrid)))) }
-        ensures follows { OnOk result (Follows (Done gtrid) self.old self.new) }
-        ensures stays { IfErr result (λ n. n ≢ Refusals.LogFault →
-            StaysAs self.old self.new) }
-        // The log and the lines.
-        ensures log { IfErr result (λ n. n ≢ Refusals.LogFault →
-            log_in self.new.manager ≡ log_in self.old.manager) }
-        ensures tied { (near : Bool) → (L.moment (log_in self.old.manager)).is_in_order →
-            (L.moment (log_in self.new.manager)).is_honest →
-            IsTied near (book_in self.old.manager) (L.moment (log_in self.old.manager)).content →
-            IsTied near (book_in self.new.manager) (L.moment (log_in self.new.manager)).content }
-        ensures lines { self.new.lines ≡ lines_by result self.old.lines }
-    {
-        books_have_headroom();
-        if self.is_over() {
-            return Err(Refusal::Limit);
-        }
-        let reply = self.manager.done(gtrid);
-        self.conclude(reply)
     }
 }
