@@ -246,3 +246,19 @@ module _ {L : Type 0} (old new : Session L) (m : Manager L) (counted : ℕ) wher
   concluded_err why session_why asked f reply result is done same err none =
       subst (λ r. IfErr r (FailsBy asked f (book_in old.manager) (book_in new.manager))) (sym same)
       (subst (λ n. IfErr reply (FailsBy asked f (book_in old.manager) (book_in n))) (sym done.manager) (err (sym is ∙ none)))
+
+  -- what a rule refuses is refused, and changes nothing
+  pub concluded_refused : (why session_why : Option Refusal) (reply result : Result (Unit {0}) Refusal) (n : Refusal) → session_why ≡ why
+      → (why ≡ Some LogFault → ⊥) → Concludes reply → result ≡ reply → new.monitor ≡ old.monitor
+      → ((n : Refusal) → why ≡ Some n → (reply ≡ Err n) × (m ≡ old.manager)) → session_why ≡ Some n → (result ≡ Err n) × (new ≡ old)
+  concluded_refused why session_why reply result n is never done same monitor refused some =
+      let found = refused n (sym is ∙ some) in
+      (same ∙ found.0, by found.0 found.1 (fault_or_kept n))
+    where
+      by : reply ≡ Err n → m ≡ old.manager → (n ≡ LogFault) ⊎ IsKept n → new ≡ old
+      by told left (inl fault) = absurd (never (sym is ∙ some ∙ ap (λ x. Some x) fault))
+      by told left (inr kept) =
+          let lines = done.lines ∙ ap (λ r. lines_by r old.lines) told ∙ kept.1 old.lines in
+          let count = done.happenings ∙ ap (λ r. happenings_by r counted old.happenings) told ∙ kept.0 counted old.happenings in
+          let manager = done.manager ∙ left in
+          λ i. record { manager = manager i; lines = lines i; monitor = monitor i; happenings = count i }

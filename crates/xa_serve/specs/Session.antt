@@ -10,13 +10,14 @@ use Rattle.xa_base.specs.declared.branch.Gtrid.{Gtrid}
 use Rattle.xa_base.specs.declared.call.Call.{Call}
 use Rattle.xa_base.specs.declared.refusal.Refusal.{Refusal}
 use Rattle.xa_base.specs.declared.refusal.Refusal.TheVariants.{Closed, Full, Limit, LogFault, ManagerDown, NotOpen}
+use Rattle.xa_base.specs.declared.step.Outcome.{Outcome}
 use Rattle.xa_base.specs.declared.step.Step.TheVariants as Steps
 use Rattle.xa_line.specs.Grid.{Grid, HasLine, line_at, new_grid, with_line}
 use Rattle.xa_line.specs.Histories.{AreKnownAs, known}
 use Rattle.xa_line.specs.Traffic.{Flow, Traffic, barred, is_full, issued, places}
 use Rattle.xa_model.specs.Replies.History.{name_of}
 use Rattle.xa_model.specs.Replies.Steps.{Step}
-use Rattle.xa_model.specs.Trace.{Branch, Call as KnownCall, Happening, line}
+use Rattle.xa_model.specs.Trace.{Branch, Call as KnownCall, Happening, Happening.Decided, Happening.Done, line}
 use Rattle.xa_standings.specs.Monitor.{CanExplain, IsSomewhere, states_of}
 use Rattle.xa_tm.specs.Calls.{book_in}
 use Rattle.xa_tm.specs.Refusing.{refusal_in, service_refusal_in}
@@ -56,6 +57,14 @@ has_room_for s n = not (is_over s) && nat_le n (first_headroom - s.happenings)
 -- why it refuses steps that ask no line, one for each of these transactions and in turn: the first reason that applies
 abbrev pub refusal_of_all : {L : Type 0} → Session L → (step : Gtrid → Step) → (does : Gtrid → Happening) → List Gtrid → Option Refusal
 refusal_of_all s step does gs = if has_room_for s (length gs) then refusal_in_turn step does (book_in s.manager) gs else Some Limit
+
+-- why it refuses to decide these transactions so
+abbrev pub decide_refusal : {L : Type 0} → Session L → Outcome → List Gtrid → Option Refusal
+decide_refusal s outcome gs = refusal_of_all s (λ g. Steps.Decide g outcome) (λ g. Decided g outcome) gs
+
+-- why it refuses that these are done
+abbrev pub done_refusal : {L : Type 0} → Session L → List Gtrid → Option Refusal
+done_refusal s gs = refusal_of_all s (λ g. Steps.Done g) (λ g. Done g) gs
 
 -- why it refuses a thread's begin, the first reason that applies
 abbrev pub begin_refusal : {L : Type 0} → Session L → (thread : ℕ) → Option Refusal

@@ -16,6 +16,7 @@ mod crashes;
 mod decisions;
 mod recoveries;
 mod releases;
+mod several;
 
 use std::alloc::Global;
 use xa_base::Refusal;

@@ -6,9 +6,8 @@ ghost use Rattle.xa_base.specs.declared.step.Outcome.TheVariants as Outcomes;
 ghost use Rattle.xa_base.specs.declared.step.Step.TheVariants as Steps;
 ghost use Rattle.xa_model.specs.Trace.{Fault.InDecide, Fault.InDone, Happening.Begun, Happening.Claimed, Happening.Decided, Happening.Done, Happening.Failed};
 ghost use Rattle.xa_tm.specs.Book.{Doubt.Adds, Doubt.Drops, after, book_after, voted_yes};
-ghost use Rattle.xa_tm.specs.BookAndLog.{IsTied};
 ghost use Rattle.xa_tm.specs.Calls.{FailsBy, book_in, log_in};
-ghost use Rattle.xa_serve.specs.Following.{Follows, StaysAs};
+ghost use Rattle.xa_serve.specs.Following.{Follows, StaysAs, StaysTied};
 ghost use Rattle.xa_serve.specs.Session.{IsReady, begin_refusal, lines_by, refusal_at};
 
 use super::Session;
@@ -108,10 +107,7 @@ impl<L: DecisionLog + Drop> Session<L> {
         // The log and the lines.
         ensures log { IfErr result (λ n. n ≢ Refusals.LogFault →
             log_in self.new.manager ≡ log_in self.old.manager) }
-        ensures tied { (near : Bool) → (L.moment (log_in self.old.manager)).is_in_order →
-            (L.moment (log_in self.new.manager)).is_honest →
-            IsTied near (book_in self.old.manager) (L.moment (log_in self.old.manager)).content →
-            IsTied near (book_in self.new.manager) (L.moment (log_in self.new.manager)).content }
+        ensures tied { StaysTied L.moment self.old self.new }
         ensures lines { self.new.lines ≡ lines_by result self.old.lines }
     {
         books_have_headroom();
