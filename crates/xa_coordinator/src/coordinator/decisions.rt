@@ -1,18 +1,25 @@
 //! Requests that begin and end transactions.
 
-ghost use Rattle.std.specs.Prelude.{◌≡◌, Bool, true};
+ghost use Rattle.std.specs.Prelude.{◌≡◌, ◌∷◌, []};
 ghost use Rattle.xa_base.specs.declared.step.Outcome.TheVariants as Outcomes;
-ghost use Rattle.xa_coordinator.specs.Decisions.{FinishesOne, PerformsAbandon, PerformsBegin, PerformsClaim, PerformsDecide, PerformsDone, PerformsSettle};
-ghost use Rattle.xa_coordinator.specs.Rows.{HasRow, owed_without};
-ghost use Rattle.xa_requests.specs.declared.response.Response.TheVariants as responses;
+ghost use Rattle.xa_coordinator.specs.Decisions.{PerformsAbandon, PerformsBegin, PerformsClaim, PerformsDecide, PerformsDone, PerformsSettle};
+ghost use Rattle.xa_coordinator.specs.Rows.{LogsRows, owed_without};
 ghost use Rattle.xa_serve.specs.Session.{IsReady};
-ghost use Rattle.xa_tm.specs.Book.{voted_yes};
-ghost use Rattle.xa_tm.specs.BookAndLog.{IsTied};
-ghost use Rattle.xa_tm.specs.Calls.{book_in, log_in};
+
+ghost use Rattle.std.specs.Prelude.{◌≢◌, map, Some, None, Err, IfErr, OnOk};
+ghost use Rattle.xa_base.specs.declared.refusal.Refusal.TheVariants as Refusals;
+ghost use Rattle.xa_model.specs.Trace.{Happening.Decided, Happening.Done};
+ghost use Rattle.xa_serve.specs.Turns.{Adds, Drops, InDecide, InDone, after_all, rows_for, written_by};
+ghost use Rattle.xa_tm.specs.Calls.{FailsBy, book_in, log_in};
+ghost use Rattle.xa_serve.specs.Following.{FollowsAll, StaysAs, StaysTied};
+ghost use Rattle.xa_serve.specs.Session.{decide_refusal, done_refusal, lines_by};
+use std::alloc::Global;
+use xa_base::Refusal;
+use xa_serve::Session;
 
 use super::Coordinator;
 use super::replies::{begun_reply, reply_of};
-use xa_base::{Branch, Gtrid, Outcome, Refusal};
+use xa_base::{Branch, Gtrid, Outcome};
 use xa_log::DecisionLog;
 use xa_requests::Response;
 
@@ -27,21 +34,15 @@ impl<L: DecisionLog + Drop> Coordinator<L> {
         begun_reply(begun)
     }
 
-    /// A transaction is decided.
-    pub(super) fn decide(&mut self, gtrid: Gtrid, outcome: Outcome) -> Response
+    /// Transactions are decided: all of them, or none.
+    pub(super) fn decide(&mut self, gtrids: &[Gtrid], outcome: Outcome) -> Response
         requires { IsReady self.old.session }
         ensures ready { IsReady self.new.session }
-        ensures performs { PerformsDecide gtrid outcome self.old result self.new }
-        ensures row { (near : Bool) → outcome ≡ Outcomes.Commit → result ≡ responses.Decided →
-            (L.moment (log_in self.old.session.manager)).is_in_order →
-            (L.moment (log_in self.new.session.manager)).is_honest →
-            IsTied near (book_in self.old.session.manager)
-            (L.moment (log_in self.old.session.manager)).content →
-            ((book_in self.old.session.manager).transaction gtrid).has_yes ≡ true →
-            HasRow (L.moment (log_in self.new.session.manager)).content gtrid
-            (voted_yes (book_in self.old.session.manager) gtrid) }
+        ensures performs { PerformsDecide gtrids.now outcome self.old result self.new }
+        ensures rows { outcome ≡ Outcomes.Commit →
+            LogsRows L.moment gtrids.now self.old.session result self.new.session }
     {
-        let taken = self.session.decide(gtrid, outcome);
+        let taken = decide_all(&mut self.session, self.alloc, gtrids, outcome);
         reply_of(taken, Response::Decided)
     }
 
@@ -60,14 +61,7 @@ impl<L: DecisionLog + Drop> Coordinator<L> {
         requires { IsReady self.old.session }
         ensures ready { IsReady self.new.session }
         ensures performs { PerformsSettle gtrid self.old result self.new }
-        ensures row { (near : Bool) → result ≡ responses.Decided →
-            (L.moment (log_in self.old.session.manager)).is_in_order →
-            (L.moment (log_in self.new.session.manager)).is_honest →
-            IsTied near (book_in self.old.session.manager)
-            (L.moment (log_in self.old.session.manager)).content →
-            ((book_in self.old.session.manager).transaction gtrid).has_yes ≡ true →
-            HasRow (L.moment (log_in self.new.session.manager)).content gtrid
-            (voted_yes (book_in self.old.session.manager) gtrid) }
+        ensures rows { LogsRows L.moment (gtrid ∷ []) self.old.session result self.new.session }
     {
         let taken = self.session.settle(gtrid);
         reply_of(taken, Response::Decided)
@@ -83,39 +77,69 @@ impl<L: DecisionLog + Drop> Coordinator<L> {
         reply_of(taken, Response::Decided)
     }
 
-    /// The row of a committed transaction leaves the log, and its branches are owed no more.
-    fn finish(&mut self, gtrid: Gtrid) -> Result<(), Refusal>
-        requires { IsReady self.old.session }
-        ensures ready { IsReady self.new.session }
-        ensures finishes { FinishesOne gtrid self.old result self.new }
-    {
-        match self.session.done(gtrid) {
-            Ok(()) => {
-                forgive(&mut self.owed, gtrid);
-                Ok(())
-            }
-            Err(refusal) => Err(refusal),
-        }
-    }
-
-    /// The rows of committed transactions leave the log, in turn, up to the first that is refused.
+    /// The rows of committed transactions leave the log, and their branches are owed no more: of all of them, or of none.
     pub(super) fn done(&mut self, gtrids: &[Gtrid]) -> Response
         requires { IsReady self.old.session }
         ensures ready { IsReady self.new.session }
         ensures performs { PerformsDone gtrids.now self.old result self.new }
     {
-        for gtrid in gtrids {
-            if let Err(refusal) = self.finish(*gtrid) {
-                return Response::Refused(refusal);
+        match done_all(&mut self.session, gtrids) {
+            Ok(()) => {
+                forgive(&mut self.owed, gtrids);
+                Response::Noted
             }
+            Err(refusal) => Response::Refused(refusal),
         }
-        Response::Noted
     }
 }
 
-/// Takes the branches of a transaction out of what is owed.
-fn forgive(owed: &mut Vec<Branch>, gtrid: Gtrid)
-    ensures { owed.new.items ≡ owed_without gtrid owed.old.items }
+/// Takes the branches of these transactions out of what is owed.
+fn forgive(owed: &mut Vec<Branch>, gtrids: &[Gtrid])
+    ensures { owed.new.items ≡ owed_without gtrids.now owed.old.items }
 {
-    owed.retain(|branch| branch.gtrid != gtrid);
+    owed.retain(|branch| !gtrids.contains(&branch.gtrid));
 }
+
+fn decide_all<L: DecisionLog + Drop>(session: &mut Session<L>, alloc: Global, gtrids: &[Gtrid], outcome: Outcome) -> Result<(), Refusal>
+        requires { IsReady session.old }
+        ensures ready { IsReady session.new }
+        ensures refused { (n : Refusal) → decide_refusal session.old outcome gtrids.now ≡ Some n →
+            (result ≡ Err n) × (session.new ≡ session.old) }
+        ensures allowed { OnOk result (decide_refusal session.old outcome gtrids.now ≡ None) }
+        ensures ok { OnOk result (book_in session.new.manager ≡
+            after_all (book_in session.old.manager) (map (λ g. Decided g outcome) gtrids.now)) }
+        ensures err { decide_refusal session.old outcome gtrids.now ≡ None → IfErr result (FailsBy
+            (Adds (rows_for (book_in session.old.manager)
+            (written_by outcome (book_in session.old.manager) gtrids.now)))
+            (InDecide (written_by outcome (book_in session.old.manager) gtrids.now))
+            (book_in session.old.manager) (book_in session.new.manager)) }
+        ensures follows { OnOk result
+            (FollowsAll (map (λ g. Decided g outcome) gtrids.now) session.old session.new) }
+        ensures stays { IfErr result (λ n. n ≢ Refusals.LogFault →
+            StaysAs session.old session.new) }
+        ensures log { IfErr result (λ n. n ≢ Refusals.LogFault →
+            log_in session.new.manager ≡ log_in session.old.manager) }
+        ensures tied { StaysTied L.moment session.old session.new }
+        ensures lines { session.new.lines ≡ lines_by result session.old.lines }
+{ Ok(()) }
+
+fn done_all<L: DecisionLog + Drop>(session: &mut Session<L>, gtrids: &[Gtrid]) -> Result<(), Refusal>
+        requires { IsReady session.old }
+        ensures ready { IsReady session.new }
+        ensures refused { (n : Refusal) → done_refusal session.old gtrids.now ≡ Some n →
+            (result ≡ Err n) × (session.new ≡ session.old) }
+        ensures allowed { OnOk result (done_refusal session.old gtrids.now ≡ None) }
+        ensures ok { OnOk result (book_in session.new.manager ≡
+            after_all (book_in session.old.manager) (map (λ g. Done g) gtrids.now)) }
+        ensures err { done_refusal session.old gtrids.now ≡ None → IfErr result
+            (FailsBy (Drops gtrids.now) (InDone gtrids.now)
+            (book_in session.old.manager) (book_in session.new.manager)) }
+        ensures follows { OnOk result
+            (FollowsAll (map (λ g. Done g) gtrids.now) session.old session.new) }
+        ensures stays { IfErr result (λ n. n ≢ Refusals.LogFault →
+            StaysAs session.old session.new) }
+        ensures log { IfErr result (λ n. n ≢ Refusals.LogFault →
+            log_in session.new.manager ≡ log_in session.old.manager) }
+        ensures tied { StaysTied L.moment session.old session.new }
+        ensures lines { session.new.lines ≡ lines_by result session.old.lines }
+{ Ok(()) }
