@@ -24,11 +24,10 @@ use Rattle.xa_requests.specs.declared.response.Response.TheVariants as responses
 use Rattle.xa_serve.specs.Following.{StaysTied}
 use Rattle.xa_serve.specs.Session.{decide_refusal, has_room_for, refusal_at}
 use Rattle.xa_serve.specs.declared.session.Session.{Session}
-use Rattle.xa_tm.specs.Book.{Book, Waiting, after, voted_yes}
-use Rattle.xa_serve.specs.Turns.{after_all, refusal_in_turn}
+use Rattle.xa_tm.specs.Book.{Book, Waiting, after, after_all, voted_yes}
 use Rattle.xa_tm.specs.BookAndLog.{IsTied, TiedBy}
 use Rattle.xa_tm.specs.Calls.{book_in, log_in}
-use Rattle.xa_tm.specs.Refusing.{refusal_in}
+use Rattle.xa_tm.specs.Refusing.{refusal_in, refusal_in_turn}
 
 -- ** decisions to commit
 

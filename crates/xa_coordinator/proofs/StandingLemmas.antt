@@ -15,14 +15,13 @@ use Rattle.xa_line.specs.Grid.{with_line}
 use Rattle.xa_line.specs.Traffic.{no_traffic}
 use Rattle.xa_model.specs.Replies.History.{name_of}
 use Rattle.xa_model.specs.Replies.Steps.{accepted}
-use Rattle.xa_model.specs.Trace.{Call as KnownCall, Happening, Happening.Crashed, Happening.Done, line}
+use Rattle.xa_model.specs.Trace.{Call as KnownCall, Fault.InDone, Happening, Happening.Crashed, Happening.Done, line}
 use Rattle.xa_requests.specs.declared.response.Response.{Response}
 use Rattle.xa_requests.specs.declared.response.Response.TheVariants as responses
 use Rattle.xa_serve.specs.Following.{Follows, FollowsAll, FollowsLoss, StaysAs}
 use Rattle.xa_serve.specs.Session.{done_refusal, known_waiting, line_refusal, lines_by}
 use Rattle.xa_serve.specs.declared.session.Session.{Session}
-use Rattle.xa_tm.specs.Book.{after}
-use Rattle.xa_serve.specs.Turns.{Drops, InDone, after_all}
+use Rattle.xa_tm.specs.Book.{Doubt.Drops, after, after_all}
 use Rattle.xa_tm.specs.Calls.{FailsBy, book_in, log_in}
 
 -- what happens where a step is taken

@@ -10,15 +10,14 @@ use Rattle.xa_coordinator.specs.Replies.{reply_of}
 use Rattle.xa_coordinator.specs.Rows.{owed_without}
 use Rattle.xa_coordinator.specs.Standing.{StandsFor}
 use Rattle.xa_coordinator.specs.declared.coordinator.Coordinator.{Coordinator}
-use Rattle.xa_model.specs.Trace.{Fault.InDecide as InDecideOf, Happening, Happening.Begun, Happening.Claimed, Happening.Decided, Happening.Done}
+use Rattle.xa_model.specs.Trace.{Fault.InDecide, Fault.InDone, Happening, Happening.Begun, Happening.Claimed, Happening.Decided, Happening.Done}
 use Rattle.xa_requests.specs.declared.response.Response.{Response}
 use Rattle.xa_requests.specs.declared.response.Response.TheVariants as responses
 use Rattle.xa_serve.specs.Following.{FollowsAll, StaysAs}
 use Rattle.xa_serve.specs.Session.{begin_refusal, decide_refusal, done_refusal, lines_by, refusal_at}
 use Rattle.xa_serve.specs.declared.session.Session.{Session}
-use Rattle.xa_tm.specs.Book.{Book, Doubt.Adds as AddsOf, voted_yes}
-use Rattle.xa_serve.specs.Turns.{Adds, Drops, InDecide, InDone, after_all, rows_for, written_by}
-use Rattle.xa_tm.specs.Calls.{FailsBy, book_in, log_in}
+use Rattle.xa_tm.specs.Book.{Book, Doubt.Adds, Doubt.Drops, after_all, rows_for}
+use Rattle.xa_tm.specs.Calls.{FailsBy, book_in, log_in, written_by}
 
 -- ** what a session does
 
@@ -80,7 +79,7 @@ module _ {L : Type 0} where
 
   pub record Settles (g : Gtrid) (old new : Session L) (result : Result (Unit {0}) Refusal) : Type 0 where
     pub rules : ObeysRules (refusal_at old (Steps.Settle g)) old new result
-    pub asks : AsksLog (refusal_at old (Steps.Settle g)) (FailsBy (AddsOf g (voted_yes (book_in old.manager) g)) (InDecideOf g)) old new result
+    pub asks : AsksLog (refusal_at old (Steps.Settle g)) (FailsBy (Adds (rows_for (book_in old.manager) (g ∷ []))) (InDecide (g ∷ []))) old new result
     pub decided : OnOk result (Happens (Decided g Outcomes.Commit) old new)
 
   pub record Finishes (gs : List Gtrid) (old new : Session L) (result : Result (Unit {0}) Refusal) : Type 0 where

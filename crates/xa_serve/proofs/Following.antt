@@ -21,7 +21,7 @@ use Rattle.xa_model.specs.Replies.Steps.{Reply, Step, happened}
 use Rattle.xa_model.specs.Trace.{Happening, Happening.Begun, Happening.Claimed, Happening.Decided, Happening.Done, Line, Trace, Trace.Then, line}
 use Rattle.xa_model.proofs.Replies.Replies.{allowed_right}
 use Rattle.xa_standings.specs.Monitor.{states_of}
-use Rattle.xa_tm.specs.Book.{Book, Doubt.NoDoubt, after, book_after, book_of, doubt_of_happening}
+use Rattle.xa_tm.specs.Book.{after, after_all, Book, book_after, book_of, Doubt.NoDoubt, doubt_of_happening}
 use Rattle.xa_tm.specs.Calls.{book_in}
 use Rattle.xa_tm.specs.Laws.{IsLookedAt}
 use Rattle.xa_tm.specs.Release.{MayFollow}
@@ -31,7 +31,6 @@ use Rattle.xa_serve.proofs.Books.{book_goes, next_alike, next_of, refuses_no_mor
 use Rattle.xa_serve.proofs.Refusals.{begun_if_abandoned, begun_if_decided, begun_if_settled, up_if_begins}
 use Rattle.xa_serve.specs.Following.{BookStands, FollowsAll, LeadsTo, StandsIn}
 use Rattle.xa_serve.specs.Session.{lines_by}
-use Rattle.xa_serve.specs.Turns.{after_all}
 use Rattle.xa_serve.specs.declared.session.Session.{Session}
 
 -- ** lines

@@ -12,12 +12,11 @@ use Rattle.xa_log.specs.Content.{last_number}
 use Rattle.xa_log.specs.Contract.{FitsRow}
 use Rattle.xa_model.specs.Facts.{record_of}
 use Rattle.xa_model.specs.Trace.{Origin, Trace.From, Fault.InRestart, Happening, Happening.Begun, Happening.Issued, Happening.Heard, Happening.Decided, Happening.Done, Happening.Crashed, Happening.Failed, Happening.Restarted}
-use Rattle.xa_tm.specs.Book.{Book, TransactionNotes, Doubt, Doubt.NoDoubt, Doubt.Records, Waiting, after, incarnation_after, sequence_after, begins_after, failed_restarts_after, transaction_after, doubt_of, voted_yes, row_after, rows_after, records_with, records_after, book_after, book_of}
+use Rattle.xa_tm.specs.Book.{after, after_all, begins_after, Book, book_after, book_of, Doubt, Doubt.NoDoubt, Doubt.Records, doubt_of, failed_restarts_after, incarnation_after, records_after, records_with, row_after, rows_after, sequence_after, transaction_after, TransactionNotes, voted_yes, Waiting}
 use Rattle.xa_tm.specs.LedgerBook.{IsSound}
 use Rattle.xa_tm.specs.Limits.{HasRoomForRun}
 use Rattle.xa_tm.specs.Starting.{IsOld, no_transaction_notes}
 use Rattle.xa_serve.specs.Headroom.{HasHeadroom, IsNumbered, MayHappen, ReleasesKeepHeadroom, first_headroom}
-use Rattle.xa_serve.specs.Turns.{after_all}
 
 -- ** numbers
 

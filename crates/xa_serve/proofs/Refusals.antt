@@ -15,10 +15,9 @@ use Rattle.xa_model.specs.Replies.Rules.{first_of}
 use Rattle.xa_model.specs.Replies.Steps.{Step, accepted}
 use Rattle.xa_model.specs.Trace.{Call, Happening, Name.Foreign, Name.Ours}
 use Rattle.xa_tm.specs.Book.{Book, after}
-use Rattle.xa_serve.specs.Turns.{refusal_in_turn}
 use Rattle.xa_tm.specs.News.{Asked}
 use Rattle.xa_tm.specs.Release.{StartsBegun}
-use Rattle.xa_tm.specs.Refusing.{applies_in, forces_unknown_transaction_in, is_there_in, manager_rules, refusal_in, service_refusal_in}
+use Rattle.xa_tm.specs.Refusing.{applies_in, forces_unknown_transaction_in, is_there_in, manager_rules, refusal_in, refusal_in_turn, service_refusal_in}
 
 -- ** numbers
 

@@ -10,15 +10,14 @@ use Rattle.xa_line.specs.Traffic.{Traffic}
 use Rattle.xa_line.proofs.GridLaws.{line_at-new_grid}
 use Rattle.xa_model.specs.Replies.Steps.{Step}
 use Rattle.xa_model.specs.Trace.{Fault, Happening, Happening.Failed, Happening.Nothing}
-use Rattle.xa_tm.specs.Book.{Book, Doubt, Doubt.NoDoubt, after, book_after}
+use Rattle.xa_tm.specs.Book.{after, after_all, Book, book_after, Doubt, Doubt.NoDoubt}
 use Rattle.xa_standings.specs.Monitor.{SaysTheSame, states_of}
 use Rattle.xa_tm.specs.Calls.{FailsBy, book_in, log_in}
-use Rattle.xa_tm.specs.Refusing.{refusal_in}
+use Rattle.xa_tm.specs.Refusing.{refusal_in, refusal_in_turn}
 use Rattle.xa_tm.specs.declared.manager.Manager.{Manager}
 use Rattle.xa_serve.specs.Following.{StaysAs}
 use Rattle.xa_serve.specs.Headroom.{HasHeadroom, MayHappen, first_headroom}
 use Rattle.xa_serve.specs.Session.{AllHeard, IsReady, happenings_by, has_room_for, is_over, lines_by, refusal_at, refusal_of_all}
-use Rattle.xa_serve.specs.Turns.{after_all, refusal_in_turn}
 use Rattle.xa_serve.specs.declared.session.Session.{Session}
 use Rattle.xa_serve.proofs.Headroom.{MayHappenInTurn, headroom_kept, headroom_kept_by_all}
 use Rattle.xa_serve.proofs.Refusals.{no_fault, not_over}

@@ -8,12 +8,11 @@ use Rattle.xa_line.specs.Grid.{Grid}
 use Rattle.xa_model.specs.Protocol.{Right}
 use Rattle.xa_model.specs.Replies.Steps.{Step}
 use Rattle.xa_model.specs.Trace.{Happening, Happening.Decided, Happening.Done, Trace, Trace.Then}
-use Rattle.xa_tm.specs.Book.{Book, after}
+use Rattle.xa_tm.specs.Book.{after, after_all, Book}
 use Rattle.xa_tm.specs.Calls.{book_in}
-use Rattle.xa_tm.specs.Refusing.{refusal_in}
+use Rattle.xa_tm.specs.Refusing.{refusal_in, refusal_in_turn}
 use Rattle.xa_serve.specs.Following.{AreRight, LeadsTo, then_all}
 use Rattle.xa_serve.specs.Headroom.{MayHappen}
-use Rattle.xa_serve.specs.Turns.{after_all, refusal_in_turn}
 use Rattle.xa_serve.specs.declared.session.Session.{Session}
 use Rattle.xa_serve.proofs.Following.{StandsWith, own_decided, own_done, own_goes, own_right, stands_in, stands_with}
 use Rattle.xa_serve.proofs.Headroom.{MayHappenInTurn}

@@ -3,4 +3,3 @@ pub mod Following
 pub mod Hearing
 pub mod Session
 pub mod Tracking
-pub mod Turns

@@ -20,10 +20,9 @@ use Rattle.xa_model.specs.Replies.Steps.{Step}
 use Rattle.xa_model.specs.Trace.{Branch, Call as KnownCall, Happening, Happening.Decided, Happening.Done, line}
 use Rattle.xa_standings.specs.Monitor.{CanExplain, IsSomewhere, states_of}
 use Rattle.xa_tm.specs.Calls.{book_in}
-use Rattle.xa_tm.specs.Refusing.{refusal_in, service_refusal_in}
+use Rattle.xa_tm.specs.Refusing.{refusal_in, refusal_in_turn, service_refusal_in}
 use Rattle.xa_serve.specs.Headroom.{HasHeadroom, first_headroom}
 use Rattle.xa_serve.specs.Hearing.{can_hear}
-use Rattle.xa_serve.specs.Turns.{refusal_in_turn}
 use Rattle.xa_serve.specs.declared.session.Session.{Session}
 use Rattle.xa_serve.specs.declared.session.answers.Unfit.{Unfit}
 use Rattle.xa_serve.specs.declared.session.answers.Unfit.TheVariants as Unfits

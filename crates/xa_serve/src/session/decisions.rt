@@ -1,18 +1,18 @@
-//! Transactions that begin, are claimed and are decided.
+//! Transactions that begin, are claimed, and are settled or abandoned.
 
-ghost use Rattle.std.specs.Prelude.{◌≡◌, ◌≢◌, ◌+◌, Bool, Some, None, Err, IfErr, IfOk, OnErr, OnOk};
+ghost use Rattle.std.specs.Prelude.{◌≡◌, ◌≢◌, ◌+◌, [], ◌∷◌, Some, None, Err, IfErr, IfOk, OnErr, OnOk};
 ghost use Rattle.xa_base.specs.declared.refusal.Refusal.TheVariants as Refusals;
 ghost use Rattle.xa_base.specs.declared.step.Outcome.TheVariants as Outcomes;
 ghost use Rattle.xa_base.specs.declared.step.Step.TheVariants as Steps;
-ghost use Rattle.xa_model.specs.Trace.{Fault.InDecide, Fault.InDone, Happening.Begun, Happening.Claimed, Happening.Decided, Happening.Done, Happening.Failed};
-ghost use Rattle.xa_tm.specs.Book.{Doubt.Adds, Doubt.Drops, after, book_after, voted_yes};
+ghost use Rattle.xa_model.specs.Trace.{Fault.InDecide, Happening.Begun, Happening.Claimed, Happening.Decided};
+ghost use Rattle.xa_tm.specs.Book.{Doubt.Adds, after, rows_for};
 ghost use Rattle.xa_tm.specs.Calls.{FailsBy, book_in, log_in};
 ghost use Rattle.xa_serve.specs.Following.{Follows, StaysAs, StaysTied};
 ghost use Rattle.xa_serve.specs.Session.{IsReady, begin_refusal, lines_by, refusal_at};
 
 use super::Session;
 use crate::laws::books_have_headroom;
-use xa_base::{Gtrid, Outcome, Refusal};
+use xa_base::{Gtrid, Refusal};
 use xa_log::DecisionLog;
 
 impl<L: DecisionLog + Drop> Session<L> {
@@ -98,8 +98,8 @@ impl<L: DecisionLog + Drop> Session<L> {
         ensures ok { OnOk result (book_in self.new.manager ≡
             after (book_in self.old.manager) (Decided gtrid Outcomes.Commit)) }
         ensures err { refusal_at self.old (Steps.Settle gtrid) ≡ None →
-            IfErr result (FailsBy (Adds gtrid (voted_yes (book_in self.old.manager) gtrid))
-            (InDecide gtrid) (book_in self.old.manager) (book_in self.new.manager)) }
+            IfErr result (FailsBy (Adds (rows_for (book_in self.old.manager) (gtrid ∷ [])))
+            (InDecide (gtrid ∷ [])) (book_in self.old.manager) (book_in self.new.manager)) }
         ensures follows { OnOk result
             (Follows (Decided gtrid Outcomes.Commit) self.old self.new) }
         ensures stays { IfErr result (λ n. n ≢ Refusals.LogFault →

@@ -2,13 +2,9 @@
 
 ghost use Rattle.std.specs.Prelude.{◌≡◌, ◌≢◌, map, Bool, Some, None, Err, IfErr, OnOk};
 ghost use Rattle.xa_base.specs.declared.refusal.Refusal.TheVariants as Refusals;
-ghost use Rattle.xa_model.specs.Trace.{Happening.Decided, Happening.Done};
-ghost use Rattle.xa_serve.specs.Turns.{Adds, Drops, InDecide, InDone, after_all, rows_for, written_by, refusal_in_turn};
-ghost use Rattle.xa_tm.specs.Calls.{FailsBy, book_in, log_in};
-ghost use Rattle.std.specs.Prelude.{◌<◌, ◌+◌, ◌^◌, length};
-ghost use Rattle.xa_tm.specs.LedgerBook.{IsSound};
-ghost use Rattle.xa_base.specs.declared.step.Step.TheVariants as Steps;
-ghost use Rattle.xa_tm.specs.BookAndLog.{IsTied};
+ghost use Rattle.xa_model.specs.Trace.{Fault.InDecide, Fault.InDone, Happening.Decided, Happening.Done};
+ghost use Rattle.xa_tm.specs.Book.{Doubt.Adds, Doubt.Drops, after_all, rows_for};
+ghost use Rattle.xa_tm.specs.Calls.{FailsBy, book_in, log_in, written_by};
 ghost use Rattle.xa_serve.specs.Following.{FollowsAll, StaysAs, StaysTied};
 ghost use Rattle.xa_serve.specs.Session.{IsReady, decide_refusal, done_refusal, lines_by};
 
@@ -17,7 +13,6 @@ use crate::laws::books_have_headroom;
 use std::alloc::Global;
 use xa_base::{Gtrid, Outcome, Refusal};
 use xa_log::DecisionLog;
-use xa_tm::Manager;
 
 impl<L: DecisionLog + Drop> Session<L> {
     /// Decides these transactions so, in turn: all of them, or none where one is refused. Their rows are in one write of the
@@ -56,7 +51,7 @@ impl<L: DecisionLog + Drop> Session<L> {
         if !self.has_room_for(gtrids.len()) {
             return Err(Refusal::Limit);
         }
-        let reply = decide_all(&mut self.manager, alloc, gtrids, outcome);
+        let reply = self.manager.decide_all(alloc, gtrids, outcome);
         self.conclude(reply, gtrids.len())
     }
 
@@ -89,59 +84,7 @@ impl<L: DecisionLog + Drop> Session<L> {
         if !self.has_room_for(gtrids.len()) {
             return Err(Refusal::Limit);
         }
-        let reply = done_all(&mut self.manager, gtrids);
+        let reply = self.manager.done_all(gtrids);
         self.conclude(reply, gtrids.len())
     }
-}
-
-fn decide_all<L: DecisionLog + Drop>(this: &mut Manager<L>, alloc: Global, gtrids: &[Gtrid], outcome: Outcome) -> Result<(), Refusal>
-        requires sound { IsSound (book_in this.old) }
-        requires room { (book_in this.old).rows + length gtrids.now < 2 ^ 64 }
-        ensures refused { (n : Refusal) →
-            refusal_in_turn (λ g. Steps.Decide g outcome) (λ g. Decided g outcome)
-            (book_in this.old) gtrids.now ≡ Some n →
-            (result ≡ Err n) × (this.new ≡ this.old) }
-        ensures allowed { OnOk result
-            (refusal_in_turn (λ g. Steps.Decide g outcome) (λ g. Decided g outcome)
-            (book_in this.old) gtrids.now ≡ None) }
-        ensures ok { OnOk result (book_in this.new ≡
-            after_all (book_in this.old) (map (λ g. Decided g outcome) gtrids.now)) }
-        ensures err { refusal_in_turn (λ g. Steps.Decide g outcome) (λ g. Decided g outcome)
-            (book_in this.old) gtrids.now ≡ None →
-            IfErr result (FailsBy
-            (Adds (rows_for (book_in this.old) (written_by outcome (book_in this.old) gtrids.now)))
-            (InDecide (written_by outcome (book_in this.old) gtrids.now))
-            (book_in this.old) (book_in this.new)) }
-        ensures tied { (near : Bool) → (L.moment (log_in this.old)).is_in_order →
-            (L.moment (log_in this.new)).is_honest →
-            IsTied near (book_in this.old) (L.moment (log_in this.old)).content →
-            IsTied near (book_in this.new) (L.moment (log_in this.new)).content }
-        ensures kept { IfErr result
-            (λ n. n ≢ Refusals.LogFault → log_in this.new ≡ log_in this.old) }
-{
-    Ok(())
-}
-
-fn done_all<L: DecisionLog + Drop>(this: &mut Manager<L>, gtrids: &[Gtrid]) -> Result<(), Refusal>
-        requires { IsSound (book_in this.old) }
-        ensures refused { (n : Refusal) →
-            refusal_in_turn (λ g. Steps.Done g) (λ g. Done g)
-            (book_in this.old) gtrids.now ≡ Some n →
-            (result ≡ Err n) × (this.new ≡ this.old) }
-        ensures allowed { OnOk result (refusal_in_turn (λ g. Steps.Done g) (λ g. Done g)
-            (book_in this.old) gtrids.now ≡ None) }
-        ensures ok { OnOk result (book_in this.new ≡
-            after_all (book_in this.old) (map (λ g. Done g) gtrids.now)) }
-        ensures err { refusal_in_turn (λ g. Steps.Done g) (λ g. Done g)
-            (book_in this.old) gtrids.now ≡ None →
-            IfErr result (FailsBy (Drops gtrids.now) (InDone gtrids.now)
-            (book_in this.old) (book_in this.new)) }
-        ensures tied { (near : Bool) → (L.moment (log_in this.old)).is_in_order →
-            (L.moment (log_in this.new)).is_honest →
-            IsTied near (book_in this.old) (L.moment (log_in this.old)).content →
-            IsTied near (book_in this.new) (L.moment (log_in this.new)).content }
-        ensures kept { IfErr result
-            (λ n. n ≢ Refusals.LogFault → log_in this.new ≡ log_in this.old) }
-{
-    Ok(())
 }

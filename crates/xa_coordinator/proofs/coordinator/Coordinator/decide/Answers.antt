@@ -3,7 +3,7 @@ use Rattle.std.specs.Prelude.{OnOk}
 use Rattle.xa_coordinator.proofs.RowLemmas.{decide_up, told_rows}
 use Rattle.xa_coordinator.proofs.StandingLemmas.{happen_on_ok}
 use Rattle.xa_model.specs.Trace.{Happening.Decided}
-use Rattle.xa_serve.specs.Turns.{after_all}
+use Rattle.xa_tm.specs.Book.{after_all}
 use Rattle.xa_tm.specs.Calls.{book_in}
 use Rattle.xa_coordinator.proofs.coordinator.Coordinator.decide.Goals as goal
 
@@ -17,7 +17,7 @@ returns-clause-performs g c =
         rules = record { refused = call.ensures.refused; allowed = call.ensures.allowed };
         asks = record { fails = call.ensures.err; stays = call.ensures.stays; lines = call.ensures.lines };
         decided =
-            happen_on_ok (map (λ g. Decided g c.args.outcome) c.args.gtrids.now) old call.new.session call.result call.ensures.ok call.ensures.follows;
+            happen_on_ok (map (λ g. Decided g c.args.outcome) c.args.gtrids.now) old call.new.self call.result call.ensures.ok call.ensures.follows;
       };
       told = c.reply_of.ensures;
       rest = refl;
@@ -28,7 +28,7 @@ returns-clause-rows g c = λ commit.
     let call = c.decide_all-taken in
     let old = c.args.self.now.session in
     let gs = c.args.gtrids.now in
-    told_rows g.L.DecisionLog.moment old call.new.session gs c.reply_of.result call.result c.reply_of.ensures
+    told_rows g.L.DecisionLog.moment old call.new.self gs c.reply_of.result call.result c.reply_of.ensures
     (decide_up old gs c.args.outcome call.result call.ensures.allowed)
-    (subst (λ o. OnOk call.result (book_in call.new.session.manager ≡ after_all (book_in old.manager) (map (λ g. Decided g o) gs))) commit call.ensures.ok)
+    (subst (λ o. OnOk call.result (book_in call.new.self.manager ≡ after_all (book_in old.manager) (map (λ g. Decided g o) gs))) commit call.ensures.ok)
     call.ensures.tied

@@ -3,14 +3,15 @@ use Rattle.std.specs.Prelude.{length}
 use Rattle.std.proofs.lemmas.List.{length-map}
 use Rattle.xa_base.proofs.Options.{on_ok}
 use Rattle.xa_base.specs.declared.step.Step.TheVariants as Steps
-use Rattle.xa_model.specs.Trace.{Happening.Decided}
-use Rattle.xa_serve.specs.Turns.{Adds, InDecide, rows_for, written_by, refusal_in_turn}
-use Rattle.xa_tm.specs.Calls.{book_in}
+use Rattle.xa_model.specs.Trace.{Fault.InDecide, Happening.Decided}
+use Rattle.xa_tm.specs.Calls.{book_in, written_by}
 use Rattle.xa_serve.proofs.Following.{follows_if_ok}
 use Rattle.xa_serve.proofs.Refusals.{no_fault_in_turn}
 use Rattle.xa_serve.proofs.Sessions.{concluded, concluded_refused, refusal_of_all_is}
 use Rattle.xa_serve.proofs.Turns.{decisions_lead, decisions_may}
 use Rattle.xa_serve.proofs.session.Session.decide_all.Goals as goal
+use Rattle.xa_tm.specs.Book.{rows_for, Doubt.Adds}
+use Rattle.xa_tm.specs.Refusing.{refusal_in_turn}
 
 pub returns-clause-ready : goal.returns-clause-ready
 returns-clause-ready g c =
@@ -42,6 +43,6 @@ returns-clause-follows g c =
     let s = c.args.self.now in
     let gs = c.args.gtrids.now in
     follows_if_ok s c.conclude.new.self (refusal_in_turn (λ g. Steps.Decide g c.args.outcome) (λ g. Decided g c.args.outcome) (book_in s.manager) gs)
-    (map (λ g. Decided g c.args.outcome) gs) c.decide_all-reply.new.this c.decide_all-reply.result _ c.conclude.ensures.value c.conclude.ensures.manager
+    (map (λ g. Decided g c.args.outcome) gs) c.decide_all-reply.new.self c.decide_all-reply.result _ c.conclude.ensures.value c.conclude.ensures.manager
     c.conclude.ensures.lines c.decide_all-reply.ensures.allowed c.decide_all-reply.ensures.ok c.conclude.ensures.monitor
     (decisions_lead s c.conclude.new.self c.args.outcome gs)

@@ -3,14 +3,15 @@ use Rattle.std.specs.Prelude.{length}
 use Rattle.std.proofs.lemmas.List.{length-map}
 use Rattle.xa_base.proofs.Options.{on_ok}
 use Rattle.xa_base.specs.declared.step.Step.TheVariants as Steps
-use Rattle.xa_model.specs.Trace.{Happening.Done}
-use Rattle.xa_serve.specs.Turns.{Drops, InDone, refusal_in_turn}
+use Rattle.xa_model.specs.Trace.{Fault.InDone, Happening.Done}
 use Rattle.xa_tm.specs.Calls.{book_in}
 use Rattle.xa_serve.proofs.Following.{follows_if_ok}
 use Rattle.xa_serve.proofs.Refusals.{no_fault_in_turn}
 use Rattle.xa_serve.proofs.Sessions.{concluded, concluded_refused, refusal_of_all_is}
 use Rattle.xa_serve.proofs.Turns.{done_lead, done_may}
 use Rattle.xa_serve.proofs.session.Session.done_all.Goals as goal
+use Rattle.xa_tm.specs.Book.{Doubt.Drops}
+use Rattle.xa_tm.specs.Refusing.{refusal_in_turn}
 
 pub returns-clause-ready : goal.returns-clause-ready
 returns-clause-ready g c =
@@ -41,6 +42,6 @@ returns-clause-follows g c =
     let s = c.args.self.now in
     let gs = c.args.gtrids.now in
     follows_if_ok s c.conclude.new.self (refusal_in_turn (λ g. Steps.Done g) (λ g. Done g) (book_in s.manager) gs)
-    (map (λ g. Done g) gs) c.done_all-reply.new.this c.done_all-reply.result _ c.conclude.ensures.value c.conclude.ensures.manager
+    (map (λ g. Done g) gs) c.done_all-reply.new.self c.done_all-reply.result _ c.conclude.ensures.value c.conclude.ensures.manager
     c.conclude.ensures.lines c.done_all-reply.ensures.allowed c.done_all-reply.ensures.ok c.conclude.ensures.monitor
     (done_lead s c.conclude.new.self gs)

@@ -3,7 +3,7 @@ use Rattle.xa_base.proofs.Options.{on_ok}
 use Rattle.xa_base.specs.declared.step.Outcome.TheVariants as Outcomes
 use Rattle.xa_base.specs.declared.step.Step.TheVariants as Steps
 use Rattle.xa_model.specs.Trace.{Fault.InDecide, Happening.Decided}
-use Rattle.xa_tm.specs.Book.{Doubt.Adds, voted_yes}
+use Rattle.xa_tm.specs.Book.{Doubt.Adds, rows_for}
 use Rattle.xa_tm.specs.Calls.{book_in}
 use Rattle.xa_tm.specs.Refusing.{refusal_in}
 use Rattle.xa_serve.proofs.Refusals.{begun_if_settled, no_fault}
@@ -18,7 +18,7 @@ pub returns-clause-ready : goal.returns-clause-ready
 returns-clause-ready g c =
     let s = c.args.self.now in
     concluded s _ _ 1 (refusal_in (book_in s.manager) (Steps.Settle c.args.gtrid))
-    (Adds c.args.gtrid (voted_yes (book_in s.manager) c.args.gtrid)) (InDecide c.args.gtrid)
+    (Adds (rows_for (book_in s.manager) (c.args.gtrid ∷ []))) (InDecide (c.args.gtrid ∷ []))
     (Decided c.args.gtrid Outcomes.Commit ∷ []) c.settle-reply.result c.requires (room_for_one s (sym c.is_over.ensures ∙ c.if-is_over.false)) refl
     (record { manager = c.conclude.ensures.manager; lines = c.conclude.ensures.lines; happenings = c.conclude.ensures.happenings }) tt
     (no_fault (book_in s.manager) (Steps.Settle c.args.gtrid)) c.settle-reply.ensures.refused
@@ -28,8 +28,7 @@ returns-clause-ready g c =
 pub returns-clause-err : goal.returns-clause-err
 returns-clause-err g c =
     let s = c.args.self.now in
-    concluded_err s c.conclude.new.self _ 1 (refusal_in (book_in s.manager) (Steps.Settle c.args.gtrid)) _ (Adds c.args.gtrid (voted_yes
-    (book_in s.manager) c.args.gtrid)) (InDecide c.args.gtrid) c.settle-reply.result _
+    concluded_err s c.conclude.new.self _ 1 (refusal_in (book_in s.manager) (Steps.Settle c.args.gtrid)) _ (Adds (rows_for (book_in s.manager) (c.args.gtrid ∷ []))) (InDecide (c.args.gtrid ∷ [])) c.settle-reply.result _
     (refusal_is s (Steps.Settle c.args.gtrid) (sym c.is_over.ensures ∙ c.if-is_over.false))
     (record { manager = c.conclude.ensures.manager; lines = c.conclude.ensures.lines; happenings = c.conclude.ensures.happenings })
     c.conclude.ensures.value c.settle-reply.ensures.err
@@ -46,6 +45,6 @@ pub returns-clause-stays : goal.returns-clause-stays
 returns-clause-stays g c =
     let s = c.args.self.now in
     concluded_stays s _ _ 1 (refusal_in (book_in s.manager) (Steps.Settle c.args.gtrid))
-    (Adds c.args.gtrid (voted_yes (book_in s.manager) c.args.gtrid)) (InDecide c.args.gtrid) c.settle-reply.result _
+    (Adds (rows_for (book_in s.manager) (c.args.gtrid ∷ []))) (InDecide (c.args.gtrid ∷ [])) c.settle-reply.result _
     (record { manager = c.conclude.ensures.manager; lines = c.conclude.ensures.lines; happenings = c.conclude.ensures.happenings })
     c.conclude.ensures.value c.conclude.ensures.monitor c.settle-reply.ensures.refused c.settle-reply.ensures.err c.settle-reply.ensures.kept
