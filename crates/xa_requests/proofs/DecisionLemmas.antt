@@ -23,7 +23,7 @@ module _ (words : List (Bor (List ℕ))) (d : Bor (List ℕ)) where
   named_last outcome some named =
       ap (λ n. option_and_then outcome_named (slice_get (texts words) (n - 1))) (length-map words (λ word. word.now))
       ∙ ap (option_and_then outcome_named) (slice_get-map (λ word. word.now) words (length words - 1)
-        ∙ ap (option_map (λ word. word.now)) (slice_get-get_or words (length words - 1) d (omega arith)))
+      ∙ ap (option_map (λ word. word.now)) (slice_get-get_or words (length words - 1) d (omega arith)))
       ∙ sym named
 
   -- the last word names the outcome, and the others the transactions

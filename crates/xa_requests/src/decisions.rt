@@ -34,10 +34,7 @@ fn some_gtrids(alloc: Global, words: &[&str]) -> Result<Option<Gtrids>, AllocErr
 
 /// What `decide` asks for: one transaction or more, and behind them how they end.
 #[tactic(auto, unfolding(crate::specs::Decisions::decide_request))]
-pub(crate) fn decide_request(
-    alloc: Global,
-    words: &[&str],
-) -> Result<Option<Request>, AllocError>
+pub(crate) fn decide_request(alloc: Global, words: &[&str]) -> Result<Option<Request>, AllocError>
     ensures { IfOk result (λ request. request
         ≡ decide_request (map (λ word. word.now) words.now)) }
 {
