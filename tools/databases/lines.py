@@ -66,7 +66,7 @@ class Requests:
             (30, lambda: f"issue {thread} {rm} {self.call()}"),
             (30, lambda: self.answer_to(thread % 2, rm % 2, stands[1 + 2 * (thread % 2) + rm % 2])),
             (3, lambda: f"answer {thread} {rm} {rng.choice(CALLS)} {self.branch()} {rng.choice(CODES)}"),
-            (7, lambda: f"decide {gtrid} {rng.choice(['commit', 'rollback', 'maybe'])}"),
+            (7, lambda: f"decide {rng.choice([gtrid, gtrid, several])} {rng.choice(['commit', 'rollback', 'maybe'])}"),
             (6, lambda: f"{rng.choice(['claim', 'settle', 'abandon'])} {gtrid}"),
             (3, lambda: f"done {several}"),
             (6, lambda: f"{rng.choice(['resolve', 'resolve-open', 'owed'])} {rm}"),
@@ -123,7 +123,7 @@ def run(world, lines, seed):
         words = reply.split(" ")
         is_refused = words[0] in ("refused", "error")
         replies[" ".join(words[:3]) if is_refused else words[0]] += 1
-        if is_refused and words[:2] != ["refused", "15"] and behind != stands and not text.startswith("done "):
+        if is_refused and words[:2] != ["refused", "15"] and behind != stands:
             wrong += 1
             print(f"lines: changed by what was refused: {text} -> {reply}: {stands} -> {behind}")
         stands = behind

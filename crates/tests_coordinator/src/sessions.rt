@@ -74,6 +74,60 @@ fn commits_in_two_phases(rt: HostRuntime) {
     }
 }
 
+/// Two transactions of a branch each, which are decided and done together.
+const TOGETHER: &str = "issue 0 0 xa_open\nanswer 0 0 xa_open 0\n\
+    issue 1 0 xa_open\nanswer 1 0 xa_open 0\nbegin 0\nbegin 1\n\
+    issue 0 0 xa_start 00000000000000010000000000000001\n\
+    answer 0 0 xa_start 00000000000000010000000000000001 0\n\
+    issue 1 0 xa_start 00000000000000010000000000000002\n\
+    answer 1 0 xa_start 00000000000000010000000000000002 0\n\
+    issue 0 0 xa_end 00000000000000010000000000000001 TMSUCCESS\n\
+    answer 0 0 xa_end 00000000000000010000000000000001 0\n\
+    issue 1 0 xa_end 00000000000000010000000000000002 TMSUCCESS\n\
+    answer 1 0 xa_end 00000000000000010000000000000002 0\n\
+    issue 0 0 xa_prepare 00000000000000010000000000000001\n\
+    answer 0 0 xa_prepare 00000000000000010000000000000001 0\n\
+    issue 1 0 xa_prepare 00000000000000010000000000000002\n\
+    decide 00000000000000010000000000000001 00000000000000010000000000000002 commit\n\
+    answer 1 0 xa_prepare 00000000000000010000000000000002 0\n\
+    decide 00000000000000010000000000000001 00000000000000010000000000000001 commit\n\
+    decide 00000000000000010000000000000001 00000000000000010000000000000002 commit\n\
+    issue 0 0 xa_commit 00000000000000010000000000000001\n\
+    answer 0 0 xa_commit 00000000000000010000000000000001 0\n\
+    done 00000000000000010000000000000001 00000000000000010000000000000002\n\
+    issue 1 0 xa_commit 00000000000000010000000000000002\n\
+    answer 1 0 xa_commit 00000000000000010000000000000002 0\n\
+    done 00000000000000010000000000000001 00000000000000010000000000000002\n\
+    done 00000000000000010000000000000001\ndecide commit\nstatus\n";
+
+/// What is replied to it: nothing is done of a request of several that is refused.
+const TOGETHER_REPLIED: &str = "restarted 1 0 0\nissued xa_open\nheard xa_open 0\n\
+    issued xa_open\nheard xa_open 0\n\
+    begun 00000000000000010000000000000001\nbegun 00000000000000010000000000000002\n\
+    issued xa_start 7:00000000000000010000000000000001:0000000000000000\nheard xa_start 0\n\
+    issued xa_start 7:00000000000000010000000000000002:0000000100000000\nheard xa_start 0\n\
+    issued xa_end 7:00000000000000010000000000000001:0000000000000000 TMSUCCESS\n\
+    heard xa_end 0\n\
+    issued xa_end 7:00000000000000010000000000000002:0000000100000000 TMSUCCESS\n\
+    heard xa_end 0\n\
+    issued xa_prepare 7:00000000000000010000000000000001:0000000000000000\n\
+    heard xa_prepare 0\n\
+    issued xa_prepare 7:00000000000000010000000000000002:0000000100000000\n\
+    refused 10 Votes\nheard xa_prepare 0\nrefused 8 Decided\ndecided\n\
+    issued xa_commit 7:00000000000000010000000000000001:0000000000000000\n\
+    heard xa_commit 0\nrefused 11 Busy\n\
+    issued xa_commit 7:00000000000000010000000000000002:0000000100000000\n\
+    heard xa_commit 0\nnoted\n\
+    refused 5 UnknownTransaction\nerror not a request\nstatus up 26\n";
+
+#[test]
+fn decides_several_together(rt: HostRuntime) {
+    let alloc: Global = rt.alloc();
+    if let Some(output) = written(alloc, MemLog::new(alloc), TOGETHER) {
+        assert_eq!(rt; output.as_slice(), TOGETHER_REPLIED.as_bytes());
+    }
+}
+
 #[test]
 fn replies_to_what_is_wrong(rt: HostRuntime) {
     let alloc: Global = rt.alloc();

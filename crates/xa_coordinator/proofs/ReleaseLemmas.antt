@@ -4,7 +4,7 @@ use Rattle.std.proofs.Math.Seq.{drop-cons}
 use Rattle.std.specs.Prelude.{if◌then◌else◌}
 use Rattle.xa_base.specs.declared.branch.Gtrid.{Gtrid}
 use Rattle.xa_coordinator.specs.Performing.{is_not_done, is_one_step}
-use Rattle.xa_coordinator.specs.Releasing.{Releases, ReleasesAll, ended_by, if_taken, is_taken, transaction_of}
+use Rattle.xa_coordinator.specs.Releasing.{Releases, ReleasesAll, all_if_taken, ended_by, if_taken, is_taken, transaction_of}
 use Rattle.xa_coordinator.specs.declared.coordinator.Coordinator.{Coordinator}
 use Rattle.xa_model.specs.Trace.{Trace}
 use Rattle.xa_requests.specs.declared.request.Request.{Request}
@@ -51,6 +51,14 @@ module _ {L : Type 0} where
   one_is_released g old new reply taken releases =
       subst (λ t. ReleasesAll (if t then g ∷ [] else []) old new) (sym taken) (new, releases, refl)
 
+  -- all of these are, or none
+  pub all_are_released : (gs : List Gtrid) (old new : Coordinator L) (reply : Response) → is_taken reply ≡ true → ReleasesAll gs old new
+      → ReleasesAll (all_if_taken reply gs) old new
+  all_are_released gs old new reply taken releases = subst (λ t. ReleasesAll (if t then gs else []) old new) (sym taken) releases
+
+  pub none_are_released : (gs : List Gtrid) (old : Coordinator L) (reply : Response) → is_taken reply ≡ false → ReleasesAll (all_if_taken reply gs) old old
+  none_are_released gs old reply taken = subst (λ t. ReleasesAll (if t then gs else []) old old) (sym taken) refl
+
   -- none is
   pub none_is_released : (g : Gtrid) (old : Coordinator L) (reply : Response) → is_taken reply ≡ false → ReleasesAll (if_taken reply (Some g)) old old
   none_is_released g old reply taken = subst (λ t. ReleasesAll (if t then g ∷ [] else []) old old) (sym taken) refl
@@ -80,7 +88,7 @@ untaken (responses.Waits call) undone = refl
 untaken responses.Nothing undone = refl
 untaken responses.Decided undone = absurd (cc)
 untaken responses.Claimed undone = refl
-untaken responses.Noted undone = refl
+untaken responses.Noted undone = absurd (cc)
 untaken (responses.Resolved count) undone = refl
 untaken (responses.Owed xids) undone = refl
 untaken responses.Crashed undone = refl
@@ -89,19 +97,22 @@ untaken responses.Bye undone = refl
 untaken (responses.Refused n) undone = refl
 untaken (responses.Fault fault) undone = refl
 
+none_taken : (reply : Response) (gs : List Gtrid) → is_not_done reply ≡ true → all_if_taken reply gs ≡ []
+none_taken reply gs undone = ap (λ t. if t then gs else []) (untaken reply undone)
+
 not_taken : (reply : Response) (g : Option Gtrid) → is_not_done reply ≡ true → if_taken reply g ≡ []
 not_taken reply None undone = refl
-not_taken reply (Some g) undone = ap (λ t. if t then g ∷ [] else []) (untaken reply undone)
+not_taken reply (Some g) undone = none_taken reply (g ∷ []) undone
 
 none_ended : (q : Request) (reply : Response) → is_one_step q ≡ true → is_not_done reply ≡ true → ended_by q reply ≡ []
 none_ended (requests.Begin t) reply one undone = refl
 none_ended (requests.Issue t r call) reply one undone = refl
 none_ended (requests.Answer t r name answer) reply one undone = not_taken reply (transaction_of name) undone
-none_ended (requests.Decide g o) reply one undone = not_taken reply (Some g) undone
+none_ended (requests.Decide gs o) reply one undone = none_taken reply gs undone
 none_ended (requests.Claim g) reply one undone = refl
 none_ended (requests.Settle g) reply one undone = not_taken reply (Some g) undone
 none_ended (requests.Abandon g) reply one undone = not_taken reply (Some g) undone
-none_ended (requests.Done gs) reply one undone = absurd (cc)
+none_ended (requests.Done gs) reply one undone = none_taken reply gs undone
 none_ended (requests.Resolve r) reply one undone = refl
 none_ended (requests.ResolveOpen r) reply one undone = refl
 none_ended (requests.Waiting t r) reply one undone = refl

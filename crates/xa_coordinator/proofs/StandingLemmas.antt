@@ -1,6 +1,5 @@
 -- What a session's calls ensure, put together.
-use Rattle.std.proofs.Common.{◌≡◌, ◌≢◌, ◌<◌, ◌≤◌, ◌+◌, ◌-◌, ℕ, suc, List, [], ◌∷◌, length, drop, get_or, Some, None, refl, sym, subst, arith}
-use Rattle.std.proofs.Math.Seq.{drop-cons}
+use Rattle.std.proofs.Common.{◌≡◌, ◌≢◌, ◌<◌, ◌≤◌, ◌+◌, ◌-◌, ℕ, suc, List, [], ◌∷◌, map, Some, None, refl, sym, subst, arith}
 use Rattle.std.specs.Prelude.{Result, Ok, Err, IfErr, IfOk, OnOk}
 use Rattle.xa_base.specs.Call.{map_call}
 use Rattle.xa_base.specs.Xid.{Xid}
@@ -9,28 +8,31 @@ use Rattle.xa_base.specs.declared.call.Call.{Call}
 use Rattle.xa_base.specs.declared.refusal.Refusal.{Refusal}
 use Rattle.xa_base.specs.declared.refusal.Refusal.TheVariants.{LogFault, Memory}
 use Rattle.xa_base.specs.declared.step.Part.TheVariants as Parts
-use Rattle.xa_base.specs.declared.step.Step.TheVariants as Steps
 use Rattle.xa_coordinator.specs.Crashes.{Loses, LosesFrom, LosesLine, LosesOne}
-use Rattle.xa_coordinator.specs.Decisions.{Finishes, FinishesOne, Happens, PerformsDone}
+use Rattle.xa_coordinator.specs.Decisions.{Finishes, HappenInTurn, Happens}
 use Rattle.xa_coordinator.specs.declared.coordinator.Coordinator.{Coordinator}
 use Rattle.xa_line.specs.Grid.{with_line}
 use Rattle.xa_line.specs.Traffic.{no_traffic}
 use Rattle.xa_model.specs.Replies.History.{name_of}
 use Rattle.xa_model.specs.Replies.Steps.{accepted}
-use Rattle.xa_model.specs.Trace.{Call as KnownCall, Fault.InDone, Happening, Happening.Crashed, Happening.Done, Happening.Failed, line}
+use Rattle.xa_model.specs.Trace.{Call as KnownCall, Fault.InDone, Happening, Happening.Crashed, Happening.Done, line}
 use Rattle.xa_requests.specs.declared.response.Response.{Response}
 use Rattle.xa_requests.specs.declared.response.Response.TheVariants as responses
-use Rattle.xa_serve.specs.Following.{Follows, FollowsLoss, StaysAs}
-use Rattle.xa_serve.specs.Session.{known_waiting, line_refusal, lines_by, refusal_at}
+use Rattle.xa_serve.specs.Following.{Follows, FollowsAll, FollowsLoss, StaysAs}
+use Rattle.xa_serve.specs.Session.{done_refusal, known_waiting, line_refusal, lines_by}
 use Rattle.xa_serve.specs.declared.session.Session.{Session}
-use Rattle.xa_tm.specs.Book.{Doubt.Drops, after, book_after}
-use Rattle.xa_tm.specs.Calls.{book_in, log_in}
+use Rattle.xa_tm.specs.Book.{Doubt.Drops, after, after_all}
+use Rattle.xa_tm.specs.Calls.{FailsBy, book_in, log_in}
 
 -- what happens where a step is taken
+pub happen_on_ok : {L A E : Type 0} (es : List Happening) (old new : Session L) (r : Result A E)
+    → OnOk r (book_in new.manager ≡ after_all (book_in old.manager) es) → OnOk r (FollowsAll es old new) → OnOk r (HappenInTurn es old new)
+happen_on_ok es old new (Ok x) book follows = record { book = book; follows = follows }
+happen_on_ok es old new (Err n) book follows = tt
+
 pub happens_on_ok : {L A E : Type 0} (e : Happening) (old new : Session L) (r : Result A E) → OnOk r (book_in new.manager ≡ after (book_in old.manager) e)
     → OnOk r (Follows e old new) → OnOk r (Happens e old new)
-happens_on_ok e old new (Ok x) book follows = record { book = book; follows = follows }
-happens_on_ok e old new (Err n) book follows = tt
+happens_on_ok e old new r book follows = happen_on_ok (e ∷ []) old new r book follows
 
 -- what happens is of what the step gives
 pub happens_if_ok : {L A E : Type 0} (e : A → Happening) (old new : Session L) (r : Result A E)
@@ -71,32 +73,20 @@ line_is_lost t r old new result refused allowed err ok follows log lines = recor
     together (Ok x) book follows lines = record { book = book; follows = follows; lines = lines }
     together (Err n) book follows lines = tt
 
--- the row of a transaction leaves the log, or it is refused
-pub finishes_by : {L : Type 0} (g : Gtrid) (old new : Session L) (result : Result (Unit {0}) Refusal)
-    → ((n : Refusal) → refusal_at old (Steps.Done g) ≡ Some n → (result ≡ Err n) × (new ≡ old)) → OnOk result (refusal_at old (Steps.Done g) ≡ None)
-    → (refusal_at old (Steps.Done g) ≡ None
-    → IfErr result (λ n. (n ≡ LogFault) × (book_in new.manager ≡ book_after (book_in old.manager) (Drops (g ∷ [])) (Failed (InDone (g ∷ []))))))
+-- the rows of transactions leave the log, or one is refused
+pub finishes_by : {L : Type 0} (gs : List Gtrid) (old new : Session L) (result : Result (Unit {0}) Refusal)
+    → ((n : Refusal) → done_refusal old gs ≡ Some n → (result ≡ Err n) × (new ≡ old)) → OnOk result (done_refusal old gs ≡ None)
+    → (done_refusal old gs ≡ None → IfErr result (FailsBy (Drops gs) (InDone gs) (book_in old.manager) (book_in new.manager)))
     → IfErr result (λ n. n ≢ LogFault → StaysAs old new) → new.lines ≡ lines_by result old.lines
-    → OnOk result (book_in new.manager ≡ after (book_in old.manager) (Done g)) → OnOk result (Follows (Done g) old new) → Finishes g old new result
-finishes_by g old new result refused allowed err stays lines ok follows = record {
+    → OnOk result (book_in new.manager ≡ after_all (book_in old.manager) (map (λ g. Done g) gs))
+    → OnOk result (FollowsAll (map (λ g. Done g) gs) old new) → Finishes gs old new result
+finishes_by gs old new result refused allowed err stays lines ok follows = record {
   rules = record { refused = refused; allowed = allowed };
   asks = record { fails = err; stays = stays; lines = lines };
-  done = happens_on_ok (Done g) old new result ok follows;
+  done = happen_on_ok (map (λ g. Done g) gs) old new result ok follows;
 }
 
 module _ {L : Type 0} where
-  -- one transaction more is done of a list
-  pub next_is_done : (gs : List Gtrid) (i : ℕ) (d : Gtrid) (old next : Coordinator L) (reply : Response) (new : Coordinator L) → i < length gs
-      → FinishesOne (get_or gs i d) old (Ok tt) next → PerformsDone (drop (suc i) gs) next reply new → PerformsDone (drop i gs) old reply new
-  next_is_done gs i d old next reply new below finishes more =
-      subst (λ rest. PerformsDone rest old reply new) (sym (drop-cons gs i d below)) (next, Ok tt, finishes, more)
-
-  -- or it is refused
-  pub next_is_not : (gs : List Gtrid) (i : ℕ) (d : Gtrid) (old next : Coordinator L) (n : Refusal) → i < length gs
-      → FinishesOne (get_or gs i d) old (Err n) next → PerformsDone (drop i gs) old (responses.Refused n) next
-  next_is_not gs i d old next n below finishes =
-      subst (λ rest. PerformsDone rest old (responses.Refused n) next) (sym (drop-cons gs i d below)) (next, Err n, finishes, (refl, refl))
-
   -- one line more is lost
   pub next_is_lost : (rm t n : ℕ) (old next : Coordinator L) (reply : Response) (new : Coordinator L) → t < n → LosesOne t rm old (Ok tt) next
       → LosesFrom rm (t + 1) (n - (t + 1)) next reply new → LosesFrom rm t (n - t) old reply new

@@ -1,7 +1,8 @@
 -- A session tracks what a driver tells.
-use Rattle.std.proofs.Common.{◌≡◌, ◌≢◌, ◌∙◌, ◌⊎◌, inl, inr, ℕ, ℤ, ◌+◌, zero, suc, Bool, true, false, ◌||◌, List, [], ◌∷◌, Option, Some, None, refl, sym, ap, subst}
+use Rattle.std.proofs.Common.{◌≡◌, ◌≢◌, ◌∙◌, ◌⊎◌, inl, inr, ℕ, ℤ, ◌+◌, zero, suc, Bool, true, false, ◌||◌, List, [], ◌∷◌, map, Option, Some, None, refl, sym, ap, subst}
 use Rattle.std.specs.List.{list_any}
-use Rattle.std.specs.Prelude.{MatchBool, Result, Ok, Err}
+use Rattle.std.specs.Prelude.{All, MatchBool, Result, Ok, Err}
+use Rattle.std.proofs.lemmas.List.Elements.{All-cons, All-map, All-nil}
 use Rattle.xa_base.specs.Answer.{answer_number, map_answer}
 use Rattle.xa_base.specs.Xid.{Xid}
 use Rattle.xa_base.specs.declared.answer.Answer.{Answer}
@@ -14,7 +15,7 @@ use Rattle.xa_base.specs.declared.step.Outcome.TheVariants as Outcomes
 use Rattle.xa_coordinator.proofs.KnownCalls.{known_first, known_issue, named_first}
 use Rattle.xa_coordinator.specs.Calls.{Hears, Issues, PerformsAnswer, answer_reply, waits_for_other}
 use Rattle.xa_coordinator.specs.Crashes.{Loses, LosesFrom}
-use Rattle.xa_coordinator.specs.Decisions.{Abandons, Begins, Claims, Decides, PerformsDone, Settles}
+use Rattle.xa_coordinator.specs.Decisions.{Abandons, Begins, Claims, Decides, Finishes, Settles}
 use Rattle.xa_coordinator.specs.Lines.{asked_in}
 use Rattle.xa_coordinator.specs.Performing.{Does, Performs}
 use Rattle.xa_coordinator.specs.Recoveries.{Resolves, ResolvesOpen}
@@ -22,7 +23,7 @@ use Rattle.xa_coordinator.specs.Releasing.{ReleasesAll}
 use Rattle.xa_coordinator.specs.Replies.{reply_of}
 use Rattle.xa_coordinator.specs.Serving.{HaveReplies, RepliesBy}
 use Rattle.xa_coordinator.specs.Standing.{LacksMemory, OnlyTells, StandsFor}
-use Rattle.xa_coordinator.specs.Telling.{HaveTold, Tells, TellsBy, TellsDone, TellsLost, is_log_fault, is_refusal}
+use Rattle.xa_coordinator.specs.Telling.{HaveTold, Tells, TellsBy, TellsLost, is_log_fault, is_refusal}
 use Rattle.xa_coordinator.specs.Tracking.{TracksReplies, TracksReply}
 use Rattle.xa_coordinator.specs.declared.coordinator.Coordinator.{Coordinator}
 use Rattle.xa_model.specs.Replies.History.{name_of}
@@ -33,9 +34,9 @@ use Rattle.xa_requests.specs.declared.request.Request.TheVariants as requests
 use Rattle.xa_requests.specs.declared.response.RequestFault.TheVariants as faults
 use Rattle.xa_requests.specs.declared.response.Response.{Response}
 use Rattle.xa_requests.specs.declared.response.Response.TheVariants as responses
-use Rattle.xa_serve.specs.Following.{Follows, StaysAs}
+use Rattle.xa_serve.specs.Following.{Follows, FollowsAll, StaysAs}
 use Rattle.xa_serve.specs.Session.{known_waiting, line_refusal}
-use Rattle.xa_serve.specs.Tracking.{AnswersAreTracked, KeepsTrack, LossesAreTracked, RefusalsAreTracked, ReleasesAreTracked, StepsAreTracked}
+use Rattle.xa_serve.specs.Tracking.{AnswersAreTracked, KeepsTrack, LossesAreTracked, RefusalsAreTracked, ReleasesAreTracked, StepsAreTracked, did_all}
 use Rattle.xa_serve.specs.declared.session.Session.{Session}
 use Rattle.xa_serve.specs.declared.session.answers.Unfit.{Unfit}
 use Rattle.xa_serve.specs.declared.session.answers.Unfit.TheVariants as Unfits
@@ -66,9 +67,13 @@ no_fault n none is = fault_is_told (subst (λ n. is_log_fault (responses.Refused
 -- ** what a session does
 
 module _ {L : Type 0} (laws : Laws L) (o : Origin) (seen : Seen) (old new : Session L) (keeps : KeepsTrack o seen old) where
+  stepped_all : (es : List Happening) → All IsManagers es → FollowsAll es old new → new.lines.threads ≡ old.lines.threads
+      → Goes o (λ more. more ≡ did_all seen es) old new
+  stepped_all es managers follows threads =
+      record { more = did_all seen es; told = refl; keeps = laws.steps o seen es old new managers keeps follows; threads = threads }
+
   stepped : (e : Happening) → IsManagers e → Follows e old new → new.lines.threads ≡ old.lines.threads → Goes o (λ more. more ≡ Did seen e) old new
-  stepped e managers follows threads =
-      record { more = Did seen e; told = refl; keeps = laws.steps o seen e old new managers keeps follows; threads = threads }
+  stepped e managers follows threads = stepped_all (e ∷ []) (All-cons IsManagers e [] managers (All-nil IsManagers)) follows threads
 
   stayed : StaysAs old new → Goes o (λ more. more ≡ seen) old new
   stayed stays =
@@ -118,11 +123,21 @@ module _ {L : Type 0} (laws : Laws L) (o : Origin) (seen : Seen) (old new : Sess
     answered t r name answer k (Err Unfits.NoSuchAnswer) same does none = stayed (does.stays (λ is. absurd (cc)))
     answered t r name answer k (Err (Unfits.NoSuchState b)) same does none = stayed (does.stays (λ is. absurd (cc)))
 
-    decided : (g : Gtrid) (outcome : Outcome) (result : Result (Unit {0}) Refusal) → Decides g outcome old new result
+    decided : (gs : List Gtrid) (outcome : Outcome) (result : Result (Unit {0}) Refusal) → Decides gs outcome old new result
         → is_log_fault (reply_of (λ _. responses.Decided) result) ≡ false
-        → Goes o (Tells n (requests.Decide g outcome) (reply_of (λ _. responses.Decided) result) seen) old new
-    decided g outcome (Ok x) does none = stepped (Decided g outcome) tt does.decided.follows (ap (λ g. g.threads) does.asks.lines)
-    decided g outcome (Err m) does none = stayed (does.asks.stays (no_fault m none))
+        → Goes o (Tells n (requests.Decide gs outcome) (reply_of (λ _. responses.Decided) result) seen) old new
+    decided gs outcome (Ok x) does none =
+        stepped_all (map (λ g. Decided g outcome) gs) (All-map IsManagers (λ g. Decided g outcome) gs (λ k d less. tt)) does.decided.follows
+        (ap (λ g. g.threads) does.asks.lines)
+    decided gs outcome (Err m) does none = stayed (does.asks.stays (no_fault m none))
+
+    finished : (gs : List Gtrid) (result : Result (Unit {0}) Refusal) → Finishes gs old new result
+        → is_log_fault (reply_of (λ _. responses.Noted) result) ≡ false
+        → Goes o (Tells n (requests.Done gs) (reply_of (λ _. responses.Noted) result) seen) old new
+    finished gs (Ok x) does none =
+        stepped_all (map (λ g. Done g) gs) (All-map IsManagers (λ g. Done g) gs (λ k d less. tt)) does.done.follows
+        (ap (λ g. g.threads) does.asks.lines)
+    finished gs (Err m) does none = stayed (does.asks.stays (no_fault m none))
 
     settled : (g : Gtrid) (result : Result (Unit {0}) Refusal) → Settles g old new result → is_log_fault (reply_of (λ _. responses.Decided) result) ≡ false
         → Goes o (Tells n (requests.Settle g) (reply_of (λ _. responses.Decided) result) seen) old new
@@ -204,23 +219,6 @@ module _ {L : Type 0} (laws : Laws L) (o : Origin) where
             (λ result does. answered laws o seen old.session new.session keeps n t r name answer (answer_number answer) result is does)
         by false is (inr lacks) = only (responses.Refused Memory) lacks (looked lacks.1)
 
-  dones : (gs : List Gtrid) (reply : Response) (seen : Seen) (old new : Coordinator L) → KeepsTrack o seen old.session → is_log_fault reply ≡ false
-      → PerformsDone gs old reply new → Goes o (TellsDone gs reply seen) old.session new.session
-  dones [] reply seen old new keeps none performs = looked seen old new keeps performs.1
-  dones (g ∷ gs) reply seen old new keeps none (next, Ok x, finishes, rest) =
-      let tracked = laws.steps o seen (Done g) old.session next.session tt keeps finishes.does.done.follows in
-      let goes = dones gs reply (Did seen (Done g)) next new tracked none rest in
-      record { more = goes.more; told = inr goes.told; keeps = goes.keeps; threads = goes.threads ∙ ap (λ g. g.threads) finishes.does.asks.lines }
-  dones (g ∷ gs) reply seen old new keeps none (next, Err m, finishes, rest) =
-      let stays = finishes.does.asks.stays (no_fault m (subst (λ r. is_log_fault r ≡ false) rest.0 none)) in
-      let goes = stayed laws o seen old.session next.session keeps stays in
-      record {
-        more = seen;
-        told = inl (ap is_refusal rest.0, refl);
-        keeps = subst (λ c. KeepsTrack o seen c.session) (sym rest.1) (subst (λ s. KeepsTrack o s next.session) goes.told goes.keeps);
-        threads = ap (λ c. c.session.lines.threads) rest.1 ∙ goes.threads;
-      }
-
   losts : (rm t left : ℕ) (reply : Response) (seen : Seen) (old new : Coordinator L) → KeepsTrack o seen old.session
       → LosesFrom rm t left old reply new → Goes o (TellsLost rm t left reply seen) old.session new.session
   losts rm t zero reply seen old new keeps performs = looked seen old new keeps performs.1
@@ -248,9 +246,9 @@ module _ {L : Type 0} (laws : Laws L) (o : Origin) where
       (λ result does none. issued laws o seen old.session new.session keeps old.session.lines.threads t r call result does)
   performed (requests.Answer t r name answer) reply seen old new keeps does none =
       heard seen old new keeps old.session.lines.threads t r name answer reply does none
-  performed (requests.Decide g outcome) reply seen old new keeps does none = stands seen old new keeps (Decides g outcome) (reply_of (λ _. responses.Decided))
-      (λ reply. Tells old.session.lines.threads (requests.Decide g outcome) reply seen) reply does none
-      (λ result does none. decided laws o seen old.session new.session keeps old.session.lines.threads g outcome result does none)
+  performed (requests.Decide gs outcome) reply seen old new keeps does none = stands seen old new keeps (Decides gs outcome) (reply_of (λ _. responses.Decided))
+      (λ reply. Tells old.session.lines.threads (requests.Decide gs outcome) reply seen) reply does none
+      (λ result does none. decided laws o seen old.session new.session keeps old.session.lines.threads gs outcome result does none)
   performed (requests.Claim g) reply seen old new keeps does none = stands seen old new keeps (Claims g) (reply_of (λ _. responses.Claimed))
       (λ reply. Tells old.session.lines.threads (requests.Claim g) reply seen) reply does none
       (λ result does none. claimed laws o seen old.session new.session keeps old.session.lines.threads g result does)
@@ -260,7 +258,10 @@ module _ {L : Type 0} (laws : Laws L) (o : Origin) where
   performed (requests.Abandon g) reply seen old new keeps does none = stands seen old new keeps (Abandons g) (reply_of (λ _. responses.Decided))
       (λ reply. Tells old.session.lines.threads (requests.Abandon g) reply seen) reply does none
       (λ result does none. abandoned laws o seen old.session new.session keeps old.session.lines.threads g result does)
-  performed (requests.Done gs) reply seen old new keeps does none = dones gs reply seen old new keeps none does
+  performed (requests.Done gs) reply seen old new keeps does none =
+      subst (λ r. Goes o (Tells old.session.lines.threads (requests.Done gs) r seen) old.session new.session) (sym does.told)
+      (finished laws o seen old.session new.session keeps old.session.lines.threads gs does.result does.does
+      (subst (λ r. is_log_fault r ≡ false) does.told none))
   performed (requests.Resolve r) reply seen old new keeps does none = stands seen old new keeps (Resolves r) (reply_of responses.Resolved)
       (λ reply. Tells old.session.lines.threads (requests.Resolve r) reply seen) reply does none
       (λ result does none. resolved laws o seen old.session new.session keeps old.session.lines.threads r result does)

@@ -1,14 +1,16 @@
 -- What isn't done changes nothing.
-use Rattle.std.proofs.Common.{◌≡◌, ◌≢◌, ◌∙◌, ◌⊎◌, inl, inr, ℕ, Bool, true, false, Option, Some, None, refl, sym, ap, subst}
+use Rattle.std.proofs.Common.{◌≡◌, ◌≢◌, ◌∙◌, ◌⊎◌, inl, inr, ℕ, Bool, true, false, List, Option, Some, None, refl, sym, ap, subst}
 use Rattle.std.specs.Prelude.{MatchBool, Result, Ok, Err, IfErr, OnErr}
 use Rattle.std.proofs.lemmas.Bool.{true≢false}
 use Rattle.xa_base.specs.Answer.{answer_number}
 use Rattle.xa_base.specs.Xid.{Xid}
 use Rattle.xa_base.specs.declared.answer.Answer.{Answer}
+use Rattle.xa_base.specs.declared.branch.Gtrid.{Gtrid}
 use Rattle.xa_base.specs.declared.refusal.Refusal.{Refusal}
 use Rattle.xa_base.specs.declared.refusal.Refusal.TheVariants as Refusals
 use Rattle.xa_coordinator.specs.Calls.{Hears, PerformsAnswer, answer_reply, waits_for_other}
 use Rattle.xa_coordinator.specs.Crashes.{Loses}
+use Rattle.xa_coordinator.specs.Decisions.{PerformsDone}
 use Rattle.xa_coordinator.specs.Performing.{ChangesNothing, Does, is_not_done, is_one_step}
 use Rattle.xa_coordinator.specs.Replies.{reply_of}
 use Rattle.xa_coordinator.specs.Standing.{LacksMemory, OnlyTells, StandsFor}
@@ -89,19 +91,27 @@ module _ {L : Type 0} (old new : Coordinator L) (reply : Response) (undone : is_
       by_first false (inl h) = by_answer old new reply (responses.Heard name.kind (answer_number answer)) h.result refl h.does.stays h.told h.rest undone
       by_first false (inr h) = same old new h.1
 
+  rows_stay : (gs : List Gtrid) → PerformsDone gs old reply new → ChangesNothing old new
+  rows_stay gs h = by h.result h.does.asks.stays h.owed_stay h.told
+    where
+      by : (r : Result (Unit {0}) Refusal) → IfErr r (λ n. n ≢ Refusals.LogFault → StaysAs old.session new.session) → OnErr r (new.owed ≡ old.owed)
+          → reply ≡ reply_of (λ _. responses.Noted) r → ChangesNothing old new
+      by (Ok x) stays owed told = absurd (true≢false (sym undone ∙ ap is_not_done told))
+      by (Err n) stays owed told = record { session = stays (no_log_fault n (ap is_not_done (sym told) ∙ undone)); owed = owed }
+
   pub not_done : (q : Request) → Does q old reply new → is_one_step q ≡ true → ChangesNothing old new
   not_done (requests.Begin t) h one = by_result old new reply responses.Begun h.result (λ x. refl) (stays_unless h.result _ h.does.quiet.stays) h.told h.rest
       undone
   not_done (requests.Issue t r call) h one = by_result old new reply (λ _. responses.Issued call) h.result (λ x. refl) (stays_unless h.result _ h.does.stays)
       h.told h.rest undone
   not_done (requests.Answer t r name answer) h one = answered t r name answer h
-  not_done (requests.Decide g o) h one = by_result old new reply (λ _. responses.Decided) h.result (λ x. refl) h.does.asks.stays h.told h.rest undone
+  not_done (requests.Decide gs o) h one = by_result old new reply (λ _. responses.Decided) h.result (λ x. refl) h.does.asks.stays h.told h.rest undone
   not_done (requests.Claim g) h one = by_result old new reply (λ _. responses.Claimed) h.result (λ x. refl) (stays_unless h.result _ h.does.quiet.stays)
       h.told h.rest undone
   not_done (requests.Settle g) h one = by_result old new reply (λ _. responses.Decided) h.result (λ x. refl) h.does.asks.stays h.told h.rest undone
   not_done (requests.Abandon g) h one = by_result old new reply (λ _. responses.Decided) h.result (λ x. refl) (stays_unless h.result _ h.does.quiet.stays)
       h.told h.rest undone
-  not_done (requests.Done gs) h one = absurd (true≢false (sym one))
+  not_done (requests.Done gs) h one = rows_stay gs h
   not_done (requests.Resolve r) h one = by_result old new reply responses.Resolved h.result (λ x. refl) (stays_unless h.result _ h.does.stays) h.told h.rest
       undone
   not_done (requests.ResolveOpen r) h one = by_result old new reply responses.Resolved h.result (λ x. refl) (stays_unless h.result _ h.does.stays) h.told

@@ -1,5 +1,5 @@
 -- Requests that begin and end transactions.
-use Rattle.std.specs.Prelude.{◌≡◌, ◌≢◌, ℕ, ◌+◌, List, [], ◌∷◌, Option, Some, None, Result, Err, IfErr, IfOk, MatchResult, OnErr, OnOk}
+use Rattle.std.specs.Prelude.{◌≡◌, ◌≢◌, ℕ, ◌+◌, List, [], ◌∷◌, map, Option, Some, None, Result, Err, IfErr, IfOk, OnErr, OnOk}
 use Rattle.xa_base.specs.declared.branch.Gtrid.{Gtrid}
 use Rattle.xa_base.specs.declared.refusal.Refusal.{Refusal}
 use Rattle.xa_base.specs.declared.refusal.Refusal.TheVariants as Refusals
@@ -8,16 +8,16 @@ use Rattle.xa_base.specs.declared.step.Outcome.TheVariants as Outcomes
 use Rattle.xa_base.specs.declared.step.Step.TheVariants as Steps
 use Rattle.xa_coordinator.specs.Replies.{reply_of}
 use Rattle.xa_coordinator.specs.Rows.{owed_without}
-use Rattle.xa_coordinator.specs.Standing.{OnlyTells, StandsFor}
+use Rattle.xa_coordinator.specs.Standing.{StandsFor}
 use Rattle.xa_coordinator.specs.declared.coordinator.Coordinator.{Coordinator}
-use Rattle.xa_model.specs.Trace.{Fault.InDecide, Fault.InDone, Happening, Happening.Begun, Happening.Claimed, Happening.Decided, Happening.Done, Happening.Failed}
+use Rattle.xa_model.specs.Trace.{Fault.InDecide, Fault.InDone, Happening, Happening.Begun, Happening.Claimed, Happening.Decided, Happening.Done}
 use Rattle.xa_requests.specs.declared.response.Response.{Response}
 use Rattle.xa_requests.specs.declared.response.Response.TheVariants as responses
-use Rattle.xa_serve.specs.Following.{Follows, StaysAs}
-use Rattle.xa_serve.specs.Session.{begin_refusal, lines_by, refusal_at}
+use Rattle.xa_serve.specs.Following.{FollowsAll, StaysAs}
+use Rattle.xa_serve.specs.Session.{begin_refusal, decide_refusal, done_refusal, lines_by, refusal_at}
 use Rattle.xa_serve.specs.declared.session.Session.{Session}
-use Rattle.xa_tm.specs.Book.{Book, Doubt.Adds, Doubt.Drops, after, book_after, rows_for}
-use Rattle.xa_tm.specs.Calls.{FailsBy, book_in, log_in}
+use Rattle.xa_tm.specs.Book.{Book, Doubt.Adds, Doubt.Drops, after_all, rows_for}
+use Rattle.xa_tm.specs.Calls.{FailsBy, book_in, log_in, written_by}
 
 -- ** what a session does
 
@@ -40,10 +40,14 @@ module _ {L A : Type 0} where
     pub stays : IfErr result (λ n. n ≢ Refusals.LogFault → StaysAs old new)
     pub lines : new.lines ≡ lines_by result old.lines
 
--- this happened: it was right to, wherever the session stood, and the book is what it leads to
-pub record Happens {L : Type 0} (e : Happening) (old new : Session L) : Type 0 where
-  pub book : book_in new.manager ≡ after (book_in old.manager) e
-  pub follows : Follows e old new
+-- these happened in turn: they were right to, wherever the session stood, and the book is what they lead to
+pub record HappenInTurn {L : Type 0} (es : List Happening) (old new : Session L) : Type 0 where
+  pub book : book_in new.manager ≡ after_all (book_in old.manager) es
+  pub follows : FollowsAll es old new
+
+-- this happened
+abbrev pub Happens : {L : Type 0} → Happening → (old new : Session L) → Type 0
+Happens e old new = HappenInTurn (e ∷ []) old new
 
 -- the transaction that is begun next
 abbrev pub next_gtrid : Book → Gtrid
@@ -66,22 +70,22 @@ module _ {L : Type 0} where
     pub quiet : IsQuiet (refusal_at old (Steps.Abandon g)) old new result
     pub decided : OnOk result (Happens (Decided g Outcomes.Rollback) old new)
 
-  pub record Decides (g : Gtrid) (outcome : Outcome) (old new : Session L) (result : Result (Unit {0}) Refusal) : Type 0 where
-    pub rules : ObeysRules (refusal_at old (Steps.Decide g outcome)) old new result
-    pub asks : AsksLog (refusal_at old (Steps.Decide g outcome))
-        (FailsBy (Adds (rows_for (book_in old.manager) (g ∷ []))) (InDecide (g ∷ []))) old new result
-    pub decided : OnOk result (Happens (Decided g outcome) old new)
+  pub record Decides (gs : List Gtrid) (outcome : Outcome) (old new : Session L) (result : Result (Unit {0}) Refusal) : Type 0 where
+    pub rules : ObeysRules (decide_refusal old outcome gs) old new result
+    pub asks : AsksLog (decide_refusal old outcome gs)
+        (FailsBy (Adds (rows_for (book_in old.manager) (written_by outcome (book_in old.manager) gs)))
+        (InDecide (written_by outcome (book_in old.manager) gs))) old new result
+    pub decided : OnOk result (HappenInTurn (map (λ g. Decided g outcome) gs) old new)
 
   pub record Settles (g : Gtrid) (old new : Session L) (result : Result (Unit {0}) Refusal) : Type 0 where
     pub rules : ObeysRules (refusal_at old (Steps.Settle g)) old new result
     pub asks : AsksLog (refusal_at old (Steps.Settle g)) (FailsBy (Adds (rows_for (book_in old.manager) (g ∷ []))) (InDecide (g ∷ []))) old new result
     pub decided : OnOk result (Happens (Decided g Outcomes.Commit) old new)
 
-  pub record Finishes (g : Gtrid) (old new : Session L) (result : Result (Unit {0}) Refusal) : Type 0 where
-    pub rules : ObeysRules (refusal_at old (Steps.Done g)) old new result
-    pub asks : AsksLog (refusal_at old (Steps.Done g))
-        (λ k l n. (n ≡ Refusals.LogFault) × (l ≡ book_after k (Drops (g ∷ [])) (Failed (InDone (g ∷ []))))) old new result
-    pub done : OnOk result (Happens (Done g) old new)
+  pub record Finishes (gs : List Gtrid) (old new : Session L) (result : Result (Unit {0}) Refusal) : Type 0 where
+    pub rules : ObeysRules (done_refusal old gs) old new result
+    pub asks : AsksLog (done_refusal old gs) (FailsBy (Drops gs) (InDone gs)) old new result
+    pub done : OnOk result (HappenInTurn (map (λ g. Done g) gs) old new)
 
 -- ** what is replied
 
@@ -95,22 +99,17 @@ module _ {L : Type 0} where
   abbrev pub PerformsAbandon : Gtrid → (old : Coordinator L) → Response → (new : Coordinator L) → Type 0
   PerformsAbandon g = StandsFor (Abandons g) (reply_of (λ _. responses.Decided))
 
-  abbrev pub PerformsDecide : Gtrid → Outcome → (old : Coordinator L) → Response → (new : Coordinator L) → Type 0
-  PerformsDecide g outcome = StandsFor (Decides g outcome) (reply_of (λ _. responses.Decided))
+  abbrev pub PerformsDecide : List Gtrid → Outcome → (old : Coordinator L) → Response → (new : Coordinator L) → Type 0
+  PerformsDecide gs outcome = StandsFor (Decides gs outcome) (reply_of (λ _. responses.Decided))
 
   abbrev pub PerformsSettle : Gtrid → (old : Coordinator L) → Response → (new : Coordinator L) → Type 0
   PerformsSettle g = StandsFor (Settles g) (reply_of (λ _. responses.Decided))
 
-  -- the row of one transaction leaves the log, and its branches are owed no more
-  pub record FinishesOne (g : Gtrid) (old : Coordinator L) (result : Result (Unit {0}) Refusal) (new : Coordinator L) : Type 0 where
-    pub does : Finishes g old.session new.session result
-    pub owed : OnOk result (new.owed.items ≡ owed_without g old.owed.items)
-    pub owed_stay : IfErr result (λ n. new.owed ≡ old.owed)
+  -- the rows of these leave the log, and their branches are owed no more; or nothing is done
+  pub record PerformsDone (gs : List Gtrid) (old : Coordinator L) (reply : Response) (new : Coordinator L) : Type 0 where
+    pub result : Result (Unit {0}) Refusal
+    pub does : Finishes gs old.session new.session result
+    pub told : reply ≡ reply_of (λ _. responses.Noted) result
+    pub owed : OnOk result (new.owed.items ≡ owed_without gs old.owed.items)
+    pub owed_stay : OnErr result (new.owed ≡ old.owed)
     pub rest : new ≡ record old { session = new.session; owed = new.owed }
-
-  -- the rows of these leave it in turn, up to the first that is refused
-  abbrev pub PerformsDone : List Gtrid → (old : Coordinator L) → Response → (new : Coordinator L) → Type 0
-  PerformsDone [] old reply new = OnlyTells responses.Noted old reply new
-  PerformsDone (g ∷ gs) old reply new =
-      (next : Coordinator L) × (result : Result (Unit {0}) Refusal) × FinishesOne g old result next
-      × MatchResult result (λ _. PerformsDone gs next reply new) (λ n. OnlyTells (responses.Refused n) next reply new)

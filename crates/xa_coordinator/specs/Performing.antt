@@ -21,7 +21,7 @@ module _ {L : Type 0} where
   Does (requests.Begin thread) old reply new = PerformsBegin thread old reply new
   Does (requests.Issue thread rm call) old reply new = PerformsIssue thread rm call old reply new
   Does (requests.Answer thread rm name answer) old reply new = PerformsAnswer thread rm name answer old reply new
-  Does (requests.Decide gtrid outcome) old reply new = PerformsDecide gtrid outcome old reply new
+  Does (requests.Decide gtrids outcome) old reply new = PerformsDecide gtrids outcome old reply new
   Does (requests.Claim gtrid) old reply new = PerformsClaim gtrid old reply new
   Does (requests.Settle gtrid) old reply new = PerformsSettle gtrid old reply new
   Does (requests.Abandon gtrid) old reply new = PerformsAbandon gtrid old reply new
@@ -41,9 +41,8 @@ module _ {L : Type 0} where
 
 -- ** what isn't done
 
--- the request is no more than one step
+-- the request is done whole or not at all
 abbrev pub is_one_step : Request → Bool
-is_one_step (requests.Done gtrids) = false
 is_one_step (requests.CrashRm rm) = false
 is_one_step request = true
 

@@ -20,25 +20,29 @@ use Rattle.xa_tm.specs.Release.{HoldsNothingOf, IsOver, book_without}
 abbrev pub transaction_of : CallName → Option Gtrid
 transaction_of name = option_map (λ b. b.gtrid) (option_and_then branch_of_xid name.xid)
 
--- the reply tells that an answer was heard, or that a decision was taken
+-- the reply tells that an answer was heard, that decisions were taken, or that rows left the log
 abbrev pub is_taken : Response → Bool
 is_taken (responses.Heard kind number) = true
 is_taken responses.Decided = true
+is_taken responses.Noted = true
 is_taken reply = false
 
--- this one, if the reply tells so
+-- these, if the reply tells so
+abbrev pub all_if_taken : Response → List Gtrid → List Gtrid
+all_if_taken reply gs = if is_taken reply then gs else []
+
+-- this one, if there is one and the reply tells so
 abbrev pub if_taken : Response → Option Gtrid → List Gtrid
 if_taken reply None = []
-if_taken reply (Some g) = if is_taken reply then g ∷ [] else []
+if_taken reply (Some g) = all_if_taken reply (g ∷ [])
 
--- the transactions whose last step a request may have been: that of the branch whose call was answered, one that is decided, those that
--- are done
+-- the transactions whose last step a request may have been: that of the branch whose call was answered, those that are decided or done
 abbrev pub ended_by : Request → Response → List Gtrid
 ended_by (requests.Answer thread rm name answer) reply = if_taken reply (transaction_of name)
-ended_by (requests.Decide g outcome) reply = if_taken reply (Some g)
+ended_by (requests.Decide gs outcome) reply = all_if_taken reply gs
 ended_by (requests.Settle g) reply = if_taken reply (Some g)
 ended_by (requests.Abandon g) reply = if_taken reply (Some g)
-ended_by (requests.Done gs) reply = gs
+ended_by (requests.Done gs) reply = all_if_taken reply gs
 ended_by request reply = []
 
 -- ** what a release does

@@ -1,8 +1,7 @@
 -- What the requests of a driver and their replies tell was seen.
-use Rattle.std.specs.Prelude.{◌≡◌, ◌⊎◌, ℕ, ◌+◌, zero, suc, Bool, true, false, MatchBool, List, [], ◌∷◌, Option, Some, None}
+use Rattle.std.specs.Prelude.{◌≡◌, ◌⊎◌, ℕ, ◌+◌, zero, suc, Bool, true, false, MatchBool, List, [], ◌∷◌, map, Option, Some, None}
 use Rattle.xa_base.specs.Answer.{map_answer}
 use Rattle.xa_base.specs.Xid.{Xid}
-use Rattle.xa_base.specs.declared.branch.Gtrid.{Gtrid}
 use Rattle.xa_base.specs.declared.call.Call.{Call}
 use Rattle.xa_base.specs.declared.refusal.Refusal.TheVariants.{LogFault}
 use Rattle.xa_base.specs.declared.step.Outcome.TheVariants as Outcomes
@@ -16,6 +15,7 @@ use Rattle.xa_requests.specs.declared.request.Request.{Request}
 use Rattle.xa_requests.specs.declared.request.Request.TheVariants as requests
 use Rattle.xa_requests.specs.declared.response.Response.{Response}
 use Rattle.xa_requests.specs.declared.response.Response.TheVariants as responses
+use Rattle.xa_serve.specs.Tracking.{did_all}
 use Rattle.xa_standings.specs.Seen.{Seen, Seen.Answered, Seen.Did, Seen.Lost}
 
 -- ** one request
@@ -30,11 +30,6 @@ abbrev pub is_refusal : Response → Bool
 is_refusal (responses.Refused n) = true
 is_refusal reply = false
 
--- these transactions were done in turn; of a request that was refused, some of the first
-abbrev pub TellsDone : List Gtrid → Response → (seen more : Seen) → Type 0
-TellsDone [] reply seen more = more ≡ seen
-TellsDone (g ∷ gs) reply seen more = ((is_refusal reply ≡ true) × (more ≡ seen)) ⊎ TellsDone gs reply (Did seen (Done g)) more
-
 -- the lines of so many threads, from one on, were lost in turn; of a request that was refused, some of the first
 abbrev pub TellsLost : (rm thread : ℕ) → (left : ℕ) → Response → (seen more : Seen) → Type 0
 TellsLost rm thread zero reply seen more = more ≡ seen
@@ -47,11 +42,11 @@ Tells n (requests.Begin t) (responses.Begun g) seen more = more ≡ Did seen (Be
 Tells n (requests.Issue t r call) (responses.Issued told) seen more = (c : KnownCall) × (known call ≡ Some c) × (more ≡ Did seen (Issued (line t r) c))
 Tells n (requests.Answer t r name answer) (responses.Heard kind number) seen more =
     (c : KnownCall) × HasName name c × (more ≡ Answered seen (line t r) c (map_answer name_of answer))
-Tells n (requests.Decide g outcome) responses.Decided seen more = more ≡ Did seen (Decided g outcome)
+Tells n (requests.Decide gs outcome) responses.Decided seen more = more ≡ did_all seen (map (λ g. Decided g outcome) gs)
 Tells n (requests.Claim g) responses.Claimed seen more = more ≡ Did seen (Claimed g)
 Tells n (requests.Settle g) responses.Decided seen more = more ≡ Did seen (Decided g Outcomes.Commit)
 Tells n (requests.Abandon g) responses.Decided seen more = more ≡ Did seen (Decided g Outcomes.Rollback)
-Tells n (requests.Done gs) reply seen more = TellsDone gs reply seen more
+Tells n (requests.Done gs) responses.Noted seen more = more ≡ did_all seen (map (λ g. Done g) gs)
 Tells n (requests.Resolve r) (responses.Resolved count) seen more = more ≡ Did seen (Resolved r)
 Tells n (requests.ResolveOpen r) (responses.Resolved count) seen more = more ≡ Did seen (ResolvedOpen r)
 Tells n (requests.CrashLine t r) responses.Crashed seen more = (c : Option KnownCall) × (more ≡ Lost seen (line t r) c)

@@ -5,16 +5,14 @@ ghost use Rattle.std.specs.FinMap.{entries, keys};
 ghost use Rattle.xa_coordinator.specs.Performing.{ChangesNothing, Does, Performs, is_not_done, is_one_step};
 ghost use Rattle.xa_coordinator.specs.Releasing.{ended_by};
 ghost use Rattle.xa_coordinator.specs.Replies.{greeting_of};
-ghost use Rattle.xa_coordinator.specs.Rows.{HasRow, committed_by};
+ghost use Rattle.xa_coordinator.specs.Rows.{LogsRows, committed_by};
 ghost use Rattle.xa_base.specs.declared.branch.Gtrid.{Gtrid};
 ghost use Rattle.xa_log.specs.Content.{all_listed};
 ghost use Rattle.xa_model.specs.Trace.{Origin};
-ghost use Rattle.xa_requests.specs.declared.response.Response.TheVariants as responses;
 ghost use Rattle.xa_serve.specs.Following.{StandsAtStart};
 ghost use Rattle.xa_serve.specs.Session.{IsReady};
 ghost use Rattle.xa_standings.specs.Explained.{IsOldLog};
 ghost use Rattle.xa_tm.specs.Begins.{BeginsWith};
-ghost use Rattle.xa_tm.specs.Book.{voted_yes};
 ghost use Rattle.xa_tm.specs.BookAndLog.{IsTied};
 ghost use Rattle.xa_tm.specs.Calls.{book_in, log_in};
 ghost use Rattle.xa_tm.specs.Release.{HoldsNothingOf, IsOver};
@@ -119,15 +117,8 @@ impl<L: DecisionLog + Drop> Coordinator<L> {
         ensures does { Does request.now self.old result self.new }
         ensures unchanged { is_one_step request.now ≡ true → is_not_done result ≡ true →
             ChangesNothing self.old self.new }
-        ensures row { (near : Bool) (g : Gtrid) → committed_by request.now ≡ Some g →
-            result ≡ responses.Decided →
-            (L.moment (log_in self.old.session.manager)).is_in_order →
-            (L.moment (log_in self.new.session.manager)).is_honest →
-            IsTied near (book_in self.old.session.manager)
-            (L.moment (log_in self.old.session.manager)).content →
-            ((book_in self.old.session.manager).transaction g).has_yes ≡ true →
-            HasRow (L.moment (log_in self.new.session.manager)).content g
-            (voted_yes (book_in self.old.session.manager) g) }
+        ensures rows { LogsRows L.moment (committed_by request.now)
+            self.old.session result self.new.session }
     {
         match request {
             Request::Begin { thread } => self.begin(*thread),
@@ -138,7 +129,7 @@ impl<L: DecisionLog + Drop> Coordinator<L> {
                 name,
                 answer,
             } => self.answer(*thread, *rm, name, answer),
-            Request::Decide { gtrid, outcome } => self.decide(*gtrid, *outcome),
+            Request::Decide { gtrids, outcome } => self.decide(gtrids.as_slice(), *outcome),
             Request::Claim { gtrid } => self.claim(*gtrid),
             Request::Settle { gtrid } => self.settle(*gtrid),
             Request::Abandon { gtrid } => self.abandon(*gtrid),
@@ -157,28 +148,21 @@ impl<L: DecisionLog + Drop> Coordinator<L> {
     /// Does what a request asks for, and gives its reply. Of the transactions whose last step that may have been, what is
     /// over is then forgotten, so that memory is taken only for those that are open.
     ///
-    /// What is refused changes nothing, but for LogFault; of a `done` and a `crash rm`, which are several steps, those
-    /// before the one that is refused are done. Where a log that held what the book says was honest so far, the row of a
-    /// transaction is in it before its commit is replied by `decided`, if some branch voted XA_OK.
+    /// What is refused changes nothing, but for LogFault; of a `crash rm`, which is several steps, those before the one
+    /// that is refused are done. Where a log that held what the book says was honest so far, the rows of all transactions
+    /// are in it before their commit is replied by `decided`, of each that some branch voted XA_OK for.
     pub fn perform(&mut self, request: &Request) -> Response
         requires { IsReady self.old.session }
         ensures ready { IsReady self.new.session }
         ensures performs { Performs request.now self.old result self.new }
         ensures unchanged { is_one_step request.now ≡ true → is_not_done result ≡ true →
             ChangesNothing self.old self.new }
-        // Nothing is held of the transaction of an answered call, or of one that is decided, if it is over.
+        // Nothing is held of the transaction of an answered call, or of one that alone is decided or done, if it is over.
         ensures forgotten { (g : Gtrid) → ended_by request.now result ≡ g ∷ [] →
             IsOver (book_in self.new.session.manager) g →
             HoldsNothingOf g self.new.session.manager }
-        ensures row { (near : Bool) (g : Gtrid) → committed_by request.now ≡ Some g →
-            result ≡ responses.Decided →
-            (L.moment (log_in self.old.session.manager)).is_in_order →
-            (L.moment (log_in self.new.session.manager)).is_honest →
-            IsTied near (book_in self.old.session.manager)
-            (L.moment (log_in self.old.session.manager)).content →
-            ((book_in self.old.session.manager).transaction g).has_yes ≡ true →
-            HasRow (L.moment (log_in self.new.session.manager)).content g
-            (voted_yes (book_in self.old.session.manager) g) }
+        ensures rows { LogsRows L.moment (committed_by request.now)
+            self.old.session result self.new.session }
     {
         let reply = self.act(request);
         self.release_ended(request, &reply);

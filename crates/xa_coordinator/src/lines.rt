@@ -1,7 +1,7 @@
 //! How the lines of a driver are read, and those of the coordinator written.
 
-ghost use Rattle.std.specs.Prelude.{◌≡◌, ◌++◌, ◌∷◌, ◌≤◌, ◌<◌, [], length, IfOk, OnErr, OnOk, vec_len};
-ghost use Rattle.std.specs.Io.KnownBytes.{Appends, Keeps};
+ghost use Rattle.std.specs.Prelude.{◌≡◌, IfOk, OnErr, OnOk};
+ghost use Rattle.std.specs.Io.KnownBytes.{Appends};
 ghost use Rattle.std.specs.String.{string_bytes};
 ghost use Rattle.xa_coordinator.specs.Lines.{KeepsShort, ReadsLine, ReadsOne, asked_in, is_nothing, line_of};
 ghost use Rattle.xa_files.specs.Outputs.{AppendsBeginning};

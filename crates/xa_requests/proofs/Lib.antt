@@ -1,4 +1,5 @@
 mod Choices
+mod DecisionLemmas
 mod EachLemmas
 mod NumberLemmas
 mod Pieces

@@ -1,5 +1,5 @@
 -- The requests that begin and end transactions.
-use Rattle.std.specs.Prelude.{List, [], ◌∷◌, Option, Some, None}
+use Rattle.std.specs.Prelude.{◌-◌, List, [], ◌∷◌, length, slice_get, take, Option, Some, None}
 use Rattle.xa_base.specs.declared.branch.Gtrid.{Gtrid}
 use Rattle.xa_files.specs.Fields.{◌>>=◌}
 use Rattle.xa_requests.specs.Names.{gtrid_named, gtrids_named}
@@ -14,13 +14,17 @@ abbrev pub begin_request : List Word → Option Request
 begin_request (t ∷ []) = index_of t >>= λ thread. Some (requests.Begin thread)
 begin_request _ = None
 
--- decide G commit, decide G rollback
+-- G [G ..]
+abbrev pub some_gtrids : List Word → Option (List Gtrid)
+some_gtrids [] = None
+some_gtrids (g ∷ words) = gtrids_named (g ∷ words)
+
+-- decide G [G ..] commit, decide G [G ..] rollback: the last word says how the transactions that the others name end
 unfoldable pub decide_request : List Word → Option Request
-decide_request (g ∷ word ∷ []) = do
-  gtrid ← gtrid_named g
-  outcome ← outcome_named word
-  Some (requests.Decide gtrid outcome)
-decide_request _ = None
+decide_request words = do
+  gtrids ← some_gtrids (take (length words - 1) words)
+  outcome ← slice_get words (length words - 1) >>= outcome_named
+  Some (requests.Decide gtrids outcome)
 
 -- G
 abbrev pub only_gtrid : List Word → Option Gtrid
@@ -39,7 +43,6 @@ settle_request words = only_gtrid words >>= λ gtrid. Some (requests.Settle gtri
 abbrev pub abandon_request : List Word → Option Request
 abandon_request words = only_gtrid words >>= λ gtrid. Some (requests.Abandon gtrid)
 
--- done G G ..
+-- done G [G ..]
 abbrev pub done_request : List Word → Option Request
-done_request [] = None
-done_request (g ∷ words) = gtrids_named (g ∷ words) >>= λ gtrids. Some (requests.Done gtrids)
+done_request words = some_gtrids words >>= λ gtrids. Some (requests.Done gtrids)

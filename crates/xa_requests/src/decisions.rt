@@ -1,11 +1,11 @@
 //! The requests that begin and end transactions.
 
 ghost use Rattle.std.specs.Prelude.{◌≡◌, map, IfOk};
-ghost use Rattle.xa_requests.specs.Decisions.{abandon_request, begin_request, claim_request, decide_request, done_request, only_gtrid, settle_request};
+ghost use Rattle.xa_requests.specs.Decisions.{abandon_request, begin_request, claim_request, decide_request, done_request, only_gtrid, settle_request, some_gtrids};
 
 use crate::names::{gtrid_named, gtrids_named};
 use crate::numbers::index_of;
-use crate::request::Request;
+use crate::request::{Gtrids, Request};
 use crate::verbs::outcome_named;
 use std::alloc::{AllocError, Global};
 use xa_base::Gtrid;
@@ -21,17 +21,33 @@ pub(crate) fn begin_request(words: &[&str]) -> Option<Request>
     Some(Request::Begin { thread })
 }
 
-/// What `decide` asks for.
-#[tactic(auto, unfolding(crate::specs::Decisions::decide_request))]
-pub(crate) fn decide_request(words: &[&str]) -> Option<Request>
-    ensures { result ≡ decide_request (map (λ word. word.now) words.now) }
+/// The transactions that the words name, one or more.
+fn some_gtrids(alloc: Global, words: &[&str]) -> Result<Option<Gtrids>, AllocError>
+    ensures { IfOk result (λ gtrids. gtrids
+        ≡ some_gtrids (map (λ word. word.now) words.now)) }
 {
-    let [gtrid, outcome] = words else {
-        return None;
+    if words.is_empty() {
+        return Ok(None);
+    }
+    gtrids_named(alloc, words)
+}
+
+/// What `decide` asks for: one transaction or more, and behind them how they end.
+#[tactic(auto, unfolding(crate::specs::Decisions::decide_request))]
+pub(crate) fn decide_request(alloc: Global, words: &[&str]) -> Result<Option<Request>, AllocError>
+    ensures { IfOk result (λ request. request
+        ≡ decide_request (map (λ word. word.now) words.now)) }
+{
+    let [gtrids @ .., outcome] = words else {
+        return Ok(None);
     };
-    let gtrid = gtrid_named(gtrid)?;
-    let outcome = outcome_named(outcome)?;
-    Some(Request::Decide { gtrid, outcome })
+    let Some(outcome) = outcome_named(outcome) else {
+        return Ok(None);
+    };
+    let Some(gtrids) = some_gtrids(alloc, gtrids)? else {
+        return Ok(None);
+    };
+    Ok(Some(Request::Decide { gtrids, outcome }))
 }
 
 /// The transaction that the only word names.
@@ -73,10 +89,7 @@ pub(crate) fn done_request(alloc: Global, words: &[&str]) -> Result<Option<Reque
     ensures { IfOk result (λ request. request
         ≡ done_request (map (λ word. word.now) words.now)) }
 {
-    if words.is_empty() {
-        return Ok(None);
-    }
-    Ok(match gtrids_named(alloc, words)? {
+    Ok(match some_gtrids(alloc, words)? {
         Some(gtrids) => Some(Request::Done { gtrids }),
         None => None,
     })

@@ -27,7 +27,7 @@ fn request_with(alloc: Global, verb: Verb, words: &[&str]) -> Result<Option<Requ
         Verb::Begin => Ok(begin_request(words)),
         Verb::Issue => Ok(issue_request(words)),
         Verb::Answer => answer_request(alloc, words),
-        Verb::Decide => Ok(decide_request(words)),
+        Verb::Decide => decide_request(alloc, words),
         Verb::Claim => Ok(claim_request(words)),
         Verb::Settle => Ok(settle_request(words)),
         Verb::Abandon => Ok(abandon_request(words)),

@@ -64,9 +64,9 @@ pub enum Request {
         name: CallName,
         answer: Answer,
     },
-    /// `decide`: a transaction's outcome is decided.
+    /// `decide`: the outcome of one transaction or more is decided.
     Decide {
-        gtrid: Gtrid,
+        gtrids: Gtrids,
         outcome: Outcome,
     },
     /// `claim`: a transaction is claimed, so that no recovery rolls it back.

@@ -7,7 +7,7 @@ use Rattle.xa_tm.specs.Book.{Book, after}
 use Rattle.xa_tm.specs.Calls.{book_in}
 use Rattle.xa_serve.specs.Following.{StandsIn}
 use Rattle.xa_serve.specs.declared.session.Session.{Session}
-use Rattle.xa_serve.proofs.Following.{IsOwn, own_goes}
+use Rattle.xa_serve.proofs.Following.{IsOwn, own_goes_in}
 
 -- what was right with it was right before it
 pub alone_back : (tr now : Trace) → Alone tr now → IsRun now → IsRun tr
@@ -41,8 +41,8 @@ end_kept k b how = refl
 pub alone_stands : {L : Type 0} (s : Session L) (tr now : Trace) → Alone tr now → StandsIn tr s → StandsIn now s
 alone_stands s tr _ NoMore stands = stands
 alone_stands s tr _ (Votes now b v a) stands =
-    own_goes s s now (Voted b v) (alone_stands s tr now a stands) tt (own_vote now b v) tt (vote_kept (book_in s.manager) b v) refl
+    own_goes_in s s now (Voted b v) (alone_stands s tr now a stands) tt (own_vote now b v) tt (vote_kept (book_in s.manager) b v) refl
 alone_stands s tr _ (PutsOff now b n a) stands =
-    own_goes s s now (PutOff b n) (alone_stands s tr now a stands) tt (own_put_off now b n) tt (put_off_kept (book_in s.manager) b n) refl
+    own_goes_in s s now (PutOff b n) (alone_stands s tr now a stands) tt (own_put_off now b n) tt (put_off_kept (book_in s.manager) b n) refl
 alone_stands s tr _ (Ends now b how a p) stands =
-    own_goes s s now (CompletedAlone b how) (alone_stands s tr now a stands) p (own_end now b how) tt (end_kept (book_in s.manager) b how) refl
+    own_goes_in s s now (CompletedAlone b how) (alone_stands s tr now a stands) p (own_end now b how) tt (end_kept (book_in s.manager) b how) refl

@@ -1,5 +1,5 @@
 -- The numbers of a book stay small enough, whatever the resource managers answer.
-use Rattle.std.proofs.Common.{◌≡◌, ℕ, ◌+◌, ◌-◌, ◌<◌, ◌≤◌, ◌^◌, ◌⊎◌, inl, inr, Bool, true, false, ◌||◌, Option, Some, None, is_some, refl, sym, ap, ◌∙◌, subst, arith}
+use Rattle.std.proofs.Common.{◌≡◌, ℕ, ◌+◌, ◌-◌, ◌<◌, ◌≤◌, ◌^◌, ◌⊎◌, inl, inr, Bool, true, false, ◌||◌, List, [], ◌∷◌, length, Option, Some, None, is_some, refl, sym, ap, ◌∙◌, subst, arith}
 use Rattle.std.specs.Prelude.{if◌then◌else◌, IsSome}
 use Rattle.std.proofs.lemmas.Bool.{true≢false}
 use Rattle.xa_base.specs.declared.call.Call.TheVariants as Calls
@@ -12,7 +12,7 @@ use Rattle.xa_log.specs.Content.{last_number}
 use Rattle.xa_log.specs.Contract.{FitsRow}
 use Rattle.xa_model.specs.Facts.{record_of}
 use Rattle.xa_model.specs.Trace.{Origin, Trace.From, Fault.InRestart, Happening, Happening.Begun, Happening.Issued, Happening.Heard, Happening.Decided, Happening.Done, Happening.Crashed, Happening.Failed, Happening.Restarted}
-use Rattle.xa_tm.specs.Book.{Book, TransactionNotes, Doubt, Doubt.Records, Waiting, incarnation_after, sequence_after, begins_after, failed_restarts_after, transaction_after, doubt_of, voted_yes, row_after, rows_after, records_with, records_after, book_after, book_of}
+use Rattle.xa_tm.specs.Book.{after, after_all, begins_after, Book, book_after, book_of, Doubt, Doubt.NoDoubt, Doubt.Records, doubt_of, failed_restarts_after, incarnation_after, records_after, records_with, row_after, rows_after, sequence_after, transaction_after, TransactionNotes, voted_yes, Waiting}
 use Rattle.xa_tm.specs.LedgerBook.{IsSound}
 use Rattle.xa_tm.specs.Limits.{HasRoomForRun}
 use Rattle.xa_tm.specs.Starting.{IsOld, no_transaction_notes}
@@ -212,6 +212,21 @@ module _ (n : ℕ) (k : Book) (head : HasHeadroom (n + 1) k) where
         (rows_of_kept e g m some);
     begun_past = λ g is_begun. begun_past_kept e g m is_begun;
   }
+
+-- ** several happenings
+
+-- each may happen in turn
+abbrev pub MayHappenInTurn : Book → List Happening → Type 0
+MayHappenInTurn k [] = Unit
+MayHappenInTurn k (e ∷ es) = MayHappen k e × MayHappenInTurn (after k e) es
+
+pub headroom_kept_by_all : (n : ℕ) (es : List Happening) (k : Book) → MayHappenInTurn k es → HasHeadroom (n + length es) k
+    → HasHeadroom n (after_all k es)
+headroom_kept_by_all n [] k may head = let none : n + length {A = Happening} [] ≡ n = omega arith in subst (λ m. HasHeadroom m k) none head
+headroom_kept_by_all n (e ∷ es) k may head =
+    let one_left : n + length (e ∷ es) ≡ n + length es + 1 = omega arith in
+    headroom_kept_by_all n es (after k e) may.1
+    (headroom_kept (n + length es) k (subst (λ m. HasHeadroom m k) one_left head) NoDoubt e may.0)
 
 -- ** a book with room
 

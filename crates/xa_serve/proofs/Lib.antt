@@ -10,3 +10,4 @@ mod Telling
 mod Tracking
 mod Books
 mod Releases
+mod Turns

@@ -1,6 +1,7 @@
 -- What the refusals of a book say.
 use Rattle.std.proofs.Common.{◌≡◌, ℕ, ◌<◌, Bool, true, false, not, List, [], ◌∷◌, Option, Some, None, refl, sym, ap, ◌∙◌, arith, subst}
 use Rattle.std.specs.Prelude.{if◌then◌else◌, nat_le}
+use Rattle.std.specs.Option.{option_or}
 use Rattle.std.proofs.lemmas.Bool.{true≢false}
 use Rattle.std.proofs.lemmas.Bool.Decides.{nat_tests}
 use Rattle.xa_base.proofs.Options.{some_is}
@@ -12,11 +13,11 @@ use Rattle.xa_base.specs.declared.step.Outcome.{Outcome}
 use Rattle.xa_base.specs.declared.step.Step.TheVariants as Steps
 use Rattle.xa_model.specs.Replies.Rules.{first_of}
 use Rattle.xa_model.specs.Replies.Steps.{Step, accepted}
-use Rattle.xa_model.specs.Trace.{Call, Name.Foreign, Name.Ours}
-use Rattle.xa_tm.specs.Book.{Book}
+use Rattle.xa_model.specs.Trace.{Call, Happening, Name.Foreign, Name.Ours}
+use Rattle.xa_tm.specs.Book.{Book, after}
 use Rattle.xa_tm.specs.News.{Asked}
 use Rattle.xa_tm.specs.Release.{StartsBegun}
-use Rattle.xa_tm.specs.Refusing.{applies_in, forces_unknown_transaction_in, is_there_in, manager_rules, refusal_in, service_refusal_in}
+use Rattle.xa_tm.specs.Refusing.{applies_in, forces_unknown_transaction_in, is_there_in, manager_rules, refusal_in, refusal_in_turn, service_refusal_in}
 
 -- ** numbers
 
@@ -39,6 +40,17 @@ no_fault k s e = by (is_there_in k s) e
     by : (t : Bool) → (if t then first_of (applies_in k s) manager_rules else Some Limit) ≡ Some LogFault → ⊥
     by true e = true≢false (sym (first_applies (applies_in k s) manager_rules LogFault e))
     by false e = absurd (cc)
+
+-- nor is it of several steps in turn
+pub no_fault_in_turn : (step : Gtrid → Step) (does : Gtrid → Happening) (gs : List Gtrid) (k : Book)
+    → refusal_in_turn step does k gs ≡ Some LogFault → ⊥
+no_fault_in_turn step does [] k e = absurd (cc)
+no_fault_in_turn step does (g ∷ gs) k e = by (refusal_in k (step g)) (no_fault k (step g)) (no_fault_in_turn step does gs (after k (does g))) e
+  where
+    by : (o : Option Refusal) → (o ≡ Some LogFault → ⊥) → (refusal_in_turn step does (after k (does g)) gs ≡ Some LogFault → ⊥)
+        → option_or o (refusal_in_turn step does (after k (does g)) gs) ≡ Some LogFault → ⊥
+    by None first others e = others e
+    by (Some n) first others e = first e
 
 -- ** what no rule refuses
 

@@ -39,7 +39,7 @@ use Rattle.xa_tm.specs.Calls.{book_in}
 use Rattle.xa_tm.specs.News.{Asked}
 use Rattle.xa_tm.specs.Refusing.{manager_rules, resolved_in, resolved_open_in}
 use Rattle.xa_tm.proofs.History.Recovery.{resolved_is, resolved_open_is}
-use Rattle.xa_serve.specs.Following.{BookStands, LeadsTo, LeadsByAnswer, LeadsByLoss, StandsIn}
+use Rattle.xa_serve.specs.Following.{AreRight, BookStands, LeadsTo, LeadsByAnswer, LeadsByLoss, StandsIn}
 use Rattle.xa_serve.specs.Hearing.{heard_first, with_answer}
 use Rattle.xa_serve.specs.Session.{LetsWait, has_line, known_waiting, line_refusal, recovery_bar, recovery_refusal, with_more}
 use Rattle.xa_serve.specs.declared.session.Session.{Session}
@@ -248,7 +248,7 @@ module _ {L : Type 0} (old new : Session L) (t r : ℕ) (call : Asking.Call Xid)
   pub issued_follows : (c : Call) → accepted (map_call name_of call) ≡ Some c → MayIssue old t r call
       → book_in new.manager ≡ after (book_in old.manager) (Issued (line t r) c)
       → new.lines ≡ with_line old.lines t r (record (line_at old.lines t r) { calls = with_one_more (line_at old.lines t r).calls call })
-      → LeadsTo (Issued (line t r) c) old new
+      → LeadsTo (Issued (line t r) c ∷ []) old new
   issued_follows c is may book lines tr stands =
       let e = Issued (line t r) c in
       let a = map_call name_of call in
@@ -258,7 +258,7 @@ module _ {L : Type 0} (old new : Session L) (t r : ℕ) (call : Asking.Call Xid)
       let stand = lines_with (Then tr e) old.lines t r (record at { calls = with_one_more at.calls call }) stands.whole may.tell.has
       (issued_line tr t r c call at is (stands.lines t r may.tell.has))
       (λ u q has_u apart. line_stays tr e (line u q) (line_at old.lines u q) refl (rw apart refl) refl refl (stands.lines u q has_u)) in (
-        right,
+        (right, tt),
         record {
           run = (stands.run, right);
           apart = stands.apart;
@@ -434,7 +434,7 @@ module _ {L : Type 0} (old new : Session L) (r : ℕ) where
       → IsRecovery tr e r known → recovery_refusal old r n ≡ None → map known_call calls ≡ map Some known
       → MayFollow (book_in old.manager) e → book_in new.manager ≡ after (book_in old.manager) e
       → new.lines ≡ with_line old.lines 0 r (record (line_at old.lines 0 r) { calls = with_more (line_at old.lines 0 r).calls calls })
-      → Right tr e × StandsIn (Then tr e) new
+      → AreRight tr (e ∷ []) × StandsIn (Then tr e) new
   recovery_goes tr e n known calls stands right recovery none are may_be book lines =
       let at = line_at old.lines 0 r in
       let may = may_tell old 0 r (none_first (line_refusal old 0 r) (recovery_bar at n) none) in
@@ -443,7 +443,7 @@ module _ {L : Type 0} (old new : Session L) (r : ℕ) where
       (are ∙ ap (map Some) (sym recovery.here)))
       (λ u q has_u apart. line_stays tr e (line u q) (line_at old.lines u q) (recovery.unbroken (line u q)) (recovery.elsewhere (line u q) apart)
       (recovery.taken (line u q)) (recovery.heard (line u q)) (stands.lines u q has_u)) in (
-        right,
+        (right, tt),
         record {
           run = (stands.run, right);
           apart = subst (λ o. ApartRows o.rows) (sym recovery.origin) stands.apart;
@@ -461,7 +461,7 @@ module _ {L : Type 0} (old new : Session L) (r : ℕ) where
 
   pub resolved_follows : (n : ℕ) → recovery_refusal old r n ≡ None → new.manager ≡ old.manager
       → LetsWait r (resolved_in (book_in old.manager) r) old.lines new.lines
-      → LeadsTo (Resolved r) old new
+      → LeadsTo (Resolved r ∷ []) old new
   resolved_follows n none same waits tr stands =
       let may = may_tell old 0 r (none_first (line_refusal old 0 r) (recovery_bar (line_at old.lines 0 r) n) none) in
       recovery_goes tr (Resolved r) n (facts.resolving_calls tr (facts.page tr r)) waits.calls stands
@@ -469,7 +469,7 @@ module _ {L : Type 0} (old new : Session L) (r : ℕ) where
       (waits.are ∙ ap (map Some) (resolves_alike tr (book_in old.manager) stands.book r ∙ resolved_is tr r)) tt (ap book_in same) waits.lines
 
   pub open_resolved_follows : (n : ℕ) → recovery_refusal old r n ≡ None → book_in new.manager ≡ after (book_in old.manager) (ResolvedOpen r)
-      → LetsWait r (resolved_open_in (book_in old.manager) r) old.lines new.lines → LeadsTo (ResolvedOpen r) old new
+      → LetsWait r (resolved_open_in (book_in old.manager) r) old.lines new.lines → LeadsTo (ResolvedOpen r ∷ []) old new
   open_resolved_follows n none book waits tr stands =
       let may = may_tell old 0 r (none_first (line_refusal old 0 r) (recovery_bar (line_at old.lines 0 r) n) none) in
       recovery_goes tr (ResolvedOpen r) n (facts.resolving_calls (Then tr (ResolvedOpen r)) (facts.page tr r)) waits.calls stands

@@ -1,15 +1,17 @@
 -- A session tracks what is seen.
-use Rattle.std.proofs.Common.{◌∙◌, ℕ, Option, ap, refl, subst, sym}
+use Rattle.std.proofs.Common.{◌≡◌, ◌∙◌, ◌<◌, ℕ, zero, suc, List, [], ◌∷◌, length, Option, ap, arith, refl, subst, sym}
+use Rattle.std.specs.Prelude.{All}
 use Rattle.xa_line.specs.Grid.{HasLine, IsWhole, line_at}
 use Rattle.xa_line.specs.Histories.{LineStands}
 use Rattle.xa_model.specs.Protocol.{IsRun}
-use Rattle.xa_model.specs.Trace.{Answer, Call, Happening, Line, Origin, Trace, line}
+use Rattle.xa_model.specs.Trace.{Answer, Branch, Call, Happening, Line, Origin, Trace, Trace.Then, line}
 use Rattle.xa_standings.proofs.Following.{by_did, still_followed}
-use Rattle.xa_standings.specs.Monitor.{Monitors, SaysTheSame, states_of}
+use Rattle.xa_standings.specs.Monitor.{AreStatesBy, Monitors, SaysTheSame, states_of}
+use Rattle.xa_standings.specs.declared.states.States.{States}
 use Rattle.xa_standings.specs.Seen.{HasAnswer, IsHistory, IsHistory.Does, IsHistory.Hears, IsHistory.Loses, IsHistory.LosesAnswer, IsHistory.Starts, IsManagers, KeepsRules, Seen, Seen.Answered, Seen.Did, Seen.Lost, Seen.Start}
 use Rattle.xa_tm.specs.Begins.{BeginsWith}
-use Rattle.xa_serve.specs.Following.{BookStands, Follows, FollowsAnswer, FollowsLoss, StandsAtStart, StandsIn, StaysAs}
-use Rattle.xa_serve.specs.Tracking.{KeepsTrack, Tracks}
+use Rattle.xa_serve.specs.Following.{AreRight, BookStands, FollowsAll, FollowsAnswer, FollowsLoss, StandsAtStart, StandsIn, StaysAs, then_all}
+use Rattle.xa_serve.specs.Tracking.{KeepsTrack, Tracks, did_all}
 use Rattle.xa_serve.specs.declared.session.Session.{Session}
 use Rattle.xa_serve.proofs.Alone.{alone_back, alone_stands}
 
@@ -29,18 +31,57 @@ module _ {L : Type 0} (threads rms : ℕ) (s : Session L) (stands : StandsAtStar
   pub start_tracked : KeepsTrack o Start s
   start_tracked = (tt, start_in, (stands o begins).1)
 
+-- ** what the manager does in turn
+
+-- a history of it goes back to one of what was seen before
+history_back : (o : Origin) (seen : Seen) (es : List Happening) (now : Trace) → IsHistory o (did_all seen es) now
+    → (before : Trace) × IsHistory o seen before × (now ≡ then_all before es)
+history_back o seen [] now h = (now, h, refl)
+history_back o seen (e ∷ es) now h =
+    let later = history_back o (Did seen e) es now h in
+    let first = last_did later.0 later.1 in
+    (first.0, first.1, later.2 ∙ ap (λ tr. then_all tr es) first.2)
+  where
+    last_did : (tr : Trace) → IsHistory o (Did seen e) tr → (before : Trace) × IsHistory o seen before × (tr ≡ Then before e)
+    last_did _ (Does _ tr _ h) = (tr, h, refl)
+
+-- what is right behind a history is right
+run_back : (tr : Trace) (es : List Happening) → IsRun (then_all tr es) → IsRun tr
+run_back tr [] run = run
+run_back tr (e ∷ es) run = (run_back (Then tr e) es run).0
+
+rules_kept : (o : Origin) (seen : Seen) (es : List Happening) → KeepsRules o seen → All IsManagers es
+    → ((tr : Trace) → IsHistory o seen tr → IsRun tr → AreRight tr es) → KeepsRules o (did_all seen es)
+rules_kept o seen [] keeps managers right = keeps
+rules_kept o seen (e ∷ es) keeps managers right =
+    rules_kept o (Did seen e) es (keeps, managers 0 e (arith_zero (length es)), λ tr h run. (right tr h run).0) (λ k d less. managers (suc k) d (omega (arith, less)))
+    later
+  where
+    arith_zero : (n : ℕ) → 0 < suc n
+    arith_zero n = omega arith
+
+    later : (tr : Trace) → IsHistory o (Did seen e) tr → IsRun tr → AreRight tr es
+    later _ (Does _ tr _ h) run = (right tr h run.0).1
+
+monitors_all : (o : Origin) (seen : Seen) (f : Branch → States) (es : List Happening) → AreStatesBy o seen f → AreStatesBy o (did_all seen es) f
+monitors_all o seen f [] followed = followed
+monitors_all o seen f (e ∷ es) followed = monitors_all o (Did seen e) f es (by_did o seen f e followed)
+
 -- ** what follows
 
 module _ {L : Type 0} (o : Origin) (seen : Seen) (old new : Session L) (keeps : KeepsRules o seen) (tracks : Tracks o seen old)
     (monitors : Monitors o seen old.monitor) where
-  step_in : (e : Happening) → Follows e old new → (tr : Trace) → IsHistory o (Did seen e) tr → IsRun tr → StandsIn tr new
-  step_in e follows _ (Does _ tr _ h) run = (follows.leads tr (tracks tr h run.0)).1
+  step_in : (es : List Happening) → FollowsAll es old new → (tr : Trace) → IsHistory o (did_all seen es) tr → IsRun tr → StandsIn tr new
+  step_in es follows tr history run =
+      let at = history_back o seen es tr history in
+      subst (λ w. StandsIn w new) (sym at.2) (follows.leads at.0 (tracks at.0 at.1 (run_back at.0 es (subst IsRun at.2 run)))).1
 
-  pub step_tracked : (e : Happening) → IsManagers e → Follows e old new → KeepsTrack o (Did seen e) new
-  step_tracked e managers follows = (
-    (keeps, managers, λ tr h run. (follows.leads tr (tracks tr h run)).0),
-    step_in e follows,
-    by_did o seen (states_of new.monitor) e (still_followed o seen (states_of old.monitor) (states_of new.monitor) follows.states monitors),
+  pub step_tracked : (es : List Happening) → All IsManagers es → FollowsAll es old new → KeepsTrack o (did_all seen es) new
+  step_tracked es managers follows = (
+    rules_kept o seen es keeps managers (λ tr h run. (follows.leads tr (tracks tr h run)).0),
+    step_in es follows,
+    monitors_all o seen (states_of new.monitor) es
+        (still_followed o seen (states_of old.monitor) (states_of new.monitor) follows.states monitors),
   )
 
   answer_in : (l : Line) (c : Call) (a : Answer) → FollowsAnswer l c a old new → (tr : Trace) → IsHistory o (Answered seen l c a) tr

@@ -1,8 +1,9 @@
 -- How a session follows a history.
-use Rattle.std.specs.Prelude.{ℕ, ◌≡◌, Bool, true, Option, Some}
+use Rattle.std.specs.Prelude.{ℕ, ◌≡◌, Bool, true, List, [], ◌∷◌, Option, Some}
 use Rattle.xa_base.specs.declared.branch.Gtrid.{Gtrid}
 use Rattle.xa_line.specs.Grid.{HasLine, IsWhole, line_at}
 use Rattle.xa_line.specs.Histories.{LineStands}
+use Rattle.xa_log.specs.Contract.{Moment}
 use Rattle.xa_model.specs.Facts.{next_call, origin, rm_up}
 use Rattle.xa_model.specs.Facts.Distinct.{ApartRows}
 use Rattle.xa_model.specs.Protocol.{IsRun, OldOrigin, Right, SoundAnswer}
@@ -11,6 +12,7 @@ use Rattle.xa_standings.specs.Monitor.{Hears, Loses, Monitors, SaysTheSame}
 use Rattle.xa_standings.specs.Seen.{Seen.Start, Waits, break_of}
 use Rattle.xa_tm.specs.Begins.{BeginsWith}
 use Rattle.xa_tm.specs.Book.{Book, book_of}
+use Rattle.xa_tm.specs.BookAndLog.{IsTied}
 use Rattle.xa_tm.specs.Calls.{book_in, log_in}
 use Rattle.xa_tm.specs.Release.{HasReleased}
 use Rattle.xa_serve.specs.declared.session.Session.{Session}
@@ -38,9 +40,19 @@ StandsAtStart threads rms s =
 
 -- ** what happens
 
--- wherever the session stood, this was right to happen, and the session then stands where it leads
-abbrev pub LeadsTo : {L : Type 0} → Happening → (old new : Session L) → Type 0
-LeadsTo e old new = (tr : Trace) → StandsIn tr old → Right tr e × StandsIn (Then tr e) new
+-- the history with these behind it, in turn
+abbrev pub then_all : Trace → List Happening → Trace
+then_all tr [] = tr
+then_all tr (e ∷ es) = then_all (Then tr e) es
+
+-- these are right to happen in turn, each behind those before it
+abbrev pub AreRight : Trace → List Happening → Type 0
+AreRight tr [] = Unit
+AreRight tr (e ∷ es) = Right tr e × AreRight (Then tr e) es
+
+-- wherever the session stood, these were right to happen in turn, and the session then stands where they lead
+abbrev pub LeadsTo : {L : Type 0} → List Happening → (old new : Session L) → Type 0
+LeadsTo es old new = (tr : Trace) → StandsIn tr old → AreRight tr es × StandsIn (then_all tr es) new
 
 -- Wherever the session stood, this call waited first on the line, and no answer waited. Where the resource manager may have answered so,
 -- it is right that the answer is heard, and the session then stands where both lead.
@@ -58,10 +70,14 @@ LeadsByLoss l c old new =
 
 -- ** and with the monitor
 
--- the session follows what its manager does: no branch is in other states
-pub record Follows {L : Type 0} (e : Happening) (old new : Session L) : Type 0 where
-  pub leads : LeadsTo e old new
+-- the session follows what its manager does in turn: no branch is in other states
+pub record FollowsAll {L : Type 0} (es : List Happening) (old new : Session L) : Type 0 where
+  pub leads : LeadsTo es old new
   pub states : SaysTheSame old.monitor new.monitor
+
+-- and so where it does one thing
+abbrev pub Follows : {L : Type 0} → Happening → (old new : Session L) → Type 0
+Follows e old new = FollowsAll (e ∷ []) old new
 
 -- it follows an answer, and so does its monitor
 pub record FollowsAnswer {L : Type 0} (l : Line) (c : Call) (a : Answer) (old new : Session L) : Type 0 where
@@ -80,3 +96,12 @@ pub record StaysAs {L : Type 0} (old new : Session L) : Type 0 where
   pub lines : new.lines ≡ old.lines
   pub happenings : new.happenings ≡ old.happenings
   pub states : SaysTheSame old.monitor new.monitor
+
+-- ** and the log
+
+-- a log that was in order, has been honest since and held what the book said, holds what it says now
+abbrev pub StaysTied : {L : Type 0} → (moment : L → Moment) → (old new : Session L) → Type 0
+StaysTied moment old new =
+    (near : Bool) → (moment (log_in old.manager)).is_in_order → (moment (log_in new.manager)).is_honest
+    → IsTied near (book_in old.manager) (moment (log_in old.manager)).content
+    → IsTied near (book_in new.manager) (moment (log_in new.manager)).content

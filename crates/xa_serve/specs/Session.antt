@@ -6,19 +6,21 @@ use Rattle.xa_base.specs.Call.{map_call}
 use Rattle.xa_base.specs.Opening.{has_closed, has_opened}
 use Rattle.xa_base.specs.Xid.{Xid}
 use Rattle.xa_base.specs.declared.answer.Answer.{Answer}
+use Rattle.xa_base.specs.declared.branch.Gtrid.{Gtrid}
 use Rattle.xa_base.specs.declared.call.Call.{Call}
 use Rattle.xa_base.specs.declared.refusal.Refusal.{Refusal}
 use Rattle.xa_base.specs.declared.refusal.Refusal.TheVariants.{Closed, Full, Limit, LogFault, ManagerDown, NotOpen}
+use Rattle.xa_base.specs.declared.step.Outcome.{Outcome}
 use Rattle.xa_base.specs.declared.step.Step.TheVariants as Steps
 use Rattle.xa_line.specs.Grid.{Grid, HasLine, line_at, new_grid, with_line}
 use Rattle.xa_line.specs.Histories.{AreKnownAs, known}
 use Rattle.xa_line.specs.Traffic.{Flow, Traffic, barred, is_full, issued, places}
 use Rattle.xa_model.specs.Replies.History.{name_of}
 use Rattle.xa_model.specs.Replies.Steps.{Step}
-use Rattle.xa_model.specs.Trace.{Branch, Call as KnownCall, line}
+use Rattle.xa_model.specs.Trace.{Branch, Call as KnownCall, Happening, Happening.Decided, Happening.Done, line}
 use Rattle.xa_standings.specs.Monitor.{CanExplain, IsSomewhere, states_of}
 use Rattle.xa_tm.specs.Calls.{book_in}
-use Rattle.xa_tm.specs.Refusing.{refusal_in, service_refusal_in}
+use Rattle.xa_tm.specs.Refusing.{refusal_in, refusal_in_turn, service_refusal_in}
 use Rattle.xa_serve.specs.Headroom.{HasHeadroom, first_headroom}
 use Rattle.xa_serve.specs.Hearing.{can_hear}
 use Rattle.xa_serve.specs.declared.session.Session.{Session}
@@ -47,17 +49,33 @@ is_over s = nat_le first_headroom s.happenings
 abbrev pub refusal_at : {L : Type 0} → Session L → Step → Option Refusal
 refusal_at s step = if is_over s then Some Limit else refusal_in (book_in s.manager) step
 
+-- there is room for so many happenings more, and for one
+abbrev pub has_room_for : {L : Type 0} → Session L → ℕ → Bool
+has_room_for s n = not (is_over s) && nat_le n (first_headroom - s.happenings)
+
+-- why it refuses steps that ask no line, one for each of these transactions and in turn: the first reason that applies
+abbrev pub refusal_of_all : {L : Type 0} → Session L → (step : Gtrid → Step) → (does : Gtrid → Happening) → List Gtrid → Option Refusal
+refusal_of_all s step does gs = if has_room_for s (length gs) then refusal_in_turn step does (book_in s.manager) gs else Some Limit
+
+-- why it refuses to decide these transactions so
+abbrev pub decide_refusal : {L : Type 0} → Session L → Outcome → List Gtrid → Option Refusal
+decide_refusal s outcome gs = refusal_of_all s (λ g. Steps.Decide g outcome) (λ g. Decided g outcome) gs
+
+-- why it refuses that these are done
+abbrev pub done_refusal : {L : Type 0} → Session L → List Gtrid → Option Refusal
+done_refusal s gs = refusal_of_all s (λ g. Steps.Done g) (λ g. Done g) gs
+
 -- why it refuses a thread's begin, the first reason that applies
 abbrev pub begin_refusal : {L : Type 0} → Session L → (thread : ℕ) → Option Refusal
 begin_refusal s t = if is_over s then Some Limit else service_refusal_in (book_in s.manager) t
 
 -- ** what a call of the manager leaves that may ask the log
 
--- how much has happened: no refusal is a happening, but a failure of the log is
-abbrev pub happenings_by : {A : Type 0} → Result A Refusal → ℕ → ℕ
-happenings_by (Ok x) n = n + 1
-happenings_by (Err LogFault) n = n + 1
-happenings_by _ n = n
+-- how much has happened, where so much does if it succeeds: no refusal is a happening, but a failure of the log is
+abbrev pub happenings_by : {A : Type 0} → Result A Refusal → (count : ℕ) → ℕ → ℕ
+happenings_by (Ok x) count n = n + count
+happenings_by (Err LogFault) count n = n + 1
+happenings_by _ count n = n
 
 -- the lines: where the log failed, the manager is down and all of them broke
 abbrev pub lines_by : {A : Type 0} → Result A Refusal → Grid → Grid

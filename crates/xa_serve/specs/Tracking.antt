@@ -1,12 +1,12 @@
 -- How a session tracks what is seen.
-use Rattle.std.specs.Prelude.{ℕ, ◌≡◌, Option}
+use Rattle.std.specs.Prelude.{ℕ, ◌≡◌, All, List, [], ◌∷◌, Option}
 use Rattle.xa_model.specs.Protocol.{IsRun}
 use Rattle.xa_model.specs.Trace.{Answer, Call, Happening, Line, Origin, Trace}
 use Rattle.xa_standings.specs.Explained.{IsExplained, IsOldLog}
 use Rattle.xa_standings.specs.Monitor.{Monitors}
 use Rattle.xa_standings.specs.Seen.{HasAnswer, IsHistory, IsManagers, KeepsRules, Seen, Seen.Answered, Seen.Did, Seen.Lost, Seen.Start}
 use Rattle.xa_tm.specs.Begins.{BeginsWith}
-use Rattle.xa_serve.specs.Following.{Follows, FollowsAnswer, FollowsLoss, StandsAtStart, StandsIn, StaysAs}
+use Rattle.xa_serve.specs.Following.{FollowsAll, FollowsAnswer, FollowsLoss, StandsAtStart, StandsIn, StaysAs}
 use Rattle.xa_serve.specs.declared.session.Session.{Session}
 
 -- the session stands in each history of what is seen that is a run, whatever the resource managers did by themselves
@@ -22,11 +22,16 @@ abbrev pub StartsAreTracked : Type 0 → Type 0
 StartsAreTracked L =
     (threads rms : ℕ) (s : Session L) → StandsAtStart threads rms s → (o : Origin) → BeginsWith threads rms s.manager o → KeepsTrack o Start s
 
--- A session that keeps track of what is seen, and does what was right to happen wherever it stood, keeps track of that too.
+-- what is seen where the manager did these too, in turn
+abbrev pub did_all : Seen → List Happening → Seen
+did_all seen [] = seen
+did_all seen (e ∷ es) = did_all (Did seen e) es
+
+-- A session that keeps track of what is seen, and does in turn what was right to happen wherever it stood, keeps track of that too.
 abbrev pub StepsAreTracked : Type 0 → Type 0
 StepsAreTracked L =
-    (o : Origin) (seen : Seen) (e : Happening) (old new : Session L) → IsManagers e → KeepsTrack o seen old → Follows e old new
-    → KeepsTrack o (Did seen e) new
+    (o : Origin) (seen : Seen) (es : List Happening) (old new : Session L) → All IsManagers es → KeepsTrack o seen old → FollowsAll es old new
+    → KeepsTrack o (did_all seen es) new
 
 -- And so one that hears an answer which such a call has.
 abbrev pub AnswersAreTracked : Type 0 → Type 0

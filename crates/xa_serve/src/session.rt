@@ -1,6 +1,6 @@
 //! A session: the manager over its log, the lines, and the monitor of the branches. A file for each family of requests.
 
-ghost use Rattle.std.specs.Prelude.{◌≡◌, ◌<◌, Bool, IfOk};
+ghost use Rattle.std.specs.Prelude.{◌≡◌, Bool, true, IfOk};
 ghost use Rattle.xa_line.specs.Grid.{new_grid};
 ghost use Rattle.xa_model.specs.Trace.{Origin};
 ghost use Rattle.xa_standings.specs.Explained.{IsOldLog};
@@ -8,8 +8,7 @@ ghost use Rattle.xa_tm.specs.Begins.{BeginsWith};
 ghost use Rattle.xa_tm.specs.BookAndLog.{IsTied};
 ghost use Rattle.xa_tm.specs.Calls.{book_in, log_in};
 ghost use Rattle.xa_serve.specs.Following.{StandsAtStart};
-ghost use Rattle.xa_serve.specs.Headroom.{first_headroom};
-ghost use Rattle.xa_serve.specs.Session.{IsReady, happenings_by, is_over, lines_by};
+ghost use Rattle.xa_serve.specs.Session.{IsReady, happenings_by, has_room_for, is_over, lines_by};
 
 pub(crate) mod answers;
 mod calls;
@@ -17,6 +16,7 @@ mod crashes;
 mod decisions;
 mod recoveries;
 mod releases;
+mod several;
 
 use std::alloc::Global;
 use xa_base::Refusal;
@@ -118,18 +118,26 @@ impl<L: DecisionLog + Drop> Session<L> {
         self.happenings >= HAPPENING_LIMIT
     }
 
-    /// Notes what a call of the manager gave that may have asked the log. Where the log failed, all lines break.
-    fn conclude(&mut self, reply: Result<(), Refusal>) -> Result<(), Refusal>
-        requires { self.old.happenings < first_headroom }
+    /// Whether there is room for so many happenings more, and for one.
+    fn has_room_for(&self, count: usize) -> bool
+        ensures { result ≡ has_room_for self.now count }
+    {
+        !self.is_over() && count as u64 <= HAPPENING_LIMIT - self.happenings
+    }
+
+    /// Notes what a call of the manager gave that may have asked the log, and that stands for so many happenings if it
+    /// succeeded. Where the log failed, all lines break.
+    fn conclude(&mut self, reply: Result<(), Refusal>, count: usize) -> Result<(), Refusal>
+        requires { has_room_for self.old count ≡ true }
         ensures value { result ≡ reply }
         ensures manager { self.new.manager ≡ self.old.manager }
         ensures lines { self.new.lines ≡ lines_by reply self.old.lines }
         ensures monitor { self.new.monitor ≡ self.old.monitor }
-        ensures happenings { self.new.happenings ≡ happenings_by reply self.old.happenings }
+        ensures happenings { self.new.happenings ≡ happenings_by reply count self.old.happenings }
     {
         match reply {
             Ok(()) => {
-                self.happenings += 1;
+                self.happenings += count as u64;
                 Ok(())
             }
             Err(Refusal::LogFault) => {

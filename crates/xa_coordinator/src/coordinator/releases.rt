@@ -1,7 +1,7 @@
 //! Transactions that are over are forgotten, so that a session takes memory only for those that are open.
 
 ghost use Rattle.std.specs.Prelude.{◌≡◌, ◌∷◌, []};
-ghost use Rattle.xa_coordinator.specs.Releasing.{Releases, ReleasesAll, ended_by, if_taken, is_taken, transaction_of};
+ghost use Rattle.xa_coordinator.specs.Releasing.{Releases, ReleasesAll, all_if_taken, ended_by, if_taken, is_taken, transaction_of};
 ghost use Rattle.xa_serve.specs.Session.{IsReady};
 
 use super::Coordinator;
@@ -43,6 +43,17 @@ impl<L: DecisionLog + Drop> Coordinator<L> {
         }
     }
 
+    /// Forgets these in turn, each if it is over, where the reply tells that the last step of each was taken.
+    fn release_all_taken(&mut self, gtrids: &[Gtrid], reply: &Response)
+        requires { IsReady self.old.session }
+        ensures ready { IsReady self.new.session }
+        ensures releases { ReleasesAll (all_if_taken reply.now gtrids.now) self.old self.new }
+    {
+        if is_taken(reply) {
+            self.release_all(gtrids);
+        }
+    }
+
     /// Forgets the transactions whose last step this request may have been, each if it is over.
     pub(super) fn release_ended(&mut self, request: &Request, reply: &Response)
         requires { IsReady self.old.session }
@@ -51,20 +62,23 @@ impl<L: DecisionLog + Drop> Coordinator<L> {
     {
         match request {
             Request::Answer { name, .. } => self.release_taken(transaction_of(name), reply),
-            Request::Decide { gtrid, .. } => self.release_taken(Some(*gtrid), reply),
+            Request::Decide { gtrids, .. } => self.release_all_taken(gtrids.as_slice(), reply),
             Request::Settle { gtrid } => self.release_taken(Some(*gtrid), reply),
             Request::Abandon { gtrid } => self.release_taken(Some(*gtrid), reply),
-            Request::Done { gtrids } => self.release_all(gtrids.as_slice()),
+            Request::Done { gtrids } => self.release_all_taken(gtrids.as_slice(), reply),
             _ => {}
         }
     }
 }
 
-/// Whether a reply tells that an answer was heard, or that a decision was taken.
+/// Whether a reply tells that an answer was heard, that decisions were taken, or that rows left the log.
 fn is_taken(reply: &Response) -> bool
     ensures { result ≡ is_taken reply.now }
 {
-    matches!(reply, Response::Heard { .. } | Response::Decided)
+    matches!(
+        reply,
+        Response::Heard { .. } | Response::Decided | Response::Noted
+    )
 }
 
 /// The transaction of the branch that a call is on.

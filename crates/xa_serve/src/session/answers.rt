@@ -15,7 +15,7 @@ ghost use Rattle.xa_model.specs.Trace.{Call as KnownCall, Fault.InHear, Happenin
 ghost use Rattle.xa_standings.specs.Seen.{HasAnswer};
 ghost use Rattle.xa_tm.specs.Book.{after, doubt_of};
 ghost use Rattle.xa_tm.specs.Calls.{FailsBy, book_in, log_in};
-ghost use Rattle.xa_serve.specs.Following.{FollowsAnswer, StaysAs};
+ghost use Rattle.xa_serve.specs.Following.{FollowsAnswer, StaysAs, StaysTied};
 ghost use Rattle.xa_serve.specs.Hearing.{with_answer};
 ghost use Rattle.xa_serve.specs.Session.{BranchExplains, IsExplainable, IsReady, unfit};
 ghost use Rattle.xa_serve.specs.declared.session.answers.Unfit.TheVariants as Unfits;
@@ -91,6 +91,7 @@ impl<L: DecisionLog + Drop> Session<L> {
         // The log and the lines.
         ensures log { IfErr result (λ u. u ≢ Unfits.Refused Refusals.LogFault →
             log_in self.new.manager ≡ log_in self.old.manager) }
+        ensures tied { StaysTied L.moment self.old self.new }
         ensures lines { OnOk result (self.new.lines ≡ with_line self.old.lines thread rm
             (with_answer (line_at self.old.lines thread rm) answer)) }
         ensures lines_stay { IfErr result (λ u. u ≢ Unfits.Refused Refusals.LogFault →
@@ -124,7 +125,7 @@ impl<L: DecisionLog + Drop> Session<L> {
             }
             Err(refusal) => {
                 self.monitor.drop_room();
-                let _ = self.conclude(Err(refusal));
+                let _ = self.conclude(Err(refusal), 1);
                 Err(Unfit::Refused(refusal))
             }
         }

@@ -1,19 +1,18 @@
-//! Transactions that begin, are claimed and are decided.
+//! Transactions that begin, are claimed, and are settled or abandoned.
 
-ghost use Rattle.std.specs.Prelude.{◌≡◌, ◌≢◌, ◌+◌, [], ◌∷◌, Bool, Some, None, Err, IfErr, IfOk, OnErr, OnOk};
+ghost use Rattle.std.specs.Prelude.{◌≡◌, ◌≢◌, ◌+◌, [], ◌∷◌, Some, None, Err, IfErr, IfOk, OnErr, OnOk};
 ghost use Rattle.xa_base.specs.declared.refusal.Refusal.TheVariants as Refusals;
 ghost use Rattle.xa_base.specs.declared.step.Outcome.TheVariants as Outcomes;
 ghost use Rattle.xa_base.specs.declared.step.Step.TheVariants as Steps;
-ghost use Rattle.xa_model.specs.Trace.{Fault.InDecide, Fault.InDone, Happening.Begun, Happening.Claimed, Happening.Decided, Happening.Done, Happening.Failed};
-ghost use Rattle.xa_tm.specs.Book.{Doubt.Adds, Doubt.Drops, after, book_after, rows_for};
-ghost use Rattle.xa_tm.specs.BookAndLog.{IsTied};
+ghost use Rattle.xa_model.specs.Trace.{Fault.InDecide, Happening.Begun, Happening.Claimed, Happening.Decided};
+ghost use Rattle.xa_tm.specs.Book.{Doubt.Adds, after, rows_for};
 ghost use Rattle.xa_tm.specs.Calls.{FailsBy, book_in, log_in};
-ghost use Rattle.xa_serve.specs.Following.{Follows, StaysAs};
+ghost use Rattle.xa_serve.specs.Following.{Follows, StaysAs, StaysTied};
 ghost use Rattle.xa_serve.specs.Session.{IsReady, begin_refusal, lines_by, refusal_at};
 
 use super::Session;
 use crate::laws::books_have_headroom;
-use xa_base::{Gtrid, Outcome, Refusal};
+use xa_base::{Gtrid, Refusal};
 use xa_log::DecisionLog;
 
 impl<L: DecisionLog + Drop> Session<L> {
@@ -87,42 +86,6 @@ impl<L: DecisionLog + Drop> Session<L> {
         }
     }
 
-    /// Decides a transaction. Where the log fails, the manager is down and all lines break.
-    pub fn decide(&mut self, gtrid: Gtrid, outcome: Outcome) -> Result<(), Refusal>
-        requires { IsReady self.old }
-        ensures ready { IsReady self.new }
-        // A rule that refuses changes nothing.
-        ensures refused { (n : Refusal) →
-            refusal_at self.old (Steps.Decide gtrid outcome) ≡ Some n →
-            (result ≡ Err n) × (self.new ≡ self.old) }
-        ensures allowed { OnOk result
-            (refusal_at self.old (Steps.Decide gtrid outcome) ≡ None) }
-        // What the book then says.
-        ensures ok { OnOk result (book_in self.new.manager ≡
-            after (book_in self.old.manager) (Decided gtrid outcome)) }
-        ensures err { refusal_at self.old (Steps.Decide gtrid outcome) ≡ None →
-            IfErr result (FailsBy (Adds (rows_for (book_in self.old.manager) (gtrid ∷ [])))
-            (InDecide (gtrid ∷ [])) (book_in self.old.manager) (book_in self.new.manager)) }
-        ensures follows { OnOk result (Follows (Decided gtrid outcome) self.old self.new) }
-        ensures stays { IfErr result (λ n. n ≢ Refusals.LogFault →
-            StaysAs self.old self.new) }
-        // The log and the lines.
-        ensures log { IfErr result (λ n. n ≢ Refusals.LogFault →
-            log_in self.new.manager ≡ log_in self.old.manager) }
-        ensures tied { (near : Bool) → (L.moment (log_in self.old.manager)).is_in_order →
-            (L.moment (log_in self.new.manager)).is_honest →
-            IsTied near (book_in self.old.manager) (L.moment (log_in self.old.manager)).content →
-            IsTied near (book_in self.new.manager) (L.moment (log_in self.new.manager)).content }
-        ensures lines { self.new.lines ≡ lines_by result self.old.lines }
-    {
-        books_have_headroom();
-        if self.is_over() {
-            return Err(Refusal::Limit);
-        }
-        let reply = self.manager.decide(gtrid, outcome);
-        self.conclude(reply)
-    }
-
     /// Commits a claimed transaction. Where the log fails, the manager is down and all lines break.
     pub fn settle(&mut self, gtrid: Gtrid) -> Result<(), Refusal>
         requires { IsReady self.old }
@@ -144,10 +107,7 @@ impl<L: DecisionLog + Drop> Session<L> {
         // The log and the lines.
         ensures log { IfErr result (λ n. n ≢ Refusals.LogFault →
             log_in self.new.manager ≡ log_in self.old.manager) }
-        ensures tied { (near : Bool) → (L.moment (log_in self.old.manager)).is_in_order →
-            (L.moment (log_in self.new.manager)).is_honest →
-            IsTied near (book_in self.old.manager) (L.moment (log_in self.old.manager)).content →
-            IsTied near (book_in self.new.manager) (L.moment (log_in self.new.manager)).content }
+        ensures tied { StaysTied L.moment self.old self.new }
         ensures lines { self.new.lines ≡ lines_by result self.old.lines }
     {
         books_have_headroom();
@@ -155,7 +115,7 @@ impl<L: DecisionLog + Drop> Session<L> {
             return Err(Refusal::Limit);
         }
         let reply = self.manager.settle(gtrid);
-        self.conclude(reply)
+        self.conclude(reply, 1)
     }
 
     /// Rolls a claimed transaction back. The log is not asked.
@@ -190,40 +150,5 @@ impl<L: DecisionLog + Drop> Session<L> {
             }
             Err(refusal) => Err(refusal),
         }
-    }
-
-    /// Takes the row of a transaction away that waits for nothing more. Where the log fails, the manager is down and
-    /// all lines break.
-    pub fn done(&mut self, gtrid: Gtrid) -> Result<(), Refusal>
-        requires { IsReady self.old }
-        ensures ready { IsReady self.new }
-        // A rule that refuses changes nothing.
-        ensures refused { (n : Refusal) → refusal_at self.old (Steps.Done gtrid) ≡ Some n →
-            (result ≡ Err n) × (self.new ≡ self.old) }
-        ensures allowed { OnOk result (refusal_at self.old (Steps.Done gtrid) ≡ None) }
-        // What the book then says.
-        ensures ok { OnOk result
-            (book_in self.new.manager ≡ after (book_in self.old.manager) (Done gtrid)) }
-        ensures err { refusal_at self.old (Steps.Done gtrid) ≡ None →
-            IfErr result (λ n. (n ≡ Refusals.LogFault) × (book_in self.new.manager ≡
-            book_after (book_in self.old.manager) (Drops (gtrid ∷ [])) (Failed (InDone (gtrid ∷ []))))) }
-        ensures follows { OnOk result (Follows (Done gtrid) self.old self.new) }
-        ensures stays { IfErr result (λ n. n ≢ Refusals.LogFault →
-            StaysAs self.old self.new) }
-        // The log and the lines.
-        ensures log { IfErr result (λ n. n ≢ Refusals.LogFault →
-            log_in self.new.manager ≡ log_in self.old.manager) }
-        ensures tied { (near : Bool) → (L.moment (log_in self.old.manager)).is_in_order →
-            (L.moment (log_in self.new.manager)).is_honest →
-            IsTied near (book_in self.old.manager) (L.moment (log_in self.old.manager)).content →
-            IsTied near (book_in self.new.manager) (L.moment (log_in self.new.manager)).content }
-        ensures lines { self.new.lines ≡ lines_by result self.old.lines }
-    {
-        books_have_headroom();
-        if self.is_over() {
-            return Err(Refusal::Limit);
-        }
-        let reply = self.manager.done(gtrid);
-        self.conclude(reply)
     }
 }

@@ -1,6 +1,9 @@
-use Rattle.std.proofs.Common.{refl, subst, sym}
+use Rattle.std.proofs.Common.{◌≡◌, refl, subst, sym}
+use Rattle.xa_base.specs.declared.step.Outcome.TheVariants as Outcomes
 use Rattle.xa_coordinator.proofs.UnchangedLemmas.{not_done}
+use Rattle.xa_coordinator.proofs.RowLemmas.{decided_rows}
 use Rattle.xa_coordinator.specs.Performing.{Does}
+use Rattle.xa_coordinator.specs.Rows.{LogsRows, committed_by}
 use Rattle.xa_requests.specs.declared.request.Request.TheVariants as requests
 use Rattle.xa_coordinator.proofs.coordinator.Coordinator.act.Goals as goal
 
@@ -20,3 +23,17 @@ pub returns-in-CrashLine-clause-unchanged : goal.returns-in-CrashLine-clause-unc
 returns-in-CrashLine-clause-unchanged g c = λ one undone.
     not_done c.args.self.now c.crash_line.new.self c.crash_line.result undone (requests.CrashLine c.in-CrashLine.thread c.in-CrashLine.rm)
     c.crash_line.ensures.performs refl
+
+pub returns-in-Decide-clause-rows : goal.returns-in-Decide-clause-rows
+returns-in-Decide-clause-rows g c =
+    let moment = g.L.DecisionLog.moment in
+    let old = c.args.self.now.session in
+    let new = c.decide.new.self.session in
+    subst (λ q. LogsRows moment (committed_by q) old c.decide.result new) (sym c.in-Decide.is)
+    (decided_rows moment old new c.in-Decide.gtrids c.in-Decide.outcome c.decide.result
+    (subst (λ gs. c.in-Decide.outcome ≡ Outcomes.Commit → LogsRows moment gs old c.decide.result new) c.as_slice.ensures c.decide.ensures.rows))
+
+pub returns-in-Settle-clause-rows : goal.returns-in-Settle-clause-rows
+returns-in-Settle-clause-rows g c =
+    subst (λ q. LogsRows g.L.DecisionLog.moment (committed_by q) c.args.self.now.session c.settle.result c.settle.new.self.session) (sym c.in-Settle.is)
+    c.settle.ensures.rows

@@ -21,10 +21,11 @@ returns-clause-forgotten g c = λ h ends over.
     is_forgotten h c.act-reply.new.self c.release_ended.new.self
     (subst (λ gs. ReleasesAll gs c.act-reply.new.self c.release_ended.new.self) ends c.release_ended.ensures.releases) over
 
-pub returns-clause-row : goal.returns-clause-row
-returns-clause-row g c = λ near h commits told order honest tied voted.
+pub returns-clause-rows : goal.returns-clause-rows
+returns-clause-rows g c =
     let same = log_stays (ended_by c.args.request.now c.act-reply.result) c.act-reply.new.self c.release_ended.new.self c.release_ended.ensures.releases in
     let moment = g.L.DecisionLog.moment in
     let k = book_in c.args.self.now.session.manager in
+    λ near h among told order honest tied voted.
     subst (λ log. HasRow (moment log).content h (voted_yes k h)) (sym same)
-    (c.act-reply.ensures.row near h commits told order (subst (λ log. (moment log).is_honest) same honest) tied voted)
+    (c.act-reply.ensures.rows near h among told order (subst (λ log. (moment log).is_honest) same honest) tied voted)

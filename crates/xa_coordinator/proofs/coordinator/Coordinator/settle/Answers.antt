@@ -1,9 +1,8 @@
-use Rattle.std.proofs.Common.{◌∙◌, refl, sym}
+use Rattle.std.proofs.Common.{[], ◌∷◌, refl}
 use Rattle.xa_base.specs.declared.step.Outcome.TheVariants as Outcomes
-use Rattle.xa_coordinator.proofs.RowLemmas.{settled_up, told_row}
+use Rattle.xa_coordinator.proofs.RowLemmas.{settled_up, told_rows}
 use Rattle.xa_coordinator.proofs.StandingLemmas.{happens_on_ok}
 use Rattle.xa_model.specs.Trace.{Happening.Decided}
-use Rattle.xa_tm.specs.Calls.{log_in}
 use Rattle.xa_coordinator.proofs.coordinator.Coordinator.settle.Goals as goal
 
 pub returns-clause-performs : goal.returns-clause-performs
@@ -21,10 +20,9 @@ returns-clause-performs g c =
       rest = refl;
     }
 
-pub returns-clause-row : goal.returns-clause-row
-returns-clause-row g c = λ near told order honest tied voted.
+pub returns-clause-rows : goal.returns-clause-rows
+returns-clause-rows g c =
     let call = c.settle-taken in
     let old = c.args.self.now.session in
-    told_row old call.new.self c.args.gtrid near (g.L.DecisionLog.moment (log_in call.new.self.manager)).content call.result (sym c.reply_of.ensures ∙ told)
-    (settled_up old c.args.gtrid call.result call.ensures.allowed) call.ensures.ok voted
-    (call.ensures.tied near order honest tied)
+    told_rows g.L.DecisionLog.moment old call.new.self (c.args.gtrid ∷ []) c.reply_of.result call.result c.reply_of.ensures
+    (settled_up old c.args.gtrid call.result call.ensures.allowed) call.ensures.ok call.ensures.tied

@@ -17,7 +17,7 @@ use Rattle.xa_tm.specs.Book.{Doubt.NoDoubt, doubt_of}
 use Rattle.xa_tm.specs.Calls.{FailsBy, book_in}
 use Rattle.xa_serve.proofs.Hearings.{answer_heard, has_answer, hearable}
 use Rattle.xa_serve.proofs.Lines.{all_with, may_tell, waiting_known}
-use Rattle.xa_serve.proofs.Sessions.{book_kept, failed, has_few, kept_stays, step_leaves}
+use Rattle.xa_serve.proofs.Sessions.{book_kept, failed, has_few, kept_stays, room_for_one, step_leaves}
 use Rattle.xa_serve.proofs.Telling.{answered_follows}
 use Rattle.xa_serve.specs.Hearing.{with_answer}
 use Rattle.xa_serve.specs.declared.session.answers.Unfit.TheVariants.{Refused}
@@ -113,7 +113,7 @@ returns-in-Err-clause-ready g c =
     let r = c.args.rm in
     let may = may_tell s t r (sym c.line_refusal.ensures ∙ c.in_default.is) in
     let knows = (hearable (map_call name_of c.copy-call.result) (map_answer name_of c.args.answer) (sym c.can_hear.ensures ∙ c.if-not-can_hear.false)).known in
-    failed s _ _ (doubt_of (record_of knows.0 (map_answer name_of c.args.answer))) (InHear (line t r)) c.in-Err.refusal c.requires may.free
+    failed s _ _ 1 (doubt_of (record_of knows.0 (map_answer name_of c.args.answer))) (InHear (line t r)) c.in-Err.refusal c.requires may.free
     (record { manager = c.conclude.ensures.manager; lines = c.conclude.ensures.lines; happenings = c.conclude.ensures.happenings }) tt
     (c.in-Err.ensures.err may.up knows.0 knows.1)
 
@@ -155,8 +155,13 @@ returns-in-Err-clause-stays g c = λ not.
     let fault : c.in-Err.refusal ≢ LogFault = λ e. not (ap (λ n. Refused n) e) in
     let same : SaysTheSame s.monitor c.conclude.new.self.monitor =
     λ b. ap (λ m. states_of m b) c.conclude.ensures.monitor ∙ c.drop_room.ensures.same b ∙ c.make_room.ensures.same b in
-    kept_stays s c.conclude.new.self c.hear.new.self c.in-Err.refusal
+    kept_stays s c.conclude.new.self c.hear.new.self 1 c.in-Err.refusal
     (record { manager = c.conclude.ensures.manager; lines = c.conclude.ensures.lines; happenings = c.conclude.ensures.happenings }) same
-    (book_kept s c.conclude.new.self c.hear.new.self (doubt_of (record_of knows.0 (map_answer name_of c.args.answer))) (InHear (line t r)) c.in-Err.refusal
+    (book_kept s c.conclude.new.self c.hear.new.self 1 (doubt_of (record_of knows.0 (map_answer name_of c.args.answer))) (InHear (line t r)) c.in-Err.refusal
     (c.in-Err.ensures.err may.up knows.0 knows.1) fault)
     (c.in-Err.ensures.kept fault) fault
+
+pub conclude-requires : goal.conclude-requires
+conclude-requires g c =
+    let may = may_tell c.args.self.now c.args.thread c.args.rm (sym c.line_refusal.ensures ∙ c.in_default.is) in
+    room_for_one c.args.self.now may.free

@@ -1,46 +1,50 @@
-use Rattle.std.proofs.Common.{[], ◌∷◌, ◌∙◌, sym}
+use Rattle.std.proofs.Common.{◌∙◌, [], ◌∷◌, refl, sym}
 use Rattle.xa_base.proofs.Options.{on_ok}
 use Rattle.xa_base.specs.declared.step.Outcome.TheVariants as Outcomes
 use Rattle.xa_base.specs.declared.step.Step.TheVariants as Steps
 use Rattle.xa_model.specs.Trace.{Fault.InDecide, Happening.Decided}
 use Rattle.xa_tm.specs.Book.{Doubt.Adds, rows_for}
 use Rattle.xa_tm.specs.Calls.{book_in}
-use Rattle.xa_serve.proofs.Refusals.{begun_if_settled}
+use Rattle.xa_tm.specs.Refusing.{refusal_in}
+use Rattle.xa_serve.proofs.Refusals.{begun_if_settled, no_fault}
 use Rattle.xa_serve.proofs.Following.{settled_follows, follows_if_ok}
-use Rattle.xa_serve.proofs.Sessions.{concluded, concluded_stays, concluded_err}
+use Rattle.xa_serve.proofs.Sessions.{concluded, concluded_err, concluded_stays, refusal_is, room_for_one}
 use Rattle.xa_serve.proofs.session.Session.settle.Goals as goal
+
+pub conclude-requires : goal.conclude-requires
+conclude-requires g c = room_for_one c.args.self.now (sym c.is_over.ensures ∙ c.if-is_over.false)
 
 pub returns-clause-ready : goal.returns-clause-ready
 returns-clause-ready g c =
     let s = c.args.self.now in
-    concluded s _ _ (Steps.Settle c.args.gtrid) (Adds (rows_for (book_in s.manager) (c.args.gtrid ∷ []))) (InDecide (c.args.gtrid ∷ []))
-    (Decided c.args.gtrid Outcomes.Commit) c.settle-reply.result c.requires (sym c.is_over.ensures ∙ c.if-is_over.false)
+    concluded s _ _ 1 (refusal_in (book_in s.manager) (Steps.Settle c.args.gtrid))
+    (Adds (rows_for (book_in s.manager) (c.args.gtrid ∷ []))) (InDecide (c.args.gtrid ∷ []))
+    (Decided c.args.gtrid Outcomes.Commit ∷ []) c.settle-reply.result c.requires (room_for_one s (sym c.is_over.ensures ∙ c.if-is_over.false)) refl
     (record { manager = c.conclude.ensures.manager; lines = c.conclude.ensures.lines; happenings = c.conclude.ensures.happenings }) tt
-    c.settle-reply.ensures.refused (on_ok c.settle-reply.result _ _ (begun_if_settled
-    (book_in s.manager) c.args.gtrid) c.settle-reply.ensures.allowed) c.settle-reply.ensures.ok
-    c.settle-reply.ensures.err
+    (no_fault (book_in s.manager) (Steps.Settle c.args.gtrid)) c.settle-reply.ensures.refused
+    (on_ok c.settle-reply.result _ _ (λ none. (begun_if_settled (book_in s.manager) c.args.gtrid none, tt)) c.settle-reply.ensures.allowed)
+    c.settle-reply.ensures.ok c.settle-reply.ensures.err
 
 pub returns-clause-err : goal.returns-clause-err
 returns-clause-err g c =
     let s = c.args.self.now in
-    concluded_err s c.conclude.new.self _ (Steps.Settle c.args.gtrid) (Adds (rows_for (book_in s.manager) (c.args.gtrid ∷ [])))
-    (InDecide (c.args.gtrid ∷ [])) c.settle-reply.result _
-    (sym c.is_over.ensures ∙ c.if-is_over.false)
+    concluded_err s c.conclude.new.self _ 1 (refusal_in (book_in s.manager) (Steps.Settle c.args.gtrid)) _ (Adds (rows_for (book_in s.manager) (c.args.gtrid ∷ []))) (InDecide (c.args.gtrid ∷ [])) c.settle-reply.result _
+    (refusal_is s (Steps.Settle c.args.gtrid) (sym c.is_over.ensures ∙ c.if-is_over.false))
     (record { manager = c.conclude.ensures.manager; lines = c.conclude.ensures.lines; happenings = c.conclude.ensures.happenings })
     c.conclude.ensures.value c.settle-reply.ensures.err
 
 pub returns-clause-follows : goal.returns-clause-follows
 returns-clause-follows g c =
     let s = c.args.self.now in
-    follows_if_ok s c.conclude.new.self (Steps.Settle c.args.gtrid)
-    (Decided c.args.gtrid Outcomes.Commit) c.settle-reply.new.self c.settle-reply.result _ c.conclude.ensures.value c.conclude.ensures.manager
+    follows_if_ok s c.conclude.new.self (refusal_in (book_in s.manager) (Steps.Settle c.args.gtrid))
+    (Decided c.args.gtrid Outcomes.Commit ∷ []) c.settle-reply.new.self c.settle-reply.result _ c.conclude.ensures.value c.conclude.ensures.manager
     c.conclude.ensures.lines c.settle-reply.ensures.allowed c.settle-reply.ensures.ok c.conclude.ensures.monitor
     (settled_follows s c.conclude.new.self c.args.gtrid)
 
 pub returns-clause-stays : goal.returns-clause-stays
 returns-clause-stays g c =
     let s = c.args.self.now in
-    concluded_stays s _ _ (Steps.Settle c.args.gtrid) (Adds (rows_for (book_in s.manager) (c.args.gtrid ∷ []))) (InDecide (c.args.gtrid ∷ []))
-    c.settle-reply.result _
+    concluded_stays s _ _ 1 (refusal_in (book_in s.manager) (Steps.Settle c.args.gtrid))
+    (Adds (rows_for (book_in s.manager) (c.args.gtrid ∷ []))) (InDecide (c.args.gtrid ∷ [])) c.settle-reply.result _
     (record { manager = c.conclude.ensures.manager; lines = c.conclude.ensures.lines; happenings = c.conclude.ensures.happenings })
     c.conclude.ensures.value c.conclude.ensures.monitor c.settle-reply.ensures.refused c.settle-reply.ensures.err c.settle-reply.ensures.kept
