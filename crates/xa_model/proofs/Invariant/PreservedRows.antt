@@ -312,8 +312,7 @@ failed_decision tr gs g inv r d = record {
 
 fault_fact : (tr : Trace) (f : Fault) → Inv tr → Right tr (Failed f) → DoubtFact (Then tr (Failed f)) (fault_change tr f)
 fault_fact tr (InDecide gs) inv r = λ g l.
-    let h = sym (rows_made tr gs g) ∙ l in let d = (each_is (RightRow tr) gs r g h).0 in
-    (
+    let h = sym (rows_made tr gs g) ∙ l in let d = (each_is (RightRow tr) gs r g h).0 in (
       failed_decision tr gs g inv r d,
       subst (λ bs. Covers (Then tr (Failed (InDecide gs))) bs g) (sym (made_for tr gs g h)) (row_for_covers tr g (decided_voted tr g inv d)),
     )
