@@ -5,7 +5,6 @@ pub mod StartRows
 pub mod Counting
 pub mod CountsAsLengths
 pub mod RowCounts
-pub mod RowBounds
 pub mod Settling
 pub mod Soundness
 pub mod Limits

@@ -12,7 +12,6 @@ use Rattle.xa_base.specs.declared.refusal.Refusal.TheVariants as Refusals
 use Rattle.xa_log.specs.Content.{Content, with_bump}
 use Rattle.xa_log.specs.Contract.{LeavesAlso, MayMake, Moment, one_more_fault}
 use Rattle.xa_model.proofs.AgreementLemmas.Distinct.{doubt_is_new_to}
-use Rattle.xa_tm.proofs.History.RowCounts.{new_change}
 use Rattle.xa_tm.proofs.Log.Leaves.{left_by_a_fault, left_by_a_restart}
 use Rattle.xa_tm.proofs.Log.Ties.{tied_same, up_content}
 use Rattle.xa_tm.specs.Book.{Book, Doubt.NoDoubt, after, book_after, book_of, doubt_of, failed_restarts_after}
@@ -21,7 +20,7 @@ use Rattle.xa_tm.specs.Slots.{durable_in, last_out, log_held, slot_moment}
 use Rattle.xa_tm.specs.BookAndLog.{IsChangeOf, IsTied, IsTiedDown, IsTiedUp, TiedBy, changed_by}
 use Rattle.xa_tm.specs.declared.manager.Manager.{Manager}
 use Rattle.xa_system.specs.LogInHistory.{AreTied, IsDurable, LogFollows, MayHaveFailed, change_in, count_after}
-use Rattle.xa_system.proofs.Log.Laws.{made_is}
+use Rattle.xa_system.proofs.Log.Laws.{change_of, made_is}
 
 -- no failure of the log
 abbrev pub IsUncounted : Happening → Type 0
@@ -79,7 +78,7 @@ asked_is tr f still c = sym (made_is (fault_change tr f) c)
 pub fault_is_change : (tr : Trace) (f : Fault) (k : Book) → k ≡ book_of tr → IsRun tr → RightFault tr f → up tr ≡ true
     → IsChangeOf k.row (doubt_of (fault_change tr f))
 fault_is_change tr f k at run right is_up = subst (λ (b : Book). IsChangeOf b.row (doubt_of (fault_change tr f))) (sym at)
-    (new_change (log tr) (fault_change tr f)
+    (change_of (log tr) (fault_change tr f)
     (subst (λ (t : Bool). IsNewTo (log tr) (if t then fault_change tr f else doubt tr)) is_up (doubt_is_new_to (Then tr (Failed f)) (run, right))))
 
 -- no failure, nothing that may have changed

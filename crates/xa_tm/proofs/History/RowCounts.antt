@@ -1,7 +1,7 @@
 -- The rows of a right history are counted: one that leaves is one.
 use Rattle.std.proofs.Common.{◌≡◌, ◌≤◌, ◌-◌, List, [], ◌∷◌, length, Bool, true, false, ◌||◌, ◌⊎◌, inl, inr, refl, sym, ap, ◌∙◌, subst, arith}
 use Rattle.std.specs.Prelude.{if◌then◌else◌, map, is_some, Option, Some, None}
-use Rattle.std.proofs.lemmas.Bool.{or_parts, true≢false}
+use Rattle.std.proofs.lemmas.Bool.{or_from, or_left, or_parts, or_right, true≢false}
 use Rattle.xa_base.specs.declared.answer.Answer.TheVariants.{Ret}
 use Rattle.xa_base.specs.declared.branch.Gtrid.{Gtrid}
 use Rattle.xa_base.specs.declared.call.Call.TheVariants as Calls
@@ -11,9 +11,8 @@ use Rattle.xa_model.specs.Facts.Distinct.{ApartRows, EachOnce, IsNewTo}
 use Rattle.xa_model.specs.Facts.{Change, Change.AddRows, Change.DropRows, Change.AddRecord, Change.NoChange, doubt, has_row, lists_row, log, origin, record_of, record_of_next, without, without_each}
 use Rattle.xa_model.specs.Protocol.{IsRun, Right}
 use Rattle.xa_model.specs.Trace.{Answer, Call, Happening, Happening.Done, Happening.Restarted, Recorded, Row, Trace, Trace.Then}
-use Rattle.xa_model.proofs.AgreementLemmas.Distinct.{doubt_is_new_to, rows_apart, without_apart}
-use Rattle.xa_base.proofs.BranchKeys.{gtrid_eq-refl, gtrid_eq-true}
-use Rattle.xa_model.proofs.Invariant.RowLists.{without_drops}
+use Rattle.xa_model.proofs.AgreementLemmas.Distinct.{doubt_is_new_to, rows_apart}
+use Rattle.xa_base.proofs.BranchKeys.{gtrid_eq-true}
 use Rattle.xa_tm.specs.Book.{Waiting, doubt_of, doubt_of_happening, book_after, book_of, row_in, waiting_row}
 use Rattle.xa_tm.specs.BookAndLog.{IsChangeOf}
 use Rattle.xa_tm.specs.Laws.{CountsRows}
@@ -67,7 +66,7 @@ next_or_none (Some p) = record_or_none p.0 p.1
 next_or_none None = inr refl
 
 -- the change in doubt is one of the rows that are there
-pub new_change : (rows : List Row) (c : Change) → IsNewTo rows c → IsChangeOf (row_in rows) (doubt_of c)
+new_change : (rows : List Row) (c : Change) → IsNewTo rows c → IsChangeOf (row_in rows) (doubt_of c)
 new_change rows (AddRows xs) new =
     subst (EachOnce (λ g. row_in rows g ≡ None)) (sym (names xs))
     (once_so (λ g. lists_row rows g ≡ false) (λ g. row_in rows g ≡ None) (map (λ (x : Row). x.gtrid) xs)
@@ -92,18 +91,40 @@ pub dropped_are_there : (tr : Trace) (gs : List Gtrid) → IsRun tr → doubt tr
 dropped_are_there tr gs r e = subst (IsNewTo (log tr)) e (doubt_is_new_to tr r)
 
 -- and so many rows leave
-still_listed : (g h : Gtrid) (xs : List Row) → gtrid_eq g h ≡ false → lists_row xs h ≡ true → lists_row (without g xs) h ≡ true
-still_listed g h xs other has = by (lists_row (without g xs) h) refl
+still_unlisted : (g h : Gtrid) (xs : List Row) → lists_row xs h ≡ false → lists_row (without g xs) h ≡ false
+still_unlisted g h [] e = refl
+still_unlisted g h (x ∷ xs) e =
+    let parts = or_parts (gtrid_eq x.gtrid h) (lists_row xs h) e in by (gtrid_eq x.gtrid g) parts.0 (still_unlisted g h xs parts.1)
   where
-    by : (t : Bool) → lists_row (without g xs) h ≡ t → lists_row (without g xs) h ≡ true
-    by true e = e
-    by false e = absurd (true≢false (sym (gtrid_eq-refl g) ∙ ap (gtrid_eq g) (without_drops g h xs has e) ∙ other))
+    by : (t : Bool) → gtrid_eq x.gtrid h ≡ false → lists_row (without g xs) h ≡ false → lists_row (if t then without g xs else x ∷ without g xs) h ≡ false
+    by true away rest = rest
+    by false away rest = or_from _ _ away rest
 
-pub each_row_less : (gs : List Gtrid) (xs : List Row) → ApartRows xs → EachOnce (λ g. lists_row xs g ≡ true) gs → length (without_each gs xs) ≡ length xs - length gs
+still_apart : (g : Gtrid) (xs : List Row) → ApartRows xs → ApartRows (without g xs)
+still_apart g [] apart = tt
+still_apart g (x ∷ xs) apart = by (gtrid_eq x.gtrid g) (still_apart g xs apart.1)
+  where
+    by : (t : Bool) → ApartRows (without g xs) → ApartRows (if t then without g xs else x ∷ without g xs)
+    by true rest = rest
+    by false rest = (still_unlisted g x.gtrid xs apart.0, rest)
+
+still_listed : (g h : Gtrid) (xs : List Row) → gtrid_eq g h ≡ false → lists_row xs h ≡ true → lists_row (without g xs) h ≡ true
+still_listed g h [] other e = absurd (cc)
+still_listed g h (x ∷ xs) other e = by (gtrid_eq x.gtrid g) (gtrid_eq x.gtrid h) refl refl e (still_listed g h xs other)
+  where
+    by : (s t : Bool) → gtrid_eq x.gtrid g ≡ s → gtrid_eq x.gtrid h ≡ t → (t || lists_row xs h) ≡ true
+        → (lists_row xs h ≡ true → lists_row (without g xs) h ≡ true) → lists_row (if s then without g xs else x ∷ without g xs) h ≡ true
+    by true true same here e rest =
+        absurd (true≢false (sym (subst (λ y. gtrid_eq y h ≡ true) (gtrid_eq-true x.gtrid g same) here) ∙ other))
+    by true false same away e rest = rest e
+    by false true apart here e rest = or_left _ _ here
+    by false false apart away e rest = or_right _ _ (rest e)
+
+each_row_less : (gs : List Gtrid) (xs : List Row) → ApartRows xs → EachOnce (λ g. lists_row xs g ≡ true) gs → length (without_each gs xs) ≡ length xs - length gs
 each_row_less [] xs apart there = omega arith
 each_row_less (g ∷ gs) xs apart there =
     let one = one_row_less g xs apart there.0 in
-    let rest = each_row_less gs (without g xs) (without_apart g xs apart)
+    let rest = each_row_less gs (without g xs) (still_apart g xs apart)
     (once_among (λ h. lists_row xs h ≡ true) (λ h. lists_row (without g xs) h ≡ true) gs
     (λ h is has. still_listed g h xs (other_of gs g h there.1 is) has) there.2) in
     omega (arith, one, rest)
