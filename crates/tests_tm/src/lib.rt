@@ -5,6 +5,8 @@
 #[cfg(test)]
 mod releases;
 #[cfg(test)]
+mod several;
+#[cfg(test)]
 mod starts;
 #[cfg(test)]
 mod swaps;

@@ -1,4 +1,5 @@
 pub mod History
 pub mod Maps
+pub mod Several
 pub mod Log
 pub mod Release

@@ -1,13 +1,14 @@
 -- How the log that a manager holds is tied to its book.
-use Rattle.std.specs.Prelude.{ℕ, ◌+◌, ◌-◌, ◌<◌, ◌≡◌, ◌≤◌, ◌⊎◌, Bool, true, false, ◌&&◌, ◌||◌, nat_eq, nat_le, nat_lt, Option, Some, None, IsSomeAnd}
+use Rattle.std.specs.Prelude.{ℕ, ◌+◌, ◌-◌, ◌<◌, ◌≡◌, ◌≤◌, ◌⊎◌, Bool, true, false, ◌&&◌, ◌||◌, nat_eq, nat_le, nat_lt, List, [], ◌∷◌, length, map, Option, Some, None, is_some, IsSomeAnd}
 use Rattle.std.specs.FinMap.{get, len}
 use Rattle.xa_base.specs.declared.branch.Branch.{Branch}
 use Rattle.xa_base.specs.declared.branch.Gtrid.{Gtrid}
-use Rattle.xa_log.specs.Content.{Content, with_bump, with_commit, without_decision, with_record, unchanged}
+use Rattle.xa_log.specs.Content.{Content, with_bump, with_commit, without_decisions, with_record, unchanged}
 use Rattle.xa_log.specs.Contract.{Makes}
 use Rattle.xa_log.specs.declared.decision_log.DecisionLog as DecisionLog
 use Rattle.xa_log.specs.declared.fail_plan.LogCall.TheVariants.{Bump, Rows}
-use Rattle.xa_tm.specs.Book.{Book, Doubt, Doubt.Adds, Doubt.Drops, Doubt.Records, Doubt.NoDoubt, records_with}
+use Rattle.xa_model.specs.Facts.Distinct.{EachOnce}
+use Rattle.xa_tm.specs.Book.{Book, Waiting, Doubt, Doubt.Adds, Doubt.Drops, Doubt.Records, Doubt.NoDoubt, records_with}
 
 -- the content has the book's rows, with their participants, and its record
 pub record HoldsBook (k : Book) (c : Content) : Type 0 where
@@ -16,10 +17,14 @@ pub record HoldsBook (k : Book) (c : Content) : Type 0 where
   pub records : (b : Branch) → get c.heuristics b ≡ k.recorded b
   pub record_number : len c.heuristics ≡ k.records
 
--- what a change makes of a content
+-- what a change makes of a content: of several rows for one transaction, the first stays
+abbrev pub with_rows : List (Gtrid × Waiting) → Content → Content
+with_rows [] c = c
+with_rows (x ∷ xs) c = with_rows xs (with_commit x.0 x.1 c)
+
 abbrev pub changed_by : Doubt → Content → Content
-changed_by (Adds g set) c = with_commit g set c
-changed_by (Drops g) c = without_decision g c
+changed_by (Adds xs) c = with_rows xs c
+changed_by (Drops gs) c = without_decisions gs c
 changed_by (Records b how) c = with_record b how c
 changed_by NoDoubt c = c
 
@@ -28,9 +33,16 @@ pub record SameRows (c d : Content) : Type 0 where
   pub decisions : c.decisions ≡ d.decisions
   pub heuristics : c.heuristics ≡ d.heuristics
 
+-- the change is one of these rows: those that it adds are not there, those that it takes away are, and none comes twice
+abbrev pub IsChangeOf : (Gtrid → Option Waiting) → Doubt → Type 0
+IsChangeOf row (Adds xs) = EachOnce (λ g. row g ≡ None) (map (λ (x : Gtrid × Waiting). x.0) xs)
+IsChangeOf row (Drops gs) = EachOnce (λ g. is_some (row g) ≡ true) gs
+IsChangeOf row _ = Unit
+
 -- the content has the book's rows and record, or those with the change in doubt
 abbrev pub MayHold : Book → Content → Type 0
-MayHold k c = (before : Content) × HoldsBook k before × (SameRows c before ⊎ SameRows c (changed_by k.doubt before))
+MayHold k c = (before : Content) × HoldsBook k before
+    × (SameRows c before ⊎ (IsChangeOf k.row k.doubt × SameRows c (changed_by k.doubt before)))
 
 -- the content is of an incarnation that the book's restarts may have left
 pub record IsReached (k : Book) (c : Content) : Type 0 where
@@ -77,8 +89,8 @@ pub record IsReadFrom {L : Type 0} (logs : DecisionLog.Ghosts L) (i d h : ℕ) (
 -- the numbers that a restart may find: the next incarnation after one that the failures since may have reached, and
 -- those of the book, or of the book with the change in doubt. A record of a branch that has one adds none
 abbrev pub rows_of : Doubt → ℕ → ℕ
-rows_of (Adds g set) n = n + 1
-rows_of (Drops g) n = n - 1
+rows_of (Adds xs) n = n + length xs
+rows_of (Drops gs) n = n - length gs
 rows_of _ n = n
 
 pub record IsFound (k : Book) (i d h : ℕ) : Type 0 where

@@ -1,5 +1,5 @@
 -- What a manager keeps: its book and its log.
-use Rattle.std.specs.Prelude.{ℕ, ◌≡◌, ◌⊎◌, ◌+◌, ◌-◌, ◌^◌, ◌&&◌, min, true, false, Some, Result, Err}
+use Rattle.std.specs.Prelude.{ℕ, ◌≡◌, ◌⊎◌, ◌+◌, ◌-◌, ◌^◌, ◌&&◌, List, filter, min, true, false, Some, Result, Err}
 use Rattle.xa_model.specs.Trace.{Fault, Happening.Failed}
 use Rattle.xa_base.specs.declared.branch.Gtrid.{Gtrid}
 use Rattle.xa_base.specs.declared.refusal.Refusal.{Refusal}
@@ -49,3 +49,7 @@ pub record IsOpenIn (k : Book) (g : Gtrid) : Type 0 where
 -- the decision writes a row, so that the log is asked: a commit that some branch voted XA_OK for
 abbrev pub AddsRow : Outcome → TransactionNotes → Type 0
 AddsRow o d = (is_commit (Some o) && d.has_yes) ≡ true
+
+-- those of these transactions whose decision writes a row
+abbrev pub written_by : Outcome → Book → List Gtrid → List Gtrid
+written_by o k gs = filter (λ g. is_commit (Some o) && (k.transaction g).has_yes) gs

@@ -1,20 +1,21 @@
 -- What ties the book to histories.
-use Rattle.std.specs.Prelude.{ℕ, ◌-◌, ◌≡◌, length, filter, not, ◌&&◌, true, false, None, Some}
+use Rattle.std.specs.Prelude.{ℕ, List, ◌-◌, ◌≡◌, length, filter, not, ◌&&◌, true, false, None, Some}
 use Rattle.xa_base.specs.declared.step.Step.TheVariants as Steps
 use Rattle.xa_base.specs.Branch.{gtrid_eq}
-use Rattle.xa_model.specs.Facts.Distinct.{ApartRows}
+use Rattle.xa_model.specs.Facts.Distinct.{ApartRows, EachOnce}
 use Rattle.xa_base.specs.declared.branch.Gtrid.{Gtrid}
 use Rattle.xa_base.specs.declared.step.Outcome.TheVariants as Outcome
 use Rattle.xa_base.specs.declared.step.Part.TheVariants as Part
 use Rattle.xa_base.specs.declared.step.Side.TheVariants as Side
-use Rattle.xa_model.specs.Facts.{Change.DropRow, begun, branches, decided_so, doubt, has_row, heuristic_rows, log, next_answer, origin, page, record_of, resolving_calls, is_settled, without, has_voted}
+use Rattle.xa_model.specs.Facts.{Change.DropRows, begun, branches, decided_so, doubt, has_row, heuristic_rows, log, next_answer, origin, page, record_of, resolving_calls, is_settled, without, without_each, has_voted}
 use Rattle.xa_base.specs.Opening.{has_closed}
 use Rattle.xa_model.specs.Protocol.{IsRun, Right}
 use Rattle.xa_model.specs.Replies.Rules.{must_refuse}
 use Rattle.xa_model.specs.Replies.Steps.{Step}
 use Rattle.xa_model.specs.Trace.{Answer, Call, Fault.InDecide, Fault.InDone, Fault.InHear, Happening, Happening.Done, Happening.Failed, Happening.ResolvedOpen, Happening.Restarted, Line, Trace, Trace.Then}
 use Rattle.xa_log.specs.Content.{Content}
-use Rattle.xa_tm.specs.Book.{Book, Doubt.Adds, Doubt.Drops, doubt_of_happening, book_after, book_of, doubt_of, voted_yes}
+use Rattle.xa_tm.specs.Book.{Book, Doubt.Adds, Doubt.Drops, doubt_of_happening, book_after, book_of, doubt_of, rows_for}
+use Rattle.xa_tm.specs.BookAndLog.{IsChangeOf}
 use Rattle.xa_tm.specs.Refusing.{managers_refusal, refusal_in, resolved_in, resolved_open_in}
 use Rattle.xa_tm.specs.Starting.{rows_from}
 
@@ -43,14 +44,19 @@ RightBooksFollow = (tr : Trace) (e : Happening) → IsRun tr → Right tr e → 
 abbrev pub StartRowsAreApart : Type 0
 StartRowsAreApart = (c : Content) → ApartRows (rows_from c)
 
--- a row whose removal is in doubt is there
+-- rows whose removal is in doubt are there, each of another transaction
 abbrev pub DroppedRowsAreThere : Type 0
-DroppedRowsAreThere = (tr : Trace) (g : Gtrid) → IsRun tr → doubt tr ≡ DropRow g → has_row tr g ≡ true
+DroppedRowsAreThere = (tr : Trace) (gs : List Gtrid) → IsRun tr → doubt tr ≡ DropRows gs
+    → EachOnce (λ g. has_row tr g ≡ true) gs
 
--- and it is one
-abbrev pub DropsAreOne : Type 0
-DropsAreOne = (tr : Trace) (g : Gtrid) → IsRun tr → ApartRows (origin tr).rows → doubt tr ≡ DropRow g
-    → length (without g (log tr)) ≡ length (log tr) - 1
+-- and so many rows leave
+abbrev pub DropsAreCounted : Type 0
+DropsAreCounted = (tr : Trace) (gs : List Gtrid) → IsRun tr → ApartRows (origin tr).rows → doubt tr ≡ DropRows gs
+    → length (without_each gs (log tr)) ≡ length (log tr) - length gs
+
+-- the change in doubt is one of the rows that are there
+abbrev pub DoubtsAreOfRows : Type 0
+DoubtsAreOfRows = (tr : Trace) → IsRun tr → IsChangeOf (book_of tr).row (book_of tr).doubt
 
 -- the numbers of the book are those of a count over all branches: of a transaction's branches, of those without a vote
 -- for commit and, while it is begun, of those that are not settled
@@ -104,13 +110,13 @@ OpenHasNoRow = (tr : Trace) (g : Gtrid) → IsRun tr → begun tr g ≡ true
 
 -- ** what the log is asked for
 
--- where a decision to commit fails, the row that the book says is in doubt is the row that the history says
-abbrev pub DecisionsAskTheRow : Type 0
-DecisionsAskTheRow = (tr : Trace) (g : Gtrid) → Adds g (voted_yes (book_of tr) g) ≡ doubt_of_happening tr (Failed (InDecide g))
+-- where decisions to commit fail, the rows that the book says are in doubt are the rows that the history says
+abbrev pub DecisionsAskTheRows : Type 0
+DecisionsAskTheRows = (tr : Trace) (gs : List Gtrid) → Adds (rows_for (book_of tr) gs) ≡ doubt_of_happening tr (Failed (InDecide gs))
 
--- where a Done fails, its row
-abbrev pub DonesAskTheRow : Type 0
-DonesAskTheRow = (tr : Trace) (g : Gtrid) → Drops g ≡ doubt_of_happening tr (Failed (InDone g))
+-- where a Done of several fails, their rows
+abbrev pub DonesAskTheRows : Type 0
+DonesAskTheRows = (tr : Trace) (gs : List Gtrid) → Drops gs ≡ doubt_of_happening tr (Failed (InDone gs))
 
 -- where the answer that waits first isn't heard, the record that it makes
 abbrev pub AnswersAskTheRecord : Type 0

@@ -4,21 +4,24 @@ use Rattle.std.specs.BTreeMap.{BTreeMap, get}
 use Rattle.std.specs.Option.{option_map}
 use Rattle.std.specs.Ordering.{nat_cmp}
 use Rattle.std.specs.Global.{Vec}
+use Rattle.std.specs.List.{AllByRecursion}
 use Rattle.std.specs.Map.{keys_of}
 use Rattle.xa_base.specs.Branch.{gtrid_cmp, branch_cmp}
 use Rattle.xa_model.specs.Replies.History.{name_of}
+use Rattle.xa_base.specs.declared.step.Outcome.{Outcome}
 use Rattle.xa_base.specs.declared.step.Part.{Part}
-use Rattle.xa_model.specs.Trace.{Name, Happening.Crashed, line_of}
+use Rattle.xa_model.specs.Trace.{Name, Happening.Crashed, Happening.Decided, line_of}
 use Rattle.xa_base.specs.Xid.{Xid}
 use Rattle.xa_base.specs.declared.branch.Branch.{Branch}
 use Rattle.xa_base.specs.declared.branch.Gtrid.{Gtrid}
 use Rattle.xa_log.specs.Content.{last_number}
 use Rattle.xa_log.specs.Contract.{FitsRow}
 use Rattle.xa_log.specs.KeySet.{KeySet, from_list}
-use Rattle.xa_tm.specs.Book.{TransactionNotes, Notes, Doubt, Doubt.Adds, Doubt.Drops, Doubt.Records, Doubt.NoDoubt, Book, Waiting, breaks_in, row_with, recorded_with}
+use Rattle.xa_log.specs.declared.decision.Decision.{Decision}
+use Rattle.xa_tm.specs.Book.{TransactionNotes, Notes, Doubt, Doubt.Adds, Doubt.Drops, Doubt.Records, Doubt.NoDoubt, Book, Waiting, breaks_in, row_with, recorded_with, transaction_after}
 use Rattle.xa_tm.specs.Outcomes.{is_commit, is_rollback}
 use Rattle.xa_tm.specs.declared.change.Change.{Change}
-use Rattle.xa_tm.specs.declared.change.Change.TheVariants.{AddRow, DropRow, AddRecord, Nothing}
+use Rattle.xa_tm.specs.declared.change.Change.TheVariants.{AddRows, DropRows, AddRecord, Nothing}
 use Rattle.xa_tm.specs.declared.ledger.Ledger.{Ledger}
 use Rattle.xa_tm.specs.declared.notes.BranchNotes.{BranchNotes}
 use Rattle.xa_tm.specs.declared.notes.Transaction.{Transaction}
@@ -88,6 +91,11 @@ notes_of n = record {
   finished = n.is_finished;
 }
 
+-- what is noted of a transaction after these decisions
+abbrev pub decided_by : Book → Outcome → List Gtrid → Gtrid → TransactionNotes → TransactionNotes
+decided_by k o [] q d = d
+decided_by k o (g ∷ gs) q d = decided_by k o gs q (transaction_after k (Decided g o) q d)
+
 -- the keys of started branches
 abbrev pub started_keys : List (Branch × BranchNotes) → List Branch
 started_keys es = keys_of (filter (λ e. e.1.is_started) es)
@@ -108,9 +116,16 @@ names_at pages r = map name_of (unwrap_or (get nat_cmp pages r) [])
 abbrev pub off_line : Part → Branch → BranchNotes → BranchNotes
 off_line p b n = record n { is_on_line = not (breaks_in true (Crashed p) (line_of b)) && n.is_on_line }
 
+-- the row that a decision makes, and those of several
+abbrev pub decided_row : Decision → Gtrid × Waiting
+decided_row d = (d.gtrid, waiting_of d.participants)
+
+abbrev pub decided_rows : List Decision → List (Gtrid × Waiting)
+decided_rows ds = map decided_row ds
+
 abbrev pub doubt_of_change : Change → Doubt
-doubt_of_change (AddRow g v) = Adds g (waiting_of v)
-doubt_of_change (DropRow g) = Drops g
+doubt_of_change (AddRows v) = Adds (decided_rows v.items)
+doubt_of_change (DropRows g others) = Drops (g ∷ others.items)
 doubt_of_change (AddRecord b how) = Records b how
 doubt_of_change Nothing = NoDoubt
 
@@ -144,23 +159,37 @@ abbrev pub HasBranch : Ledger → Branch → Type 0
 HasBranch k b = IsSome (get branch_cmp k.branches b)
 
 -- what there was room for, there still is
-abbrev pub HasKept : (old new : BTreeMap Gtrid Transaction) → Type 0
+abbrev pub HasKept : {X : Type 0} → (old new : BTreeMap Gtrid X) → Type 0
 HasKept old new = (q : Gtrid) → IsSome (get gtrid_cmp old q) → IsSome (get gtrid_cmp new q)
 
 -- there is room for each of these
-abbrev pub HaveRoom : BTreeMap Gtrid Transaction → List Gtrid → Type 0
+abbrev pub HaveRoom : {X : Type 0} → BTreeMap Gtrid X → List Gtrid → Type 0
 HaveRoom m [] = Unit
 HaveRoom m (g ∷ gs) = IsSome (get gtrid_cmp m g) × HaveRoom m gs
 
--- there is room for a commit of the transaction and for its row
-pub record HasRoomForCommit (g : Gtrid) (k : Ledger) : Type 0 where
-  pub transaction : HasTransaction k g
-  pub row : IsSome (get gtrid_cmp k.rows g)
+-- there is room for decisions of these transactions, and for these rows
+pub record HasRoomForDecisions (gs written : List Gtrid) (k : Ledger) : Type 0 where
+  pub transactions : HaveRoom k.transactions gs
+  pub rows : HaveRoom k.rows written
+
+-- the same, and what there was room for, there still is
+pub record MakesRoomForDecisions (gs written : List Gtrid) (old new : Ledger) : Type 0 where
+  pub room : HasRoomForDecisions gs written new
+  pub kept : HasKept old.transactions new.transactions
+  pub rows_kept : HasKept old.rows new.rows
+
+-- the branches that a decision names are its transaction's
+abbrev pub NamesOwn : Decision → Type 0
+NamesOwn d = AllByRecursion (λ b. b.gtrid ≡ d.gtrid) d.participants.items
+
+-- the transactions of decisions
+abbrev pub gtrids_of : List Decision → List Gtrid
+gtrids_of ds = map (λ (d : Decision). d.gtrid) ds
 
 -- there is room for what a restart may find made
 abbrev pub HasRoomFor : Change → Ledger → Type 0
-HasRoomFor (AddRow g v) k = IsSome (get gtrid_cmp k.rows g)
-HasRoomFor (DropRow g) k = IsSome (get gtrid_cmp k.rows g)
+HasRoomFor (AddRows v) k = HaveRoom k.rows (gtrids_of v.items)
+HasRoomFor (DropRows g others) k = HaveRoom k.rows (g ∷ others.items)
 HasRoomFor (AddRecord b how) k = HasBranch k b
 HasRoomFor Nothing k = Unit
 

@@ -3,6 +3,7 @@ pub mod Book
 pub mod Counts
 pub mod LedgerBook
 pub mod Calls
+pub mod Concluding
 pub mod Laws
 pub mod Leaving
 pub mod Limits

@@ -1,5 +1,5 @@
 -- What bounds the numbers of a book: how much has happened, and what the start had.
-use Rattle.std.specs.Prelude.{ℕ, ◌+◌, ◌<◌, ◌≡◌, ◌≤◌, ◌⊎◌, List, length, Contains, Some, None}
+use Rattle.std.specs.Prelude.{ℕ, ◌+◌, ◌≡◌, ◌≤◌, ◌⊎◌, List, ◌∷◌, length, Contains, Some, None}
 use Rattle.xa_base.specs.Branch.{branch_of_xid}
 use Rattle.xa_model.specs.Replies.Allowed.{Restarts}
 use Rattle.xa_model.specs.Facts.Distinct.{ApartRows}
@@ -7,7 +7,7 @@ use Rattle.xa_model.specs.Facts.{held_of, heuristic_rows, incarnation, log, next
 use Rattle.xa_model.specs.Replies.History.{history}
 use Rattle.xa_model.specs.Protocol.{IsRun, Right, RightOrigin}
 use Rattle.xa_model.specs.Replies.Steps.{accepted}
-use Rattle.xa_model.specs.Trace.{Answer, Call, Happening, Happening.Restarted, Line, Origin, Trace, Trace.From, Trace.Then}
+use Rattle.xa_model.specs.Trace.{Answer, Call, Fault.InDecide, Happening, Happening.Failed, Happening.Restarted, Line, Origin, Trace, Trace.From, Trace.Then}
 use Rattle.xa_base.specs.Xid.{Xid}
 use Rattle.xa_base.specs.declared.branch.Branch.{Branch}
 use Rattle.xa_base.specs.declared.reply.Event.{Event}
@@ -21,10 +21,15 @@ use Rattle.xa_tm.specs.News.{Asked}
 use Rattle.xa_tm.specs.Starting.{IsOld}
 use Rattle.xa_tm.specs.BookAndLog.{IsFound}
 
+-- how much a happening counts: where the log fails that was to decide several transactions, as much as those
+abbrev pub counts_for : Happening → ℕ
+counts_for (Failed (InDecide (g ∷ gs))) = length gs + 1
+counts_for _ = 1
+
 -- how many things happened
 abbrev pub happenings : Trace → ℕ
 happenings (From o) = 0
-happenings (Then tr e) = happenings tr + 1
+happenings (Then tr e) = happenings tr + counts_for e
 
 -- a run has at most so many events
 abbrev pub most_events : ℕ
@@ -54,7 +59,7 @@ FitsIncarnation e = Unit
 
 -- one right happening more keeps a history within its limits
 abbrev pub LimitsAreKept : Type 0
-LimitsAreKept = (tr : Trace) (e : Happening) → IsWithinLimits tr → Right tr e → happenings tr < most_events
+LimitsAreKept = (tr : Trace) (e : Happening) → IsWithinLimits tr → Right tr e → happenings (Then tr e) ≤ most_events
     → FitsIncarnation e → IsWithinLimits (Then tr e)
 
 -- the book of a right history of at most 10,000 events is sound, where that of its start is

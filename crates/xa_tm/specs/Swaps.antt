@@ -1,5 +1,5 @@
 -- Whether the rows of a log that is put in are those of the book, without the change in doubt or with it.
-use Rattle.std.specs.Prelude.{ℕ, ◌+◌, Bool, true, false, not, ◌≡◌, ◌&&◌, ◌||◌, length, if◌then◌else◌, Option, Some, None, is_some, List, unwrap_or, nat_eq}
+use Rattle.std.specs.Prelude.{ℕ, ◌+◌, Bool, true, false, not, ◌≡◌, ◌&&◌, ◌||◌, length, if◌then◌else◌, Option, Some, None, is_some, List, [], ◌∷◌, unwrap_or, nat_eq}
 use Rattle.std.specs.Global.{Vec}
 use Rattle.std.specs.BTreeMap.{BTreeMap, get}
 use Rattle.std.specs.List.{list_all, list_any}
@@ -8,11 +8,13 @@ use Rattle.xa_base.specs.declared.branch.Branch.{Branch}
 use Rattle.xa_base.specs.declared.branch.Gtrid.{Gtrid}
 use Rattle.xa_base.specs.declared.code.How.{How}
 use Rattle.xa_base.specs.declared.code.How.TheVariants.{Haz, Com, Rb, Mix}
+use Rattle.xa_log.specs.declared.decision.Decision.{Decision}
 use Rattle.xa_log.specs.declared.log_rows.LogRows.{LogRows}
-use Rattle.xa_tm.specs.LedgerBook.{notes_at, as_book}
+use Rattle.xa_model.specs.Facts.{has_gtrid}
+use Rattle.xa_tm.specs.LedgerBook.{notes_at, as_book, gtrids_of}
 use Rattle.xa_tm.specs.Starting.{ended_among, loaded, start_book}
 use Rattle.xa_tm.specs.declared.change.Change.{Change}
-use Rattle.xa_tm.specs.declared.change.Change.TheVariants.{AddRow, DropRow, AddRecord, Nothing}
+use Rattle.xa_tm.specs.declared.change.Change.TheVariants.{AddRows, DropRows, AddRecord, Nothing}
 use Rattle.xa_tm.specs.declared.ledger.Ledger.{Ledger}
 use Rattle.xa_tm.specs.declared.notes.BranchNotes.{BranchNotes}
 
@@ -58,14 +60,20 @@ abbrev pub same_how : (own read : Option How) → Bool
 same_how own (Some h) = is_how own h
 same_how own None = not (is_some own)
 
+-- whether a row is what the first of these decisions on the transaction makes; where there is none, as is said
+abbrev pub decided_agrees : List Decision → Option (Vec Branch) → Gtrid → (same : Bool) → Bool
+decided_agrees [] read g same = same
+decided_agrees (d ∷ ds) read g same = if gtrid_eq d.gtrid g then names_just read d.participants.items else decided_agrees ds read g same
+
+-- whether a row is gone, where the transaction is one of these; where it isn't, as is said
+abbrev pub dropped_agrees : List Gtrid → Option (Vec Branch) → Gtrid → (same : Bool) → Bool
+dropped_agrees gs read g same = if has_gtrid gs g then not (is_some read) else same
+
 -- whether what is read of a transaction's row is what the book has, with its change in doubt or without it
 abbrev pub row_agrees_with : Change → (own : BTreeMap Gtrid (Option (Vec Branch))) → (read : BTreeMap Gtrid (Option (Vec Branch))) → Gtrid → Bool
-row_agrees_with (AddRow h v) own read g =
-    if gtrid_eq h g then names_just (kept_row read g) v.items && not (is_some (kept_row own g))
-    else same_row (kept_row own g) (kept_row read g)
-row_agrees_with (DropRow h) own read g =
-    if gtrid_eq h g then not (is_some (kept_row read g)) && is_some (kept_row own g)
-    else same_row (kept_row own g) (kept_row read g)
+row_agrees_with (AddRows v) own read g = decided_agrees v.items (kept_row read g) g (same_row (kept_row own g) (kept_row read g))
+row_agrees_with (DropRows h others) own read g =
+    dropped_agrees (h ∷ others.items) (kept_row read g) g (same_row (kept_row own g) (kept_row read g))
 row_agrees_with _ own read g = same_row (kept_row own g) (kept_row read g)
 
 abbrev pub row_agrees : (is_made : Bool) → (k n : Ledger) → Gtrid → Bool
@@ -82,10 +90,22 @@ abbrev pub end_agrees : (is_made : Bool) → (k n : Ledger) → Branch → Bool
 end_agrees true k n b = end_agrees_with k.doubt (notes_at k.branches b).recorded (notes_at n.branches b).recorded b
 end_agrees false k n b = same_how (notes_at k.branches b).recorded (notes_at n.branches b).recorded
 
--- and of what the change in doubt is of
+-- whether each of these transactions is so, and none comes twice
+abbrev pub each_once : (Gtrid → Bool) → List Gtrid → Bool
+each_once is_so [] = true
+each_once is_so (g ∷ gs) = is_so g && (not (has_gtrid gs g) && each_once is_so gs)
+
+abbrev pub lacks_row : Ledger → Gtrid → Bool
+lacks_row k g = not (is_some (kept_row k.rows g))
+
+abbrev pub keeps_row : Ledger → Gtrid → Bool
+keeps_row k g = is_some (kept_row k.rows g)
+
+-- and of what the change in doubt is of, which it can make
 abbrev pub change_agrees_with : Change → (k n : Ledger) → Bool
-change_agrees_with (AddRow g v) k n = row_agrees true k n g
-change_agrees_with (DropRow g) k n = row_agrees true k n g
+change_agrees_with (AddRows v) k n = each_once (lacks_row k) (gtrids_of v.items) && list_all (λ (d : Decision). row_agrees true k n d.gtrid) v.items
+change_agrees_with (DropRows g others) k n =
+    each_once (keeps_row k) (g ∷ others.items) && list_all (row_agrees true k n) (g ∷ others.items)
 change_agrees_with (AddRecord b how) k n = end_agrees true k n b
 change_agrees_with Nothing k n = false
 
@@ -95,8 +115,8 @@ change_agrees false k n = true
 
 -- and of the number of rows
 abbrev pub rows_agree_with : Change → (own read : ℕ) → Bool
-rows_agree_with (AddRow g v) own read = nat_eq read (own + 1)
-rows_agree_with (DropRow g) own read = nat_eq (read + 1) own
+rows_agree_with (AddRows v) own read = nat_eq read (own + length v.items)
+rows_agree_with (DropRows g others) own read = nat_eq (read + (length others.items + 1)) own
 rows_agree_with _ own read = nat_eq read own
 
 abbrev pub records_agree_with : Change → (own read : ℕ) → Bool

@@ -7,9 +7,9 @@ ghost use Rattle.xa_log.specs.Content.{with_bump};
 ghost use Rattle.xa_log.specs.Contract.{LeavesAlso};
 ghost use Rattle.xa_tm.specs.Book.{Book, Doubt, Doubt.NoDoubt, after, book_after, failed_restarts_after};
 ghost use Rattle.xa_tm.specs.Leaving.{IsLeft};
-ghost use Rattle.xa_tm.specs.BookAndLog.{IsTied, changed_by};
+ghost use Rattle.xa_tm.specs.BookAndLog.{IsChangeOf, IsTied, changed_by};
 ghost use Rattle.xa_tm.specs.Laws.{AnswersAskTheRecord, BooksFollowHistories, BranchesAreCounted};
-ghost use Rattle.xa_tm.specs.Laws.{DecisionsAskTheRow, DonesAskTheRow, DropsAreOne, DroppedRowsAreThere};
+ghost use Rattle.xa_tm.specs.Laws.{DecisionsAskTheRows, DonesAskTheRows, DoubtsAreOfRows, DropsAreCounted, DroppedRowsAreThere};
 ghost use Rattle.xa_tm.specs.Laws.{ManagersRefusalsAreAll, OpenHasNoRow, OpenResolvesAreRead};
 ghost use Rattle.xa_tm.specs.Laws.{RecoveriesCloseNone, RefusalsAreRead, ResolvesAreRead, RightBooksFollow};
 ghost use Rattle.xa_tm.specs.Laws.{RowsAreCounted, SettlementsAreCounted, StartRowsAreApart, VotesAreCounted};
@@ -34,12 +34,14 @@ pub fn books_follow_histories()
 /// The rows of a right history over a start whose rows are of different transactions are counted:
 ///
 /// - `counted`: a Done takes one row away, and a restart tells the numbers of the rows that are there;
-/// - `there`: a row whose removal is in doubt is there;
-/// - `one`: and its removal takes one row away.
+/// - `there`: rows whose removal is in doubt are there, each of another transaction;
+/// - `drops`: and their removal takes so many rows away;
+/// - `doubt`: the change in doubt is one of these rows: those that it adds are not there, those that it takes away are.
 pub fn rows_are_counted()
     ensures counted { RowsAreCounted }
     ensures there { DroppedRowsAreThere }
-    ensures one { DropsAreOne }
+    ensures drops { DropsAreCounted }
+    ensures doubt { DoubtsAreOfRows }
 {}
 
 /// The numbers of a transaction that the book keeps are those of a count over its branches: of all (`branches`), of
@@ -75,12 +77,12 @@ pub fn answers_can_be_heard()
     ensures fits { RecordsFit }
 {}
 
-/// What the manager asks its log for, and what is in doubt where the log fails, is what the history says: the row of a
-/// decision with its participants (`decide`), the row that a Done takes away (`done`), the record of the answer that
+/// What the manager asks its log for, and what is in doubt where the log fails, is what the history says: the rows of
+/// decisions with their participants (`decide`), the rows that a Done takes away (`done`), the record of the answer that
 /// waits first (`hear`).
 pub fn log_is_asked()
-    ensures decide { DecisionsAskTheRow }
-    ensures done { DonesAskTheRow }
+    ensures decide { DecisionsAskTheRows }
+    ensures done { DonesAskTheRows }
     ensures hear { AnswersAskTheRecord }
 {}
 
@@ -123,7 +125,7 @@ pub fn starts_are_histories()
 /// and, of a near log, an incarnation that a restart may follow:
 ///
 /// - `up`: while the manager is up, of a log in order that is tied to the book;
-/// - `fault`: after a failure of the log in a call that asked it for one change;
+/// - `fault`: after a failure of the log in a call that asked it for one change, which is one of the book's rows;
 /// - `restart`: after a failed restart, if it was so before;
 /// - `crash`: after the crash of a part, if it was so before.
 pub fn crashes_leave_the_book<L: DecisionLog>()
@@ -131,7 +133,7 @@ pub fn crashes_leave_the_book<L: DecisionLog>()
         IsTied near k (L.moment log).content →
         IsLeft near k (L.moment log).may_leave }
     ensures fault { (near : Bool) (k : Book) (asked : Doubt) (f : Fault) (old new : L) →
-        k.up ≡ true →
+        k.up ≡ true → IsChangeOf k.row asked →
         failed_restarts_after (Failed f) k.failed_restarts ≡ k.failed_restarts →
         (L.moment old).is_in_order → IsTied near k (L.moment old).content →
         LeavesAlso (changed_by asked) (L.moment old).content (L.moment old).may_leave

@@ -4,12 +4,14 @@ ghost use Rattle.std.specs.Prelude.{true, false, ◌≡◌, ◌<◌, ◌-◌, �
 ghost use Rattle.xa_base.specs.declared.call.Call.TheVariants as Calls;
 ghost use Rattle.xa_model.specs.Trace.{Happening.Begun, Happening.Claimed, Happening.Issued, Line};
 ghost use Rattle.xa_tm.specs.Book.{after, is_settled_in};
-ghost use Rattle.xa_tm.specs.LedgerBook.{HasBranch, HasTransaction, as_book, known_in, notes_at};
+ghost use Rattle.xa_tm.specs.LedgerBook.{HasBranch, HasKept, HasTransaction, as_book, known_in, notes_at};
 ghost use Rattle.xa_tm.specs.LedgerBook.{numbered_by, transaction_at};
 
 mod compare;
 mod crash;
 mod decide;
+mod decide_all;
+mod done_all;
 mod hear;
 mod issue;
 pub(crate) mod load;
@@ -173,6 +175,7 @@ impl Ledger {
         ensures same { (q : _) →
             transaction_at self.new.transactions q ≡ transaction_at self.old.transactions q }
         ensures room { OnOk result (HasTransaction self.new g) }
+        ensures kept { HasKept self.old.transactions self.new.transactions }
     {
         reserve_transaction(&mut self.transactions, g)
     }

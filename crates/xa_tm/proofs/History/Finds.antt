@@ -1,22 +1,26 @@
 -- What a restart finds is what the history says.
-use Rattle.std.proofs.Common.{◌≡◌, ◌≢◌, ◌⊎◌, inl, inr, ◌+◌, ℕ, Bool, true, false, ◌∷◌, length, refl, sym, ◌∙◌, arith}
+use Rattle.std.proofs.Common.{◌≡◌, ◌≢◌, ◌⊎◌, inl, inr, ◌+◌, ℕ, Bool, true, false, ◌∷◌, length, refl, sym, ◌∙◌, length-append, arith}
+use Rattle.std.proofs.lemmas.List.{length-map}
 use Rattle.std.specs.Prelude.{if◌then◌else◌, is_some, nat_eq}
 use Rattle.std.proofs.lemmas.Bool.Decides.{eqb_tells}
 use Rattle.xa_base.specs.declared.reply.Reply.TheVariants as Replies
 use Rattle.xa_model.specs.Replies.Allowed.{Restarts, Restarts.Restarts_as}
 use Rattle.xa_model.specs.Facts.Distinct.{ApartRows}
-use Rattle.xa_model.specs.Facts.{Change, Change.AddRecord, Change.AddRow, Change.DropRow, Change.NoChange, doubt, has_record, heuristic_rows, heuristics_changed, how_in, log, origin, rows_changed}
+use Rattle.xa_model.specs.Facts.{Change, Change.AddRecord, Change.AddRows, Change.DropRows, Change.NoChange, doubt, has_record, heuristic_rows, heuristics_changed, how_in, log, origin, rows_changed}
 use Rattle.xa_model.specs.Protocol.{IsRun}
 use Rattle.xa_model.specs.Trace.{Happening.Restarted, Recorded, Trace, Trace.Then}
-use Rattle.xa_tm.specs.Book.{book_of, doubt_of, records_with}
+use Rattle.xa_tm.specs.Book.{book_of, doubt_of, records_with, waiting_row}
 use Rattle.xa_tm.specs.BookAndLog.{IsFound, rows_of}
 use Rattle.xa_tm.proofs.History.OneMore.{has_record_is}
-use Rattle.xa_tm.proofs.History.RowCounts.{drops_one}
+use Rattle.xa_tm.proofs.History.RowCounts.{drops_counted}
 
 module _ (tr : Trace) (right : IsRun tr) (apart : ApartRows (origin tr).rows) where
   rows_len : (c : Change) → doubt tr ≡ c → rows_of (doubt_of c) (length (log tr)) ≡ length (rows_changed c (log tr))
-  rows_len (AddRow x) e = omega arith
-  rows_len (DropRow g) e = sym (drops_one tr g right apart e)
+  rows_len (AddRows xs) e =
+      let long = length-map xs waiting_row in
+      let both = length-append xs (log tr) in
+      omega (arith, long, both)
+  rows_len (DropRows gs) e = sym (drops_counted tr gs right apart e)
   rows_len (AddRecord x) e = refl
   rows_len NoChange e = refl
 
@@ -28,8 +32,8 @@ module _ (tr : Trace) (right : IsRun tr) (apart : ApartRows (origin tr).rows) wh
   one_record x false true e = absurd (cc)
 
   records_len : (c : Change) → records_with (book_of tr) (doubt_of c) (length (heuristic_rows tr)) ≡ length (heuristics_changed c (heuristic_rows tr))
-  records_len (AddRow x) = refl
-  records_len (DropRow g) = refl
+  records_len (AddRows xs) = refl
+  records_len (DropRows gs) = refl
   records_len (AddRecord x) =
       one_record x (is_some (how_in (heuristic_rows tr) x.branch)) (has_record (heuristic_rows tr) x.branch) (has_record_is (heuristic_rows tr) x.branch)
   records_len NoChange = refl

@@ -1,32 +1,39 @@
 -- The book of a right history is sound: its numbers are bounded by how much happened.
-use Rattle.std.proofs.Common.{◌≡◌, ◌≤◌, ◌<◌, ◌+◌, ◌-◌, ◌^◌, ◌==◌, ℕ, suc, List, [], ◌∷◌, length, map, Bool, true, false, not, ◌&&◌, ◌||◌, ◌⊎◌, inl, inr, refl, sym, ap, ◌∙◌, subst, arith}
-use Rattle.std.specs.Prelude.{if◌then◌else◌, Contains, IsSome, None}
+use Rattle.std.proofs.Common.{◌≡◌, ◌≤◌, ◌<◌, ◌+◌, ◌-◌, ◌^◌, ◌==◌, ℕ, suc, List, [], ◌∷◌, length, map, Bool, true, false, not, ◌&&◌, ◌||◌, ◌⊎◌, inl, inr, refl, sym, ap, ◌∙◌, subst, length-append, arith}
+use Rattle.std.proofs.lemmas.List.{length-map}
+use Rattle.std.specs.Prelude.{if◌then◌else◌, Contains, IsSome, Option, Some, None}
 use Rattle.std.proofs.lemmas.Bool.{and_parts}
 use Rattle.xa_base.specs.declared.branch.Branch.{Branch}
 use Rattle.xa_base.specs.declared.branch.Gtrid.{Gtrid}
 use Rattle.xa_base.specs.declared.call.Call.TheVariants as Calls
+use Rattle.xa_base.specs.declared.refusal.Refusal.{Refusal}
+use Rattle.xa_base.specs.declared.refusal.Refusal.TheVariants as Refusals
 use Rattle.xa_base.specs.declared.reply.Event.{Event}
+use Rattle.xa_base.specs.declared.reply.Reply.TheVariants as Replies
+use Rattle.xa_base.specs.declared.step.Side.TheVariants as Side
+use Rattle.xa_base.specs.declared.step.Step.TheVariants as Steps
 use Rattle.xa_base.specs.declared.state.Standing.TheVariants.{Unstarted}
 use Rattle.xa_base.specs.declared.step.Outcome.TheVariants as Outcome
 use Rattle.xa_base.specs.declared.step.Part.TheVariants as Part
 use Rattle.xa_base.specs.Branch.{branch_eq, branch_of_xid, gtrid_eq}
 use Rattle.xa_model.specs.Replies.Allowed.{failed_restarts, with_steps}
-use Rattle.xa_model.specs.Facts.{Change, Change.AddRow, Change.DropRow, Change.AddRecord, Change.NoChange, adds_row, begun, doubt, fault_change, had_row, has_record, held_of, heuristic_rows, heuristics_changed, incarnation, lists_row, live, log, next_answer, origin, record_of, record_of_next, row_for, rows_changed, says_yes_in, sequence, started, was_told, up, without, begins, has_voted}
+use Rattle.xa_model.specs.Facts.{Change, Change.AddRows, Change.DropRows, Change.AddRecord, Change.NoChange, adds_row, begun, doubt, fault_change, had_row, has_record, held_of, heuristic_rows, heuristics_changed, incarnation, lists_row, live, log, next_answer, origin, record_of, record_of_next, row_for, rows_changed, says_yes_in, sequence, started, was_told, up, without, without_each, begins, has_voted}
 use Rattle.xa_model.specs.Replies.History.{history, read}
-use Rattle.xa_model.specs.Protocol.{IsRun, Right, RightFault, RightOrigin}
-use Rattle.xa_model.specs.Replies.Steps.{Reply, Step, happened}
-use Rattle.xa_model.specs.Trace.{Fault, Fault.InDecide, Fault.InHear, Fault.InRestart, Happening, Happening.Begun, Happening.Crashed, Happening.Decided, Happening.Done, Happening.Failed, Happening.Heard, Happening.Issued, Happening.Restarted, Origin, Recorded, Row, Trace, Trace.From, Trace.Then}
+use Rattle.xa_model.specs.Protocol.{IsRun, Right, RightFault, RightOrigin, RightRow}
+use Rattle.xa_model.specs.Replies.Steps.{Reply, Step, accepted, call_issued, decided, happened, if_ours, log_failed, noted, refused, resolved}
+use Rattle.xa_model.specs.Trace.{Call, Fault, Fault.InDecide, Fault.InHear, Fault.InRestart, Name.Foreign, Name.Ours, line, Happening, Happening.Begun, Happening.Crashed, Happening.Decided, Happening.Done, Happening.Failed, Happening.Heard, Happening.Issued, Happening.Restarted, Origin, Recorded, Row, Trace, Trace.From, Trace.Then}
 use Rattle.xa_base.specs.Xid.{Xid}
 use Rattle.xa_model.proofs.Invariant.{Inv, Old}
 use Rattle.xa_base.proofs.BranchKeys.{branch_eq-true, gtrid_eq-true}
 use Rattle.xa_model.proofs.Invariant.Preservation.{run_always}
+use Rattle.xa_model.proofs.Invariant.RowLists.{each_is, rows_made}
 use Rattle.xa_model.proofs.Invariant.Rows.{NewRow, NewRow.Had, NewRow.By_decision, NewRow.By_restart, rowed_new}
 use Rattle.xa_log.specs.Content.{last_number}
 use Rattle.xa_log.specs.Contract.{FitsRow}
 use Rattle.xa_tm.specs.Book.{book_of, row_in}
 use Rattle.xa_tm.specs.Counts.{branch_count, is_counted, counts_as_settled, is_unsettled, lacks_vote, settler, unsettled, unvoted, voter}
 use Rattle.xa_tm.specs.LedgerBook.{IsSound}
-use Rattle.xa_tm.specs.Limits.{FitsIncarnation, HasRoomForRun, IsWithinLimits, happenings, most_events}
+use Rattle.xa_tm.specs.Limits.{FitsIncarnation, counts_for, HasRoomForRun, IsWithinLimits, happenings, most_events}
 use Rattle.xa_tm.specs.Starting.{IsOld}
 use Rattle.xa_tm.proofs.History.Refusals.{has_row_is, recorded_is}
 use Rattle.xa_tm.proofs.History.RowCounts.{next_or_none}
@@ -34,9 +41,70 @@ use Rattle.xa_tm.proofs.History.Soundness.{no_row}
 
 -- ** events
 
+-- a step counts once
+ours_counts : (happening : Call → Happening) → ((c : Call) → counts_for (happening c) ≡ 1) → (c : Option Call) → counts_for (if_ours happening c) ≡ 1
+ours_counts happening one (Some c) = one c
+ours_counts happening one None = refl
+
+fault_counts : (s : Step) → counts_for (log_failed s) ≡ 1
+fault_counts (Steps.Decide g o) = refl
+fault_counts (Steps.Settle g) = refl
+fault_counts (Steps.Done g) = refl
+fault_counts (Steps.Hear t r) = refl
+fault_counts (Steps.Restart Side.Manager) = refl
+fault_counts (Steps.Resolve r) = refl
+fault_counts (Steps.ResolveOpen r) = refl
+fault_counts _ = refl
+
+refused_counts : (n : Refusal) (s : Step) → counts_for (refused n s) ≡ 1
+refused_counts Refusals.LogFault s = fault_counts s
+refused_counts _ s = refl
+
+issued_counts : (s : Step) → counts_for (call_issued s) ≡ 1
+issued_counts (Steps.Issue t r c) = ours_counts (Happening.Issued (line t r)) (λ c. refl) (accepted c)
+issued_counts (Steps.Recover r n start end) = refl
+issued_counts _ = refl
+
+noted_counts : (s : Step) → counts_for (noted s) ≡ 1
+noted_counts (Steps.Vote r (Ours b) v) = refl
+noted_counts (Steps.Vote r (Foreign x) v) = refl
+noted_counts (Steps.Busy r (Ours b) n) = refl
+noted_counts (Steps.Busy r (Foreign x) n) = refl
+noted_counts (Steps.Heuristic r (Ours b) how) = refl
+noted_counts (Steps.Heuristic r (Foreign x) how) = refl
+noted_counts (Steps.Done g) = refl
+noted_counts _ = refl
+
+decided_counts : (s : Step) → counts_for (decided s) ≡ 1
+decided_counts (Steps.Decide g o) = refl
+decided_counts (Steps.Settle g) = refl
+decided_counts (Steps.Abandon g) = refl
+decided_counts _ = refl
+
+resolved_counts : (s : Step) → counts_for (resolved s) ≡ 1
+resolved_counts (Steps.Resolve r) = refl
+resolved_counts (Steps.ResolveOpen r) = refl
+resolved_counts _ = refl
+
+step_counts : (s : Step) (r : Reply) → counts_for (happened s r) ≡ 1
+step_counts s (Replies.Refused n) = refused_counts n s
+step_counts s Replies.Issued = issued_counts s
+step_counts s Replies.Noted = noted_counts s
+step_counts s Replies.Decided = decided_counts s
+step_counts s (Replies.Resolved n) = resolved_counts s
+step_counts (Steps.Begin t) (Replies.Begun g) = refl
+step_counts (Steps.Take t r) (Replies.Took c a) = ours_counts (λ d. Happening.Took (line t r) d a) (λ d. refl) (accepted c)
+step_counts (Steps.Hear t r) (Replies.Heard c a) = ours_counts (λ d. Happening.Heard (line t r) d a) (λ d. refl) (accepted c)
+step_counts (Steps.Claim g) Replies.Claimed = refl
+step_counts (Steps.Crash p) Replies.Crashed = refl
+step_counts (Steps.Restart (Side.Rm r)) Replies.RmRestarted = refl
+step_counts (Steps.Restart Side.Manager) (Replies.Restarted i d h) = refl
+step_counts _ _ = refl
+
 steps_happen : (tr : Trace) (xs : List (Step × Reply)) → happenings (with_steps tr xs) ≡ happenings tr + length xs
 steps_happen tr [] = omega arith
-steps_happen tr (x ∷ xs) = let rest = steps_happen (Then tr (happened x.0 x.1)) xs in rest ∙ omega arith
+steps_happen tr (x ∷ xs) =
+    let rest = steps_happen (Then tr (happened x.0 x.1)) xs in let one = step_counts x.0 x.1 in rest ∙ omega (arith, one)
 
 as_many : (events : List Event) → length (map read events) ≡ length events
 as_many [] = refl
@@ -72,28 +140,28 @@ one_down : (t : Bool) (n m : ℕ) → n ≤ m → (if t then n - 1 else n) ≤ m
 one_down true n m h = omega (arith, h)
 one_down false n m h = omega (arith, h)
 
-as_before : (n m : ℕ) → n ≤ m → n ≤ m + 1
-as_before n m h = omega (arith, h)
+as_before : (n m w : ℕ) → n ≤ m → n ≤ m + w
+as_before n m w h = omega (arith, h)
 
 branches_few : (tr : Trace) (g : Gtrid) → branch_count tr g ≤ happenings tr
 branches_few (From o) g = omega arith
 branches_few (Then tr (Issued l (Calls.Start b false))) g = one_up (gtrid_eq b.gtrid g) _ _ (branches_few tr g)
 branches_few (Then tr (Issued l (Calls.Start b true))) g = one_up (gtrid_eq b.gtrid g) _ _ (branches_few tr g)
-branches_few (Then tr _) g = as_before _ _ (branches_few tr g)
+branches_few (Then tr _) g = as_before _ _ _ (branches_few tr g)
 
 unvoted_few : (tr : Trace) (g : Gtrid) → unvoted tr g ≤ happenings tr
 unvoted_few (From o) g = omega arith
 unvoted_few (Then tr (Issued l (Calls.Start b false))) g = one_up (gtrid_eq b.gtrid g && not (has_voted tr b)) _ _ (unvoted_few tr g)
 unvoted_few (Then tr (Issued l (Calls.Start b true))) g = one_up (gtrid_eq b.gtrid g && not (has_voted tr b)) _ _ (unvoted_few tr g)
 unvoted_few (Then tr (Heard l c a)) g = one_down (is_counted (lacks_vote tr) g (voter c a)) _ _ (unvoted_few tr g)
-unvoted_few (Then tr _) g = as_before _ _ (unvoted_few tr g)
+unvoted_few (Then tr _) g = as_before _ _ _ (unvoted_few tr g)
 
 unsettled_few : (tr : Trace) (g : Gtrid) → unsettled tr g ≤ happenings tr
 unsettled_few (From o) g = omega arith
 unsettled_few (Then tr (Issued l (Calls.Start b false))) g = one_up (gtrid_eq b.gtrid g && not (counts_as_settled tr b)) _ _ (unsettled_few tr g)
 unsettled_few (Then tr (Issued l (Calls.Start b true))) g = one_up (gtrid_eq b.gtrid g && not (counts_as_settled tr b)) _ _ (unsettled_few tr g)
 unsettled_few (Then tr (Heard l c a)) g = one_down (is_counted (is_unsettled tr) g (settler c a)) _ _ (unsettled_few tr g)
-unsettled_few (Then tr _) g = as_before _ _ (unsettled_few tr g)
+unsettled_few (Then tr _) g = as_before _ _ _ (unsettled_few tr g)
 
 -- ** numbers of rows
 
@@ -105,11 +173,20 @@ without_fewer g (x ∷ xs) = by (gtrid_eq x.gtrid g) (without_fewer g xs)
     by true h = omega (arith, h)
     by false h = omega (arith, h)
 
-changed_few : (c : Change) (xs : List Row) (n : ℕ) → length xs ≤ n → length (rows_changed c xs) ≤ n + 1
-changed_few (AddRow x) xs n h = omega (arith, h)
-changed_few (DropRow g) xs n h = let less = without_fewer g xs in omega (arith, h, less)
-changed_few (AddRecord x) xs n h = omega (arith, h)
-changed_few NoChange xs n h = omega (arith, h)
+without_each_fewer : (gs : List Gtrid) (xs : List Row) → length (without_each gs xs) ≤ length xs
+without_each_fewer [] xs = omega arith
+without_each_fewer (g ∷ gs) xs = let rest = without_each_fewer gs (without g xs) in let less = without_fewer g xs in omega (arith, rest, less)
+
+-- how many rows a change adds
+abbrev adds : Change → ℕ
+adds (AddRows xs) = length xs
+adds _ = 0
+
+changed_few : (c : Change) (xs : List Row) → length (rows_changed c xs) ≤ length xs + adds c
+changed_few (AddRows ys) xs = let both = length-append ys xs in omega (arith, both)
+changed_few (DropRows gs) xs = let less = without_each_fewer gs xs in omega (arith, less)
+changed_few (AddRecord x) xs = omega arith
+changed_few NoChange xs = omega arith
 
 recorded_few : (c : Change) (xs : List Recorded) (n : ℕ) → length xs ≤ n → length (heuristics_changed c xs) ≤ n + 1
 recorded_few (AddRecord x) xs n h = by (has_record xs x.branch)
@@ -117,29 +194,50 @@ recorded_few (AddRecord x) xs n h = by (has_record xs x.branch)
     by : (t : Bool) → length (if t then xs else x ∷ xs) ≤ n + 1
     by true = omega (arith, h)
     by false = omega (arith, h)
-recorded_few (AddRow x) xs n h = omega (arith, h)
-recorded_few (DropRow g) xs n h = omega (arith, h)
+recorded_few (AddRows ys) xs n h = omega (arith, h)
+recorded_few (DropRows gs) xs n h = omega (arith, h)
 recorded_few NoChange xs n h = omega (arith, h)
 
 shifted : (n a m : ℕ) → n ≤ a + m + 1 → n ≤ a + (m + 1)
 shifted n a m h = omega (arith, h)
 
-rows_few : (tr : Trace) → length (log tr) ≤ length (origin tr).rows + happenings tr
-rows_few (From o) = omega arith
-rows_few (Then tr (Decided g Outcome.Commit)) = by (was_told tr (says_yes_in g)) (rows_few tr)
+fault_adds : (tr : Trace) (f : Fault) → adds (fault_change tr f) ≤ counts_for (Failed f)
+fault_adds tr (InDecide []) = omega arith
+fault_adds tr (InDecide (g ∷ gs)) = let long = length-map gs (row_for tr) in omega (arith, long)
+fault_adds tr (InHear l) = by (next_or_none (next_answer tr l))
   where
-    by : (t : Bool) → length (log tr) ≤ length (origin tr).rows + happenings tr
-        → length (if t then row_for tr g ∷ log tr else log tr) ≤ length (origin tr).rows + (happenings tr + 1)
+    by : ((x : Recorded) × (record_of_next (next_answer tr l) ≡ AddRecord x)) ⊎ (record_of_next (next_answer tr l) ≡ NoChange)
+        → adds (record_of_next (next_answer tr l)) ≤ 1
+    by (inl w) = let none : adds (record_of_next (next_answer tr l)) ≡ 0 = ap adds w.1 in omega (arith, none)
+    by (inr w) = let none : adds (record_of_next (next_answer tr l)) ≡ 0 = ap adds w in omega (arith, none)
+fault_adds tr _ = omega arith
+
+-- with those that are in doubt
+rows_and_doubt : (tr : Trace) → length (log tr) + adds (doubt tr) ≤ length (origin tr).rows + happenings tr
+rows_and_doubt (From o) = omega arith
+rows_and_doubt (Then tr (Decided g Outcome.Commit)) = by (was_told tr (says_yes_in g)) (rows_and_doubt tr)
+  where
+    by : (t : Bool) → length (log tr) + adds (doubt tr) ≤ length (origin tr).rows + happenings tr
+        → length (if t then row_for tr g ∷ log tr else log tr) + adds (doubt tr) ≤ length (origin tr).rows + (happenings tr + 1)
     by true h = omega (arith, h)
     by false h = omega (arith, h)
-rows_few (Then tr (Done g)) = let less = without_fewer g (log tr) in let h = rows_few tr in omega (arith, less, h)
-rows_few (Then tr (Restarted i d n)) = by (d == length (log tr)) (rows_few tr)
+rows_and_doubt (Then tr (Done g)) = let less = without_fewer g (log tr) in let h = rows_and_doubt tr in omega (arith, less, h)
+rows_and_doubt (Then tr (Failed f)) = by (up tr) (rows_and_doubt tr)
   where
-    by : (t : Bool) → length (log tr) ≤ length (origin tr).rows + happenings tr
-        → length (if t then log tr else rows_changed (doubt tr) (log tr)) ≤ length (origin tr).rows + (happenings tr + 1)
+    by : (t : Bool) → length (log tr) + adds (doubt tr) ≤ length (origin tr).rows + happenings tr
+        → length (log tr) + adds (if t then fault_change tr f else doubt tr) ≤ length (origin tr).rows + (happenings tr + counts_for (Failed f))
+    by true h = let few = fault_adds tr f in omega (arith, h, few)
+    by false h = omega (arith, h)
+rows_and_doubt (Then tr (Restarted i d n)) = by (d == length (log tr)) (rows_and_doubt tr)
+  where
+    by : (t : Bool) → length (log tr) + adds (doubt tr) ≤ length (origin tr).rows + happenings tr
+        → length (if t then log tr else rows_changed (doubt tr) (log tr)) + 0 ≤ length (origin tr).rows + (happenings tr + 1)
     by true h = omega (arith, h)
-    by false h = shifted _ (length (origin tr).rows) (happenings tr) (changed_few (doubt tr) (log tr) _ h)
-rows_few (Then tr _) = let h = rows_few tr in omega (arith, h)
+    by false h = let few = changed_few (doubt tr) (log tr) in omega (arith, h, few)
+rows_and_doubt (Then tr _) = let h = rows_and_doubt tr in omega (arith, h)
+
+rows_few : (tr : Trace) → length (log tr) ≤ length (origin tr).rows + happenings tr
+rows_few tr = let h = rows_and_doubt tr in omega (arith, h)
 
 records_few : (tr : Trace) → length (heuristic_rows tr) ≤ length (origin tr).heuristic_rows + happenings tr
 records_few (From o) = omega arith
@@ -165,11 +263,11 @@ begun_fits (Then tr (Begun h)) g e r = by (gtrid_eq h g) refl e (λ k. begun_fit
         let few = begins_few tr in
         let cover = begins_cover tr in
         omega (arith, at, few, cover)
-    by false is e rest = as_before _ _ (rest e)
+    by false is e rest = as_before _ _ _ (rest e)
 begun_fits (Then tr (Crashed Part.Manager)) g e r = absurd (cc)
 begun_fits (Then tr (Failed f)) g e r = absurd (cc)
 begun_fits (Then tr (Restarted i d h)) g e r = absurd (cc)
-begun_fits (Then tr _) g e r = as_before _ _ (begun_fits tr g e r.0)
+begun_fits (Then tr _) g e r = as_before _ _ _ (begun_fits tr g e r.0)
 
 live_fits : (tr : Trace) (g : Gtrid) → IsRun tr → live tr g ≡ true → g.sequence ≤ happenings tr
 live_fits tr g r l = begun_fits tr g (and_parts _ _ l).0 r
@@ -181,21 +279,21 @@ started_fits (Then tr (Issued l (Calls.Start c false))) b e r = by (branch_eq c 
     by : (t : Bool) → branch_eq c b ≡ t → (t || started tr b) ≡ true → (started tr b ≡ true → b.gtrid.sequence ≤ happenings tr)
         → b.gtrid.sequence ≤ happenings tr + 1
     by true is e rest =
-        as_before _ _ (subst (λ (x : Branch). x.gtrid.sequence ≤ happenings tr) (branch_eq-true c b is) (live_fits tr c.gtrid r.0 r.1.1.may_be.1.is_live))
-    by false is e rest = as_before _ _ (rest e)
+        as_before _ _ _ (subst (λ (x : Branch). x.gtrid.sequence ≤ happenings tr) (branch_eq-true c b is) (live_fits tr c.gtrid r.0 r.1.1.may_be.1.is_live))
+    by false is e rest = as_before _ _ _ (rest e)
 started_fits (Then tr (Issued l (Calls.Start c true))) b e r = by (branch_eq c b) refl e (λ k. started_fits tr b k r.0)
   where
     by : (t : Bool) → branch_eq c b ≡ t → (t || started tr b) ≡ true → (started tr b ≡ true → b.gtrid.sequence ≤ happenings tr)
         → b.gtrid.sequence ≤ happenings tr + 1
     by true is e rest =
-        as_before _ _ (subst (λ (x : Branch). x.gtrid.sequence ≤ happenings tr) (branch_eq-true c b is) (live_fits tr c.gtrid r.0 r.1.1.may_be.1.is_live))
-    by false is e rest = as_before _ _ (rest e)
-started_fits (Then tr _) b e r = as_before _ _ (started_fits tr b e r.0)
+        as_before _ _ _ (subst (λ (x : Branch). x.gtrid.sequence ≤ happenings tr) (branch_eq-true c b is) (live_fits tr c.gtrid r.0 r.1.1.may_be.1.is_live))
+    by false is e rest = as_before _ _ _ (rest e)
+started_fits (Then tr _) b e r = as_before _ _ _ (started_fits tr b e r.0)
 
 -- ** rows fit the log
 
 fault_fits : (tr : Trace) (f : Fault) (g : Gtrid) → IsRun tr → RightFault tr f → adds_row (fault_change tr f) g ≡ true → g.sequence ≤ happenings tr
-fault_fits tr (InDecide h) g r right e = subst (λ (x : Gtrid). x.sequence ≤ happenings tr) (gtrid_eq-true h g e) (live_fits tr h r right.0.is_live)
+fault_fits tr (InDecide gs) g r right e = live_fits tr g r (each_is (RightRow tr) gs right g (sym (rows_made tr gs g) ∙ e)).0.is_live
 fault_fits tr (InHear l) g r right e = by (next_or_none (next_answer tr l))
   where
     by : ((x : Recorded) × (record_of_next (next_answer tr l) ≡ AddRecord x)) ⊎ (record_of_next (next_answer tr l) ≡ NoChange) → g.sequence ≤ happenings tr
@@ -208,23 +306,23 @@ doubt_fits (From o) g r e = absurd (cc)
 doubt_fits (Then tr (Failed f)) g r e = by (up tr) (λ k. doubt_fits tr g r.0 k) e
   where
     by : (t : Bool) → (adds_row (doubt tr) g ≡ true → g.sequence ≤ happenings tr)
-        → adds_row (if t then fault_change tr f else doubt tr) g ≡ true → g.sequence ≤ happenings tr + 1
-    by true before k = as_before _ _ (fault_fits tr f g r.0 r.1 k)
-    by false before k = as_before _ _ (before k)
+        → adds_row (if t then fault_change tr f else doubt tr) g ≡ true → g.sequence ≤ happenings (Then tr (Failed f))
+    by true before k = as_before _ _ _ (fault_fits tr f g r.0 r.1 k)
+    by false before k = as_before _ _ _ (before k)
 doubt_fits (Then tr (Restarted i d h)) g r e = absurd (cc)
-doubt_fits (Then tr _) g r e = as_before _ _ (doubt_fits tr g r.0 e)
+doubt_fits (Then tr _) g r e = as_before _ _ _ (doubt_fits tr g r.0 e)
 
 -- a row is of the start, or of a transaction that was begun since
 pub row_fits : (tr : Trace) (g : Gtrid) → IsRun tr → had_row tr g ≡ true → (lists_row (origin tr).rows g ≡ true) ⊎ (g.sequence ≤ happenings tr)
 row_fits (From o) g r h = inl h
 row_fits (Then tr e) g r h = by (rowed_new tr e g h) (λ k. row_fits tr g r.0 k)
   where
-    later : (lists_row (origin tr).rows g ≡ true) ⊎ (g.sequence ≤ happenings tr) → (lists_row (origin tr).rows g ≡ true) ⊎ (g.sequence ≤ happenings tr + 1)
+    later : (lists_row (origin tr).rows g ≡ true) ⊎ (g.sequence ≤ happenings tr) → (lists_row (origin tr).rows g ≡ true) ⊎ (g.sequence ≤ happenings (Then tr e))
     later (inl k) = inl k
-    later (inr k) = inr (as_before _ _ k)
+    later (inr k) = inr (as_before _ _ _ k)
 
     by : NewRow tr e g → (had_row tr g ≡ true → (lists_row (origin tr).rows g ≡ true) ⊎ (g.sequence ≤ happenings tr))
-        → (lists_row (origin tr).rows g ≡ true) ⊎ (g.sequence ≤ happenings tr + 1)
+        → (lists_row (origin tr).rows g ≡ true) ⊎ (g.sequence ≤ happenings (Then tr e))
     by (Had k) before = later (before k)
     by (By_decision q has) before = let d : Right tr (Decided g Outcome.Commit) = subst (Right tr) q r.1 in later (inr (live_fits tr g r.0 d.is_live))
     by (By_restart i d n q adds has) before = later (inr (doubt_fits tr g r.0 adds))
@@ -275,10 +373,10 @@ module _ (tr : Trace) (limits : IsWithinLimits tr) (sound : IsSound (book_of (Fr
       begins_fit = let few = begins_few tr in let events = limits.events in omega (arith, few, events)
 
 -- one right happening more
-pub limits_kept : (tr : Trace) (e : Happening) → IsWithinLimits tr → Right tr e → happenings tr < most_events → FitsIncarnation e → IsWithinLimits (Then tr e)
+pub limits_kept : (tr : Trace) (e : Happening) → IsWithinLimits tr → Right tr e → happenings (Then tr e) ≤ most_events → FitsIncarnation e → IsWithinLimits (Then tr e)
 limits_kept tr e limits right room fit = record {
   right = (limits.right, right);
-  events = let more : happenings tr + 1 ≤ most_events = omega (arith, room) in more;
+  events = room;
   fits = incarnation_fits e fit;
   found = limits.found;
 }

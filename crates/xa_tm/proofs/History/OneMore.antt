@@ -1,5 +1,5 @@
 -- The book of a history with one happening more is what the happening makes of the book.
-use Rattle.std.proofs.Common.{◌≡◌, ℕ, ◌+◌, ◌==◌, List, [], ◌∷◌, length, filter, Bool, true, false, ◌&&◌, ◌||◌, cond, Option, Some, None, is_some, add-one, refl, sym, ap, ◌∙◌, subst}
+use Rattle.std.proofs.Common.{◌≡◌, ℕ, ◌+◌, ◌==◌, List, [], ◌∷◌, ◌++◌, length, map, filter, Bool, true, false, ◌&&◌, ◌||◌, cond, Option, Some, None, is_some, add-one, refl, sym, ap, ◌∙◌, subst}
 use Rattle.std.specs.Prelude.{if◌then◌else◌}
 use Rattle.std.specs.Ordering.{eq_by_cmp}
 use Rattle.std.specs.List.{list_any}
@@ -12,14 +12,15 @@ use Rattle.xa_base.specs.declared.code.How.{How}
 use Rattle.xa_base.specs.declared.step.Outcome.TheVariants as Outcome
 use Rattle.xa_base.specs.declared.step.Part.TheVariants as Part
 use Rattle.xa_model.specs.Replies.Allowed.{failed_restarts}
-use Rattle.xa_model.specs.Facts.{up, incarnation, sequence, breaks, branches, was_told, says_yes_in, page, page_after, log, heuristic_rows, without, row_for, takes_part, how_in, has_record, heuristics_changed, recorded, recorded_as, record_of, doubt, fault_change, rows_changed, Change, Change.AddRow, Change.DropRow, Change.AddRecord, Change.NoChange, begins}
+use Rattle.xa_model.specs.Facts.{up, incarnation, sequence, breaks, branches, was_told, says_yes_in, page, page_after, log, heuristic_rows, without, without_each, row_for, lists_row, takes_part, how_in, has_record, heuristics_changed, recorded, recorded_as, record_of, doubt, fault_change, rows_changed, Change, Change.AddRows, Change.DropRows, Change.AddRecord, Change.NoChange, begins}
 use Rattle.xa_model.specs.Trace.{Line, Fault.InRestart, Happening, Happening.Begun, Happening.Issued, Happening.ResolvedOpen, Happening.Heard, Happening.Claimed, Happening.Decided, Happening.Done, Happening.Crashed, Happening.Failed, Happening.Restarted, Row, Recorded, Trace, Trace.Then, line}
 use Rattle.xa_base.proofs.BranchOrder.{branches_total, exact_branches}
 use Rattle.xa_base.proofs.BranchKeys.{branch_eq-true, gtrid_eq-true}
 use Rattle.xa_base.proofs.Orders.{equal_is}
 use Rattle.xa_log.specs.KeySet.{from_list, items, contains-items, contains-from_list, same_set}
 use Rattle.xa_tm.specs.Laws.{CountsRows}
-use Rattle.xa_tm.specs.Book.{Doubt.Adds, Doubt.Drops, Doubt.Records, Book, Waiting, row_in, doubt_of, transaction_in, notes_in, book_of, up_after, incarnation_after, sequence_after, begins_after, failed_restarts_after, breaks_in, transaction_after, notes_after, known_after, pages_after, voted_yes, row_with, row_after, rows_after, recorded_with, recorded_after, records_with, records_after, doubt_after, book_after, doubt_of_happening}
+use Rattle.xa_tm.proofs.Several.Contents.{without_first}
+use Rattle.xa_tm.specs.Book.{Doubt.Adds, Doubt.Records, Book, Waiting, waiting_row, row_among, row_without, rows_for, row_in, doubt_of, transaction_in, notes_in, book_of, up_after, incarnation_after, sequence_after, begins_after, failed_restarts_after, breaks_in, transaction_after, notes_after, known_after, pages_after, voted_yes, row_with, row_after, rows_after, recorded_with, recorded_after, records_with, records_after, doubt_after, book_after, doubt_of_happening}
 
 -- two books that say the same
 pub book_is : (k l : Book) → k.threads ≡ l.threads → k.rms ≡ l.rms → k.up ≡ l.up → k.incarnation ≡ l.incarnation → k.sequence ≡ l.sequence
@@ -162,7 +163,16 @@ chosen p xs = same_set branches_total exact_branches _ _ (λ q.
 pub voted_yes_is : (tr : Trace) (g : Gtrid) → from_list (row_for tr g).participants ≡ voted_yes (book_of tr) g
 voted_yes_is tr g = sym (chosen (takes_part tr g) (branches tr))
 
-row_dropped : (h g : Gtrid) (xs : List Row) → row_in (without h xs) g ≡ row_with (Drops h) g (row_in xs g)
+-- whether there is a row
+pub lists_is : (xs : List Row) (g : Gtrid) → lists_row xs g ≡ is_some (row_in xs g)
+lists_is [] g = refl
+lists_is (x ∷ xs) g = by (gtrid_eq x.gtrid g) (lists_is xs g)
+  where
+    by : (t : Bool) → lists_row xs g ≡ is_some (row_in xs g) → (t || lists_row xs g) ≡ is_some (if t then Some (from_list x.participants) else row_in xs g)
+    by true rest = refl
+    by false rest = rest
+
+row_dropped : (h g : Gtrid) (xs : List Row) → row_in (without h xs) g ≡ row_without (h ∷ []) g (row_in xs g)
 row_dropped h g [] = none (gtrid_eq h g)
   where
     empty : Option Waiting
@@ -173,7 +183,7 @@ row_dropped h g [] = none (gtrid_eq h g)
     none false = refl
 row_dropped h g (x ∷ xs) = by (gtrid_eq x.gtrid h) (gtrid_eq x.gtrid g) refl refl (row_dropped h g xs)
   where
-    by : (s t : Bool) → gtrid_eq x.gtrid h ≡ s → gtrid_eq x.gtrid g ≡ t → row_in (without h xs) g ≡ row_with (Drops h) g (row_in xs g)
+    by : (s t : Bool) → gtrid_eq x.gtrid h ≡ s → gtrid_eq x.gtrid g ≡ t → row_in (without h xs) g ≡ row_without (h ∷ []) g (row_in xs g)
         → row_in (if s then without h xs else x ∷ without h xs) g
         ≡ (if gtrid_eq h g then None else (if t then Some (from_list x.participants) else row_in xs g))
     by true true same here rest =
@@ -189,10 +199,18 @@ row_dropped h g (x ∷ xs) = by (gtrid_eq x.gtrid h) (gtrid_eq x.gtrid g) refl r
         apart false e = e
     by false false other away rest = ap (λ (u : Bool). if u then Some (from_list {R = branch_cmp} x.participants) else row_in (without h xs) g) away ∙ rest
 
+rows_dropped : (hs : List Gtrid) (xs : List Row) (g : Gtrid) → row_in (without_each hs xs) g ≡ row_without hs g (row_in xs g)
+rows_dropped [] xs g = refl
+rows_dropped (h ∷ hs) xs g = rows_dropped hs (without h xs) g ∙ ap (row_without hs g) (row_dropped h g xs) ∙ without_first h hs g (row_in xs g)
+
+rows_added : (ys xs : List Row) (g : Gtrid) → row_in (ys ++ xs) g ≡ row_among (map waiting_row ys) g (row_in xs g)
+rows_added [] xs g = refl
+rows_added (y ∷ ys) xs g = ap (λ r. if gtrid_eq y.gtrid g then Some (from_list y.participants) else r) (rows_added ys xs g)
+
 -- the rows after a change
 pub row_changed : (c : Change) (xs : List Row) (g : Gtrid) → row_in (rows_changed c xs) g ≡ row_with (doubt_of c) g (row_in xs g)
-row_changed (AddRow x) xs g = refl
-row_changed (DropRow h) xs g = row_dropped h g xs
+row_changed (AddRows ys) xs g = rows_added ys xs g
+row_changed (DropRows hs) xs g = rows_dropped hs xs g
 row_changed (AddRecord x) xs g = refl
 row_changed NoChange xs g = refl
 
@@ -200,7 +218,7 @@ row_more : (tr : Trace) (e : Happening) (g : Gtrid) → row_in (log (Then tr e))
 row_more tr (Decided h Outcome.Commit) g = by (was_told tr (says_yes_in h))
   where
     by : (t : Bool) → row_in (if t then row_for tr h ∷ log tr else log tr) g
-        ≡ (if t then row_with (Adds h (voted_yes (book_of tr) h)) g (row_in (log tr) g) else row_in (log tr) g)
+        ≡ (if t then row_with (Adds (rows_for (book_of tr) (h ∷ []))) g (row_in (log tr) g) else row_in (log tr) g)
     by true = ap (λ set. if gtrid_eq h g then Some set else row_in (log tr) g) (voted_yes_is tr h)
     by false = refl
 row_more tr (Done h) g = row_dropped h g (log tr)
@@ -251,8 +269,8 @@ how_with x xs b false e = by (how_in xs b) (branch_eq x.branch b) refl refl
 -- the record after a change
 pub how_changed : (c : Change) (xs : List Recorded) (b : Branch) → how_in (heuristics_changed c xs) b ≡ recorded_with (doubt_of c) b (how_in xs b)
 how_changed (AddRecord x) xs b = how_with x xs b _ refl
-how_changed (AddRow x) xs b = refl
-how_changed (DropRow h) xs b = refl
+how_changed (AddRows ys) xs b = refl
+how_changed (DropRows hs) xs b = refl
 how_changed NoChange xs b = refl
 
 recorded_more : (tr : Trace) (e : Happening) (b : Branch) → recorded_as (Then tr e) b ≡ recorded_after (book_of tr) e b (recorded_as tr b)
@@ -273,8 +291,8 @@ records_changed k (AddRecord x) xs is = by (has_record xs x.branch) refl
     by true e = sym (ap (λ (u : Bool). if u then length xs else length xs + 1) (ap is_some (is x.branch) ∙ sym (has_record_is xs x.branch) ∙ e))
     by false e =
         sym (ap (λ (u : Bool). if u then length xs else length xs + 1) (ap is_some (is x.branch) ∙ sym (has_record_is xs x.branch) ∙ e) ∙ add-one (length xs))
-records_changed k (AddRow x) xs is = refl
-records_changed k (DropRow h) xs is = refl
+records_changed k (AddRows ys) xs is = refl
+records_changed k (DropRows hs) xs is = refl
 records_changed k NoChange xs is = refl
 
 -- ** numbers of rows, and doubt

@@ -1,22 +1,26 @@
 -- What is read off the book of a history where the log is asked and where a recovery is made.
-use Rattle.std.proofs.Common.{◌≡◌, ℕ, List, [], ◌∷◌, Bool, true, false, ◌||◌, refl, sym, ap, ◌∙◌}
+use Rattle.std.proofs.Common.{◌≡◌, ℕ, List, [], ◌∷◌, map, Bool, true, false, ◌||◌, refl, sym, ap, ◌∙◌}
 use Rattle.std.specs.Prelude.{if◌then◌else◌, Some}
 use Rattle.xa_base.specs.declared.branch.Branch.{Branch}
 use Rattle.xa_base.specs.declared.branch.Gtrid.{Gtrid}
-use Rattle.xa_model.specs.Facts.{live, next_answer, page, record_of, record_of_next, resolving_calls, resolving_kind}
+use Rattle.xa_model.specs.Facts.{live, next_answer, page, record_of, record_of_next, resolving_calls, resolving_kind, row_for}
 use Rattle.xa_base.specs.Opening.{has_closed}
 use Rattle.xa_base.specs.StateTable.{on}
 use Rattle.xa_base.proofs.StateLemmas.{closes_on}
 use Rattle.xa_model.specs.Trace.{Answer, Call, Fault.InDecide, Fault.InHear, Happening.Failed, Happening.ResolvedOpen, Kind.Commit, Kind.Forget, Kind.Rollback, Line, Name, Name.Foreign, Name.Ours, Trace, Trace.Then}
-use Rattle.xa_tm.specs.Book.{Book, Doubt.Adds, after, doubt_of_happening, book_of, doubt_of, voted_yes}
+use Rattle.xa_tm.specs.Book.{Book, Doubt.Adds, after, doubt_of_happening, book_of, doubt_of, rows_for, waiting_row}
 use Rattle.xa_tm.specs.Refusing.{live_in, resolved_in, resolved_open_in, resolving_calls_in, resolving_kind_in}
 use Rattle.xa_tm.proofs.History.OneMore.{one_more, voted_yes_is}
 use Rattle.xa_tm.proofs.History.Refusals.{has_row_is, recorded_is}
 
 -- ** what the log is asked for
 
-pub decision_asks : (tr : Trace) (g : Gtrid) → Adds g (voted_yes (book_of tr) g) ≡ doubt_of_happening tr (Failed (InDecide g))
-decision_asks tr g = ap (λ set. Adds g set) (sym (voted_yes_is tr g))
+rows_asked : (tr : Trace) (gs : List Gtrid) → rows_for (book_of tr) gs ≡ map waiting_row (map (row_for tr) gs)
+rows_asked tr [] = refl
+rows_asked tr (g ∷ gs) = λ i. (g, sym (voted_yes_is tr g) i) ∷ rows_asked tr gs i
+
+pub decision_asks : (tr : Trace) (gs : List Gtrid) → Adds (rows_for (book_of tr) gs) ≡ doubt_of_happening tr (Failed (InDecide gs))
+decision_asks tr gs = ap (λ rows. Adds rows) (rows_asked tr gs)
 
 pub answer_asks : (tr : Trace) (l : Line) (c : Call) (a : Answer) → next_answer tr l ≡ Some (c, a)
     → doubt_of (record_of c a) ≡ doubt_of_happening tr (Failed (InHear l))

@@ -12,7 +12,7 @@ use Rattle.xa_base.specs.declared.refusal.Refusal.TheVariants as Refusals
 use Rattle.xa_base.specs.declared.step.Outcome.TheVariants as Outcome
 use Rattle.xa_base.specs.declared.step.Part.TheVariants as Part
 use Rattle.xa_base.specs.declared.step.Side.TheVariants as Side
-use Rattle.xa_model.specs.Facts.{begun, branches, decided_so, handed_over, claimed, each_of_some, has_row, heuristic_rows, is_older, lists_row, log, outlived, participants_in, participants_settled, recorded, is_settled, is_settled_lately, started, was_told_lately, acknowledges, all_of, finished, has_unfinished, has_voted, is_shut, is_taken_up, on_line, row_settled}
+use Rattle.xa_model.specs.Facts.{begun, branches, decided_so, handed_over, claimed, each_of_some, has_row, heuristic_rows, is_older, log, outlived, participants_in, participants_settled, recorded, is_settled, is_settled_lately, started, was_told_lately, acknowledges, all_of, finished, has_unfinished, has_voted, is_shut, is_taken_up, on_line, row_settled}
 use Rattle.xa_model.specs.Protocol.{IsRun}
 use Rattle.xa_model.specs.Replies.Rules.{applies, forces_not_decided, forces_decided, first_of, forces_busy, is_there, forces_votes, must_refuse, forces_limit, forces_already_started, forces_unknown_transaction}
 use Rattle.xa_model.specs.Replies.Steps.{Step}
@@ -25,18 +25,10 @@ use Rattle.xa_tm.specs.Book.{book_of, row_in}
 use Rattle.xa_tm.specs.Refusing.{applies_in, forces_not_decided_in, forces_decided_in, has_row_in, forces_busy_in, is_shut_in, is_taken_up_in, is_there_in, is_unfinished, forces_votes_in, manager_rules, managers_refusal, outlived_in, forces_limit_in, refusal_in, row_settled_in, is_settled_lately_in, forces_already_started_in, forces_unknown_transaction_in, waits_for_none}
 use Rattle.xa_tm.proofs.History.Counting.{count, but, one_less, none_counted, apart, counted_branches, counted_votes}
 use Rattle.xa_tm.proofs.History.Members.{set_any, set_each}
-use Rattle.xa_tm.proofs.History.OneMore.{has_record_is}
+use Rattle.xa_tm.proofs.History.OneMore.{has_record_is, lists_is}
 use Rattle.xa_tm.proofs.History.Settling.{counted_settled, settled_is}
 
 -- ** rows and records
-
-lists_is : (xs : List Row) (g : Gtrid) → lists_row xs g ≡ is_some (row_in xs g)
-lists_is [] g = refl
-lists_is (x ∷ xs) g = by (gtrid_eq x.gtrid g) (lists_is xs g)
-  where
-    by : (t : Bool) → lists_row xs g ≡ is_some (row_in xs g) → (t || lists_row xs g) ≡ is_some (if t then Some (from_list x.participants) else row_in xs g)
-    by true rest = refl
-    by false rest = rest
 
 pub has_row_is : (tr : Trace) (g : Gtrid) → has_row_in (book_of tr) g ≡ has_row tr g
 has_row_is tr g = sym (lists_is (log tr) g)

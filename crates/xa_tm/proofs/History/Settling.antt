@@ -11,7 +11,7 @@ use Rattle.xa_base.specs.declared.branch.Gtrid.{Gtrid}
 use Rattle.xa_base.specs.declared.code.Code.TheVariants as Codes
 use Rattle.xa_base.specs.declared.code.How.{How}
 use Rattle.xa_base.specs.declared.step.Part.TheVariants as Part
-use Rattle.xa_model.specs.Facts.{begun, branches, has_branch, heuristic_rows, incarnation, sequence, record_of, recorded_as, says_read_only, acknowledges, is_settled, started, was_told, Change, Change.AddRow, Change.DropRow, Change.AddRecord, Change.NoChange}
+use Rattle.xa_model.specs.Facts.{begun, branches, has_branch, heuristic_rows, incarnation, sequence, record_of, recorded_as, says_read_only, acknowledges, is_settled, started, was_told, Change, Change.AddRows, Change.DropRows, Change.AddRecord, Change.NoChange}
 use Rattle.xa_model.specs.Protocol.{IsRun}
 use Rattle.xa_model.specs.Trace.{Line, Call, Answer, Happening.Begun, Happening.Issued, Happening.Heard, Happening.Crashed, Happening.Failed, Happening.Restarted, Trace, Trace.From, Trace.Then}
 use Rattle.xa_model.proofs.Invariant.{Old}
@@ -40,8 +40,8 @@ recorded_more (AddRecord x) b (Some h) = by (branch_eq x.branch b)
     by : (t : Bool) → true ≡ (t || true)
     by true = refl
     by false = refl
-recorded_more (AddRow x) b o = refl
-recorded_more (DropRow g) b o = refl
+recorded_more (AddRows xs) b o = refl
+recorded_more (DropRows gs) b o = refl
 recorded_more NoChange b o = refl
 
 says_settled : (b : Branch) (c : Call) (a : Answer)

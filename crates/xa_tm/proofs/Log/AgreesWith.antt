@@ -1,33 +1,37 @@
 -- A log that the book may hold agrees with it, so that none is refused for its rows.
-use Rattle.std.proofs.Common.{◌≡◌, ℕ, ◌⊎◌, inl, inr, ◌+◌, ◌-◌, List, [], ◌∷◌, Bool, true, false, not, ◌&&◌, ◌||◌, cond, Equal, Ordering, Option, Some, None, IsSomeAnd, is_some, refl, sym, ap, ◌∙◌, subst}
+use Rattle.std.proofs.Common.{◌≡◌, ℕ, length, map, arith, ◌⊎◌, inl, inr, ◌+◌, List, [], ◌∷◌, Bool, true, false, not, ◌&&◌, ◌||◌, cond, Option, Some, None, IsSomeAnd, is_some, refl, sym, ap, ◌∙◌, subst}
 use Rattle.std.specs.Prelude.{if◌then◌else◌, nat_eq}
 use Rattle.std.specs.Global.{Vec}
 use Rattle.std.specs.List.{list_all}
 use Rattle.std.specs.Option.{option_map}
-use Rattle.std.specs.Ordering.{eq_by_cmp}
-use Rattle.std.specs.Cmp.{IsTotalOrder}
-use Rattle.std.specs.FinMap.{FinMap, contains_key, entries, get, insert, keys, len, remove, get-insert, get-remove, len-insert, len-remove}
+use Rattle.std.specs.FinMap.{contains_key, entries, get, insert, keys, len, get-insert, len-insert}
 use Rattle.std.proofs.lemmas.Bool.{and_from, eq-eqb, or_left, or_right, true≢false}
+use Rattle.std.proofs.lemmas.List.{length-map}
 use Rattle.xa_base.specs.Branch.{branch_eq, gtrid_eq}
 use Rattle.xa_base.specs.declared.branch.Branch.{Branch}
 use Rattle.xa_base.specs.declared.branch.Gtrid.{Gtrid}
 use Rattle.xa_base.specs.declared.code.How.{How}
 use Rattle.xa_base.specs.declared.code.How.TheVariants.{Haz, Com, Rb, Mix}
-use Rattle.xa_base.proofs.BranchOrder.{branches_total, exact_gtrids, gtrids_total}
-use Rattle.xa_base.proofs.BranchKeys.{branch_eq-true, gtrid_eq-true}
-use Rattle.xa_base.proofs.Orders.{branch_swap, equal_is, gtrid_swap}
-use Rattle.xa_log.specs.Content.{AreOwn, Content, all_listed, with_decision, with_heuristic}
+use Rattle.xa_base.proofs.BranchOrder.{branches_total}
+use Rattle.xa_base.proofs.BranchKeys.{branch_eq-true}
+use Rattle.xa_base.proofs.Orders.{branch_swap}
+use Rattle.xa_log.specs.Content.{AreOwn, Content, all_listed, with_heuristic, without_decisions}
+use Rattle.xa_log.specs.declared.decision.Decision.{Decision}
 use Rattle.xa_log.specs.declared.log_rows.LogRows.{LogRows}
+use Rattle.xa_model.specs.Facts.{has_gtrid}
+use Rattle.xa_model.specs.Facts.Distinct.{EachOnce}
 use Rattle.xa_log.specs.KeySet.{from_list}
-use Rattle.xa_tm.specs.Book.{Waiting}
-use Rattle.xa_tm.specs.LedgerBook.{doubt_of_change, as_book, notes_at, row_at, waiting_of}
-use Rattle.xa_tm.specs.Swaps.{ReadsOf, agrees, change_agrees_with, end_agrees, end_agrees_with, ends_agree, how_eq, is_how, kept_row, names_just, records_agree_with, row_agrees, row_agrees_with, rows_agree, rows_agree_with, same_how, same_row}
-use Rattle.xa_tm.specs.BookAndLog.{HoldsBook, MayHold, SameRows, changed_by}
+use Rattle.xa_tm.specs.Book.{Waiting, Doubt.Adds, Doubt.Drops, row_among, row_without}
+use Rattle.xa_tm.specs.LedgerBook.{decided_row, doubt_of_change, as_book, gtrids_of, notes_at, row_at, waiting_of}
+use Rattle.xa_tm.specs.Swaps.{ReadsOf, decided_agrees, dropped_agrees, keeps_row, lacks_row, agrees, change_agrees_with, end_agrees, end_agrees_with, ends_agree, how_eq, is_how, kept_row, names_just, records_agree_with, row_agrees, row_agrees_with, rows_agree, rows_agree_with, same_how, same_row}
+use Rattle.xa_tm.specs.BookAndLog.{HoldsBook, IsChangeOf, MayHold, SameRows, changed_by, with_rows}
 use Rattle.xa_tm.specs.declared.change.Change.{Change}
-use Rattle.xa_tm.specs.declared.change.Change.TheVariants.{AddRecord, AddRow, DropRow, Nothing}
+use Rattle.xa_tm.specs.declared.change.Change.TheVariants.{AddRecord, AddRows, DropRows, Nothing}
 use Rattle.xa_tm.specs.declared.ledger.Ledger.{Ledger}
 use Rattle.xa_tm.proofs.Maps.BranchSets.{sets_back}
-use Rattle.xa_tm.proofs.Log.MayHoldAgain.{Reads, as_read, is_gone, put_back}
+use Rattle.xa_tm.proofs.Log.MayHoldAgain.{Reads, as_read}
+use Rattle.xa_tm.proofs.Several.Contents.{added_heuristics, changed_at, changed_len, decided_names, dropped_at, dropped_heuristics, dropped_len, of_same, without_none, without_some}
+use Rattle.xa_tm.proofs.Several.Lists.{once_back, once_so}
 
 -- ** of one transaction, and of one branch
 
@@ -72,25 +76,34 @@ all_of p (e ∷ es) each = and_from (p e) (list_all p es) (each e) (all_of p es 
 counted : (a b : ℕ) → a ≡ b → nat_eq a b ≡ true
 counted a b e = eq-eqb a b e
 
--- ** maps with one key less
+-- ** of several rows
 
-module _ {K X : Type 0} {R : K → K → Ordering} (o : IsTotalOrder R) (exact : (a b : K) → R a b ≡ Equal → a ≡ b) (m : FinMap R X) (k : K) where
-  one_fewer : contains_key m k ≡ true → len m ≡ len (remove m k) + 1
-  one_fewer has = by (get m k) refl has
-    where
-      by : (w : Option X) → get m k ≡ w → is_some w ≡ true → len m ≡ len (remove m k) + 1
-      by None none e = absurd (cc)
-      by (Some v) some e =
-          ap len (sym (put_back o exact m k v some)) ∙ len-insert o (remove m k) k v
-          ∙ ap (λ (w : Option X). cond (is_some w) (len (remove m k)) (len (remove m k) + 1)) (is_gone o exact m k v)
+decided_back : (ds : List Decision) (own read : Option (Vec Branch)) (q : Gtrid)
+    → option_map waiting_of read ≡ row_among (map decided_row ds) q (option_map waiting_of own) → decided_agrees ds read q (same_row own read) ≡ true
+decided_back [] own read q e = row_back own read e
+decided_back (d ∷ ds) own read q e = by (gtrid_eq d.gtrid q) e (decided_back ds own read q)
+  where
+    by : (t : Bool) → option_map waiting_of read
+        ≡ (if t then Some (waiting_of d.participants) else row_among (map decided_row ds) q (option_map waiting_of own))
+        → (option_map waiting_of read ≡ row_among (map decided_row ds) q (option_map waiting_of own) → decided_agrees ds read q (same_row own read) ≡ true)
+        → (if t then names_just read d.participants.items else decided_agrees ds read q (same_row own read)) ≡ true
+    by true e rest = names_back read d.participants.items e
+    by false e rest = rest e
 
-  stays_without : contains_key m k ≡ false → (q : K) → get (remove m k) q ≡ get m q
-  stays_without lacks q = get-remove o m k q ∙ by (eq_by_cmp R q k) refl (get m q) refl
-    where
-      by : (t : Bool) → eq_by_cmp R q k ≡ t → (w : Option X) → get m q ≡ w → cond (eq_by_cmp R q k) None (get m q) ≡ get m q
-      by false e w at = ap (λ t. cond t None (get m q)) e
-      by true e None none = ap (λ t. cond t None (get m q)) e ∙ sym none
-      by true e (Some v) some = absurd (true≢false (sym (ap is_some (ap (get m) (sym (exact q k (equal_is _ e))) ∙ some)) ∙ lacks))
+dropped_back : (gs : List Gtrid) (own read : Option (Vec Branch)) (q : Gtrid)
+    → option_map waiting_of read ≡ row_without gs q (option_map waiting_of own) → dropped_agrees gs read q (same_row own read) ≡ true
+dropped_back gs own read q e = by (has_gtrid gs q) refl
+  where
+    by : (t : Bool) → has_gtrid gs q ≡ t → (if t then not (is_some read) else same_row own read) ≡ true
+    by true is = none_back read (e ∙ without_some gs q (option_map waiting_of own) is)
+    by false is = row_back own read (e ∙ without_none gs q (option_map waiting_of own) is)
+
+lacks_back : (row : Option (Vec Branch)) → option_map waiting_of row ≡ None → not (is_some row) ≡ true
+lacks_back row e = none_back row e
+
+keeps_back : (row : Option (Vec Branch)) → is_some (option_map waiting_of row) ≡ true → is_some row ≡ true
+keeps_back (Some v) e = refl
+keeps_back None e = absurd (cc)
 
 -- ** of the whole
 
@@ -138,81 +151,60 @@ module _ (k n : Ledger) (c : Content) (reads : Reads n c) where
       (and_from _ _ (subst (λ x. rows_agree_with x k.row_count n.row_count ≡ true) same a.rows)
       (subst (λ x. records_agree_with x k.records n.records ≡ true) same a.records)) (subst (λ x. change_agrees_with x k n ≡ true) same a.change)
 
-  -- a row was added, where there was none
-  added : (g : Gtrid) (v : Vec Branch) (b : Content) → k.doubt ≡ AddRow g v → HoldsBook (as_book k) b → contains_key b.decisions g ≡ false
-      → c.decisions ≡ insert b.decisions g (waiting_of v) → c.heuristics ≡ b.heuristics → Changed (AddRow g v)
-  added g v b doubt h lacks ds hs = record {
+  -- rows were added, where there were none
+  added : (v : Vec Decision) (b : Content) → k.doubt ≡ AddRows v → HoldsBook (as_book k) b → IsChangeOf (row_at k.rows) (Adds (map decided_row v.items))
+      → SameRows c (with_rows (map decided_row v.items) b) → Changed (AddRows v)
+  added v b doubt h of s = record {
     row = row;
-    end = λ q. end_same q (ap (λ m. get m q) hs ∙ h.records q);
-    rows = counted n.row_count (k.row_count + 1) (sym reads.rows ∙ ap len ds ∙ len-insert gtrids_total b.decisions g (waiting_of v)
-        ∙ ap (λ t. cond t (len b.decisions) (len b.decisions + 1)) lacks ∙ ap (λ m. m + 1) h.row_number);
-    records = counted n.records k.records (sym reads.ends ∙ ap len hs ∙ h.record_number);
-    change = subst (λ x. row_agrees_with x k.rows n.rows g ≡ true) (sym doubt) (row g);
+    end = λ q. end_same q (ap (λ m. get m q) (s.heuristics ∙ added_heuristics xs b) ∙ h.records q);
+    rows = counted n.row_count (k.row_count + length v.items)
+        (sym reads.rows ∙ ap len s.decisions ∙ changed_len (Adds xs) b here ∙ ap (λ m. len b.decisions + m) (length-map v.items decided_row)
+        ∙ ap (λ m. m + length v.items) h.row_number);
+    records = counted n.records k.records (sym reads.ends ∙ ap len (s.heuristics ∙ added_heuristics xs b) ∙ h.record_number);
+    change = and_from _ _
+        (once_back (lacks_row k) (gtrids_of v.items)
+        (once_so (λ g. row_at k.rows g ≡ None) (λ g. lacks_row k g ≡ true) (gtrids_of v.items) (λ g none. lacks_back (kept_row k.rows g) none)
+        (subst (EachOnce (λ g. row_at k.rows g ≡ None)) (decided_names v.items) of)))
+        (all_of _ v.items (λ d. subst (λ x. row_agrees_with x k.rows n.rows d.gtrid ≡ true) (sym doubt) (row d.gtrid)));
   }
     where
-      at : (q : Gtrid) → get c.decisions q ≡ cond (gtrid_eq g q) (Some (waiting_of v)) (get b.decisions q)
-      at q = ap (λ m. get m q) ds ∙ get-insert gtrids_total b.decisions g (waiting_of v) q
-          ∙ ap (λ t. cond t (Some (waiting_of v)) (get b.decisions q)) (gtrid_swap g q)
+      xs : List (Gtrid × Waiting)
+      xs = map decided_row v.items
 
-      no_row : (o : Option Waiting) → is_some o ≡ false → o ≡ None
-      no_row None e = refl
-      no_row (Some w) e = absurd (cc)
+      here : IsChangeOf (λ g. get b.decisions g) (Adds xs)
+      here = of_same (row_at k.rows) (λ g. get b.decisions g) (Adds xs) h.rows of
 
-      row : (q : Gtrid) → row_agrees_with (AddRow g v) k.rows n.rows q ≡ true
-      row q = by (gtrid_eq g q) refl
-        where
-          by : (t : Bool) → gtrid_eq g q ≡ t
-              → (if gtrid_eq g q then names_just (kept_row n.rows q) v.items && not (is_some (kept_row k.rows q))
-              else same_row (kept_row k.rows q) (kept_row n.rows q)) ≡ true
-          by true e =
-              let here : g ≡ q = gtrid_eq-true g q e in
-              ap (λ (t : Bool). if t then names_just (kept_row n.rows q) v.items && not (is_some (kept_row k.rows q))
-              else same_row (kept_row k.rows q) (kept_row n.rows q)) e
-              ∙ and_from _ _ (names_back (kept_row n.rows q) v.items (sym (reads.row q) ∙ at q ∙ ap (λ t. cond t (Some (waiting_of v)) (get b.decisions q)) e))
-              (none_back (kept_row k.rows q) (sym (h.rows q) ∙ no_row _ (ap (contains_key b.decisions) (sym here) ∙ lacks)))
-          by false e =
-              ap (λ (t : Bool). if t then names_just (kept_row n.rows q) v.items && not (is_some (kept_row k.rows q))
-              else same_row (kept_row k.rows q) (kept_row n.rows q)) e
-              ∙ row_same q (at q ∙ ap (λ t. cond t (Some (waiting_of v)) (get b.decisions q)) e ∙ h.rows q)
+      row : (q : Gtrid) → row_agrees_with (AddRows v) k.rows n.rows q ≡ true
+      row q = decided_back v.items (kept_row k.rows q) (kept_row n.rows q) q
+          (sym (reads.row q) ∙ ap (λ m. get m q) s.decisions ∙ changed_at (Adds xs) b here q ∙ ap (row_among xs q) (h.rows q))
 
-  -- a row was taken away, which was there
-  dropped : (g : Gtrid) (b : Content) → k.doubt ≡ DropRow g → HoldsBook (as_book k) b → contains_key b.decisions g ≡ true
-      → c.decisions ≡ remove b.decisions g → c.heuristics ≡ b.heuristics → Changed (DropRow g)
-  dropped g b doubt h has ds hs = record {
+  -- rows were taken away, which were there
+  dropped : (g : Gtrid) (v : Vec Gtrid) (b : Content) → k.doubt ≡ DropRows g v → HoldsBook (as_book k) b → IsChangeOf (row_at k.rows) (Drops (g ∷ v.items))
+      → SameRows c (without_decisions (g ∷ v.items) b) → Changed (DropRows g v)
+  dropped g v b doubt h of s = record {
     row = row;
-    end = λ q. end_same q (ap (λ m. get m q) hs ∙ h.records q);
-    rows = counted (n.row_count + 1) k.row_count (ap (λ m. m + 1) (sym reads.rows ∙ ap len ds) ∙ sym fewer ∙ h.row_number);
-    records = counted n.records k.records (sym reads.ends ∙ ap len hs ∙ h.record_number);
-    change = subst (λ x. row_agrees_with x k.rows n.rows g ≡ true) (sym doubt) (row g);
+    end = λ q. end_same q (ap (λ m. get m q) (s.heuristics ∙ dropped_heuristics gs b) ∙ h.records q);
+    rows = counted (n.row_count + (length v.items + 1)) k.row_count
+        (let fewer = dropped_len gs b here in
+        let read : len (without_decisions gs b).decisions ≡ n.row_count = ap len (sym s.decisions) ∙ reads.rows in
+        let own = h.row_number in
+        omega (arith, fewer, read, own));
+    records = counted n.records k.records (sym reads.ends ∙ ap len (s.heuristics ∙ dropped_heuristics gs b) ∙ h.record_number);
+    change = and_from _ _
+        (once_back (keeps_row k) gs
+        (once_so (λ h. is_some (row_at k.rows h) ≡ true) (λ h. keeps_row k h ≡ true) gs (λ h some. keeps_back (kept_row k.rows h) some) of))
+        (all_of _ gs (λ q. subst (λ x. row_agrees_with x k.rows n.rows q ≡ true) (sym doubt) (row q)));
   }
     where
-      at : (q : Gtrid) → get c.decisions q ≡ cond (gtrid_eq g q) None (get b.decisions q)
-      at q = ap (λ m. get m q) ds ∙ get-remove gtrids_total b.decisions g q ∙ ap (λ t. cond t None (get b.decisions q)) (gtrid_swap g q)
+      gs : List Gtrid
+      gs = g ∷ v.items
 
-      some_row : (o : Option Waiting) → is_some o ≡ true → (w : Waiting) × (o ≡ Some w)
-      some_row None e = absurd (cc)
-      some_row (Some w) e = (w, refl)
+      here : IsChangeOf (λ q. get b.decisions q) (Drops gs)
+      here = of_same (row_at k.rows) (λ q. get b.decisions q) (Drops gs) h.rows of
 
-      fewer : len b.decisions ≡ len (remove b.decisions g) + 1
-      fewer = one_fewer gtrids_total exact_gtrids b.decisions g has
-
-      row : (q : Gtrid) → row_agrees_with (DropRow g) k.rows n.rows q ≡ true
-      row q = by (gtrid_eq g q) refl
-        where
-          by : (t : Bool) → gtrid_eq g q ≡ t
-              → (if gtrid_eq g q then not (is_some (kept_row n.rows q)) && is_some (kept_row k.rows q) else same_row (kept_row k.rows q) (kept_row n.rows q))
-              ≡ true
-          by true e =
-              let here : g ≡ q = gtrid_eq-true g q e in
-              let own = some_row (get b.decisions q) (ap (contains_key b.decisions) (sym here) ∙ has) in
-              ap (λ (t : Bool). if t then not (is_some (kept_row n.rows q)) && is_some (kept_row k.rows q)
-              else same_row (kept_row k.rows q) (kept_row n.rows q)) e
-              ∙ and_from _ _ (none_back (kept_row n.rows q) (sym (reads.row q) ∙ at q ∙ ap (λ t. cond t None (get b.decisions q)) e))
-              (some_back (kept_row k.rows q) own.0 (sym (h.rows q) ∙ own.1))
-          by false e =
-              ap (λ (t : Bool). if t then not (is_some (kept_row n.rows q)) && is_some (kept_row k.rows q)
-              else same_row (kept_row k.rows q) (kept_row n.rows q)) e
-              ∙ row_same q (at q ∙ ap (λ t. cond t None (get b.decisions q)) e ∙ h.rows q)
+      row : (q : Gtrid) → row_agrees_with (DropRows g v) k.rows n.rows q ≡ true
+      row q = dropped_back gs (kept_row k.rows q) (kept_row n.rows q) q
+          (sym (reads.row q) ∙ ap (λ m. get m q) s.decisions ∙ dropped_at gs b q ∙ ap (row_without gs q) (h.rows q))
 
   -- a record was made, where there was none
   noted : (b : Branch) (how : How) (d : Content) → k.doubt ≡ AddRecord b how → HoldsBook (as_book k) d → contains_key d.heuristics b ≡ false
@@ -251,27 +243,12 @@ module _ (k n : Ledger) (c : Content) (reads : Reads n c) where
               ∙ end_same q (at q ∙ ap (λ t. cond t (Some how) (get d.heuristics q)) e ∙ h.records q)
 
   -- each change
-  made_agrees : (d : Change) → k.doubt ≡ d → (b : Content) → HoldsBook (as_book k) b → SameRows c (changed_by (doubt_of_change d) b)
-      → (agrees false k n || agrees true k n)
-      ≡ true
-  made_agrees Nothing is b h s = or_left _ _ (as_before (held_as b s h))
-  made_agrees (AddRow g v) is b h s = by (contains_key b.decisions g) refl s
-    where
-      by : (t : Bool) → contains_key b.decisions g ≡ t → SameRows c (if t then b else with_decision g (waiting_of v) b) → (agrees false k n || agrees true k n)
-          ≡ true
-      by true has s = or_left _ _ (as_before (held_as b s h))
-      by false lacks s = or_right _ _ (with_change (AddRow g v) is (added g v b is h lacks s.decisions s.heuristics))
-  made_agrees (DropRow g) is b h s = by (contains_key b.decisions g) refl
-    where
-      by : (t : Bool) → contains_key b.decisions g ≡ t → (agrees false k n || agrees true k n) ≡ true
-      by true has = or_right _ _ (with_change (DropRow g) is (dropped g b is h has s.decisions s.heuristics))
-      by false lacks = or_left _ _ (as_before (record {
-        rows = λ q. ap (λ m. get m q) s.decisions ∙ stays_without gtrids_total exact_gtrids b.decisions g lacks q ∙ h.rows q;
-        row_number = ap len s.decisions ∙ len-remove gtrids_total b.decisions g ∙ ap (λ t. cond t (len b.decisions - 1) (len b.decisions)) lacks ∙ h.row_number;
-        records = λ q. ap (λ m. get m q) s.heuristics ∙ h.records q;
-        record_number = ap len s.heuristics ∙ h.record_number;
-      }))
-  made_agrees (AddRecord b how) is d h s = by (contains_key d.heuristics b) refl s
+  made_agrees : (d : Change) → k.doubt ≡ d → (b : Content) → HoldsBook (as_book k) b → IsChangeOf (row_at k.rows) (doubt_of_change d)
+      → SameRows c (changed_by (doubt_of_change d) b) → (agrees false k n || agrees true k n) ≡ true
+  made_agrees Nothing is b h of s = or_left _ _ (as_before (held_as b s h))
+  made_agrees (AddRows v) is b h of s = or_right _ _ (with_change (AddRows v) is (added v b is h of s))
+  made_agrees (DropRows g v) is b h of s = or_right _ _ (with_change (DropRows g v) is (dropped g v b is h of s))
+  made_agrees (AddRecord b how) is d h of s = by (contains_key d.heuristics b) refl s
     where
       by : (t : Bool) → contains_key d.heuristics b ≡ t → SameRows c (if t then d else with_heuristic b how d) → (agrees false k n || agrees true k n) ≡ true
       by true has s = or_left _ _ (as_before (held_as d s h))
@@ -280,9 +257,9 @@ module _ (k n : Ledger) (c : Content) (reads : Reads n c) where
   pub may_agree : MayHold (as_book k) c → (agrees false k n || agrees true k n) ≡ true
   may_agree may = by may.2
     where
-      by : SameRows c may.0 ⊎ SameRows c (changed_by (doubt_of_change k.doubt) may.0) → (agrees false k n || agrees true k n) ≡ true
+      by : SameRows c may.0 ⊎ (IsChangeOf (row_at k.rows) (doubt_of_change k.doubt) × SameRows c (changed_by (doubt_of_change k.doubt) may.0)) → (agrees false k n || agrees true k n) ≡ true
       by (inl s) = or_left _ _ (as_before (held_as may.0 s may.1))
-      by (inr s) = made_agrees k.doubt refl may.0 may.1 s
+      by (inr s) = made_agrees k.doubt refl may.0 may.1 s.0 s.1
 
 -- so that none is held whose rows were found to be others
 pub not_held : (k : Ledger) (rows : LogRows) (may : Bool) → may ≡ false → ReadsOf k rows may → (old : Option Content)

@@ -7,7 +7,7 @@ use Rattle.xa_log.specs.Content.{Content, with_bump}
 use Rattle.xa_log.specs.Contract.{LeavesAlso}
 use Rattle.xa_tm.specs.Book.{Book, Doubt, Doubt.NoDoubt, after, book_after, failed_restarts_after}
 use Rattle.xa_tm.specs.Leaving.{IsLeft}
-use Rattle.xa_tm.specs.BookAndLog.{IsTied, IsTiedDown, IsTiedUp, TiedBy, changed_by}
+use Rattle.xa_tm.specs.BookAndLog.{IsChangeOf, IsTied, IsTiedDown, IsTiedUp, TiedBy, changed_by}
 use Rattle.xa_tm.proofs.Log.Restart.{tied_no_restart}
 use Rattle.xa_tm.proofs.Log.Ties.{tied_fault, up_content}
 
@@ -26,15 +26,15 @@ left_while_up near k log may up tied holds d left = by log (up_content near k lo
     })
 
 pub left_by_a_fault : (near : Bool) (k : Book) (asked : Doubt) (f : Fault) (log : Option Content) (old new : Content → Type 0) → k.up ≡ true
-    → failed_restarts_after (Failed f) k.failed_restarts ≡ k.failed_restarts → IsTied near k log → ((c d : Content) → log ≡ Some c → old d → d ≡ c)
+    → IsChangeOf k.row asked → failed_restarts_after (Failed f) k.failed_restarts ≡ k.failed_restarts → IsTied near k log → ((c d : Content) → log ≡ Some c → old d → d ≡ c)
     → LeavesAlso (changed_by asked) log old new → IsLeft near (book_after k asked (Failed f)) new
-left_by_a_fault near k asked f log old new up same tied holds leaves d left = by log tied holds (leaves d left)
+left_by_a_fault near k asked f log old new up of same tied holds leaves d left = by log tied holds (leaves d left)
   where
     by : (log : Option Content) → IsTied near k log → ((c d : Content) → log ≡ Some c → old d → d ≡ c)
         → old d ⊎ IsSomeAnd log (λ b. d ≡ changed_by asked b) → IsTiedDown near (book_after k asked (Failed f)) d
     by None tied holds r = absurd (up_content near k None up tied)
-    by (Some c) tied holds (inl o) = tied_fault near k asked f (Some c) (Some d) up same (inr (inl (ap (λ x. Some x) (holds c d refl o)))) tied d refl
-    by (Some c) tied holds (inr e) = tied_fault near k asked f (Some c) (Some d) up same (inr (inr (ap (λ x. Some x) e))) tied d refl
+    by (Some c) tied holds (inl o) = tied_fault near k asked f (Some c) (Some d) up of same (inr (inl (ap (λ x. Some x) (holds c d refl o)))) tied d refl
+    by (Some c) tied holds (inr e) = tied_fault near k asked f (Some c) (Some d) up of same (inr (inr (ap (λ x. Some x) e))) tied d refl
 
 pub left_by_a_restart : (near : Bool) (k : Book) (log : Option Content) (old new : Content → Type 0) → k.up ≡ false → IsTied near k log → IsLeft near k old
     → LeavesAlso with_bump log old new → IsLeft near (book_after k NoDoubt (Failed InRestart)) new

@@ -1,6 +1,6 @@
 -- A log whose rows agree with those of the book may be held by it.
-use Rattle.std.proofs.Common.{◌≡◌, ℕ, ◌⊎◌, inl, inr, ◌+◌, ◌-◌, List, [], ◌∷◌, Bool, true, false, not, ◌&&◌, ◌||◌, cond, is_eq, Option, Some, None, is_some, refl, sym, ap, ◌∙◌, subst, arith, Ordering, Equal, IsSomeAnd}
-use Rattle.std.specs.Prelude.{if◌then◌else◌, nat_eq}
+use Rattle.std.proofs.Common.{◌≡◌, ℕ, length, map, ◌⊎◌, inl, inr, ◌+◌, ◌-◌, List, [], ◌∷◌, Bool, true, false, not, ◌&&◌, ◌||◌, cond, is_eq, Option, Some, None, is_some, refl, sym, ap, ◌∙◌, subst, arith, Ordering, Equal, IsSomeAnd}
+use Rattle.std.specs.Prelude.{if◌then◌else◌, nat_eq, unwrap_or}
 use Rattle.std.specs.Global.{Vec}
 use Rattle.std.specs.BTreeMap.{BTreeMap, get as tree_get}
 use Rattle.std.specs.Map.{lookup}
@@ -8,8 +8,9 @@ use Rattle.std.specs.List.{list_all}
 use Rattle.std.specs.Option.{option_map}
 use Rattle.std.specs.Ordering.{eq_by_cmp}
 use Rattle.std.specs.Cmp.{IsTotalOrder}
-use Rattle.std.specs.FinMap.{FinMap, get, len, keys, entries, insert, remove, get-insert, get-remove, len-insert, len-remove, same_map}
+use Rattle.std.specs.FinMap.{FinMap, get, len, keys, entries, insert, remove, get-insert, get-remove, len-remove, same_map}
 use Rattle.std.proofs.lemmas.Bool.{and_parts, true≢false}
+use Rattle.std.proofs.lemmas.List.{length-map}
 use Rattle.std.proofs.lemmas.Bool.Decides.{eqb_tells}
 use Rattle.std.proofs.lemmas.Cmp.{eq_by_cmp_equiv}
 use Rattle.xa_base.specs.Branch.{gtrid_cmp, branch_cmp, gtrid_eq, branch_eq}
@@ -18,22 +19,28 @@ use Rattle.xa_base.specs.declared.branch.Gtrid.{Gtrid}
 use Rattle.xa_base.specs.declared.code.How.{How}
 use Rattle.xa_base.specs.declared.code.How.TheVariants.{Haz, Com, Rb, Mix}
 use Rattle.xa_base.proofs.BranchOrder.{branches_total, exact_branches, gtrids_total, exact_gtrids}
-use Rattle.xa_base.proofs.BranchKeys.{gtrid_eq-refl, branch_eq-refl}
-use Rattle.xa_base.proofs.Orders.{branch_swap, equal_is, gtrid_swap}
-use Rattle.xa_log.specs.Content.{AreOwn, Content, all_listed, with_decision, with_heuristic, unchanged}
+use Rattle.xa_base.proofs.BranchKeys.{branch_eq-refl, gtrid_eq-true}
+use Rattle.xa_base.proofs.Orders.{branch_swap, equal_is}
+use Rattle.xa_log.specs.Content.{AreOwn, Content, all_listed, with_heuristic, without_decisions, unchanged}
 use Rattle.xa_log.specs.Contract.{Makes}
 use Rattle.xa_log.specs.KeySet.{from_list}
+use Rattle.xa_log.specs.declared.decision.Decision.{Decision}
 use Rattle.xa_log.specs.declared.log_rows.LogRows.{LogRows}
-use Rattle.xa_tm.specs.Book.{Book, Waiting}
-use Rattle.xa_tm.specs.LedgerBook.{notes_at, doubt_of_change, as_book, row_at, waiting_of}
-use Rattle.xa_tm.specs.Swaps.{ReadsOf, rows_agree_with, records_agree_with, agrees, change_agrees, change_agrees_with, counts_agree, end_agrees, end_agrees_with, ends_agree, how_eq, is_how, kept_row, names_just, row_agrees, row_agrees_with, rows_agree, same_how, same_row}
-use Rattle.xa_tm.specs.BookAndLog.{MayHold, SameRows, changed_by}
+use Rattle.xa_model.proofs.Invariant.RowLists.{each_is}
+use Rattle.xa_model.specs.Facts.{has_gtrid}
+use Rattle.xa_model.specs.Facts.Distinct.{EachOnce}
+use Rattle.xa_tm.specs.Book.{Book, Waiting, Doubt, Doubt.Adds, Doubt.Drops, row_among, row_with, row_without}
+use Rattle.xa_tm.specs.LedgerBook.{notes_at, decided_row, doubt_of_change, as_book, gtrids_of, row_at, waiting_of}
+use Rattle.xa_tm.specs.Swaps.{ReadsOf, decided_agrees, dropped_agrees, each_once, keeps_row, lacks_row, rows_agree_with, records_agree_with, agrees, change_agrees, change_agrees_with, counts_agree, end_agrees, end_agrees_with, ends_agree, how_eq, is_how, kept_row, names_just, row_agrees, row_agrees_with, rows_agree, same_how, same_row}
+use Rattle.xa_tm.specs.BookAndLog.{IsChangeOf, MayHold, SameRows, changed_by, rows_of, with_rows}
 use Rattle.xa_tm.specs.declared.change.Change.{Change}
-use Rattle.xa_tm.specs.declared.change.Change.TheVariants.{AddRow, DropRow, AddRecord, Nothing}
+use Rattle.xa_tm.specs.declared.change.Change.TheVariants.{AddRows, DropRows, AddRecord, Nothing}
 use Rattle.xa_tm.specs.declared.ledger.Ledger.{Ledger}
 use Rattle.xa_tm.specs.declared.notes.BranchNotes.{BranchNotes}
 use Rattle.xa_tm.proofs.Maps.BranchSets.{sets_are}
 use Rattle.xa_tm.proofs.History.Starts.{started_as}
+use Rattle.xa_tm.proofs.Several.Contents.{added_heuristics, among_none, changed_at, changed_len, decided_names, dropped_at, dropped_heuristics, names_of, of_same, without_none, without_some}
+use Rattle.xa_tm.proofs.Several.Lists.{once_among, once_is, once_so}
 
 -- ** what agrees
 
@@ -74,6 +81,50 @@ ends_same own None e = sym (no_end own e)
 
 nat_is : (a b : ℕ) → nat_eq a b ≡ true → a ≡ b
 nat_is a b e = elim (eqb_tells a b) [ inl w ↦ w.1 | inr w ↦ absurd (true≢false (sym e ∙ w.0)) ]
+
+-- ** of several rows
+
+decided_is : (ds : List Decision) (own read : Option (Vec Branch)) (q : Gtrid) → decided_agrees ds read q (same_row own read) ≡ true
+    → option_map waiting_of read ≡ row_among (map decided_row ds) q (option_map waiting_of own)
+decided_is [] own read q e = rows_same own read e
+decided_is (d ∷ ds) own read q e = by (gtrid_eq d.gtrid q) e (decided_is ds own read q)
+  where
+    by : (t : Bool) → (if t then names_just read d.participants.items else decided_agrees ds read q (same_row own read)) ≡ true
+        → (decided_agrees ds read q (same_row own read) ≡ true → option_map waiting_of read ≡ row_among (map decided_row ds) q (option_map waiting_of own))
+        → option_map waiting_of read
+        ≡ (if t then Some (waiting_of d.participants) else row_among (map decided_row ds) q (option_map waiting_of own))
+    by true e rest = names_is read d.participants.items e
+    by false e rest = rest e
+
+dropped_is : (gs : List Gtrid) (own read : Option (Vec Branch)) (q : Gtrid) → dropped_agrees gs read q (same_row own read) ≡ true
+    → option_map waiting_of read ≡ row_without gs q (option_map waiting_of own)
+dropped_is gs own read q e = by (has_gtrid gs q) refl e
+  where
+    by : (t : Bool) → has_gtrid gs q ≡ t → (if t then not (is_some read) else same_row own read) ≡ true
+        → option_map waiting_of read ≡ row_without gs q (option_map waiting_of own)
+    by true is e = no_row read e ∙ sym (without_some gs q (option_map waiting_of own) is)
+    by false is e = rows_same own read e ∙ sym (without_none gs q (option_map waiting_of own) is)
+
+some_kept : (row : Option (Vec Branch)) → is_some row ≡ true → is_some (option_map waiting_of row) ≡ true
+some_kept (Some v) e = refl
+some_kept None e = absurd (cc)
+
+named_all : (p : Gtrid → Bool) (gs : List Gtrid) (q : Gtrid) → has_gtrid gs q ≡ true → list_all p gs ≡ true → p q ≡ true
+named_all p [] q e all = absurd (cc)
+named_all p (g ∷ gs) q e all =
+    let parts = and_parts (p g) (list_all p gs) all in by (gtrid_eq g q) refl e parts.0 (λ is. named_all p gs q is parts.1)
+  where
+    by : (t : Bool) → gtrid_eq g q ≡ t → (t || has_gtrid gs q) ≡ true → p g ≡ true → (has_gtrid gs q ≡ true → p q ≡ true) → p q ≡ true
+    by true same e passes rest = ap p (sym (gtrid_eq-true g q same)) ∙ passes
+    by false other e passes rest = rest e
+
+decided_all : (p : Gtrid → Bool) (ds : List Decision) (q : Gtrid) → has_gtrid (gtrids_of ds) q ≡ true
+    → list_all (λ (d : Decision). p d.gtrid) ds ≡ true → p q ≡ true
+decided_all p ds q e all = named_all p (gtrids_of ds) q e (of_names ds ∙ all)
+  where
+    of_names : (ds : List Decision) → list_all p (gtrids_of ds) ≡ list_all (λ (d : Decision). p d.gtrid) ds
+    of_names [] = refl
+    of_names (d ∷ ds) = ap (λ t. p d.gtrid && t) (of_names ds)
 
 -- a test that all entries pass
 all_at : {K X : Type 0} (R : K → K → Ordering) → ((a b : K) → R a b ≡ Equal → a ≡ b) → (p : K → Bool) (q : K) (es : List (K × X))
@@ -177,21 +228,14 @@ module _ (k n : Ledger) (c : Content) (reads : Reads n c) where
 -- ** maps with one key more or less
 
 module _ {K X : Type 0} {R : K → K → Ordering} (o : IsTotalOrder R) (exact : (a b : K) → R a b ≡ Equal → a ≡ b) (m : FinMap R X) (k : K) (v : X) where
-  pub put_back : get m k ≡ Some v → insert (remove m k) k v ≡ m
+  put_back : get m k ≡ Some v → insert (remove m k) k v ≡ m
   put_back has = same_map o exact _ _ (λ q. get-insert o (remove m k) k v q ∙ by q (eq_by_cmp R q k) refl)
     where
       by : (q : K) (t : Bool) → eq_by_cmp R q k ≡ t → cond (eq_by_cmp R q k) (Some v) (get (remove m k) q) ≡ get m q
       by q true h = ap (λ t. cond t (Some v) (get (remove m k) q)) h ∙ sym has ∙ ap (get m) (sym (exact q k (equal_is _ h)))
       by q false h = ap (λ t. cond t (Some v) (get (remove m k) q)) h ∙ get-remove o m k q ∙ ap (λ t. cond t None (get m q)) h
 
-  take_back : get m k ≡ None → remove (insert m k v) k ≡ m
-  take_back none = same_map o exact _ _ (λ q. get-remove o (insert m k v) k q ∙ by q (eq_by_cmp R q k) refl)
-    where
-      by : (q : K) (t : Bool) → eq_by_cmp R q k ≡ t → cond (eq_by_cmp R q k) None (get (insert m k v) q) ≡ get m q
-      by q true h = ap (λ t. cond t None (get (insert m k v) q)) h ∙ sym none ∙ ap (get m) (sym (exact q k (equal_is _ h)))
-      by q false h = ap (λ t. cond t None (get (insert m k v) q)) h ∙ get-insert o m k v q ∙ ap (λ t. cond t (Some v) (get m q)) h
-
-  pub is_gone : get (remove m k) k ≡ None
+  is_gone : get (remove m k) k ≡ None
   is_gone = get-remove o m k k ∙ ap (λ t. cond t None (get m k)) ((eq_by_cmp_equiv o).refl k)
 
   gone : (q : K) → get (remove m k) q ≡ cond (eq_by_cmp R q k) None (get m q)
@@ -199,9 +243,6 @@ module _ {K X : Type 0} {R : K → K → Ordering} (o : IsTotalOrder R) (exact :
 
   one_less : get m k ≡ Some v → len (remove m k) ≡ len m - 1
   one_less has = len-remove o m k ∙ ap (λ w. cond (is_some w) (len m - 1) (len m)) has
-
-  one_more : get m k ≡ None → len (insert m k v) ≡ len m + 1
-  one_more none = len-insert o m k v ∙ ap (λ w. cond (is_some w) (len m) (len m + 1)) none
 
 module _ (k n : Ledger) (c : Content) (reads : Reads n c) where
   abbrev AgreeRows : Change → Type 0
@@ -218,14 +259,6 @@ module _ (k n : Ledger) (c : Content) (reads : Reads n c) where
     rows : AgreeRows d
     ends : AgreeEnds d
 
-  -- a row of another transaction than that of the change
-  other_row : (g q : Gtrid) (b : Bool) → gtrid_eq g q ≡ false
-      → ((kept_row k.rows q ≡ None) × (kept_row n.rows q ≡ None)) ⊎ ((if gtrid_eq g q then b else same_row (kept_row k.rows q) (kept_row n.rows q)) ≡ true)
-      → get c.decisions q ≡ row_at k.rows q
-  other_row g q b other (inl none) = reads.row q ∙ both_none (kept_row k.rows q) (kept_row n.rows q) none.0 none.1
-  other_row g q b other (inr is) = reads.row q
-      ∙ rows_same (kept_row k.rows q) (kept_row n.rows q) (ap (λ t. if t then b else same_row (kept_row k.rows q) (kept_row n.rows q)) (sym other) ∙ is)
-
   other_end : (b q : Branch) (t : Bool) → branch_eq b q ≡ false
       → (((notes_at k.branches q).recorded ≡ None) × ((notes_at n.branches q).recorded ≡ None))
       ⊎ ((if branch_eq b q then t else same_how (notes_at k.branches q).recorded (notes_at n.branches q).recorded) ≡ true)
@@ -234,68 +267,166 @@ module _ (k n : Ledger) (c : Content) (reads : Reads n c) where
   other_end b q t other (inr is) = reads.end q
       ∙ ends_same _ _ (ap (λ s. if s then t else same_how (notes_at k.branches q).recorded (notes_at n.branches q).recorded) (sym other) ∙ is)
 
-  -- a row is there that the change adds
-  added : (g : Gtrid) (v : Vec Branch) → k.doubt ≡ AddRow g v → (names_just (kept_row n.rows g) v.items && not (is_some (kept_row k.rows g))) ≡ true
-      → Agrees (AddRow g v) → MayHold (as_book k) c
-  added g v is change a =
-      let parts = and_parts (names_just (kept_row n.rows g) v.items) (not (is_some (kept_row k.rows g))) change in
-      let has : get c.decisions g ≡ Some (waiting_of v) = reads.row g ∙ names_is (kept_row n.rows g) v.items parts.0 in
-      let none : row_at k.rows g ≡ None = no_row (kept_row k.rows g) parts.1 in
-      let before : Content = record c { decisions = remove c.decisions g } in (
-        before,
-        record {
-          rows = λ q. gone gtrids_total exact_gtrids c.decisions g (waiting_of v) q ∙ by q (eq_by_cmp gtrid_cmp q g) refl none;
-          row_number = one_less gtrids_total exact_gtrids c.decisions g (waiting_of v) has ∙ fewer (reads.rows ∙ nat_is n.row_count (k.row_count + 1) a.row);
-          records = same_ends k n c reads a.ends;
-          record_number = reads.ends ∙ nat_is n.records k.records a.record_;
-        },
-        inr (subst (λ d. SameRows c (changed_by d before)) (sym (ap doubt_of_change is)) (record {
-          decisions = sym (put_back gtrids_total exact_gtrids c.decisions g (waiting_of v) has)
-              ∙ sym (ap (λ t. (if t then before else with_decision g (waiting_of v) before).decisions)
-              (ap is_some (is_gone gtrids_total exact_gtrids c.decisions g (waiting_of v))));
-          heuristics =
-              sym (ap (λ t. (if t then before else with_decision g (waiting_of v) before).heuristics)
-              (ap is_some (is_gone gtrids_total exact_gtrids c.decisions g (waiting_of v))));
-        })),
-      )
-    where
-      fewer : len c.decisions ≡ k.row_count + 1 → len c.decisions - 1 ≡ k.row_count
-      fewer e = omega arith
+  -- what is read has these rows, each with the change
+  module _ (d : Doubt) (is : doubt_of_change k.doubt ≡ d) (of : IsChangeOf (row_at k.rows) d) (before : Content)
+      (ends : before.heuristics ≡ c.heuristics) (same_end : (changed_by d before).heuristics ≡ before.heuristics)
+      (was : (q : Gtrid) → get before.decisions q ≡ row_at k.rows q)
+      (at : (q : Gtrid) → get c.decisions q ≡ row_with d q (row_at k.rows q)) where
+    made_so : SameRows c (changed_by d before)
+    made_so = record {
+      decisions = same_map gtrids_total exact_gtrids _ _ (λ q.
+          at q ∙ ap (row_with d q) (sym (was q)) ∙ sym (changed_at d before (of_same (row_at k.rows) (λ g. get before.decisions g) d was of) q));
+      heuristics = sym ends ∙ sym same_end;
+    }
 
-      by : (q : Gtrid) (t : Bool) → eq_by_cmp gtrid_cmp q g ≡ t → row_at k.rows g ≡ None
-          → cond (eq_by_cmp gtrid_cmp q g) None (get c.decisions q) ≡ row_at k.rows q
-      by q true h none = ap (λ t. cond t None (get c.decisions q)) h ∙ sym none ∙ ap (row_at k.rows) (sym (exact_gtrids q g (equal_is _ h)))
-      by q false h none =
-          ap (λ t. cond t None (get c.decisions q)) h
-          ∙ other_row g q (names_just (kept_row n.rows q) v.items && not (is_some (kept_row k.rows q))) (sym (gtrid_swap g q) ∙ h) (a.rows q)
+    before_len : rows_of d (len before.decisions) ≡ n.row_count
+    before_len = sym (changed_len d before (of_same (row_at k.rows) (λ g. get before.decisions g) d was of)) ∙ ap len (sym made_so.decisions) ∙ reads.rows
 
-  -- a row is gone that the change takes away
-  dropped : (g : Gtrid) → k.doubt ≡ DropRow g → (not (is_some (kept_row n.rows g)) && is_some (kept_row k.rows g)) ≡ true
-      → Agrees (DropRow g) → MayHold (as_book k) c
-  dropped g is change a =
-      let parts = and_parts (not (is_some (kept_row n.rows g))) (is_some (kept_row k.rows g)) change in
-      let none : get c.decisions g ≡ None = reads.row g ∙ no_row (kept_row n.rows g) parts.0 in
-      let own = a_row (kept_row k.rows g) parts.1 in
-      let before : Content = record c { decisions = insert c.decisions g own.0 } in (
-        before,
-        record {
-          rows = λ q. get-insert gtrids_total c.decisions g own.0 q ∙ by q own.0 (eq_by_cmp gtrid_cmp q g) refl own.1;
-          row_number = one_more gtrids_total exact_gtrids c.decisions g own.0 none ∙ ap (λ i. i + 1) reads.rows ∙ nat_is (n.row_count + 1) k.row_count a.row;
-          records = same_ends k n c reads a.ends;
-          record_number = reads.ends ∙ nat_is n.records k.records a.record_;
-        },
-        inr (subst (λ d. SameRows c (changed_by d before)) (sym (ap doubt_of_change is)) (record {
-          decisions = sym (take_back gtrids_total exact_gtrids c.decisions g own.0 none);
-          heuristics = refl;
-        })),
-      )
+    with_rows_changed : len before.decisions ≡ k.row_count
+        → ((q : Branch) → get c.heuristics q ≡ (notes_at k.branches q).recorded) → n.records ≡ k.records → MayHold (as_book k) c
+    with_rows_changed number recs records = (
+      before,
+      record {
+        rows = was;
+        row_number = number;
+        records = λ q. ap (λ m. get m q) ends ∙ recs q;
+        record_number = ap len ends ∙ reads.ends ∙ records;
+      },
+      inr (subst (λ x. IsChangeOf (row_at k.rows) x × SameRows c (changed_by x before)) (sym is) (of, made_so)),
+    )
+
+  -- rows are there that the change adds
+  added : (v : Vec Decision) → k.doubt ≡ AddRows v → change_agrees_with (AddRows v) k n ≡ true → Agrees (AddRows v) → MayHold (as_book k) c
+  added v is change a =
+      with_rows_changed (Adds xs) (ap doubt_of_change is) of (without_decisions gs c) (dropped_heuristics gs c)
+      (added_heuristics xs (without_decisions gs c)) was at
+      (number (before_len (Adds xs) (ap doubt_of_change is) of (without_decisions gs c) (dropped_heuristics gs c)
+      (added_heuristics xs (without_decisions gs c)) was at) (nat_is n.row_count (k.row_count + length v.items) a.row))
+      (same_ends k n c reads a.ends) (nat_is n.records k.records a.record_)
     where
-      by : (q : Gtrid) (w : Waiting) (t : Bool) → eq_by_cmp gtrid_cmp q g ≡ t → row_at k.rows g ≡ Some w
-          → cond (eq_by_cmp gtrid_cmp q g) (Some w) (get c.decisions q) ≡ row_at k.rows q
-      by q w true h own = ap (λ t. cond t (Some w) (get c.decisions q)) h ∙ sym own ∙ ap (row_at k.rows) (sym (exact_gtrids q g (equal_is _ h)))
-      by q w false h own =
-          ap (λ t. cond t (Some w) (get c.decisions q)) h
-          ∙ other_row g q (not (is_some (kept_row n.rows q)) && is_some (kept_row k.rows q)) (sym (gtrid_swap g q) ∙ h) (a.rows q)
+      xs : List (Gtrid × Waiting)
+      xs = map decided_row v.items
+
+      gs : List Gtrid
+      gs = gtrids_of v.items
+
+      parts : (each_once (lacks_row k) gs ≡ true) × (list_all (λ (d : Decision). row_agrees true k n d.gtrid) v.items ≡ true)
+      parts = and_parts _ _ change
+
+      none : EachOnce (λ g. row_at k.rows g ≡ None) gs
+      none = once_so (λ g. lacks_row k g ≡ true) (λ g. row_at k.rows g ≡ None) gs (λ g e. no_row (kept_row k.rows g) e) (once_is (lacks_row k) gs parts.0)
+
+      of : IsChangeOf (row_at k.rows) (Adds xs)
+      of = subst (EachOnce (λ g. row_at k.rows g ≡ None)) (sym (decided_names v.items)) none
+
+      agreed : (q : Gtrid) → row_agrees_with (AddRows v) k.rows n.rows q ≡ true → get c.decisions q ≡ row_among xs q (row_at k.rows q)
+      agreed q e = reads.row q ∙ decided_is v.items (kept_row k.rows q) (kept_row n.rows q) q e
+
+      at : (q : Gtrid) → get c.decisions q ≡ row_among xs q (row_at k.rows q)
+      at q = by (has_gtrid gs q) refl (a.rows q)
+        where
+          by : (t : Bool) → has_gtrid gs q ≡ t
+              → ((kept_row k.rows q ≡ None) × (kept_row n.rows q ≡ None)) ⊎ (row_agrees_with (AddRows v) k.rows n.rows q ≡ true)
+              → get c.decisions q ≡ row_among xs q (row_at k.rows q)
+          by t e (inr is_so) = agreed q is_so
+          by true e (inl nothing) =
+              agreed q (subst (λ d. row_agrees_with d k.rows n.rows q ≡ true) is (decided_all (row_agrees true k n) v.items q e parts.1))
+          by false e (inl nothing) =
+              reads.row q ∙ both_none (kept_row k.rows q) (kept_row n.rows q) nothing.0 nothing.1
+              ∙ sym (among_none xs q (row_at k.rows q) (ap (λ l. has_gtrid l q) (decided_names v.items) ∙ e))
+
+      was : (q : Gtrid) → get (without_decisions gs c).decisions q ≡ row_at k.rows q
+      was q = dropped_at gs c q ∙ ap (row_without gs q) (at q) ∙ by (has_gtrid gs q) refl
+        where
+          by : (t : Bool) → has_gtrid gs q ≡ t → row_without gs q (row_among xs q (row_at k.rows q)) ≡ row_at k.rows q
+          by true e = without_some gs q _ e ∙ sym (each_is (λ g. row_at k.rows g ≡ None) gs none q e)
+          by false e = without_none gs q _ e ∙ among_none xs q (row_at k.rows q) (ap (λ l. has_gtrid l q) (decided_names v.items) ∙ e)
+
+      number : len (without_decisions gs c).decisions + length xs ≡ n.row_count → n.row_count ≡ k.row_count + length v.items
+          → len (without_decisions gs c).decisions ≡ k.row_count
+      number before now = let long : length xs ≡ length v.items = length-map v.items decided_row in omega (arith, before, now, long)
+
+  -- rows are gone that the change takes away
+  dropped : (g : Gtrid) (v : Vec Gtrid) → k.doubt ≡ DropRows g v → change_agrees_with (DropRows g v) k n ≡ true
+      → Agrees (DropRows g v) → MayHold (as_book k) c
+  dropped g v is change a =
+      with_rows_changed (Drops gs) (ap doubt_of_change is) there (with_rows xs c) (added_heuristics xs c)
+      (dropped_heuristics gs (with_rows xs c)) was at number
+      (same_ends k n c reads a.ends) (nat_is n.records k.records a.record_)
+    where
+      gs : List Gtrid
+      gs = g ∷ v.items
+
+      -- the rows that are gone
+      own : Gtrid → Gtrid × Waiting
+      own h = (h, unwrap_or (row_at k.rows h) (from_list []))
+
+      xs : List (Gtrid × Waiting)
+      xs = map own gs
+
+      names : (hs : List Gtrid) → names_of (map own hs) ≡ hs
+      names [] = refl
+      names (h ∷ hs) = ap (λ l. h ∷ l) (names hs)
+
+      parts : (each_once (keeps_row k) gs ≡ true) × (list_all (row_agrees true k n) gs ≡ true)
+      parts = and_parts _ _ change
+
+      there : EachOnce (λ h. is_some (row_at k.rows h) ≡ true) gs
+      there = once_so (λ h. keeps_row k h ≡ true) (λ h. is_some (row_at k.rows h) ≡ true) gs (λ h e. some_kept (kept_row k.rows h) e)
+          (once_is (keeps_row k) gs parts.0)
+
+      agreed : (q : Gtrid) → row_agrees_with (DropRows g v) k.rows n.rows q ≡ true → get c.decisions q ≡ row_without gs q (row_at k.rows q)
+      agreed q e = reads.row q ∙ dropped_is gs (kept_row k.rows q) (kept_row n.rows q) q e
+
+      at : (q : Gtrid) → get c.decisions q ≡ row_without gs q (row_at k.rows q)
+      at q = by (has_gtrid gs q) refl (a.rows q)
+        where
+          by : (t : Bool) → has_gtrid gs q ≡ t
+              → ((kept_row k.rows q ≡ None) × (kept_row n.rows q ≡ None)) ⊎ (row_agrees_with (DropRows g v) k.rows n.rows q ≡ true)
+              → get c.decisions q ≡ row_without gs q (row_at k.rows q)
+          by t e (inr is_so) = agreed q is_so
+          by true e (inl nothing) =
+              agreed q (subst (λ d. row_agrees_with d k.rows n.rows q ≡ true) is (named_all (row_agrees true k n) gs q e parts.1))
+          by false e (inl nothing) =
+              reads.row q ∙ both_none (kept_row k.rows q) (kept_row n.rows q) nothing.0 nothing.1 ∙ sym (without_none gs q (row_at k.rows q) e)
+
+      gone : EachOnce (λ h. get c.decisions h ≡ None) gs
+      gone = once_among (λ h. is_some (row_at k.rows h) ≡ true) (λ h. get c.decisions h ≡ None) gs
+          (λ h is_one some. at h ∙ without_some gs h (row_at k.rows h) is_one) there
+
+      new : IsChangeOf (λ h. get c.decisions h) (Adds xs)
+      new = subst (EachOnce (λ h. get c.decisions h ≡ None)) (sym (names gs)) gone
+
+      was : (q : Gtrid) → get (with_rows xs c).decisions q ≡ row_at k.rows q
+      was q = changed_at (Adds xs) c new q ∙ by (has_gtrid gs q) refl
+        where
+          by : (t : Bool) → has_gtrid gs q ≡ t → row_among xs q (get c.decisions q) ≡ row_at k.rows q
+          by true e = own_among gs e ∙ kept (row_at k.rows q) (each_is (λ p. is_some (row_at k.rows p) ≡ true) gs there q e)
+            where
+              kept : (o : Option Waiting) → is_some o ≡ true → Some (unwrap_or o (from_list [])) ≡ o
+              kept None some = absurd (cc)
+              kept (Some w) some = refl
+
+              own_among : (hs : List Gtrid) → has_gtrid hs q ≡ true → row_among (map own hs) q (get c.decisions q) ≡ Some (unwrap_or (row_at k.rows q) (from_list []))
+              own_among [] e = absurd (cc)
+              own_among (h ∷ hs) e = here (gtrid_eq h q) refl e (own_among hs)
+                where
+                  here : (t : Bool) → gtrid_eq h q ≡ t → (t || has_gtrid hs q) ≡ true
+                      → (has_gtrid hs q ≡ true → row_among (map own hs) q (get c.decisions q) ≡ Some (unwrap_or (row_at k.rows q) (from_list [])))
+                      → (if t then Some (unwrap_or (row_at k.rows h) (from_list [])) else row_among (map own hs) q (get c.decisions q))
+                      ≡ Some (unwrap_or (row_at k.rows q) (from_list []))
+                  here true same e rest = ap (λ p. Some (unwrap_or (row_at k.rows p) (from_list []))) (gtrid_eq-true h q same)
+                  here false other e rest = rest e
+          by false e =
+              among_none xs q (get c.decisions q) (ap (λ l. has_gtrid l q) (names gs) ∙ e) ∙ at q ∙ without_none gs q (row_at k.rows q) e
+
+      number : len (with_rows xs c).decisions ≡ k.row_count
+      number =
+          let more = changed_len (Adds xs) c new in
+          let long : length xs ≡ length gs = length-map gs own in
+          let read = reads.rows in
+          let less = nat_is (n.row_count + (length v.items + 1)) k.row_count a.row in
+          omega (arith, more, long, read, less)
 
   -- a record is there that the change makes
   noted : (b : Branch) (how : How) → k.doubt ≡ AddRecord b how
@@ -313,14 +444,17 @@ module _ (k n : Ledger) (c : Content) (reads : Reads n c) where
           records = λ q. gone branches_total exact_branches c.heuristics b how q ∙ by q (eq_by_cmp branch_cmp q b) refl none;
           record_number = one_less branches_total exact_branches c.heuristics b how has ∙ fewer (reads.ends ∙ nat_is n.records (k.records + 1) a.record_);
         },
-        inr (subst (λ d. SameRows c (changed_by d before)) (sym (ap doubt_of_change is)) (record {
-          decisions =
-              sym (ap (λ t. (if t then before else with_heuristic b how before).decisions)
-              (ap is_some (is_gone branches_total exact_branches c.heuristics b how)));
-          heuristics = sym (put_back branches_total exact_branches c.heuristics b how has)
-              ∙ sym (ap (λ t. (if t then before else with_heuristic b how before).heuristics)
-              (ap is_some (is_gone branches_total exact_branches c.heuristics b how)));
-        })),
+        inr (subst (λ d. IsChangeOf (row_at k.rows) d × SameRows c (changed_by d before)) (sym (ap doubt_of_change is)) (
+          tt,
+          record {
+            decisions =
+                sym (ap (λ t. (if t then before else with_heuristic b how before).decisions)
+                (ap is_some (is_gone branches_total exact_branches c.heuristics b how)));
+            heuristics = sym (put_back branches_total exact_branches c.heuristics b how has)
+                ∙ sym (ap (λ t. (if t then before else with_heuristic b how before).heuristics)
+                (ap is_some (is_gone branches_total exact_branches c.heuristics b how)));
+          },
+        )),
       )
     where
       fewer : len c.heuristics ≡ k.records + 1 → len c.heuristics - 1 ≡ k.records
@@ -335,21 +469,8 @@ module _ (k n : Ledger) (c : Content) (reads : Reads n c) where
 
   -- with the change in doubt
   changed : (d : Change) → k.doubt ≡ d → Agrees d → MayHold (as_book k) c
-  changed (AddRow g v) is a =
-      added g v is (at (gtrid_eq-refl g) (subst (λ d. row_agrees_with d k.rows n.rows g ≡ true) is a.change)) a
-    where
-      at : gtrid_eq g g ≡ true → row_agrees_with (AddRow g v) k.rows n.rows g ≡ true
-          → (names_just (kept_row n.rows g) v.items && not (is_some (kept_row k.rows g))) ≡ true
-      at same e =
-          sym (ap (λ t. if t then (names_just (kept_row n.rows g) v.items && not (is_some (kept_row k.rows g)))
-          else same_row (kept_row k.rows g) (kept_row n.rows g)) same) ∙ e
-  changed (DropRow g) is a =
-      dropped g is (at (gtrid_eq-refl g) (subst (λ d. row_agrees_with d k.rows n.rows g ≡ true) is a.change)) a
-    where
-      at : gtrid_eq g g ≡ true → row_agrees_with (DropRow g) k.rows n.rows g ≡ true → (not (is_some (kept_row n.rows g)) && is_some (kept_row k.rows g)) ≡ true
-      at same e =
-          sym (ap (λ t. if t then (not (is_some (kept_row n.rows g)) && is_some (kept_row k.rows g)) else same_row (kept_row k.rows g) (kept_row n.rows g))
-          same) ∙ e
+  changed (AddRows v) is a = added v is a.change a
+  changed (DropRows g v) is a = dropped g v is a.change a
   changed (AddRecord b how) is a =
       noted b how is (at (branch_eq-refl b)
       (subst (λ d. end_agrees_with d (notes_at k.branches b).recorded (notes_at n.branches b).recorded b ≡ true) is a.change)) a

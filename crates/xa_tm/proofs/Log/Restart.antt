@@ -1,26 +1,27 @@
 -- The manager comes up again.
-use Rattle.std.proofs.Common.{◌≡◌, ◌≤◌, ◌⊎◌, inl, inr, ℕ, ◌<◌, List, length, ◌+◌, ◌-◌, ◌==◌, Bool, true, false, not, cond, Option, Some, None, IsSomeAnd, is_some, refl, sym, ap, ◌∙◌, subst, arith, Ordering}
+use Rattle.std.proofs.Common.{◌≡◌, ◌≤◌, ◌⊎◌, inl, inr, ℕ, ◌<◌, List, length, ◌+◌, ◌-◌, ◌==◌, Bool, true, false, not, cond, Option, Some, None, IsSomeAnd, is_some, refl, sym, ap, ◌∙◌, subst, arith}
 use Rattle.std.proofs.lemmas.List.{length-map}
 use Rattle.std.specs.Prelude.{if◌then◌else◌, nat_eq, nat_le, nat_lt, ◌&&◌, ◌||◌}
 use Rattle.std.specs.Option.{option_or}
-use Rattle.std.specs.FinMap.{FinMap, entries, keys, get, len, len-entries, insert, remove, contains_key, get-empty, get-insert, get-remove, len-insert, len-remove, empty_of_len}
+use Rattle.std.specs.FinMap.{entries, keys, get, len, len-entries, insert, contains_key, get-insert, len-insert}
 use Rattle.std.proofs.lemmas.Bool.{true≢false, and_parts, eqb-true, eq-eqb, leb-true, ltb-true, or_cases}
-use Rattle.xa_base.specs.Branch.{branch_eq, gtrid_eq}
+use Rattle.xa_base.specs.Branch.{branch_eq}
 use Rattle.xa_model.specs.Trace.{Fault.InRestart, Happening.Failed, Happening.Restarted}
 use Rattle.xa_base.specs.declared.branch.Branch.{Branch}
 use Rattle.xa_base.specs.declared.branch.Gtrid.{Gtrid}
 use Rattle.xa_base.specs.declared.code.How.{How}
-use Rattle.xa_base.proofs.BranchOrder.{branches_total, gtrids_total}
-use Rattle.xa_base.proofs.BranchKeys.{branch_eq-true, gtrid_eq-true}
-use Rattle.xa_base.proofs.Orders.{gtrid_swap, branch_swap}
+use Rattle.xa_base.proofs.BranchOrder.{branches_total}
+use Rattle.xa_base.proofs.BranchKeys.{branch_eq-true}
+use Rattle.xa_base.proofs.Orders.{branch_swap}
 use Rattle.xa_log.specs.Content.{Content, with_bump, unchanged}
 use Rattle.xa_log.specs.Contract.{Makes, MayMake}
 use Rattle.xa_tm.specs.Book.{Book, Waiting, Doubt, Doubt.Adds, Doubt.Drops, Doubt.Records, Doubt.NoDoubt, after, book_after, row_with, recorded_with, records_with}
 use Rattle.xa_tm.specs.LedgerBook.{come_up_with, without_doubt, notes_of}
 use Rattle.xa_tm.specs.News.{found_ended}
 use Rattle.xa_tm.specs.declared.notes.BranchNotes.{BranchNotes}
-use Rattle.xa_tm.specs.BookAndLog.{FoundIn, IsFound, may_find, rows_of, HoldsBook, changed_by, SameRows, IsTiedUp, IsTiedDown, TiedBy, IsTied}
+use Rattle.xa_tm.specs.BookAndLog.{FoundIn, IsChangeOf, IsFound, may_find, rows_of, HoldsBook, changed_by, SameRows, IsTiedUp, IsTiedDown, TiedBy, IsTied}
 use Rattle.xa_tm.proofs.History.OneMore.{book_is}
+use Rattle.xa_tm.proofs.Several.Contents.{added_heuristics, changed_at, changed_len, dropped_heuristics, of_same, still_at}
 
 -- a choice the other way round
 turned : {X : Type 0} (e : Bool) (x y : X) → (if not e then x else y) ≡ (if e then y else x)
@@ -80,57 +81,21 @@ other_number d m never = by (d == m) refl
     by true e = absurd (never (eqb-true d m e))
     by false e = e
 
-module _ {K X : Type 0} {R : K → K → Ordering} where
-  has_length : (c : FinMap R X) (q : K) → contains_key c q ≡ true → len c ≡ 0 → ⊥
-  has_length c q has none = true≢false (sym has ∙ ap (λ (x : FinMap R X). is_some (get x q)) (empty_of_len c none) ∙ ap is_some (get-empty R q))
-
 module _ (c : Content) (row : Gtrid → Option Waiting) (m : ℕ) (at : (g : Gtrid) → get c.decisions g ≡ row g) (number : len c.decisions ≡ m) where
   stays : (d : ℕ) → d ≡ m → (g : Gtrid) (other : Option Waiting) → get c.decisions g ≡ (if d == m then row g else other)
   stays d e g other = at g ∙ sym (ap (λ (t : Bool). if t then row g else other) (same_number d m e))
 
   -- the number of rows tells whether the change was made
-  pub rows_found : (asked : Doubt) (d : ℕ) → d ≡ len (changed_by asked c).decisions → (g : Gtrid)
+  pub rows_found : (asked : Doubt) → IsChangeOf row asked → (d : ℕ) → d ≡ len (changed_by asked c).decisions → (g : Gtrid)
       → get (changed_by asked c).decisions g ≡ (if d == m then row g else row_with asked g (row g))
-  rows_found (Records b how) d is g = by (contains_key c.heuristics b) is
+  rows_found asked of d is g = changed_at asked c here g ∙ ap (row_with asked g) (at g) ∙ by (d == m) refl
     where
-      by : (t : Bool) → d ≡ len (if t then c else record c { heuristics = insert c.heuristics b how }).decisions
-          → get (if t then c else record c { heuristics = insert c.heuristics b how }).decisions g ≡ (if d == m then row g else row g)
-      by true e = stays d (e ∙ number) g (row g)
-      by false e = stays d (e ∙ number) g (row g)
-  rows_found NoDoubt d is g = stays d (is ∙ number) g (row g)
-  rows_found (Adds h set) d is g = by (contains_key c.decisions h) refl is
-    where
-      by : (t : Bool) → contains_key c.decisions h ≡ t → d ≡ len (if t then c else record c { decisions = insert c.decisions h set }).decisions
-          → get (if t then c else record c { decisions = insert c.decisions h set }).decisions g
-          ≡ (if d == m then row g else (if gtrid_eq h g then Some set else row g))
-      by true has e = stays d (e ∙ number) g _
-      by false has e =
-          let more = e ∙ len-insert gtrids_total c.decisions h set ∙ ap (λ t. cond t (len c.decisions) (len c.decisions + 1)) has ∙ ap (λ n. n + 1) number in
-          get-insert gtrids_total c.decisions h set g ∙ ap (λ t. cond t (Some set) (get c.decisions g)) (gtrid_swap h g)
-          ∙ ap (cond (gtrid_eq h g) (Some set)) (at g)
-          ∙ sym (ap (λ (t : Bool). if t then row g else (if gtrid_eq h g then Some set else row g))
-          (other_number d m (λ same. let no : ⊥ = absurd (omega (arith, more, same)) in no)))
-  rows_found (Drops h) d is g = by (contains_key c.decisions h) refl
-    where
-      removed : get (remove c.decisions h) g ≡ (if gtrid_eq h g then None else row g)
-      removed = get-remove gtrids_total c.decisions h g ∙ ap (λ t. cond t None (get c.decisions g)) (gtrid_swap h g) ∙ ap (cond (gtrid_eq h g) None) (at g)
+      here : IsChangeOf (λ q. get c.decisions q) asked
+      here = of_same row (λ q. get c.decisions q) asked at of
 
-      gone : (t : Bool) → gtrid_eq h g ≡ t → contains_key c.decisions h ≡ false → (if t then None else row g) ≡ row g
-      gone true e has = sym (nothing (row g) (ap is_some (sym (at g)) ∙ ap (contains_key c.decisions) (sym (gtrid_eq-true h g e)) ∙ has))
-        where
-          nothing : (o : Option Waiting) → is_some o ≡ false → o ≡ None
-          nothing None z = refl
-          nothing (Some x) z = absurd (cc)
-      gone false e has = refl
-
-      by : (t : Bool) → contains_key c.decisions h ≡ t → get (remove c.decisions h) g ≡ (if d == m then row g else (if gtrid_eq h g then None else row g))
-      by true has =
-          let less = is ∙ len-remove gtrids_total c.decisions h ∙ ap (λ t. cond t (len c.decisions - 1) (len c.decisions)) has ∙ ap (λ n. n - 1) number in
-          removed ∙ sym (ap (λ (t : Bool). if t then row g else (if gtrid_eq h g then None else row g))
-          (other_number d m (λ same. has_length c.decisions h has (let none : len c.decisions ≡ 0 = omega (arith, number, less, same) in none))))
-      by false has =
-          let equal = is ∙ len-remove gtrids_total c.decisions h ∙ ap (λ t. cond t (len c.decisions - 1) (len c.decisions)) has ∙ number in
-          removed ∙ gone (gtrid_eq h g) refl has ∙ sym (ap (λ (t : Bool). if t then row g else (if gtrid_eq h g then None else row g)) (same_number d m equal))
+      by : (t : Bool) → (d == m) ≡ t → row_with asked g (row g) ≡ (if t then row g else row_with asked g (row g))
+      by true e = still_at asked c here (sym is ∙ eqb-true d m e ∙ sym number) g (row g)
+      by false e = refl
 
 module _ (c : Content) (recs : Branch → Option How) (m : ℕ) (at : (b : Branch) → get c.heuristics b ≡ recs b) (number : len c.heuristics ≡ m) where
   keeps : (d : ℕ) → d ≡ m → (q : Branch) (other : Option How) → get c.heuristics q ≡ (if d == m then recs q else other)
@@ -138,13 +103,8 @@ module _ (c : Content) (recs : Branch → Option How) (m : ℕ) (at : (b : Branc
 
   pub records_found : (asked : Doubt) (d : ℕ) → d ≡ len (changed_by asked c).heuristics → (q : Branch)
       → get (changed_by asked c).heuristics q ≡ (if d == m then recs q else recorded_with asked q (recs q))
-  records_found (Adds h set) d is q = by (contains_key c.decisions h) is
-    where
-      by : (t : Bool) → d ≡ len (if t then c else record c { decisions = insert c.decisions h set }).heuristics
-          → get (if t then c else record c { decisions = insert c.decisions h set }).heuristics q ≡ (if d == m then recs q else recs q)
-      by true e = keeps d (e ∙ number) q (recs q)
-      by false e = keeps d (e ∙ number) q (recs q)
-  records_found (Drops h) d is q = keeps d (is ∙ number) q (recs q)
+  records_found (Adds xs) d is q = ap (λ x. get x q) (added_heuristics xs c) ∙ keeps d (is ∙ ap len (added_heuristics xs c) ∙ number) q (recs q)
+  records_found (Drops gs) d is q = ap (λ x. get x q) (dropped_heuristics gs c) ∙ keeps d (is ∙ ap len (dropped_heuristics gs c) ∙ number) q (recs q)
   records_found NoDoubt d is q = keeps d (is ∙ number) q (recs q)
   records_found (Records b how) d is q = by (contains_key c.heuristics b) refl is
     where
@@ -182,7 +142,7 @@ tied_restart near k i d h old new down found makes tied = go old found makes (su
         b : Content
         b = t.holds.0
 
-        by : SameRows c b ⊎ SameRows c (changed_by k.doubt b) → HoldsBook n (with_bump c)
+        by : SameRows c b ⊎ (IsChangeOf k.row k.doubt × SameRows c (changed_by k.doubt b)) → HoldsBook n (with_bump c)
         by (inl s) = record {
           rows = λ g. ap (λ x. get x g) s.decisions
               ∙ stays b k.row k.rows t.holds.1.rows t.holds.1.row_number d (f.rows ∙ ap len s.decisions ∙ t.holds.1.row_number) g _;
@@ -193,11 +153,12 @@ tied_restart near k i d h old new down found makes tied = go old found makes (su
           record_number = sym f.records;
         }
         by (inr s) = record {
-          rows = λ g. ap (λ x. get x g) s.decisions ∙ rows_found b k.row k.rows t.holds.1.rows t.holds.1.row_number k.doubt d (f.rows ∙ ap len s.decisions) g;
+          rows = λ g. ap (λ x. get x g) s.1.decisions
+              ∙ rows_found b k.row k.rows t.holds.1.rows t.holds.1.row_number k.doubt s.0 d (f.rows ∙ ap len s.1.decisions) g;
           row_number = sym f.rows;
           records =
-              λ q. ap (λ x. get x q) s.heuristics
-              ∙ records_found b k.recorded k.records t.holds.1.records t.holds.1.record_number k.doubt h (f.records ∙ ap len s.heuristics) q;
+              λ q. ap (λ x. get x q) s.1.heuristics
+              ∙ records_found b k.recorded k.records t.holds.1.records t.holds.1.record_number k.doubt h (f.records ∙ ap len s.1.heuristics) q;
           record_number = sym f.records;
         }
 
@@ -217,9 +178,10 @@ tied_no_restart near k old new down may tied = go may (subst (λ u. TiedBy u nea
     stays_in_doubt : n.doubt ≡ k.doubt
     stays_in_doubt = ap (λ (u : Bool). if u then NoDoubt else k.doubt) down
 
-    hold : (c before : Content) → SameRows c before ⊎ SameRows c (changed_by k.doubt before) → SameRows c before ⊎ SameRows c (changed_by n.doubt before)
+    hold : (c before : Content) → SameRows c before ⊎ (IsChangeOf k.row k.doubt × SameRows c (changed_by k.doubt before))
+        → SameRows c before ⊎ (IsChangeOf k.row n.doubt × SameRows c (changed_by n.doubt before))
     hold c before (inl s) = inl s
-    hold c before (inr s) = inr (subst (λ x. SameRows c (changed_by x before)) (sym stays_in_doubt) s)
+    hold c before (inr s) = inr (subst (λ x. IsChangeOf k.row x × SameRows c (changed_by x before)) (sym stays_in_doubt) s)
 
     as_it_was : (c : Content) → IsTiedDown near k c → IsTiedDown near n c
     as_it_was c t = record {
@@ -234,11 +196,12 @@ tied_no_restart near k old new down may tied = go may (subst (λ u. TiedBy u nea
       };
     }
 
-    hold_bumped : (c before : Content) → SameRows c before ⊎ SameRows c (changed_by k.doubt before)
-        → SameRows (with_bump c) before ⊎ SameRows (with_bump c) (changed_by n.doubt before)
+    hold_bumped : (c before : Content) → SameRows c before ⊎ (IsChangeOf k.row k.doubt × SameRows c (changed_by k.doubt before))
+        → SameRows (with_bump c) before ⊎ (IsChangeOf k.row n.doubt × SameRows (with_bump c) (changed_by n.doubt before))
     hold_bumped c before (inl s) = inl (record { decisions = s.decisions; heuristics = s.heuristics })
     hold_bumped c before (inr s) =
-        inr (subst (λ x. SameRows (with_bump c) (changed_by x before)) (sym stays_in_doubt) (record { decisions = s.decisions; heuristics = s.heuristics }))
+        inr (subst (λ x. IsChangeOf k.row x × SameRows (with_bump c) (changed_by x before)) (sym stays_in_doubt)
+        (s.0, record { decisions = s.1.decisions; heuristics = s.1.heuristics }))
 
     raised : (c : Content) → IsTiedDown near k c → IsTiedDown near n (with_bump c)
     raised c t = record {
@@ -277,35 +240,11 @@ found (Some c) mid ds hs n dl hl rows recs same up d h = record {
   records = h ∙ ap length recs ∙ sym (len-entries c.heuristics);
 }
 
-numbers_rows : (k : Book) (b : Content) (asked : Doubt) (d : ℕ) → len b.decisions ≡ k.rows → d ≡ len (changed_by asked b).decisions
-    → (d ≡ k.rows) ⊎ (d ≡ rows_of asked k.rows)
-numbers_rows k b NoDoubt d number is = inl (is ∙ number)
-numbers_rows k b (Records c how) d number is = by (contains_key b.heuristics c) is
-  where
-    by : (t : Bool) → d ≡ len (if t then b else record b { heuristics = insert b.heuristics c how }).decisions → (d ≡ k.rows) ⊎ (d ≡ k.rows)
-    by true e = inl (e ∙ number)
-    by false e = inl (e ∙ number)
-numbers_rows k b (Adds h set) d number is = by (contains_key b.decisions h) refl is
-  where
-    by : (t : Bool) → contains_key b.decisions h ≡ t
-        → d ≡ len (if t then b else record b { decisions = insert b.decisions h set }).decisions → (d ≡ k.rows) ⊎ (d ≡ k.rows + 1)
-    by true has e = inl (e ∙ number)
-    by false has e = inr (e ∙ len-insert gtrids_total b.decisions h set ∙ ap (λ t. cond t (len b.decisions) (len b.decisions + 1)) has ∙ ap (λ n. n + 1) number)
-numbers_rows k b (Drops h) d number is = by (contains_key b.decisions h) refl
-  where
-    by : (t : Bool) → contains_key b.decisions h ≡ t → (d ≡ k.rows) ⊎ (d ≡ k.rows - 1)
-    by true has = inr (is ∙ len-remove gtrids_total b.decisions h ∙ ap (λ t. cond t (len b.decisions - 1) (len b.decisions)) has ∙ ap (λ n. n - 1) number)
-    by false has = inl (is ∙ len-remove gtrids_total b.decisions h ∙ ap (λ t. cond t (len b.decisions - 1) (len b.decisions)) has ∙ number)
-
 numbers_records : (k : Book) (b : Content) (asked : Doubt) (d : ℕ) → ((q : Branch) → get b.heuristics q ≡ k.recorded q) → len b.heuristics ≡ k.records
     → d ≡ len (changed_by asked b).heuristics → (d ≡ k.records) ⊎ (d ≡ records_with k asked k.records)
 numbers_records k b NoDoubt d at number is = inl (is ∙ number)
-numbers_records k b (Drops h) d at number is = inl (is ∙ number)
-numbers_records k b (Adds h set) d at number is = by (contains_key b.decisions h) is
-  where
-    by : (t : Bool) → d ≡ len (if t then b else record b { decisions = insert b.decisions h set }).heuristics → (d ≡ k.records) ⊎ (d ≡ k.records)
-    by true e = inl (e ∙ number)
-    by false e = inl (e ∙ number)
+numbers_records k b (Drops gs) d at number is = inl (is ∙ ap len (dropped_heuristics gs b) ∙ number)
+numbers_records k b (Adds xs) d at number is = inl (is ∙ ap len (added_heuristics xs b) ∙ number)
 numbers_records k b (Records c how) d at number is = by (contains_key b.heuristics c) refl is
   where
     by : (t : Bool) → contains_key b.heuristics c ≡ t → d ≡ len (if t then b else record b { heuristics = insert b.heuristics c how }).heuristics
@@ -329,13 +268,15 @@ is_found k i d h old down f tied = go old f (subst (λ u. TiedBy u true k old) d
         b : Content
         b = t.holds.0
 
-        rows_by : SameRows c b ⊎ SameRows c (changed_by k.doubt b) → (d ≡ k.rows) ⊎ (d ≡ rows_of k.doubt k.rows)
+        rows_by : SameRows c b ⊎ (IsChangeOf k.row k.doubt × SameRows c (changed_by k.doubt b)) → (d ≡ k.rows) ⊎ (d ≡ rows_of k.doubt k.rows)
         rows_by (inl s) = inl (f.rows ∙ ap len s.decisions ∙ t.holds.1.row_number)
-        rows_by (inr s) = numbers_rows k b k.doubt d t.holds.1.row_number (f.rows ∙ ap len s.decisions)
+        rows_by (inr s) =
+            inr (f.rows ∙ ap len s.1.decisions ∙ changed_len k.doubt b (of_same k.row (λ g. get b.decisions g) k.doubt t.holds.1.rows s.0)
+            ∙ ap (rows_of k.doubt) t.holds.1.row_number)
 
-        records_by : SameRows c b ⊎ SameRows c (changed_by k.doubt b) → (h ≡ k.records) ⊎ (h ≡ records_with k k.doubt k.records)
+        records_by : SameRows c b ⊎ (IsChangeOf k.row k.doubt × SameRows c (changed_by k.doubt b)) → (h ≡ k.records) ⊎ (h ≡ records_with k k.doubt k.records)
         records_by (inl s) = inl (f.records ∙ ap len s.heuristics ∙ t.holds.1.record_number)
-        records_by (inr s) = numbers_records k b k.doubt h t.holds.1.records t.holds.1.record_number (f.records ∙ ap len s.heuristics)
+        records_by (inr s) = numbers_records k b k.doubt h t.holds.1.records t.holds.1.record_number (f.records ∙ ap len s.1.heuristics)
 
     go : (old : Option Content) → IsSomeAnd old (FoundIn i d h) → ((c : Content) → old ≡ Some c → IsTiedDown true k c) → IsFound k i d h
     go None f t = absurd f

@@ -1,11 +1,11 @@
 -- The log stays tied to the book.
-use Rattle.std.proofs.Common.{ℕ, ◌≡◌, ◌≤◌, ◌⊎◌, inl, inr, ◌+◌, ◌-◌, Bool, true, false, not, ◌&&◌, ◌||◌, cond, Option, Some, None, IsSomeAnd, is_some, refl, sym, ap, ◌∙◌, subst, arith}
+use Rattle.std.proofs.Common.{ℕ, List, [], ◌∷◌, length, ◌≡◌, ◌≤◌, ◌⊎◌, inl, inr, ◌+◌, ◌-◌, Bool, true, false, not, ◌&&◌, ◌||◌, cond, Option, Some, None, IsSomeAnd, is_some, refl, sym, ap, ◌∙◌, subst, arith}
 use Rattle.std.specs.Prelude.{if◌then◌else◌}
 use Rattle.std.specs.Ordering.{eq_by_cmp}
-use Rattle.std.specs.FinMap.{get, len, insert, contains_key, get-insert, get-remove, len-insert, len-remove}
+use Rattle.std.specs.FinMap.{get, len, insert, contains_key, get-insert, len-insert}
 use Rattle.std.proofs.lemmas.Cmp.{eq_by_cmp_equiv}
 use Rattle.xa_base.specs.declared.step.Step.TheVariants as Steps
-use Rattle.xa_base.specs.Branch.{branch_cmp, gtrid_eq, branch_eq}
+use Rattle.xa_base.specs.Branch.{branch_cmp, branch_eq}
 use Rattle.xa_base.specs.declared.branch.Branch.{Branch}
 use Rattle.xa_base.specs.declared.branch.Gtrid.{Gtrid}
 use Rattle.xa_base.specs.declared.code.How.{How}
@@ -14,21 +14,21 @@ use Rattle.xa_base.specs.declared.step.Outcome.TheVariants as Outcomes
 use Rattle.xa_base.specs.declared.refusal.Refusal.TheVariants as Refusals
 use Rattle.xa_base.specs.declared.step.Part.{Part}
 use Rattle.xa_base.specs.declared.step.Part.TheVariants as Parts
-use Rattle.xa_model.specs.Trace.{Line, Call, Answer, Fault, Happening.ResolvedOpen, Happening.Heard, Happening.Crashed, Happening.Decided, Happening.Done, Happening.Failed}
+use Rattle.xa_model.specs.Trace.{Line, Call, Answer, Fault, Happening.ResolvedOpen, Happening.Heard, Happening.Crashed, Happening.Decided, Happening.Failed}
 use Rattle.xa_tm.specs.Refusing.{refusal_in, outlived_in, has_row_in, row_settled_in}
 use Rattle.xa_model.specs.Facts.{record_of}
-use Rattle.xa_base.proofs.BranchOrder.{gtrids_total, branches_total}
+use Rattle.xa_base.proofs.BranchOrder.{branches_total}
 use Rattle.xa_base.proofs.BranchKeys.{branch_eq-true}
-use Rattle.xa_base.proofs.Orders.{gtrid_swap}
 use Rattle.xa_base.proofs.Options.{some_is}
-use Rattle.xa_log.specs.Content.{Content, with_commit, without_decision}
+use Rattle.xa_log.specs.Content.{Content, without_decisions}
 use Rattle.xa_log.specs.Contract.{Makes, MayMake}
-use Rattle.xa_tm.specs.Book.{Book, Waiting, doubt_of, Doubt, Doubt.Adds, Doubt.Drops, Doubt.Records, Doubt.NoDoubt, after, book_after, failed_restarts_after, row_with, recorded_with, records_with, voted_yes}
+use Rattle.xa_tm.specs.Book.{Book, Waiting, doubt_of, Doubt, Doubt.Adds, Doubt.Drops, Doubt.Records, Doubt.NoDoubt, after, book_after, failed_restarts_after, row_among, row_with, row_without, recorded_with, records_with, rows_for}
 use Rattle.xa_tm.specs.Outcomes.{is_commit}
 use Rattle.xa_tm.specs.Release.{book_without}
-use Rattle.xa_tm.specs.BookAndLog.{HoldsBook, changed_by, SameRows, MayHold, IsReached, IsTiedUp, IsTiedDown, TiedBy, IsTied, MakesOf}
+use Rattle.xa_tm.specs.BookAndLog.{HoldsBook, IsChangeOf, changed_by, rows_of, SameRows, MayHold, IsReached, IsTiedUp, IsTiedDown, TiedBy, IsTied, MakesOf}
 use Rattle.xa_tm.specs.News.{recording}
 use Rattle.xa_tm.proofs.Maps.Transactions.{branch_tie}
+use Rattle.xa_tm.proofs.Several.Contents.{added_heuristics, added_incarnation, changed_at, changed_len, dropped_heuristics, dropped_incarnation, of_same}
 
 -- ** what the log doesn't see
 
@@ -54,9 +54,10 @@ holds_same k l c s h = record {
 may_hold_same : (k l : Book) (c : Content) → SameOfLog k l → MayHold k c → MayHold l c
 may_hold_same k l c s h = (h.0, holds_same k l h.0 s h.1, by h.2)
   where
-    by : SameRows c h.0 ⊎ SameRows c (changed_by k.doubt h.0) → SameRows c h.0 ⊎ SameRows c (changed_by l.doubt h.0)
+    by : SameRows c h.0 ⊎ (IsChangeOf k.row k.doubt × SameRows c (changed_by k.doubt h.0))
+        → SameRows c h.0 ⊎ (IsChangeOf l.row l.doubt × SameRows c (changed_by l.doubt h.0))
     by (inl same) = inl same
-    by (inr same) = inr (subst (λ d. SameRows c (changed_by d h.0)) (sym s.doubt) same)
+    by (inr made) = inr (subst (λ d. IsChangeOf l.row d × SameRows c (changed_by d h.0)) (sym s.doubt) (of_same k.row l.row k.doubt s.row made.0, made.1))
 
 down_same : (near : Bool) (k l : Book) (c : Content) → SameOfLog k l → IsTiedDown near k c → IsTiedDown near l c
 down_same near k l c s t = record {
@@ -86,12 +87,8 @@ up_content near k log up tied = subst (λ u. TiedBy u near k log) up tied
 -- ** changes
 
 made_incarnation : (d : Doubt) (c : Content) → (changed_by d c).incarnation ≡ c.incarnation
-made_incarnation (Adds g set) c = by (contains_key c.decisions g)
-  where
-    by : (t : Bool) → (if t then c else record c { decisions = insert c.decisions g set }).incarnation ≡ c.incarnation
-    by true = refl
-    by false = refl
-made_incarnation (Drops g) c = refl
+made_incarnation (Adds xs) c = added_incarnation xs c
+made_incarnation (Drops gs) c = dropped_incarnation gs c
 made_incarnation (Records b how) c = by (contains_key c.heuristics b)
   where
     by : (t : Bool) → (if t then c else record c { heuristics = insert c.heuristics b how }).incarnation ≡ c.incarnation
@@ -100,10 +97,10 @@ made_incarnation (Records b how) c = by (contains_key c.heuristics b)
 made_incarnation NoDoubt c = refl
 
 -- a failure leaves the change in doubt
-pub tied_fault : (near : Bool) (k : Book) (asked : Doubt) (f : Fault) (old new : Option Content) → k.up ≡ true
+pub tied_fault : (near : Bool) (k : Book) (asked : Doubt) (f : Fault) (old new : Option Content) → k.up ≡ true → IsChangeOf k.row asked
     → failed_restarts_after (Failed f) k.failed_restarts ≡ k.failed_restarts
     → MayMake (changed_by asked) old new → IsTied near k old → IsTied near (book_after k asked (Failed f)) new
-tied_fault near k asked f old new up same may tied = go old (up_content near k old up tied) may
+tied_fault near k asked f old new up of same may tied = go old (up_content near k old up tied) may
   where
     n : Book
     n = book_after k asked (Failed f)
@@ -132,8 +129,8 @@ tied_fault near k asked f old new up same may tied = go old (up_content near k o
       holds = (
         d,
         held_still d t.holds,
-        inr (subst (λ x. SameRows (changed_by asked d) (changed_by x d)) (sym fresh)
-            (record { decisions = refl; heuristics = refl })),
+        inr (subst (λ x. IsChangeOf k.row x × SameRows (changed_by asked d) (changed_by x d)) (sym fresh)
+            (of, record { decisions = refl; heuristics = refl })),
       );
       incarnation = λ h. reached (changed_by asked d) (made_incarnation asked d ∙ t.incarnation);
     })
@@ -155,35 +152,19 @@ module _ (near : Bool) (k l : Book) (up : k.up ≡ true) (still_up : l.up ≡ tr
       go (Some c) t makes = subst (λ x. IsSomeAnd x (IsTiedUp l)) (sym makes)
           (record { holds = holds c t.holds; incarnation = made_incarnation asked c ∙ t.incarnation ∙ sym same })
 
--- a row is written, where there was none
-pub holds_row : (k l : Book) (g : Gtrid) (set : Waiting) → k.row g ≡ None
-    → ((q : Gtrid) → l.row q ≡ (if gtrid_eq g q then Some set else k.row q)) → l.rows ≡ k.rows + 1
-    → ((b : Branch) → l.recorded b ≡ k.recorded b) → l.records ≡ k.records → (c : Content) → HoldsBook k c → HoldsBook l (changed_by (Adds g set) c)
-holds_row k l g set none row rows recs number c h =
-    subst (HoldsBook l) (sym (ap (λ (t : Bool). if t then c else record c { decisions = insert c.decisions g set }) absent)) (record {
-      rows = λ q. get-insert gtrids_total c.decisions g set q ∙ ap (λ t. cond t (Some set) (get c.decisions q)) (gtrid_swap g q)
-          ∙ ap (cond (gtrid_eq g q) (Some set)) (h.rows q) ∙ sym (row q);
-      row_number =
-          len-insert gtrids_total c.decisions g set ∙ ap (λ t. cond t (len c.decisions) (len c.decisions + 1)) absent ∙ ap (λ n. n + 1) h.row_number ∙ sym rows;
-      records = λ b. h.records b ∙ sym (recs b);
-      record_number = h.record_number ∙ sym number;
-    })
-  where
-    absent : contains_key c.decisions g ≡ false
-    absent = ap is_some (h.rows g ∙ none)
-
--- a row leaves
-pub holds_drop : (k l : Book) (g : Gtrid) → is_some (k.row g) ≡ true → ((q : Gtrid) → l.row q ≡ (if gtrid_eq g q then None else k.row q)) → l.rows ≡ k.rows - 1
-    → ((b : Branch) → l.recorded b ≡ k.recorded b) → l.records ≡ k.records → (c : Content) → HoldsBook k c → HoldsBook l (changed_by (Drops g) c)
-holds_drop k l g some row rows recs number c h = record {
-  rows = λ q. get-remove gtrids_total c.decisions g q ∙ ap (λ t. cond t None (get c.decisions q)) (gtrid_swap g q)
-      ∙ ap (cond (gtrid_eq g q) None) (h.rows q) ∙ sym (row q);
-  row_number =
-      len-remove gtrids_total c.decisions g
-      ∙ ap (λ t. cond t (len c.decisions - 1) (len c.decisions)) (ap is_some (h.rows g) ∙ some) ∙ ap (λ n. n - 1) h.row_number ∙ sym rows;
-  records = λ b. h.records b ∙ sym (recs b);
-  record_number = h.record_number ∙ sym number;
+-- rows are written or leave
+pub holds_changed : (k l : Book) (d : Doubt) → IsChangeOf k.row d → ((c : Content) → (changed_by d c).heuristics ≡ c.heuristics)
+    → ((q : Gtrid) → l.row q ≡ row_with d q (k.row q)) → l.rows ≡ rows_of d k.rows
+    → ((b : Branch) → l.recorded b ≡ k.recorded b) → l.records ≡ k.records → (c : Content) → HoldsBook k c → HoldsBook l (changed_by d c)
+holds_changed k l d of ends row rows recs number c h = record {
+  rows = λ q. changed_at d c here q ∙ ap (row_with d q) (h.rows q) ∙ sym (row q);
+  row_number = changed_len d c here ∙ ap (rows_of d) h.row_number ∙ sym rows;
+  records = λ b. ap (λ m. get m b) (ends c) ∙ h.records b ∙ sym (recs b);
+  record_number = ap len (ends c) ∙ h.record_number ∙ sym number;
 }
+  where
+    here : IsChangeOf (λ g. get c.decisions g) d
+    here = of_same k.row (λ g. get c.decisions g) d h.rows of
 
 -- a record is noted: the first of a branch stays
 pub holds_record : (k l : Book) (b : Branch) (how : How) → ((g : Gtrid) → l.row g ≡ k.row g) → l.rows ≡ k.rows
@@ -239,16 +220,13 @@ holds_record k l b how row rows recs number c h = by (contains_key c.heuristics 
 
 -- ** decisions
 
-pub tied_commit : (near : Bool) (k : Book) (g : Gtrid) (set : Waiting) (old new : Option Content) → k.up ≡ true → k.row g ≡ None
-    → (k.transaction g).has_yes ≡ true → set ≡ voted_yes k g
-    → Makes (with_commit g set) old new → IsTied near k old → IsTied near (after k (Decided g Outcomes.Commit)) new
-tied_commit near k g set old new up none agreed voters makes tied = tied_made near k n up up refl (Adds g (voted_yes k g)) old new
-    (holds_row k n g (voted_yes k g) none (λ q. ap (λ (t : Bool). if t then (if gtrid_eq g q then Some (voted_yes k g) else k.row q) else k.row q) agreed)
-    (ap (λ (t : Bool). if t then k.rows + 1 else k.rows) agreed) (λ b. refl) refl)
-    (subst (λ s. Makes (with_commit g s) old new) voters makes) tied
-  where
-    n : Book
-    n = after k (Decided g Outcomes.Commit)
+-- the rows are written
+pub tied_written : (near : Bool) (k l : Book) (xs : List (Gtrid × Waiting)) (old new : Option Content) → k.up ≡ true → l.up ≡ true
+    → l.incarnation ≡ k.incarnation → IsChangeOf k.row (Adds xs)
+    → ((q : Gtrid) → l.row q ≡ row_among xs q (k.row q)) → l.rows ≡ k.rows + length xs → ((b : Branch) → l.recorded b ≡ k.recorded b) → l.records ≡ k.records
+    → Makes (changed_by (Adds xs)) old new → IsTied near k old → IsTied near l new
+tied_written near k l xs old new up still_up same of row rows recs number makes tied = tied_made near k l up still_up same (Adds xs) old new
+    (holds_changed k l (Adds xs) of (added_heuristics xs) row rows recs number) makes tied
 
 -- where no row is written, the log stays as it is
 pub tied_plain : (near : Bool) (k : Book) (g : Gtrid) (o : Outcome) (log : Option Content) → (is_commit (Some o) && (k.transaction g).has_yes) ≡ false
@@ -260,7 +238,7 @@ tied_plain near k g Outcomes.Commit log none tied = tied_same near k (after k (D
       up = refl;
       incarnation = refl;
       failed_restarts = refl;
-      row = λ q. ap (λ (t : Bool). if t then row_with (Adds g (voted_yes k g)) q (k.row q) else k.row q) none;
+      row = λ q. ap (λ (t : Bool). if t then row_with (Adds (rows_for k (g ∷ []))) q (k.row q) else k.row q) none;
       rows = ap (λ (t : Bool). if t then k.rows + 1 else k.rows) none;
       recorded = λ b. refl;
       records = refl;
@@ -304,9 +282,11 @@ tied_fall near k l log down inc failed row rows recs number doubt tied = subst (
           most = let a : c.incarnation ≤ k.incarnation + k.failed_restarts = omega arith in a;
         }
 
-    may : (c before : Content) → SameRows c before ⊎ SameRows c (changed_by k.doubt before) → SameRows c before ⊎ SameRows c (changed_by l.doubt before)
+    may : (c before : Content) → SameRows c before ⊎ (IsChangeOf k.row k.doubt × SameRows c (changed_by k.doubt before))
+        → SameRows c before ⊎ (IsChangeOf l.row l.doubt × SameRows c (changed_by l.doubt before))
     may c before (inl s) = inl s
-    may c before (inr s) = inr (subst (λ d. SameRows c (changed_by d before)) (sym doubt) s)
+    may c before (inr s) =
+        inr (subst (λ d. IsChangeOf l.row d × SameRows c (changed_by d before)) (sym doubt) (of_same k.row l.row k.doubt row s.0, s.1))
 
     fallen : (d c : Content) → d ≡ c → IsTiedUp k d → IsTiedDown near l c
     fallen d c is t =
@@ -354,12 +334,20 @@ done_row k g e = go k.up ((k.transaction g).begun || outlived_in k g) (has_row_i
     go true true false s e = absurd (cc)
     go true true true s e = refl
 
-pub tied_done : (near : Bool) (k : Book) (g : Gtrid) (old new : Option Content) → k.up ≡ true → is_some (k.row g) ≡ true
-    → Makes (without_decision g) old new → IsTied near k old → IsTied near (after k (Done g)) new
-tied_done near k g old new up some makes tied = tied_made near k (after k (Done g)) up up refl (Drops g) old new
-    (holds_drop k (after k (Done g)) g some (λ q. refl) refl (λ b. refl) refl) makes tied
+-- rows leave
+pub tied_dropped : (near : Bool) (k l : Book) (gs : List Gtrid) (old new : Option Content) → k.up ≡ true → l.up ≡ true → l.incarnation ≡ k.incarnation
+    → IsChangeOf k.row (Drops gs) → ((q : Gtrid) → l.row q ≡ row_without gs q (k.row q)) → l.rows ≡ k.rows - length gs
+    → ((b : Branch) → l.recorded b ≡ k.recorded b) → l.records ≡ k.records
+    → Makes (without_decisions gs) old new → IsTied near k old → IsTied near l new
+tied_dropped near k l gs old new up still_up same of row rows recs number makes tied = tied_made near k l up still_up same (Drops gs) old new
+    (holds_changed k l (Drops gs) of (dropped_heuristics gs) row rows recs number) makes tied
 
 -- ** answers
+
+-- a record is no change of rows
+pub record_of_rows : (row : Gtrid → Option Waiting) (b : Branch) (how : Option How) → IsChangeOf row (recording b how)
+record_of_rows row b (Some how) = tt
+record_of_rows row b None = tt
 
 pub tied_heard : (near : Bool) (k : Book) (l : Line) (c : Call) (a : Answer) (b : Branch) (how : Option How) (old new : Option Content) → k.up ≡ true
     → doubt_of (record_of c a) ≡ recording b how → MakesOf (recording b how) old new → IsTied near k old → IsTied near (after k (Heard l c a)) new

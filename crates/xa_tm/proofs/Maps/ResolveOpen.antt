@@ -23,22 +23,22 @@ use Rattle.xa_tm.proofs.Maps.Transactions.{transaction_is}
 
 -- ** room
 
-pub kept_both : (m n o : BTreeMap Gtrid Transaction) → HasKept m n → HasKept n o → HasKept m o
+pub kept_both : {X : Type 0} (m n o : BTreeMap Gtrid X) → HasKept m n → HasKept n o → HasKept m o
 kept_both m n o first next q has = next q (first q has)
 
-pub room_kept : (m n : BTreeMap Gtrid Transaction) (gs : List Gtrid) → HasKept m n → HaveRoom m gs → HaveRoom n gs
+pub room_kept : {X : Type 0} (m n : BTreeMap Gtrid X) (gs : List Gtrid) → HasKept m n → HaveRoom m gs → HaveRoom n gs
 room_kept m n [] kept room = tt
 room_kept m n (g ∷ gs) kept room = (kept g room.0, room_kept m n gs kept room.1)
 
-pub room_first : (m : BTreeMap Gtrid Transaction) (gs : List Gtrid) (i : ℕ) (d : Gtrid) → i < length gs → HaveRoom m (drop i gs)
+pub room_first : {X : Type 0} (m : BTreeMap Gtrid X) (gs : List Gtrid) (i : ℕ) (d : Gtrid) → i < length gs → HaveRoom m (drop i gs)
     → IsSome (get gtrid_cmp m (get_or gs i d))
 room_first m gs i d low room = (subst (HaveRoom m) (drop_more gs i d low) room).0
 
 -- room for one more
-pub room_more : (gs : List Gtrid) (i : ℕ) (d : Gtrid) (mid now : BTreeMap Gtrid Transaction) → i < length gs → HasKept mid now
+pub room_more : {X : Type 0} (gs : List Gtrid) (i : ℕ) (d : Gtrid) (mid now : BTreeMap Gtrid X) → i < length gs → HasKept mid now
     → IsSome (get gtrid_cmp now (get_or gs i d))
-    → ((m : BTreeMap Gtrid Transaction) → HasKept mid m → HaveRoom m (drop i gs) → HaveRoom m gs)
-    → (m : BTreeMap Gtrid Transaction) → HasKept now m → HaveRoom m (drop (i + 1) gs) → HaveRoom m gs
+    → ((m : BTreeMap Gtrid X) → HasKept mid m → HaveRoom m (drop i gs) → HaveRoom m gs)
+    → (m : BTreeMap Gtrid X) → HasKept now m → HaveRoom m (drop (i + 1) gs) → HaveRoom m gs
 room_more gs i d mid now low kept room before m keep rest =
     before m (λ q has. keep q (kept q has)) (subst (HaveRoom m) (sym (drop_more gs i d low)) (keep (get_or gs i d) room, rest))
 
@@ -53,7 +53,7 @@ rolled_more gs i d mid now all low kept at before = (
 )
 
 -- all were
-pub room_all : (m : BTreeMap Gtrid Transaction) (gs : List Gtrid) (i : ℕ) → length gs ≤ i → HaveRoom m (drop i gs)
+pub room_all : {X : Type 0} (m : BTreeMap Gtrid X) (gs : List Gtrid) (i : ℕ) → length gs ≤ i → HaveRoom m (drop i gs)
 room_all m gs i past = subst (HaveRoom m) (sym (drop_all i gs past)) tt
 
 -- ** the list

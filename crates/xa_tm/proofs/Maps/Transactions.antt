@@ -267,7 +267,7 @@ reserved_row m n g none h q = ap (λ (o : Option (Option (Vec Branch))). option_
     by false e = refl
 
 -- what there was room for, there still is
-pub kept_by : (m n : BTreeMap Gtrid Transaction) (g : Gtrid) (t : Transaction)
+pub kept_by : {X : Type 0} (m n : BTreeMap Gtrid X) (g : Gtrid) (t : X)
     → ((q : Gtrid) → get gtrid_cmp n q ≡ cond (is_at (gtrid_cmp g) q) (Some t) (get gtrid_cmp m q)) → HasKept m n
 kept_by m n g t h q has = subst IsSome (sym (h q)) (by (is_at (gtrid_cmp g) q))
   where
@@ -276,11 +276,11 @@ kept_by m n g t h q has = subst IsSome (sym (h q)) (by (is_at (gtrid_cmp g) q))
     by false = has
 
 -- what can't fail was done
-pub written : {E : Type 0} (r : Result (Option Transaction) E) (m n : BTreeMap Gtrid Transaction) (g : Gtrid) (t : Transaction)
+pub written : {X E : Type 0} (r : Result (Option X) E) (m n : BTreeMap Gtrid X) (g : Gtrid) (t : X)
     → OnOk r (Updates gtrid_cmp m n g (Some t)) → OnErr r (get gtrid_cmp m g ≡ None) → IsSome (get gtrid_cmp m g) → HasKept m n
 written (Ok v) m n g t done failed some = kept_by m n g t done.0
-written (Err e) m n g t done failed some = absurd (never (get gtrid_cmp m g) some failed)
+written {X = X} (Err e) m n g t done failed some = absurd (never (get gtrid_cmp m g) some failed)
   where
-    never : (o : Option Transaction) → IsSome o → o ≡ None → ⊥
+    never : (o : Option X) → IsSome o → o ≡ None → ⊥
     never None s e = let no : ⊥ = cc in no
     never (Some x) s e = let no : ⊥ = cc in no

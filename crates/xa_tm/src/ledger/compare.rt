@@ -1,7 +1,10 @@
 //! Whether the rows of a log that is put in are those of the book.
 
-ghost use Rattle.std.specs.Prelude.{◌≡◌, ◌&&◌, ◌||◌, IfOk};
-ghost use Rattle.xa_tm.specs.LedgerBook.{notes_at};
+ghost use Rattle.std.specs.Prelude.{◌≡◌, true, not, ◌&&◌, ◌||◌, ◌+◌, ◌∷◌, IfOk, nat_eq};
+ghost use Rattle.std.specs.List.{list_all};
+ghost use Rattle.xa_model.specs.Facts.{has_gtrid};
+ghost use Rattle.xa_tm.specs.LedgerBook.{gtrids_of, notes_at};
+ghost use Rattle.xa_tm.specs.Swaps.{decided_agrees, dropped_agrees, each_once, keeps_row, lacks_row};
 ghost use Rattle.xa_tm.specs.Swaps.{agrees, change_agrees, counts_agree, end_agrees, end_agrees_with, ends_agree};
 ghost use Rattle.xa_tm.specs.Swaps.{are_among, is_among, is_how, kept_row, names_just, records_agree_with, same_branches, row_agrees, row_agrees_with};
 ghost use Rattle.xa_tm.specs.Swaps.{ReadsOf, ends_agree_at, rows_agree, rows_agree_at, rows_agree_with, same_how, same_row};
@@ -12,7 +15,7 @@ use crate::notes::BranchNotes;
 use std::alloc::AllocError;
 use std::collections::BTreeMap;
 use xa_base::{Branch, Gtrid, How};
-use xa_log::LogRows;
+use xa_log::{Decision, LogRows};
 
 impl Ledger {
     /// Whether a transaction has a row that names just these branches.
@@ -35,15 +38,40 @@ impl Ledger {
         }
     }
 
+    /// Whether a transaction has the row there that the first of these decisions on it makes; where there is no such
+    /// decision, whether it has the same row here and there.
+    fn is_row_decided(&self, read: &Ledger, decisions: &[Decision], g: Gtrid) -> bool
+        ensures { result ≡ decided_agrees decisions.now (kept_row read.now.rows g) g
+            (same_row (kept_row self.now.rows g) (kept_row read.now.rows g)) }
+    {
+        for decision in decisions {
+            if decision.gtrid == g {
+                return read.names_just(g, decision.participants.as_slice());
+            }
+        }
+        self.has_same_row(read, g)
+    }
+
+    /// Whether the row of a transaction is gone there, where it is one of these; where it isn't, whether it has the same
+    /// row here and there.
+    fn is_row_dropped(&self, read: &Ledger, first: Gtrid, others: &[Gtrid], g: Gtrid) -> bool
+        ensures { result ≡ dropped_agrees (first ∷ others.now) (kept_row read.now.rows g) g
+            (same_row (kept_row self.now.rows g) (kept_row read.now.rows g)) }
+    {
+        if first == g || is_named(others, g) {
+            !read.has_row(g)
+        } else {
+            self.has_same_row(read, g)
+        }
+    }
+
     /// The same, with the change in doubt.
     fn has_changed_row(&self, read: &Ledger, g: Gtrid) -> bool
         ensures { result ≡ row_agrees_with self.now.doubt self.now.rows read.now.rows g }
     {
         match &self.doubt {
-            Change::AddRow(h, branches) if *h == g => {
-                read.names_just(g, branches.as_slice()) && !self.has_row(g)
-            }
-            Change::DropRow(h) if *h == g => !read.has_row(g) && self.has_row(g),
+            Change::AddRows(decisions) => self.is_row_decided(read, decisions.as_slice(), g),
+            Change::DropRows(h, others) => self.is_row_dropped(read, *h, others.as_slice(), g),
             _ => self.has_same_row(read, g),
         }
     }
@@ -94,6 +122,71 @@ impl Ledger {
         }
     }
 
+    /// Whether no transaction of these decisions has a row, and none comes twice.
+    fn lacks_each(&self, decisions: &[Decision]) -> bool
+        ensures { result ≡ each_once (lacks_row self.now) (gtrids_of decisions.now) }
+    {
+        for (i, decision) in decisions.iter().enumerate() {
+            if self.has_row(decision.gtrid) || is_decided(&decisions[i + 1..], decision.gtrid) {
+                return false;
+            }
+        }
+        true
+    }
+
+    /// Whether a transaction has a row and isn't one of these.
+    fn keeps_apart(&self, g: Gtrid, others: &[Gtrid]) -> bool
+        ensures { result ≡ (keeps_row self.now g && not (has_gtrid others.now g)) }
+    {
+        self.has_row(g) && !is_named(others, g)
+    }
+
+    /// Whether each of these transactions has a row, and none comes twice.
+    fn keeps_each(&self, gtrids: &[Gtrid]) -> bool
+        ensures { result ≡ each_once (keeps_row self.now) gtrids.now }
+    {
+        for (i, g) in gtrids.iter().enumerate() {
+            if !self.keeps_apart(*g, &gtrids[i + 1..]) {
+                return false;
+            }
+        }
+        true
+    }
+
+    /// The same of a first one and others.
+    fn keeps_all(&self, first: Gtrid, others: &[Gtrid]) -> bool
+        ensures { result ≡ each_once (keeps_row self.now) (first ∷ others.now) }
+    {
+        self.keeps_apart(first, others) && self.keeps_each(others)
+    }
+
+    /// Whether the row of each of these transactions is as read, with the change in doubt.
+    fn are_changed(&self, read: &Ledger, first: Gtrid, others: &[Gtrid]) -> bool
+        ensures { result ≡
+            list_all (row_agrees true self.now read.now) (first ∷ others.now) }
+    {
+        self.row_agrees(read, first, true) && others.iter().all(|g| self.row_agrees(read, *g, true))
+    }
+
+    /// Whether these decisions make new rows, and those are as read.
+    fn are_decided(&self, read: &Ledger, decisions: &[Decision]) -> bool
+        ensures { result ≡ (each_once (lacks_row self.now) (gtrids_of decisions.now) &&
+            list_all (λ d. row_agrees true self.now read.now d.gtrid) decisions.now) }
+    {
+        self.lacks_each(decisions)
+            && decisions
+                .iter()
+                .all(|decision| self.row_agrees(read, decision.gtrid, true))
+    }
+
+    /// Whether these transactions have rows, which are gone as read.
+    fn are_dropped(&self, read: &Ledger, first: Gtrid, others: &[Gtrid]) -> bool
+        ensures { result ≡ (each_once (keeps_row self.now) (first ∷ others.now) &&
+            list_all (row_agrees true self.now read.now) (first ∷ others.now)) }
+    {
+        self.keeps_all(first, others) && self.are_changed(read, first, others)
+    }
+
     /// Whether what the change in doubt is of is as read, with the change.
     fn change_agrees(&self, read: &Ledger, is_made: bool) -> bool
         ensures { result ≡ change_agrees is_made self.now read.now }
@@ -102,8 +195,8 @@ impl Ledger {
             return true;
         }
         match &self.doubt {
-            Change::AddRow(g, _) => self.row_agrees(read, *g, true),
-            Change::DropRow(g) => self.row_agrees(read, *g, true),
+            Change::AddRows(decisions) => self.are_decided(read, decisions.as_slice()),
+            Change::DropRows(g, others) => self.are_dropped(read, *g, others.as_slice()),
             Change::AddRecord(b, _) => self.end_agrees(read, *b, true),
             Change::Nothing => false,
         }
@@ -114,8 +207,12 @@ impl Ledger {
         ensures { result ≡ rows_agree_with self.now.doubt self.now.row_count rows }
     {
         match &self.doubt {
-            Change::AddRow(_, _) => 0 < rows && rows - 1 == self.row_count,
-            Change::DropRow(_) => 0 < self.row_count && rows == self.row_count - 1,
+            Change::AddRows(decisions) => {
+                is_more_by(rows, self.row_count, decisions.len() as u64)
+            }
+            Change::DropRows(_, others) => {
+                0 < self.row_count && is_more_by(self.row_count - 1, rows, others.len() as u64)
+            }
             _ => rows == self.row_count,
         }
     }
@@ -197,6 +294,27 @@ impl Ledger {
         let read = Ledger::load(self.alloc, self.threads, self.rms, rows)?;
         Ok(self.agrees(&read, false) || self.agrees(&read, true))
     }
+}
+
+/// Whether a transaction is one of these.
+pub(super) fn is_named(gtrids: &[Gtrid], g: Gtrid) -> bool
+    ensures { result ≡ has_gtrid gtrids.now g }
+{
+    gtrids.contains(&g)
+}
+
+/// Whether one of these decisions is on a transaction.
+fn is_decided(decisions: &[Decision], g: Gtrid) -> bool
+    ensures { result ≡ has_gtrid (gtrids_of decisions.now) g }
+{
+    decisions.iter().any(|decision| decision.gtrid == g)
+}
+
+/// Whether a number is greater than another by just so much.
+pub(super) fn is_more_by(number: u64, other: u64, by: u64) -> bool
+    ensures { result ≡ nat_eq number (other + by) }
+{
+    other <= number && number - other == by
 }
 
 /// Whether a branch is among these.

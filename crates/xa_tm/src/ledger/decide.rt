@@ -3,13 +3,12 @@
 ghost use Rattle.std.specs.Prelude.{◌≡◌, ◌<◌, ◌-◌, ◌^◌, ◌+◌, Bool, ◌&&◌, Some, None, IsSome, IfOk, OnOk, OnErr};
 ghost use Rattle.std.specs.List.{AllByRecursion};
 ghost use Rattle.xa_model.specs.Trace.{Happening.Decided, Happening.Done};
-ghost use Rattle.xa_base.specs.declared.step.Outcome.TheVariants.{Commit};
 ghost use Rattle.xa_tm.specs.Book.{after, transaction_after, voted_yes};
 ghost use Rattle.xa_tm.specs.Outcomes.{is_commit};
-ghost use Rattle.xa_tm.specs.LedgerBook.{HasRoomForCommit, HasTransaction, as_book, row_at, transaction_at, waiting_of};
+ghost use Rattle.xa_tm.specs.LedgerBook.{HasKept, HasTransaction, as_book, row_at, transaction_at, waiting_of};
 
 use crate::ledger::Ledger;
-use crate::ledger::room::{reserve_row, set_row, set_transaction};
+use crate::ledger::room::{set_row, set_transaction};
 use std::alloc::AllocError;
 use xa_base::{Branch, Gtrid, Outcome};
 
@@ -19,6 +18,7 @@ impl Ledger {
         requires room { HasTransaction self.old g }
         requires undecided { (transaction_at self.old.transactions g).outcome ≡ None }
         ensures others { self.new ≡ record self.old { transactions = self.new.transactions } }
+        ensures kept { HasKept self.old.transactions self.new.transactions }
         ensures transactions { as_book self.new ≡ record (as_book self.old) {
           transaction = λ q. transaction_after (as_book self.old) (Decided g outcome) q
               ((as_book self.old).transaction q);
@@ -39,34 +39,6 @@ impl Ledger {
         self.reserve_transaction(g)?;
         self.decided(g, outcome);
         Ok(())
-    }
-
-    /// Makes room for a commit and for its row, and gives the branches that the row names.
-    pub(crate) fn prepare_row(&mut self, g: Gtrid) -> Result<Vec<Branch>, AllocError>
-        requires { g.sequence < 2 ^ 64 - 1 }
-        ensures book { as_book self.new ≡ as_book self.old }
-        ensures room { OnOk result (HasRoomForCommit g self.new) }
-        ensures all { IfOk result (λ list. waiting_of list ≡ voted_yes (as_book self.old) g) }
-        ensures own { IfOk result (λ list. AllByRecursion (λ b. b.gtrid ≡ g) list.items) }
-    {
-        let participants = self.voters(g)?;
-        self.reserve_transaction(g)?;
-        reserve_row(&mut self.rows, g)?;
-        Ok(participants)
-    }
-
-    /// Notes a commit with its row, which is written.
-    pub(crate) fn commit(&mut self, g: Gtrid, participants: Vec<Branch>)
-        requires room { HasRoomForCommit g self.old }
-        requires undecided { (transaction_at self.old.transactions g).outcome ≡ None }
-        requires agreed { (transaction_at self.old.transactions g).has_yes ≡ Bool.true }
-        requires all { waiting_of participants ≡ voted_yes (as_book self.old) g }
-        requires number { self.old.row_count < 2 ^ 64 - 1 }
-        ensures { as_book self.new ≡ after (as_book self.old) (Decided g Commit) }
-    {
-        self.decided(g, Outcome::Commit);
-        set_row(&mut self.rows, g, Some(participants));
-        self.row_count += 1;
     }
 
     /// The row of a transaction leaves.

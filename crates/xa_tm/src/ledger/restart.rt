@@ -1,23 +1,23 @@
 //! How the manager's book comes up again: the numbers that the log has tell whether the change in doubt was made.
 
 ghost use Rattle.std.specs.Prelude.{◌≡◌, ◌<◌, ◌+◌, ◌-◌, ◌^◌, ◌&&◌, ◌||◌, if◌then◌else◌, nat_eq, nat_le, nat_lt, true};
-ghost use Rattle.std.specs.Prelude.{false, Bool, Option, Some, None, is_some, IsSome, OnOk};
-ghost use Rattle.std.specs.BTreeMap.{get};
-ghost use Rattle.std.specs.Option.{option_map};
-ghost use Rattle.xa_base.specs.Branch.{gtrid_cmp, gtrid_eq, branch_eq};
+ghost use Rattle.std.specs.Prelude.{false, Bool, is_some, OnOk, map, ◌∷◌};
+ghost use Rattle.xa_base.specs.Branch.{branch_eq};
 ghost use Rattle.xa_model.specs.Trace.{Happening.Failed, Happening.Restarted, Fault.InRestart};
 ghost use Rattle.xa_tm.specs.BookAndLog.{may_find, rows_of};
-ghost use Rattle.xa_tm.specs.Book.{records_with, after, book_after, Doubt};
+ghost use Rattle.xa_tm.specs.Book.{records_with, row_among, row_without, after, book_after, Doubt};
 ghost use Rattle.xa_tm.specs.News.{found_ended};
 ghost use Rattle.xa_tm.specs.LedgerBook.{HasBranch, HasRoomForDoubt, come_up_with, without_doubt, notes_at, as_book};
-ghost use Rattle.xa_tm.specs.LedgerBook.{known_in, row_at, waiting_of};
+ghost use Rattle.xa_tm.specs.LedgerBook.{HaveRoom, decided_rows, gtrids_of, known_in, row_at};
 
 use crate::change::Change;
 use crate::ledger::Ledger;
-use crate::ledger::room::{reserve_row, set_branch, set_row};
+use crate::ledger::compare::is_more_by;
+use crate::ledger::room::{drop_rows, put_rows, reserve_decided, reserve_rows, set_branch};
 use std::alloc::AllocError;
 use std::mem::replace;
 use xa_base::{Branch, Gtrid, How};
+use xa_log::Decision;
 
 impl Ledger {
     /// Makes room for what a restart may find made.
@@ -26,24 +26,33 @@ impl Ledger {
         ensures room { OnOk result (HasRoomForDoubt self.new) }
         ensures doubt { self.new.doubt ≡ self.old.doubt }
     {
-        match self.doubt {
-            Change::AddRow(g, _) => reserve_row(&mut self.rows, g),
-            Change::DropRow(g) => reserve_row(&mut self.rows, g),
-            Change::AddRecord(b, _) => self.reserve(b),
+        match &self.doubt {
+            Change::AddRows(decisions) => reserve_decided(&mut self.rows, decisions.as_slice()),
+            Change::DropRows(g, others) => reserve_rows(&mut self.rows, *g, others.as_slice()),
+            Change::AddRecord(b, _) => {
+                let b = *b;
+                self.reserve(b)
+            }
             Change::Nothing => Ok(()),
         }
     }
 
-    /// How many rows the log has where the change in doubt was made.
-    fn rows_if_made(&self) -> u64
-        requires { self.now.row_count < 2 ^ 64 - 1 }
-        ensures { result ≡ rows_of (as_book self.now).doubt self.now.row_count }
+    /// Whether the log has so many rows where the change in doubt was made.
+    fn has_rows_if_made(&self, rows: u64) -> bool
+        ensures { result ≡ nat_eq rows (rows_of (as_book self.now).doubt self.now.row_count) }
     {
-        match self.doubt {
-            Change::AddRow(_, _) => self.row_count + 1,
-            Change::DropRow(_) => self.row_count.saturating_sub(1),
-            Change::AddRecord(_, _) => self.row_count,
-            Change::Nothing => self.row_count,
+        match &self.doubt {
+            Change::AddRows(decisions) => {
+                is_more_by(rows, self.row_count, decisions.len() as u64)
+            }
+            Change::DropRows(_, others) => {
+                rows == self
+                    .row_count
+                    .saturating_sub(1)
+                    .saturating_sub(others.len() as u64)
+            }
+            Change::AddRecord(_, _) => rows == self.row_count,
+            Change::Nothing => rows == self.row_count,
         }
     }
 
@@ -54,8 +63,8 @@ impl Ledger {
             records_with (as_book self.now) (as_book self.now).doubt self.now.records }
     {
         match self.doubt {
-            Change::AddRow(_, _) => self.records,
-            Change::DropRow(_) => self.records,
+            Change::AddRows(_) => self.records,
+            Change::DropRows(_, _) => self.records,
             Change::AddRecord(b, _) => self.with_record(b),
             Change::Nothing => self.records,
         }
@@ -85,11 +94,10 @@ impl Ledger {
 
     /// Whether the log may have so many rows: those of the book, without or with the change in doubt.
     fn may_have_rows(&self, rows: u64) -> bool
-        requires { self.now.row_count < 2 ^ 64 - 1 }
         ensures { result ≡ (nat_eq rows self.now.row_count
             || nat_eq rows (rows_of (as_book self.now).doubt self.now.row_count)) }
     {
-        rows == self.row_count || rows == self.rows_if_made()
+        rows == self.row_count || self.has_rows_if_made(rows)
     }
 
     /// The same of the records.
@@ -152,23 +160,36 @@ impl Ledger {
             without_doubt is_row_changed is_record_changed (as_book self.old) }
     {
         match replace(&mut self.doubt, Change::Nothing) {
-            Change::AddRow(g, participants) => self.find_row(g, Some(participants), is_row_changed),
-            Change::DropRow(g) => self.find_row(g, None, is_row_changed),
+            Change::AddRows(decisions) => self.find_rows(decisions, is_row_changed),
+            Change::DropRows(g, others) => self.find_no_rows(g, others, is_row_changed),
             Change::AddRecord(b, how) => self.find_record(b, how, is_record_changed),
             Change::Nothing => {}
         }
     }
 
-    /// Puts the row of a transaction, or takes it away, if that was found made.
-    fn find_row(&mut self, g: Gtrid, row: Option<Vec<Branch>>, is_made: bool)
-        requires { IsSome (get gtrid_cmp self.old.rows g) }
+    /// Puts the rows of decisions, if they were found made.
+    fn find_rows(&mut self, decisions: Vec<Decision>, is_made: bool)
+        requires { HaveRoom self.old.rows (gtrids_of decisions.items) }
         ensures others { self.new ≡ record self.old { rows = self.new.rows } }
         ensures rows { (q : _) → row_at self.new.rows q ≡
-            (if is_made then (if gtrid_eq g q then option_map waiting_of row
-            else row_at self.old.rows q) else row_at self.old.rows q) }
+            (if is_made then row_among (decided_rows decisions.items) q (row_at self.old.rows q)
+            else row_at self.old.rows q) }
     {
         if is_made {
-            set_row(&mut self.rows, g, row);
+            put_rows(&mut self.rows, decisions);
+        }
+    }
+
+    /// Takes the rows of these transactions away, if that was found made.
+    fn find_no_rows(&mut self, first: Gtrid, others: Vec<Gtrid>, is_made: bool)
+        requires { HaveRoom self.old.rows (first ∷ others.items) }
+        ensures others { self.new ≡ record self.old { rows = self.new.rows } }
+        ensures rows { (q : _) → row_at self.new.rows q ≡
+            (if is_made then row_without (first ∷ others.items) q (row_at self.old.rows q)
+            else row_at self.old.rows q) }
+    {
+        if is_made {
+            drop_rows(&mut self.rows, first, others.as_slice());
         }
     }
 

@@ -1,20 +1,19 @@
 //! A transaction is decided: the step, and what settling and abandoning share with it (XA, section 2.3, Transaction
 //! Completion and Recovery).
 
-ghost use Rattle.std.specs.Prelude.{◌≡◌, ◌≢◌, ◌&&◌, Bool, Option, Some, None, Err, IfErr, OnOk};
+ghost use Rattle.std.specs.Prelude.{◌≡◌, ◌≢◌, ◌&&◌, [], ◌∷◌, Bool, Option, Some, None, Err, IfErr, OnOk};
 ghost use Rattle.xa_base.specs.declared.refusal.Refusal.TheVariants as Refusals;
 ghost use Rattle.xa_base.specs.declared.step.Outcome.TheVariants as Outcomes;
 ghost use Rattle.xa_base.specs.declared.step.Step.TheVariants as Steps;
 ghost use Rattle.xa_log.specs.Content.{Content};
 ghost use Rattle.xa_model.specs.Trace.{Fault.InDecide, Happening.Decided};
-ghost use Rattle.xa_tm.specs.Book.{Doubt.Adds, after, voted_yes};
+ghost use Rattle.xa_tm.specs.Book.{Doubt.Adds, after, rows_for};
 ghost use Rattle.xa_tm.specs.BookAndLog.{changed_by, IsTied};
 ghost use Rattle.xa_tm.specs.Calls.{AddsRow, AsksFor, FailsBy, IsOpenIn, book_in, log_in};
 ghost use Rattle.xa_tm.specs.LedgerBook.{IsSound};
 ghost use Rattle.xa_tm.specs.Outcomes.{is_commit};
 ghost use Rattle.xa_tm.specs.Refusing.{refusal_in};
 
-use crate::change::Change;
 use crate::manager::Manager;
 use xa_base::{Gtrid, Outcome, Refusal};
 use xa_log::DecisionLog;
@@ -32,7 +31,7 @@ impl<L: DecisionLog + Drop> Manager<L> {
         // What the book then says.
         ensures ok { OnOk result (book_in self.new ≡ after (book_in self.old) (Decided g outcome)) }
         ensures err { refusal_in (book_in self.old) (Steps.Decide g outcome) ≡ None →
-            IfErr result (FailsBy (Adds g (voted_yes (book_in self.old) g)) (InDecide g)
+            IfErr result (FailsBy (Adds (rows_for (book_in self.old) (g ∷ []))) (InDecide (g ∷ []))
             (book_in self.old) (book_in self.new)) }
         ensures asked { refusal_in (book_in self.old) (Steps.Decide g outcome) ≡ None →
             result ≡ Err Refusals.LogFault →
@@ -46,7 +45,7 @@ impl<L: DecisionLog + Drop> Manager<L> {
             (λ n. n ≢ Refusals.LogFault → log_in self.new ≡ log_in self.old) }
         ensures without_row { ¬ AddsRow outcome ((book_in self.old).transaction g) →
             log_in self.new ≡ log_in self.old }
-        ensures asks { AsksFor (changed_by (Adds g (voted_yes (book_in self.old) g)))
+        ensures asks { AsksFor (changed_by (Adds (rows_for (book_in self.old) (g ∷ []))))
             (L.moment (log_in self.old)) (L.moment (log_in self.new)) result }
     {
         match self.ledger.may_decide(g, outcome) {
@@ -62,7 +61,7 @@ impl<L: DecisionLog + Drop> Manager<L> {
         // What the book then says.
         ensures ok { OnOk result (book_in self.new ≡ after (book_in self.old) (Decided g outcome)) }
         ensures err { IfErr result
-            (FailsBy (Adds g (voted_yes (book_in self.old) g)) (InDecide g) (book_in self.old)
+            (FailsBy (Adds (rows_for (book_in self.old) (g ∷ []))) (InDecide (g ∷ [])) (book_in self.old)
             (book_in self.new)) }
         ensures asked { result ≡ Err Refusals.LogFault →
             AddsRow outcome ((book_in self.old).transaction g) }
@@ -75,7 +74,7 @@ impl<L: DecisionLog + Drop> Manager<L> {
             (λ n. n ≢ Refusals.LogFault → log_in self.new ≡ log_in self.old) }
         ensures without_row { ¬ AddsRow outcome ((book_in self.old).transaction g) →
             log_in self.new ≡ log_in self.old }
-        ensures asks { AsksFor (changed_by (Adds g (voted_yes (book_in self.old) g)))
+        ensures asks { AsksFor (changed_by (Adds (rows_for (book_in self.old) (g ∷ []))))
             (L.moment (log_in self.old)) (L.moment (log_in self.new)) result }
     {
         if self.ledger.transaction(g).adds_row(outcome) {
@@ -104,8 +103,6 @@ impl<L: DecisionLog + Drop> Manager<L> {
     }
 
     /// Commits a transaction of which some branch voted XA_OK: its row names those that did.
-    ///
-    /// All room is made before the log is asked.
     fn commit(&mut self, g: Gtrid) -> Result<(), Refusal>
         requires sound { IsSound (book_in self.old) }
         requires open { IsOpenIn (book_in self.old) g }
@@ -114,7 +111,7 @@ impl<L: DecisionLog + Drop> Manager<L> {
         ensures ok { OnOk result
             (book_in self.new ≡ after (book_in self.old) (Decided g Outcomes.Commit)) }
         ensures err { IfErr result
-            (FailsBy (Adds g (voted_yes (book_in self.old) g)) (InDecide g) (book_in self.old)
+            (FailsBy (Adds (rows_for (book_in self.old) (g ∷ []))) (InDecide (g ∷ [])) (book_in self.old)
             (book_in self.new)) }
         // What becomes of the log.
         ensures tied { (near : Bool) → (L.moment (log_in self.old)).is_in_order →
@@ -123,21 +120,9 @@ impl<L: DecisionLog + Drop> Manager<L> {
             IsTied near (book_in self.new) (L.moment (log_in self.new)).content }
         ensures kept { IfErr result
             (λ n. n ≢ Refusals.LogFault → log_in self.new ≡ log_in self.old) }
-        ensures asks { AsksFor (changed_by (Adds g (voted_yes (book_in self.old) g)))
+        ensures asks { AsksFor (changed_by (Adds (rows_for (book_in self.old) (g ∷ []))))
             (L.moment (log_in self.old)) (L.moment (log_in self.new)) result }
     {
-        match self.ledger.prepare_row(g) {
-            Err(_) => Err(Refusal::Memory),
-            Ok(participants) => match self.log.commit(g, participants.as_slice()) {
-                Ok(_) => {
-                    self.ledger.commit(g, participants);
-                    Ok(())
-                }
-                Err(_) => {
-                    self.ledger.fail(Change::AddRow(g, participants));
-                    Err(Refusal::LogFault)
-                }
-            },
-        }
+        self.conclude_all(self.ledger.alloc, &[g], Outcome::Commit)
     }
 }

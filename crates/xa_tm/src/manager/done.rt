@@ -1,6 +1,6 @@
 //! The row of a transaction is taken away, once it waits for nothing more.
 
-ghost use Rattle.std.specs.Prelude.{◌≡◌, ◌≢◌, Bool, Some, None, Err, IfErr, OnOk};
+ghost use Rattle.std.specs.Prelude.{◌≡◌, ◌≢◌, [], ◌∷◌, Bool, Some, None, Err, IfErr, OnOk};
 ghost use Rattle.xa_base.specs.declared.refusal.Refusal.TheVariants as Refusals;
 ghost use Rattle.xa_base.specs.declared.step.Step.TheVariants as Steps;
 ghost use Rattle.xa_model.specs.Trace.{Fault.InDone, Happening.Done, Happening.Failed};
@@ -10,7 +10,6 @@ ghost use Rattle.xa_tm.specs.Calls.{AsksFor, book_in, log_in};
 ghost use Rattle.xa_tm.specs.LedgerBook.{IsSound};
 ghost use Rattle.xa_tm.specs.Refusing.{refusal_in};
 
-use crate::change::Change;
 use crate::manager::Manager;
 use xa_base::{Gtrid, Refusal};
 use xa_log::DecisionLog;
@@ -27,7 +26,7 @@ impl<L: DecisionLog + Drop> Manager<L> {
         ensures ok { OnOk result (book_in self.new ≡ after (book_in self.old) (Done g)) }
         ensures err { refusal_in (book_in self.old) (Steps.Done g) ≡ None →
             IfErr result (λ n. (n ≡ Refusals.LogFault) ×
-            (book_in self.new ≡ book_after (book_in self.old) (Drops g) (Failed (InDone g)))) }
+            (book_in self.new ≡ book_after (book_in self.old) (Drops (g ∷ [])) (Failed (InDone (g ∷ []))))) }
         // What becomes of the log.
         ensures tied { (near : Bool) → (L.moment (log_in self.old)).is_in_order →
             (L.moment (log_in self.new)).is_honest →
@@ -35,21 +34,12 @@ impl<L: DecisionLog + Drop> Manager<L> {
             IsTied near (book_in self.new) (L.moment (log_in self.new)).content }
         ensures kept { IfErr result
             (λ n. n ≢ Refusals.LogFault → log_in self.new ≡ log_in self.old) }
-        ensures asks { AsksFor (changed_by (Drops g))
+        ensures asks { AsksFor (changed_by (Drops (g ∷ [])))
             (L.moment (log_in self.old)) (L.moment (log_in self.new)) result }
     {
         match self.ledger.may_done(g) {
             Some(refusal) => Err(refusal),
-            None => match self.log.done(g) {
-                Ok(_) => {
-                    self.ledger.done(g);
-                    Ok(())
-                }
-                Err(_) => {
-                    self.ledger.fail(Change::DropRow(g));
-                    Err(Refusal::LogFault)
-                }
-            },
+            None => self.take_rows(&[g], g, Vec::new(self.ledger.alloc)),
         }
     }
 }

@@ -1,11 +1,11 @@
 //! A claimed transaction is committed.
 
-ghost use Rattle.std.specs.Prelude.{◌≡◌, ◌≢◌, Bool, Some, None, Err, IfErr, OnOk};
+ghost use Rattle.std.specs.Prelude.{◌≡◌, ◌≢◌, [], ◌∷◌, Bool, Some, None, Err, IfErr, OnOk};
 ghost use Rattle.xa_base.specs.declared.refusal.Refusal.TheVariants as Refusals;
 ghost use Rattle.xa_base.specs.declared.step.Outcome.TheVariants as Outcomes;
 ghost use Rattle.xa_base.specs.declared.step.Step.TheVariants as Steps;
 ghost use Rattle.xa_model.specs.Trace.{Fault.InDecide, Happening.Decided};
-ghost use Rattle.xa_tm.specs.Book.{Doubt.Adds, after, voted_yes};
+ghost use Rattle.xa_tm.specs.Book.{Doubt.Adds, after, rows_for};
 ghost use Rattle.xa_tm.specs.BookAndLog.{changed_by, IsTied};
 ghost use Rattle.xa_tm.specs.Calls.{AddsRow, AsksFor, FailsBy, book_in, log_in};
 ghost use Rattle.xa_tm.specs.LedgerBook.{IsSound};
@@ -27,7 +27,7 @@ impl<L: DecisionLog + Drop> Manager<L> {
         ensures ok { OnOk result
             (book_in self.new ≡ after (book_in self.old) (Decided g Outcomes.Commit)) }
         ensures err { refusal_in (book_in self.old) (Steps.Settle g) ≡ None →
-            IfErr result (FailsBy (Adds g (voted_yes (book_in self.old) g)) (InDecide g)
+            IfErr result (FailsBy (Adds (rows_for (book_in self.old) (g ∷ []))) (InDecide (g ∷ []))
             (book_in self.old) (book_in self.new)) }
         ensures asked { refusal_in (book_in self.old) (Steps.Settle g) ≡ None →
             result ≡ Err Refusals.LogFault →
@@ -39,7 +39,7 @@ impl<L: DecisionLog + Drop> Manager<L> {
             IsTied near (book_in self.new) (L.moment (log_in self.new)).content }
         ensures kept { IfErr result
             (λ n. n ≢ Refusals.LogFault → log_in self.new ≡ log_in self.old) }
-        ensures asks { AsksFor (changed_by (Adds g (voted_yes (book_in self.old) g)))
+        ensures asks { AsksFor (changed_by (Adds (rows_for (book_in self.old) (g ∷ []))))
             (L.moment (log_in self.old)) (L.moment (log_in self.new)) result }
     {
         match self.ledger.may_settle(g) {

@@ -7,9 +7,9 @@ returns-clause-up g c =
     (λ b d is left. g.met.L.DecisionLog.durable log b d order is left)
 
 pub returns-clause-fault : goal.returns-clause-fault
-returns-clause-fault g c = λ near k asked f old new up same order tied leaves.
+returns-clause-fault g c = λ near k asked f old new up of same order tied leaves.
     left_by_a_fault near k asked f (g.L.DecisionLog.moment old).content (g.L.DecisionLog.moment old).may_leave
-    (g.L.DecisionLog.moment new).may_leave up same tied (λ b d is left. g.met.L.DecisionLog.durable old b d order is left) leaves
+    (g.L.DecisionLog.moment new).may_leave up of same tied (λ b d is left. g.met.L.DecisionLog.durable old b d order is left) leaves
 
 pub returns-clause-restart : goal.returns-clause-restart
 returns-clause-restart g c = λ near k old new down tied was leaves.
