@@ -4,4 +4,4 @@ pub mod Contents
 pub mod Room
 pub mod Refusals
 pub mod Decisions
-pub mod Prepared
+pub mod InTurn

@@ -57,9 +57,9 @@ pub fn branches_are_counted()
 ///
 /// - `sound`: it is, where the book of the start is, where the start has no more rows and records than a number of the
 ///   log can tell, and where no restart gave a greater incarnation than the log can hold;
-/// - `kept`: one right happening more keeps within these limits, if there was room for one and no restart in it gives a
-///   greater incarnation;
-/// - `events`: there happened as much as there are events;
+/// - `kept`: one right happening more keeps within these limits, if there was room for what it counts and no restart in it
+///   gives a greater incarnation;
+/// - `events`: there happened as much as there are events: no step fails in a decision of several transactions;
 /// - `starts`: a start is right whose rows and records are of earlier incarnations.
 pub fn books_are_sound()
     ensures sound { BooksAreSound }

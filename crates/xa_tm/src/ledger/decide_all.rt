@@ -8,7 +8,7 @@ ghost use Rattle.xa_model.specs.Trace.{Happening.Decided};
 ghost use Rattle.xa_tm.specs.Book.{after_all, rows_for};
 ghost use Rattle.xa_tm.specs.Calls.{IsOpenIn, written_by};
 ghost use Rattle.xa_tm.specs.LedgerBook.{HasRoomForDecisions, HasKept, HaveRoom, MakesRoomForDecisions, NamesOwn, as_book};
-ghost use Rattle.xa_tm.specs.LedgerBook.{decided_by, decided_rows, gtrids_of};
+ghost use Rattle.xa_tm.specs.LedgerBook.{decided_by, decided_rows};
 ghost use Rattle.xa_tm.specs.Refusing.{refusal_in_turn};
 
 use crate::ledger::Ledger;

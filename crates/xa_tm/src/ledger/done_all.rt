@@ -1,6 +1,6 @@
 //! What the end of several rows makes of the manager's book.
 
-ghost use Rattle.std.specs.Prelude.{◌≡◌, true, false, is_some, map, if◌then◌else◌};
+ghost use Rattle.std.specs.Prelude.{◌≡◌, true, is_some, map, if◌then◌else◌};
 ghost use Rattle.xa_base.specs.declared.refusal.Refusal.TheVariants as Refusals;
 ghost use Rattle.xa_base.specs.declared.step.Step.TheVariants as Steps;
 ghost use Rattle.xa_model.specs.Facts.Distinct.{EachOnce};

@@ -1,7 +1,7 @@
 //! How the manager's book comes up again: the numbers that the log has tell whether the change in doubt was made.
 
 ghost use Rattle.std.specs.Prelude.{◌≡◌, ◌<◌, ◌+◌, ◌-◌, ◌^◌, ◌&&◌, ◌||◌, if◌then◌else◌, nat_eq, nat_le, nat_lt, true};
-ghost use Rattle.std.specs.Prelude.{false, Bool, is_some, OnOk, map, ◌∷◌};
+ghost use Rattle.std.specs.Prelude.{false, Bool, is_some, OnOk, ◌∷◌};
 ghost use Rattle.xa_base.specs.Branch.{branch_eq};
 ghost use Rattle.xa_model.specs.Trace.{Happening.Failed, Happening.Restarted, Fault.InRestart};
 ghost use Rattle.xa_tm.specs.BookAndLog.{may_find, rows_of};

@@ -6,7 +6,7 @@ use Rattle.xa_tm.proofs.History.OneMore.{book_is}
 use Rattle.xa_tm.proofs.Maps.Decide.{undecided}
 use Rattle.xa_tm.proofs.Maps.ResolveOpen.{room_first}
 use Rattle.xa_tm.proofs.Several.Lists.{past_end}
-use Rattle.xa_tm.proofs.Several.Prepared.{first_open, noted_all, noted_more, others_open}
+use Rattle.xa_tm.proofs.Several.InTurn.{first_open, noted_all, noted_more, others_open}
 use Rattle.xa_tm.proofs.Several.Room.{room_rest}
 use Rattle.xa_tm.proofs.ledger.Ledger.decided_all.Goals as goal
 

@@ -1,7 +1,7 @@
 use Rattle.std.proofs.Common.{◌<◌, ◌≤◌, ◌∙◌, arith, length, sym}
 use Rattle.xa_tm.specs.LedgerBook.{as_book}
 use Rattle.xa_tm.proofs.Several.Lists.{past_end}
-use Rattle.xa_tm.proofs.Several.Prepared.{done_all, done_more, first_kept, others_kept}
+use Rattle.xa_tm.proofs.Several.InTurn.{done_all, done_more, first_kept, others_kept}
 use Rattle.xa_tm.proofs.ledger.Ledger.done_all.Goals as goal
 
 pub done-requires : goal.done-requires

@@ -2,7 +2,7 @@ use Rattle.std.proofs.Common.{◌≡◌, true, false, ◌&&◌, Some, sym, ap, �
 use Rattle.xa_tm.specs.LedgerBook.{transaction_at}
 use Rattle.xa_tm.specs.Outcomes.{is_commit}
 use Rattle.xa_tm.specs.declared.notes.Transaction.{Transaction}
-use Rattle.xa_tm.proofs.Several.Prepared.{room_of_one, rooms_of_one}
+use Rattle.xa_tm.proofs.Several.InTurn.{room_of_one, rooms_of_one}
 use Rattle.xa_tm.proofs.ledger.Ledger.prepare_decision.Goals as goal
 
 pub returns-then-adds_row-clause-room : goal.returns-then-adds_row-clause-room

@@ -1,7 +1,7 @@
 use Rattle.std.proofs.Common.{◌<◌, ◌≤◌, ◌∙◌, arith, length}
 use Rattle.xa_tm.specs.LedgerBook.{as_book}
 use Rattle.xa_tm.proofs.Several.Lists.{past_end}
-use Rattle.xa_tm.proofs.Several.Prepared.{all_prepared, all_rows, room_prepared, rows_prepared}
+use Rattle.xa_tm.proofs.Several.InTurn.{all_prepared, all_rows, room_prepared, rows_prepared}
 use Rattle.xa_tm.proofs.ledger.Ledger.prepare_decisions.Goals as goal
 
 pub loop-g-preserved : goal.loop-g-preserved
