@@ -196,6 +196,7 @@ class Tour:
             with self.xa.transaction() as t:
                 self.write(t, 0, 1)
                 for branch in (t[0], t[1]):
+                    branch.issue_prepare()
                     branch.prepare()
                     branch.line.see_heard()
                 if end == "resolve-open":

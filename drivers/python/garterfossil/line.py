@@ -2,8 +2,9 @@
 
 from __future__ import annotations
 
+import collections
 import time
-from typing import Any, List, Optional, Sequence
+from typing import Any, Deque, List, Optional, Sequence
 
 from .adapters.base import Connection, Result
 from .calls import Answer, Call
@@ -25,8 +26,12 @@ class Line:
         self._coordinator = coordinator
         self._thread = thread
         self._patience = patience
-        # The answers that were told, and that the coordinator didn't say yet that it heard.
-        self._told: List[Reply] = []
+        # The calls that wait on the line: they were issued, and are yet to be made.
+        self._waiting: Deque[Call] = collections.deque()
+        # The replies of the coordinator that weren't looked at yet, in the order of their requests. So many of them come before a
+        # call may be made.
+        self._replies: List[Reply] = []
+        self._due = 0
 
     # ** the connection
 
@@ -35,7 +40,8 @@ class Line:
         if self.connection is not None:
             return
         call = Call("xa_open")
-        self._coordinator.wait(self._coordinator.issue(self._thread, self.rm.number, call))
+        self._post(call)
+        self._see_due()
         try:
             self.connection = self.rm.connect()
             self._tell(call, Answer())
@@ -46,18 +52,19 @@ class Line:
     def lose(self) -> None:
         """Gives the connection up, and tells the coordinator that it is lost, before anything else on the line."""
         connection, self.connection = self.connection, None
-        self._told = []
+        self._waiting.clear()
+        self._replies, self._due = [], 0
         if connection is not None:
             self.rm.drop(connection)
         if not self._coordinator.is_gone:
             self._coordinator.crash_line(self._thread, self.rm.number)
 
     def let_go(self) -> None:
-        """A transaction is over on the line. A branch that it left on the connection, as behind an interrupt, is lost, and so
-        is the connection where the session is over."""
+        """A transaction is over on the line. A branch or a call that it left there, as behind an interrupt, is lost, and so is
+        the connection where the session is over."""
         if self._coordinator.is_gone:
             self.close()
-        elif self.connection is not None and self.connection.has_branch:
+        elif self.connection is not None and (self.connection.has_branch or self._waiting):
             self.lose()
 
     def close(self) -> None:
@@ -73,18 +80,36 @@ class Line:
         self.issue(call)
         return self.make(call)
 
+    def start(self, call: Call) -> Answer:
+        """An xa_start, which is made at once: what is begun on a connection ends with it, so it may be begun before the
+        coordinator says that it is issued. If it isn't, the next call loses the line, and what was begun with it."""
+        self.issue(call)
+        return self._make(call)
+
     def issue(self, *calls: Call) -> None:
-        """Lets calls wait on the line, which are then made in this order. The answers before them were heard, then. Where one
-        of them is refused, the line is lost, so that none waits."""
-        if self.connection is None:
-            raise ConnectionLost(f"there is no connection to database {self.rm.number}")
-        issued = [self._coordinator.issue(self._thread, self.rm.number, call) for call in calls]
-        self.see_heard()
-        self._wait_for(issued)
+        """Lets calls wait on the line, which are then made in this order."""
+        self._open()
+        for call in calls:
+            self._post(call)
 
     def make(self, call: Call) -> Answer:
-        """Makes the call that waits first on the line, and tells what was answered. Whatever comes in place of an answer, the
-        line is lost with it."""
+        """Makes the call that waits first on the line, once the coordinator says that it is issued, and tells what was answered.
+        The answers before it were heard, then. Whatever comes in place of a reply or an answer, the line is lost with it."""
+        self._see_due()
+        return self._make(call)
+
+    def _open(self) -> Connection:
+        """The connection. Raises ConnectionLost where there is none."""
+        if self.connection is None:
+            raise ConnectionLost(f"there is no connection to database {self.rm.number}")
+        return self.connection
+
+    def _post(self, call: Call) -> None:
+        self._waiting.append(call)
+        self._replies.append(self._coordinator.issue(self._thread, self.rm.number, call))
+        self._due = len(self._replies)
+
+    def _make(self, call: Call) -> Answer:
         try:
             answer = self._answer_to(call)
             self._tell(call, answer)
@@ -94,13 +119,15 @@ class Line:
         return answer
 
     def insist(self, call: Call, patience: Optional[float] = None) -> Code:
-        """A call on a prepared branch, made again until it is answered by something else than that. Raises ConnectionLost
-        where the patience ends."""
+        """A call on a prepared branch, issued unless it waits already, and made again until it is answered by something else
+        than XA_RETRY. Raises ConnectionLost where the patience ends."""
         until = time.monotonic() + (self._patience if patience is None else patience)
         while True:
             try:
-                self.make_ready()
-                code = self.call(call).code
+                if call not in self._waiting:
+                    self.make_ready()
+                    self.issue(call)
+                code = self.make(call).code
                 if code is not Code.RETRY:
                     return code
                 if time.monotonic() >= until:
@@ -112,12 +139,15 @@ class Line:
 
     def see_heard(self) -> None:
         """Sees that the coordinator heard all that was told. Raises Unexplained where it can't be so; the line is lost then."""
-        told, self._told = self._told, []
-        self._wait_for(told)
+        self._due = len(self._replies)
+        self._see_due()
 
-    def _wait_for(self, replies: List[Reply]) -> None:
+    def _see_due(self) -> None:
+        """Sees that nothing that was asked for until the last call was issued is refused."""
+        due, self._replies = self._replies[: self._due], self._replies[self._due :]
+        self._due = 0
         try:
-            for reply in replies:
+            for reply in due:
                 self._coordinator.wait(reply)
         except BaseException:
             self.lose()
@@ -125,14 +155,16 @@ class Line:
 
     def _tell(self, call: Call, answer: Answer) -> None:
         """Tells an answer. The reply isn't waited for: it comes before that to the next request."""
-        self._told.append(self._coordinator.answer(self._thread, self.rm.number, call, answer))
+        if self._waiting:
+            self._waiting.popleft()
+        self._replies.append(self._coordinator.answer(self._thread, self.rm.number, call, answer))
 
     def _answer_to(self, call: Call) -> Answer:
         """The answer of the database. That it has none now isn't one: an end of a prepared branch is made again."""
         until = time.monotonic() + self._patience
         while True:
             try:
-                return self.connection.do(call)
+                return self._open().do(call)
             except Unanswered as error:
                 if not call.ends_a_prepared_branch or time.monotonic() >= until:
                     raise ConnectionLost(f"{call.name} has no answer: {error}") from error

@@ -50,7 +50,7 @@ class Branch:
 
     def start(self) -> None:
         """xa_start: work may begin."""
-        if self.line.call(Call("xa_start", self.xid)).code is not Code.OK:
+        if self.line.start(Call("xa_start", self.xid)).code is not Code.OK:
             self._is_over = True
             raise XaError(f"database {self.line.rm.number} has a branch {self.xid} already, of another log")
         self._is_active = True
@@ -81,25 +81,42 @@ class Branch:
             self._is_active = False
             self.line.call(Call("xa_end", self.xid, ("TMFAIL",)))
 
-    def prepare(self) -> Code:
-        """xa_end and xa_prepare: the vote. But for OK the branch is over."""
+    def issue_prepare(self) -> None:
+        """Issues xa_end and xa_prepare."""
         self._was_asked = True
-        vote = self.line.make(self._end_before(Call("xa_prepare", self.xid))).code
+        self.line.issue(self._end, self._prepare)
+
+    def prepare(self) -> Code:
+        """xa_end and xa_prepare, which wait: the vote. But for OK the branch is over."""
+        self._make_end()
+        vote = self.line.make(self._prepare).code
         self.is_prepared = vote is Code.OK
         self._is_over = not self.is_prepared
         return vote
 
     def issue_commit_in_one_phase(self) -> Call:
         """xa_end, and an xa_commit without a vote that is yet to be made (`line.make`): then the database decides."""
-        return self._end_before(Call("xa_commit", self.xid, ("TMONEPHASE",)))
-
-    def _end_before(self, call: Call) -> Call:
-        """Issues xa_end and the call, and makes the first."""
-        end = Call("xa_end", self.xid, ("TMSUCCESS",))
-        self.line.issue(end, call)
-        self._is_active = False
-        self.line.make(end)
+        call = Call("xa_commit", self.xid, ("TMONEPHASE",))
+        self.line.issue(self._end, call)
+        self._make_end()
         return call
+
+    @property
+    def _end(self) -> Call:
+        return Call("xa_end", self.xid, ("TMSUCCESS",))
+
+    @property
+    def _prepare(self) -> Call:
+        return Call("xa_prepare", self.xid)
+
+    def _make_end(self) -> None:
+        self._is_active = False
+        self.line.make(self._end)
+
+    def issue_commit(self) -> None:
+        """Issues xa_commit of the prepared branch, if it has a connection."""
+        if self.line.connection is not None:
+            self.line.issue(Call("xa_commit", self.xid))
 
     def commit(self) -> None:
         """xa_commit of the prepared branch."""
@@ -210,9 +227,18 @@ class Transaction:
 
     def _collect_votes(self, branches: List[Branch]) -> None:
         for branch in branches:
-            vote = branch.prepare()
-            if vote not in (Code.OK, Code.RDONLY):
-                raise XaError(f"database {branch.line.rm.number} voted {vote.name}")
+            branch.issue_prepare()
+        faults: List[XaError] = []
+        for branch in branches:
+            # Also behind a no: the calls wait on the line already.
+            try:
+                vote = branch.prepare()
+                if vote not in (Code.OK, Code.RDONLY):
+                    faults.append(XaError(f"database {branch.line.rm.number} voted {vote.name}"))
+            except XaError as error:
+                faults.append(error)
+        if faults:
+            raise faults[0]
 
     def _commit_in_one_phase(self, line: Line, call: Call) -> None:
         self.outcome = Outcome.UNKNOWN
@@ -240,6 +266,8 @@ class Transaction:
             self._roll_back()
             raise RolledBack(str(error)) from error
         self.outcome = Outcome.COMMITTED
+        for branch in prepared:
+            self._try(branch.issue_commit)
         told = [branch for branch in prepared if self._is_done("xa_commit", branch, branch.commit)]
         heard = [branch for branch in told if self._is_done("xa_commit", branch, branch.line.see_heard)]
         if prepared and heard == prepared:
