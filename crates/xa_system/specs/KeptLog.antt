@@ -1,5 +1,6 @@
 -- What becomes of the log that was handed in last, over a step and over many.
 use Rattle.std.specs.Prelude.{◌≡◌}
+use Rattle.xa_log.specs.Contract.{Honestly}
 use Rattle.xa_system.specs.SystemView.{FaultsHaveCauses, MayRestart, MayRestartAfterCrash, Observes, OtherFaultsHaveCauses, SystemView}
 
 pub record KeepsItsLog {R L : Type 0} (see : Observes R L) (old new : SystemView R L) : Type 0 where
@@ -10,9 +11,8 @@ pub record KeepsItsLog {R L : Type 0} (see : Observes R L) (old new : SystemView
   -- what it rests on was honest before, if it is so after
   pub honest : (see.place new.log).is_honest → (see.place old.log).is_honest
   -- a restart may follow, if one might before; and so over each content that a crash may leave of the log
-  pub near : (see.moment old.handed).is_in_order → (see.place new.log).is_honest → MayRestart see old → MayRestart see new
-  pub crash : (see.moment old.handed).is_in_order → (see.place new.log).is_honest
-      → MayRestart see old → MayRestartAfterCrash see old → MayRestartAfterCrash see new
+  pub near : Honestly (see.moment old.handed) (see.place new.log) (MayRestart see old → MayRestart see new)
+  pub crash : Honestly (see.moment old.handed) (see.place new.log) (MayRestart see old → MayRestartAfterCrash see old → MayRestartAfterCrash see new)
   -- the log has counted each of its failures that an event answers
-  pub faults : (see.moment old.handed).is_in_order → (see.place new.log).is_honest → MayRestart see old → FaultsHaveCauses see old new
+  pub faults : Honestly (see.moment old.handed) (see.place new.log) (MayRestart see old → FaultsHaveCauses see old new)
   pub other_faults : OtherFaultsHaveCauses see old new

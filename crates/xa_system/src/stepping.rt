@@ -6,6 +6,7 @@ ghost use Rattle.xa_base.specs.declared.reply.Reply.TheVariants as Replies;
 ghost use Rattle.xa_base.specs.declared.step.Side.TheVariants as Sides;
 ghost use Rattle.xa_base.specs.declared.step.Step.TheVariants as Steps;
 ghost use Rattle.xa_log.specs.Content.{Content};
+ghost use Rattle.xa_log.specs.Contract.{Honestly};
 ghost use Rattle.xa_model.specs.Facts.{up};
 ghost use Rattle.xa_model.specs.Promises.Headline.{Headline, HeadlineSince};
 ghost use Rattle.xa_model.specs.Promises.Processes.{Resumes, resumed};
@@ -76,10 +77,10 @@ impl<R: ResourceManager + Drop, L: DecisionLog + Drop> System<R, L> {
         ensures down { result ≡ Replies.Refused Refusals.LogFault →
             up (trace_in R.look self.new) ≡ Bool.false }
         ensures failed { result ≡ Replies.Refused Refusals.LogFault →
-            (L.moment self.old.handed).is_in_order → (slot_moment L.moment self.new.log).is_honest →
-            MayHaveFailed (trace_in R.look self.old) (log_failed (step_of step))
+            Honestly (L.moment self.old.handed) (slot_moment L.moment self.new.log)
+            (MayHaveFailed (trace_in R.look self.old) (log_failed (step_of step))
             (slot_moment L.moment self.old.log).content
-            (slot_moment L.moment self.new.log).content }
+            (slot_moment L.moment self.new.log).content) }
         // The log, and whether a restart may follow over it.
         ensures log { KeepsItsLog (observes R.look L.moment) self.old self.new }
         // A restart that can't be.
@@ -88,9 +89,9 @@ impl<R: ResourceManager + Drop, L: DecisionLog + Drop> System<R, L> {
             IsFailed result }
         ensures other_incarnation { (c : Content) → step ≡ Steps.Restart Sides.Manager →
             length self.old.events < EVENT_LIMIT → up (trace_in R.look self.old) ≡ Bool.false →
-            (L.moment self.old.handed).is_in_order → (slot_moment L.moment self.new.log).is_honest →
-            (slot_moment L.moment self.old.log).content ≡ Some c →
-            (IsBeforeNext (trace_in R.look self.old) c → ⊥) → IsFailed result }
+            Honestly (L.moment self.old.handed) (slot_moment L.moment self.new.log)
+            ((slot_moment L.moment self.old.log).content ≡ Some c →
+            (IsBeforeNext (trace_in R.look self.old) c → ⊥) → IsFailed result) }
     {
         if self.events.len() >= EVENT_LIMIT {
             self.agree();
