@@ -10,5 +10,5 @@ pub(crate) fn threads_in(alloc: Global, text: &[u8]) -> Result<Option<u32>, RunF
     ensures { IfOk result (λ threads. IfSome threads (λ n. n ≤ 8)) }
 {
     let document = document_of(alloc, text)?;
-    Ok(size_at(&document, "threads", 8))
+    Ok(size_at(&document, "a file", "threads", 8).ok())
 }

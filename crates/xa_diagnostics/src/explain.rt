@@ -3,39 +3,61 @@
 ghost use Rattle.std.specs.Prelude.{◌≡◌, Err, IfErr, OnOk};
 ghost use Rattle.xa_diagnostics.specs.Explanations.{Tells};
 ghost use Rattle.xa_files.specs.Reading.{EndsWith, Explains};
+ghost use Rattle.xa_files.specs.Refusals.{fault_of};
 ghost use Rattle.xa_files.specs.declared.fault.RunFault.{RunFault};
 ghost use Rattle.xa_scenario.specs.Runs.{PrintsCheck};
 ghost use Rattle.xa_scenario.specs.Scenarios.{scenario_of};
 
-use crate::scenario::{explain_header, explain_step};
-use crate::syntax::explain_syntax;
+use crate::reason::{scenario_reason, text_reason};
 use crate::told::place_text;
 use std::alloc::Global;
 use std::io::Write;
+use toml::Table;
 use xa_base::Memory;
-use xa_files::{RunFault, write_text};
-use xa_scenario::check_scenario;
+use xa_files::{Refusal, RunFault, document_of, write_text};
+use xa_scenario::{print_check, scenario_in};
 
-/// What is told of the fault of a text, behind where it lies.
-fn reason_text(alloc: Global, text: &[u8], fault: RunFault) -> Result<String, Memory> {
-    match fault {
-        RunFault::NotToml => explain_syntax(alloc, text),
-        RunFault::Header => explain_header(alloc, text),
-        RunFault::Step(number) => explain_step(alloc, text, number),
-        _ => Ok(String::new(alloc)),
-    }
-}
-
-/// Tells of the fault of a text.
-fn tell<W: Write>(alloc: Global, text: &[u8], fault: RunFault, out: &mut W) -> Result<(), Memory>
+/// Tells where a file is wrong, and why.
+fn tell<W: Write>(
+    alloc: Global,
+    fault: RunFault,
+    reason: String,
+    out: &mut W,
+) -> Result<(), Memory>
     ensures { OnOk result (Tells fault (W.contents out.old) (W.contents out.new)) }
 {
     let place = place_text(alloc, fault)?;
-    let reason = reason_text(alloc, text, fault)?;
     let told = format!(in alloc; "{place}{reason}")?;
     // A text that can't be written changes no status.
     let _unwritten = write_text(told.as_bytes(), out);
     Ok(())
+}
+
+/// Tells why a text is no document.
+fn tell_of_text<W: Write>(
+    alloc: Global,
+    text: &[u8],
+    fault: RunFault,
+    out: &mut W,
+) -> Result<(), Memory>
+    ensures { OnOk result (Tells fault (W.contents out.old) (W.contents out.new)) }
+{
+    let reason = text_reason(alloc, text, fault)?;
+    tell(alloc, fault, reason, out)
+}
+
+/// Tells why a document is no scenario.
+fn tell_of_document<W: Write>(
+    alloc: Global,
+    text: &[u8],
+    document: &Table,
+    refusal: &Refusal<'_>,
+    out: &mut W,
+) -> Result<(), Memory>
+    ensures { OnOk result (Tells (fault_of refusal.now) (W.contents out.old) (W.contents out.new)) }
+{
+    let reason = scenario_reason(alloc, text, document, refusal)?;
+    tell(alloc, refusal.fault(), reason, out)
 }
 
 /// Reads a scenario file only, as `check_scenario`, and tells what is wrong with it, where it is refused: where it lies,
@@ -50,11 +72,18 @@ pub fn explain_check<W: Write>(alloc: Global, text: &[u8], out: &mut W) -> Resul
     ensures told { (e : RunFault) → scenario_of text.now ≡ Err e → result ≡ Err e
         → Tells e (W.contents out.old) (W.contents out.new) }
 {
-    match check_scenario(alloc, text, out) {
-        Ok(()) => Ok(()),
+    let document = match document_of(alloc, text) {
+        Ok(document) => document,
         Err(fault) => {
-            tell(alloc, text, fault, out)?;
-            Err(fault)
+            tell_of_text(alloc, text, fault, out)?;
+            return Err(fault);
+        }
+    };
+    match scenario_in(alloc, &document) {
+        Ok(scenario) => print_check(alloc, &scenario, out),
+        Err(refusal) => {
+            tell_of_document(alloc, text, &document, &refusal, out)?;
+            Err(refusal.fault())
         }
     }
 }

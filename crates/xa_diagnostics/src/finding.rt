@@ -1,94 +1,14 @@
-//! What is wrong with a table, and what is allowed there.
+//! What is wrong with a table, and what is allowed there, in words.
 
 use crate::allowed::{allowed_at, flags_of_call, name_of_call};
 use std::fmt;
 use toml::Value;
 use xa_base::CallKind;
+use xa_files::Finding;
 
-/// What is wrong with the table of an entry, or with the top of a file.
+/// What is wrong, in words.
 #[derive(Clone, Copy)]
-pub enum Finding<'a> {
-    /// A table of this kind has these keys, and this is none of them.
-    OtherKey {
-        of: &'static str,
-        key: &'a str,
-        keys: &'static [&'static str],
-    },
-    /// A table of this kind needs the key.
-    Missing {
-        of: &'static str,
-        key: &'static str,
-    },
-    /// The key holds something else than what it may.
-    Unfit {
-        key: &'static str,
-        value: &'a Value,
-    },
-    /// A `begin` before it has the name.
-    BegunBefore(&'a str),
-    /// No `begin` before it has the name.
-    NotBegun(&'a str),
-    /// `of` stands beside no `tx`.
-    NoTransaction,
-    /// The text names no flag.
-    NoFlag(&'a str),
-    /// The flag is named twice.
-    FlagTwice(&'a str),
-    /// An item of the flags is no text.
-    FlagNoText(&'a Value),
-    /// Such a call doesn't take these flags.
-    FlagsOfCall(CallKind),
-    /// A recovery doesn't take these flags.
-    FlagsOfRecovery,
-    /// Such a call names a branch.
-    NeedsBranch(CallKind),
-    /// Such a call names no branch.
-    NamesNoBranch(CallKind),
-    /// An xa_recover needs a count.
-    NeedsCount,
-    /// Such a call has no count.
-    HasNoCount(CallKind),
-    /// A line is restarted.
-    RestartOfLine,
-    /// There are more than so many entries.
-    TooMany(&'static str),
-    /// The item is none of a list of entries.
-    NoTable,
-    /// There are so many votes, but so many resource managers.
-    VoteForEach {
-        votes: usize,
-        rms: u32,
-    },
-    /// The item is no vote of a job.
-    NoVote(&'a Value),
-}
-
-impl Finding<'_> {
-    /// The key that is wrong.
-    pub fn key(&self) -> Option<&str> {
-        match self {
-            Finding::OtherKey { key, .. } => Some(key),
-            Finding::Unfit { key, .. } => Some(key),
-            Finding::BegunBefore(_) | Finding::NotBegun(_) | Finding::NamesNoBranch(_) => {
-                Some("tx")
-            }
-            Finding::NoTransaction => Some("of"),
-            Finding::NoFlag(_)
-            | Finding::FlagTwice(_)
-            | Finding::FlagNoText(_)
-            | Finding::FlagsOfCall(_)
-            | Finding::FlagsOfRecovery => Some("flags"),
-            Finding::HasNoCount(_) => Some("count"),
-            Finding::RestartOfLine => Some("part"),
-            Finding::VoteForEach { .. } | Finding::NoVote(_) => Some("votes"),
-            Finding::Missing { .. }
-            | Finding::NeedsBranch(_)
-            | Finding::NeedsCount
-            | Finding::TooMany(_)
-            | Finding::NoTable => None,
-        }
-    }
-}
+pub struct InWords<'a>(pub Finding<'a>);
 
 /// Writes words with commas between them, and `and` before the last.
 fn write_list<W: fmt::Write>(f: &mut fmt::Formatter<W>, words: &[&str]) -> fmt::Result {
@@ -238,24 +158,24 @@ fn write_votes<W: fmt::Write>(f: &mut fmt::Formatter<W>, finding: &Finding<'_>) 
     }
 }
 
-impl fmt::Display for Finding<'_> {
+impl fmt::Display for InWords<'_> {
     fn fmt<W: fmt::Write>(&self, f: &mut fmt::Formatter<W>) -> fmt::Result {
-        match self {
+        match &self.0 {
             Finding::OtherKey { .. } | Finding::Missing { .. } | Finding::Unfit { .. } => {
-                write_key(f, self)
+                write_key(f, &self.0)
             }
             Finding::BegunBefore(_) | Finding::NotBegun(_) | Finding::NoTransaction => {
-                write_name(f, self)
+                write_name(f, &self.0)
             }
             Finding::NoFlag(_)
             | Finding::FlagTwice(_)
             | Finding::FlagNoText(_)
             | Finding::FlagsOfCall(_)
-            | Finding::FlagsOfRecovery => write_flags(f, self),
+            | Finding::FlagsOfRecovery => write_flags(f, &self.0),
             Finding::NeedsBranch(_)
             | Finding::NamesNoBranch(_)
             | Finding::NeedsCount
-            | Finding::HasNoCount(_) => write_call(f, self),
+            | Finding::HasNoCount(_) => write_call(f, &self.0),
             Finding::RestartOfLine => {
                 write!(
                     f,
@@ -264,7 +184,7 @@ impl fmt::Display for Finding<'_> {
             }
             Finding::TooMany(most) => write!(f, "there are at most {most}"),
             Finding::NoTable => write!(f, "it is no table"),
-            Finding::VoteForEach { .. } | Finding::NoVote(_) => write_votes(f, self),
+            Finding::VoteForEach { .. } | Finding::NoVote(_) => write_votes(f, &self.0),
         }
     }
 }

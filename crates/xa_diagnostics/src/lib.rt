@@ -4,25 +4,12 @@
 #![tactic(auto)]
 
 mod allowed;
-mod branches;
-mod calls;
-mod crashes;
-mod endings;
-mod entries;
 mod explain;
-mod fields;
 mod finding;
-mod flags;
-mod header;
-mod jobs;
-mod moves;
 mod places;
-mod recoveries;
-mod scenario;
-mod scripts;
+mod reason;
 mod syntax;
 mod tokens;
 mod told;
-mod words;
 
 pub use explain::explain_check;

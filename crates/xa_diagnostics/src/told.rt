@@ -4,10 +4,10 @@ ghost use Rattle.std.specs.Prelude.{◌≡◌, IfOk};
 ghost use Rattle.std.specs.String.{string_bytes};
 ghost use Rattle.xa_diagnostics.specs.Explanations.{place_text};
 
-use crate::finding::Finding;
+use crate::finding::InWords;
 use std::alloc::Global;
 use xa_base::Memory;
-use xa_files::RunFault;
+use xa_files::{Finding, RunFault};
 
 /// Where the fault of a file lies.
 pub fn place_text(alloc: Global, fault: RunFault) -> Result<String, Memory>
@@ -28,10 +28,11 @@ pub fn place_text(alloc: Global, fault: RunFault) -> Result<String, Memory>
 pub fn finding_text(
     alloc: Global,
     line: Option<usize>,
-    finding: &Finding<'_>,
+    finding: Finding<'_>,
 ) -> Result<String, Memory> {
+    let words = InWords(finding);
     match line {
-        Some(line) => Ok(format!(in alloc; ", line {line}: {finding}\n")?),
-        None => Ok(format!(in alloc; ": {finding}\n")?),
+        Some(line) => Ok(format!(in alloc; ", line {line}: {words}\n")?),
+        None => Ok(format!(in alloc; ": {words}\n")?),
     }
 }

@@ -12,16 +12,17 @@ use Rattle.xa_files.specs.Reading.{Fails}
 use Rattle.xa_files.specs.declared.fault.RunFault.{RunFault}
 use Rattle.xa_files.specs.declared.fault.RunFault.TheVariants.{NotToml, Header, Step, Job, Log, Memory, Work, Output}
 
--- a fault that reading has is one that a function may give
-pub fails : {Y : Type 0} (fault : RunFault) (read : Result Y RunFault) → read ≡ Err fault → Fails fault read
-fails NotToml read is = is
-fails Header read is = is
-fails (Step n) read is = is
-fails (Job n) read is = is
-fails Log read is = is
-fails Memory read is = tt
-fails Work read is = is
-fails Output read is = is
+-- a fault of one reading is that of another that it stops
+pub fails_on : {A B : Type 0} (fault : RunFault) (one : Result A RunFault) (all : Result B RunFault)
+    → (one ≡ Err fault → all ≡ Err fault) → Fails fault one → Fails fault all
+fails_on NotToml one all stops is = stops is
+fails_on Header one all stops is = stops is
+fails_on (Step n) one all stops is = stops is
+fails_on (Job n) one all stops is = stops is
+fails_on Log one all stops is = stops is
+fails_on Memory one all stops is = tt
+fails_on Work one all stops is = stops is
+fails_on Output one all stops is = stops is
 
 -- bytes that are text, and stand for no document where they are
 pub no_document : (is_text : Bool) (text : List ℕ) → is_utf8 text ≡ is_text → (IsUtf8 text → parse_document text ≡ None) → document_of text ≡ Err NotToml

@@ -1,12 +1,14 @@
 //! A file as a document of TOML, and what the tops of documents have in common.
 
 ghost use Rattle.std.specs.Prelude.{◌≡◌, option_map};
-ghost use Rattle.toml.specs.View.{items_view, table_view};
-ghost use Rattle.xa_files.specs.Documents.{are_tables, document_of, size_at, tables_at};
+ghost use Rattle.std.specs.Result.{result_ok};
+ghost use Rattle.toml.specs.View.{items_view, table_view, view};
+ghost use Rattle.xa_files.specs.Documents.{are_tables, document_of, size_at, tables_at, tables_in};
 ghost use Rattle.xa_files.specs.Reading.{Gives};
 
 use crate::fault::RunFault;
-use crate::fields::{number_at, value_at};
+use crate::fields::{number_at, unfit, value_at};
+use crate::finding::Finding;
 use std::alloc::Global;
 use toml::{Table, Value};
 
@@ -17,27 +19,41 @@ fn are_tables(items: &[Value]) -> bool
     items.iter().all(|item| item.is_table())
 }
 
+/// The items of a value that is an array of tables.
+fn tables_in(value: &Value) -> Option<&[Value]>
+    ensures { option_map (λ items. items_view items.now) result ≡ tables_in (view value.now) }
+{
+    let items = value.as_array()?.as_slice();
+    if are_tables(items) { Some(items) } else { None }
+}
+
 /// The tables at a key, of which there may be none, as where the key is missing.
 #[tactic(auto, unfolding(crate::specs::Documents::tables_at))]
-pub fn tables_at<'a>(document: &'a Table, key: &str) -> Option<&'a [Value]>
-    ensures { option_map (λ items. items_view items.now) result
+pub fn tables_at<'a>(document: &'a Table, key: &'static str) -> Result<&'a [Value], Finding<'a>>
+    ensures { option_map (λ items. items_view items.now) (result_ok result)
         ≡ tables_at key.now (table_view document.now) }
 {
     match value_at(document, key) {
-        None => Some(&[]),
-        Some(value) => {
-            let items = value.as_array()?.as_slice();
-            if are_tables(items) { Some(items) } else { None }
-        }
+        None => Ok(&[]),
+        Some(value) => tables_in(value).ok_or(Finding::Unfit { key, value }),
     }
 }
 
 /// The number at a key, from 1 to the limit.
-pub fn size_at(document: &Table, key: &str, limit: u32) -> Option<u32>
-    ensures { result ≡ size_at limit key.now (table_view document.now) }
+pub fn size_at<'a>(
+    document: &'a Table,
+    of: &'static str,
+    key: &'static str,
+    limit: u32,
+) -> Result<u32, Finding<'a>>
+    ensures { result_ok result ≡ size_at limit key.now (table_view document.now) }
 {
-    let number = number_at(document, key, limit)?;
-    if number == 0 { None } else { Some(number) }
+    let number = number_at(document, of, key, limit)?;
+    if number == 0 {
+        Err(unfit(document, of, key))
+    } else {
+        Ok(number)
+    }
 }
 
 /// The document that a text is. NotToml where it isn't UTF-8 or no document, Memory where a request was refused.

@@ -1,10 +1,12 @@
-//! What the keys of a table hold.
+//! What the keys of a table hold, or what is wrong with it. A table is told of as one of a kind, as "a vote".
 
 ghost use Rattle.std.specs.Prelude.{◌≡◌, map, option_map};
+ghost use Rattle.std.specs.Result.{is_ok, result_ok};
 ghost use Rattle.toml.specs.View.{view, table_view};
 ghost use Rattle.toml.specs.Data.{get_member};
 ghost use Rattle.xa_files.specs.Fields.{is_among, has_only, text_at, integer_at, number_at, index_at, holds, index_or, is_name_byte, is_name, name_at};
 
+use crate::finding::Finding;
 use toml::{Table, Value};
 
 /// Whether the text is one of these.
@@ -15,10 +17,34 @@ pub fn is_among(texts: &[&str], text: &str) -> bool
 }
 
 /// Whether the table has no other keys than these.
-pub fn has_only(table: &Table, keys: &[&str]) -> bool
+fn has_only(table: &Table, keys: &[&str]) -> bool
     ensures { result ≡ has_only (map (λ key. key.now) keys.now) (table_view table.now) }
 {
     table.keys().all(|key| is_among(keys, key.as_str()))
+}
+
+/// The first key that is none of these.
+fn other_key<'a>(table: &'a Table, keys: &[&str]) -> &'a str {
+    match table.keys().find(|key| !is_among(keys, key.as_str())) {
+        Some(key) => key.as_str(),
+        None => "",
+    }
+}
+
+/// Refuses other keys than these.
+pub fn only_keys<'a>(
+    table: &'a Table,
+    of: &'static str,
+    keys: &'static [&'static str],
+) -> Result<(), Finding<'a>>
+    ensures { is_ok result ≡ has_only (map (λ key. key.now) keys.now) (table_view table.now) }
+{
+    if has_only(table, keys) {
+        Ok(())
+    } else {
+        let key = other_key(table, keys);
+        Err(Finding::OtherKey { of, key, keys })
+    }
 }
 
 /// The value at a key.
@@ -29,38 +55,6 @@ pub fn value_at<'a>(table: &'a Table, key: &str) -> Option<&'a Value>
     table.get(key)
 }
 
-/// The text at a key.
-pub fn text_at<'a>(table: &'a Table, key: &str) -> Option<&'a str>
-    ensures { option_map (λ text. text.now) result ≡ text_at key.now (table_view table.now) }
-{
-    value_at(table, key)?.as_str()
-}
-
-/// The integer at a key.
-pub fn integer_at(table: &Table, key: &str) -> Option<i64>
-    ensures { result ≡ integer_at key.now (table_view table.now) }
-{
-    value_at(table, key)?.as_integer()
-}
-
-/// The number at a key, at most the limit.
-pub fn number_at(table: &Table, key: &str, limit: u32) -> Option<u32>
-    ensures { result ≡ number_at limit key.now (table_view table.now) }
-{
-    let integer = integer_at(table, key)?;
-    match u32::try_from(integer) {
-        Ok(number) if number <= limit => Some(number),
-        _ => None,
-    }
-}
-
-/// The number of a thread or of a resource manager at a key.
-pub fn index_at(table: &Table, key: &str) -> Option<u32>
-    ensures { result ≡ index_at key.now (table_view table.now) }
-{
-    number_at(table, key, u32::MAX)
-}
-
 /// Whether the key is there.
 pub fn holds(table: &Table, key: &str) -> bool
     ensures { result ≡ holds key.now (table_view table.now) }
@@ -68,14 +62,98 @@ pub fn holds(table: &Table, key: &str) -> bool
     value_at(table, key).is_some()
 }
 
+/// What is wrong with what a key holds, or that it is missing.
+pub fn unfit<'a>(table: &'a Table, of: &'static str, key: &'static str) -> Finding<'a> {
+    match value_at(table, key) {
+        Some(value) => Finding::Unfit { key, value },
+        None => Finding::Missing { of, key },
+    }
+}
+
+/// The meaning of what a key holds, if it has one.
+pub fn meaning_at<'a, T>(
+    table: &'a Table,
+    of: &'static str,
+    key: &'static str,
+    meaning: Option<T>,
+) -> Result<T, Finding<'a>>
+    ensures { result_ok result ≡ meaning }
+{
+    match meaning {
+        Some(meant) => Ok(meant),
+        None => Err(unfit(table, of, key)),
+    }
+}
+
+/// The text at a key.
+pub fn text_at<'a>(
+    table: &'a Table,
+    of: &'static str,
+    key: &'static str,
+) -> Result<&'a str, Finding<'a>>
+    ensures { option_map (λ text. text.now) (result_ok result)
+        ≡ text_at key.now (table_view table.now) }
+{
+    match value_at(table, key) {
+        Some(value) => value.as_str().ok_or(Finding::Unfit { key, value }),
+        None => Err(Finding::Missing { of, key }),
+    }
+}
+
+/// The integer at a key.
+pub fn integer_at<'a>(
+    table: &'a Table,
+    of: &'static str,
+    key: &'static str,
+) -> Result<i64, Finding<'a>>
+    ensures { result_ok result ≡ integer_at key.now (table_view table.now) }
+{
+    match value_at(table, key) {
+        Some(value) => value.as_integer().ok_or(Finding::Unfit { key, value }),
+        None => Err(Finding::Missing { of, key }),
+    }
+}
+
+/// The number at a key, at most the limit.
+pub fn number_at<'a>(
+    table: &'a Table,
+    of: &'static str,
+    key: &'static str,
+    limit: u32,
+) -> Result<u32, Finding<'a>>
+    ensures { result_ok result ≡ number_at limit key.now (table_view table.now) }
+{
+    let integer = integer_at(table, of, key)?;
+    match u32::try_from(integer) {
+        Ok(number) if number <= limit => Ok(number),
+        _ => Err(unfit(table, of, key)),
+    }
+}
+
+/// The number of a thread or of a resource manager at a key.
+pub fn index_at<'a>(
+    table: &'a Table,
+    of: &'static str,
+    key: &'static str,
+) -> Result<u32, Finding<'a>>
+    ensures { result_ok result ≡ index_at key.now (table_view table.now) }
+{
+    number_at(table, of, key, u32::MAX)
+}
+
 /// The number at a key, or the default where the key is missing.
-pub fn index_or(table: &Table, key: &str, default: u32) -> Option<u32>
-    ensures { result ≡ index_or default key.now (table_view table.now) }
+pub fn index_or<'a>(
+    table: &'a Table,
+    of: &'static str,
+    key: &'static str,
+    default: u32,
+) -> Result<u32, Finding<'a>>
+    ensures { result_ok result ≡ index_or default key.now (table_view table.now) }
 {
     if holds(table, key) {
-        index_at(table, key)
+        index_at(table, of, key)
     } else {
-        Some(default)
+        Ok(default)
     }
 }
 
@@ -94,9 +172,18 @@ pub fn is_name(text: &str) -> bool
 }
 
 /// The name at a key.
-pub fn name_at<'a>(table: &'a Table, key: &str) -> Option<&'a str>
-    ensures { option_map (λ text. text.now) result ≡ name_at key.now (table_view table.now) }
+pub fn name_at<'a>(
+    table: &'a Table,
+    of: &'static str,
+    key: &'static str,
+) -> Result<&'a str, Finding<'a>>
+    ensures { option_map (λ text. text.now) (result_ok result)
+        ≡ name_at key.now (table_view table.now) }
 {
-    let text = text_at(table, key)?;
-    if is_name(text) { Some(text) } else { None }
+    let text = text_at(table, of, key)?;
+    if is_name(text) {
+        Ok(text)
+    } else {
+        Err(unfit(table, of, key))
+    }
 }

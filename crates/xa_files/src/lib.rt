@@ -6,17 +6,21 @@ mod document;
 mod fates;
 mod fault;
 mod fields;
+mod finding;
 mod gtrids;
 mod output;
+mod refusal;
 mod words;
 
 pub use document::{document_of, size_at, tables_at};
 pub use fates::{fate_line, fate_text, push_fates};
 pub use fault::RunFault;
 pub use fields::{
-    has_only, holds, index_at, index_or, integer_at, is_among, is_name, name_at, number_at,
-    text_at, value_at,
+    holds, index_at, index_or, integer_at, is_among, is_name, meaning_at, name_at, number_at, only_keys,
+    text_at, unfit, value_at,
 };
+pub use finding::Finding;
 pub use gtrids::gtrid_text;
 pub use output::write_text;
+pub use refusal::Refusal;
 pub use words::{call_named, flag_named, vote_named};

@@ -8,9 +8,8 @@ use Rattle.toml.specs.View.{view, items_view}
 use Rattle.toml.specs.declared.value.Value.{Value}
 use Rattle.toml.proofs.Views.{items_view-drop}
 use Rattle.xa_base.specs.declared.vote.Vote.{Vote}
-use Rattle.xa_files.specs.Reading.{◌>>=◌, Fails}
+use Rattle.xa_files.specs.Reading.{◌>>=◌}
 use Rattle.xa_files.specs.declared.fault.RunFault.{RunFault}
-use Rattle.xa_files.specs.declared.fault.RunFault.TheVariants.{NotToml, Header, Step, Job, Log, Memory, Work, Output}
 use Rattle.xa_jobs.specs.JobFiles.{Votes, vote_in, votes_in, job_at, jobs_from}
 
 -- ** the votes of one job
@@ -108,15 +107,3 @@ unfolding jobs_from
 jobs_end rms front number vs i all past so_far =
     sym so_far ∙ ap (λ ds. with_jobs front (jobs_from rms number (items_view ds))) (drop_of_length-le vs past)
     ∙ ap Ok (append-nil front)
-
--- a fault of one reading is that of another that it stops
-pub fails_on : {A B : Type 0} (fault : RunFault) (one : Result A RunFault) (all : Result B RunFault)
-    → (one ≡ Err fault → all ≡ Err fault) → Fails fault one → Fails fault all
-fails_on NotToml one all stops is = stops is
-fails_on Header one all stops is = stops is
-fails_on (Step n) one all stops is = stops is
-fails_on (Job n) one all stops is = stops is
-fails_on Log one all stops is = stops is
-fails_on Memory one all stops is = tt
-fails_on Work one all stops is = stops is
-fails_on Output one all stops is = stops is

@@ -1,28 +1,20 @@
 -- The faults that texts can have.
-use Rattle.std.proofs.Common.{◌≡◌, ◌≢◌, inl, inr, sym, ℕ, ◌+◌, Bool, true, false, List, Option, Ok, Err, refl}
-use Rattle.std.specs.Option.{ok_or}
-use Rattle.std.specs.Prelude.{nat_lt, if◌then◌else◌}
+use Rattle.std.proofs.Common.{◌≡◌, ◌≢◌, inl, inr, ℕ, ◌+◌, Bool, List, Ok, Err, refl}
 use Rattle.toml.specs.Data.{Data, Items, Members}
 use Rattle.xa_files.specs.Documents.{document_of}
 use Rattle.xa_files.specs.Reading.{◌>>=◌}
 use Rattle.xa_files.specs.declared.fault.RunFault.{RunFault}
 use Rattle.xa_files.specs.declared.fault.RunFault.TheVariants.{Header, Job, Log, Work, Output}
 use Rattle.xa_jobs.specs.Headers.{header_at, header_of}
-use Rattle.xa_workers.specs.declared.limits.TheConstants.{JOB_LIMIT}
-use Rattle.xa_jobs.specs.JobFiles.{Plan, Votes, job_at, jobs_from, jobs_of}
+use Rattle.xa_jobs.specs.JobFiles.{Plan, Votes, job_at, jobs_from, jobs_in, jobs_of}
 use Rattle.xa_files.specs.TablesInTurn.{IsTextFault, FaultsAreOfTexts}
-use Rattle.xa_files.proofs.TablesInTurnLemmas.{ok_not_err, same_err}
+use Rattle.xa_files.proofs.TablesInTurnLemmas.{ok_not_err}
 use Rattle.xa_files.proofs.TextFaults.{document_fault, in_turn, missing, no_text_fault}
 use Rattle.xa_jobs.proofs.ListedLemmas.{first_is_faulty}
 
 -- the fault of a table is that of its job
-job_by : (late : Bool) (number : ℕ) (o : Option Votes) (fault : RunFault)
-    → (if late then Err (Job number) else ok_or o (Job number)) ≡ Err fault → IsTextFault Job fault
-job_by true number o fault is = inr (inr (number, sym (same_err (Job number) fault is)))
-job_by false number o fault is = missing Job o (Job number) fault (inr (inr (number, refl))) is
-
 job_fault : (rms number : ℕ) (value : Data) (fault : RunFault) → job_at rms number value ≡ Err fault → IsTextFault Job fault
-job_fault rms number value fault is = job_by (nat_lt JOB_LIMIT number) number _ fault is
+job_fault rms number value fault is = missing Job _ (Job number) fault (inr (inr (number, refl))) is
 
 -- the fault of the jobs is that of one of them
 jobs_fault : (rms : ℕ) (items : Items) (fault : RunFault) → jobs_from rms 1 items ≡ Err fault → IsTextFault Job fault
@@ -51,7 +43,7 @@ header_turn document fault is =
     (λ e no. missing Job (header_at document) Header e (inr (inl refl)) no) (λ h rest. jobs_turn h fault rest) is
 
 pub faults_are_of_texts : FaultsAreOfTexts Job jobs_of
-unfolding jobs_of
+unfolding jobs_of jobs_in
 faults_are_of_texts text fault is =
     in_turn Job (document_of text) (λ d. header_of d >>= λ h. jobs_from h.1 1 h.3 >>= λ votes. Ok (plan_with h votes)) fault
     (document_fault Job text) (λ d rest. header_turn d fault rest) is

@@ -52,18 +52,22 @@ votes_in (item value items) = option_and_then
 abbrev pub if_number : ℕ → Votes → Option Votes
 if_number rms votes = if length votes == rms then Some votes else None
 
--- the votes of a job's table, which has no other key; there is one or none for each resource manager
-unfoldable pub votes_in_table : (rms : ℕ) → Members → Option Votes
-votes_in_table rms table =
-    if has_only (codes "votes" ∷ []) table
-    then option_and_then (if_number rms) (option_and_then votes_in
-    (option_and_then as_array (get_member (codes "votes") table)))
-    else None
+-- the votes that the items name, of which there is one or none for each resource manager
+abbrev pub row_in : (rms : ℕ) → Items → Option Votes
+row_in rms items = option_and_then (if_number rms) (votes_in items)
 
--- the votes of the job of a number: there are at most 1,000
+-- the items of the votes of a job's table, which has no other key
+unfoldable pub items_in_table : Members → Option Items
+items_in_table table =
+    if has_only (codes "votes" ∷ []) table then option_and_then as_array (get_member (codes "votes") table) else None
+
+-- the same of the table of a number: there are at most 1,000
+abbrev pub items_at : (number : ℕ) → Data → Option Items
+items_at number value = if nat_lt JOB_LIMIT number then None else option_and_then items_in_table (as_table value)
+
+-- the votes of the job of a number
 abbrev pub job_at : (rms number : ℕ) → Data → Result Votes RunFault
-job_at rms number value =
-    if nat_lt JOB_LIMIT number then Err (Job number) else ok_or (option_and_then (votes_in_table rms) (as_table value)) (Job number)
+job_at rms number value = ok_or (option_and_then (row_in rms) (items_at number value)) (Job number)
 
 -- the votes of the jobs in turn, or the first faulty one; the first has this number
 unfoldable pub jobs_from : (rms number : ℕ) → Items → Result (List Votes) RunFault
@@ -73,10 +77,13 @@ jobs_from rms number (item value items) = do
   others ← jobs_from rms (number + 1) items
   Ok (votes ∷ others)
 
--- the jobs that a text asks for, or the first fault
-unfoldable pub jobs_of : List ℕ → Result Plan RunFault
-jobs_of text = do
-  document ← document_of text
+-- the jobs that a document asks for, or the first fault
+unfoldable pub jobs_in : Members → Result Plan RunFault
+jobs_in document = do
   header ← header_of document
   votes ← jobs_from header.1 1 header.3
   Ok (record { threads = header.0; rms = header.1; sweep = header.2; votes = votes })
+
+-- the same of a text
+unfoldable pub jobs_of : List ℕ → Result Plan RunFault
+jobs_of text = document_of text >>= jobs_in

@@ -1,30 +1,22 @@
 -- The faults that texts can have.
-use Rattle.std.proofs.Common.{◌≡◌, ◌≢◌, List, inl, inr, sym, ℕ, ◌+◌, Bool, true, false, [], Option, Ok, Err, refl}
-use Rattle.std.specs.Option.{ok_or}
-use Rattle.std.specs.Prelude.{nat_lt, if◌then◌else◌}
+use Rattle.std.proofs.Common.{◌≡◌, ◌≢◌, List, inl, inr, ℕ, ◌+◌, [], Ok, Err, refl}
 use Rattle.toml.specs.Data.{Data, Items, Members}
 use Rattle.xa_scenario.specs.Headers.{header_at}
 use Rattle.xa_files.specs.TablesInTurn.{IsTextFault, FaultsAreOfTexts}
 use Rattle.xa_scenario.specs.StepTables.{names_before}
-use Rattle.xa_scenario.specs.Scenarios.{Plan, entry_at, entries_from, header_of, scenario_of}
+use Rattle.xa_scenario.specs.Scenarios.{Plan, entry_at, entry_in, entries_from, header_of, scenario_in, scenario_of}
 use Rattle.xa_files.specs.Reading.{◌>>=◌}
 use Rattle.xa_files.specs.Documents.{document_of}
 use Rattle.xa_scenario.specs.Branches.{Names}
-use Rattle.xa_scenario.specs.declared.entry.Entry.{Entry}
 use Rattle.xa_files.specs.declared.fault.RunFault.{RunFault}
 use Rattle.xa_files.specs.declared.fault.RunFault.TheVariants.{Header, Step, Log, Work, Output}
-use Rattle.xa_files.proofs.TablesInTurnLemmas.{ok_not_err, same_err}
+use Rattle.xa_files.proofs.TablesInTurnLemmas.{ok_not_err}
 use Rattle.xa_files.proofs.TextFaults.{document_fault, in_turn, missing, no_text_fault}
 use Rattle.xa_scenario.proofs.ListedLemmas.{first_is_faulty}
 
 -- the fault of an entry is that of its step
-entry_by : (late : Bool) (number : ℕ) (o : Option Entry) (fault : RunFault)
-    → (if late then Err (Step number) else ok_or o (Step number)) ≡ Err fault → IsTextFault Step fault
-entry_by true number o fault is = inr (inr (number, sym (same_err (Step number) fault is)))
-entry_by false number o fault is = missing Step o (Step number) fault (inr (inr (number, refl))) is
-
 entry_fault : (number : ℕ) (begun : Names) (value : Data) (fault : RunFault) → entry_at number begun value ≡ Err fault → IsTextFault Step fault
-entry_fault number begun value fault is = entry_by (nat_lt 10000 number) number _ fault is
+entry_fault number begun value fault is = missing Step (entry_in number begun value) (Step number) fault (inr (inr (number, refl))) is
 
 -- the fault of the entries is that of one of them
 entries_fault : (items : Items) (fault : RunFault) → entries_from 1 [] items ≡ Err fault → IsTextFault Step fault
@@ -47,7 +39,7 @@ header_turn document fault is =
     (λ e no. missing Step (header_at document) Header e (inr (inl refl)) no) (λ h rest. entries_turn h.0 h.1 h.2 fault rest) is
 
 pub faults_are_of_texts : FaultsAreOfTexts Step scenario_of
-unfolding scenario_of
+unfolding scenario_of scenario_in
 faults_are_of_texts text fault is =
     in_turn Step (document_of text) (λ d. header_of d >>= λ h. entries_from 1 [] h.2 >>= λ es.
     Ok (let p : Plan = record { threads = h.0; rms = h.1; entries = es } in p)) fault

@@ -42,10 +42,12 @@ abbrev pub names_after : Names → Data → Names
 names_after begun value = elim (name_in value) [ None ↦ begun | Some name ↦ begun ++ name ∷ [] ]
 
 -- what the table of a number asks for: there are at most 10,000
+abbrev pub entry_in : ℕ → Names → Data → Option Entry
+entry_in number begun value = if nat_lt EVENT_LIMIT number then None else option_and_then (entry_of begun) (as_table value)
+
+-- the same, with its fault
 abbrev pub entry_at : ℕ → Names → Data → Result Entry RunFault
-entry_at number begun value =
-    if nat_lt EVENT_LIMIT number then Err (Step number)
-    else ok_or (option_and_then (entry_of begun) (as_table value)) (Step number)
+entry_at number begun value = ok_or (entry_in number begun value) (Step number)
 
 -- what the tables ask for in turn, or the first faulty one; the first has this number
 unfoldable pub entries_from : ℕ → Names → Items → Result (List Entry) RunFault
@@ -59,10 +61,13 @@ entries_from number begun (item value items) = do
 abbrev pub header_of : Members → Result (ℕ × ℕ × Items) RunFault
 header_of document = ok_or (header_at document) Header
 
--- the scenario that a text is, or the first fault
-unfoldable pub scenario_of : List ℕ → Result Plan RunFault
-scenario_of text = do
-  document ← document_of text
+-- the scenario that a document is, or the first fault
+unfoldable pub scenario_in : Members → Result Plan RunFault
+scenario_in document = do
   header ← header_of document
   entries ← entries_from 1 [] header.2
   Ok (record { threads = header.0; rms = header.1; entries = entries })
+
+-- the same of a text
+unfoldable pub scenario_of : List ℕ → Result Plan RunFault
+scenario_of text = document_of text >>= scenario_in

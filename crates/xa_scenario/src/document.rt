@@ -1,13 +1,15 @@
 //! A scenario file as a whole.
 
-ghost use Rattle.std.specs.Prelude.{◌≡◌, IfOk, IfSome, Ok, OnOk, ◌+◌, [], map, option_map};
+ghost use Rattle.std.specs.Prelude.{◌≡◌, IfOk, Ok, OnOk, ◌+◌, [], map, option_map};
+ghost use Rattle.std.specs.Result.{result_ok};
 ghost use Rattle.std.specs.String.{string_bytes};
 ghost use Rattle.toml.specs.View.{view, table_view, items_view};
 ghost use Rattle.xa_scenario.specs.Files.{names_of, names_with};
 ghost use Rattle.xa_scenario.specs.Headers.{header_at};
 ghost use Rattle.xa_files.specs.Documents.{size_at, tables_at};
-ghost use Rattle.xa_scenario.specs.Scenarios.{IsSize, IsSized, plan_of, entry_at, name_in, entries_from, header_of, scenario_of};
+ghost use Rattle.xa_scenario.specs.Scenarios.{IsSize, IsSized, plan_of, entry_at, entry_in, name_in, entries_from, header_of, scenario_in, scenario_of};
 ghost use Rattle.xa_files.specs.Reading.{Gives};
+ghost use Rattle.xa_files.specs.Refusals.{Reads};
 ghost use Rattle.xa_files.specs.Documents.{document_of};
 ghost use Rattle.xa_files.specs.TablesInTurn.{EachIsRead, FirstIsFaulty, FaultsAreOfTexts};
 ghost use Rattle.xa_files.specs.declared.fault.RunFault.TheVariants.{Step};
@@ -18,7 +20,7 @@ use crate::entry::Entry;
 use crate::tables::entry_of;
 use std::alloc::{AllocError, Global};
 use toml::{Table, Value};
-use xa_files::{RunFault, document_of, has_only, size_at, tables_at};
+use xa_files::{Finding, Refusal, RunFault, document_of, only_keys, size_at, tables_at};
 
 /// The most entries of a scenario.
 const MAX_ENTRIES: usize = 10_000;
@@ -50,29 +52,28 @@ pub struct NamedScenario {
 
 /// The top of a document: the threads, the resource managers and the tables of the steps.
 #[tactic(auto, unfolding(crate::specs::Headers::header_at))]
-fn header_at(document: &Table) -> Option<(u32, u32, &[Value])>
-    ensures value { option_map (λ h. (h.0, h.1, items_view h.2.now)) result
+fn header_at(document: &Table) -> Result<(u32, u32, &[Value]), Finding<'_>>
+    ensures value { option_map (λ h. (h.0, h.1, items_view h.2.now)) (result_ok result)
         ≡ header_at (table_view document.now) }
-    ensures sized { IfSome result (λ h. IsSize h.0 × IsSize h.1) }
+    ensures sized { IfOk result (λ h. IsSize h.0 × IsSize h.1) }
 {
-    if !has_only(document, &["threads", "rms", "step"]) {
-        return None;
-    }
-    let threads = size_at(document, "threads", MAX_THREADS)?;
-    let rms = size_at(document, "rms", MAX_RMS)?;
+    let of = "the top of a scenario";
+    only_keys(document, of, &["threads", "rms", "step"])?;
+    let threads = size_at(document, of, "threads", MAX_THREADS)?;
+    let rms = size_at(document, of, "rms", MAX_RMS)?;
     let steps = tables_at(document, "step")?;
-    Some((threads, rms, steps))
+    Ok((threads, rms, steps))
 }
 
-/// The same, with its fault.
-pub fn header_of(document: &Table) -> Result<(u32, u32, &[Value]), RunFault>
-    ensures value { Gives (λ h. (h.0, h.1, items_view h.2.now)) result
+/// The same, with where it is wrong.
+pub fn header_of(document: &Table) -> Result<(u32, u32, &[Value]), Refusal<'_>>
+    ensures value { Reads (λ h. (h.0, h.1, items_view h.2.now)) result
         (header_of (table_view document.now)) }
     ensures sized { IfOk result (λ h. IsSize h.0 × IsSize h.1) }
 {
     match header_at(document) {
-        Some(header) => Ok(header),
-        None => Err(RunFault::Header),
+        Ok(header) => Ok(header),
+        Err(finding) => Err(Refusal::Header(finding)),
     }
 }
 
@@ -83,17 +84,28 @@ fn name_in(value: &Value) -> Option<&str>
     name_begun(value.as_table()?)
 }
 
-/// What the table of a number asks for.
-fn entry_at(number: usize, begun: &[&str], value: &Value) -> Result<Entry, RunFault>
-    ensures { result ≡ entry_at number (map (λ name. name.now) begun.now) (view value.now) }
+/// What an item of a number asks for.
+fn entry_in<'a>(number: usize, begun: &[&str], value: &'a Value) -> Result<Entry, Finding<'a>>
+    ensures { result_ok result
+        ≡ entry_in number (map (λ name. name.now) begun.now) (view value.now) }
 {
-    let fault = RunFault::Step(number);
     if number > MAX_ENTRIES {
-        return Err(fault);
+        return Err(Finding::TooMany("10,000 entries"));
     }
     match value.as_table() {
-        Some(table) => entry_of(table, begun).ok_or(fault),
-        None => Err(fault),
+        Some(table) => entry_of(table, begun),
+        None => Err(Finding::NoTable),
+    }
+}
+
+/// The same, with where it is wrong.
+fn entry_at<'a>(number: usize, begun: &[&str], value: &'a Value) -> Result<Entry, Refusal<'a>>
+    ensures { Reads (λ entry. entry) result
+        (entry_at number (map (λ name. name.now) begun.now) (view value.now)) }
+{
+    match entry_in(number, begun, value) {
+        Ok(entry) => Ok(entry),
+        Err(finding) => Err(Refusal::Step(number, finding)),
     }
 }
 
@@ -110,8 +122,12 @@ fn lent<'a>(alloc: Global, names: &'a [String]) -> Result<Vec<&'a str>, AllocErr
 }
 
 /// What the tables ask for in turn, where these names were begun before.
-pub fn entries_of(alloc: Global, names: &[String], items: &[Value]) -> Result<Vec<Entry>, RunFault>
-    ensures { Gives (λ entries. entries.items) result
+pub fn entries_of<'a>(
+    alloc: Global,
+    names: &[String],
+    items: &'a [Value],
+) -> Result<Vec<Entry>, Refusal<'a>>
+    ensures { Reads (λ entries. entries.items) result
         (entries_from 1 (map string_bytes names.now) (items_view items.now)) }
 {
     let mut entries = Vec::new(alloc);
@@ -138,6 +154,21 @@ pub fn add_names(alloc: Global, names: &mut Vec<String>, items: &[Value]) -> Res
     Ok(())
 }
 
+/// Reads a document as a scenario, or tells where it is wrong, and what is wrong there.
+#[tactic(auto, unfolding(crate::specs::Scenarios::scenario_in))]
+pub fn scenario_in<'a>(alloc: Global, document: &'a Table) -> Result<Scenario, Refusal<'a>>
+    ensures read { Reads plan_of result (scenario_in (table_view document.now)) }
+    ensures sized { IfOk result (λ scenario. IsSized (plan_of scenario)) }
+{
+    let (threads, rms, steps) = header_of(document)?;
+    let entries = entries_of(alloc, &[], steps)?;
+    Ok(Scenario {
+        threads,
+        rms,
+        entries,
+    })
+}
+
 /// Reads a scenario file.
 ///
 /// The fault is NotToml, Header or Step, whichever is found first in this order, or Memory where a request was refused.
@@ -147,19 +178,17 @@ pub fn read_scenario(alloc: Global, text: &[u8]) -> Result<Scenario, RunFault>
     ensures sized { IfOk result (λ scenario. IsSized (plan_of scenario)) }
 {
     let document = document_of(alloc, text)?;
-    let (threads, rms, steps) = header_of(&document)?;
-    let entries = entries_of(alloc, &[], steps)?;
-    Ok(Scenario {
-        threads,
-        rms,
-        entries,
-    })
+    let scenario = scenario_in(alloc, &document)?;
+    Ok(scenario)
 }
 
 /// Reads a scenario file, and the names of transactions that it begins.
 ///
 /// The faults are those of `read_scenario`.
-#[tactic(auto, unfolding(crate::specs::Scenarios::scenario_of, crate::specs::Files::names_of))]
+#[tactic(auto, unfolding(
+    crate::specs::Scenarios::scenario_of, crate::specs::Scenarios::scenario_in,
+    crate::specs::Files::names_of
+))]
 pub fn read_named_scenario(alloc: Global, text: &[u8]) -> Result<NamedScenario, RunFault>
     ensures read { Gives (λ named. plan_of named.scenario) result (scenario_of text.now) }
     ensures sized { IfOk result (λ named. IsSized (plan_of named.scenario)) }

@@ -29,10 +29,10 @@ mod words;
 
 pub use after_run::system_after;
 pub use document::{
-    NamedScenario, Scenario, faults_are_of_texts, read_named_scenario, read_scenario,
+    NamedScenario, Scenario, faults_are_of_texts, read_named_scenario, read_scenario, scenario_in,
     tables_are_read_in_turn,
 };
 pub use entry::{BranchEntry, Ending, Entry, Script};
 pub use files::{FileFault, read_scenarios};
 pub use processes::run_scenarios;
-pub use run::{check_scenario, run_scenario};
+pub use run::{check_scenario, print_check, run_scenario};

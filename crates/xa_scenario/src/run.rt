@@ -1,14 +1,15 @@
 //! The work of the program, over any log and any writer.
 
 ghost use Rattle.std.specs.Prelude.{◌≡◌, ◌≢◌, ◌⊎◌, ◌↔◌, [], All, Err, IfErr, IfOk, IsErr, OnOk, vec_len};
-ghost use Rattle.std.specs.Io.KnownBytes.{Keeps};
+ghost use Rattle.std.specs.Io.KnownBytes.{Appends, Keeps};
 ghost use Rattle.std.specs.String.{string_bytes};
+ghost use Rattle.xa_files.specs.Outputs.{AppendsBeginning};
 ghost use Rattle.xa_files.specs.Reading.{EndsWith, Explains};
 ghost use Rattle.xa_files.specs.declared.fault.RunFault.{RunFault};
 ghost use Rattle.xa_files.specs.declared.fault.RunFault.TheVariants.{Log, Memory, Output, Work};
 ghost use Rattle.xa_model.specs.Protocol.{RightOrigin};
 ghost use Rattle.xa_scenario.specs.LogKeeping.{HasStarted};
-ghost use Rattle.xa_scenario.specs.Runs.{Begins, BeginsCheck, BeginsRun, IsNewRm, IsStartFault, IsStartOf, IsTextOf, Prints, PrintsCheck, PrintsRun};
+ghost use Rattle.xa_scenario.specs.Runs.{Begins, BeginsCheck, BeginsRun, IsNewRm, IsStartFault, IsStartOf, IsTextOf, Prints, PrintsCheck, PrintsRun, check_line};
 ghost use Rattle.xa_scenario.specs.Scenarios.{IsSized, plan_of, scenario_of};
 ghost use Rattle.xa_system.specs.SystemView.{observes, origin_in};
 ghost use Rattle.xa_system.specs.StartFaults.{IsToBlame};
@@ -157,6 +158,24 @@ pub fn run_scenario<L: DecisionLog + Drop, W: Write>(
     run(alloc, &scenario, system, with_trace, out)
 }
 
+/// Prints how many threads, resource managers and entries a scenario has, as in `ok 1 1 5`.
+pub fn print_check<W: Write>(
+    alloc: Global,
+    scenario: &Scenario,
+    out: &mut W,
+) -> Result<(), RunFault>
+    ensures ok { OnOk result (Appends (W.contents out.old) (W.contents out.new)
+        (check_line (plan_of scenario.now))) }
+    ensures memory { IfErr result (λ e. e ≡ Memory
+        → Keeps (W.contents out.old) (W.contents out.new)) }
+    ensures begun { IfErr result (λ e. e ≡ Output → AppendsBeginning (W.contents out.old)
+        (W.contents out.new) (check_line (plan_of scenario.now))) }
+    ensures fault { IfErr result (λ e. (e ≡ Memory) ⊎ (e ≡ Output)) }
+{
+    let line = check_line(alloc, scenario)?;
+    write_text(line.as_bytes(), out)
+}
+
 /// Reads a scenario file only, and prints how many threads, resource managers and entries it has, as in `ok 1 1 5`.
 ///
 /// The faults are those of `run_scenario`, but for Log.
@@ -173,6 +192,5 @@ pub fn check_scenario<W: Write>(alloc: Global, text: &[u8], out: &mut W) -> Resu
         → BeginsCheck text.now (W.contents out.old) (W.contents out.new)) }
 {
     let plan = read_scenario(alloc, text)?;
-    let line = check_line(alloc, &plan)?;
-    write_text(line.as_bytes(), out)
+    print_check(alloc, &plan, out)
 }

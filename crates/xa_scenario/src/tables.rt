@@ -1,8 +1,11 @@
-//! What each table of a scenario file asks for.
+//! What each table of a scenario file asks for, or what is wrong with it.
 
-ghost use Rattle.std.specs.Prelude.{◌≡◌, map};
+ghost use Rattle.std.specs.Prelude.{◌≡◌, codes, map, option_and_then};
+ghost use Rattle.std.specs.Result.{result_ok};
 ghost use Rattle.toml.specs.View.{table_view};
+ghost use Rattle.xa_files.specs.Fields.{text_at};
 ghost use Rattle.xa_scenario.specs.Tables.{entry_of, entry_in_table};
+ghost use Rattle.xa_scenario.specs.Words.{entry_named};
 
 use crate::begins::begin_row;
 use crate::calls::{call_row, issue_row};
@@ -14,11 +17,15 @@ use crate::recoveries::{recover_row, resolve_open_row, resolve_row};
 use crate::scripts::{busy_entry, heuristic_entry, vote_entry};
 use crate::words::{EntryKind, entry_named};
 use toml::Table;
-use xa_files::text_at;
+use xa_files::{Finding, meaning_at, text_at};
 
 /// What a table of a kind asks for.
-fn row_of(kind: EntryKind, table: &Table, begun: &[&str]) -> Option<Entry>
-    ensures { result ≡ entry_in_table kind (map (λ name. name.now) begun.now)
+fn row_of<'a>(
+    kind: EntryKind,
+    table: &'a Table,
+    begun: &[&str],
+) -> Result<Entry, Finding<'a>>
+    ensures { result_ok result ≡ entry_in_table kind (map (λ name. name.now) begun.now)
         (table_view table.now) }
 {
     match kind {
@@ -44,11 +51,20 @@ fn row_of(kind: EntryKind, table: &Table, begun: &[&str]) -> Option<Entry>
     }
 }
 
+/// The kind of the entry that a table is.
+fn kind_at(table: &Table) -> Result<EntryKind, Finding<'_>>
+    ensures { result_ok result
+        ≡ option_and_then entry_named (text_at (codes "do") (table_view table.now)) }
+{
+    let word = text_at(table, "an entry", "do")?;
+    meaning_at(table, "an entry", "do", entry_named(word))
+}
+
 /// What a table asks for, where `begun` are the names that were begun before it.
 #[tactic(auto, unfolding(crate::specs::Tables::entry_of))]
-pub fn entry_of(table: &Table, begun: &[&str]) -> Option<Entry>
-    ensures { result ≡ entry_of (map (λ name. name.now) begun.now) (table_view table.now) }
+pub fn entry_of<'a>(table: &'a Table, begun: &[&str]) -> Result<Entry, Finding<'a>>
+    ensures { result_ok result ≡ entry_of (map (λ name. name.now) begun.now) (table_view table.now) }
 {
-    let kind = entry_named(text_at(table, "do")?)?;
+    let kind = kind_at(table)?;
     row_of(kind, table, begun)
 }

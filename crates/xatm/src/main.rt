@@ -18,7 +18,7 @@ use crate::stores::{
     close_in_files, list_in_files, run_in_files, run_jobs_in_files, run_jobs_over, run_over,
 };
 use crate::stories::{check, draw, explain};
-use std::io::{BufReader, Input, Write};
+use std::io::{Input, Write};
 use std::process::ExitCode;
 use std::sync::Wait;
 use std::thread::Threads;
@@ -184,7 +184,7 @@ fn serve<W: Write>(
     out: &mut W,
 ) -> Result<(), Failure> {
     let alloc = rt.alloc();
-    let mut input = BufReader::new(alloc, rt.reader()).map_err(|_| Failure::Run(RunFault::Memory))?;
+    let mut input = rt.reader();
     let opened = SqlLog::open(rt, log)?;
     let served = serve_in_files(alloc, threads, rms, opened, &mut input, out);
     let gathered = gather(rt, log);

@@ -4,7 +4,7 @@ use Rattle.toml.specs.View.{items_view}
 use Rattle.xa_workers.specs.declared.limits.TheConstants.{JOB_LIMIT}
 use Rattle.xa_jobs.specs.JobFiles.{jobs_from, rows_in}
 use Rattle.xa_jobs.proofs.JobLemmas.{with_jobs}
-use Rattle.xa_jobs.proofs.jobs.jobs_in.Given as goal
+use Rattle.xa_jobs.proofs.jobs.rows_of.Given as goal
 
 abbrev pub invariant-loop-i : goal.invariant-loop-i
 invariant-loop-i l = record {

@@ -1,0 +1,20 @@
+-- Why documents are refused.
+use Rattle.std.specs.Prelude.{◌≡◌, Result, Ok, Err}
+use Rattle.xa_files.specs.Reading.{Fails}
+use Rattle.xa_files.specs.declared.fault.RunFault.{RunFault}
+use Rattle.xa_files.specs.declared.fault.RunFault.TheVariants as faults
+use Rattle.xa_files.specs.declared.refusal.Refusal.{Refusal}
+use Rattle.xa_files.specs.declared.refusal.Refusal.TheVariants.{Header, Step, Job, Memory}
+
+-- the fault of a run of the document
+abbrev pub fault_of : Refusal → RunFault
+fault_of (Header finding) = faults.Header
+fault_of (Step n finding) = faults.Step n
+fault_of (Job n finding) = faults.Job n
+fault_of Memory = faults.Memory
+
+-- What a reader returned, seen by `view`, is what the document gives, unless memory ran out: where it refuses, the refusal is one of the
+-- document's own fault.
+abbrev pub Reads : {X Y : Type 0} → (X → Y) → Result X Refusal → Result Y RunFault → Type 0
+Reads view (Ok x) read = read ≡ Ok (view x)
+Reads view (Err refusal) read = Fails (fault_of refusal) read
