@@ -18,12 +18,7 @@ use xa_files::{Refusal, RunFault, document_of, write_text};
 use xa_scenario::{print_check, scenario_in};
 
 /// Tells where a file is wrong, and why.
-fn tell<W: Write>(
-    alloc: Global,
-    fault: RunFault,
-    reason: String,
-    out: &mut W,
-) -> Result<(), Memory>
+fn tell<W: Write>(alloc: Global, fault: RunFault, reason: String, out: &mut W) -> Result<(), Memory>
     ensures { OnOk result (Tells fault (W.contents out.old) (W.contents out.new)) }
 {
     let place = place_text(alloc, fault)?;

@@ -16,8 +16,8 @@ pub use document::{document_of, size_at, tables_at};
 pub use fates::{fate_line, fate_text, push_fates};
 pub use fault::RunFault;
 pub use fields::{
-    holds, index_at, index_or, integer_at, is_among, is_name, meaning_at, name_at, number_at, only_keys,
-    text_at, unfit, value_at,
+    holds, index_at, index_or, integer_at, is_among, is_name, meaning_at, name_at, number_at,
+    only_keys, text_at, unfit, value_at,
 };
 pub use finding::Finding;
 pub use gtrids::gtrid_text;

@@ -76,10 +76,7 @@ fn row_of<'a>(
     if votes == rms as usize {
         Ok(row)
     } else {
-        Err(Refusal::Job(
-            number,
-            Finding::VoteForEach { votes, rms },
-        ))
+        Err(Refusal::Job(number, Finding::VoteForEach { votes, rms }))
     }
 }
 
@@ -117,12 +114,7 @@ fn items_at(number: usize, value: &Value) -> Result<&[Value], Finding<'_>>
 }
 
 /// The votes of the job of a number.
-fn job_at<'a>(
-    alloc: Global,
-    rms: u32,
-    number: usize,
-    value: &'a Value,
-) -> Result<Row, Refusal<'a>>
+fn job_at<'a>(alloc: Global, rms: u32, number: usize, value: &'a Value) -> Result<Row, Refusal<'a>>
     ensures job { Reads (λ votes. votes.items) result (job_at rms number (view value.now)) }
     ensures few { IfOk result (λ _. number ≤ JOB_LIMIT) }
     ensures number { IfOk result (λ votes. vec_len votes ≡ rms) }

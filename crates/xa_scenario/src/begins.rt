@@ -15,9 +15,10 @@ pub fn begin_row<'a>(table: &'a Table, begun: &[&str]) -> Result<Entry, Finding<
     ensures { result_ok result ≡ begin_row (map (λ name. name.now) begun.now)
         (table_view table.now) }
 {
-    only_keys(table, "a begin", &["do", "thread", "tx"])?;
-    let thread = index_at(table, "a begin", "thread")?;
-    let name = name_at(table, "a begin", "tx")?;
+    let of = "a begin";
+    only_keys(table, of, &["do", "thread", "tx"])?;
+    let thread = index_at(table, of, "thread")?;
+    let name = name_at(table, of, "tx")?;
     if is_among(begun, name) {
         Err(Finding::BegunBefore(name))
     } else {

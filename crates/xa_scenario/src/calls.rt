@@ -13,9 +13,7 @@ use crate::entry::{BranchEntry, Entry};
 use crate::flags::flags_at;
 use toml::Table;
 use xa_base::{Call, CallKind};
-use xa_files::{
-    Finding, call_named, holds, index_at, integer_at, meaning_at, only_keys, text_at,
-};
+use xa_files::{Finding, call_named, holds, index_at, integer_at, meaning_at, only_keys, text_at};
 
 const CALL_KEYS: [&str; 8] = ["do", "thread", "rm", "xa", "tx", "of", "flags", "count"];
 

@@ -185,10 +185,7 @@ pub fn read_scenario(alloc: Global, text: &[u8]) -> Result<Scenario, RunFault>
 /// Reads a scenario file, and the names of transactions that it begins.
 ///
 /// The faults are those of `read_scenario`.
-#[tactic(auto, unfolding(
-    crate::specs::Scenarios::scenario_of, crate::specs::Scenarios::scenario_in,
-    crate::specs::Files::names_of
-))]
+#[tactic(auto, unfolding(crate::specs::Scenarios::scenario_of, crate::specs::Scenarios::scenario_in, crate::specs::Files::names_of))]
 pub fn read_named_scenario(alloc: Global, text: &[u8]) -> Result<NamedScenario, RunFault>
     ensures read { Gives (λ named. plan_of named.scenario) result (scenario_of text.now) }
     ensures sized { IfOk result (λ named. IsSized (plan_of named.scenario)) }

@@ -36,9 +36,10 @@ fn scan_of_flags<'a>(flags: u32) -> Result<(bool, bool), Finding<'a>>
 pub fn recover_row<'a>(table: &'a Table) -> Result<Entry, Finding<'a>>
     ensures { result_ok result ≡ recover_row (table_view table.now) }
 {
-    only_keys(table, "a recover", &["do", "rm", "count", "flags"])?;
-    let rm = index_at(table, "a recover", "rm")?;
-    let count = integer_at(table, "a recover", "count")?;
+    let of = "a recover";
+    only_keys(table, of, &["do", "rm", "count", "flags"])?;
+    let rm = index_at(table, of, "rm")?;
+    let count = integer_at(table, of, "count")?;
     let flags = flags_at(table)?;
     let (start_scan, end_scan) = scan_of_flags(flags)?;
     Ok(Entry::Recover {

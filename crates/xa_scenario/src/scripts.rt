@@ -42,9 +42,10 @@ pub fn vote_entry<'a>(table: &'a Table, begun: &[&str]) -> Result<Entry, Finding
     ensures { result_ok result ≡ vote_entry (map (λ name. name.now) begun.now)
         (table_view table.now) }
 {
-    only_keys(table, "a vote", &["do", "rm", "tx", "of", "vote"])?;
-    let rm = index_at(table, "a vote", "rm")?;
-    let branch = branch_at(table, "a vote", begun, 0)?;
+    let of = "a vote";
+    only_keys(table, of, &["do", "rm", "tx", "of", "vote"])?;
+    let rm = index_at(table, of, "rm")?;
+    let branch = branch_at(table, of, begun, 0)?;
     let vote = vote_at(table)?;
     Ok(Entry::Script {
         rm,
@@ -59,10 +60,11 @@ pub fn busy_entry<'a>(table: &'a Table, begun: &[&str]) -> Result<Entry, Finding
     ensures { result_ok result ≡ busy_entry (map (λ name. name.now) begun.now)
         (table_view table.now) }
 {
-    only_keys(table, "a busy", &["do", "rm", "tx", "of", "times"])?;
-    let rm = index_at(table, "a busy", "rm")?;
-    let branch = branch_at(table, "a busy", begun, 0)?;
-    let times = number_at(table, "a busy", "times", MAX_TIMES)?;
+    let of = "a busy";
+    only_keys(table, of, &["do", "rm", "tx", "of", "times"])?;
+    let rm = index_at(table, of, "rm")?;
+    let branch = branch_at(table, of, begun, 0)?;
+    let times = number_at(table, of, "times", MAX_TIMES)?;
     Ok(Entry::Script {
         rm,
         branch,
@@ -76,9 +78,10 @@ pub fn heuristic_entry<'a>(table: &'a Table, begun: &[&str]) -> Result<Entry, Fi
     ensures { result_ok result ≡ heuristic_entry (map (λ name. name.now) begun.now)
         (table_view table.now) }
 {
-    only_keys(table, "a heuristic", &["do", "rm", "tx", "of", "how"])?;
-    let rm = index_at(table, "a heuristic", "rm")?;
-    let branch = branch_at(table, "a heuristic", begun, 0)?;
+    let of = "a heuristic";
+    only_keys(table, of, &["do", "rm", "tx", "of", "how"])?;
+    let rm = index_at(table, of, "rm")?;
+    let branch = branch_at(table, of, begun, 0)?;
     let how = how_at(table)?;
     Ok(Entry::Script {
         rm,

@@ -20,11 +20,7 @@ use toml::Table;
 use xa_files::{Finding, meaning_at, text_at};
 
 /// What a table of a kind asks for.
-fn row_of<'a>(
-    kind: EntryKind,
-    table: &'a Table,
-    begun: &[&str],
-) -> Result<Entry, Finding<'a>>
+fn row_of<'a>(kind: EntryKind, table: &'a Table, begun: &[&str]) -> Result<Entry, Finding<'a>>
     ensures { result_ok result ≡ entry_in_table kind (map (λ name. name.now) begun.now)
         (table_view table.now) }
 {
