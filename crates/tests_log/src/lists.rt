@@ -1,4 +1,4 @@
-//! Lists of decisions, which each log writes alike.
+//! Lists of decisions, which each log writes and takes away alike.
 
 ghost use Rattle.std.specs.Prelude.{◌≡◌, IfOk};
 ghost use Rattle.std.specs.List.{AllByRecursion};
@@ -64,6 +64,34 @@ fn write_four<L: DecisionLog>(
     commit_all(log, refused, alloc, &decisions)
 }
 
+fn done_all<L: DecisionLog>(
+    log: &mut L,
+    refused: &mut u64,
+    gtrids: &[Gtrid],
+) -> Result<(), LogFault>
+    requires { AllByRecursion FitsRow gtrids.now }
+{
+    let answer = log.done_all(gtrids);
+    if !was_refused(&answer, refused) {
+        return answer;
+    }
+    log.done_all(gtrids)
+}
+
+/// Takes rows away at a log that has FIRST, SECOND and THIRD: of FIRST, which is named twice, and of THIRD; none; and the
+/// same again.
+fn take_lists<L: DecisionLog>(rt: &impl Abort, log: &mut L, refused: &mut u64) -> Result<(), Fail> {
+    let gtrids = [FIRST, THIRD, FIRST];
+    done_all(log, refused, &gtrids)?;
+    let left = rows(log, refused)?;
+    assert!(rt; left.decisions.as_slice() == [SECOND].as_slice());
+    assert!(rt; left.participants.as_slice() == [SECOND_A].as_slice());
+    done_all(log, refused, &[])?;
+    done_all(log, refused, &gtrids)?;
+    assert!(rt; contains(log, refused, SECOND)?);
+    Ok(())
+}
+
 /// Writes lists at an empty log.
 fn write_lists<L: DecisionLog>(rt: &impl Abort, log: &mut L, alloc: Global) -> Result<(), Fail> {
     let refused = &mut 0;
@@ -78,6 +106,7 @@ fn write_lists<L: DecisionLog>(rt: &impl Abort, log: &mut L, alloc: Global) -> R
     assert!(rt; answers.as_slice() == [Logged::Already; 4].as_slice());
     let answers = commit_all(log, refused, alloc, &[])?;
     assert!(rt; answers.is_empty());
+    take_lists(rt, log, refused)?;
     assert_eq!(rt; log.faults(), *refused);
     Ok(())
 }
@@ -128,5 +157,34 @@ fn a_list_is_one_commit_of_a_plan(rt: HostRuntime) -> Result<(), Fail> {
     let made = left_of_list(rt.alloc(), true)?;
     assert!(rt; made == [true; 2] || made == [false; 2]);
     assert!(rt; made == [true; 2] || left_of_list(rt.alloc(), true)? == [true; 2]);
+    Ok(())
+}
+
+/// Whether SECOND and THIRD are there after a call that takes FIRST, SECOND and THIRD away at once and fails, by the plan,
+/// with its change made or not.
+fn left_of_removal(alloc: Global, made: bool) -> Result<[bool; 2], LogFault> {
+    let plan = FailPlan::Once {
+        kind: LogCall::Done,
+        at: 1,
+        made,
+    };
+    let mut log = FailLog::new(MemLog::new(alloc), plan);
+    for g in [FIRST, SECOND, THIRD] {
+        commit(&mut log, &mut 0, g, &[])?;
+    }
+    match log.done_all(&[FIRST, SECOND, THIRD]) {
+        Err(LogFault::Store) => {}
+        _ => return Err(LogFault::Version),
+    }
+    Ok([
+        contains(&mut log, &mut 0, SECOND)?,
+        contains(&mut log, &mut 0, THIRD)?,
+    ])
+}
+
+#[test]
+fn a_removal_of_several_rows_is_one_done_of_a_plan(rt: HostRuntime) -> Result<(), Fail> {
+    assert!(rt; left_of_removal(rt.alloc(), false)? == [true; 2]);
+    assert!(rt; left_of_removal(rt.alloc(), true)? == [false; 2]);
     Ok(())
 }

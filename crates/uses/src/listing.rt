@@ -2,6 +2,7 @@
 
 ghost use Rattle.std.specs.Prelude.{◌≡◌, Some, [], IfOk};
 ghost use Rattle.xa_listing.specs.Texts.{PrintsLog};
+ghost use Rattle.xa_log.specs.Contract.{Honestly};
 
 use std::alloc::Global;
 use xa_files::RunFault;
@@ -10,8 +11,8 @@ use xa_log::DecisionLog;
 
 /// The text of what a log holds.
 pub(crate) fn listed<L: DecisionLog>(log: &mut L, alloc: Global) -> Result<Vec<u8>, RunFault>
-    ensures { (L.moment log.old).is_in_order → (L.moment log.new).is_honest →
-        IfOk result (λ out. PrintsLog (L.moment log.old).content (Some []) (Some out.items)) }
+    ensures { Honestly (L.moment log.old) (L.moment log.new)
+        (IfOk result (λ out. PrintsLog (L.moment log.old).content (Some []) (Some out.items))) }
 {
     let mut out = Vec::new(alloc);
     list_log(log, &mut out)?;

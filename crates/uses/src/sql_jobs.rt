@@ -3,6 +3,7 @@
 ghost use Rattle.std.specs.Prelude.{◌≡◌, ◌+◌, IfOk, IsSomeAnd, IsTrue, Some};
 ghost use Rattle.sqlite.specs.Files.{image_of};
 ghost use Rattle.xa_log.specs.Content.{Content, nothing, with_bump};
+ghost use Rattle.xa_log.specs.Contract.{Honestly};
 ghost use Rattle.xa_sql_log.specs.ClosedFiles.{HoldsWhole};
 ghost use Rattle.xa_workers.specs.Jobs.{IsRunnable};
 ghost use Rattle.xa_workers.specs.Rows.{HasRows, rows_of_jobs};
@@ -30,10 +31,10 @@ pub(crate) fn logged_over<R: Threads + Wait + Clock + Sync, L: DecisionLog + Dro
 ) -> Result<Outcomes<L>, WorkFault>
     requires { IsRunnable jobs.now }
     ensures honest { IfOk result (λ o. (L.moment o.log).is_honest → (L.moment log).is_honest) }
-    ensures rows { IfOk result (λ o. (L.moment log).is_in_order → (L.moment o.log).is_honest →
-        (before : Content) → (L.moment log).content ≡ Some before →
+    ensures rows { IfOk result (λ o. Honestly (L.moment log) (L.moment o.log)
+        ((before : Content) → (L.moment log).content ≡ Some before →
         IsSomeAnd (L.moment o.log).content (HasRows (before.incarnation + 1)
-        (rows_of_jobs jobs.now (before.incarnation + 1) o.ends.items) (with_bump before))) }
+        (rows_of_jobs jobs.now (before.incarnation + 1) o.ends.items) (with_bump before)))) }
 {
     run_jobs(rt, alloc, jobs, log, &Open)
 }

@@ -4,7 +4,7 @@
 ghost use Rattle.std.specs.Prelude.{◌≡◌, false, true, IfOk, IsTrue};
 ghost use Rattle.std.specs.List.{AllByRecursion};
 ghost use Rattle.sqlite.specs.Files.{image_of};
-ghost use Rattle.xa_log.specs.Contract.{FitsRow};
+ghost use Rattle.xa_log.specs.Contract.{FitsRow, Honestly};
 ghost use Rattle.xa_sql_log.specs.OpenedDatabase.{HoldsLog};
 
 use sqlite::{FileStore, Files, Options};
@@ -23,8 +23,8 @@ fn found_until_done<L: DecisionLog>(
 ) -> Result<(bool, bool), LogFault>
     requires fits { FitsRow g }
     requires own { AllByRecursion (λ b. b.gtrid ≡ g) participants.now }
-    ensures { (L.moment log.old).is_in_order → (L.moment log.new).is_honest →
-        IfOk result (λ found. (found.0 ≡ true) × (found.1 ≡ false)) }
+    ensures { Honestly (L.moment log.old) (L.moment log.new)
+        (IfOk result (λ found. (found.0 ≡ true) × (found.1 ≡ false))) }
 {
     let _logged = log.commit(g, participants)?;
     let before = log.contains(g)?;

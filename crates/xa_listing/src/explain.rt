@@ -5,7 +5,7 @@ ghost use Rattle.std.specs.Io.KnownBytes.{Keeps};
 ghost use Rattle.xa_files.specs.declared.fault.RunFault.TheVariants.{Log, Memory, Output};
 ghost use Rattle.xa_listing.specs.Faults.{CountsFault, IsListFault, TellsFault};
 ghost use Rattle.xa_log.specs.Content.{unchanged};
-ghost use Rattle.xa_log.specs.Contract.{LeavesNoMore};
+ghost use Rattle.xa_log.specs.Contract.{Honestly, LeavesNoMore};
 ghost use Rattle.xa_log.specs.Contract.{Keeps as IsKept};
 ghost use Rattle.xa_log.specs.declared.fail_plan.LogCall.{LogCall};
 
@@ -26,12 +26,12 @@ pub fn explain_log<L: DecisionLog, W: Write>(log: &mut L, out: &mut W) -> Result
     ensures fault { IfErr result IsListFault }
 
     // The log is as before, or a failure of its own has shut it.
-    ensures log { (L.moment log.old).is_in_order → (L.moment log.new).is_honest →
-        OnOk result ((L.moment log.new).content ≡ (L.moment log.old).content) }
-    ensures kept { (L.moment log.old).is_in_order → (L.moment log.new).is_honest →
-        IsKept (L.moment log.old).content (L.moment log.new).content }
-    ensures crash { (L.moment log.old).is_in_order → (L.moment log.new).is_honest →
-        LeavesNoMore (L.moment log.old).may_leave (L.moment log.new).may_leave }
+    ensures log { Honestly (L.moment log.old) (L.moment log.new)
+        (OnOk result ((L.moment log.new).content ≡ (L.moment log.old).content)) }
+    ensures kept { Honestly (L.moment log.old) (L.moment log.new)
+        (IsKept (L.moment log.old).content (L.moment log.new).content) }
+    ensures crash { Honestly (L.moment log.old) (L.moment log.new)
+        (LeavesNoMore (L.moment log.old).may_leave (L.moment log.new).may_leave) }
     ensures order { (L.moment log.old).is_in_order → (L.moment log.new).is_in_order }
     ensures honest { (L.moment log.new).is_honest → (L.moment log.old).is_honest }
     ensures faults { CountsFault result (L.moment log.old).fault_count

@@ -6,7 +6,7 @@ ghost use Rattle.xa_files.specs.declared.fault.RunFault.TheVariants.{Log, Memory
 ghost use Rattle.xa_listing.specs.Faults.{CountsFault, IsListFault, TellsFault};
 ghost use Rattle.xa_listing.specs.Texts.{BeginsLog, PrintsLog};
 ghost use Rattle.xa_log.specs.Content.{unchanged};
-ghost use Rattle.xa_log.specs.Contract.{LeavesNoMore};
+ghost use Rattle.xa_log.specs.Contract.{Honestly, LeavesNoMore};
 ghost use Rattle.xa_log.specs.Contract.{Keeps as IsKept};
 ghost use Rattle.xa_log.specs.declared.fail_plan.LogCall.{LogCall};
 
@@ -25,23 +25,23 @@ use xa_log::DecisionLog;
 /// was refused; nothing is written in either case. Output comes where a write failed: what was written
 /// before it is left, and is a beginning of what is printed otherwise.
 pub fn list_log<L: DecisionLog, W: Write>(log: &mut L, out: &mut W) -> Result<(), RunFault>
-    ensures prints { (L.moment log.old).is_in_order → (L.moment log.new).is_honest →
-        OnOk result (PrintsLog (L.moment log.old).content (W.contents out.old)
-        (W.contents out.new)) }
-    ensures begun { (L.moment log.old).is_in_order → (L.moment log.new).is_honest →
-        IfErr result (λ e. e ≡ Output →
-        BeginsLog (L.moment log.old).content (W.contents out.old) (W.contents out.new)) }
+    ensures prints { Honestly (L.moment log.old) (L.moment log.new)
+        (OnOk result (PrintsLog (L.moment log.old).content (W.contents out.old)
+        (W.contents out.new))) }
+    ensures begun { Honestly (L.moment log.old) (L.moment log.new)
+        (IfErr result (λ e. e ≡ Output → BeginsLog (L.moment log.old).content (W.contents out.old)
+        (W.contents out.new))) }
     ensures unwritten { IfErr result (λ e. e ≢ Output →
         Keeps (W.contents out.old) (W.contents out.new)) }
     ensures fault { IfErr result IsListFault }
 
     // The log is as before, or a failure of its own has shut it.
-    ensures log { (L.moment log.old).is_in_order → (L.moment log.new).is_honest →
-        OnOk result ((L.moment log.new).content ≡ (L.moment log.old).content) }
-    ensures kept { (L.moment log.old).is_in_order → (L.moment log.new).is_honest →
-        IsKept (L.moment log.old).content (L.moment log.new).content }
-    ensures crash { (L.moment log.old).is_in_order → (L.moment log.new).is_honest →
-        LeavesNoMore (L.moment log.old).may_leave (L.moment log.new).may_leave }
+    ensures log { Honestly (L.moment log.old) (L.moment log.new)
+        (OnOk result ((L.moment log.new).content ≡ (L.moment log.old).content)) }
+    ensures kept { Honestly (L.moment log.old) (L.moment log.new)
+        (IsKept (L.moment log.old).content (L.moment log.new).content) }
+    ensures crash { Honestly (L.moment log.old) (L.moment log.new)
+        (LeavesNoMore (L.moment log.old).may_leave (L.moment log.new).may_leave) }
     ensures order { (L.moment log.old).is_in_order → (L.moment log.new).is_in_order }
     ensures honest { (L.moment log.new).is_honest → (L.moment log.old).is_honest }
     ensures faults { CountsFault result (L.moment log.old).fault_count

@@ -1,5 +1,6 @@
 -- The log of a system, from its start on.
 use Rattle.std.specs.Prelude.{◌≡◌, ◌⊎◌, MatchOption, Some}
+use Rattle.xa_log.specs.Contract.{Honestly}
 use Rattle.xa_log.specs.declared.decision_log.DecisionLog as DecisionLog
 use Rattle.xa_model.specs.Promises.Processes.{Resumes}
 use Rattle.xa_scenario.specs.Runs.{StartsOverLog}
@@ -14,7 +15,7 @@ pub record HasStarted {R L : Type 0} (see : Observes R L) (log : L) (s : SystemV
   pub over : StartsOverLog see.moment log (origin_in see.look s)
   pub is_left : log_held s.log ≡ Some over.left
   pub handed : s.handed ≡ log
-  pub near : (see.moment log).is_in_order → (see.place s.log).is_honest → MayRestart see s
+  pub near : Honestly (see.moment log) (see.place s.log) (MayRestart see s)
 
 -- A system has started over what another one left: over its log, and, where that was in order as it was handed in and is
 -- honest, behind its history.
@@ -31,7 +32,7 @@ pub record HasGoneOn {R L : Type 0} (see : Observes R L) (old new : SystemView R
 pub record KeepsLog {R L : Type 0} (see : Observes R L) (old new : SystemView R L) : Type 0 where
   pub handed : new.handed ≡ old.handed
   pub honest : (see.place new.log).is_honest → (see.place old.log).is_honest
-  pub near : (see.moment old.handed).is_in_order → (see.place new.log).is_honest → MayRestart see old → MayRestart see new
+  pub near : Honestly (see.moment old.handed) (see.place new.log) (MayRestart see old → MayRestart see new)
 
 -- No system can go on from what this one leaves: it holds no log, or its log is to blame, or a branch at its resource managers
 -- is newer than that.

@@ -13,7 +13,7 @@ use Rattle.xa_base.specs.declared.reply.Event.{Event}
 use Rattle.xa_base.specs.declared.state.Fate.{Fate}
 use Rattle.xa_files.specs.Fates.{fate_lines}
 use Rattle.xa_files.specs.Outputs.{AppendsBeginning}
-use Rattle.xa_log.specs.Contract.{Moment}
+use Rattle.xa_log.specs.Contract.{Honestly, Moment}
 use Rattle.xa_log.specs.declared.decision_log.DecisionLog as DecisionLog
 use Rattle.xa_model.specs.Facts.{fate, started}
 use Rattle.xa_model.specs.Promises.Headline.{Headline, HeadlineSince}
@@ -116,8 +116,8 @@ module _ {L : Type 0} (moment : L → Moment) where
     pub found : L
     pub left : before.log ≡ Some found
     pub is : IsProcess found before.gtrids before.names plan p
-    pub resumes : (moment log).is_in_order → (moment is.over.left).is_honest → Resumes past p.origin
-    pub headline : (moment log).is_in_order → (moment is.over.left).is_honest → HeadlineSince (resumed past p.origin) p.events
+    pub resumes : Honestly (moment log) (moment is.over.left) (Resumes past p.origin)
+    pub headline : Honestly (moment log) (moment is.over.left) (HeadlineSince (resumed past p.origin) p.events)
 
   -- ** processes in turn
 
@@ -193,7 +193,7 @@ module _ {R L : Type 0} (see : Observes R L) (log : L) where
     pub are : AreProcesses see.moment log plans whole (process_of gtrids names s) traces
     pub count : length s.rms ≡ rms
     pub order : (see.moment log).is_in_order → (see.moment s.handed).is_in_order
-    pub near : (see.moment log).is_in_order → (see.place s.log).is_honest → MayRestart see s
+    pub near : Honestly (see.moment log) (see.place s.log) (MayRestart see s)
 
   -- Some of these plans were played, but not all: a system is the last process of those, and none can go on from it.
   pub record StopsBehind (logs : DecisionLog.Ghosts L) (plans : List Plan) : Type 0 where

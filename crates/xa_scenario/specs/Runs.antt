@@ -7,7 +7,7 @@ use Rattle.std.specs.Map.{keys_of}
 use Rattle.xa_model.specs.Promises.Headline.{Headline}
 use Rattle.xa_base.specs.HeldBranch.{new_branch}
 use Rattle.xa_base.specs.Scan.{Scan.NotOpen}
-use Rattle.xa_log.specs.Contract.{Moment}
+use Rattle.xa_log.specs.Contract.{Honestly, Moment}
 use Rattle.xa_model.specs.Replies.History.{AreAllowed, history}
 use Rattle.xa_model.specs.Trace.{Origin}
 use Rattle.xa_base.specs.Xid.{Xid, xid_cmp}
@@ -45,7 +45,7 @@ pub record IsStartOf (plan : Plan) (o : Origin) : Type 0 where
 pub record StartsOverLog {L : Type 0} (moment : L → Moment) (log : L) (o : Origin) : Type 0 where
   pub left : L
   pub honest : (moment left).is_honest → (moment log).is_honest
-  pub held : (moment log).is_in_order → (moment left).is_honest → IsSomeAnd (moment log).content (StartsOver o)
+  pub held : Honestly (moment log) (moment left) (IsSomeAnd (moment log).content (StartsOver o))
 
 -- The events are those of the scenario's entries in turn, as far as there is room for them; each is answered as the
 -- history before it demands, and so they are all that the headline says.

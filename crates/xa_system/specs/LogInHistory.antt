@@ -17,7 +17,7 @@ use Rattle.xa_base.specs.declared.step.Step.TheVariants as Steps
 use Rattle.xa_model.specs.Replies.History.{step_of}
 use Rattle.xa_model.specs.Replies.Steps as known
 use Rattle.xa_log.specs.Content.{Content, with_bump, with_record, without_decisions}
-use Rattle.xa_log.specs.Contract.{Makes, MayMake, Moment, one_more_fault}
+use Rattle.xa_log.specs.Contract.{Honestly, Makes, MayMake, Moment, one_more_fault}
 use Rattle.xa_log.specs.KeySet.{KeySet, from_list}
 use Rattle.xa_tm.specs.Book.{Book, waiting_row}
 use Rattle.xa_tm.specs.Calls.{book_in, log_in}
@@ -130,12 +130,10 @@ log_faults_but_restarts events =
 pub record IsStartedOver {L : Type 0} (moment : L → Moment) (threads rms : ℕ) (handed : Moment) (manager : Manager L) : Type 0 where
   pub order : handed.is_in_order → (moment (log_in manager)).is_in_order
   pub honest : (moment (log_in manager)).is_honest → handed.is_honest
-  pub tied : (near : Bool) → handed.is_in_order → (moment (log_in manager)).is_honest
-      → IsTied near (book_in manager) (moment (log_in manager)).content
-  pub book : handed.is_in_order → (moment (log_in manager)).is_honest
-      → IsSomeAnd (moment (log_in manager)).content (λ c. book_in manager ≡ book_at_start threads rms c)
-  pub raised : handed.is_in_order → (moment (log_in manager)).is_honest
-      → Makes with_bump handed.content (moment (log_in manager)).content
+  pub tied : (near : Bool) → Honestly handed (moment (log_in manager)) (IsTied near (book_in manager) (moment (log_in manager)).content)
+  pub book : Honestly handed (moment (log_in manager))
+      (IsSomeAnd (moment (log_in manager)).content (λ c. book_in manager ≡ book_at_start threads rms c))
+  pub raised : Honestly handed (moment (log_in manager)) (Makes with_bump handed.content (moment (log_in manager)).content)
   pub faults : (moment (log_in manager)).fault_count ≡ handed.fault_count
 
 -- ** what a crash may leave
@@ -155,16 +153,14 @@ IsDurable moment = (log : _) (c d : Content) → (moment log).is_in_order → (m
 pub record LogFollows {L : Type 0} (moment : L → Moment) (tr : Trace) (e : Happening) (old new : Manager L) : Type 0 where
   pub order : (moment (log_in old)).is_in_order → (moment (log_in new)).is_in_order
   pub honest : (moment (log_in new)).is_honest → (moment (log_in old)).is_honest
-  pub tied : (near : Bool) → (moment (log_in old)).is_in_order → (moment (log_in new)).is_honest
-      → IsTied near (book_in old) (moment (log_in old)).content → IsTied near (book_in new) (moment (log_in new)).content
-  pub counted : (moment (log_in old)).is_in_order → (moment (log_in new)).is_honest
-      → IsTied true (book_in old) (moment (log_in old)).content
-      → (moment (log_in new)).fault_count ≡ count_after e (moment (log_in old)).fault_count
+  pub tied : (near : Bool) → Honestly (moment (log_in old)) (moment (log_in new))
+      (IsTied near (book_in old) (moment (log_in old)).content → IsTied near (book_in new) (moment (log_in new)).content)
+  pub counted : Honestly (moment (log_in old)) (moment (log_in new))
+      (IsTied true (book_in old) (moment (log_in old)).content → (moment (log_in new)).fault_count ≡ count_after e (moment (log_in old)).fault_count)
   -- whatever the log, but that nothing is counted where a restart finds what it may not
   pub counts : ((moment (log_in new)).fault_count ≡ count_after e (moment (log_in old)).fault_count)
       ⊎ ((e ≡ Failed InRestart) × ((moment (log_in new)).fault_count ≡ (moment (log_in old)).fault_count))
-  pub failed : (moment (log_in old)).is_in_order → (moment (log_in new)).is_honest
-      → MayHaveFailed tr e (moment (log_in old)).content (moment (log_in new)).content
-  pub left : (near : Bool) → IsDurable moment → (moment (log_in old)).is_in_order → (moment (log_in new)).is_honest
-      → IsTied near (book_in old) (moment (log_in old)).content → AreTied near (book_in old) (moment (log_in old)).may_leave
-      → AreTied near (book_in new) (moment (log_in new)).may_leave
+  pub failed : Honestly (moment (log_in old)) (moment (log_in new)) (MayHaveFailed tr e (moment (log_in old)).content (moment (log_in new)).content)
+  pub left : (near : Bool) → IsDurable moment → Honestly (moment (log_in old)) (moment (log_in new))
+      (IsTied near (book_in old) (moment (log_in old)).content → AreTied near (book_in old) (moment (log_in old)).may_leave
+      → AreTied near (book_in new) (moment (log_in new)).may_leave)

@@ -5,6 +5,7 @@ use Rattle.xa_base.specs.HeldBranch.{HeldBranch, new_branch}
 use Rattle.xa_base.specs.StateTable.{broken, state_of}
 use Rattle.xa_base.specs.declared.branch.Branch.{Branch}
 use Rattle.xa_log.specs.Content.{Content}
+use Rattle.xa_log.specs.Contract.{Honestly}
 use Rattle.xa_log.specs.declared.decision_log.DecisionLog as DecisionLog
 use Rattle.xa_model.specs.Facts.{doubt, fits, incarnation, log, retries, standing, vote}
 use Rattle.xa_model.specs.Facts.Distinct.{IsNewTo}
@@ -47,5 +48,4 @@ pub record FindsNewer {R L : Type 0} (look : R → Look) (logs : DecisionLog.Gho
   pub incarnation : ℕ
   pub newer : HasNewer look incarnation rms
   pub left : L
-  pub raised : (logs.moment handed).is_in_order → (logs.moment left).is_honest
-      → IsSomeAnd (logs.moment handed).content (λ c. incarnation ≡ c.incarnation + 1)
+  pub raised : Honestly (logs.moment handed) (logs.moment left) (IsSomeAnd (logs.moment handed).content (λ c. incarnation ≡ c.incarnation + 1))

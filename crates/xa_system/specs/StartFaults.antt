@@ -1,7 +1,7 @@
 -- Why no system is made over a log that was handed in.
 use Rattle.std.specs.Prelude.{◌≡◌, ◌⊎◌, IsSomeAnd}
 use Rattle.xa_log.specs.Content.{with_bump}
-use Rattle.xa_log.specs.Contract.{Makes, one_more_fault}
+use Rattle.xa_log.specs.Contract.{Honestly, Makes, one_more_fault}
 use Rattle.xa_log.specs.declared.decision_log.DecisionLog as DecisionLog
 use Rattle.xa_tm.specs.Starting.{IsPast}
 
@@ -13,10 +13,8 @@ module _ {L : Type 0} (logs : DecisionLog.Ghosts L) where
   -- it has not failed, but has a row or a record of a later incarnation than its own, and that was raised
   pub record IsRaisedInVain (handed left : L) : Type 0 where
     pub faults : (logs.moment left).fault_count ≡ (logs.moment handed).fault_count
-    pub not_past : (logs.moment handed).is_in_order → (logs.moment left).is_honest
-        → IsSomeAnd (logs.moment handed).content (λ c. ¬ IsPast c)
-    pub raised : (logs.moment handed).is_in_order → (logs.moment left).is_honest
-        → Makes with_bump (logs.moment handed).content (logs.moment left).content
+    pub not_past : Honestly (logs.moment handed) (logs.moment left) (IsSomeAnd (logs.moment handed).content (λ c. ¬ IsPast c))
+    pub raised : Honestly (logs.moment handed) (logs.moment left) (Makes with_bump (logs.moment handed).content (logs.moment left).content)
 
   -- the log is to blame: no system can be made over it
   abbrev pub IsToBlame : L → Type 0

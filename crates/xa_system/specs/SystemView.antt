@@ -15,7 +15,7 @@ use Rattle.xa_system.specs.declared.site.Site.{Site}
 use Rattle.xa_base.specs.HeldBranch.{HeldBranch}
 use Rattle.xa_base.specs.Scan.{Scan}
 use Rattle.xa_log.specs.Content.{Content}
-use Rattle.xa_log.specs.Contract.{Moment}
+use Rattle.xa_log.specs.Contract.{Honestly, Moment}
 use Rattle.xa_base.specs.declared.refusal.Refusal.TheVariants as Refusals
 use Rattle.xa_base.specs.declared.reply.Event.{Event}
 use Rattle.xa_base.specs.declared.reply.Reply.{Reply}
@@ -94,14 +94,11 @@ module _ {R L : Type 0} (see : Observes R L) where
   -- the log that was handed in first has the rows and the record of the start; and the log held is where the history
   -- leaves it, where it was in order as it was handed in, and what it rests on has been honest
   pub record HoldsItsLog (s : SystemView R L) : Type 0 where
-    pub start : (see.moment s.first).is_in_order → (see.place s.begun).is_honest
-        → IsSomeAnd (see.moment s.first).content (StartsOver (origin_in see.look s))
-    pub stands : (see.moment s.handed).is_in_order → (see.place s.log).is_honest
-        → LogStands (trace_in see.look s) (see.place s.log).content
+    pub start : Honestly (see.moment s.first) (see.place s.begun) (IsSomeAnd (see.moment s.first).content (StartsOver (origin_in see.look s)))
+    pub stands : Honestly (see.moment s.handed) (see.place s.log) (LogStands (trace_in see.look s) (see.place s.log).content)
     -- then that is in order, and so is each content that a crash may leave of it
     pub order : (see.moment s.handed).is_in_order → (see.place s.log).is_in_order
-    pub leaves : (see.moment s.handed).is_in_order → (see.place s.log).is_honest
-        → (c : Content) → (see.place s.log).may_leave c → MayBeLeft (trace_in see.look s) c
+    pub leaves : Honestly (see.moment s.handed) (see.place s.log) ((c : Content) → (see.place s.log).may_leave c → MayBeLeft (trace_in see.look s) c)
 
   -- each reply is the one that the history before it demands, and the parts are where the history leaves them
   pub record HoldsItsTrace (s : SystemView R L) : Type 0 where
@@ -149,12 +146,12 @@ module _ {R L : Type 0} (see : Observes R L) where
   pub record KeepsLog (origin : Origin) (a : Inside R L) : Type 0 where
     pub order : (see.moment a.handed.value).is_in_order → (see.place (log_in a.parts.manager)).is_in_order
     pub honest : (see.place (log_in a.parts.manager)).is_honest → (see.moment a.handed.value).is_honest
-    pub start : (see.moment a.first.value).is_in_order → (see.place (log_in a.parts.began.value)).is_honest
-        → IsSomeAnd (see.moment a.first.value).content (StartsOver origin)
-    pub tied : (see.moment a.handed.value).is_in_order → (see.place (log_in a.parts.manager)).is_honest
-        → IsTied false (book_in a.parts.manager) (see.place (log_in a.parts.manager)).content
-    pub left : (see.moment a.handed.value).is_in_order → (see.place (log_in a.parts.manager)).is_honest
-        → AreTied false (book_in a.parts.manager) (see.place (log_in a.parts.manager)).may_leave
+    pub start : Honestly (see.moment a.first.value) (see.place (log_in a.parts.began.value))
+        (IsSomeAnd (see.moment a.first.value).content (StartsOver origin))
+    pub tied : Honestly (see.moment a.handed.value) (see.place (log_in a.parts.manager))
+        (IsTied false (book_in a.parts.manager) (see.place (log_in a.parts.manager)).content)
+    pub left : Honestly (see.moment a.handed.value) (see.place (log_in a.parts.manager))
+        (AreTied false (book_in a.parts.manager) (see.place (log_in a.parts.manager)).may_leave)
 
 module _ {R L : Type 0} (see : Sees R (Slot L)) (moment : L → Moment) where
   -- what is observed of parts and of the logs that are handed in

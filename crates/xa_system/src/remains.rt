@@ -2,6 +2,7 @@
 ghost use Rattle.std.specs.Prelude.{◌≡◌, ◌+◌, ◌++◌, ◌≤◌, Some, map, vec_len, IfErr, IfOk};
 ghost use Rattle.std.specs.Vec.{vec_capacity};
 ghost use Rattle.xa_log.specs.Content.{Content};
+ghost use Rattle.xa_log.specs.Contract.{Honestly};
 ghost use Rattle.xa_system.specs.NextProcess.{Leaves};
 ghost use Rattle.xa_system.specs.SystemView.{MayRestart, observes, trace_in};
 ghost use Rattle.xa_tm.specs.Slots.{log_held, slot_moment};
@@ -40,11 +41,11 @@ impl<R: ResourceManager + Drop, L: DecisionLog + Drop> System<R, L> {
         ensures log { IfOk result (λ remains. remains.log ≡ log_held self.log) }
         ensures err { IfErr result (λ system. system ≡ self) }
         // What is left is what the history leaves.
-        ensures left { (L.moment self.handed).is_in_order →
-            (slot_moment L.moment self.log).is_honest → MayRestart (observes R.look L.moment) self →
+        ensures left { Honestly (L.moment self.handed) (slot_moment L.moment self.log)
+            (MayRestart (observes R.look L.moment) self →
             IfOk result (λ remains. (log : L) (content : Content) → remains.log ≡ Some log →
             (L.moment log).content ≡ Some content → Leaves R.look (trace_in R.look self)
-            remains.rms.items content) }
+            remains.rms.items content)) }
         // So the log is one over which the next system may start.
         ensures order { (L.moment self.handed).is_in_order →
             IfOk result (λ remains. (log : L) → remains.log ≡ Some log →

@@ -6,6 +6,7 @@ ghost use Rattle.xa_base.specs.declared.reply.Reply.TheVariants as Replies;
 ghost use Rattle.xa_base.specs.declared.step.Side.TheVariants as Sides;
 ghost use Rattle.xa_base.specs.declared.step.Step.TheVariants as Steps;
 ghost use Rattle.xa_log.specs.Content.{Content};
+ghost use Rattle.xa_log.specs.Contract.{Honestly};
 ghost use Rattle.xa_model.specs.Facts.{up};
 ghost use Rattle.xa_model.specs.Promises.Headline.{Headline, HeadlineSince};
 ghost use Rattle.xa_model.specs.Promises.Processes.{Resumes, resumed};
@@ -15,6 +16,7 @@ ghost use Rattle.xa_model.specs.Replies.History.{reply_of, step_of};
 ghost use Rattle.xa_model.specs.Replies.ReadBack.{StepHasXids};
 ghost use Rattle.xa_model.specs.Replies.Steps.{happened, log_failed};
 ghost use Rattle.xa_model.specs.Trace.{Happening.Nothing, Trace};
+ghost use Rattle.xa_system.specs.KeptLog.{KeepsItsLog};
 ghost use Rattle.xa_system.specs.LogInHistory.{IsBeforeNext, MayHaveFailed};
 ghost use Rattle.xa_system.specs.SystemView.{AddsSteps, FaultsHaveCauses, HoldsItsTrace, IsAsBefore, IsFailed, MayRestart};
 ghost use Rattle.xa_system.specs.SystemView.{MayRestartAfterCrash, OtherFaultsHaveCauses, observes, origin_in, trace_in};
@@ -66,8 +68,6 @@ impl<R: ResourceManager + Drop, L: DecisionLog + Drop> System<R, L> {
             HeadlineSince (resumed past (origin_in R.look self.new)) self.new.events }
         ensures parts { HoldsItsTrace (observes R.look L.moment) self.new }
         ensures start { origin_in R.look self.new ≡ origin_in R.look self.old }
-        ensures handed { (self.new.handed ≡ self.old.handed) × (self.new.first ≡ self.old.first)
-            × (self.new.begun ≡ self.old.begun) }
         // A step that is refused, but not by the log, is nothing.
         ensures refused { (n : Refusal) → result ≡ Replies.Refused n → n ≢ Refusals.LogFault →
             IsAsBefore (observes R.look L.moment) self.old self.new }
@@ -77,36 +77,21 @@ impl<R: ResourceManager + Drop, L: DecisionLog + Drop> System<R, L> {
         ensures down { result ≡ Replies.Refused Refusals.LogFault →
             up (trace_in R.look self.new) ≡ Bool.false }
         ensures failed { result ≡ Replies.Refused Refusals.LogFault →
-            (L.moment self.old.handed).is_in_order → (slot_moment L.moment self.new.log).is_honest →
-            MayHaveFailed (trace_in R.look self.old) (log_failed (step_of step))
+            Honestly (L.moment self.old.handed) (slot_moment L.moment self.new.log)
+            (MayHaveFailed (trace_in R.look self.old) (log_failed (step_of step))
             (slot_moment L.moment self.old.log).content
-            (slot_moment L.moment self.new.log).content }
+            (slot_moment L.moment self.new.log).content) }
         // The log, and whether a restart may follow over it.
-        ensures honest { (slot_moment L.moment self.new.log).is_honest →
-            (slot_moment L.moment self.old.log).is_honest }
-        ensures near { (L.moment self.old.handed).is_in_order →
-            (slot_moment L.moment self.new.log).is_honest →
-            MayRestart (observes R.look L.moment) self.old →
-            MayRestart (observes R.look L.moment) self.new }
-        ensures crash { (L.moment self.old.handed).is_in_order →
-            (slot_moment L.moment self.new.log).is_honest →
-            MayRestart (observes R.look L.moment) self.old →
-            MayRestartAfterCrash (observes R.look L.moment) self.old →
-            MayRestartAfterCrash (observes R.look L.moment) self.new }
-        ensures faults { (L.moment self.old.handed).is_in_order →
-            (slot_moment L.moment self.new.log).is_honest →
-            MayRestart (observes R.look L.moment) self.old →
-            FaultsHaveCauses (observes R.look L.moment) self.old self.new }
-        ensures other_faults { OtherFaultsHaveCauses (observes R.look L.moment) self.old self.new }
+        ensures log { KeepsItsLog (observes R.look L.moment) self.old self.new }
         // A restart that can't be.
         ensures out { log_held self.old.log ≡ None → step ≡ Steps.Restart Sides.Manager →
             length self.old.events < EVENT_LIMIT → up (trace_in R.look self.old) ≡ Bool.false →
             IsFailed result }
         ensures other_incarnation { (c : Content) → step ≡ Steps.Restart Sides.Manager →
             length self.old.events < EVENT_LIMIT → up (trace_in R.look self.old) ≡ Bool.false →
-            (L.moment self.old.handed).is_in_order → (slot_moment L.moment self.new.log).is_honest →
-            (slot_moment L.moment self.old.log).content ≡ Some c →
-            (IsBeforeNext (trace_in R.look self.old) c → ⊥) → IsFailed result }
+            Honestly (L.moment self.old.handed) (slot_moment L.moment self.new.log)
+            ((slot_moment L.moment self.old.log).content ≡ Some c →
+            (IsBeforeNext (trace_in R.look self.old) c → ⊥) → IsFailed result) }
     {
         if self.events.len() >= EVENT_LIMIT {
             self.agree();
@@ -135,25 +120,8 @@ impl<R: ResourceManager + Drop, L: DecisionLog + Drop> System<R, L> {
             HeadlineSince (resumed past (origin_in R.look self.new)) self.new.events }
         ensures parts { HoldsItsTrace (observes R.look L.moment) self.new }
         ensures start { origin_in R.look self.new ≡ origin_in R.look self.old }
-        ensures handed { (self.new.handed ≡ self.old.handed) × (self.new.first ≡ self.old.first)
-            × (self.new.begun ≡ self.old.begun) }
         // The log, and whether a restart may follow over it.
-        ensures honest { (slot_moment L.moment self.new.log).is_honest →
-            (slot_moment L.moment self.old.log).is_honest }
-        ensures near { (L.moment self.old.handed).is_in_order →
-            (slot_moment L.moment self.new.log).is_honest →
-            MayRestart (observes R.look L.moment) self.old →
-            MayRestart (observes R.look L.moment) self.new }
-        ensures crash { (L.moment self.old.handed).is_in_order →
-            (slot_moment L.moment self.new.log).is_honest →
-            MayRestart (observes R.look L.moment) self.old →
-            MayRestartAfterCrash (observes R.look L.moment) self.old →
-            MayRestartAfterCrash (observes R.look L.moment) self.new }
-        ensures faults { (L.moment self.old.handed).is_in_order →
-            (slot_moment L.moment self.new.log).is_honest →
-            MayRestart (observes R.look L.moment) self.old →
-            FaultsHaveCauses (observes R.look L.moment) self.old self.new }
-        ensures other_faults { OtherFaultsHaveCauses (observes R.look L.moment) self.old self.new }
+        ensures log { KeepsItsLog (observes R.look L.moment) self.old self.new }
     {
         if self.room() < steps.len() {
             self.agree();

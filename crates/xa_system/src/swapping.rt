@@ -1,7 +1,7 @@
 //! The system's log is taken out while the manager is down, and one with the same rows is put in.
 ghost use Rattle.std.specs.Prelude.{◌≡◌, ◌≢◌, ◌⊎◌, Bool, Some, None, IsSome, Err, IfErr, OnOk, OnErr};
 ghost use Rattle.xa_log.specs.Content.{Content};
-ghost use Rattle.xa_log.specs.Contract.{one_more_fault};
+ghost use Rattle.xa_log.specs.Contract.{Honestly, one_more_fault};
 ghost use Rattle.xa_log.specs.declared.log_fault.LogFault.{LogFault};
 ghost use Rattle.xa_model.specs.Facts.{up};
 ghost use Rattle.xa_model.specs.Promises.Headline.{Headline, HeadlineSince};
@@ -78,8 +78,8 @@ impl<R: ResourceManager + Drop, L: DecisionLog + Drop> System<R, L> {
         ensures other_rows { IfErr result (λ e. e.0 ≡ SwapFault.OtherRows →
             (L.moment e.1).fault_count ≡ (L.moment log).fault_count) }
         ensures only_other_rows { IfErr result (λ e. e.0 ≡ SwapFault.OtherRows →
-            (L.moment log).is_in_order → (L.moment e.1).is_honest → (c : Content) →
-            (L.moment log).content ≡ Some c → MayHoldRows (trace_in R.look self.old) c → ⊥) }
+            Honestly (L.moment log) (L.moment e.1) ((c : Content) →
+            (L.moment log).content ≡ Some c → MayHoldRows (trace_in R.look self.old) c → ⊥)) }
         // The log that is put in, and what stays.
         ensures ok { OnOk result (TakesIn L.DecisionLog log (log_held self.new.log)) }
         ensures others { OnOk result

@@ -9,7 +9,7 @@ use Rattle.xa_base.specs.declared.branch.Gtrid.{Gtrid}
 use Rattle.xa_base.specs.declared.step.Outcome.{Outcome}
 use Rattle.xa_base.specs.declared.step.Outcome.TheVariants.{Commit}
 use Rattle.xa_log.specs.Content.{Content, with_bump, with_commits}
-use Rattle.xa_log.specs.Contract.{Moment, one_more_fault}
+use Rattle.xa_log.specs.Contract.{Honestly, Moment, one_more_fault}
 use Rattle.xa_log.specs.KeySet.{KeySet, from_list}
 use Rattle.xa_log.specs.declared.decision.Decision.{Decision}
 use Rattle.xa_log.specs.declared.decision_log.DecisionLog as DecisionLog
@@ -70,9 +70,9 @@ pub record Logs {L : Type 0} (g : DecisionLog.Ghosts L) (incarnation : ℕ) (row
     (first log : L) : Type 0 where
   pub order : (g.moment first).is_in_order → (g.moment log).is_in_order
   pub honest : (g.moment log).is_honest → (g.moment first).is_honest
-  pub rows_are : (g.moment first).is_in_order → (g.moment log).is_honest
-      → IsSomeAnd (g.moment first).content (λ before. (incarnation ≡ before.incarnation + 1)
-      × IsSomeAnd (g.moment log).content (λ after. HasRows incarnation rows (with_bump before) after))
+  pub rows_are : Honestly (g.moment first) (g.moment log)
+      (IsSomeAnd (g.moment first).content (λ before. (incarnation ≡ before.incarnation + 1)
+      × IsSomeAnd (g.moment log).content (λ after. HasRows incarnation rows (with_bump before) after)))
 
 -- A run can begin over a log: no call fails, the incarnation rises by one, and no row and no record is of that one or a
 -- later one.

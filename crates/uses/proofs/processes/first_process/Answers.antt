@@ -23,4 +23,4 @@ returns-in-Ok-new c =
     first see c.args.steps.now now start ran.parts
     (are_done c.args.steps.now began now c.run-ran.result made.ok.0 ran.room ran.adds ran.limit ran.err)
     (c.replies_are_allowed.ensures.events (origin_in see.look now) now.events start ran.parts.allowed)
-    (subst (λ l. (moment l).is_in_order) (sym ran.handed.0) handed) (ran.near handed honest (made.near order was_honest))
+    (subst (λ l. (moment l).is_in_order) (sym ran.log.handed) handed) (ran.log.near handed honest (made.near order was_honest))

@@ -17,7 +17,7 @@ returns-in-Ok-clause-restarted g c content is =
 pub returns-in-Ok-clause-honest : goal.returns-in-Ok-clause-honest
 returns-in-Ok-clause-honest g c honest =
     was_honest g.R.ResourceManager.look g.L.DecisionLog
-    c.give_log.new.self c.args.left c.in-Ok.ensures.ok (c.step.ensures.honest honest)
+    c.give_log.new.self c.args.left c.in-Ok.ensures.ok (c.step.ensures.log.honest honest)
 
 pub returns-in-Ok-clause-start : goal.returns-in-Ok-clause-start
 returns-in-Ok-clause-start g c =

@@ -1,16 +1,18 @@
-use Rattle.std.proofs.Common.{◌≡◌, false, Some, None, inr, refl, subst, sym, ap, ◌∙◌, arith}
+use Rattle.std.proofs.Common.{◌≡◌, false, Some, None, refl, subst, sym, ap, ◌∙◌}
 use Rattle.xa_model.specs.Replies.Allowed.{Allowed}
 use Rattle.xa_model.specs.Replies.History.{reply_of, step_of}
 use Rattle.xa_model.specs.Replies.Steps.{happened, log_failed}
 use Rattle.xa_model.specs.Facts.{up}
 use Rattle.xa_system.specs.LogInHistory.{IsBeforeNext, MayHaveFailed}
 use Rattle.xa_system.proofs.Log.Changes.{slot_durable}
+use Rattle.xa_system.proofs.Log.KeptLog.{kept}
 use Rattle.xa_system.proofs.Steps.RestartRefusals.{empty_fails, followed, found_in, not_restarted}
+use Rattle.xa_system.specs.KeptLog.{KeepsItsLog}
+use Rattle.xa_tm.specs.Calls.{log_in}
 use Rattle.xa_tm.specs.Slots.{log_held}
 use Rattle.xa_system.proofs.Histories.Standing.{refused_as_nothing, stays_same}
-use Rattle.xa_system.specs.SystemView.{FaultsHaveCauses, HoldsItsTrace, IsAsBefore, IsFailed, MayRestart, MayRestartAfterCrash, Observes, OtherFaultsHaveCauses, observes, origin_in, view_of, trace_in}
+use Rattle.xa_system.specs.SystemView.{HoldsItsTrace, IsAsBefore, IsFailed, observes, origin_in, view_of, trace_in}
 use Rattle.xa_system.proofs.Histories.SystemView.{as_before, began_kept, down_after, failed_so, fault_has_cause, holds, honest_before, other_fault_has_cause, restart_may_follow, restart_may_follow_a_crash, somewhere, sound_then, start_kept, was_allowed}
-use Rattle.xa_tm.specs.Calls.{log_in}
 use Rattle.xa_system.proofs.system.System.step.Goals as goal
 
 pub returns-then-len-ge-EVENT_LIMIT-clause-parts :
@@ -59,56 +61,6 @@ returns-clause-start g c =
     (start_kept _ _ c.self.inside c.step.new.self c.args.step c.step.result c.self.invariant c.step.ensures.goes
     (rw c.len.ensures at c.if-len-ge-EVENT_LIMIT.false))
 
-pub returns-clause-honest : goal.returns-clause-honest
-returns-clause-honest g c =
-    let see = observes g.R.ResourceManager.look g.L.DecisionLog.moment in
-    subst (λ v. (see.place (log_in c.step.new.self.manager)).is_honest → (see.place v.log).is_honest) c.self.view_is
-    (honest_before _ _ c.self.inside c.step.new.self c.args.step c.step.result c.self.invariant c.step.ensures.goes
-    (rw c.len.ensures at c.if-len-ge-EVENT_LIMIT.false))
-
-pub returns-clause-faults : goal.returns-clause-faults
-returns-clause-faults g c =
-    let see = observes g.R.ResourceManager.look g.L.DecisionLog.moment in
-    subst (λ v. (see.moment v.handed).is_in_order → (see.place (log_in c.step.new.self.manager)).is_honest
-    → MayRestart see v → FaultsHaveCauses see v (view_of (record {
-      first = c.self.inside.first;
-      handed = c.self.inside.handed;
-      parts = c.step.new.self;
-      events = c.push_reserved.new.self;
-    }))) c.self.view_is
-    (fault_has_cause _ _ c.self.inside c.step.new.self c.push_reserved.new.self c.args.step c.step.result c.split-reply.result.1 c.self.invariant
-    c.step.ensures.goes (ap (λ p. p.1) c.split-reply.ensures) (rw c.len.ensures at c.if-len-ge-EVENT_LIMIT.false) c.push_reserved.ensures.items)
-
-pub returns-clause-other_faults : goal.returns-clause-other_faults
-returns-clause-other_faults g c =
-    let see = observes g.R.ResourceManager.look g.L.DecisionLog.moment in
-    subst (λ v. OtherFaultsHaveCauses see v (view_of (record {
-      first = c.self.inside.first;
-      handed = c.self.inside.handed;
-      parts = c.step.new.self;
-      events = c.push_reserved.new.self;
-    }))) c.self.view_is
-    (other_fault_has_cause _ _ c.self.inside c.step.new.self c.push_reserved.new.self c.args.step c.step.result c.split-reply.result.1 c.self.invariant
-    c.step.ensures.goes (ap (λ p. p.1) c.split-reply.ensures) (rw c.len.ensures at c.if-len-ge-EVENT_LIMIT.false) c.push_reserved.ensures.items)
-
-pub returns-then-len-ge-EVENT_LIMIT-clause-other_faults :
-    goal.returns-then-len-ge-EVENT_LIMIT-clause-other_faults
-returns-then-len-ge-EVENT_LIMIT-clause-other_faults g c = inr (omega arith)
-
-pub returns-clause-handed : goal.returns-clause-handed
-returns-clause-handed g c = (
-  ap (λ v. v.handed) c.self.view_is,
-  ap (λ v. v.first) c.self.view_is,
-  let began : log_in c.step.new.self.began.value ≡ log_in c.self.inside.parts.began.value =
-      began_kept _ _ c.self.inside c.step.new.self c.args.step c.step.result c.self.invariant c.step.ensures.goes
-      (rw c.len.ensures at c.if-len-ge-EVENT_LIMIT.false) in
-      began ∙ ap (λ v. v.begun) c.self.view_is,
-)
-
-pub returns-then-len-ge-EVENT_LIMIT-clause-faults :
-    goal.returns-then-len-ge-EVENT_LIMIT-clause-faults
-returns-then-len-ge-EVENT_LIMIT-clause-faults g c order honest may = inr (omega arith)
-
 pub returns-then-len-ge-EVENT_LIMIT-clause-refused :
     goal.returns-then-len-ge-EVENT_LIMIT-clause-refused
 returns-then-len-ge-EVENT_LIMIT-clause-refused g c n is other =
@@ -151,27 +103,6 @@ returns-clause-failed g c is =
     (failed_so _ _ c.self.inside c.step.new.self c.args.step c.step.result c.self.invariant c.step.ensures.goes
     (rw c.len.ensures at c.if-len-ge-EVENT_LIMIT.false) (sym (ap (λ p. p.0) c.split-reply.ensures) ∙ is))
 
-pub returns-clause-near : goal.returns-clause-near
-returns-clause-near g c =
-    let see = observes g.R.ResourceManager.look g.L.DecisionLog.moment in
-    subst (λ v. (see.moment v.handed).is_in_order → (see.place (log_in c.step.new.self.manager)).is_honest → MayRestart see v → MayRestart see
-    (view_of (record { first = c.self.inside.first; handed = c.self.inside.handed; parts = c.step.new.self; events = c.push_reserved.new.self })))
-    c.self.view_is
-    (restart_may_follow _ _ c.self.inside c.step.new.self c.push_reserved.new.self c.args.step c.step.result c.split-reply.result.1 c.self.invariant
-    c.step.ensures.goes
-    (ap (λ p. p.1) c.split-reply.ensures) (rw c.len.ensures at c.if-len-ge-EVENT_LIMIT.false) c.push_reserved.ensures.items)
-
-pub returns-clause-crash : goal.returns-clause-crash
-returns-clause-crash g c =
-    let see = observes g.R.ResourceManager.look g.L.DecisionLog.moment in
-    subst (λ v. (see.moment v.handed).is_in_order → (see.place (log_in c.step.new.self.manager)).is_honest → MayRestart see v
-    → MayRestartAfterCrash see v → MayRestartAfterCrash see
-    (view_of (record { first = c.self.inside.first; handed = c.self.inside.handed; parts = c.step.new.self; events = c.push_reserved.new.self })))
-    c.self.view_is
-    (restart_may_follow_a_crash _ _ c.self.inside c.step.new.self c.push_reserved.new.self c.args.step c.step.result c.split-reply.result.1
-    (slot_durable g.L.DecisionLog.moment g.met.L.DecisionLog.durable) c.self.invariant
-    c.step.ensures.goes (ap (λ p. p.1) c.split-reply.ensures) (rw c.len.ensures at c.if-len-ge-EVENT_LIMIT.false) c.push_reserved.ensures.items)
-
 pub returns-clause-out : goal.returns-clause-out
 returns-clause-out g c none is few down =
     let see = observes g.R.ResourceManager.look g.L.DecisionLog.moment in
@@ -200,3 +131,38 @@ returns-clause-other_incarnation g c content is few down order honest holds othe
     (λ i d h restarted. subst (λ v. IsBeforeNext (trace_in see.look v) content → ⊥) (sym c.self.view_is) other
     (followed (trace_in see.look (view_of c.self.inside)) c.step.result as_restart i d h restarted content
     (found_in (see.place (log_in c.self.inside.parts.manager)).content content i d h held ((c.step.ensures.read i d h is restarted).found in_order honest)))))
+
+pub returns-then-len-ge-EVENT_LIMIT-clause-log :
+    goal.returns-then-len-ge-EVENT_LIMIT-clause-log
+returns-then-len-ge-EVENT_LIMIT-clause-log g c = kept (observes g.R.ResourceManager.look g.L.DecisionLog.moment) _
+
+pub returns-clause-log : goal.returns-clause-log
+returns-clause-log g c =
+    let see = observes g.R.ResourceManager.look g.L.DecisionLog.moment in
+    let room = rw c.len.ensures at c.if-len-ge-EVENT_LIMIT.false in
+    let copied = ap (λ p. p.1) c.split-reply.ensures in
+    let durable = slot_durable g.L.DecisionLog.moment g.met.L.DecisionLog.durable in
+    subst (λ v. KeepsItsLog see v (view_of (record {
+      first = c.self.inside.first;
+      handed = c.self.inside.handed;
+      parts = c.step.new.self;
+      events = c.push_reserved.new.self;
+    }))) c.self.view_is
+    (record {
+      handed = refl;
+      first = refl;
+      begun = began_kept _ _ c.self.inside c.step.new.self c.args.step c.step.result c.self.invariant c.step.ensures.goes room;
+      honest = honest_before _ _ c.self.inside c.step.new.self c.args.step c.step.result c.self.invariant c.step.ensures.goes room;
+      near =
+          restart_may_follow _ _ c.self.inside c.step.new.self c.push_reserved.new.self c.args.step c.step.result c.split-reply.result.1
+          c.self.invariant c.step.ensures.goes copied room c.push_reserved.ensures.items;
+      crash =
+          restart_may_follow_a_crash _ _ c.self.inside c.step.new.self c.push_reserved.new.self c.args.step c.step.result
+          c.split-reply.result.1 durable c.self.invariant c.step.ensures.goes copied room c.push_reserved.ensures.items;
+      faults =
+          fault_has_cause _ _ c.self.inside c.step.new.self c.push_reserved.new.self c.args.step c.step.result c.split-reply.result.1
+          c.self.invariant c.step.ensures.goes copied room c.push_reserved.ensures.items;
+      other_faults =
+          other_fault_has_cause _ _ c.self.inside c.step.new.self c.push_reserved.new.self c.args.step c.step.result c.split-reply.result.1
+          c.self.invariant c.step.ensures.goes copied room c.push_reserved.ensures.items;
+    })
