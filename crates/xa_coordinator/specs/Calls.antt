@@ -1,13 +1,11 @@
 -- Requests to make calls, and what was answered to them.
 use Rattle.std.specs.Prelude.{◌≡◌, ◌≢◌, ◌⊎◌, ℕ, Bool, true, false, not, ◌&&◌, MatchBool, slice_get, Option, Some, None, Result, Ok, Err, IfErr, OnErr, OnOk}
 use Rattle.xa_base.specs.Answer.{answer_number, map_answer}
-use Rattle.xa_base.specs.Call.{kind_of, map_call, xid_in}
+use Rattle.xa_base.specs.Call.{are_alike, kind_of, map_call, xid_in}
 use Rattle.xa_base.specs.Xid.{Xid, xid_eq}
 use Rattle.xa_base.specs.declared.answer.Answer.{Answer}
 use Rattle.xa_base.specs.declared.branch.Branch.{Branch}
 use Rattle.xa_base.specs.declared.call.Call.{Call}
-use Rattle.xa_base.specs.declared.call.CallKind.{CallKind}
-use Rattle.xa_base.specs.declared.call.CallKind.TheVariants as kinds
 use Rattle.xa_base.specs.declared.refusal.Refusal.{Refusal}
 use Rattle.xa_base.specs.declared.refusal.Refusal.TheVariants as Refusals
 use Rattle.xa_coordinator.specs.Decisions.{Happens, ObeysRules}
@@ -19,19 +17,19 @@ use Rattle.xa_line.specs.Traffic.{with_one_more}
 use Rattle.xa_model.specs.Facts.{record_of}
 use Rattle.xa_model.specs.Replies.History.{name_of}
 use Rattle.xa_model.specs.Replies.Steps.{accepted}
-use Rattle.xa_model.specs.Trace.{Answer as KnownAnswer, Call as KnownCall, Fault.InHear, Happening.Heard, Happening.Issued, line}
+use Rattle.xa_model.specs.Trace.{Call as KnownCall, Fault.InHear, Happening.Issued, line}
 use Rattle.xa_requests.specs.declared.request.CallName.{CallName}
 use Rattle.xa_requests.specs.declared.response.RequestFault.TheVariants as faults
 use Rattle.xa_requests.specs.declared.response.Response.{Response}
 use Rattle.xa_requests.specs.declared.response.Response.TheVariants as responses
-use Rattle.xa_serve.specs.Following.{FollowsAnswer, StaysAs}
+use Rattle.xa_serve.specs.Answering.{HearsAs, IsFirst}
+use Rattle.xa_serve.specs.Following.{StaysAs}
 use Rattle.xa_serve.specs.Hearing.{with_answer}
 use Rattle.xa_serve.specs.Session.{BranchExplains, IsExplainable, first_waiting, issue_refusal, unfit}
 use Rattle.xa_serve.specs.declared.session.Session.{Session}
 use Rattle.xa_serve.specs.declared.session.answers.Unfit.{Unfit}
 use Rattle.xa_serve.specs.declared.session.answers.Unfit.TheVariants as Unfits
-use Rattle.xa_standings.specs.Seen.{HasAnswer}
-use Rattle.xa_tm.specs.Book.{after, doubt_of}
+use Rattle.xa_tm.specs.Book.{doubt_of}
 use Rattle.xa_tm.specs.Calls.{FailsBy, book_in, log_in}
 
 -- ** what a session does
@@ -47,46 +45,22 @@ module _ {L : Type 0} where
     pub lines : OnOk result (new.lines ≡ with_line old.lines thread rm
         (record (line_at old.lines thread rm) { calls = with_one_more (line_at old.lines thread rm).calls call }))
 
-  -- the call that waits first on a line, as the model knows it
-  abbrev pub IsFirst : Session L → (thread rm : ℕ) → KnownCall → Type 0
-  IsFirst s thread rm c =
-      (call : Call Xid) × (slice_get (line_at s.lines thread rm).calls.waiting 0 ≡ Some call) × (accepted (map_call name_of call) ≡ Some c)
-
-  -- the call that waits first on a line was answered so
-  pub record HearsAs (thread rm : ℕ) (c : KnownCall) (answer : KnownAnswer) (old new : Session L) : Type 0 where
-    pub book : book_in new.manager ≡ after (book_in old.manager) (Heard (line thread rm) c answer)
-    pub has : HasAnswer c answer
-    pub follows : FollowsAnswer (line thread rm) c answer old new
-
+  -- the call that waits first on a line was answered
   pub record Hears (thread rm : ℕ) (answer : Answer Xid) (old new : Session L) (result : Result (Unit {0}) Unfit) : Type 0 where
     pub refused : (u : Unfit) → unfit old thread rm answer ≡ Some u → (result ≡ Err u) × (new ≡ old)
     pub allowed : OnOk result (unfit old thread rm answer ≡ None)
     -- an answer that no state of a branch explains changes nothing
-    pub unexplained : (b : Branch) → result ≡ Err (Unfits.NoSuchState b) → BranchExplains old thread rm answer b → ⊥
-    pub same : (b : Branch) → result ≡ Err (Unfits.NoSuchState b) → new ≡ old
-    pub explained : OnOk result (IsExplainable old thread rm answer)
+    pub unexplained : (b : Branch) → result ≡ Err (Unfits.NoSuchState b) → (BranchExplains old thread rm answer b → ⊥) × (new ≡ old)
+    pub explained : unfit old thread rm answer ≡ None → ((b : Branch) → result ≢ Err (Unfits.NoSuchState b)) → IsExplainable old thread rm answer
     pub heard : OnOk result ((c : KnownCall) → IsFirst old thread rm c → HearsAs thread rm c (map_answer name_of answer) old new)
     pub lines : OnOk result (new.lines ≡ with_line old.lines thread rm (with_answer (line_at old.lines thread rm) answer))
     -- where nothing of this refuses it, memory does or the log
-    pub explained_first : (n : Refusal) → result ≡ Err (Unfits.Refused n) → unfit old thread rm answer ≡ None → IsExplainable old thread rm answer
     pub fails : (n : Refusal) → result ≡ Err (Unfits.Refused n) → unfit old thread rm answer ≡ None → (c : KnownCall) → IsFirst old thread rm c
         → FailsBy (doubt_of (record_of c (map_answer name_of answer))) (InHear (line thread rm)) (book_in old.manager) (book_in new.manager) n
     pub stays : IfErr result (λ u. u ≢ Unfits.Refused Refusals.LogFault → StaysAs old new)
     pub broken : result ≡ Err (Unfits.Refused Refusals.LogFault) → new.lines ≡ new_grid old.lines.threads old.lines.rms
 
 -- ** which call an answer is to
-
-abbrev pub are_alike : CallKind → CallKind → Bool
-are_alike kinds.OpenRm kinds.OpenRm = true
-are_alike kinds.CloseRm kinds.CloseRm = true
-are_alike kinds.Start kinds.Start = true
-are_alike kinds.End kinds.End = true
-are_alike kinds.Prepare kinds.Prepare = true
-are_alike kinds.Commit kinds.Commit = true
-are_alike kinds.Rollback kinds.Rollback = true
-are_alike kinds.Forget kinds.Forget = true
-are_alike kinds.Recover kinds.Recover = true
-are_alike kind other = false
 
 abbrev pub are_same : Option Xid → Option Xid → Bool
 are_same None None = true

@@ -8,7 +8,7 @@ use Rattle.xa_base.specs.declared.branch.Branch.{Branch}
 use Rattle.xa_base.specs.declared.branch.Gtrid.{Gtrid}
 use Rattle.xa_base.specs.declared.step.Outcome.TheVariants as Outcomes
 use Rattle.xa_log.specs.Content.{Content}
-use Rattle.xa_log.specs.Contract.{Moment}
+use Rattle.xa_log.specs.Contract.{Honestly, Moment}
 use Rattle.xa_requests.specs.declared.request.Request.{Request}
 use Rattle.xa_requests.specs.declared.request.Request.TheVariants as requests
 use Rattle.xa_requests.specs.declared.response.Response.{Response}
@@ -46,6 +46,6 @@ HasRow log g waiting = IsSomeAnd log (λ c. get c.decisions g ≡ Some waiting)
 abbrev pub LogsRows : {L : Type 0} → (moment : L → Moment) → List Gtrid → (old : Session L) → Response → (new : Session L) → Type 0
 LogsRows moment gs old reply new =
     (near : Bool) (g : Gtrid) → is_among gs g ≡ true → reply ≡ responses.Decided
-    → (moment (log_in old.manager)).is_in_order → (moment (log_in new.manager)).is_honest
-    → IsTied near (book_in old.manager) (moment (log_in old.manager)).content → ((book_in old.manager).transaction g).has_yes ≡ true
-    → HasRow (moment (log_in new.manager)).content g (voted_yes (book_in old.manager) g)
+    → Honestly (moment (log_in old.manager)) (moment (log_in new.manager))
+    (IsTied near (book_in old.manager) (moment (log_in old.manager)).content → ((book_in old.manager).transaction g).has_yes ≡ true
+    → HasRow (moment (log_in new.manager)).content g (voted_yes (book_in old.manager) g))

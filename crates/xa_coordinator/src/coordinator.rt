@@ -8,6 +8,7 @@ ghost use Rattle.xa_coordinator.specs.Replies.{greeting_of};
 ghost use Rattle.xa_coordinator.specs.Rows.{LogsRows, committed_by};
 ghost use Rattle.xa_base.specs.declared.branch.Gtrid.{Gtrid};
 ghost use Rattle.xa_log.specs.Content.{all_listed};
+ghost use Rattle.xa_log.specs.Contract.{Honestly};
 ghost use Rattle.xa_model.specs.Trace.{Origin};
 ghost use Rattle.xa_serve.specs.Following.{StandsAtStart};
 ghost use Rattle.xa_serve.specs.Session.{IsReady};
@@ -60,25 +61,25 @@ impl<L: DecisionLog + Drop> Coordinator<L> {
         ensures old { IfOk result (λ c. (o : Origin) →
             BeginsWith threads rms c.session.manager o → IsOldLog o) }
         // What the log had.
-        ensures owed { (L.moment log).is_in_order → IfOk result (λ c.
-            (L.moment (log_in c.session.manager)).is_honest →
-            IsSomeAnd (L.moment log).content (λ content.
-            c.owed.items ≡ all_listed (entries content.decisions))) }
-        ensures decisions { (L.moment log).is_in_order → IfOk result (λ c.
-            (L.moment (log_in c.session.manager)).is_honest →
-            IsSomeAnd (L.moment log).content (λ content.
-            c.decisions ≡ length (keys content.decisions))) }
-        ensures heuristics { (L.moment log).is_in_order → IfOk result (λ c.
-            (L.moment (log_in c.session.manager)).is_honest →
-            IsSomeAnd (L.moment log).content (λ content.
-            c.heuristics ≡ length (entries content.heuristics))) }
+        ensures owed { IfOk result (λ c.
+            Honestly (L.moment log) (L.moment (log_in c.session.manager))
+            (IsSomeAnd (L.moment log).content (λ content.
+            c.owed.items ≡ all_listed (entries content.decisions)))) }
+        ensures decisions { IfOk result (λ c.
+            Honestly (L.moment log) (L.moment (log_in c.session.manager))
+            (IsSomeAnd (L.moment log).content (λ content.
+            c.decisions ≡ length (keys content.decisions)))) }
+        ensures heuristics { IfOk result (λ c.
+            Honestly (L.moment log) (L.moment (log_in c.session.manager))
+            (IsSomeAnd (L.moment log).content (λ content.
+            c.heuristics ≡ length (entries content.heuristics)))) }
         // The log, whose incarnation is raised.
-        ensures tied { (near : Bool) → (L.moment log).is_in_order →
-            IfOk result (λ c. (L.moment (log_in c.session.manager)).is_honest →
-            IsTied near (book_in c.session.manager)
-            (L.moment (log_in c.session.manager)).content) }
-        ensures order { (L.moment log).is_in_order →
-            IfOk result (λ c. (L.moment (log_in c.session.manager)).is_in_order) }
+        ensures tied { (near : Bool) → IfOk result (λ c.
+            Honestly (L.moment log) (L.moment (log_in c.session.manager))
+            (IsTied near (book_in c.session.manager)
+            (L.moment (log_in c.session.manager)).content)) }
+        ensures order { IfOk result (λ c. (L.moment log).is_in_order →
+            (L.moment (log_in c.session.manager)).is_in_order) }
         ensures honest { IfOk result (λ c. (L.moment (log_in c.session.manager)).is_honest →
             (L.moment log).is_honest) }
     {

@@ -3,7 +3,7 @@ use Rattle.std.specs.Prelude.{ℕ, ◌≡◌, Bool, true, List, [], ◌∷◌, O
 use Rattle.xa_base.specs.declared.branch.Gtrid.{Gtrid}
 use Rattle.xa_line.specs.Grid.{HasLine, IsWhole, line_at}
 use Rattle.xa_line.specs.Histories.{LineStands}
-use Rattle.xa_log.specs.Contract.{Moment}
+use Rattle.xa_log.specs.Contract.{Honestly, Moment}
 use Rattle.xa_model.specs.Facts.{next_call, origin, rm_up}
 use Rattle.xa_model.specs.Facts.Distinct.{ApartRows}
 use Rattle.xa_model.specs.Protocol.{IsRun, OldOrigin, Right, SoundAnswer}
@@ -102,6 +102,6 @@ pub record StaysAs {L : Type 0} (old new : Session L) : Type 0 where
 -- a log that was in order, has been honest since and held what the book said, holds what it says now
 abbrev pub StaysTied : {L : Type 0} → (moment : L → Moment) → (old new : Session L) → Type 0
 StaysTied moment old new =
-    (near : Bool) → (moment (log_in old.manager)).is_in_order → (moment (log_in new.manager)).is_honest
-    → IsTied near (book_in old.manager) (moment (log_in old.manager)).content
-    → IsTied near (book_in new.manager) (moment (log_in new.manager)).content
+    (near : Bool) → Honestly (moment (log_in old.manager)) (moment (log_in new.manager))
+    (IsTied near (book_in old.manager) (moment (log_in old.manager)).content
+    → IsTied near (book_in new.manager) (moment (log_in new.manager)).content)

@@ -1,3 +1,4 @@
+pub mod Answering
 pub mod Headroom
 pub mod Following
 pub mod Hearing

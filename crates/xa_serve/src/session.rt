@@ -2,6 +2,7 @@
 
 ghost use Rattle.std.specs.Prelude.{◌≡◌, Bool, true, IfOk};
 ghost use Rattle.xa_line.specs.Grid.{new_grid};
+ghost use Rattle.xa_log.specs.Contract.{Honestly};
 ghost use Rattle.xa_model.specs.Trace.{Origin};
 ghost use Rattle.xa_standings.specs.Explained.{IsOldLog};
 ghost use Rattle.xa_tm.specs.Begins.{BeginsWith};
@@ -51,11 +52,11 @@ impl<L: DecisionLog + Drop> Session<L> {
         ensures old { IfOk result (λ s. (o : Origin) → BeginsWith threads rms s.manager o →
             IsOldLog o) }
         // The log, whose incarnation is raised.
-        ensures tied { (near : Bool) → (L.moment log).is_in_order →
-            IfOk result (λ s. (L.moment (log_in s.manager)).is_honest →
-            IsTied near (book_in s.manager) (L.moment (log_in s.manager)).content) }
-        ensures order { (L.moment log).is_in_order →
-            IfOk result (λ s. (L.moment (log_in s.manager)).is_in_order) }
+        ensures tied { (near : Bool) → IfOk result (λ s.
+            Honestly (L.moment log) (L.moment (log_in s.manager))
+            (IsTied near (book_in s.manager) (L.moment (log_in s.manager)).content)) }
+        ensures order { IfOk result (λ s. (L.moment log).is_in_order →
+            (L.moment (log_in s.manager)).is_in_order) }
         ensures honest { IfOk result (λ s. (L.moment (log_in s.manager)).is_honest →
             (L.moment log).is_honest) }
     {

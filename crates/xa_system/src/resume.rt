@@ -1,16 +1,15 @@
 //! A system goes on from what earlier processes left.
-ghost use Rattle.std.specs.Prelude.{◌≡◌, ◌≤◌, true, false, [], length, map, Err, IfOk, IsSome, IsSomeAnd, vec_len};
+ghost use Rattle.std.specs.Prelude.{◌≡◌, ◌≤◌, true, false, [], length, map, Err, IfOk, IsSomeAnd, vec_len};
 ghost use Rattle.xa_model.specs.Promises.Processes.{Resumes};
 ghost use Rattle.xa_model.specs.Protocol.{RightOrigin};
 ghost use Rattle.xa_model.specs.Trace.{Trace};
+ghost use Rattle.xa_system.specs.KeptLog.{BeginsOver};
 ghost use Rattle.xa_system.specs.NextProcess.{FindsNewer, Leaves};
 ghost use Rattle.xa_system.specs.StartFaults.{IsToBlame};
 ghost use Rattle.xa_system.specs.Steps.{AreCrashed};
-ghost use Rattle.xa_system.specs.SystemView.{AreClear, ArePast, HasNewer, HasWrongSize, HoldsItsTrace, MayRestart};
-ghost use Rattle.xa_system.specs.SystemView.{MayRestartAfterCrash, observes, origin_in};
+ghost use Rattle.xa_system.specs.SystemView.{AreClear, ArePast, HasNewer, HasWrongSize, HoldsItsTrace, observes, origin_in};
 ghost use Rattle.xa_system.specs.declared.resume.ResumeFault.{ResumeFault};
-ghost use Rattle.xa_tm.specs.Slots.{log_held, slot_moment};
-ghost use Rattle.xa_tm.specs.Starting.{IsPast};
+ghost use Rattle.xa_tm.specs.Slots.{slot_moment};
 
 use crate::site::{Site, crash_rms};
 use crate::start::start_parts;
@@ -89,23 +88,7 @@ impl<R: ResourceManager + Drop, L: DecisionLog + Drop> System<R, L> {
             IfOk result (λ system. (slot_moment L.moment system.log).is_honest →
             IsSomeAnd (L.moment log).content (λ content. (past : Trace) →
             Leaves R.look past rms.items content → Resumes past (origin_in R.look system))) }
-        // Its log.
-        ensures handed { IfOk result (λ system. (system.handed ≡ log) × (system.first ≡ log)) }
-        ensures held { IfOk result
-            (λ system. (system.begun ≡ system.log) × IsSome (log_held system.log)) }
-        ensures honest { IfOk result (λ system. (slot_moment L.moment system.log).is_honest →
-            (L.moment log).is_honest) }
-        ensures faults { IfOk result (λ system. (slot_moment L.moment system.log).fault_count ≡
-            (L.moment log).fault_count) }
-        ensures past { (L.moment log).is_in_order →
-            IfOk result (λ system. (slot_moment L.moment system.log).is_honest →
-            IsSomeAnd (L.moment log).content IsPast) }
-        ensures near { (L.moment log).is_in_order →
-            IfOk result (λ system. (slot_moment L.moment system.log).is_honest →
-            MayRestart (observes R.look L.moment) system) }
-        ensures crash { (L.moment log).is_in_order →
-            IfOk result (λ system. (slot_moment L.moment system.log).is_honest →
-            MayRestartAfterCrash (observes R.look L.moment) system) }
+        ensures log { IfOk result (BeginsOver (observes R.look L.moment) log) }
     {
         if threads == 0 || threads > 8 || rms.is_empty() || rms.len() > 8 {
             return Err(ResumeFault::Limit);

@@ -1,12 +1,10 @@
 //! Steps are done, one after the other.
-ghost use Rattle.std.specs.Prelude.{◌≡◌, ◌≢◌, Bool, ◌<◌, ◌≤◌, ◌+◌, ◌++◌, ◌∷◌, [], length, Some, None, Err, IsOk, OnErr, OnOk};
+ghost use Rattle.std.specs.Prelude.{◌≡◌, ◌≢◌, Bool, ◌<◌, ◌≤◌, ◌+◌, ◌++◌, ◌∷◌, [], length, Err, IsOk, OnErr, OnOk};
 ghost use Rattle.xa_base.specs.declared.refusal.Refusal.{Refusal};
 ghost use Rattle.xa_base.specs.declared.refusal.Refusal.TheVariants as Refusals;
 ghost use Rattle.xa_base.specs.declared.reply.Reply.TheVariants as Replies;
 ghost use Rattle.xa_base.specs.declared.step.Side.TheVariants as Sides;
 ghost use Rattle.xa_base.specs.declared.step.Step.TheVariants as Steps;
-ghost use Rattle.xa_log.specs.Content.{Content};
-ghost use Rattle.xa_log.specs.Contract.{Honestly};
 ghost use Rattle.xa_model.specs.Facts.{up};
 ghost use Rattle.xa_model.specs.Promises.Headline.{Headline, HeadlineSince};
 ghost use Rattle.xa_model.specs.Promises.Processes.{Resumes, resumed};
@@ -14,13 +12,10 @@ ghost use Rattle.xa_model.specs.Protocol.{AllRight, RightOrigin};
 ghost use Rattle.xa_model.specs.Replies.Allowed.{Allowed};
 ghost use Rattle.xa_model.specs.Replies.History.{reply_of, step_of};
 ghost use Rattle.xa_model.specs.Replies.ReadBack.{StepHasXids};
-ghost use Rattle.xa_model.specs.Replies.Steps.{happened, log_failed};
+ghost use Rattle.xa_model.specs.Replies.Steps.{happened};
 ghost use Rattle.xa_model.specs.Trace.{Happening.Nothing, Trace};
-ghost use Rattle.xa_system.specs.KeptLog.{KeepsItsLog};
-ghost use Rattle.xa_system.specs.LogInHistory.{IsBeforeNext, MayHaveFailed};
-ghost use Rattle.xa_system.specs.SystemView.{AddsSteps, FaultsHaveCauses, HoldsItsTrace, IsAsBefore, IsFailed, MayRestart};
-ghost use Rattle.xa_system.specs.SystemView.{MayRestartAfterCrash, OtherFaultsHaveCauses, observes, origin_in, trace_in};
-ghost use Rattle.xa_tm.specs.Slots.{log_held, slot_moment};
+ghost use Rattle.xa_system.specs.KeptLog.{HasFailedInStep, HasNoLogToRestart, KeepsItsLog};
+ghost use Rattle.xa_system.specs.SystemView.{AddsSteps, HoldsItsTrace, IsAsBefore, IsFailed, observes, origin_in, trace_in};
 
 use crate::system::{EVENT_LIMIT, System};
 use xa_base::{Event, Refusal, Reply, Step};
@@ -74,24 +69,14 @@ impl<R: ResourceManager + Drop, L: DecisionLog + Drop> System<R, L> {
         ensures nothing { (n : Refusal) → result ≡ Replies.Refused n → n ≢ Refusals.LogFault →
             happened (step_of step) (reply_of result) ≡ Nothing }
         // One in which the log failed.
-        ensures down { result ≡ Replies.Refused Refusals.LogFault →
-            up (trace_in R.look self.new) ≡ Bool.false }
         ensures failed { result ≡ Replies.Refused Refusals.LogFault →
-            Honestly (L.moment self.old.handed) (slot_moment L.moment self.new.log)
-            (MayHaveFailed (trace_in R.look self.old) (log_failed (step_of step))
-            (slot_moment L.moment self.old.log).content
-            (slot_moment L.moment self.new.log).content) }
+            HasFailedInStep (observes R.look L.moment) step self.old self.new }
         // The log, and whether a restart may follow over it.
         ensures log { KeepsItsLog (observes R.look L.moment) self.old self.new }
         // A restart that can't be.
-        ensures out { log_held self.old.log ≡ None → step ≡ Steps.Restart Sides.Manager →
+        ensures no_restart { step ≡ Steps.Restart Sides.Manager →
             length self.old.events < EVENT_LIMIT → up (trace_in R.look self.old) ≡ Bool.false →
-            IsFailed result }
-        ensures other_incarnation { (c : Content) → step ≡ Steps.Restart Sides.Manager →
-            length self.old.events < EVENT_LIMIT → up (trace_in R.look self.old) ≡ Bool.false →
-            Honestly (L.moment self.old.handed) (slot_moment L.moment self.new.log)
-            ((slot_moment L.moment self.old.log).content ≡ Some c →
-            (IsBeforeNext (trace_in R.look self.old) c → ⊥) → IsFailed result) }
+            HasNoLogToRestart (observes R.look L.moment) self.old self.new → IsFailed result }
     {
         if self.events.len() >= EVENT_LIMIT {
             self.agree();

@@ -3,7 +3,6 @@ ghost use Rattle.std.specs.Prelude.{◌≡◌, ◌+◌, true, false, [], length,
 ghost use Rattle.xa_system.specs.SystemView.{AreClear, IsUnclear};
 ghost use Rattle.xa_system.specs.StartFaults.{IsToBlame};
 ghost use Rattle.xa_system.specs.declared.system.NewFault.{NewFault};
-ghost use Rattle.xa_tm.specs.Starting.{IsPast};
 
 use crate::parts::Parts;
 use crate::start::start_parts;
@@ -83,8 +82,8 @@ impl<R: ResourceManager + Drop, L: DecisionLog + Drop> System<R, L> {
     ghost use Rattle.xa_model.specs.Promises.Processes.{Resumes, resumed};
     ghost use Rattle.xa_model.specs.Protocol.{AllRight, RightOrigin};
     ghost use Rattle.xa_model.specs.Trace.{Trace};
-    ghost use Rattle.xa_system.specs.SystemView.{HasWrongSize, HoldsItsTrace, MayRestart, MayRestartAfterCrash};
-    ghost use Rattle.xa_system.specs.SystemView.{observes, origin_in};
+    ghost use Rattle.xa_system.specs.KeptLog.{BeginsOver};
+    ghost use Rattle.xa_system.specs.SystemView.{HasWrongSize, HoldsItsTrace, observes, origin_in};
     ghost use Rattle.xa_system.specs.declared.system.TheConstants.{EVENT_LIMIT};
     ghost use Rattle.xa_tm.specs.Slots.{log_held, slot_moment};
 
@@ -108,23 +107,7 @@ impl<R: ResourceManager + Drop, L: DecisionLog + Drop> System<R, L> {
             × (system.rms ≡ rms.items) × (system.lines.threads ≡ threads) × HoldsItsTrace
             (observes R.look L.moment) system) }
         ensures right { IfOk result (λ system. RightOrigin (origin_in R.look system)) }
-        // Its log.
-        ensures handed { IfOk result (λ system. (system.handed ≡ log) × (system.first ≡ log)) }
-        ensures held { IfOk result
-            (λ system. (system.begun ≡ system.log) × IsSome (log_held system.log)) }
-        ensures honest { IfOk result (λ system. (slot_moment L.moment system.log).is_honest →
-            (L.moment log).is_honest) }
-        ensures faults { IfOk result (λ system. (slot_moment L.moment system.log).fault_count ≡
-            (L.moment log).fault_count) }
-        ensures past { (L.moment log).is_in_order →
-            IfOk result (λ system. (slot_moment L.moment system.log).is_honest →
-            IsSomeAnd (L.moment log).content IsPast) }
-        ensures near { (L.moment log).is_in_order →
-            IfOk result (λ system. (slot_moment L.moment system.log).is_honest →
-            MayRestart (observes R.look L.moment) system) }
-        ensures crash { (L.moment log).is_in_order →
-            IfOk result (λ system. (slot_moment L.moment system.log).is_honest →
-            MayRestartAfterCrash (observes R.look L.moment) system) }
+        ensures log { IfOk result (BeginsOver (observes R.look L.moment) log) }
     {
         if threads == 0 || threads > 8 || rms.is_empty() || rms.len() > 8 {
             return Err(NewFault::Limit);

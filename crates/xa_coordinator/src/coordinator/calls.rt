@@ -1,9 +1,9 @@
 //! Requests to make calls, and what was answered to them.
 
 ghost use Rattle.std.specs.Prelude.{◌≡◌};
-ghost use Rattle.xa_coordinator.specs.Calls.{PerformsAnswer, PerformsIssue, answer_reply, are_alike, are_same, is_to, waits_for_other};
+ghost use Rattle.xa_coordinator.specs.Calls.{PerformsAnswer, PerformsIssue, answer_reply, are_same, is_to, waits_for_other};
 ghost use Rattle.xa_base.specs.Answer.{answer_number};
-ghost use Rattle.xa_base.specs.Call.{kind_of, xid_in};
+ghost use Rattle.xa_base.specs.Call.{xid_in};
 ghost use Rattle.xa_requests.specs.declared.response.Response.TheVariants as responses;
 ghost use Rattle.xa_serve.specs.Session.{IsReady};
 
@@ -86,41 +86,7 @@ fn answer_reply(reply: Response, heard: Result<(), Unfit>) -> Response
 fn is_to(call: &Call, name: &CallName) -> bool
     ensures { result ≡ is_to call.now name.now }
 {
-    are_alike(kind_of(call), name.kind) && is_on(call, &name.xid)
-}
-
-/// The kind of a call.
-fn kind_of(call: &Call) -> CallKind
-    ensures { result ≡ kind_of call.now }
-{
-    match call {
-        Call::OpenRm => CallKind::OpenRm,
-        Call::CloseRm => CallKind::CloseRm,
-        Call::Start { .. } => CallKind::Start,
-        Call::End { .. } => CallKind::End,
-        Call::Prepare { .. } => CallKind::Prepare,
-        Call::Commit { .. } => CallKind::Commit,
-        Call::Rollback { .. } => CallKind::Rollback,
-        Call::Forget { .. } => CallKind::Forget,
-        Call::Recover { .. } => CallKind::Recover,
-    }
-}
-
-/// Whether two kinds are the same.
-fn are_alike(kind: CallKind, other: CallKind) -> bool
-    ensures { result ≡ are_alike kind other }
-{
-    match kind {
-        CallKind::OpenRm => matches!(other, CallKind::OpenRm),
-        CallKind::CloseRm => matches!(other, CallKind::CloseRm),
-        CallKind::Start => matches!(other, CallKind::Start),
-        CallKind::End => matches!(other, CallKind::End),
-        CallKind::Prepare => matches!(other, CallKind::Prepare),
-        CallKind::Commit => matches!(other, CallKind::Commit),
-        CallKind::Rollback => matches!(other, CallKind::Rollback),
-        CallKind::Forget => matches!(other, CallKind::Forget),
-        CallKind::Recover => matches!(other, CallKind::Recover),
-    }
+    call.is_of_kind(name.kind) && is_on(call, &name.xid)
 }
 
 /// Whether a call is on this branch, or on none where there is none.

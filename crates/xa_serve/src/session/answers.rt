@@ -1,21 +1,17 @@
 //! Answers that the driver tells.
 
-ghost use Rattle.std.specs.Prelude.{◌≡◌, ◌≢◌, ◌⊎◌, [], slice_get, Some, None, Err, IfErr, OnOk};
+ghost use Rattle.std.specs.Prelude.{◌≡◌, ◌≢◌, ◌⊎◌, [], Some, None, Err, IfErr, OnOk};
 ghost use Rattle.xa_base.specs.Answer.{map_answer};
-ghost use Rattle.xa_base.specs.Call.{map_call};
-ghost use Rattle.xa_base.specs.Xid.{Xid as Named};
-ghost use Rattle.xa_base.specs.declared.call.Call.{Call as Waiting};
 ghost use Rattle.xa_base.specs.declared.refusal.Refusal.{Refusal as Refused};
 ghost use Rattle.xa_base.specs.declared.refusal.Refusal.TheVariants as Refusals;
 ghost use Rattle.xa_line.specs.Grid.{line_at, new_grid, with_line};
 ghost use Rattle.xa_model.specs.Facts.{record_of};
 ghost use Rattle.xa_model.specs.Replies.History.{name_of};
-ghost use Rattle.xa_model.specs.Replies.Steps.{accepted};
-ghost use Rattle.xa_model.specs.Trace.{Call as KnownCall, Fault.InHear, Happening.Heard, line};
-ghost use Rattle.xa_standings.specs.Seen.{HasAnswer};
-ghost use Rattle.xa_tm.specs.Book.{after, doubt_of};
-ghost use Rattle.xa_tm.specs.Calls.{FailsBy, book_in, log_in};
-ghost use Rattle.xa_serve.specs.Following.{FollowsAnswer, StaysAs, StaysTied};
+ghost use Rattle.xa_model.specs.Trace.{Call as KnownCall, Fault.InHear, line};
+ghost use Rattle.xa_tm.specs.Book.{doubt_of};
+ghost use Rattle.xa_tm.specs.Calls.{FailsBy, book_in};
+ghost use Rattle.xa_serve.specs.Answering.{HearsAs, IsFirst};
+ghost use Rattle.xa_serve.specs.Following.{StaysAs, StaysTied};
 ghost use Rattle.xa_serve.specs.Hearing.{with_answer};
 ghost use Rattle.xa_serve.specs.Session.{BranchExplains, IsExplainable, IsReady, unfit};
 ghost use Rattle.xa_serve.specs.declared.session.answers.Unfit.TheVariants as Unfits;
@@ -49,55 +45,34 @@ impl<L: DecisionLog + Drop> Session<L> {
     pub fn answer(&mut self, thread: u32, rm: u32, answer: Answer) -> Result<(), Unfit>
         requires { IsReady self.old }
         ensures ready { IsReady self.new }
-        // What is unfit changes nothing.
+        // What is unfit changes nothing, nor does what no state of a branch explains.
         ensures refused { (u : _) → unfit self.old thread rm answer ≡ Some u →
             (result ≡ Err u) × (self.new ≡ self.old) }
         ensures allowed { OnOk result (unfit self.old thread rm answer ≡ None) }
-        // Nor does what no state of a branch explains.
         ensures unexplained { (b : Branch) → result ≡ Err (Unfits.NoSuchState b) →
-            BranchExplains self.old thread rm answer b → ⊥ }
-        ensures same { (b : Branch) → result ≡ Err (Unfits.NoSuchState b) →
-            self.new ≡ self.old }
-        ensures explained { OnOk result (IsExplainable self.old thread rm answer) }
-        ensures explained_first { (n : Refused) → result ≡ Err (Unfits.Refused n) →
-            unfit self.old thread rm answer ≡ None → IsExplainable self.old thread rm answer }
-        // What the book then says.
-        ensures ok { OnOk result ((call : Waiting Named) (c : KnownCall) →
-            slice_get (line_at self.old.lines thread rm).calls.waiting 0 ≡ Some call →
-            accepted (map_call name_of call) ≡ Some c →
-            book_in self.new.manager ≡ after (book_in self.old.manager)
-            (Heard (line thread rm) c (map_answer name_of answer))) }
-        ensures err { (n : Refused) → result ≡ Err (Unfits.Refused n) →
-            unfit self.old thread rm answer ≡ None → (call : Waiting Named) (c : KnownCall) →
-            slice_get (line_at self.old.lines thread rm).calls.waiting 0 ≡ Some call →
-            accepted (map_call name_of call) ≡ Some c →
-            FailsBy (doubt_of (record_of c (map_answer name_of answer)))
-            (InHear (line thread rm)) (book_in self.old.manager) (book_in self.new.manager) n }
-        // What else may be refused.
+            (BranchExplains self.old thread rm answer b → ⊥) × (self.new ≡ self.old) }
+        ensures explained { unfit self.old thread rm answer ≡ None →
+            ((b : Branch) → result ≢ Err (Unfits.NoSuchState b)) →
+            IsExplainable self.old thread rm answer }
+        // What is heard.
+        ensures heard { OnOk result ((c : KnownCall) → IsFirst self.old thread rm c →
+            HearsAs thread rm c (map_answer name_of answer) self.old self.new) }
+        ensures lines { OnOk result (self.new.lines ≡ with_line self.old.lines thread rm
+            (with_answer (line_at self.old.lines thread rm) answer)) }
+        // Else memory was refused, or the log failed.
         ensures only { unfit self.old thread rm answer ≡ None →
             IfErr result (λ u. ((n : Refused) × (u ≡ Unfits.Refused n))
             ⊎ ((b : Branch) × (u ≡ Unfits.NoSuchState b))) }
+        ensures err { (n : Refused) → result ≡ Err (Unfits.Refused n) →
+            unfit self.old thread rm answer ≡ None →
+            (c : KnownCall) → IsFirst self.old thread rm c →
+            FailsBy (doubt_of (record_of c (map_answer name_of answer)))
+            (InHear (line thread rm)) (book_in self.old.manager) (book_in self.new.manager) n }
         ensures stays { IfErr result (λ u. u ≢ Unfits.Refused Refusals.LogFault →
             StaysAs self.old self.new) }
-        // What was seen.
-        ensures has { OnOk result ((call : Waiting Named) (c : KnownCall) →
-            slice_get (line_at self.old.lines thread rm).calls.waiting 0 ≡ Some call →
-            accepted (map_call name_of call) ≡ Some c →
-            HasAnswer c (map_answer name_of answer)) }
-        ensures follows { OnOk result ((call : Waiting Named) (c : KnownCall) →
-            slice_get (line_at self.old.lines thread rm).calls.waiting 0 ≡ Some call →
-            accepted (map_call name_of call) ≡ Some c →
-            FollowsAnswer (line thread rm) c (map_answer name_of answer) self.old self.new) }
-        // The log and the lines.
-        ensures log { IfErr result (λ u. u ≢ Unfits.Refused Refusals.LogFault →
-            log_in self.new.manager ≡ log_in self.old.manager) }
-        ensures tied { StaysTied L.moment self.old self.new }
-        ensures lines { OnOk result (self.new.lines ≡ with_line self.old.lines thread rm
-            (with_answer (line_at self.old.lines thread rm) answer)) }
-        ensures lines_stay { IfErr result (λ u. u ≢ Unfits.Refused Refusals.LogFault →
-            self.new.lines ≡ self.old.lines) }
         ensures broken { result ≡ Err (Unfits.Refused Refusals.LogFault) →
             self.new.lines ≡ new_grid self.old.lines.threads self.old.lines.rms }
+        ensures tied { StaysTied L.moment self.old self.new }
     {
         books_have_headroom();
         if let Some(refusal) = self.line_refusal(thread, rm) {

@@ -11,8 +11,8 @@ returns-clause-starts g c honest =
     let look = g.R.ResourceManager.look in
     let ran = c.run-ran.ensures in
     let made = c.in_ok-system.ensures in
-    let first = ran.log.first ∙ made.handed.1 in
-    let begun = ran.log.begun ∙ made.held.0 in
+    let first = ran.log.first ∙ made.log.first in
+    let begun = ran.log.begun ∙ made.log.begun in
     subst (λ l. IsSomeAnd (moment l).content (StartsOver (origin_in look c.run-ran.new.self))) first
     (ran.parts.log.start (subst (λ l. (moment l).is_in_order) (sym first) c.requires)
     (subst (λ s. (slot_moment moment s).is_honest) (sym begun) (ran.log.honest honest)))
@@ -20,9 +20,9 @@ returns-clause-starts g c honest =
 pub returns-clause-stands : goal.returns-clause-stands
 returns-clause-stands g c honest =
     let ran = c.run-ran.ensures in
-    ran.parts.log.stands (subst (λ l. (g.L.DecisionLog.moment l).is_in_order) (sym (ran.log.handed ∙ c.in_ok-system.ensures.handed.0)) c.requires) honest
+    ran.parts.log.stands (subst (λ l. (g.L.DecisionLog.moment l).is_in_order) (sym (ran.log.handed ∙ c.in_ok-system.ensures.log.handed)) c.requires) honest
 
 pub returns-clause-leaves : goal.returns-clause-leaves
 returns-clause-leaves g c honest =
     let ran = c.run-ran.ensures in
-    ran.parts.log.leaves (subst (λ l. (g.L.DecisionLog.moment l).is_in_order) (sym (ran.log.handed ∙ c.in_ok-system.ensures.handed.0)) c.requires) honest
+    ran.parts.log.leaves (subst (λ l. (g.L.DecisionLog.moment l).is_in_order) (sym (ran.log.handed ∙ c.in_ok-system.ensures.log.handed)) c.requires) honest

@@ -19,8 +19,8 @@ returns-in-Ok-new c =
     let was_honest = always_honest (λ l. Unit {0}) began.log.was.value began.log.log (λ l. tt) in
     let honest = always_honest (λ l. Unit {0}) now.log.was.value now.log.log (λ l. tt) in
     let order = c.new-2.ensures.order in
-    let handed = subst (λ l. (moment l).is_in_order) (sym made.handed.0) order in
+    let handed = subst (λ l. (moment l).is_in_order) (sym made.log.handed) order in
     first see c.args.steps.now now start ran.parts
     (are_done c.args.steps.now began now c.run-ran.result made.ok.0 ran.room ran.adds ran.limit ran.err)
     (c.replies_are_allowed.ensures.events (origin_in see.look now) now.events start ran.parts.allowed)
-    (subst (λ l. (moment l).is_in_order) (sym ran.log.handed) handed) (ran.log.near handed honest (made.near order was_honest))
+    (subst (λ l. (moment l).is_in_order) (sym ran.log.handed) handed) (ran.log.near handed honest (made.log.near order was_honest))

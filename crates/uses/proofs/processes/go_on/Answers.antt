@@ -10,7 +10,7 @@ returns-in-Ok-clause-near g c order honest =
     let made = c.in-Ok.ensures in
     let ran = c.run-ran.ensures in
     let in_order = of_held (λ log. (moment log).is_in_order) c.args.remains.log c.in-Some.log c.in-Some.is order in
-    ran.log.near (subst (λ l. (moment l).is_in_order) (sym made.handed.0) in_order) honest (made.near in_order (ran.log.honest honest))
+    ran.log.near (subst (λ l. (moment l).is_in_order) (sym made.log.handed) in_order) honest (made.log.near in_order (ran.log.honest honest))
 
 pub returns-in-Ok-clause-follows : goal.returns-in-Ok-clause-follows
 returns-in-Ok-clause-follows g c past ends honest =
@@ -22,7 +22,7 @@ returns-in-Ok-clause-follows g c past ends honest =
     let in_order = of_held (λ l. (moment l).is_in_order) c.args.remains.log log c.in-Some.is ends.order in
     let began = ran.log.honest honest in
     resumes see past c.args.remains log (origin_in see.look c.in-Ok.system) (origin_in see.look c.run-ran.new.self) c.in-Some.is ends ran.start
-    (made.honest began) (made.follows in_order began)
+    (made.log.honest began) (made.follows in_order began)
 
 pub returns-in-Ok-clause-headline : goal.returns-in-Ok-clause-headline
 returns-in-Ok-clause-headline g c past ends honest =
@@ -41,6 +41,6 @@ returns-in-Ok-clause-chain g c past ends honest =
     record {
       right = c.across_processes.ensures.right past start events ends.right resumed ran.parts.allowed;
       passes_on = λ next own. c.across_processes.ensures.passes_on past start events next ends.right resumed ran.parts.allowed own;
-      order = subst (λ l. (moment l).is_in_order) (sym (ran.log.handed ∙ made.handed.0)) log_order;
+      order = subst (λ l. (moment l).is_in_order) (sym (ran.log.handed ∙ made.log.handed)) log_order;
       near = returns-in-Ok-clause-near g c ends.order honest;
     }

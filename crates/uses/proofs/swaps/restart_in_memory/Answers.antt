@@ -22,11 +22,11 @@ returns-clause-given c =
     let down = down_taken look memory.ghosts old taken log c.take_log.result took.up some in
     let here = some ∙ took.taken down in
     let order = c.new-2.ensures.order in
-    let first_order = subst (λ l. (moment l).is_in_order) (sym made.handed.0) order in
+    let first_order = subst (λ l. (moment l).is_in_order) (sym made.log.handed) order in
     let old_order = subst (λ l. (moment l).is_in_order) (sym crashed.log.handed) first_order in
     let began = always_honest (λ l. Unit {0}) first.log.was.value first.log.log (λ l. tt) in
     let now = always_honest (λ l. Unit {0}) old.log.was.value old.log.log (λ l. tt) in
-    let near = crashed.log.crash first_order now (made.near order began) (made.crash order began) in
+    let near = crashed.log.crash first_order now (made.log.near order began) (made.log.crash order began) in
     let left_order = order_taken look memory.ghosts old log crashed.parts old_order here in
     let is = is_left look memory.ghosts old taken log log (content_held log) crashed.parts down took.others here
     (took.out down) (took.was log c.in-Some.is) old_order near tt refl left_order refl in

@@ -16,11 +16,11 @@ returns-in-Ok-resume-clause-goes_on g c =
     let resumed = c.in-Ok-resume.ensures in
     goes_on look moment _ c.in-Ok.remains.rms.items c.args.system new (sym c.in-Ok.ensures.log ∙ at)
     (has_started (observes g.R.ResourceManager.look moment) _ new refl
-    resumed.held.0 resumed.handed.0 resumed.honest
+    resumed.log.begun resumed.log.handed resumed.log.honest
     (λ order honest.
-    subst (λ log. IsSomeAnd (moment log).content (StartsOver (origin_in look new))) resumed.handed.1
-    (resumed.ok.4.log.start (subst (λ log. (moment log).is_in_order) (sym resumed.handed.1) order) honest))
-    resumed.near resumed.held.1)
+    subst (λ log. IsSomeAnd (moment log).content (StartsOver (origin_in look new))) resumed.log.first
+    (resumed.ok.4.log.start (subst (λ log. (moment log).is_in_order) (sym resumed.log.first) order) honest))
+    resumed.log.near resumed.log.held)
     (λ order. c.in-Ok.ensures.order order _ at)
     (λ order honest near content is. c.in-Ok.ensures.left order honest near _ content at is)
     resumed.follows

@@ -25,11 +25,11 @@ returns-in-Ok-clause-over g c =
     let moment = g.L.DecisionLog.moment in
     let system = c.in-Ok.system in
     has_started (observes g.R.ResourceManager.look moment) c.args.log system refl
-    c.in-Ok.ensures.held.0 c.in-Ok.ensures.handed.0 c.in-Ok.ensures.honest
+    c.in-Ok.ensures.log.begun c.in-Ok.ensures.log.handed c.in-Ok.ensures.log.honest
     (λ order honest.
-    subst (λ log. IsSomeAnd (moment log).content (StartsOver (origin_in look system))) c.in-Ok.ensures.handed.1
-    (c.in-Ok.ensures.ok.4.log.start (subst (λ log. (moment log).is_in_order) (sym c.in-Ok.ensures.handed.1) order) honest))
-    c.in-Ok.ensures.near c.in-Ok.ensures.held.1
+    subst (λ log. IsSomeAnd (moment log).content (StartsOver (origin_in look system))) c.in-Ok.ensures.log.first
+    (c.in-Ok.ensures.ok.4.log.start (subst (λ log. (moment log).is_in_order) (sym c.in-Ok.ensures.log.first) order) honest))
+    c.in-Ok.ensures.log.near c.in-Ok.ensures.log.held
 
 pub start_fault-requires-clause-limit : goal.start_fault-requires-clause-limit
 start_fault-requires-clause-limit g c = λ is.

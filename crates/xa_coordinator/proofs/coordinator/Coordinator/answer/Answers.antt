@@ -1,5 +1,5 @@
 use Rattle.std.proofs.Common.{◌∙◌, ap, refl, subst, sym}
-use Rattle.xa_coordinator.proofs.AnswerLemmas.{hears_by, hears_it}
+use Rattle.xa_coordinator.proofs.AnswerLemmas.{hears_it}
 use Rattle.xa_coordinator.specs.Calls.{Hears, answer_reply}
 use Rattle.xa_coordinator.proofs.coordinator.Coordinator.answer.Goals as goal
 
@@ -11,9 +11,17 @@ returns-clause-performs g c =
     (sym c.waits_for_other.ensures ∙ c.if-waits_for_other.false) (record {
       result = call.result;
       does = subst (λ a. Hears c.args.thread c.args.rm a old call.new.self call.result) c.in-Ok.ensures
-          (hears_by c.args.thread c.args.rm c.in-Ok.answer old call.new.self call.result call.ensures.refused call.ensures.allowed call.ensures.unexplained
-          call.ensures.same call.ensures.explained call.ensures.explained_first call.ensures.ok call.ensures.err call.ensures.stays call.ensures.has
-          call.ensures.follows call.ensures.lines call.ensures.broken);
+          (record {
+            refused = call.ensures.refused;
+            allowed = call.ensures.allowed;
+            unexplained = call.ensures.unexplained;
+            explained = call.ensures.explained;
+            heard = call.ensures.heard;
+            lines = call.ensures.lines;
+            fails = call.ensures.err;
+            stays = call.ensures.stays;
+            broken = call.ensures.broken;
+          });
       told = c.answer_reply.ensures ∙ ap (λ r. answer_reply r call.result) c.heard_of-reply.ensures;
       rest = refl;
     })

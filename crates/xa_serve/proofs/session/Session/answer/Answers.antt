@@ -43,13 +43,13 @@ returns-in-Some-unexplained-clause-unexplained g c = λ b e.
     ap (λ (l : Traffic). slice_get l.calls.waiting 0) (sym c.line.ensures.value) ∙ sym c.front.ensures ∙ ap option_copied c.in-Some-front.is
     ∙ ap (λ k. Some k) (sym c.copy-call.ensures)
     in
-    λ explains.
+    ((λ explains.
     subst (λ q. CanExplain (states_of s.monitor) (line t r) knows.0 (map_answer name_of c.args.answer) q → ⊥) same
     (c.in-Some-unexplained.ensures.some t knows.0 knows.1)
-    (explains knows.0 (waiting_known s.lines t r c.copy-call.result may.there waits ∙ knows.1))
+    (explains knows.0 (waiting_known s.lines t r c.copy-call.result may.there waits ∙ knows.1))), refl)
 
 pub returns-in-Ok-hear-clause-explained : goal.returns-in-Ok-hear-clause-explained
-returns-in-Ok-hear-clause-explained g c = λ q some d is.
+returns-in-Ok-hear-clause-explained g c = λ fit not q some d is.
     let s = c.args.self.now in
     let t = c.args.thread in
     let r = c.args.rm in
@@ -73,11 +73,14 @@ returns-in-Ok-hear-clause-ready g c =
     (ap (λ (l : Traffic). l.answers.waiting) c.answer_first.ensures ∙ answer_heard c.line_mut.result.now c.args.answer
     (ap (λ (l : Traffic). l.answers.waiting) c.line_mut.ensures.value ∙ c.requires.heard t r may.has)) c.requires.heard)
 
-pub returns-in-Ok-hear-clause-follows : goal.returns-in-Ok-hear-clause-follows
-returns-in-Ok-hear-clause-follows g c = λ call d first is.
+pub returns-in-Ok-hear-clause-heard : goal.returns-in-Ok-hear-clause-heard
+returns-in-Ok-hear-clause-heard g c = λ d front.
     let s = c.args.self.now in
     let t = c.args.thread in
     let r = c.args.rm in
+    let call = front.0 in
+    let first = front.1 in
+    let is = front.2 in
     let may = may_tell s t r (sym c.line_refusal.ensures ∙ c.in_default.is) in
     let waits : slice_get (line_at s.lines t r).calls.waiting 0 ≡ Some c.copy-call.result =
     ap (λ (l : Traffic). slice_get l.calls.waiting 0) (sym c.line.ensures.value) ∙ sym c.front.ensures ∙ ap option_copied c.in-Some-front.is
@@ -85,26 +88,17 @@ returns-in-Ok-hear-clause-follows g c = λ call d first is.
     in
     let knows : known c.copy-call.result ≡ Some d = subst (λ k. known k ≡ Some d) (some_is _ _ (sym first ∙ waits)) is in
     record {
-      leads =
-          answered_follows s _ t r call d c.args.answer may first is (c.requires.heard t r may.has) (c.in-Ok-hear.ensures.ok d knows)
-          (ap (with_line s.lines t r) (c.answer_first.ensures ∙ ap (λ (l : Traffic). with_answer l c.args.answer) c.line_mut.ensures.value));
-      states =
-          heard_in_room (states_of s.monitor) (states_of c.make_room.new.self) (states_of c.follow.new.self) c.make_room.ensures.same (line t r) d
-          (map_answer name_of c.args.answer) (c.unexplained.ensures.none c.in_default-unexplained.is t d knows) (c.follow.ensures (line t r) d knows);
+      book = c.in-Ok-hear.ensures.ok d knows;
+      has = has_answer (map_call name_of c.copy-call.result) (map_answer name_of c.args.answer) d (sym c.can_hear.ensures ∙ c.if-not-can_hear.false) knows;
+      follows = record {
+        leads =
+            answered_follows s _ t r call d c.args.answer may first is (c.requires.heard t r may.has) (c.in-Ok-hear.ensures.ok d knows)
+            (ap (with_line s.lines t r) (c.answer_first.ensures ∙ ap (λ (l : Traffic). with_answer l c.args.answer) c.line_mut.ensures.value));
+        states =
+            heard_in_room (states_of s.monitor) (states_of c.make_room.new.self) (states_of c.follow.new.self) c.make_room.ensures.same (line t r) d
+            (map_answer name_of c.args.answer) (c.unexplained.ensures.none c.in_default-unexplained.is t d knows) (c.follow.ensures (line t r) d knows);
+      };
     }
-
-pub returns-in-Ok-hear-clause-has : goal.returns-in-Ok-hear-clause-has
-returns-in-Ok-hear-clause-has g c = λ call d first is.
-    let s = c.args.self.now in
-    let t = c.args.thread in
-    let r = c.args.rm in
-    let may = may_tell s t r (sym c.line_refusal.ensures ∙ c.in_default.is) in
-    let waits : slice_get (line_at s.lines t r).calls.waiting 0 ≡ Some c.copy-call.result =
-    ap (λ (l : Traffic). slice_get l.calls.waiting 0) (sym c.line.ensures.value) ∙ sym c.front.ensures ∙ ap option_copied c.in-Some-front.is
-    ∙ ap (λ k. Some k) (sym c.copy-call.ensures)
-    in
-    let knows : known c.copy-call.result ≡ Some d = subst (λ k. known k ≡ Some d) (some_is _ _ (sym first ∙ waits)) is in
-    has_answer (map_call name_of c.copy-call.result) (map_answer name_of c.args.answer) d (sym c.can_hear.ensures ∙ c.if-not-can_hear.false) knows
 
 pub returns-in-Err-clause-ready : goal.returns-in-Err-clause-ready
 returns-in-Err-clause-ready g c =
@@ -118,7 +112,7 @@ returns-in-Err-clause-ready g c =
     (c.in-Err.ensures.err may.up knows.0 knows.1)
 
 pub returns-in-Err-clause-err : goal.returns-in-Err-clause-err
-returns-in-Err-clause-err g c = λ n e none call d first is.
+returns-in-Err-clause-err g c = λ n e none d front.
     let s = c.args.self.now in
     let t = c.args.thread in
     let r = c.args.rm in
@@ -128,13 +122,13 @@ returns-in-Err-clause-err g c = λ n e none call d first is.
     ∙ ap (λ k. Some k) (sym c.copy-call.ensures)
     in
     let same : c.in-Err.refusal ≡ n = cc in
-    let knows : known c.copy-call.result ≡ Some d = subst (λ k. known k ≡ Some d) (some_is _ _ (sym first ∙ waits)) is in
+    let knows : known c.copy-call.result ≡ Some d = subst (λ k. known k ≡ Some d) (some_is _ _ (sym front.1 ∙ waits)) front.2 in
     let doubt = doubt_of (record_of d (map_answer name_of c.args.answer)) in
     subst (λ m. FailsBy doubt (InHear (line t r)) (book_in s.manager) (book_in m) n) (sym c.conclude.ensures.manager)
     (subst (FailsBy doubt (InHear (line t r)) (book_in s.manager) (book_in c.hear.new.self)) same (c.in-Err.ensures.err may.up d knows))
 
-pub returns-in-Err-clause-explained_first : goal.returns-in-Err-clause-explained_first
-returns-in-Err-clause-explained_first g c = λ n e none q some d is.
+pub returns-in-Err-clause-explained : goal.returns-in-Err-clause-explained
+returns-in-Err-clause-explained g c = λ fit not q some d is.
     let s = c.args.self.now in
     let t = c.args.thread in
     let r = c.args.rm in

@@ -5,6 +5,7 @@ use Rattle.xa_system.specs.SystemView.{Observes, observes}
 use Rattle.xa_system.proofs.Histories.Start.{back_again, new_may_restart, new_sound, not_both, origin_same, starts_clear, starts_old, starts_right, starts_up}
 use Rattle.xa_model.specs.Protocol.{RightOrigin}
 use Rattle.xa_system.specs.Parts.{Sees, sees}
+use Rattle.xa_tm.specs.Calls.{log_in}
 use Rattle.xa_tm.specs.Slots.{slot_moment}
 use Rattle.xa_tm.specs.declared.slot.Slot.{Slot}
 use Rattle.xa_system.proofs.Log.Changes.{slot_durable}
@@ -66,24 +67,28 @@ returns-clause-not_clear g c size un =
     let clear = rw c.as_slice.ensures.value at (c.if-not-are_clear.ensures.clear refl) in
     absurd (not_both see.look c.args.rms.items clear un)
 
-pub returns-in-Ok-start_parts-clause-near : goal.returns-in-Ok-start_parts-clause-near
-returns-in-Ok-start_parts-clause-near g c order h =
-    let see : Sees g.row.R.Denot (Slot g.row.L.Denot) =
-    sees g.R.ResourceManager.look (slot_moment g.L.DecisionLog.moment) in
-    let made = c.in-Ok-start_parts.ensures in
-    new_may_restart see g.L.DecisionLog.moment c.args.threads c.args.rms.items c.in-Ok-start_parts.parts made.parts made.manager c.args.log made.log _
-    (invariant_of-result g c) refl order h
-
-pub returns-in-Ok-start_parts-clause-crash : goal.returns-in-Ok-start_parts-clause-crash
-returns-in-Ok-start_parts-clause-crash g c order h =
+pub returns-in-Ok-start_parts-clause-log : goal.returns-in-Ok-start_parts-clause-log
+returns-in-Ok-start_parts-clause-log g c =
     let see : Sees g.row.R.Denot (Slot g.row.L.Denot) =
     sees g.R.ResourceManager.look (slot_moment g.L.DecisionLog.moment) in
     let moment = g.L.DecisionLog.moment in
     let made = c.in-Ok-start_parts.ensures in
-    let in_order = subst (λ l. (moment l).is_in_order) (sym c.of-handed.ensures) order in
-    follows_a_crash see moment _ (invariant_of-result g c) (slot_durable moment g.met.L.DecisionLog.durable)
-    (starts_up see moment c.args.threads c.args.rms.items c.in-Ok-start_parts.parts made.parts made.manager) in_order h
-    (returns-in-Ok-start_parts-clause-near g c order h)
+    let parts = c.in-Ok-start_parts.parts in
+    let sound = invariant_of-result g c in
+    let near = new_may_restart see moment c.args.threads c.args.rms.items parts made.parts made.manager c.args.log made.log _ sound refl in
+    record {
+      handed = c.of-handed.ensures;
+      first = c.of-first.ensures;
+      begun = ap log_in made.parts.began;
+      held = made.held;
+      honest = made.log.honest;
+      faults = made.log.faults;
+      past = made.past;
+      near = near;
+      crash = λ order h. follows_a_crash see moment _ sound (slot_durable moment g.met.L.DecisionLog.durable)
+          (starts_up see moment c.args.threads c.args.rms.items parts made.parts made.manager)
+          (subst (λ l. (moment l).is_in_order) (sym c.of-handed.ensures) order) h (near order h);
+    }
 
 pub returns-in-Err-Log-clause-not_clear : goal.returns-in-Err-Log-clause-not_clear
 returns-in-Err-Log-clause-not_clear g c size un =

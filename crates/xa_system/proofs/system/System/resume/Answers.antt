@@ -108,21 +108,25 @@ returns-clause-follows g c order h =
     (records_begun parts.manager) (moment c.args.log).content made.manager.apart
     (starts_over_log see moment c.args.threads rms parts made.parts made.manager c.args.log made.log order h))
 
-pub returns-clause-near : goal.returns-clause-near
-returns-clause-near g c order h =
-    let see : Sees g.row.R.Denot (Slot g.row.L.Denot) =
-    sees g.R.ResourceManager.look (slot_moment g.L.DecisionLog.moment) in
-    let made = c.in-Ok-start_parts.ensures in
-    new_may_restart see g.L.DecisionLog.moment c.args.threads c.crash_rms.new.rms.items c.in-Ok-start_parts.parts made.parts made.manager c.args.log
-    made.log _ (invariant_of-result g c) refl order h
-
-pub returns-clause-crash : goal.returns-clause-crash
-returns-clause-crash g c order h =
+pub returns-clause-log : goal.returns-clause-log
+returns-clause-log g c =
     let see : Sees g.row.R.Denot (Slot g.row.L.Denot) =
     sees g.R.ResourceManager.look (slot_moment g.L.DecisionLog.moment) in
     let moment = g.L.DecisionLog.moment in
     let made = c.in-Ok-start_parts.ensures in
-    let in_order = subst (λ l. (moment l).is_in_order) (sym c.of-handed.ensures) order in
-    follows_a_crash see moment _ (invariant_of-result g c) (slot_durable moment g.met.L.DecisionLog.durable)
-    (starts_up see moment c.args.threads c.crash_rms.new.rms.items c.in-Ok-start_parts.parts made.parts made.manager) in_order h
-    (returns-clause-near g c order h)
+    let parts = c.in-Ok-start_parts.parts in
+    let sound = invariant_of-result g c in
+    let near = new_may_restart see moment c.args.threads c.crash_rms.new.rms.items parts made.parts made.manager c.args.log made.log _ sound refl in
+    record {
+      handed = c.of-handed.ensures;
+      first = c.of-first.ensures;
+      begun = ap log_in made.parts.began;
+      held = made.held;
+      honest = made.log.honest;
+      faults = made.log.faults;
+      past = made.past;
+      near = near;
+      crash = λ order h. follows_a_crash see moment _ sound (slot_durable moment g.met.L.DecisionLog.durable)
+          (starts_up see moment c.args.threads c.crash_rms.new.rms.items parts made.parts made.manager)
+          (subst (λ l. (moment l).is_in_order) (sym c.of-handed.ensures) order) h (near order h);
+    }

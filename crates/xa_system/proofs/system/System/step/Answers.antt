@@ -1,4 +1,4 @@
-use Rattle.std.proofs.Common.{◌≡◌, false, Some, None, refl, subst, sym, ap, ◌∙◌}
+use Rattle.std.proofs.Common.{◌≡◌, false, Some, None, refl, subst, sym, ap, ◌∙◌, ⊎_elim}
 use Rattle.xa_model.specs.Replies.Allowed.{Allowed}
 use Rattle.xa_model.specs.Replies.History.{reply_of, step_of}
 use Rattle.xa_model.specs.Replies.Steps.{happened, log_failed}
@@ -87,50 +87,40 @@ pub returns-clause-nothing : goal.returns-clause-nothing
 returns-clause-nothing g c n is other =
     ap (λ r. happened (step_of c.args.step) (reply_of r)) is ∙ refused_as_nothing n (step_of c.args.step) other
 
-pub returns-clause-down : goal.returns-clause-down
-returns-clause-down g c is =
-    let see = observes g.R.ResourceManager.look g.L.DecisionLog.moment in
-    down_after _ _ c.self.inside c.step.new.self c.push_reserved.new.self c.args.step c.step.result c.split-reply.result.1 c.self.invariant c.step.ensures.goes
-    (ap (λ p. p.1) c.split-reply.ensures) (rw c.len.ensures at c.if-len-ge-EVENT_LIMIT.false) c.push_reserved.ensures.items
-    (sym (ap (λ p. p.0) c.split-reply.ensures) ∙ is)
-
 pub returns-clause-failed : goal.returns-clause-failed
 returns-clause-failed g c is =
     let see = observes g.R.ResourceManager.look g.L.DecisionLog.moment in
-    subst (λ v. (see.moment v.handed).is_in_order → (see.place (log_in c.step.new.self.manager)).is_honest
-    → MayHaveFailed (trace_in see.look v) (log_failed (step_of c.args.step)) (see.place v.log).content
-    (see.place (log_in c.step.new.self.manager)).content) c.self.view_is
-    (failed_so _ _ c.self.inside c.step.new.self c.args.step c.step.result c.self.invariant c.step.ensures.goes
-    (rw c.len.ensures at c.if-len-ge-EVENT_LIMIT.false) (sym (ap (λ p. p.0) c.split-reply.ensures) ∙ is))
+    let told = sym (ap (λ p. p.0) c.split-reply.ensures) ∙ is in
+    record {
+      down = down_after _ _ c.self.inside c.step.new.self c.push_reserved.new.self c.args.step c.step.result c.split-reply.result.1 c.self.invariant c.step.ensures.goes
+          (ap (λ p. p.1) c.split-reply.ensures) (rw c.len.ensures at c.if-len-ge-EVENT_LIMIT.false) c.push_reserved.ensures.items told;
+      left = subst (λ v. (see.moment v.handed).is_in_order → (see.place (log_in c.step.new.self.manager)).is_honest
+          → MayHaveFailed (trace_in see.look v) (log_failed (step_of c.args.step)) (see.place v.log).content
+          (see.place (log_in c.step.new.self.manager)).content) c.self.view_is
+          (failed_so _ _ c.self.inside c.step.new.self c.args.step c.step.result c.self.invariant c.step.ensures.goes
+          (rw c.len.ensures at c.if-len-ge-EVENT_LIMIT.false) told);
+    }
 
-pub returns-clause-out : goal.returns-clause-out
-returns-clause-out g c none is few down =
+pub returns-clause-no_restart : goal.returns-clause-no_restart
+returns-clause-no_restart g c is few down =
     let see = observes g.R.ResourceManager.look g.L.DecisionLog.moment in
     let same = ap (λ p. p.0) c.split-reply.ensures in
+    let then = trace_in see.look (view_of c.self.inside) in
     let allowed = was_allowed _ _ c.self.inside c.step.new.self c.args.step c.step.result c.self.invariant c.step.ensures.goes
     (rw c.len.ensures at c.if-len-ge-EVENT_LIMIT.false) in
-    subst IsFailed (sym same)
-    (not_restarted (trace_in see.look (view_of c.self.inside)) c.step.result
-    (subst (λ s. Allowed (trace_in see.look (view_of c.self.inside)) (step_of s) (reply_of c.step.result)) is allowed)
-    (subst (λ v. up (trace_in see.look v) ≡ false) (sym c.self.view_is) down)
+    let as_restart = subst (λ s. Allowed then (step_of s) (reply_of c.step.result)) is allowed in
+    let was_down = subst (λ v. up (trace_in see.look v) ≡ false) (sym c.self.view_is) down in
+    ⊎_elim
+    (λ none. subst IsFailed (sym same) (not_restarted then c.step.result as_restart was_down
     (λ i d h restarted. empty_fails g.L.DecisionLog.says _ _ (log_held (log_in c.self.inside.parts.manager)) _
-    (subst (λ v. log_held v.log ≡ None) (sym c.self.view_is) none) (c.step.ensures.read i d h is restarted).rows))
-
-pub returns-clause-other_incarnation : goal.returns-clause-other_incarnation
-returns-clause-other_incarnation g c content is few down order honest holds other =
-    let see = observes g.R.ResourceManager.look g.L.DecisionLog.moment in
-    let same = ap (λ p. p.0) c.split-reply.ensures in
-    let allowed = was_allowed _ _ c.self.inside c.step.new.self c.args.step c.step.result c.self.invariant c.step.ensures.goes
-    (rw c.len.ensures at c.if-len-ge-EVENT_LIMIT.false) in
-    let as_restart = subst (λ s. Allowed (trace_in see.look (view_of c.self.inside)) (step_of s) (reply_of c.step.result)) is allowed in
-    let in_order = c.self.invariant.log.order (subst (λ v. (see.moment v.handed).is_in_order) (sym c.self.view_is) order) in
-    let held = subst (λ v. (see.place v.log).content ≡ Some content) (sym c.self.view_is) holds in
-    subst IsFailed (sym same)
-    (not_restarted (trace_in see.look (view_of c.self.inside)) c.step.result as_restart
-    (subst (λ v. up (trace_in see.look v) ≡ false) (sym c.self.view_is) down)
-    (λ i d h restarted. subst (λ v. IsBeforeNext (trace_in see.look v) content → ⊥) (sym c.self.view_is) other
-    (followed (trace_in see.look (view_of c.self.inside)) c.step.result as_restart i d h restarted content
-    (found_in (see.place (log_in c.self.inside.parts.manager)).content content i d h held ((c.step.ensures.read i d h is restarted).found in_order honest)))))
+    (subst (λ v. log_held v.log ≡ None) (sym c.self.view_is) none) (c.step.ensures.read i d h is restarted).rows)))
+    (λ holds.
+    let in_order = c.self.invariant.log.order (subst (λ v. (see.moment v.handed).is_in_order) (sym c.self.view_is) holds.order) in
+    let held = subst (λ v. (see.place v.log).content ≡ Some holds.content) (sym c.self.view_is) holds.holds in
+    subst IsFailed (sym same) (not_restarted then c.step.result as_restart was_down
+    (λ i d h restarted. subst (λ v. IsBeforeNext (trace_in see.look v) holds.content → ⊥) (sym c.self.view_is) holds.other
+    (followed then c.step.result as_restart i d h restarted holds.content
+    (found_in (see.place (log_in c.self.inside.parts.manager)).content holds.content i d h held ((c.step.ensures.read i d h is restarted).found in_order holds.honest))))))
 
 pub returns-then-len-ge-EVENT_LIMIT-clause-log :
     goal.returns-then-len-ge-EVENT_LIMIT-clause-log
