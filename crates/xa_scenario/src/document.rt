@@ -1,6 +1,6 @@
 //! A scenario file as a whole.
 
-ghost use Rattle.std.specs.Prelude.{◌≡◌, IfOk, Ok, OnOk, ◌+◌, [], map, option_map};
+ghost use Rattle.std.specs.Prelude.{◌≡◌, IfErr, IfOk, Ok, OnOk, ◌+◌, [], map, option_map};
 ghost use Rattle.std.specs.Result.{result_ok};
 ghost use Rattle.std.specs.String.{string_bytes};
 ghost use Rattle.toml.specs.View.{view, table_view, items_view};
@@ -9,7 +9,7 @@ ghost use Rattle.xa_scenario.specs.Headers.{header_at};
 ghost use Rattle.xa_files.specs.Documents.{size_at, tables_at};
 ghost use Rattle.xa_scenario.specs.Scenarios.{IsSize, IsSized, plan_of, entry_at, entry_in, name_in, entries_from, header_of, scenario_in, scenario_of};
 ghost use Rattle.xa_files.specs.Reading.{Gives};
-ghost use Rattle.xa_files.specs.Refusals.{Reads};
+ghost use Rattle.xa_files.specs.Refusals.{Reads, fault_of};
 ghost use Rattle.xa_files.specs.Documents.{document_of};
 ghost use Rattle.xa_files.specs.TablesInTurn.{EachIsRead, FirstIsFaulty, FaultsAreOfTexts};
 ghost use Rattle.xa_files.specs.declared.fault.RunFault.TheVariants.{Step};
@@ -100,8 +100,9 @@ fn entry_in<'a>(number: usize, begun: &[&str], value: &'a Value) -> Result<Entry
 
 /// The same, with where it is wrong.
 fn entry_at<'a>(number: usize, begun: &[&str], value: &'a Value) -> Result<Entry, Refusal<'a>>
-    ensures { Reads (λ entry. entry) result
+    ensures entry { Reads (λ entry. entry) result
         (entry_at number (map (λ name. name.now) begun.now) (view value.now)) }
+    ensures step { IfErr result (λ refusal. fault_of refusal ≡ Step number) }
 {
     match entry_in(number, begun, value) {
         Ok(entry) => Ok(entry),

@@ -18,7 +18,7 @@ returns-in_err-entry_at c =
     rw (p.1, p.2) (fails_on fault (entry_at (c.loop-i.i + 1) names (view c.index-items-i.result)) all
     (λ is. stops c.loop-i.entries.items fault (c.loop-i.i + 1) names c.args.items.now c.loop-i.i c.index-items-i.result all
     c.loop-i-test.true c.index-items-i.is is c.loop-i.invariant)
-    (rw (← c.deref.ensures.value) c.in_err-entry_at.ensures))
+    (rw (← c.deref.ensures.value) c.in_err-entry_at.ensures.entry))
 
 pub loop-i-preserved : goal.loop-i-preserved
 loop-i-preserved c =
@@ -32,7 +32,7 @@ loop-i-preserved c =
     ] in
     rw (grown, ← begun) (goes_on c.loop-i.entries.items c.in_ok-entry_at.field-0 (c.loop-i.i + 1) names c.args.items.now c.loop-i.i c.index-items-i.result
     (entries_from 1 (map string_bytes c.args.names.now) (items_view c.args.items.now))
-    c.loop-i-test.true c.index-items-i.is (rw (← c.deref.ensures.value) c.in_ok-entry_at.ensures) c.loop-i.invariant)
+    c.loop-i-test.true c.index-items-i.is (rw (← c.deref.ensures.value) c.in_ok-entry_at.ensures.entry) c.loop-i.invariant)
 
 pub returns : goal.returns
 returns c =
