@@ -1,13 +1,16 @@
 -- What a history forces is the lower of what the manager finds and what the others do.
-use Rattle.std.proofs.Common.{◌≡◌, ℕ, List, [], ◌∷◌, Bool, true, false, ◌&&◌, Some, refl, sym, ap, arith}
+use Rattle.std.proofs.Common.{◌≡◌, ℕ, List, [], ◌∷◌, Bool, true, false, ◌&&◌, Some, refl, sym, ap, ◌∙◌, arith}
 use Rattle.std.specs.Prelude.{if◌then◌else◌, nat_le, nat_lt}
 use Rattle.std.proofs.lemmas.Bool.{and_parts}
 use Rattle.xa_base.specs.Refusal.{refusal_number}
-use Rattle.xa_model.specs.Replies.Rules.{applies, first_of, is_there, must_refuse, rules}
+use Rattle.xa_model.specs.Replies.Guards.{is_there}
+use Rattle.xa_model.specs.Replies.Rules.{applies, first_of, must_refuse, rules}
+use Rattle.xa_model.specs.Replies.View.{view_of}
 use Rattle.xa_model.specs.Replies.Steps.{Step}
 use Rattle.xa_model.specs.Trace.{Trace}
 use Rattle.xa_base.specs.declared.refusal.Refusal.{Refusal}
 use Rattle.xa_base.specs.declared.refusal.Refusal.TheVariants as Refusals
+use Rattle.xa_model.proofs.Replies.Guards.{refused_in_order_is}
 use Rattle.xa_tm.specs.RefusalOrder.{lower, other_rules}
 use Rattle.xa_tm.specs.Refusing.{manager_rules}
 
@@ -102,5 +105,6 @@ merged t =
     (left t Refusals.Limit ([]) ([]) ([]) refl refl)))))))))))))
 
 pub merged_is : (tr : Trace) (s : Step)
-    → must_refuse tr s ≡ (if is_there tr s then lower (first_of (applies tr s) manager_rules) (first_of (applies tr s) other_rules) else Some Refusals.Limit)
-merged_is tr s = ap (λ x. if is_there tr s then x else Some Refusals.Limit) (merged (applies tr s))
+    → must_refuse tr s
+    ≡ (if is_there (view_of tr) s then lower (first_of (applies tr s) manager_rules) (first_of (applies tr s) other_rules) else Some Refusals.Limit)
+merged_is tr s = refused_in_order_is tr s ∙ ap (λ x. if is_there (view_of tr) s then x else Some Refusals.Limit) (merged (applies tr s))
