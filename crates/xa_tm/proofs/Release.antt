@@ -289,11 +289,11 @@ module _ (gone : Gtrid → Bool) (k : Book) (ts : Gtrid → TransactionNotes) (n
   gone_refused (Steps.Issue t r (Calls.Commit (Ours b) false)) n = unknown_so _ _ _ (is_unknown_row b.gtrid n)
   gone_refused (Steps.Issue t r (Calls.Rollback (Ours b))) n = unknown_so _ _ _ (is_unknown b.gtrid n)
   gone_refused (Steps.Issue t r (Calls.Forget (Ours b))) n = unknown_so _ _ _ (is_unknown b.gtrid n)
-  gone_refused (Steps.Decide g o) n = unknown_so _ _ _ (is_unknown g n)
-  gone_refused (Steps.Claim g) n = unknown_so _ _ _ (is_unknown g n)
-  gone_refused (Steps.Settle g) n = unknown_so _ _ _ (is_unknown g n)
-  gone_refused (Steps.Abandon g) n = unknown_so _ _ _ (is_unknown g n)
-  gone_refused (Steps.Done g) n = unknown_so _ _ _ (is_unknown_row g n)
+  gone_refused (Steps.Decide g o) n = unknown_so true _ _ (is_unknown g n)
+  gone_refused (Steps.Claim g) n = unknown_so true _ _ (is_unknown g n)
+  gone_refused (Steps.Settle g) n = unknown_so true _ _ (is_unknown g n)
+  gone_refused (Steps.Abandon g) n = unknown_so true _ _ (is_unknown g n)
+  gone_refused (Steps.Done g) n = unknown_so true _ _ (is_unknown_row g n)
   gone_refused _ n = absurd (cc)
 
   refuses_no_more : (s : Step) → refusal_in k s ≡ None → refusal_in full s ≡ None

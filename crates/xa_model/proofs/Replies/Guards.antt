@@ -1,9 +1,11 @@
 -- What the table of refusals says: its refusals come in the order of their numbers, and where none applies each guard is passed.
-use Rattle.std.proofs.Common.{◌≡◌, List, [], ◌∷◌, ◌++◌, Bool, true, false, not, refl, sym, ap, ◌∙◌, subst}
-use Rattle.std.specs.Prelude.{if◌then◌else◌, nat_eq, Option, Some, None}
+use Rattle.std.proofs.Common.{◌≡◌, ℕ, List, [], ◌∷◌, ◌++◌, Bool, true, false, refl, sym, ap, ◌∙◌, subst}
+use Rattle.std.specs.Prelude.{if◌then◌else◌, nat_eq, nat_le, Option, Some, None}
 use Rattle.std.specs.Option.{option_or}
 use Rattle.xa_base.specs.Refusal.{refusal_number}
+use Rattle.xa_base.specs.declared.call.Call as Called
 use Rattle.xa_base.specs.declared.call.Call.TheVariants as Calls
+use Rattle.xa_base.specs.declared.limits.TheConstants.{LINE_LIMIT}
 use Rattle.xa_base.specs.declared.step.Part.TheVariants as Part
 use Rattle.xa_base.specs.declared.step.Side.TheVariants as Side
 use Rattle.xa_base.specs.declared.step.Step.TheVariants as Steps
@@ -11,7 +13,7 @@ use Rattle.xa_model.specs.Replies.Guards.{Guard, first_guard, guards, is_there, 
 use Rattle.xa_model.specs.Replies.Rules.{applies, first_of, is_among, must_refuse, refused_in_order, rules}
 use Rattle.xa_model.specs.Replies.Steps.{Refusal, Step}
 use Rattle.xa_model.specs.Replies.View.{View, view_of}
-use Rattle.xa_model.specs.Trace.{Name.Foreign, Name.Ours, Trace}
+use Rattle.xa_model.specs.Trace.{Name, Name.Foreign, Name.Ours, Trace, line}
 
 -- ** the order
 
@@ -78,6 +80,24 @@ first_guard-append (x ∷ xs) ys = by_test x.1 (first_guard-append xs ys)
         → (if t then Some x.0 else first_guard (xs ++ ys)) ≡ option_or (if t then Some x.0 else first_guard xs) (first_guard ys)
     by_test true e = refl
     by_test false e = e
+
+-- whether a line is full, is asked of each call alike
+pub full_among : (v : View) (t r : ℕ) (call : Called.Call Name)
+    → is_among Refusal.Full (guards v (Steps.Issue t r call)) ≡ nat_le LINE_LIMIT (v.lines.waiting (line t r))
+full_among v t r (Calls.Start (Ours b) join) = refl
+full_among v t r (Calls.Start (Foreign x) join) = refl
+full_among v t r (Calls.End (Ours b) fail) = refl
+full_among v t r (Calls.End (Foreign x) fail) = refl
+full_among v t r (Calls.Prepare (Ours b)) = refl
+full_among v t r (Calls.Prepare (Foreign x)) = refl
+full_among v t r (Calls.Commit (Ours b) true) = refl
+full_among v t r (Calls.Commit (Ours b) false) = refl
+full_among v t r (Calls.Commit (Foreign x) one_phase) = refl
+full_among v t r (Calls.Rollback (Ours b)) = refl
+full_among v t r (Calls.Rollback (Foreign x)) = refl
+full_among v t r (Calls.Forget (Ours b)) = refl
+full_among v t r (Calls.Forget (Foreign x)) = refl
+full_among v t r _ = refl
 
 -- ** the refusal that applies
 

@@ -111,7 +111,7 @@ left_is : (tr : Trace) (l : Line) (bs : List Branch) → has_unfinished tr l bs 
 left_is tr l [] = refl
 left_is tr l (b ∷ bs) = ap (λ t. (line_eq (line_of b) l && (on_line tr b && not (finished tr b))) || t) (left_is tr l bs)
 
-unfinished_is : (tr : Trace) (l : Line) → list_any (is_unfinished (book_of tr) l) (items (from_list (branches tr))) ≡ has_unfinished tr l (branches tr)
+unfinished_is : (tr : Trace) (l : Line) → list_any (is_unfinished (book_of tr) l) (items (book_of tr).known) ≡ has_unfinished tr l (branches tr)
 unfinished_is tr l = sym (set_any (is_unfinished (book_of tr) l) (branches tr)) ∙ sym (left_is tr l (branches tr))
 
 -- ** what a refusal looks at

@@ -1,5 +1,5 @@
 -- Calls on branches of this manager.
-use Rattle.std.proofs.Common.{false, ◌≡◌, ℕ, [], ◌∷◌, Bool, true, not, ◌&&◌, Option, Some, None, Result, Ok, Err, OnOk, refl, sym, ap, ◌∙◌, subst}
+use Rattle.std.proofs.Common.{false, ◌≡◌, ◌<◌, ℕ, [], ◌∷◌, Bool, true, not, ◌&&◌, Option, Some, None, Result, Ok, Err, OnOk, refl, sym, ap, ◌∙◌, subst, arith}
 use Rattle.std.specs.Prelude.{if◌then◌else◌, nat_lt}
 use Rattle.xa_base.specs.declared.call.Call.TheVariants as Calls
 use Rattle.xa_base.specs.declared.step.Step.TheVariants as Steps
@@ -33,6 +33,16 @@ issue_refusal k t r asked = λ i. if nat_lt t k.threads && nat_lt r k.rms then (
     else (if and-false (not (opens asked)) i then Some Refusals.NotOpen
     else (first_guard-append (call_guards (view_in k) t r asked) ((Refusals.Full, false) ∷ []) ∙ or_none _) i))
     else Some Refusals.Limit
+
+there : (t n r m : ℕ) → t < n → r < m → (nat_lt t n && nat_lt r m) ≡ true
+there t n r m a b = grind arith
+
+pub asked_there : (k : Book) (t r : ℕ) (asked : Asked) (result : Option Refusal) → t < k.threads → r < k.rms → k.up ≡ true
+    → result ≡ first_guard (call_guards (view_in k) t r asked) → result ≡ refusal_in k (Steps.Issue t r asked)
+asked_there k t r asked result thread rm up found =
+    found
+    ∙ sym (issue_refusal k t r asked ∙ λ i. if there t k.threads r k.rms thread rm i then (if not (up i) then Some Refusals.ManagerDown
+    else first_guard (call_guards (view_in k) t r asked)) else Some Refusals.Limit)
 
 -- what a branch's guards say of a call is what the call's say
 pub asked_ours : (v : View) (t r : ℕ) (asked : Asked) (kind : Kind) (x : Xid) (b : Branch) (result : Option Refusal)
