@@ -29,7 +29,7 @@ use Rattle.xa_model.specs.Replies.Steps.{Step}
 use Rattle.xa_model.specs.Trace.{Answer, Call, Happening, Happening.Begun, Happening.Issued, Happening.Heard, Happening.Decided, Happening.Done, Happening.Crashed, Happening.Failed, Happening.ResolvedOpen, Happening.Restarted, Line, Name, Name.Ours, Name.Foreign, line, line_eq, line_of}
 use Rattle.xa_tm.specs.Book.{Book, TransactionNotes, Doubt, Doubt.Records, Doubt.NoDoubt, Notes, Waiting, after, book_after, transaction_after, doubt_of, incarnation_after, is_unsettled_in, known_after, lacks_vote_in, notes_after, recorded_after, records_after, records_with, row_after, rows_after, sequence_after, voted_yes, with_answer, with_branch}
 use Rattle.xa_tm.specs.Counts.{is_counted, settler, voter}
-use Rattle.xa_tm.specs.Refusing.{is_settled_lately_in, is_unfinished, live_in, outlived_in, refusal_in, resolved_in, resolved_open_in, resolving_calls_in, resolving_kind_in, row_settled_in, view_in, waits_for_none}
+use Rattle.xa_tm.specs.Refusing.{at_rest, is_settled_lately_in, is_unfinished, live_in, outlived_in, refusal_in, resolved_in, resolved_open_in, resolving_calls_in, resolving_kind_in, row_settled_in, view_in, waits_for_none}
 use Rattle.xa_tm.specs.Release.{BooksAreWhole, HasReleased, IsOver, MayFollow, OneMoreIsReleased, OthersAreRefusedAlike, RecoveriesAreAlike, ReleasedAreSound, ReleasedAreUnknown, RowsAreOwn, WholesFollow, WholesRefuseNoMore, book_without, names_one_of, unknown_in, was_given}
 use Rattle.xa_tm.specs.Starting.{no_notes, no_transaction_notes}
 use Rattle.xa_tm.proofs.History.Members.{passes_among, witness}
@@ -228,7 +228,7 @@ module _ (gone : Gtrid → Bool) (k : Book) (ts : Gtrid → TransactionNotes) (n
 
   others_alike : (s : Step) → names_one_of gone s ≡ false → refusal_in k s ≡ refusal_in full s
   others_alike (Steps.Issue t r Calls.CloseRm) n =
-      ap (λ u. refusal_of (record (view_in k) { has_unfinished = λ l. u }) (Steps.Issue t r Calls.CloseRm)) (unfinished_alike (line t r))
+      ap (λ u. refusal_of (record (view_in k) { has_unfinished = λ l. u }) at_rest (Steps.Issue t r Calls.CloseRm)) (unfinished_alike (line t r))
   others_alike (Steps.Issue t r (Calls.Start (Ours b) join)) n =
       λ i. refusal_in (noting (noted_as b.gtrid n i) (branch_noted_as b n i)) (Steps.Issue t r (Calls.Start (Ours b) join))
   others_alike (Steps.Issue t r (Calls.End (Ours b) fail)) n =
@@ -248,7 +248,7 @@ module _ (gone : Gtrid → Bool) (k : Book) (ts : Gtrid → TransactionNotes) (n
   others_alike (Steps.Settle g) n = λ i. refusal_in (noting (noted_as g n i) no_notes) (Steps.Settle g)
   others_alike (Steps.Abandon g) n = λ i. refusal_in (noting (noted_as g n i) no_notes) (Steps.Abandon g)
   others_alike (Steps.Done g) n =
-      λ i. refusal_of (record (view_in (noting (noted_as g n i) no_notes)) { row_settled = λ h. settled_alike g n i }) (Steps.Done g)
+      λ i. refusal_of (record (view_in (noting (noted_as g n i) no_notes)) { row_settled = λ h. settled_alike g n i }) at_rest (Steps.Done g)
   others_alike _ n = refl
 
   -- ** refusals of a step that names one of those that are gone

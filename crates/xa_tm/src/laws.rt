@@ -104,7 +104,7 @@ pub fn restarts_find_what_is_there()
 
 /// The refusals that are read off the book are those that the history forces:
 ///
-/// - `views`: what a refusal looks at is the same in the book of a right history and in the history;
+/// - `views`: the book of a right history says what a refusal looks at as the history does;
 /// - `read`: so the manager refuses a step by its book as the history has it refused;
 /// - `alone`: if a step asks the manager alone, these are all its refusals;
 /// - `merged`: else a step is refused with the lower of what the manager finds and what lines and resource managers find.

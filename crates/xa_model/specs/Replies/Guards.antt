@@ -12,7 +12,7 @@ use Rattle.xa_base.specs.declared.step.Part.TheVariants as Part
 use Rattle.xa_base.specs.declared.step.Side.TheVariants as Side
 use Rattle.xa_base.specs.declared.step.Step.TheVariants as Steps
 use Rattle.xa_model.specs.Replies.Steps.{Refusal, Step}
-use Rattle.xa_model.specs.Replies.View.{View}
+use Rattle.xa_model.specs.Replies.View.{LineView, View}
 use Rattle.xa_model.specs.Trace.{Gtrid, Branch, Name, Name.Foreign, Name.Ours, Outcome, line}
 
 -- a refusal, and whether it applies
@@ -87,13 +87,13 @@ call_guards v t r (Calls.Forget (Ours b)) =
 call_guards v t r c = (Refusal.UnknownTransaction, true) ∷ []
 
 -- what recovery on the first thread's line is refused for, where it would make so many calls
-abbrev pub recovery_guards : View → (rm calls : ℕ) → List Guard
-recovery_guards v r calls =
+abbrev pub recovery_guards : View → LineView → (rm calls : ℕ) → List Guard
+recovery_guards v l r calls =
     (Refusal.ManagerDown, not v.up)
-    ∷ (Refusal.RmDown, not (v.lines.rm_up r))
-    ∷ (Refusal.NotOpen, not (has_opened (v.lines.issued (line 0 r))))
-    ∷ (Refusal.Closed, has_closed (v.lines.issued (line 0 r)))
-    ∷ (Refusal.Full, nat_lt LINE_LIMIT (v.lines.waiting (line 0 r) + calls)) ∷ []
+    ∷ (Refusal.RmDown, not (l.rm_up r))
+    ∷ (Refusal.NotOpen, not (has_opened (l.issued (line 0 r))))
+    ∷ (Refusal.Closed, has_closed (l.issued (line 0 r)))
+    ∷ (Refusal.Full, nat_lt LINE_LIMIT (l.waiting (line 0 r) + calls)) ∷ []
 
 -- what the end of a claim is refused for
 abbrev pub conclusion_guards : View → Gtrid → List Guard
@@ -104,53 +104,53 @@ conclusion_guards v g =
     ∷ (Refusal.NotDecided, not (v.claimed g)) ∷ []
 
 -- what a script on a resource manager is refused for, where it has no sense if that is so
-abbrev pub script_guards : View → (rm : ℕ) → Bool → List Guard
-script_guards v r senseless = (Refusal.RmDown, not (v.lines.rm_up r)) ∷ (Refusal.Script, senseless) ∷ []
+abbrev pub script_guards : LineView → (rm : ℕ) → Bool → List Guard
+script_guards l r senseless = (Refusal.RmDown, not (l.rm_up r)) ∷ (Refusal.Script, senseless) ∷ []
 
 -- what a step is refused for
-abbrev pub guards : View → Step → List Guard
-guards v (Steps.Begin t) = (Refusal.ManagerDown, not v.up) ∷ (Refusal.Limit, nat_le BEGIN_LIMIT v.begins) ∷ []
-guards v (Steps.Issue t r c) =
+abbrev pub guards : View → LineView → Step → List Guard
+guards v l (Steps.Begin t) = (Refusal.ManagerDown, not v.up) ∷ (Refusal.Limit, nat_le BEGIN_LIMIT v.begins) ∷ []
+guards v l (Steps.Issue t r c) =
     (Refusal.ManagerDown, not v.up)
-    ∷ (Refusal.RmDown, not (v.lines.rm_up r))
-    ∷ (Refusal.NotOpen, comes_unopened (v.lines.issued (line t r)) c)
-    ∷ (Refusal.Closed, has_closed (v.lines.issued (line t r)))
-    ∷ (call_guards v t r c ++ (Refusal.Full, nat_le LINE_LIMIT (v.lines.waiting (line t r))) ∷ [])
-guards v (Steps.Take t r) = (Refusal.RmDown, not (v.lines.rm_up r)) ∷ (Refusal.Full, nat_le LINE_LIMIT (v.lines.unheard (line t r))) ∷ []
-guards v (Steps.Hear t r) = (Refusal.ManagerDown, not v.up) ∷ (Refusal.RmDown, not (v.lines.rm_up r)) ∷ []
-guards v (Steps.Vote r x vote) = script_guards v r (is_senseless (λ b. is_in_doubt (v.lines.standing b)) r x)
-guards v (Steps.Busy r x n) = script_guards v r (not (is_at r x))
-guards v (Steps.Heuristic r x how) = script_guards v r (is_senseless (λ b. not (is_prepared (v.lines.standing b))) r x)
-guards v (Steps.Decide g outcome) =
+    ∷ (Refusal.RmDown, not (l.rm_up r))
+    ∷ (Refusal.NotOpen, comes_unopened (l.issued (line t r)) c)
+    ∷ (Refusal.Closed, has_closed (l.issued (line t r)))
+    ∷ (call_guards v t r c ++ (Refusal.Full, nat_le LINE_LIMIT (l.waiting (line t r))) ∷ [])
+guards v l (Steps.Take t r) = (Refusal.RmDown, not (l.rm_up r)) ∷ (Refusal.Full, nat_le LINE_LIMIT (l.unheard (line t r))) ∷ []
+guards v l (Steps.Hear t r) = (Refusal.ManagerDown, not v.up) ∷ (Refusal.RmDown, not (l.rm_up r)) ∷ []
+guards v l (Steps.Vote r x vote) = script_guards l r (is_senseless (λ b. is_in_doubt (l.standing b)) r x)
+guards v l (Steps.Busy r x n) = script_guards l r (not (is_at r x))
+guards v l (Steps.Heuristic r x how) = script_guards l r (is_senseless (λ b. not (is_prepared (l.standing b))) r x)
+guards v l (Steps.Decide g outcome) =
     (Refusal.ManagerDown, not v.up)
     ∷ (Refusal.UnknownTransaction, not (v.begun g))
     ∷ (Refusal.Decided, v.is_shut g)
     ∷ (Refusal.Votes, commits outcome && not (v.all_voted g)) ∷ []
-guards v (Steps.Claim g) =
+guards v l (Steps.Claim g) =
     (Refusal.ManagerDown, not v.up)
     ∷ (Refusal.UnknownTransaction, not (v.begun g))
     ∷ (Refusal.Decided, v.is_shut g)
     ∷ (Refusal.Votes, not (v.all_voted g)) ∷ []
-guards v (Steps.Settle g) = conclusion_guards v g
-guards v (Steps.Abandon g) = conclusion_guards v g
-guards v (Steps.Recover r n start end) =
+guards v l (Steps.Settle g) = conclusion_guards v g
+guards v l (Steps.Abandon g) = conclusion_guards v g
+guards v l (Steps.Recover r n start end) =
     (Refusal.ManagerDown, not v.up)
-    ∷ (Refusal.RmDown, not (v.lines.rm_up r))
-    ∷ (Refusal.NotOpen, not (has_opened (v.lines.issued (line 0 r))))
-    ∷ (Refusal.Closed, has_closed (v.lines.issued (line 0 r)))
-    ∷ (Refusal.Full, nat_le LINE_LIMIT (v.lines.waiting (line 0 r))) ∷ []
-guards v (Steps.Resolve r) = recovery_guards v r (v.lines.resolving r)
-guards v (Steps.ResolveOpen r) = recovery_guards v r (v.lines.resolving_open r)
-guards v (Steps.Done g) =
+    ∷ (Refusal.RmDown, not (l.rm_up r))
+    ∷ (Refusal.NotOpen, not (has_opened (l.issued (line 0 r))))
+    ∷ (Refusal.Closed, has_closed (l.issued (line 0 r)))
+    ∷ (Refusal.Full, nat_le LINE_LIMIT (l.waiting (line 0 r))) ∷ []
+guards v l (Steps.Resolve r) = recovery_guards v l r (l.resolving r)
+guards v l (Steps.ResolveOpen r) = recovery_guards v l r (l.resolving_open r)
+guards v l (Steps.Done g) =
     (Refusal.ManagerDown, not v.up)
     ∷ (Refusal.UnknownTransaction, not (v.begun g || v.outlived g))
     ∷ (Refusal.NotDecided, not (v.has_row g))
     ∷ (Refusal.Busy, not (v.row_settled g)) ∷ []
-guards v (Steps.Crash (Part.Line t r)) = (Refusal.ManagerDown, not v.up) ∷ (Refusal.RmDown, not (v.lines.rm_up r)) ∷ []
-guards v (Steps.Crash (Part.Rm r)) = (Refusal.RmDown, not (v.lines.rm_up r)) ∷ []
-guards v (Steps.Crash Part.Manager) = (Refusal.ManagerDown, not v.up) ∷ []
-guards v (Steps.Restart (Side.Rm r)) = (Refusal.Busy, v.lines.rm_up r) ∷ []
-guards v (Steps.Restart Side.Manager) = (Refusal.Busy, v.up) ∷ []
+guards v l (Steps.Crash (Part.Line t r)) = (Refusal.ManagerDown, not v.up) ∷ (Refusal.RmDown, not (l.rm_up r)) ∷ []
+guards v l (Steps.Crash (Part.Rm r)) = (Refusal.RmDown, not (l.rm_up r)) ∷ []
+guards v l (Steps.Crash Part.Manager) = (Refusal.ManagerDown, not v.up) ∷ []
+guards v l (Steps.Restart (Side.Rm r)) = (Refusal.Busy, l.rm_up r) ∷ []
+guards v l (Steps.Restart Side.Manager) = (Refusal.Busy, v.up) ∷ []
 
 -- ** the refusal
 
@@ -175,7 +175,10 @@ is_there v (Steps.Crash (Part.Rm r)) = nat_lt r v.rms
 is_there v (Steps.Restart (Side.Rm r)) = nat_lt r v.rms
 is_there v _ = true
 
--- the refusal of a step, if there is one: the first guard that applies. A thread or a resource manager that the system hasn't is over its
--- limits
-abbrev pub refusal_of : View → Step → Option Refusal
-refusal_of v s = if is_there v s then first_guard (guards v s) else Some Refusal.Limit
+-- the first guard that applies, where what the step names is there: a thread or a resource manager that the system hasn't is over its limits
+abbrev pub refusal_by : (there : Bool) → List Guard → Option Refusal
+refusal_by there gs = if there then first_guard gs else Some Refusal.Limit
+
+-- the refusal of a step, if there is one
+abbrev pub refusal_of : View → LineView → Step → Option Refusal
+refusal_of v l s = refusal_by (is_there v s) (guards v l s)

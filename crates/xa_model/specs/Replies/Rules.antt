@@ -4,12 +4,12 @@ use Rattle.xa_base.specs.Refusal.{refusal_number}
 use Rattle.xa_model.specs.Facts.{origin}
 use Rattle.xa_model.specs.Replies.Guards.{Guard, guards, is_there, refusal_of}
 use Rattle.xa_model.specs.Replies.Steps.{Refusal, Step}
-use Rattle.xa_model.specs.Replies.View.{view_of}
+use Rattle.xa_model.specs.Replies.View.{lines_of, view_of}
 use Rattle.xa_model.specs.Trace.{Trace}
 
 -- the refusal that the history forces, if there is one
 abbrev pub must_refuse : Trace → Step → Option Refusal
-must_refuse tr s = refusal_of (view_of tr) s
+must_refuse tr s = refusal_of (view_of tr) (lines_of tr) s
 
 -- whether the system has the thread, and the resource manager
 abbrev pub has_thread : Trace → (thread : ℕ) → Bool
@@ -27,7 +27,7 @@ is_among n (g ∷ gs) = if nat_eq (refusal_number g.0) (refusal_number n) then g
 
 -- whether a refusal applies to a step
 abbrev pub applies : Trace → Step → Refusal → Bool
-applies tr s n = is_among n (guards (view_of tr) s)
+applies tr s n = is_among n (guards (view_of tr) (lines_of tr) s)
 
 -- the refusals that a history forces, by their numbers: all but LogFault and Memory
 abbrev pub rules : List Refusal

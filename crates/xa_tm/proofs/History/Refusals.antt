@@ -24,7 +24,7 @@ use Rattle.xa_base.proofs.BranchKeys.{gtrid_eq-refl}
 use Rattle.xa_log.specs.KeySet.{from_list, items}
 use Rattle.xa_tm.specs.Laws.{IsAlone, IsLookedAt}
 use Rattle.xa_tm.specs.Book.{book_of, row_in}
-use Rattle.xa_tm.specs.Refusing.{at_rest, has_row_in, is_settled_lately_in, is_shut_in, is_taken_up_in, is_unfinished, managers_refusal, managers_view, outlived_in, refusal_in, row_settled_in, view_in, waits_for_none}
+use Rattle.xa_tm.specs.Refusing.{at_rest, has_row_in, is_settled_lately_in, is_shut_in, is_taken_up_in, is_unfinished, managers_refusal, outlived_in, refusal_in, row_settled_in, view_in, waits_for_none}
 use Rattle.xa_tm.proofs.History.Counting.{count, but, one_less, none_counted, apart, counted_branches, counted_votes}
 use Rattle.xa_tm.proofs.History.Members.{set_any, set_each}
 use Rattle.xa_tm.proofs.History.OneMore.{has_record_is, lists_is}
@@ -116,7 +116,7 @@ unfinished_is tr l = sym (set_any (is_unfinished (book_of tr) l) (branches tr)) 
 
 -- ** what a refusal looks at
 
-pub view_is : (tr : Trace) → IsRun tr → view_in (book_of tr) ≡ managers_view tr
+pub view_is : (tr : Trace) → IsRun tr → view_in (book_of tr) ≡ view_of tr
 view_is tr r = λ i. record (view_of tr) {
   has_row = λ g. has_row_is tr g i;
   outlived = λ g. outlived_is tr g i;
@@ -127,12 +127,11 @@ view_is tr r = λ i. record (view_of tr) {
   is_only = λ b. only_is tr b r i;
   recorded = λ b. recorded_is tr b i;
   has_unfinished = λ l. unfinished_is tr l i;
-  lines = at_rest;
 }
 
 -- ** the refusal
 
-managers_is : (tr : Trace) (s : Step) → IsLookedAt s → refusal_of (managers_view tr) s ≡ managers_refusal tr s
+managers_is : (tr : Trace) (s : Step) → IsLookedAt s → refusal_of (view_of tr) at_rest s ≡ managers_refusal tr s
 managers_is tr (Steps.Begin t) i = refl
 managers_is tr (Steps.Issue t r Calls.OpenRm) i = refl
 managers_is tr (Steps.Issue t r Calls.CloseRm) i = refl
@@ -159,7 +158,7 @@ managers_is tr (Steps.Restart (Side.Rm r)) i = absurd i
 managers_is tr _ i = refl
 
 pub refusal_is : (tr : Trace) (s : Step) → IsRun tr → IsLookedAt s → refusal_in (book_of tr) s ≡ managers_refusal tr s
-refusal_is tr s r i = ap (λ v. refusal_of v s) (view_is tr r) ∙ managers_is tr s i
+refusal_is tr s r i = ap (λ v. refusal_of v at_rest s) (view_is tr r) ∙ managers_is tr s i
 
 -- what the manager alone is asked is refused as the manager's book says
 pub alone_is : (tr : Trace) (s : Step) → IsAlone s → must_refuse tr s ≡ managers_refusal tr s

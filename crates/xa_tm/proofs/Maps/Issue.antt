@@ -4,13 +4,14 @@ use Rattle.std.specs.Prelude.{if◌then◌else◌, nat_lt}
 use Rattle.xa_base.specs.declared.call.Call.TheVariants as Calls
 use Rattle.xa_base.specs.declared.step.Step.TheVariants as Steps
 use Rattle.std.proofs.Math.Bool.{and-false}
+use Rattle.std.specs.Option.{option_or}
 use Rattle.xa_base.proofs.Options.{or_none}
 use Rattle.xa_base.specs.Opening.{opens}
 use Rattle.xa_base.specs.StateTable.{on}
 use Rattle.xa_base.specs.Branch.{branch_of_xid}
 use Rattle.xa_model.specs.Replies.Steps.{accepted}
 use Rattle.xa_model.specs.Replies.History.{name_by, name_of}
-use Rattle.xa_model.specs.Replies.Guards.{call_guards, first_guard}
+use Rattle.xa_model.specs.Replies.Guards.{call_guards, first_guard, has_line, refusal_by, refusal_of}
 use Rattle.xa_model.specs.Replies.View.{View}
 use Rattle.xa_model.specs.Trace.{Kind, Name.Ours, Name.Foreign, Line, Call, Happening.Issued}
 use Rattle.xa_base.specs.Xid.{Xid}
@@ -20,19 +21,23 @@ use Rattle.xa_base.specs.declared.refusal.Refusal.TheVariants as Refusals
 use Rattle.xa_tm.specs.News.{Asked}
 use Rattle.xa_tm.specs.Answering.{branch_handed_over, branch_started}
 use Rattle.xa_tm.specs.Book.{Book, after}
-use Rattle.xa_tm.specs.Refusing.{refusal_in, view_in}
-use Rattle.xa_model.proofs.Replies.Guards.{first_guard-append}
+use Rattle.xa_tm.specs.Refusing.{at_rest, refusal_in, view_in}
+use Rattle.xa_model.proofs.Replies.Guards.{bar_of, issue_rule, none_refused, peel}
 use Rattle.xa_tm.proofs.History.OneMore.{book_is}
 
 -- a call is refused for what the call itself is refused for, on a line of the system and while the manager is up
-pub issue_refusal : (k : Book) (t r : ℕ) (asked : Asked)
-    → refusal_in k (Steps.Issue t r asked)
-    ≡ (if nat_lt t k.threads && nat_lt r k.rms then (if not k.up then Some Refusals.ManagerDown else first_guard (call_guards (view_in k) t r asked))
-    else Some Refusals.Limit)
-issue_refusal k t r asked = λ i. if nat_lt t k.threads && nat_lt r k.rms then (if not k.up then Some Refusals.ManagerDown
-    else (if and-false (not (opens asked)) i then Some Refusals.NotOpen
-    else (first_guard-append (call_guards (view_in k) t r asked) ((Refusals.Full, false) ∷ []) ∙ or_none _) i))
-    else Some Refusals.Limit
+pub issue_refusal : (v : View) (t r : ℕ) (asked : Asked)
+    → refusal_of v at_rest (Steps.Issue t r asked)
+    ≡ refusal_by (has_line v t r) ((Refusals.ManagerDown, not v.up) ∷ call_guards v t r asked)
+issue_refusal v t r asked =
+    issue_rule v at_rest t r asked
+    ∙ λ i. if has_line v t r then (if not v.up then Some Refusals.ManagerDown
+    else option_or (bar_of (and-false (not (opens asked)) i) false) (or_none (first_guard (call_guards v t r asked)) i)) else Some Refusals.Limit
+
+-- the manager refuses no call that may be issued for what it is itself
+pub none_of_call : (k : Book) (t r : ℕ) (asked : Asked) → refusal_in k (Steps.Issue t r asked) ≡ None → first_guard (call_guards (view_in k) t r asked) ≡ None
+none_of_call k t r asked none =
+    (peel (not k.up) Refusals.ManagerDown _ (none_refused (has_line (view_in k) t r) _ (sym (issue_refusal (view_in k) t r asked) ∙ none))).1
 
 there : (t n r m : ℕ) → t < n → r < m → (nat_lt t n && nat_lt r m) ≡ true
 there t n r m a b = grind arith
@@ -41,8 +46,8 @@ pub asked_there : (k : Book) (t r : ℕ) (asked : Asked) (result : Option Refusa
     → result ≡ first_guard (call_guards (view_in k) t r asked) → result ≡ refusal_in k (Steps.Issue t r asked)
 asked_there k t r asked result thread rm up found =
     found
-    ∙ sym (issue_refusal k t r asked ∙ λ i. if there t k.threads r k.rms thread rm i then (if not (up i) then Some Refusals.ManagerDown
-    else first_guard (call_guards (view_in k) t r asked)) else Some Refusals.Limit)
+    ∙ sym (issue_refusal (view_in k) t r asked ∙ λ i. refusal_by (there t k.threads r k.rms thread rm i)
+    ((Refusals.ManagerDown, not (up i)) ∷ call_guards (view_in k) t r asked))
 
 -- what a branch's guards say of a call is what the call's say
 pub asked_ours : (v : View) (t r : ℕ) (asked : Asked) (kind : Kind) (x : Xid) (b : Branch) (result : Option Refusal)

@@ -18,7 +18,7 @@ use Rattle.xa_model.specs.Trace.{Happening, Happening.Decided, Happening.Done}
 use Rattle.xa_model.proofs.Replies.Guards.{IsForced, forced_of}
 use Rattle.xa_tm.specs.Book.{Book, Waiting, after, voted_yes}
 use Rattle.xa_tm.specs.Calls.{IsOpenIn}
-use Rattle.xa_tm.specs.Refusing.{is_shut_in, outlived_in, refusal_in, refusal_in_turn, view_in, waits_for_none}
+use Rattle.xa_tm.specs.Refusing.{is_shut_in, outlived_in, refusal_in, refusal_in_turn, view_in, at_rest, waits_for_none}
 use Rattle.xa_tm.proofs.Log.Asks.{is_fault}
 use Rattle.xa_tm.proofs.Log.Ties.{done_up}
 use Rattle.xa_tm.proofs.Several.Lists.{named_push}
@@ -103,7 +103,7 @@ forced_is_no_fault Refusals.LogFault f = absurd f
 forced_is_no_fault _ f = refl
 
 refusal_tells_no_fault : (k : Book) (s : Step) (n : Refusal) → refusal_in k s ≡ Some n → is_fault n ≡ false
-refusal_tells_no_fault k s n e = forced_is_no_fault n (forced_of (view_in k) s n e)
+refusal_tells_no_fault k s n e = forced_is_no_fault n (forced_of (view_in k) at_rest s n e)
 
 pub turn_tells_no_fault : (step : Gtrid → Step) (happening : Gtrid → Happening) (k : Book) (gs : List Gtrid) (n : Refusal)
     → refusal_in_turn step happening k gs ≡ Some n → is_fault n ≡ false

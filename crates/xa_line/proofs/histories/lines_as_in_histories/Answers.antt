@@ -3,7 +3,7 @@ use Rattle.std.specs.Prelude.{nat_le}
 use Rattle.xa_base.specs.Call.{map_call}
 use Rattle.xa_model.specs.Facts as facts
 use Rattle.xa_model.specs.Replies.History.{name_of}
-use Rattle.xa_model.specs.Replies.View.{view_of}
+use Rattle.xa_model.specs.Replies.View.{lines_of, view_of}
 use Rattle.xa_model.specs.Trace.{line}
 use Rattle.xa_model.proofs.Replies.Guards.{full_among}
 use Rattle.xa_line.proofs.HistoryLaws.{opens_mapped, opened_known, closed_known}
@@ -18,4 +18,4 @@ pub returns-clause-on_closed : goal.returns-clause-on_closed
 returns-clause-on_closed c x t r call l e = closed_known (issued l) (facts.issued x (line t r)) e
 
 pub returns-clause-full : goal.returns-clause-full
-returns-clause-full c x t r call l e = ap (nat_le places) e ∙ sym (full_among (view_of x) t r (map_call name_of call))
+returns-clause-full c x t r call l e = ap (nat_le places) e ∙ sym (full_among (view_of x) (lines_of x) t r (map_call name_of call))
