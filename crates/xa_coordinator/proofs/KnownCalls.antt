@@ -27,7 +27,9 @@ use Rattle.xa_serve.specs.declared.session.answers.Unfit.TheVariants as Unfits
 use Rattle.xa_tm.specs.Book.{Book}
 use Rattle.xa_tm.specs.Calls.{book_in}
 use Rattle.xa_tm.specs.News.{Asked}
-use Rattle.xa_tm.specs.Refusing.{forces_unknown_transaction_in, refusal_in}
+use Rattle.xa_model.proofs.Replies.Guards.{known_call}
+use Rattle.xa_tm.specs.Refusing.{refusal_in, view_in}
+use Rattle.xa_tm.proofs.Maps.Issue.{none_of_call}
 
 -- ** reasons
 
@@ -49,28 +51,11 @@ if_there false x r e = absurd (cc)
 
 -- ** a call that may be issued
 
-known_asked : (k : Book) (t r : ℕ) (a : Asked) → forces_unknown_transaction_in k (Steps.Issue t r a) ≡ false → (c : Call) × (accepted a ≡ Some c)
-known_asked k t r Calls.OpenRm e = (_, refl)
-known_asked k t r Calls.CloseRm e = (_, refl)
-known_asked k t r (Calls.Start (Ours b) j) e = (_, refl)
-known_asked k t r (Calls.Start (Foreign x) j) e = absurd (true≢false e)
-known_asked k t r (Calls.End (Ours b) i) e = (_, refl)
-known_asked k t r (Calls.End (Foreign x) i) e = absurd (true≢false e)
-known_asked k t r (Calls.Prepare (Ours b)) e = (_, refl)
-known_asked k t r (Calls.Prepare (Foreign x)) e = absurd (true≢false e)
-known_asked k t r (Calls.Commit (Ours b) o) e = (_, refl)
-known_asked k t r (Calls.Commit (Foreign x) o) e = absurd (true≢false e)
-known_asked k t r (Calls.Rollback (Ours b)) e = (_, refl)
-known_asked k t r (Calls.Rollback (Foreign x)) e = absurd (true≢false e)
-known_asked k t r (Calls.Forget (Ours b)) e = (_, refl)
-known_asked k t r (Calls.Forget (Foreign x)) e = absurd (true≢false e)
-known_asked k t r (Calls.Recover n x y) e = (_, refl)
-
 pub known_issue : {L : Type 0} (s : Session L) (t r : ℕ) (call : Asking.Call Xid) → issue_refusal s t r call ≡ None → (c : Call) × (known call ≡ Some c)
 known_issue s t r call none =
     let asked = map_call name_of call in
     let rules : refusal_in (book_in s.manager) (Steps.Issue t r asked) ≡ None = (or_none _ _ (or_none _ _ (or_none _ _ none).1).1).0 in
-    known_asked (book_in s.manager) t r asked (if_none _ _ _ (if_none _ _ _ (if_there _ _ _ rules)).1).0
+    known_call (view_in (book_in s.manager)) t r asked (none_of_call (book_in s.manager) t r asked rules)
 
 -- ** a call that waits first, and is answered
 

@@ -5,7 +5,8 @@ ghost use Rattle.xa_model.specs.Facts as facts;
 ghost use Rattle.xa_model.specs.Replies.History.{step_of};
 ghost use Rattle.xa_base.specs.Opening.{comes_unopened, has_closed};
 ghost use Rattle.xa_model.specs.Facts.{unheard, waiting};
-ghost use Rattle.xa_model.specs.Replies.Rules as rules;
+ghost use Rattle.xa_base.specs.declared.refusal.Refusal.TheVariants.{Closed, Full, NotOpen};
+ghost use Rattle.xa_model.specs.Replies.Rules.{applies};
 ghost use Rattle.xa_model.specs.Trace.{Happening, Line, Origin, Trace, Trace.From, Trace.Then, line};
 ghost use Rattle.xa_base.specs.Xid.{Xid};
 ghost use Rattle.xa_base.specs.declared.answer.Answer.{Answer};
@@ -22,13 +23,13 @@ ghost use Rattle.xa_line.specs.Traffic.{Traffic, answered, heard, is_full, issue
 pub fn lines_as_in_histories()
     ensures not_open { (tr : Trace) (t r : ℕ) (c : Call Xid) (l : Traffic) →
         AreKnownAs (issued l) (facts.issued tr (line t r)) →
-        comes_unopened (issued l) c ≡ rules.forces_not_open tr (step_of (Issue t r c)) }
+        comes_unopened (issued l) c ≡ applies tr (step_of (Issue t r c)) NotOpen }
     ensures on_closed { (tr : Trace) (t r : ℕ) (c : Call Xid) (l : Traffic) →
         AreKnownAs (issued l) (facts.issued tr (line t r)) →
-        has_closed (issued l) ≡ rules.forces_closed tr (step_of (Issue t r c)) }
+        has_closed (issued l) ≡ applies tr (step_of (Issue t r c)) Closed }
     ensures full { (tr : Trace) (t r : ℕ) (c : Call Xid) (l : Traffic) →
         length l.calls.waiting ≡ waiting tr (line t r) →
-        is_full l ≡ rules.forces_full tr (step_of (Issue t r c)) }
+        is_full l ≡ applies tr (step_of (Issue t r c)) Full }
 {}
 
 /// What waits on a line is what waits in a history, as long as the two stand alike (`LineStands`): they have the same

@@ -6,3 +6,4 @@ pub mod History
 pub mod ReadBack
 pub mod Rules
 pub mod Steps
+pub mod View

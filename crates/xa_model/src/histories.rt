@@ -3,8 +3,7 @@ ghost use Rattle.std.specs.Prelude.{◌≡◌, ◌++◌, [], ◌∷◌, List};
 ghost use Rattle.xa_base.specs.declared.reply.Event.{Event};
 ghost use Rattle.xa_model.specs.Promises.Agreement.{IsMoment};
 ghost use Rattle.xa_model.specs.Replies.Allowed.{AllAllowed, Allowed, IsDetermined, IsValue, with_steps};
-ghost use Rattle.xa_model.specs.Replies.Guards.{refused_by_guards};
-ghost use Rattle.xa_model.specs.Replies.Rules.{must_refuse};
+ghost use Rattle.xa_model.specs.Replies.Rules.{must_refuse, refused_in_order};
 ghost use Rattle.xa_model.specs.Replies.History.{AreAllowed, IsAllowedEvent, happening_of, history};
 ghost use Rattle.xa_model.specs.Protocol.{AllRight, RightOrigin};
 ghost use Rattle.xa_model.specs.Facts.Distinct.{ApartBranches, ApartRecords, ApartRows, IsNewTo};
@@ -16,7 +15,7 @@ ghost use Rattle.xa_model.specs.Trace.{Origin, Trace, Trace.Then};
 ///
 /// - `replies`, `events`: if the history before each reply allows it, then each happening is right after those before
 ///   it: `replies` of steps and replies that name branches, `events` of the events that a system keeps;
-/// - `guards`: the refusals listed by step (`Guards`) and those listed by refusal (`Rules`) are the same;
+/// - `order`: if several refusals apply to a step, the answer is the one with the lowest number;
 /// - `answered`: every step has a reply that is allowed;
 /// - `valued`: every step has a value: its reply where nothing refuses it, memory is there and the log doesn't fail;
 /// - `determined`: that value is the only one, except for a restart of the manager, which may come up in more than one
@@ -26,7 +25,7 @@ pub fn replies_are_allowed()
         AllRight tr → AllAllowed tr xs → AllRight (with_steps tr xs) }
     ensures events { (o : Origin) (events : List Event) →
         RightOrigin o → AreAllowed o events → AllRight (history o events) }
-    ensures guards { (tr : Trace) (s : Step) → must_refuse tr s ≡ refused_by_guards tr s }
+    ensures order { (tr : Trace) (s : Step) → must_refuse tr s ≡ refused_in_order tr s }
     ensures answered { (tr : Trace) (s : Step) → (r : Reply) × Allowed tr s r }
     ensures valued { (tr : Trace) (s : Step) → (r : Reply) × IsValue tr s r }
     ensures determined { (tr : Trace) (s : Step) (q r : Reply) →

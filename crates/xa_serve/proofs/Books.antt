@@ -2,19 +2,24 @@
 use Rattle.std.proofs.Common.{◌≡◌, ℕ, ◌+◌, ◌||◌, None, sym, ap, ◌∙◌, subst}
 use Rattle.xa_base.specs.Branch.{gtrid_eq}
 use Rattle.xa_base.specs.declared.branch.Gtrid.{Gtrid}
+use Rattle.xa_base.specs.declared.step.Step.TheVariants as Steps
 use Rattle.xa_model.specs.Facts as facts
 use Rattle.xa_model.specs.Facts.Distinct.{ApartRows}
 use Rattle.xa_model.specs.Protocol.{IsRun, Right}
+use Rattle.xa_model.specs.Replies.Guards.{call_guards, first_guard}
 use Rattle.xa_model.specs.Replies.Steps.{Step}
+use Rattle.xa_model.specs.Replies.View.{view_of}
 use Rattle.xa_model.specs.Trace.{Happening, Origin, Trace, Trace.From, Trace.Then}
 use Rattle.xa_standings.specs.Explained.{IsOldLog}
 use Rattle.xa_tm.specs.Book.{Book, book_after, book_of, doubt_of_happening}
 use Rattle.xa_tm.specs.Laws.{IsLookedAt}
+use Rattle.xa_tm.specs.News.{Asked}
 use Rattle.xa_tm.specs.Refusing.{managers_refusal, refusal_in, resolved_in, resolved_open_in}
 use Rattle.xa_tm.specs.Release.{HasReleased, IsOver, MayFollow, book_without}
 use Rattle.xa_tm.specs.Starting.{IsOld}
-use Rattle.xa_tm.proofs.History.Refusals.{has_row_is, recorded_is, refusal_is}
+use Rattle.xa_tm.proofs.History.Refusals.{has_row_is, recorded_is, refusal_is, view_is}
 use Rattle.xa_tm.proofs.History.RowCounts.{right_book}
+use Rattle.xa_tm.proofs.Maps.Issue.{none_of_call}
 use Rattle.xa_tm.proofs.Release.{one_more_is_released, recoveries_are_alike, wholes_follow, wholes_refuse_no_more}
 use Rattle.xa_serve.specs.Following.{BookStands}
 
@@ -32,6 +37,12 @@ module _ (tr : Trace) (k : Book) (stands : BookStands tr k) where
   -- what it doesn't refuse, the history doesn't
   pub refuses_no_more : (s : Step) → IsRun tr → IsLookedAt s → refusal_in k s ≡ None → managers_refusal tr s ≡ None
   refuses_no_more s run looked none = sym (refusal_is tr s run looked) ∙ wholes_refuse_no_more stands.0 (book_of tr) k s stands.1 none
+
+  -- nor a call that may be issued for what it is itself
+  pub call_allowed : IsRun tr → (t r : ℕ) (a : Asked) → refusal_in k (Steps.Issue t r a) ≡ None → first_guard (call_guards (view_of tr) t r a) ≡ None
+  call_allowed run t r a none =
+      ap (λ v. first_guard (call_guards v t r a)) (sym (view_is tr run))
+      ∙ none_of_call (book_of tr) t r a (wholes_refuse_no_more stands.0 (book_of tr) k (Steps.Issue t r a) stands.1 none)
 
   pub resolves_alike : (r : ℕ) → resolved_in k r ≡ resolved_in (book_of tr) r
   resolves_alike r = (recoveries_are_alike stands.0 (book_of tr) k r stands.1).0

@@ -2,22 +2,22 @@
 use Rattle.std.proofs.Common.{◌≡◌, ℕ, ◌<◌, Bool, true, false, not, List, [], ◌∷◌, Option, Some, None, refl, sym, ap, ◌∙◌, arith, subst}
 use Rattle.std.specs.Prelude.{if◌then◌else◌, nat_le}
 use Rattle.std.specs.Option.{option_or}
-use Rattle.std.proofs.lemmas.Bool.{true≢false}
 use Rattle.std.proofs.lemmas.Bool.Decides.{nat_tests}
 use Rattle.xa_base.proofs.Options.{some_is}
 use Rattle.xa_base.specs.declared.branch.Gtrid.{Gtrid}
 use Rattle.xa_base.specs.declared.call.Call.TheVariants as Calls
 use Rattle.xa_base.specs.declared.refusal.Refusal.{Refusal}
-use Rattle.xa_base.specs.declared.refusal.Refusal.TheVariants.{Limit, LogFault, ManagerDown}
+use Rattle.xa_base.specs.declared.refusal.Refusal.TheVariants.{Limit, LogFault, ManagerDown, UnknownTransaction}
 use Rattle.xa_base.specs.declared.step.Outcome.{Outcome}
 use Rattle.xa_base.specs.declared.step.Step.TheVariants as Steps
-use Rattle.xa_model.specs.Replies.Rules.{first_of}
 use Rattle.xa_model.specs.Replies.Steps.{Step, accepted}
 use Rattle.xa_model.specs.Trace.{Call, Happening, Name.Foreign, Name.Ours}
 use Rattle.xa_tm.specs.Book.{Book, after}
 use Rattle.xa_tm.specs.News.{Asked}
 use Rattle.xa_tm.specs.Release.{StartsBegun}
-use Rattle.xa_tm.specs.Refusing.{applies_in, forces_unknown_transaction_in, is_there_in, manager_rules, refusal_in, refusal_in_turn, service_refusal_in}
+use Rattle.xa_model.proofs.Replies.Guards.{forced_of, known_call, none_of}
+use Rattle.xa_tm.specs.Refusing.{at_rest, refusal_in, refusal_in_turn, service_refusal_in, view_in}
+use Rattle.xa_tm.proofs.Maps.Issue.{none_of_call}
 
 -- ** numbers
 
@@ -26,20 +26,8 @@ not_over m n e = grind (arith, nat_tests, e)
 
 -- ** no rule is that the log failed
 
-first_applies : (test : Refusal → Bool) (ns : List Refusal) (n : Refusal) → first_of test ns ≡ Some n → test n ≡ true
-first_applies test [] n e = absurd (cc)
-first_applies test (x ∷ xs) n e = by (test x) refl (first_applies test xs n) e
-  where
-    by : (t : Bool) → test x ≡ t → (first_of test xs ≡ Some n → test n ≡ true) → (if t then Some x else first_of test xs) ≡ Some n → test n ≡ true
-    by true is rest e = ap test (sym (some_is x n e)) ∙ is
-    by false is rest e = rest e
-
 pub no_fault : (k : Book) (s : Step) → refusal_in k s ≡ Some LogFault → ⊥
-no_fault k s e = by (is_there_in k s) e
-  where
-    by : (t : Bool) → (if t then first_of (applies_in k s) manager_rules else Some Limit) ≡ Some LogFault → ⊥
-    by true e = true≢false (sym (first_applies (applies_in k s) manager_rules LogFault e))
-    by false e = absurd (cc)
+no_fault k s e = forced_of (view_in k) at_rest s LogFault e
 
 -- nor is it of several steps in turn
 pub no_fault_in_turn : (step : Gtrid → Step) (does : Gtrid → Happening) (gs : List Gtrid) (k : Book)
@@ -85,34 +73,14 @@ begun_if_settled k g none = not_false _ (if_none _ _ _ (if_none _ _ _ none).1).0
 pub begun_if_abandoned : (k : Book) (g : Gtrid) → refusal_in k (Steps.Abandon g) ≡ None → (k.transaction g).begun ≡ true
 begun_if_abandoned k g none = not_false _ (if_none _ _ _ (if_none _ _ _ none).1).0
 
-known_asked : (k : Book) (t r : ℕ) (a : Asked) → forces_unknown_transaction_in k (Steps.Issue t r a) ≡ false → (c : Call) × (accepted a ≡ Some c)
-known_asked k t r Calls.OpenRm e = (_, refl)
-known_asked k t r Calls.CloseRm e = (_, refl)
-known_asked k t r (Calls.Start (Ours b) j) e = (_, refl)
-known_asked k t r (Calls.Start (Foreign x) j) e = absurd (true≢false e)
-known_asked k t r (Calls.End (Ours b) i) e = (_, refl)
-known_asked k t r (Calls.End (Foreign x) i) e = absurd (true≢false e)
-known_asked k t r (Calls.Prepare (Ours b)) e = (_, refl)
-known_asked k t r (Calls.Prepare (Foreign x)) e = absurd (true≢false e)
-known_asked k t r (Calls.Commit (Ours b) o) e = (_, refl)
-known_asked k t r (Calls.Commit (Foreign x) o) e = absurd (true≢false e)
-known_asked k t r (Calls.Rollback (Ours b)) e = (_, refl)
-known_asked k t r (Calls.Rollback (Foreign x)) e = absurd (true≢false e)
-known_asked k t r (Calls.Forget (Ours b)) e = (_, refl)
-known_asked k t r (Calls.Forget (Foreign x)) e = absurd (true≢false e)
-known_asked k t r (Calls.Recover n x y) e = (_, refl)
-
 -- a call that may be issued is one that a history knows
 pub known_issue : (k : Book) (t r : ℕ) (a : Asked) → refusal_in k (Steps.Issue t r a) ≡ None → (c : Call) × (accepted a ≡ Some c)
-known_issue k t r a none = known_asked k t r a (if_none _ _ _ (if_none _ _ _ (if_there _ _ _ none)).1).0
-
-unknown_none : (k : Book) (s : Step) → refusal_in k s ≡ None → forces_unknown_transaction_in k s ≡ false
-unknown_none k s none = (if_none _ _ _ (if_none _ _ _ (if_there _ _ _ none)).1).0
+known_issue k t r a none = known_call (view_in k) t r a (none_of_call k t r a none)
 
 -- a call that starts a branch is issued of a transaction that is begun
 pub issued_begun : (k : Book) (t r : ℕ) (a : Asked) (c : Call) → accepted a ≡ Some c → refusal_in k (Steps.Issue t r a) ≡ None → StartsBegun k c
 issued_begun k t r (Calls.Start (Ours b) j) c is none =
-    subst (StartsBegun k) (some_is _ _ is) (not_false _ (unknown_none k (Steps.Issue t r (Calls.Start (Ours b) j)) none))
+    subst (StartsBegun k) (some_is _ _ is) (not_false _ (none_of (view_in k) at_rest (Steps.Issue t r (Calls.Start (Ours b) j)) UnknownTransaction none))
 issued_begun k t r (Calls.Start (Foreign x) j) c is none = absurd (cc)
 issued_begun k t r Calls.OpenRm c is none = subst (StartsBegun k) (some_is _ _ is) tt
 issued_begun k t r Calls.CloseRm c is none = subst (StartsBegun k) (some_is _ _ is) tt

@@ -29,15 +29,17 @@ use Rattle.xa_model.specs.Facts.Distinct.{ApartRows}
 use Rattle.xa_model.specs.Protocol.{IsRun, Right}
 use Rattle.xa_model.specs.Replies.Allowed.{Allowed.As_value}
 use Rattle.xa_model.specs.Replies.History.{name_of}
-use Rattle.xa_model.specs.Replies.Rules.{applies, first_of, is_there, must_refuse}
-use Rattle.xa_model.specs.Replies.Steps.{Step, accepted, happened}
+use Rattle.xa_model.specs.Replies.Rules.{must_refuse}
+use Rattle.xa_model.specs.Replies.View.{lines_of, view_of}
+use Rattle.xa_model.specs.Replies.Steps.{accepted, happened, if_ours}
 use Rattle.xa_model.specs.Trace.{Answer as KnownAnswer, Call, Happening, Happening.Crashed, Happening.Heard, Happening.Issued, Happening.Resolved, Happening.ResolvedOpen, Happening.Took, Line, Name.Foreign, Name.Ours, Trace, Trace.Then, line, line_eq}
 use Rattle.xa_model.proofs.Keys.{line_eq-refl}
-use Rattle.xa_model.proofs.Replies.Replies.{allowed_right, first_none}
+use Rattle.xa_model.proofs.Replies.Guards.{bar_of, issue_rule, issue_why}
+use Rattle.xa_model.proofs.Replies.Replies.{allowed_right}
 use Rattle.xa_tm.specs.Book.{Doubt.NoDoubt, after, book_after, doubt_of_happening}
 use Rattle.xa_tm.specs.Calls.{book_in}
 use Rattle.xa_tm.specs.News.{Asked}
-use Rattle.xa_tm.specs.Refusing.{manager_rules, resolved_in, resolved_open_in}
+use Rattle.xa_tm.specs.Refusing.{resolved_in, resolved_open_in}
 use Rattle.xa_tm.proofs.History.Recovery.{resolved_is, resolved_open_is}
 use Rattle.xa_serve.specs.Following.{AreRight, BookStands, LeadsTo, LeadsByAnswer, LeadsByLoss, StandsIn}
 use Rattle.xa_serve.specs.Hearing.{heard_first, with_answer}
@@ -170,21 +172,7 @@ module _ {L : Type 0} (old new : Session L) (t r : ℕ) where
 -- ** a call that is issued
 
 call_is : (t r : ℕ) (a : Asked) (c : Call) → accepted a ≡ Some c → happened (Steps.Issue t r a) Replies.Issued ≡ Issued (line t r) c
-call_is t r Calls.OpenRm c e = ap (λ k. Issued (line t r) k) (some_is _ _ e)
-call_is t r Calls.CloseRm c e = ap (λ k. Issued (line t r) k) (some_is _ _ e)
-call_is t r (Calls.Start (Ours b) j) c e = ap (λ k. Issued (line t r) k) (some_is _ _ e)
-call_is t r (Calls.Start (Foreign x) j) c e = absurd (cc)
-call_is t r (Calls.End (Ours b) i) c e = ap (λ k. Issued (line t r) k) (some_is _ _ e)
-call_is t r (Calls.End (Foreign x) i) c e = absurd (cc)
-call_is t r (Calls.Prepare (Ours b)) c e = ap (λ k. Issued (line t r) k) (some_is _ _ e)
-call_is t r (Calls.Prepare (Foreign x)) c e = absurd (cc)
-call_is t r (Calls.Commit (Ours b) o) c e = ap (λ k. Issued (line t r) k) (some_is _ _ e)
-call_is t r (Calls.Commit (Foreign x) o) c e = absurd (cc)
-call_is t r (Calls.Rollback (Ours b)) c e = ap (λ k. Issued (line t r) k) (some_is _ _ e)
-call_is t r (Calls.Rollback (Foreign x)) c e = absurd (cc)
-call_is t r (Calls.Forget (Ours b)) c e = ap (λ k. Issued (line t r) k) (some_is _ _ e)
-call_is t r (Calls.Forget (Foreign x)) c e = absurd (cc)
-call_is t r (Calls.Recover n x y) c e = ap (λ k. Issued (line t r) k) (some_is _ _ e)
+call_is t r a c e = ap (if_ours (λ k. Issued (line t r) k)) e
 
 issued_line : (tr : Trace) (t r : ℕ) (c : Call) (call : Asking.Call Xid) (old : Traffic) → known_call call ≡ Some c
     → LineStands tr (line t r) old → LineStands (Then tr (Issued (line t r) c)) (line t r) (record old { calls = with_one_more old.calls call })
@@ -199,51 +187,22 @@ unbarred false false e = (refl, refl)
 unbarred false true e = absurd (cc)
 unbarred true closed e = absurd (cc)
 
-where_there : (t : Bool) (x : Option Refusal) → t ≡ true → (if t then x else Some Refusals.Limit) ≡ None → x ≡ None
-where_there true x is e = e
-where_there false x is e = absurd (cc)
-
 module _ {L : Type 0} (old new : Session L) (t r : ℕ) (call : Asking.Call Xid) where
   -- the history refuses it no more than the session does
   issue_forced : (tr : Trace) → StandsIn tr old → MayIssue old t r call → must_refuse tr (Steps.Issue t r (map_call name_of call)) ≡ None
   issue_forced tr stands may =
-      let s : Step = Steps.Issue t r (map_call name_of call) in
+      let a = map_call name_of call in
       let at = line_at old.lines t r in
       let here = stands.lines t r may.tell.has in
-      let there : is_there tr s ≡ true = there_in old new t r tr stands may.tell.there in
-      let none : first_of (applies tr s) manager_rules ≡ None =
-      where_there (is_there tr s) _ there (refuses_no_more tr (book_in old.manager) stands.book s stands.run tt may.book) in
+      let there = there_in old new t r tr stands may.tell.there in
+      let up = up_in old new t r tr stands may.tell.up in
       let bar = unbarred (comes_unopened (issued at) call) (has_closed (issued at)) may.bar in
-      let not_down : applies tr s Refusals.ManagerDown ≡ false = first_none (applies tr s) manager_rules Refusals.ManagerDown none (inl refl) in
-      let rm_there : applies tr s Refusals.RmDown ≡ false = ap not (stands.rms_up r) in
-      let open_so : applies tr s Refusals.NotOpen ≡ false = sym (unopened_alike (issued at) (facts.issued tr (line t r)) call here.all_issued) ∙ bar.0 in
-      let unclosed : applies tr s Refusals.Closed ≡ false = sym (closed_alike (issued at) (facts.issued tr (line t r)) here.all_issued) ∙ bar.1 in
-      let known : applies tr s Refusals.UnknownTransaction ≡ false = first_none (applies tr s) manager_rules Refusals.UnknownTransaction none (inr
-      (inl refl)) in
-      let home : applies tr s Refusals.WrongThread ≡ false = first_none (applies tr s) manager_rules Refusals.WrongThread none (inr (inr (inl refl))) in
-      let again : applies tr s Refusals.AlreadyStarted ≡ false =
-      first_none (applies tr s) manager_rules Refusals.AlreadyStarted none (inr (inr (inr (inl refl)))) in
-      let late : applies tr s Refusals.Decided ≡ false = first_none (applies tr s) manager_rules Refusals.Decided none (inr (inr (inr (inr (inl refl))))) in
-      let early : applies tr s Refusals.NotDecided ≡ false =
-      first_none (applies tr s) manager_rules Refusals.NotDecided none (inr (inr (inr (inr (inr (inl refl)))))) in
-      let votes : applies tr s Refusals.Votes ≡ false =
-      first_none (applies tr s) manager_rules Refusals.Votes none (inr (inr (inr (inr (inr (inr (inl refl))))))) in
-      let busy : applies tr s Refusals.Busy ≡ false =
-      first_none (applies tr s) manager_rules Refusals.Busy none (inr (inr (inr (inr (inr (inr (inr (inl refl)))))))) in
-      let room : applies tr s Refusals.Full ≡ false = ap (nat_le 64) (sym (as_many_calls tr (line t r) at here)) ∙ may.room in
-      λ i. if there i then
-      (if not_down i then Some Refusals.ManagerDown else
-      (if rm_there i then Some Refusals.RmDown else
-      (if open_so i then Some Refusals.NotOpen else
-      (if unclosed i then Some Refusals.Closed else
-      (if known i then Some Refusals.UnknownTransaction else
-      (if home i then Some Refusals.WrongThread else
-      (if again i then Some Refusals.AlreadyStarted else
-      (if late i then Some Refusals.Decided else
-      (if early i then Some Refusals.NotDecided else
-      (if votes i then Some Refusals.Votes else
-      (if busy i then Some Refusals.Busy else
-      (if room i then Some Refusals.Full else None)))))))))))) else Some Refusals.Limit
+      let open_so = sym (unopened_alike (issued at) (facts.issued tr (line t r)) call here.all_issued) ∙ bar.0 in
+      let unclosed = sym (closed_alike (issued at) (facts.issued tr (line t r)) here.all_issued) ∙ bar.1 in
+      let none = call_allowed tr (book_in old.manager) stands.book stands.run t r a may.book in
+      let room = ap (nat_le 64) (sym (as_many_calls tr (line t r) at here)) ∙ may.room in
+      issue_rule (view_of tr) (lines_of tr) t r a
+      ∙ λ i. issue_why (there i) (up i) (stands.rms_up r i) (bar_of (open_so i) (unclosed i)) (none i) (room i)
 
   pub issued_follows : (c : Call) → accepted (map_call name_of call) ≡ Some c → MayIssue old t r call
       → book_in new.manager ≡ after (book_in old.manager) (Issued (line t r) c)

@@ -1,5 +1,4 @@
 -- How the parts that a system holds stand to its history.
-use Rattle.xa_base.specs.declared.limits.TheConstants.{LINE_LIMIT}
 use Rattle.std.specs.Prelude.{◌≡◌, ◌≢◌, ◌<◌, ◌≤◌, ◌+◌, ℕ, Bool, not, nat_lt, if◌then◌else◌, List, [], length, Option, Some, None, slice_get, vec_len, Result, Ok, Err}
 use Rattle.std.specs.Option.{option_map_or}
 use Rattle.xa_model.specs.Replies.Allowed.{Allowed}
@@ -7,8 +6,10 @@ use Rattle.xa_model.specs.Facts.Distinct.{ApartRows}
 use Rattle.xa_model.specs.Facts as facts
 use Rattle.xa_base.specs.HeldBranch.{HeldBranch, new_branch}
 use Rattle.xa_model.specs.Replies.History.{reply_of, step_of}
-use Rattle.xa_model.specs.Facts.{rm_up, waiting}
-use Rattle.xa_model.specs.Replies.Rules.{has_rm, is_at, must_refuse}
+use Rattle.xa_model.specs.Facts.{rm_up}
+use Rattle.xa_model.specs.Replies.Guards.{is_at, recovery_guards, refusal_by, script_guards}
+use Rattle.xa_model.specs.Replies.Rules.{has_rm, must_refuse}
+use Rattle.xa_model.specs.Replies.View.{lines_of, view_of}
 use Rattle.xa_base.specs.Scan.{Scan, Scan.NotOpen}
 use Rattle.xa_model.specs.Replies.Steps.{happened}
 use Rattle.xa_model.specs.Trace.{Name, Name.Foreign, Origin, Recorded, Row, Trace, Trace.From, Trace.Then, line}
@@ -79,23 +80,7 @@ abbrev pub origin_of : {R L : Type 0} → Sees R L → (threads : ℕ) → List 
 origin_of see threads rms manager =
     origin_from see.look threads rms (book_in manager).incarnation (rows_begun manager) (records_begun manager)
 
--- ** recoveries
-
--- why no recovery may begin
-abbrev pub recovery_why : (there up rm_up shut closed full : Bool) → Option Refusal
-recovery_why there up rm_up shut closed full =
-    if there then (if not up then Some Refusals.ManagerDown
-    else (if not rm_up then Some Refusals.RmDown
-    else (if shut then Some Refusals.NotOpen
-    else (if closed then Some Refusals.Closed
-    else (if full then Some Refusals.Full else None)))))
-    else Some Refusals.Limit
-
 -- ** scripts
-
--- why a resource manager isn't told anything of a branch
-abbrev pub script_why : (there up bad : Bool) → Option Refusal
-script_why there up bad = if there then (if not up then Some Refusals.RmDown else (if bad then Some Refusals.Script else None)) else Some Refusals.Limit
 
 -- the reply to what a resource manager was told, by its result
 abbrev pub noted_as : Result (Unit {0}) RmFault → Reply Xid
@@ -173,10 +158,9 @@ module _ {R L : Type 0} (see : Sees R L) where
   -- wherever the parts stand, this is why a resource manager isn't told anything of what the name is of
   abbrev pub HindersScript : (rm : ℕ) → Name → Parts R L → Option Refusal → Type 0
   HindersScript r n parts refusal = (tr : Trace) → Stands tr parts
-      → refusal ≡ script_why (has_rm tr r) (rm_up tr r) (not (is_at r n))
+      → refusal ≡ refusal_by (has_rm tr r) (script_guards (lines_of tr) r (not (is_at r n)))
 
   -- wherever the parts stand, this is why no recovery of so many calls may begin at a resource manager
   abbrev pub HindersRecovery : (rm calls : ℕ) → Parts R L → Option Refusal → Type 0
   HindersRecovery r n parts refusal = (tr : Trace) → Stands tr parts
-      → refusal ≡ recovery_why (has_rm tr r) (facts.up tr) (rm_up tr r) (not (facts.is_open tr (line 0 r)))
-      (facts.is_closed tr (line 0 r)) (nat_lt LINE_LIMIT (waiting tr (line 0 r) + n))
+      → refusal ≡ refusal_by (has_rm tr r) (recovery_guards (view_of tr) (lines_of tr) r n)

@@ -3,7 +3,7 @@ ghost use Rattle.std.specs.Prelude.{◌≡◌, ◌≢◌, ◌≤◌, ◌<◌, �
 ghost use Rattle.xa_model.specs.Replies.History.{name_of};
 ghost use Rattle.xa_base.specs.Opening.{has_closed, has_opened};
 ghost use Rattle.xa_model.specs.Replies.ReadBack.{CallHasXid};
-ghost use Rattle.xa_model.specs.Replies.Rules.{is_at};
+ghost use Rattle.xa_model.specs.Replies.Guards.{is_at};
 ghost use Rattle.xa_base.specs.declared.reply.Reply.TheVariants as Replies;
 ghost use Rattle.xa_base.specs.declared.refusal.Refusal.TheVariants as Refusals;
 ghost use Rattle.xa_line.specs.Grid.{new_grid};

@@ -24,12 +24,12 @@ use Rattle.xa_base.proofs.BranchKeys.{gtrid_eq-true}
 use Rattle.xa_base.proofs.Orders.{equal_is}
 use Rattle.xa_log.specs.KeySet.{KeySet, contains, contains-from_list, contains-insert, contains-items, from_list, insert, items, same_set}
 use Rattle.xa_model.specs.Facts.{each, each_of_some, finishes, record_of, says_yes_in}
-use Rattle.xa_model.specs.Replies.Rules.{asks_manager, first_of}
+use Rattle.xa_model.specs.Replies.Guards.{refusal_of}
 use Rattle.xa_model.specs.Replies.Steps.{Step}
 use Rattle.xa_model.specs.Trace.{Answer, Call, Happening, Happening.Begun, Happening.Issued, Happening.Heard, Happening.Decided, Happening.Done, Happening.Crashed, Happening.Failed, Happening.ResolvedOpen, Happening.Restarted, Line, Name, Name.Ours, Name.Foreign, line, line_eq, line_of}
 use Rattle.xa_tm.specs.Book.{Book, TransactionNotes, Doubt, Doubt.Records, Doubt.NoDoubt, Notes, Waiting, after, book_after, transaction_after, doubt_of, incarnation_after, is_unsettled_in, known_after, lacks_vote_in, notes_after, recorded_after, records_after, records_with, row_after, rows_after, sequence_after, voted_yes, with_answer, with_branch}
 use Rattle.xa_tm.specs.Counts.{is_counted, settler, voter}
-use Rattle.xa_tm.specs.Refusing.{applies_in, forces_already_started_in, forces_busy_in, forces_decided_in, forces_limit_in, forces_not_decided_in, forces_unknown_transaction_in, forces_votes_in, is_there_in, is_unfinished, live_in, manager_rules, outlived_in, refusal_in, resolved_in, resolved_open_in, resolving_calls_in, resolving_kind_in, row_settled_in, is_settled_lately_in, waits_for_none}
+use Rattle.xa_tm.specs.Refusing.{at_rest, is_settled_lately_in, is_unfinished, live_in, outlived_in, refusal_in, resolved_in, resolved_open_in, resolving_calls_in, resolving_kind_in, row_settled_in, view_in, waits_for_none}
 use Rattle.xa_tm.specs.Release.{BooksAreWhole, HasReleased, IsOver, MayFollow, OneMoreIsReleased, OthersAreRefusedAlike, RecoveriesAreAlike, ReleasedAreSound, ReleasedAreUnknown, RowsAreOwn, WholesFollow, WholesRefuseNoMore, book_without, names_one_of, unknown_in, was_given}
 use Rattle.xa_tm.specs.Starting.{no_notes, no_transaction_notes}
 use Rattle.xa_tm.proofs.History.Members.{passes_among, witness}
@@ -83,12 +83,6 @@ some_alike : (p r : Branch → Bool) (xs : List Branch) → ((q : Branch) → li
     → each_of_some p xs ≡ each_of_some r xs
 some_alike p r [] same = refl
 some_alike p r (x ∷ xs) same = each_alike p r (x ∷ xs) same
-
--- the first rule that applies depends on which do
-first_alike : (p r : Refusal → Bool) → ((n : Refusal) → p n ≡ r n) → (ns : List Refusal) → first_of p ns ≡ first_of r ns
-first_alike p r same [] = refl
-first_alike p r same (n ∷ ns) =
-    ap (λ (t : Bool). if t then Some n else first_of p ns) (same n) ∙ ap (λ o. if r n then Some n else o) (first_alike p r same ns)
 
 -- ** what is noted of a transaction
 
@@ -178,65 +172,6 @@ module _ (gone : Gtrid → Bool) (k : Book) (ts : Gtrid → TransactionNotes) (n
   abbrev branch_noted_as : (b : Branch) → gone b.gtrid ≡ false → k.notes b ≡ noted b
   branch_noted_as b kept = sym (short.same_notes b kept)
 
-  unknown_alike : (s : Step) → names_one_of gone s ≡ false → forces_unknown_transaction_in k s ≡ forces_unknown_transaction_in full s
-  unknown_alike (Steps.Issue t r (Calls.Start (Ours b) join)) n = ap (λ (d : TransactionNotes). not d.begun) (noted_as b.gtrid n)
-  unknown_alike (Steps.Issue t r (Calls.End (Ours b) fail)) n = ap (λ (d : TransactionNotes). not d.begun) (noted_as b.gtrid n)
-  unknown_alike (Steps.Issue t r (Calls.Prepare (Ours b))) n = ap (λ (d : TransactionNotes). not d.begun) (noted_as b.gtrid n)
-  unknown_alike (Steps.Issue t r (Calls.Commit (Ours b) true)) n = ap (λ (d : TransactionNotes). not d.begun) (noted_as b.gtrid n)
-  unknown_alike (Steps.Issue t r (Calls.Commit (Ours b) false)) n =
-      ap (λ (d : TransactionNotes). not (d.begun || outlived_in k b.gtrid)) (noted_as b.gtrid n)
-  unknown_alike (Steps.Issue t r (Calls.Rollback (Ours b))) n = ap (λ (d : TransactionNotes). not d.begun) (noted_as b.gtrid n)
-  unknown_alike (Steps.Issue t r (Calls.Forget (Ours b))) n = ap (λ (d : TransactionNotes). not d.begun) (noted_as b.gtrid n)
-  unknown_alike (Steps.Decide g o) n = ap (λ (d : TransactionNotes). not d.begun) (noted_as g n)
-  unknown_alike (Steps.Claim g) n = ap (λ (d : TransactionNotes). not d.begun) (noted_as g n)
-  unknown_alike (Steps.Settle g) n = ap (λ (d : TransactionNotes). not d.begun) (noted_as g n)
-  unknown_alike (Steps.Abandon g) n = ap (λ (d : TransactionNotes). not d.begun) (noted_as g n)
-  unknown_alike (Steps.Done g) n = ap (λ (d : TransactionNotes). not (d.begun || outlived_in k g)) (noted_as g n)
-  unknown_alike _ n = refl
-
-  started_alike : (s : Step) → names_one_of gone s ≡ false → forces_already_started_in k s ≡ forces_already_started_in full s
-  started_alike (Steps.Issue t r (Calls.Start (Ours b) false)) n = ap (λ (x : Notes). x.started) (branch_noted_as b n)
-  started_alike (Steps.Issue t r (Calls.Start (Ours b) true)) n = ap (λ (x : Notes). x.started) (branch_noted_as b n)
-  started_alike _ n = refl
-
-  abbrev taken_up : (g : Gtrid) → TransactionNotes → Bool
-  taken_up g d = (d.committed || outlived_in k g) || (d.rolled_back || d.handed_over)
-
-  abbrev shut : (g : Gtrid) → TransactionNotes → Bool
-  shut g d = taken_up g d || d.claimed
-
-  decided_alike : (s : Step) → names_one_of gone s ≡ false → forces_decided_in k s ≡ forces_decided_in full s
-  decided_alike (Steps.Issue t r (Calls.Start (Ours b) false)) n = ap (shut b.gtrid) (noted_as b.gtrid n)
-  decided_alike (Steps.Issue t r (Calls.Start (Ours b) true)) n = ap (shut b.gtrid) (noted_as b.gtrid n)
-  decided_alike (Steps.Issue t r (Calls.Prepare (Ours b))) n = ap (shut b.gtrid) (noted_as b.gtrid n)
-  decided_alike (Steps.Issue t r (Calls.Commit (Ours b) true)) n = ap (shut b.gtrid) (noted_as b.gtrid n)
-  decided_alike (Steps.Decide g o) n = ap (shut g) (noted_as g n)
-  decided_alike (Steps.Claim g) n = ap (shut g) (noted_as g n)
-  decided_alike (Steps.Settle g) n = ap (taken_up g) (noted_as g n)
-  decided_alike (Steps.Abandon g) n = ap (taken_up g) (noted_as g n)
-  decided_alike _ n = refl
-
-  abbrev unclaimed : TransactionNotes → Bool
-  unclaimed d = is_live d && not d.claimed
-
-  undecided_alike : (s : Step) → names_one_of gone s ≡ false → forces_not_decided_in k s ≡ forces_not_decided_in full s
-  undecided_alike (Steps.Issue t r (Calls.Commit (Ours b) false)) n = refl
-  undecided_alike (Steps.Issue t r (Calls.Rollback (Ours b))) n =
-      ap (λ (d : TransactionNotes). not (d.rolled_back || d.handed_over)) (noted_as b.gtrid n)
-  undecided_alike (Steps.Issue t r (Calls.Forget (Ours b))) n = refl
-  undecided_alike (Steps.Settle g) n = ap unclaimed (noted_as g n)
-  undecided_alike (Steps.Abandon g) n = ap unclaimed (noted_as g n)
-  undecided_alike (Steps.Done g) n = refl
-  undecided_alike _ n = refl
-
-  votes_alike : (s : Step) → names_one_of gone s ≡ false → forces_votes_in k s ≡ forces_votes_in full s
-  votes_alike (Steps.Decide g Outcome.Commit) n = ap (λ (d : TransactionNotes). not (d.unvoted == 0)) (noted_as g n)
-  votes_alike (Steps.Claim g) n = ap (λ (d : TransactionNotes). not (d.unvoted == 0)) (noted_as g n)
-  votes_alike (Steps.Issue t r (Calls.Commit (Ours b) true)) n =
-      ap (λ (x : Notes). not (x.started && ((k.transaction b.gtrid).branches == 1))) (branch_noted_as b n)
-      ∙ ap (λ (d : TransactionNotes). not ((noted b).started && (d.branches == 1))) (noted_as b.gtrid n)
-  votes_alike _ n = refl
-
   -- a branch that is left on a line is not gone
   left_one : (l : Line) (b : Branch) → contains all b ≡ true → is_unfinished full l b ≡ true → (contains k.known b ≡ true) × (is_unfinished k l b ≡ true)
   left_one l b is left = (
@@ -287,42 +222,34 @@ module _ (gone : Gtrid → Bool) (k : Book) (ts : Gtrid → TransactionNotes) (n
       ap (λ (d : TransactionNotes). if d.begun then d.unsettled == 0 else waits_for_none k (k.row g)) (noted_as g kept)
       ∙ ap (λ (t : Bool). if (ts g).begun then (ts g).unsettled == 0 else t) (waits_alike g (k.row g) refl)
 
-  busy_alike : (s : Step) → names_one_of gone s ≡ false → forces_busy_in k s ≡ forces_busy_in full s
-  busy_alike (Steps.Issue t r Calls.CloseRm) n = unfinished_alike (line t r)
-  busy_alike (Steps.Issue t r (Calls.Rollback (Ours b))) n = ap (λ (x : Notes). x.on_line && not x.start_answered) (branch_noted_as b n)
-  busy_alike (Steps.Done g) n = ap not (settled_alike g n)
-  busy_alike _ n = refl
-
-  limit_alike : (s : Step) → forces_limit_in k s ≡ forces_limit_in full s
-  limit_alike (Steps.Begin t) = refl
-  limit_alike _ = refl
-
-  applies_alike : (s : Step) → names_one_of gone s ≡ false → (n : Refusal) → applies_in k s n ≡ applies_in full s n
-  applies_alike s named Refusals.ManagerDown = refl
-  applies_alike s named Refusals.UnknownTransaction = unknown_alike s named
-  applies_alike s named Refusals.WrongThread = refl
-  applies_alike s named Refusals.AlreadyStarted = started_alike s named
-  applies_alike s named Refusals.Decided = decided_alike s named
-  applies_alike s named Refusals.NotDecided = undecided_alike s named
-  applies_alike s named Refusals.Votes = votes_alike s named
-  applies_alike s named Refusals.Busy = busy_alike s named
-  applies_alike s named Refusals.Limit = limit_alike s
-  applies_alike s named _ = refl
-
-  there_same : (s : Step) → is_there_in k s ≡ is_there_in full s
-  there_same (Steps.Begin t) = refl
-  there_same (Steps.Issue t r a) = refl
-  there_same (Steps.Hear t r) = refl
-  there_same (Steps.Recover r n start end) = refl
-  there_same (Steps.Resolve r) = refl
-  there_same (Steps.ResolveOpen r) = refl
-  there_same (Steps.Crash (Part.Line t r)) = refl
-  there_same _ = refl
+  -- the book with the same notes of each transaction and each branch
+  abbrev noting : TransactionNotes → Notes → Book
+  noting d x = record k { transaction = λ g. d; notes = λ b. x }
 
   others_alike : (s : Step) → names_one_of gone s ≡ false → refusal_in k s ≡ refusal_in full s
-  others_alike s n =
-      ap (λ (t : Bool). if t then first_of (applies_in k s) manager_rules else Some Refusals.Limit) (there_same s)
-      ∙ ap (λ o. if is_there_in full s then o else Some Refusals.Limit) (first_alike (applies_in k s) (applies_in full s) (applies_alike s n) manager_rules)
+  others_alike (Steps.Issue t r Calls.CloseRm) n =
+      ap (λ u. refusal_of (record (view_in k) { has_unfinished = λ l. u }) at_rest (Steps.Issue t r Calls.CloseRm)) (unfinished_alike (line t r))
+  others_alike (Steps.Issue t r (Calls.Start (Ours b) join)) n =
+      λ i. refusal_in (noting (noted_as b.gtrid n i) (branch_noted_as b n i)) (Steps.Issue t r (Calls.Start (Ours b) join))
+  others_alike (Steps.Issue t r (Calls.End (Ours b) fail)) n =
+      λ i. refusal_in (noting (noted_as b.gtrid n i) no_notes) (Steps.Issue t r (Calls.End (Ours b) fail))
+  others_alike (Steps.Issue t r (Calls.Prepare (Ours b))) n =
+      λ i. refusal_in (noting (noted_as b.gtrid n i) no_notes) (Steps.Issue t r (Calls.Prepare (Ours b)))
+  others_alike (Steps.Issue t r (Calls.Commit (Ours b) true)) n =
+      λ i. refusal_in (noting (noted_as b.gtrid n i) (branch_noted_as b n i)) (Steps.Issue t r (Calls.Commit (Ours b) true))
+  others_alike (Steps.Issue t r (Calls.Commit (Ours b) false)) n =
+      λ i. refusal_in (noting (noted_as b.gtrid n i) no_notes) (Steps.Issue t r (Calls.Commit (Ours b) false))
+  others_alike (Steps.Issue t r (Calls.Rollback (Ours b))) n =
+      λ i. refusal_in (noting (noted_as b.gtrid n i) (branch_noted_as b n i)) (Steps.Issue t r (Calls.Rollback (Ours b)))
+  others_alike (Steps.Issue t r (Calls.Forget (Ours b))) n =
+      λ i. refusal_in (noting (noted_as b.gtrid n i) no_notes) (Steps.Issue t r (Calls.Forget (Ours b)))
+  others_alike (Steps.Decide g o) n = λ i. refusal_in (noting (noted_as g n i) no_notes) (Steps.Decide g o)
+  others_alike (Steps.Claim g) n = λ i. refusal_in (noting (noted_as g n i) no_notes) (Steps.Claim g)
+  others_alike (Steps.Settle g) n = λ i. refusal_in (noting (noted_as g n i) no_notes) (Steps.Settle g)
+  others_alike (Steps.Abandon g) n = λ i. refusal_in (noting (noted_as g n i) no_notes) (Steps.Abandon g)
+  others_alike (Steps.Done g) n =
+      λ i. refusal_of (record (view_in (noting (noted_as g n i) no_notes)) { row_settled = λ h. settled_alike g n i }) at_rest (Steps.Done g)
+  others_alike _ n = refl
 
   -- ** refusals of a step that names one of those that are gone
 
@@ -340,32 +267,34 @@ module _ (gone : Gtrid → Bool) (k : Book) (ts : Gtrid → TransactionNotes) (n
   is_unknown_row : (g : Gtrid) → gone g ≡ true → not ((k.transaction g).begun || outlived_in k g) ≡ true
   is_unknown_row g is = ap (λ t. not (t || outlived_in k g)) (short.unbegun g is) ∙ ap not (not_outlived g is)
 
-  gone_unknown : (s : Step) → names_one_of gone s ≡ true → (forces_unknown_transaction_in k s ≡ true) × (asks_manager s ≡ true)
-  gone_unknown (Steps.Issue t r (Calls.Start (Ours b) join)) n = (is_unknown b.gtrid n, refl)
-  gone_unknown (Steps.Issue t r (Calls.End (Ours b) fail)) n = (is_unknown b.gtrid n, refl)
-  gone_unknown (Steps.Issue t r (Calls.Prepare (Ours b))) n = (is_unknown b.gtrid n, refl)
-  gone_unknown (Steps.Issue t r (Calls.Commit (Ours b) true)) n = (is_unknown b.gtrid n, refl)
-  gone_unknown (Steps.Issue t r (Calls.Commit (Ours b) false)) n = (is_unknown_row b.gtrid n, refl)
-  gone_unknown (Steps.Issue t r (Calls.Rollback (Ours b))) n = (is_unknown b.gtrid n, refl)
-  gone_unknown (Steps.Issue t r (Calls.Forget (Ours b))) n = (is_unknown b.gtrid n, refl)
-  gone_unknown (Steps.Decide g o) n = (is_unknown g n, refl)
-  gone_unknown (Steps.Claim g) n = (is_unknown g n, refl)
-  gone_unknown (Steps.Settle g) n = (is_unknown g n, refl)
-  gone_unknown (Steps.Abandon g) n = (is_unknown g n, refl)
-  gone_unknown (Steps.Done g) n = (is_unknown_row g n, refl)
-  gone_unknown _ n = absurd (cc)
+  -- such a step is refused so
+  unknown_so : (there unknown : Bool) (rest : Option Refusal) → unknown ≡ true
+      → (if there then (if not k.up then Some Refusals.ManagerDown else (if unknown then Some Refusals.UnknownTransaction else rest)) else Some Refusals.Limit)
+      ≡ Some (if not there then Refusals.Limit else (if k.up then Refusals.UnknownTransaction else Refusals.ManagerDown))
+  unknown_so there unknown rest is = by there k.up unknown is
+    where
+      by : (t u f : Bool) → f ≡ true
+          → (if t then (if not u then Some Refusals.ManagerDown else (if f then Some Refusals.UnknownTransaction else rest)) else Some Refusals.Limit)
+          ≡ Some (if not t then Refusals.Limit else (if u then Refusals.UnknownTransaction else Refusals.ManagerDown))
+      by false u f is = refl
+      by true false f is = refl
+      by true true true is = refl
+      by true true false is = absurd (cc)
 
   gone_refused : (s : Step) → names_one_of gone s ≡ true → refusal_in k s ≡ Some (unknown_in k s)
-  gone_refused s n = by (is_there_in k s) k.up (asks_manager s) (forces_unknown_transaction_in k s) _ (gone_unknown s n).1 (gone_unknown s n).0
-    where
-      by : (t u a f : Bool) (rest : Option Refusal) → a ≡ true → f ≡ true
-          → (if t then (if a && not u then Some Refusals.ManagerDown else (if f then Some Refusals.UnknownTransaction else rest)) else Some Refusals.Limit)
-          ≡ Some (if not t then Refusals.Limit else (if u then Refusals.UnknownTransaction else Refusals.ManagerDown))
-      by false u a f rest asks is = refl
-      by true true true true rest asks is = refl
-      by true false true f rest asks is = refl
-      by true u false f rest asks is = absurd (cc)
-      by true true true false rest asks is = absurd (cc)
+  gone_refused (Steps.Issue t r (Calls.Start (Ours b) join)) n = unknown_so _ _ _ (is_unknown b.gtrid n)
+  gone_refused (Steps.Issue t r (Calls.End (Ours b) fail)) n = unknown_so _ _ _ (is_unknown b.gtrid n)
+  gone_refused (Steps.Issue t r (Calls.Prepare (Ours b))) n = unknown_so _ _ _ (is_unknown b.gtrid n)
+  gone_refused (Steps.Issue t r (Calls.Commit (Ours b) true)) n = unknown_so _ _ _ (is_unknown b.gtrid n)
+  gone_refused (Steps.Issue t r (Calls.Commit (Ours b) false)) n = unknown_so _ _ _ (is_unknown_row b.gtrid n)
+  gone_refused (Steps.Issue t r (Calls.Rollback (Ours b))) n = unknown_so _ _ _ (is_unknown b.gtrid n)
+  gone_refused (Steps.Issue t r (Calls.Forget (Ours b))) n = unknown_so _ _ _ (is_unknown b.gtrid n)
+  gone_refused (Steps.Decide g o) n = unknown_so true _ _ (is_unknown g n)
+  gone_refused (Steps.Claim g) n = unknown_so true _ _ (is_unknown g n)
+  gone_refused (Steps.Settle g) n = unknown_so true _ _ (is_unknown g n)
+  gone_refused (Steps.Abandon g) n = unknown_so true _ _ (is_unknown g n)
+  gone_refused (Steps.Done g) n = unknown_so true _ _ (is_unknown_row g n)
+  gone_refused _ n = absurd (cc)
 
   refuses_no_more : (s : Step) → refusal_in k s ≡ None → refusal_in full s ≡ None
   refuses_no_more s none = by (names_one_of gone s) refl

@@ -12,11 +12,12 @@ use Rattle.xa_base.specs.Opening.{has_closed}
 use Rattle.xa_model.specs.Protocol.{IsRun, Right}
 use Rattle.xa_model.specs.Replies.Rules.{must_refuse}
 use Rattle.xa_model.specs.Replies.Steps.{Step}
+use Rattle.xa_model.specs.Replies.View.{view_of}
 use Rattle.xa_model.specs.Trace.{Answer, Call, Fault.InDecide, Fault.InDone, Fault.InHear, Happening, Happening.Done, Happening.Failed, Happening.ResolvedOpen, Happening.Restarted, Line, Trace, Trace.Then}
 use Rattle.xa_log.specs.Content.{Content}
 use Rattle.xa_tm.specs.Book.{Book, Doubt.Adds, Doubt.Drops, doubt_of_happening, book_after, book_of, doubt_of, rows_for}
 use Rattle.xa_tm.specs.BookAndLog.{IsChangeOf}
-use Rattle.xa_tm.specs.Refusing.{managers_refusal, refusal_in, resolved_in, resolved_open_in}
+use Rattle.xa_tm.specs.Refusing.{managers_refusal, refusal_in, resolved_in, resolved_open_in, view_in}
 use Rattle.xa_tm.specs.Starting.{rows_from}
 
 -- the numbers of rows: a row that leaves is one, and a restart finds those that are there
@@ -71,6 +72,10 @@ VotesAreCounted = (tr : Trace) (g : Gtrid) → IsRun tr
 abbrev pub SettlementsAreCounted : Type 0
 SettlementsAreCounted = (tr : Trace) (g : Gtrid) → IsRun tr → begun tr g ≡ true
     → ((book_of tr).transaction g).unsettled ≡ length (filter (λ b. gtrid_eq b.gtrid g && not (is_settled tr b)) (branches tr))
+
+-- the book of a right history says what a refusal looks at as the history does
+abbrev pub ViewsAgree : Type 0
+ViewsAgree = (tr : Trace) → IsRun tr → view_in (book_of tr) ≡ view_of tr
 
 -- the step names no thread and no resource manager that only others look at
 abbrev pub IsLookedAt : Step → Type 0

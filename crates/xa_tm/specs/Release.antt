@@ -10,11 +10,12 @@ use Rattle.xa_base.specs.declared.refusal.Refusal.{Refusal}
 use Rattle.xa_base.specs.declared.refusal.Refusal.TheVariants as Refusals
 use Rattle.xa_base.specs.declared.step.Step.TheVariants as Steps
 use Rattle.xa_log.specs.KeySet.{contains, from_list, items}
+use Rattle.xa_model.specs.Replies.Guards.{is_there}
 use Rattle.xa_model.specs.Replies.Steps.{Step}
 use Rattle.xa_model.specs.Trace.{Call, Happening, Happening.Begun, Happening.Decided, Happening.Issued, Happening.Restarted, Name, Name.Ours}
 use Rattle.xa_tm.specs.Book.{Book, Doubt, Waiting, book_after}
 use Rattle.xa_tm.specs.LedgerBook.{IsSound}
-use Rattle.xa_tm.specs.Refusing.{is_there_in, live_in, refusal_in, resolved_in, resolved_open_in}
+use Rattle.xa_tm.specs.Refusing.{live_in, refusal_in, resolved_in, resolved_open_in, view_in}
 use Rattle.xa_tm.specs.Starting.{no_notes, no_transaction_notes}
 use Rattle.xa_tm.specs.declared.ledger.Ledger.{Ledger}
 use Rattle.xa_tm.specs.declared.manager.Manager.{Manager}
@@ -109,7 +110,7 @@ names_one_of gone _ = false
 -- what such a step is refused with, as one that names a transaction which was never begun
 abbrev pub unknown_in : Book → Step → Refusal
 unknown_in k s =
-    if not (is_there_in k s) then Refusals.Limit
+    if not (is_there (view_in k) s) then Refusals.Limit
     else (if k.up then Refusals.UnknownTransaction else Refusals.ManagerDown)
 
 -- ** the laws

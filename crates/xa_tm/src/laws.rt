@@ -12,7 +12,8 @@ ghost use Rattle.xa_tm.specs.Laws.{AnswersAskTheRecord, BooksFollowHistories, Br
 ghost use Rattle.xa_tm.specs.Laws.{DecisionsAskTheRows, DonesAskTheRows, DoubtsAreOfRows, DropsAreCounted, DroppedRowsAreThere};
 ghost use Rattle.xa_tm.specs.Laws.{ManagersRefusalsAreAll, OpenHasNoRow, OpenResolvesAreRead};
 ghost use Rattle.xa_tm.specs.Laws.{RecoveriesCloseNone, RefusalsAreRead, ResolvesAreRead, RightBooksFollow};
-ghost use Rattle.xa_tm.specs.Laws.{RowsAreCounted, SettlementsAreCounted, StartRowsAreApart, VotesAreCounted};
+ghost use Rattle.xa_tm.specs.Laws.{RowsAreCounted, SettlementsAreCounted, StartRowsAreApart, ViewsAgree};
+ghost use Rattle.xa_tm.specs.Laws.{VotesAreCounted};
 ghost use Rattle.xa_tm.specs.Limits.{AnswersAreCodes, BooksAreSound, EventsAreHappenings, FoundIsAllowed};
 ghost use Rattle.xa_tm.specs.Limits.{FoundIsThere, LimitsAreKept, OldStartsAreRight, RecordsFit};
 ghost use Rattle.xa_tm.specs.RefusalOrder.{RefusalsAreMerged};
@@ -101,8 +102,14 @@ pub fn restarts_find_what_is_there()
     ensures allowed { FoundIsAllowed }
 {}
 
-/// The refusals that are read off the book are those that the history forces.
+/// The refusals that are read off the book are those that the history forces:
+///
+/// - `views`: the book of a right history says what a refusal looks at as the history does;
+/// - `read`: so the manager refuses a step by its book as the history has it refused;
+/// - `alone`: if a step asks the manager alone, these are all its refusals;
+/// - `merged`: else a step is refused with the lower of what the manager finds and what lines and resource managers find.
 pub fn refusals_are_read()
+    ensures views { ViewsAgree }
     ensures read { RefusalsAreRead }
     ensures alone { ManagersRefusalsAreAll }
     ensures merged { RefusalsAreMerged }

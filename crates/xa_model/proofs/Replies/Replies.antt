@@ -12,7 +12,8 @@ use Rattle.xa_base.specs.declared.step.Side.TheVariants as Side
 use Rattle.xa_model.specs.Replies.Allowed.{Takes, Takes.Takes_one, Takes.Takes_none, Hears, Hears.Hears_one, Hears.Hears_none, Restarts, Restarts.Restarts_as, IsValue, UsesLog, Allowed, Allowed.By_rule, Allowed.As_value, Allowed.For_memory, Allowed.For_log, with_steps, AllAllowed}
 use Rattle.xa_model.specs.Facts.{branches, outlived, participants_settled, decided_so, claimed, up, begun, live, started, is_settled, all_of, has_voted, is_taken_up, is_shut}
 use Rattle.xa_model.specs.Protocol.{IsKnown, IsRowSettled, HasVoted, MayBeCalled, IsOpen, RightCall, IsOnOwnThread, RightClaim, RightDecision, RightDone, Right, AllRight}
-use Rattle.xa_model.specs.Replies.Rules.{is_own, asks_manager, applies, rules, first_of, is_there, must_refuse, forces_wrong_thread}
+use Rattle.xa_model.specs.Replies.Guards.{is_off_line}
+use Rattle.xa_model.specs.Replies.Rules.{applies, must_refuse}
 use Rattle.xa_base.specs.declared.reply.Reply.TheVariants as Replies
 use Rattle.xa_base.specs.declared.step.Step.TheVariants as Steps
 use Rattle.xa_model.specs.Replies.Steps.{Step, Refusal, Reply, accepted, if_ours, happened}
@@ -21,88 +22,7 @@ use Rattle.xa_base.specs.StateTable.{on}
 use Rattle.xa_model.specs.Trace.{Gtrid, Branch, Call, Name.Ours, Name.Foreign, Kind, Kind.Start, Kind.Join, Kind.End, Kind.Prepare, Kind.Commit, Kind.OnePhase, Kind.Rollback, Kind.Forget, Outcome, Happening, Happening.Issued, Trace, Trace.From, Trace.Then, line}
 use Rattle.xa_base.proofs.BranchKeys.{branch_eq-true, gtrid_eq-refl}
 use Rattle.xa_model.proofs.RecoveryLemmas.Pages.{right_is_sound}
-
--- ** no rule applies
-
-abbrev pub In : List Refusal → Refusal → Type 0
-In [] n = ⊥
-In (x ∷ xs) n = (x ≡ n) ⊎ In xs n
-
-pub peel : (t : Bool) (n : Refusal) (rest : Option Refusal) → (if t then Some n else rest) ≡ None → (t ≡ false) × (rest ≡ None)
-peel true n rest e = absurd (cc)
-peel false n rest e = (refl, e)
-
-pub first_none : (test : Refusal → Bool) (ns : List Refusal) (n : Refusal) → first_of test ns ≡ None → In ns n → test n ≡ false
-first_none test [] n e i = absurd i
-first_none test (x ∷ ns) n e (inl q) = ap test (sym q) ∙ (peel (test x) x (first_of test ns) e).0
-first_none test (x ∷ ns) n e (inr i) = first_none test ns n (peel (test x) x (first_of test ns) e).1 i
-
--- each refusal is in the list, or never applies
-pub each_rule : (n : Refusal) → In rules n ⊎ ((tr : Trace) (s : Step) → applies tr s n ≡ false)
-each_rule Refusal.ManagerDown = inl (inl refl)
-each_rule Refusal.RmDown = inl (inr (inl refl))
-each_rule Refusal.NotOpen = inl (inr (inr (inl refl)))
-each_rule Refusal.Closed = inl (inr (inr (inr (inl refl))))
-each_rule Refusal.UnknownTransaction = inl (inr (inr (inr (inr (inl refl)))))
-each_rule Refusal.WrongThread = inl (inr (inr (inr (inr (inr (inl refl))))))
-each_rule Refusal.AlreadyStarted = inl (inr (inr (inr (inr (inr (inr (inl refl)))))))
-each_rule Refusal.Decided = inl (inr (inr (inr (inr (inr (inr (inr (inl refl))))))))
-each_rule Refusal.NotDecided = inl (inr (inr (inr (inr (inr (inr (inr (inr (inl refl)))))))))
-each_rule Refusal.Votes = inl (inr (inr (inr (inr (inr (inr (inr (inr (inr (inl refl))))))))))
-each_rule Refusal.Busy = inl (inr (inr (inr (inr (inr (inr (inr (inr (inr (inr (inl refl)))))))))))
-each_rule Refusal.Full = inl (inr (inr (inr (inr (inr (inr (inr (inr (inr (inr (inr (inl refl))))))))))))
-each_rule Refusal.Script = inl (inr (inr (inr (inr (inr (inr (inr (inr (inr (inr (inr (inr (inl refl)))))))))))))
-each_rule Refusal.Limit = inl (inr (inr (inr (inr (inr (inr (inr (inr (inr (inr (inr (inr (inr (inl refl))))))))))))))
-each_rule Refusal.LogFault = inr (λ tr s. refl)
-each_rule Refusal.Memory = inr (λ tr s. refl)
-
-pub none_refused : (t : Bool) (o : Option Refusal) → (if t then o else Some Refusal.Limit) ≡ None → o ≡ None
-none_refused true o e = e
-none_refused false o e = absurd (cc)
-
-pub none_applies : (tr : Trace) (s : Step) (n : Refusal) → must_refuse tr s ≡ None → applies tr s n ≡ false
-none_applies tr s n e = by_place (each_rule n)
-  where
-    by_place : In rules n ⊎ ((tr : Trace) (s : Step) → applies tr s n ≡ false) → applies tr s n ≡ false
-    by_place (inl i) = first_none (applies tr s) rules n (none_refused (is_there tr s) _ e) i
-    by_place (inr f) = f tr s
-
--- ** the refusal that applies
-
--- a history forces neither LogFault nor Memory
-abbrev pub IsForced : Refusal → Type 0
-IsForced Refusal.LogFault = ⊥
-IsForced Refusal.Memory = ⊥
-IsForced _ = Unit
-
-pub first_some : (test : Refusal → Bool) (ns : List Refusal) (n : Refusal) → first_of test ns ≡ Some n → In ns n
-first_some test [] n e = absurd (cc)
-first_some test (x ∷ ns) n e = by_test (test x) e (first_some test ns n)
-  where
-    by_test : (t : Bool) → (if t then Some x else first_of test ns) ≡ Some n → (first_of test ns ≡ Some n → In ns n) → (x ≡ n) ⊎ In ns n
-    by_test true e f = inl (cc)
-    by_test false e f = inr (f e)
-
-pub AllForced : List Refusal → Type 0
-AllForced [] = Unit
-AllForced (x ∷ xs) = IsForced x × AllForced xs
-
-pub of_all_forced : (ns : List Refusal) (n : Refusal) → AllForced ns → In ns n → IsForced n
-unfolding AllForced
-of_all_forced [] n a i = absurd i
-of_all_forced (x ∷ ns) n a (inl e) = subst IsForced e a.0
-of_all_forced (x ∷ ns) n a (inr i) = of_all_forced ns n a.1 i
-
-pub rules_forced : AllForced rules
-unfolding AllForced
-rules_forced = (tt, (tt, (tt, (tt, (tt, (tt, (tt, (tt, (tt, (tt, (tt, (tt, (tt, (tt, tt))))))))))))))
-
-pub forced : (tr : Trace) (s : Step) (n : Refusal) → must_refuse tr s ≡ Some n → IsForced n
-forced tr s n e = by_place (is_there tr s) e
-  where
-    by_place : (t : Bool) → (if t then first_of (applies tr s) rules else Some Refusal.Limit) ≡ Some n → IsForced n
-    by_place true e = of_all_forced rules n rules_forced (first_some (applies tr s) rules n e)
-    by_place false e = let p : Refusal.Limit ≡ n = cc in subst IsForced p tt
+use Rattle.xa_model.proofs.Replies.Guards.{IsForced, forced, none_applies}
 
 -- ** tests
 
@@ -110,12 +30,8 @@ abbrev pub InBranches : List Branch → Branch → Type 0
 InBranches [] b = ⊥
 InBranches (x ∷ xs) b = (x ≡ b) ⊎ InBranches xs b
 
-pub is_up : (tr : Trace) (s : Step) → must_refuse tr s ≡ None → asks_manager s ≡ true → up tr ≡ true
-is_up tr s e a = not-false (up tr) (by_ask (asks_manager s) a (none_applies tr s Refusal.ManagerDown e))
-  where
-    by_ask : (t : Bool) → t ≡ true → (t && not (up tr)) ≡ false → not (up tr) ≡ false
-    by_ask true a e = e
-    by_ask false a e = absurd (cc)
+pub is_up : (tr : Trace) (s : Step) → must_refuse tr s ≡ None → applies tr s Refusal.ManagerDown ≡ not (up tr) → up tr ≡ true
+is_up tr s e asks = not-false (up tr) (sym asks ∙ none_applies tr s Refusal.ManagerDown e)
 
 pub is_live : (tr : Trace) (g : Gtrid) → begun tr g ≡ true → is_taken_up tr g ≡ false → live tr g ≡ true
 is_live tr g b n = by_tests (begun tr g) (decided_so Outcome.Commit tr g) (outlived tr g) _ b n
@@ -206,32 +122,27 @@ may_be_called tr t n Commit b e h = not-false _ (none_applies tr (Steps.Issue t 
 may_be_called tr t n Rollback b e h = or_cases _ _ (not-false _ (none_applies tr (Steps.Issue t n (Calls.Rollback (Ours b))) Refusal.NotDecided e))
 may_be_called tr t n Forget b e h = not-false _ (none_applies tr (Steps.Issue t n (Calls.Forget (Ours b))) Refusal.NotDecided e)
 
-pub own_thread : (t n : ℕ) (k : Kind) (b : Branch) → (not (nat_eq n b.rm) || (is_own k && not (nat_eq t b.thread))) ≡ false → IsOnOwnThread k (line t n) b
-own_thread t n Start b e = eqb-true _ _ (not-false _ (or_parts _ _ e).1)
-own_thread t n Join b e = eqb-true _ _ (not-false _ (or_parts _ _ e).1)
-own_thread t n (End fail) b e = eqb-true _ _ (not-false _ (or_parts _ _ e).1)
-own_thread t n Prepare b e = eqb-true _ _ (not-false _ (or_parts _ _ e).1)
-own_thread t n OnePhase b e = eqb-true _ _ (not-false _ (or_parts _ _ e).1)
-own_thread t n Commit b e = tt
-own_thread t n Rollback b e = tt
-own_thread t n Forget b e = tt
+-- the line is the branch's own
+on_own_line : (t n : ℕ) (b : Branch) → is_off_line t n b ≡ false → (n ≡ b.rm) × (t ≡ b.thread)
+on_own_line t n b e = let p = or_parts _ _ e in (eqb-true _ _ (not-false _ p.0), eqb-true _ _ (not-false _ p.1))
 
-wrong_thread : (t n : ℕ) (k : Kind) (b : Branch)
-    → forces_wrong_thread (Steps.Issue t n (on k (Ours b))) ≡ (not (nat_eq n b.rm) || (is_own k && not (nat_eq t b.thread)))
-wrong_thread t n Start b = refl
-wrong_thread t n Join b = refl
-wrong_thread t n (End fail) b = refl
-wrong_thread t n Prepare b = refl
-wrong_thread t n Commit b = refl
-wrong_thread t n OnePhase b = refl
-wrong_thread t n Rollback b = refl
-wrong_thread t n Forget b = refl
+own_line : (tr : Trace) (t n : ℕ) (k : Kind) (b : Branch) → must_refuse tr (Steps.Issue t n (on k (Ours b))) ≡ None
+    → (n ≡ b.rm) × IsOnOwnThread k (line t n) b
+own_line tr t n Start b e = on_own_line t n b (none_applies tr (Steps.Issue t n (Calls.Start (Ours b) false)) Refusal.WrongThread e)
+own_line tr t n Join b e = on_own_line t n b (none_applies tr (Steps.Issue t n (Calls.Start (Ours b) true)) Refusal.WrongThread e)
+own_line tr t n (End fail) b e = on_own_line t n b (none_applies tr (Steps.Issue t n (Calls.End (Ours b) fail)) Refusal.WrongThread e)
+own_line tr t n Prepare b e = on_own_line t n b (none_applies tr (Steps.Issue t n (Calls.Prepare (Ours b))) Refusal.WrongThread e)
+own_line tr t n OnePhase b e = on_own_line t n b (none_applies tr (Steps.Issue t n (Calls.Commit (Ours b) true)) Refusal.WrongThread e)
+own_line tr t n Commit b e =
+    (eqb-true _ _ (not-false _ (none_applies tr (Steps.Issue t n (Calls.Commit (Ours b) false)) Refusal.WrongThread e)), tt)
+own_line tr t n Rollback b e = (eqb-true _ _ (not-false _ (none_applies tr (Steps.Issue t n (Calls.Rollback (Ours b))) Refusal.WrongThread e)), tt)
+own_line tr t n Forget b e = (eqb-true _ _ (not-false _ (none_applies tr (Steps.Issue t n (Calls.Forget (Ours b))) Refusal.WrongThread e)), tt)
 
 pub right_call : (tr : Trace) (t n : ℕ) (k : Kind) (b : Branch) → must_refuse tr (Steps.Issue t n (on k (Ours b))) ≡ None → RightCall tr (line t n) k b
 right_call tr t n k b e =
     let h = is_known tr t n k b e in
-    let w = sym (wrong_thread t n k b) ∙ none_applies tr (Steps.Issue t n (on k (Ours b))) Refusal.WrongThread e in
-    record { known = h; own_rm = eqb-true _ _ (not-false _ (or_parts _ _ w).0); own_thread = own_thread t n k b w; may_be = may_be_called tr t n k b e h }
+    let own = own_line tr t n k b e in
+    record { known = h; own_rm = own.0; own_thread = own.1; may_be = may_be_called tr t n k b e h }
 
 pub right_decision : (tr : Trace) (g : Gtrid) (o : Outcome) → must_refuse tr (Steps.Decide g o) ≡ None → RightDecision tr g o
 right_decision tr g o e = record {
@@ -254,17 +165,13 @@ right_claim tr g e = record {
   votes = λ b k s. voted_of tr b (each_started tr g (has_voted tr) (none_applies tr (Steps.Claim g) Refusal.Votes e) b k s);
 }
 
-pub claimed_of : (s t : Bool) → s ≡ true → (s && not t) ≡ false → t ≡ true
-claimed_of true t p e = not-false t e
-claimed_of false t p e = absurd (cc)
-
 pub right_settle : (tr : Trace) (g : Gtrid) → must_refuse tr (Steps.Settle g) ≡ None → RightDecision tr g Outcome.Commit
 right_settle tr g e =
     let l = is_live tr g (not-false _ (none_applies tr (Steps.Settle g) Refusal.UnknownTransaction e)) (none_applies tr (Steps.Settle g) Refusal.Decided e) in
     record {
       is_up = is_up tr (Steps.Settle g) e refl;
       is_live = l;
-      votes = λ q. inr (claimed_of (live tr g) (claimed tr g) l (none_applies tr (Steps.Settle g) Refusal.NotDecided e));
+      votes = λ q. inr (not-false _ (none_applies tr (Steps.Settle g) Refusal.NotDecided e));
     }
 
 pub right_abandon : (tr : Trace) (g : Gtrid) → must_refuse tr (Steps.Abandon g) ≡ None → RightDecision tr g Outcome.Rollback

@@ -25,7 +25,8 @@ use Rattle.xa_base.specs.declared.step.Side.TheVariants as Side
 use Rattle.xa_base.specs.declared.step.Step as Given
 use Rattle.xa_base.specs.declared.step.Step.TheVariants as Steps
 use Rattle.xa_model.proofs.Keys.{line_eq-true}
-use Rattle.xa_model.proofs.Replies.Replies.{allowed_right, none_applies, accepted_ours}
+use Rattle.xa_model.proofs.Replies.Guards.{none_applies}
+use Rattle.xa_model.proofs.Replies.Replies.{allowed_right, accepted_ours}
 use Rattle.xa_base.specs.declared.code.Code.TheVariants as Codes
 use Rattle.xa_base.specs.declared.vote.Vote.TheVariants.{Yes}
 use Rattle.xa_base.proofs.BranchKeys.{branch_eq-true}

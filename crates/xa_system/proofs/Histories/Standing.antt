@@ -19,7 +19,7 @@ use Rattle.xa_base.specs.declared.refusal.Refusal.{Refusal}
 use Rattle.xa_base.specs.declared.refusal.Refusal.TheVariants as Refusals
 use Rattle.xa_base.specs.declared.reply.Reply.{Reply}
 use Rattle.xa_base.specs.declared.reply.Reply.TheVariants as Replies
-use Rattle.xa_model.proofs.Replies.Replies.{IsForced, forced}
+use Rattle.xa_model.proofs.Replies.Guards.{IsForced, forced}
 use Rattle.xa_base.specs.declared.step.Step.{Step}
 use Rattle.xa_line.specs.Grid.{Grid, HasLine, IsWhole, line_at, with_line}
 use Rattle.xa_line.specs.Traffic.{Traffic}

@@ -6,7 +6,9 @@ use Rattle.xa_base.specs.Branch.{branch_eq}
 use Rattle.xa_model.specs.Replies.Allowed.{AllAllowed, Allowed, Allowed.By_rule, Allowed.As_value, Allowed.For_memory, Allowed.For_log, Hears, Hears.Hears_none, Hears.Hears_one, IsValue, Restarts, Restarts.Restarts_as, Takes, Takes.Takes_none, Takes.Takes_one, with_steps}
 use Rattle.xa_base.specs.Standing.{is_in_doubt}
 use Rattle.xa_model.specs.Facts.{origin, standing, started}
-use Rattle.xa_model.specs.Replies.Rules.{is_there, must_refuse}
+use Rattle.xa_model.specs.Replies.Guards.{is_there}
+use Rattle.xa_model.specs.Replies.Rules.{must_refuse}
+use Rattle.xa_model.specs.Replies.View.{view_of}
 use Rattle.xa_model.specs.Replies.Steps.{Reply, Step, happened, if_ours, log_failed, refused}
 use Rattle.xa_model.specs.Trace.{Happening, Happening.Heard, Happening.Issued, Happening.PutOff, Happening.Took, Happening.Voted, Name.Foreign, Name.Ours, Origin, Trace, Trace.From, Trace.Then, line}
 use Rattle.xa_base.specs.declared.branch.Branch.{Branch}
@@ -16,7 +18,8 @@ use Rattle.xa_base.specs.declared.refusal.Refusal.TheVariants as Refusals
 use Rattle.xa_base.specs.declared.step.Side.TheVariants as Side
 use Rattle.xa_base.specs.declared.step.Step.TheVariants as Steps
 use Rattle.xa_base.proofs.BranchKeys.{branch_eq-true}
-use Rattle.xa_model.proofs.Replies.Replies.{accepted_ours, none_applies}
+use Rattle.xa_model.proofs.Replies.Guards.{none_applies}
+use Rattle.xa_model.proofs.Replies.Replies.{accepted_ours}
 
 -- the branch's line is one of these
 abbrev pub IsWithin : Origin → Branch → Type 0
@@ -82,10 +85,10 @@ value_within tr (Steps.Issue t n Calls.OpenRm) r e v = by (origin tr) (Steps.Iss
 value_within tr (Steps.Issue t n Calls.CloseRm) r e v = by (origin tr) (Steps.Issue t n Calls.CloseRm) r _ v tt
 value_within tr (Steps.Issue t n (Calls.Start (Ours b) false)) r e v =
     let s : Step = Steps.Issue t n (Calls.Start (Ours b) false) in
-    by (origin tr) s r _ v (start_within tr t n b (there (is_there tr s) _ e) (none_applies tr s Refusals.WrongThread e))
+    by (origin tr) s r _ v (start_within tr t n b (there (is_there (view_of tr) s) _ e) (none_applies tr s Refusals.WrongThread e))
 value_within tr (Steps.Issue t n (Calls.Start (Ours b) true)) r e v =
     let s : Step = Steps.Issue t n (Calls.Start (Ours b) true) in
-    by (origin tr) s r _ v (start_within tr t n b (there (is_there tr s) _ e) (none_applies tr s Refusals.WrongThread e))
+    by (origin tr) s r _ v (start_within tr t n b (there (is_there (view_of tr) s) _ e) (none_applies tr s Refusals.WrongThread e))
 value_within tr (Steps.Issue t n (Calls.Start (Foreign x) j)) r e v = by (origin tr) (Steps.Issue t n (Calls.Start (Foreign x) j)) r _ v tt
 value_within tr (Steps.Issue t n (Calls.End (Ours b) i)) r e v = by (origin tr) (Steps.Issue t n (Calls.End (Ours b) i)) r _ v tt
 value_within tr (Steps.Issue t n (Calls.End (Foreign x) i)) r e v = by (origin tr) (Steps.Issue t n (Calls.End (Foreign x) i)) r _ v tt
@@ -102,12 +105,12 @@ value_within tr (Steps.Take t n) r e v = takes_within (origin tr) tr t n r v
 value_within tr (Steps.Hear t n) r e v = hears_within (origin tr) tr t n r v
 value_within tr (Steps.Vote n (Ours b) x) r e v =
     let s : Step = Steps.Vote n (Ours b) x in
-    by (origin tr) s r _ v (script_within tr n b (there (is_there tr s) _ e)
+    by (origin tr) s r _ v (script_within tr n b (there (is_there (view_of tr) s) _ e)
     (not_false _ (or_parts (not (nat_eq b.rm n)) (is_in_doubt (standing tr b)) (none_applies tr s Refusals.Script e)).0))
 value_within tr (Steps.Vote n (Foreign y) x) r e v = by (origin tr) (Steps.Vote n (Foreign y) x) r _ v tt
 value_within tr (Steps.Busy n (Ours b) x) r e v =
     let s : Step = Steps.Busy n (Ours b) x in
-    by (origin tr) s r _ v (script_within tr n b (there (is_there tr s) _ e) (not_false _ (none_applies tr s Refusals.Script e)))
+    by (origin tr) s r _ v (script_within tr n b (there (is_there (view_of tr) s) _ e) (not_false _ (none_applies tr s Refusals.Script e)))
 value_within tr (Steps.Busy n (Foreign y) x) r e v = by (origin tr) (Steps.Busy n (Foreign y) x) r _ v tt
 value_within tr (Steps.Heuristic n (Ours b) how) r e v = by (origin tr) (Steps.Heuristic n (Ours b) how) r _ v tt
 value_within tr (Steps.Heuristic n (Foreign y) how) r e v = by (origin tr) (Steps.Heuristic n (Foreign y) how) r _ v tt

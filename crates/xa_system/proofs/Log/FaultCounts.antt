@@ -18,7 +18,7 @@ use Rattle.xa_base.specs.declared.reply.Reply.TheVariants as Replies
 use Rattle.xa_base.specs.declared.step.Outcome.TheVariants as Outcomes
 use Rattle.xa_base.specs.declared.step.Side.TheVariants as Sides
 use Rattle.xa_base.specs.declared.step.Step.TheVariants as Steps
-use Rattle.xa_model.proofs.Replies.Replies.{IsForced, forced}
+use Rattle.xa_model.proofs.Replies.Guards.{IsForced, forced}
 use Rattle.xa_log.specs.Contract.{one_more_fault}
 use Rattle.xa_system.specs.LogInHistory.{count_after, greatest_count, is_restart, log_faults, says_log_fault}
 

@@ -20,7 +20,8 @@ use Rattle.xa_base.specs.declared.refusal.Refusal.TheVariants as Refusals
 use Rattle.xa_base.specs.declared.reply.Reply.{Reply}
 use Rattle.xa_base.specs.declared.reply.Reply.TheVariants as Replies
 use Rattle.xa_base.specs.declared.step.Step.{Step}
-use Rattle.xa_model.proofs.Replies.Replies.{IsForced, fault_right, forced}
+use Rattle.xa_model.proofs.Replies.Guards.{IsForced, forced}
+use Rattle.xa_model.proofs.Replies.Replies.{fault_right}
 use Rattle.xa_model.specs.Protocol.{Right}
 use Rattle.xa_line.specs.Grid.{Grid, new_grid}
 use Rattle.xa_tm.specs.declared.manager.Manager.{Manager}

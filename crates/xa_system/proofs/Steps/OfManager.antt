@@ -7,7 +7,8 @@ use Rattle.xa_model.specs.Facts as facts
 use Rattle.xa_model.specs.Replies.History.{reply_of, step_of}
 use Rattle.xa_model.specs.Replies.ReadBack.{StepHasXids}
 use Rattle.xa_model.specs.Protocol.{Right}
-use Rattle.xa_model.specs.Replies.Rules.{asks_manager, must_refuse}
+use Rattle.std.proofs.lemmas.Bool.{not-false}
+use Rattle.xa_model.specs.Replies.Rules.{applies, must_refuse}
 use Rattle.xa_model.specs.Replies.Steps as known
 use Rattle.xa_model.specs.Replies.Steps.{happened}
 use Rattle.xa_model.specs.Trace.{Happening, Happening.Begun, Happening.Claimed, Happening.Decided, Happening.Done, Trace, Trace.Then, line}
@@ -20,7 +21,8 @@ use Rattle.xa_base.specs.declared.step.Outcome.{Outcome}
 use Rattle.xa_base.specs.declared.step.Outcome.TheVariants as Outcomes
 use Rattle.xa_base.specs.declared.step.Step.{Step}
 use Rattle.xa_base.specs.declared.step.Step.TheVariants as Steps
-use Rattle.xa_model.proofs.Replies.Replies.{IsForced, allowed_right, forced, none_applies}
+use Rattle.xa_model.proofs.Replies.Guards.{IsForced, forced, none_applies}
+use Rattle.xa_model.proofs.Replies.Replies.{allowed_right}
 use Rattle.xa_line.specs.Grid.{line_at}
 use Rattle.xa_tm.specs.declared.manager.Manager.{Manager}
 use Rattle.xa_log.specs.Content.{last_number}
@@ -50,13 +52,8 @@ pub not_fault : (n : Refusal) → IsForced n → n ≢ Refusals.LogFault
 not_fault n f e = subst IsForced e f
 
 -- a step that asks the manager is refused while that is down
-pub up_where : (tr : Trace) (s : known.Step) → asks_manager s ≡ true → must_refuse tr s ≡ None → facts.up tr ≡ true
-up_where tr s asks none = by_up (facts.up tr) (asks_manager s) asks (none_applies tr s Refusals.ManagerDown none)
-  where
-    by_up : (u a : Bool) → a ≡ true → (a && not u) ≡ false → u ≡ true
-    by_up true a e h = refl
-    by_up false true e h = absurd (cc)
-    by_up false false e h = absurd (cc)
+pub up_where : (tr : Trace) (s : known.Step) → applies tr s Refusals.ManagerDown ≡ not (facts.up tr) → must_refuse tr s ≡ None → facts.up tr ≡ true
+up_where tr s asks none = not-false (facts.up tr) (sym asks ∙ none_applies tr s Refusals.ManagerDown none)
 
 module _ {R L : Type 0} (see : Sees R L) where
   -- the history is within the limits
@@ -78,7 +75,8 @@ module _ {R L : Type 0} (see : Sees R L) where
   judged tr parts s looked stands = ap (λ k. refusal_in k s) stands.book ∙ refusal_is tr s stands.kept.run looked
 
   -- while it is up
-  up_in : (tr : Trace) (parts : Parts R L) (s : known.Step) → IsLookedAt s → managers_refusal tr s ≡ must_refuse tr s → asks_manager s ≡ true
+  up_in : (tr : Trace) (parts : Parts R L) (s : known.Step) → IsLookedAt s → managers_refusal tr s ≡ must_refuse tr s
+      → applies tr s Refusals.ManagerDown ≡ not (facts.up tr)
       → Stands see tr parts → refusal_in (book_in parts.manager) s ≡ None → (book_in parts.manager).up ≡ true
   up_in tr parts s looked same asks stands none =
       ap (λ (k : Book). k.up) stands.book ∙ up_where tr s asks (sym same ∙ sym (judged tr parts s looked stands) ∙ none)

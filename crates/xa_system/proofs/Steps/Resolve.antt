@@ -15,6 +15,7 @@ use Rattle.xa_model.specs.Replies.History.{reply_of, step_of}
 use Rattle.xa_base.specs.Opening.{closes, has_closed, has_opened, opens}
 use Rattle.xa_model.specs.Facts.{rm_up, waiting}
 use Rattle.xa_model.specs.Replies.ReadBack.{StepHasXids}
+use Rattle.xa_model.specs.Replies.Guards.{refusal_by}
 use Rattle.xa_model.specs.Replies.Rules.{has_rm, must_refuse}
 use Rattle.xa_model.specs.Replies.Steps.{happened}
 use Rattle.xa_model.specs.Trace.{Call, Happening, Happening.Resolved, Happening.ResolvedOpen, Line, Name, Name.Foreign, Name.Ours, Trace, Trace.Then, line, line_eq}
@@ -38,7 +39,7 @@ use Rattle.xa_system.proofs.Log.Changes.{log_stays}
 use Rattle.xa_tm.specs.Calls.{book_in, log_in}
 use Rattle.xa_line.specs.Histories.{LineStands, known as known_call}
 use Rattle.xa_system.specs.Lines.{with_more}
-use Rattle.xa_system.specs.Parts.{GoesOn, HindersRecovery, OneMore, Sees, Stands, StandsSomewhere, recovery_why}
+use Rattle.xa_system.specs.Parts.{GoesOn, HindersRecovery, OneMore, Sees, Stands, StandsSomewhere}
 use Rattle.xa_system.specs.declared.parts.Parts.{Parts}
 use Rattle.xa_system.specs.declared.site.Site.{Site}
 use Rattle.xa_system.proofs.Steps.Crash.{rm_there}
@@ -75,6 +76,12 @@ unclosed false b e d = d
 unclosed true b e d = absurd cc
 
 -- ** the rules
+
+-- the guards of a recovery, by what they look at
+abbrev pub recovery_why : (there up rm_up shut closed full : Bool) → Option Refusal
+recovery_why there up rm_up shut closed full =
+    refusal_by there ((Refusals.ManagerDown, not up) ∷ (Refusals.RmDown, not rm_up) ∷ (Refusals.NotOpen, shut) ∷ (Refusals.Closed, closed)
+    ∷ (Refusals.Full, full) ∷ [])
 
 resolve_rule : (tr : Trace) (r : ℕ)
     → must_refuse tr (Steps.Resolve r)

@@ -13,7 +13,8 @@ use Rattle.xa_model.specs.Replies.History.{name_of, reply_of, step_of}
 use Rattle.xa_model.specs.Facts.InDoubt.{scan, xid_of_name}
 use Rattle.xa_model.specs.Facts.{rm_up}
 use Rattle.xa_model.specs.Replies.ReadBack.{StepHasXids}
-use Rattle.xa_model.specs.Replies.Rules.{forces_script, has_rm, is_at, must_refuse}
+use Rattle.xa_model.specs.Replies.Guards.{is_at, refusal_by}
+use Rattle.xa_model.specs.Replies.Rules.{applies, has_rm, must_refuse}
 use Rattle.xa_base.specs.Standing.{is_in_doubt, is_prepared}
 use Rattle.xa_base.specs.StateTable.{broken, completed}
 use Rattle.xa_model.specs.Replies.Steps as known
@@ -36,7 +37,7 @@ use Rattle.xa_rm.specs.ResourceManager.{Sets, retrying, voting}
 use Rattle.xa_tm.specs.Calls.{book_in}
 use Rattle.xa_rm.specs.declared.fault.RmFault.{RmFault}
 use Rattle.xa_rm.specs.declared.fault.RmFault.TheVariants as Faults
-use Rattle.xa_system.specs.Parts.{GoesOn, HindersScript, OneMore, Sees, Stands, noted_as, script_why}
+use Rattle.xa_system.specs.Parts.{GoesOn, HindersScript, OneMore, Sees, Stands, noted_as}
 use Rattle.xa_system.specs.RmInHistory.{IsHeldAs, RmStands, scan_by}
 use Rattle.xa_system.specs.declared.parts.Parts.{Parts}
 use Rattle.xa_system.specs.declared.site.Site.{Site}
@@ -120,6 +121,10 @@ ended_alone tr c how = record {
 
 -- ** refusals
 
+-- the guards of a script, by what they look at
+abbrev pub script_why : (there up bad : Bool) → Option Refusal
+script_why there up bad = refusal_by there ((Refusals.RmDown, not up) ∷ (Refusals.Script, bad) ∷ [])
+
 -- a script that is refused before it is looked at is refused
 script_hindered : (there up at bad : Bool) (n : Refusal) → Some n ≡ script_why there up (not at) → (at ≡ false → bad ≡ true) → script_why there up bad ≡ Some n
 script_hindered true true false bad n e else_bad = ap (script_why true true) (else_bad refl) ∙ sym e
@@ -139,37 +144,37 @@ pub named_there : (r : ℕ) (n : Name) → is_at r n ≡ true → (b : Branch) �
 named_there r (Ours b) e = (b, refl, eqb-true b.rm r e)
 named_there r (Foreign x) e = absurd (cc)
 
-pub vote_elsewhere : (tr : Trace) (r : ℕ) (n : Name) (v : Vote) → is_at r n ≡ false → forces_script tr (Steps.Vote r n v) ≡ true
+pub vote_elsewhere : (tr : Trace) (r : ℕ) (n : Name) (v : Vote) → is_at r n ≡ false → applies tr (Steps.Vote r n v) Refusals.Script ≡ true
 vote_elsewhere tr r (Ours b) v e = rw e refl
 vote_elsewhere tr r (Foreign x) v e = refl
 
-pub heuristic_elsewhere : (tr : Trace) (r : ℕ) (n : Name) (how : How) → is_at r n ≡ false → forces_script tr (Steps.Heuristic r n how) ≡ true
+pub heuristic_elsewhere : (tr : Trace) (r : ℕ) (n : Name) (how : How) → is_at r n ≡ false → applies tr (Steps.Heuristic r n how) Refusals.Script ≡ true
 heuristic_elsewhere tr r (Ours b) how e = rw e refl
 heuristic_elsewhere tr r (Foreign x) how e = refl
 
 -- ** whether the branch is where the script wants it
 
 pub vote_fine : (tr : Trace) (r : ℕ) (n : Name) (b : Branch) (v : Vote) (f : Standing) → n ≡ Ours b → b.rm ≡ r
-    → f ≡ facts.standing tr b → (is_in_doubt f ≡ true → ⊥) → forces_script tr (Steps.Vote r n v) ≡ false
+    → f ≡ facts.standing tr b → (is_in_doubt f ≡ true → ⊥) → applies tr (Steps.Vote r n v) Refusals.Script ≡ false
 vote_fine tr r n b v f is at same no_doubt =
-    ap (λ m. forces_script tr (Steps.Vote r m v)) is ∙ rw (eq-eqb b.rm r at, ← same) (false_from_ne_true (is_in_doubt f) no_doubt)
+    ap (λ m. applies tr (Steps.Vote r m v) Refusals.Script) is ∙ rw (eq-eqb b.rm r at, ← same) (false_from_ne_true (is_in_doubt f) no_doubt)
 
 pub vote_bad : (tr : Trace) (r : ℕ) (n : Name) (b : Branch) (v : Vote) (f : Standing) → n ≡ Ours b → b.rm ≡ r
-    → f ≡ facts.standing tr b → is_in_doubt f ≡ true → forces_script tr (Steps.Vote r n v) ≡ true
-vote_bad tr r n b v f is at same doubt = ap (λ m. forces_script tr (Steps.Vote r m v)) is ∙ rw (eq-eqb b.rm r at, ← same) doubt
+    → f ≡ facts.standing tr b → is_in_doubt f ≡ true → applies tr (Steps.Vote r n v) Refusals.Script ≡ true
+vote_bad tr r n b v f is at same doubt = ap (λ m. applies tr (Steps.Vote r m v) Refusals.Script) is ∙ rw (eq-eqb b.rm r at, ← same) doubt
 
 pub heuristic_fine : (tr : Trace) (r : ℕ) (n : Name) (b : Branch) (how : How) (f : Standing) → n ≡ Ours b → b.rm ≡ r
-    → f ≡ facts.standing tr b → (is_prepared f ≡ false → ⊥) → forces_script tr (Steps.Heuristic r n how) ≡ false
+    → f ≡ facts.standing tr b → (is_prepared f ≡ false → ⊥) → applies tr (Steps.Heuristic r n how) Refusals.Script ≡ false
 heuristic_fine tr r n b how f is at same prepared =
-    ap (λ m. forces_script tr (Steps.Heuristic r m how)) is ∙ rw (eq-eqb b.rm r at, ← same) (by_test (is_prepared f) prepared)
+    ap (λ m. applies tr (Steps.Heuristic r m how) Refusals.Script) is ∙ rw (eq-eqb b.rm r at, ← same) (by_test (is_prepared f) prepared)
   where
     by_test : (t : Bool) → (t ≡ false → ⊥) → not t ≡ false
     by_test true g = refl
     by_test false g = absurd (g refl)
 
 pub heuristic_bad : (tr : Trace) (r : ℕ) (n : Name) (b : Branch) (how : How) (f : Standing) → n ≡ Ours b → b.rm ≡ r
-    → f ≡ facts.standing tr b → is_prepared f ≡ false → forces_script tr (Steps.Heuristic r n how) ≡ true
-heuristic_bad tr r n b how f is at same unprepared = ap (λ m. forces_script tr (Steps.Heuristic r m how)) is ∙ rw (eq-eqb b.rm r at, ← same) (ap not unprepared)
+    → f ≡ facts.standing tr b → is_prepared f ≡ false → applies tr (Steps.Heuristic r n how) Refusals.Script ≡ true
+heuristic_bad tr r n b how f is at same unprepared = ap (λ m. applies tr (Steps.Heuristic r m how) Refusals.Script) is ∙ rw (eq-eqb b.rm r at, ← same) (ap not unprepared)
 
 -- the branch that a name is of is there
 pub is_there : (r : ℕ) (n : Name) (b : Branch) → n ≡ Ours b → b.rm ≡ r → is_at r n ≡ true
@@ -331,11 +336,11 @@ module _ {R L : Type 0} (see : Sees R L) where
   -- it was refused before it was looked at
   pub script_hinders : (step : Step Xid) (parts : Parts R L) (r : ℕ) (x : Xid) (n : Refusal) (reply : Reply Xid)
       → StepHasXids step → reply ≡ Replies.Refused n → HindersScript see r (name_of x) parts (Some n)
-      → ((tr : Trace) → must_refuse tr (step_of step) ≡ script_why (has_rm tr r) (rm_up tr r) (forces_script tr (step_of step)))
-      → ((tr : Trace) → is_at r (name_of x) ≡ false → forces_script tr (step_of step) ≡ true) → GoesOn see step reply parts parts
+      → ((tr : Trace) → must_refuse tr (step_of step) ≡ script_why (has_rm tr r) (rm_up tr r) (applies tr (step_of step) Refusals.Script))
+      → ((tr : Trace) → is_at r (name_of x) ≡ false → applies tr (step_of step) Refusals.Script ≡ true) → GoesOn see step reply parts parts
   script_hinders step parts r x n reply has is hinders rule else_bad =
       refused_goes see step parts reply n has is
-      (λ tr stands. rule tr ∙ script_hindered (has_rm tr r) (rm_up tr r) (is_at r (name_of x)) (forces_script tr (step_of step)) n
+      (λ tr stands. rule tr ∙ script_hindered (has_rm tr r) (rm_up tr r) (is_at r (name_of x)) (applies tr (step_of step) Refusals.Script) n
       (hinders tr stands) (else_bad tr))
 
   -- it was looked at
@@ -343,9 +348,9 @@ module _ {R L : Type 0} (see : Sees R L) where
       → Happening) (parts : Parts R L) (r : ℕ) (site : Site R) (rm : R) (reply : Reply Xid) (x : Xid) (change : HeldBranch
       → HeldBranch) (told : Result (Unit {0}) RmFault)
       → Stands see tr parts → StepHasXids step → slice_get parts.sites.items r ≡ Some site → reply ≡ noted_as told → HindersScript see r (name_of x) parts None
-      → must_refuse tr (step_of step) ≡ script_why (has_rm tr r) (rm_up tr r) (forces_script tr (step_of step))
-      → ((c : Branch) → name_of x ≡ Ours c → c.rm ≡ r → told ≡ Err Faults.Script → forces_script tr (step_of step) ≡ true)
-      → ((c : Branch) → name_of x ≡ Ours c → c.rm ≡ r → (told ≡ Err Faults.Script → ⊥) → forces_script tr (step_of step) ≡ false)
+      → must_refuse tr (step_of step) ≡ script_why (has_rm tr r) (rm_up tr r) (applies tr (step_of step) Refusals.Script)
+      → ((c : Branch) → name_of x ≡ Ours c → c.rm ≡ r → told ≡ Err Faults.Script → applies tr (step_of step) Refusals.Script ≡ true)
+      → ((c : Branch) → name_of x ≡ Ours c → c.rm ≡ r → (told ≡ Err Faults.Script → ⊥) → applies tr (step_of step) Refusals.Script ≡ false)
       → IsValue tr (step_of step) Replies.Noted → MayLackMemory tr (step_of step)
       → ((c : Branch) → name_of x ≡ Ours c → happened (step_of step) Replies.Noted ≡ e c)
       → IsXid x → ((c : Branch) → Scripts tr (e c) c change) → ((c : Branch) → IsScript tr (e c) c)
@@ -367,11 +372,11 @@ module _ {R L : Type 0} (see : Sees R L) where
       b : Branch
       b = here.0
 
-      why : (t : Bool) → forces_script tr (step_of step) ≡ t → must_refuse tr (step_of step) ≡ script_why true true t
+      why : (t : Bool) → applies tr (step_of step) Refusals.Script ≡ t → must_refuse tr (step_of step) ≡ script_why true true t
       why t q = rule ∙ (λ i. script_why (free.0 i) (free.1 i) (q i))
 
-      by : (o : Result (Unit {0}) RmFault) → reply ≡ noted_as o → (o ≡ Err Faults.Script → forces_script tr (step_of step) ≡ true)
-          → ((o ≡ Err Faults.Script → ⊥) → forces_script tr (step_of step) ≡ false)
+      by : (o : Result (Unit {0}) RmFault) → reply ≡ noted_as o → (o ≡ Err Faults.Script → applies tr (step_of step) Refusals.Script ≡ true)
+          → ((o ≡ Err Faults.Script → ⊥) → applies tr (step_of step) Refusals.Script ≡ false)
           → OnOk o (Sets x change (see.look site.rm) (see.look rm)) → OnErr o (IsSame see.look site.rm rm)
           → OneMore see step reply tr parts (with_rm parts r site rm)
       by (Ok u) q bad fine sets same =

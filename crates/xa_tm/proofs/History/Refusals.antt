@@ -14,15 +14,17 @@ use Rattle.xa_base.specs.declared.step.Part.TheVariants as Part
 use Rattle.xa_base.specs.declared.step.Side.TheVariants as Side
 use Rattle.xa_model.specs.Facts.{begun, branches, decided_so, handed_over, claimed, each_of_some, has_row, heuristic_rows, is_older, log, outlived, participants_in, participants_settled, recorded, is_settled, is_settled_lately, started, was_told_lately, acknowledges, all_of, finished, has_unfinished, has_voted, is_shut, is_taken_up, on_line, row_settled}
 use Rattle.xa_model.specs.Protocol.{IsRun}
-use Rattle.xa_model.specs.Replies.Rules.{applies, forces_not_decided, forces_decided, first_of, forces_busy, is_there, forces_votes, must_refuse, forces_limit, forces_already_started, forces_unknown_transaction}
+use Rattle.xa_model.specs.Replies.Guards.{refusal_of}
+use Rattle.xa_model.specs.Replies.Rules.{must_refuse}
+use Rattle.xa_model.specs.Replies.View.{view_of}
 use Rattle.xa_model.specs.Replies.Steps.{Step}
-use Rattle.xa_model.specs.Trace.{Line, Name.Ours, Row, Trace, line, line_eq, line_of}
+use Rattle.xa_model.specs.Trace.{Line, Name.Foreign, Name.Ours, Row, Trace, line, line_eq, line_of}
 use Rattle.xa_model.proofs.AgreementLemmas.Distinct.{branches_listed}
 use Rattle.xa_base.proofs.BranchKeys.{gtrid_eq-refl}
-use Rattle.xa_log.specs.KeySet.{from_list}
+use Rattle.xa_log.specs.KeySet.{from_list, items}
 use Rattle.xa_tm.specs.Laws.{IsAlone, IsLookedAt}
 use Rattle.xa_tm.specs.Book.{book_of, row_in}
-use Rattle.xa_tm.specs.Refusing.{applies_in, forces_not_decided_in, forces_decided_in, has_row_in, forces_busy_in, is_shut_in, is_taken_up_in, is_there_in, is_unfinished, forces_votes_in, manager_rules, managers_refusal, outlived_in, forces_limit_in, refusal_in, row_settled_in, is_settled_lately_in, forces_already_started_in, forces_unknown_transaction_in, waits_for_none}
+use Rattle.xa_tm.specs.Refusing.{at_rest, has_row_in, is_settled_lately_in, is_shut_in, is_taken_up_in, is_unfinished, managers_refusal, outlived_in, refusal_in, row_settled_in, view_in, waits_for_none}
 use Rattle.xa_tm.proofs.History.Counting.{count, but, one_less, none_counted, apart, counted_branches, counted_votes}
 use Rattle.xa_tm.proofs.History.Members.{set_any, set_each}
 use Rattle.xa_tm.proofs.History.OneMore.{has_record_is, lists_is}
@@ -109,100 +111,54 @@ left_is : (tr : Trace) (l : Line) (bs : List Branch) → has_unfinished tr l bs 
 left_is tr l [] = refl
 left_is tr l (b ∷ bs) = ap (λ t. (line_eq (line_of b) l && (on_line tr b && not (finished tr b))) || t) (left_is tr l bs)
 
--- ** rule by rule
+unfinished_is : (tr : Trace) (l : Line) → list_any (is_unfinished (book_of tr) l) (items (book_of tr).known) ≡ has_unfinished tr l (branches tr)
+unfinished_is tr l = sym (set_any (is_unfinished (book_of tr) l) (branches tr)) ∙ sym (left_is tr l (branches tr))
 
-unknown_is : (tr : Trace) (s : Step) → forces_unknown_transaction_in (book_of tr) s ≡ forces_unknown_transaction tr s
-unknown_is tr (Steps.Issue t r (Calls.Commit (Ours b) false)) = ap (λ x. not (begun tr b.gtrid || x)) (outlived_is tr b.gtrid)
-unknown_is tr (Steps.Done g) = ap (λ x. not (begun tr g || x)) (outlived_is tr g)
-unknown_is tr _ = refl
+-- ** what a refusal looks at
 
-again_is : (tr : Trace) (s : Step) → forces_already_started_in (book_of tr) s ≡ forces_already_started tr s
-again_is tr (Steps.Issue t r (Calls.Start (Ours b) false)) = refl
-again_is tr (Steps.Issue t r (Calls.Start (Ours b) true)) = refl
-again_is tr _ = refl
-
-late_is : (tr : Trace) (s : Step) → forces_decided_in (book_of tr) s ≡ forces_decided tr s
-late_is tr (Steps.Issue t r (Calls.Start (Ours b) false)) = shut_is tr b.gtrid
-late_is tr (Steps.Issue t r (Calls.Start (Ours b) true)) = shut_is tr b.gtrid
-late_is tr (Steps.Issue t r (Calls.Prepare (Ours b))) = shut_is tr b.gtrid
-late_is tr (Steps.Issue t r (Calls.Commit (Ours b) true)) = shut_is tr b.gtrid
-late_is tr (Steps.Decide g o) = shut_is tr g
-late_is tr (Steps.Claim g) = shut_is tr g
-late_is tr (Steps.Settle g) = taken_up_is tr g
-late_is tr (Steps.Abandon g) = taken_up_is tr g
-late_is tr _ = refl
-
-early_is : (tr : Trace) (s : Step) → forces_not_decided_in (book_of tr) s ≡ forces_not_decided tr s
-early_is tr (Steps.Issue t r (Calls.Commit (Ours b) false)) = ap not (has_row_is tr b.gtrid)
-early_is tr (Steps.Issue t r (Calls.Rollback (Ours b))) = refl
-early_is tr (Steps.Issue t r (Calls.Forget (Ours b))) = ap not (recorded_is tr b)
-early_is tr (Steps.Settle g) = refl
-early_is tr (Steps.Abandon g) = refl
-early_is tr (Steps.Done g) = ap not (has_row_is tr g)
-early_is tr _ = refl
-
-lacking_is : (tr : Trace) (s : Step) → IsRun tr → forces_votes_in (book_of tr) s ≡ forces_votes tr s
-lacking_is tr (Steps.Decide g Outcome.Commit) r = ap not (votes_is tr g r)
-lacking_is tr (Steps.Claim g) r = ap not (votes_is tr g r)
-lacking_is tr (Steps.Issue t m (Calls.Commit (Ours b) true)) r = ap not (only_is tr b r)
-lacking_is tr _ r = refl
-
--- every step but the restart of a resource manager, which the manager isn't asked
-abbrev pub IsManagers : Step → Type 0
-IsManagers (Steps.Restart (Side.Rm r)) = ⊥
-IsManagers _ = Unit
-
-busy_is : (tr : Trace) (s : Step) → IsManagers s → IsRun tr → forces_busy_in (book_of tr) s ≡ forces_busy tr s
-busy_is tr (Steps.Issue t m Calls.CloseRm) i r = sym (set_any (is_unfinished (book_of tr) (line t m)) (branches tr)) ∙ sym (left_is tr (line t m) (branches tr))
-busy_is tr (Steps.Issue t m (Calls.Rollback (Ours b))) i r = refl
-busy_is tr (Steps.Done g) i r = ap not (row_settled_is tr g r)
-busy_is tr (Steps.Restart (Side.Rm m)) i r = absurd i
-busy_is tr (Steps.Restart Side.Manager) i r = refl
-busy_is tr _ i r = refl
-
-limit_is : (tr : Trace) (s : Step) → forces_limit_in (book_of tr) s ≡ forces_limit tr s
-limit_is tr (Steps.Begin t) = refl
-limit_is tr _ = refl
+pub view_is : (tr : Trace) → IsRun tr → view_in (book_of tr) ≡ view_of tr
+view_is tr r = λ i. record (view_of tr) {
+  has_row = λ g. has_row_is tr g i;
+  outlived = λ g. outlived_is tr g i;
+  row_settled = λ g. row_settled_is tr g r i;
+  is_taken_up = λ g. taken_up_is tr g i;
+  is_shut = λ g. shut_is tr g i;
+  all_voted = λ g. votes_is tr g r i;
+  is_only = λ b. only_is tr b r i;
+  recorded = λ b. recorded_is tr b i;
+  has_unfinished = λ l. unfinished_is tr l i;
+}
 
 -- ** the refusal
 
-same_first : (p q : Refusal → Bool) → p Refusals.ManagerDown ≡ q Refusals.ManagerDown
-    → p Refusals.UnknownTransaction ≡ q Refusals.UnknownTransaction → p Refusals.WrongThread ≡ q Refusals.WrongThread
-    → p Refusals.AlreadyStarted ≡ q Refusals.AlreadyStarted → p Refusals.Decided ≡ q Refusals.Decided
-    → p Refusals.NotDecided ≡ q Refusals.NotDecided → p Refusals.Votes ≡ q Refusals.Votes
-    → p Refusals.Busy ≡ q Refusals.Busy → p Refusals.Limit ≡ q Refusals.Limit → first_of p manager_rules ≡ first_of q manager_rules
-same_first p q a b c d e f g h i = λ x.
-    if a x then Some Refusals.ManagerDown
-    else (if b x then Some Refusals.UnknownTransaction else (if c x then Some Refusals.WrongThread else (if d x then Some Refusals.AlreadyStarted
-    else (if e x then Some Refusals.Decided
-    else (if f x then Some Refusals.NotDecided
-    else (if g x then Some Refusals.Votes else (if h x then Some Refusals.Busy else (if i x then Some Refusals.Limit else None))))))))
-
-there_is : (tr : Trace) (s : Step) → IsLookedAt s → is_there_in (book_of tr) s ≡ is_there tr s
-there_is tr (Steps.Take t r) i = absurd i
-there_is tr (Steps.Vote r x v) i = absurd i
-there_is tr (Steps.Busy r x n) i = absurd i
-there_is tr (Steps.Heuristic r x how) i = absurd i
-there_is tr (Steps.Crash (Part.Rm r)) i = absurd i
-there_is tr (Steps.Restart (Side.Rm r)) i = absurd i
-there_is tr (Steps.Crash (Part.Line t r)) i = refl
-there_is tr (Steps.Begin t) i = refl
-there_is tr (Steps.Issue t r a) i = refl
-there_is tr (Steps.Hear t r) i = refl
-there_is tr (Steps.Recover r n start end) i = refl
-there_is tr (Steps.Resolve r) i = refl
-there_is tr (Steps.ResolveOpen r) i = refl
-there_is tr _ i = refl
-
-looked : (s : Step) → IsLookedAt s → IsManagers s
-looked (Steps.Restart (Side.Rm r)) i = i
-looked _ i = tt
+managers_is : (tr : Trace) (s : Step) → IsLookedAt s → refusal_of (view_of tr) at_rest s ≡ managers_refusal tr s
+managers_is tr (Steps.Begin t) i = refl
+managers_is tr (Steps.Issue t r Calls.OpenRm) i = refl
+managers_is tr (Steps.Issue t r Calls.CloseRm) i = refl
+managers_is tr (Steps.Issue t r (Calls.Recover n x y)) i = refl
+managers_is tr (Steps.Issue t r (Calls.Start (Ours b) j)) i = refl
+managers_is tr (Steps.Issue t r (Calls.End (Ours b) f)) i = refl
+managers_is tr (Steps.Issue t r (Calls.Prepare (Ours b))) i = refl
+managers_is tr (Steps.Issue t r (Calls.Commit (Ours b) true)) i = refl
+managers_is tr (Steps.Issue t r (Calls.Commit (Ours b) false)) i = refl
+managers_is tr (Steps.Issue t r (Calls.Rollback (Ours b))) i = refl
+managers_is tr (Steps.Issue t r (Calls.Forget (Ours b))) i = refl
+managers_is tr (Steps.Issue t r (Calls.Start (Foreign x) j)) i = refl
+managers_is tr (Steps.Issue t r (Calls.End (Foreign x) f)) i = refl
+managers_is tr (Steps.Issue t r (Calls.Prepare (Foreign x))) i = refl
+managers_is tr (Steps.Issue t r (Calls.Commit (Foreign x) o)) i = refl
+managers_is tr (Steps.Issue t r (Calls.Rollback (Foreign x))) i = refl
+managers_is tr (Steps.Issue t r (Calls.Forget (Foreign x))) i = refl
+managers_is tr (Steps.Take t r) i = absurd i
+managers_is tr (Steps.Vote r x v) i = absurd i
+managers_is tr (Steps.Busy r x n) i = absurd i
+managers_is tr (Steps.Heuristic r x how) i = absurd i
+managers_is tr (Steps.Crash (Part.Rm r)) i = absurd i
+managers_is tr (Steps.Restart (Side.Rm r)) i = absurd i
+managers_is tr _ i = refl
 
 pub refusal_is : (tr : Trace) (s : Step) → IsRun tr → IsLookedAt s → refusal_in (book_of tr) s ≡ managers_refusal tr s
-refusal_is tr s r i = ap (λ (t : Bool). if t then first_of (applies_in (book_of tr) s) manager_rules else Some Refusals.Limit) (there_is tr s i)
-    ∙ ap (λ x. if is_there tr s then x else Some Refusals.Limit)
-    (same_first (applies_in (book_of tr) s) (applies tr s) refl (unknown_is tr s) refl (again_is tr s) (late_is tr s) (early_is tr s)
-    (lacking_is tr s r) (busy_is tr s (looked s i) r) (limit_is tr s))
+refusal_is tr s r i = ap (λ v. refusal_of v at_rest s) (view_is tr r) ∙ managers_is tr s i
 
 -- what the manager alone is asked is refused as the manager's book says
 pub alone_is : (tr : Trace) (s : Step) → IsAlone s → must_refuse tr s ≡ managers_refusal tr s

@@ -1,13 +1,18 @@
 -- Calls on branches of this manager.
-use Rattle.std.proofs.Common.{false, ◌≡◌, ◌<◌, ℕ, Bool, true, ◌&&◌, Option, Some, None, Result, Ok, Err, OnOk, refl, sym, ap, ◌∙◌, subst, arith}
+use Rattle.std.proofs.Common.{false, ◌≡◌, ◌<◌, ℕ, [], ◌∷◌, Bool, true, not, ◌&&◌, Option, Some, None, Result, Ok, Err, OnOk, refl, sym, ap, ◌∙◌, subst, arith}
 use Rattle.std.specs.Prelude.{if◌then◌else◌, nat_lt}
 use Rattle.xa_base.specs.declared.call.Call.TheVariants as Calls
 use Rattle.xa_base.specs.declared.step.Step.TheVariants as Steps
+use Rattle.std.proofs.Math.Bool.{and-false}
+use Rattle.std.specs.Option.{option_or}
+use Rattle.xa_base.proofs.Options.{or_none}
+use Rattle.xa_base.specs.Opening.{opens}
 use Rattle.xa_base.specs.StateTable.{on}
 use Rattle.xa_base.specs.Branch.{branch_of_xid}
 use Rattle.xa_model.specs.Replies.Steps.{accepted}
 use Rattle.xa_model.specs.Replies.History.{name_by, name_of}
-use Rattle.xa_model.specs.Replies.Rules.{first_of}
+use Rattle.xa_model.specs.Replies.Guards.{call_guards, first_guard, has_line, refusal_by, refusal_of}
+use Rattle.xa_model.specs.Replies.View.{View}
 use Rattle.xa_model.specs.Trace.{Kind, Name.Ours, Name.Foreign, Line, Call, Happening.Issued}
 use Rattle.xa_base.specs.Xid.{Xid}
 use Rattle.xa_base.specs.declared.branch.Branch.{Branch}
@@ -16,28 +21,42 @@ use Rattle.xa_base.specs.declared.refusal.Refusal.TheVariants as Refusals
 use Rattle.xa_tm.specs.News.{Asked}
 use Rattle.xa_tm.specs.Answering.{branch_handed_over, branch_started}
 use Rattle.xa_tm.specs.Book.{Book, after}
-use Rattle.xa_tm.specs.Refusing.{applies_in, manager_rules, refusal_in}
+use Rattle.xa_tm.specs.Refusing.{at_rest, refusal_in, view_in}
+use Rattle.xa_model.proofs.Replies.Guards.{bar_of, issue_rule, none_refused, peel}
 use Rattle.xa_tm.proofs.History.OneMore.{book_is}
+
+-- a call is refused for what the call itself is refused for, on a line of the system and while the manager is up
+pub issue_refusal : (v : View) (t r : ℕ) (asked : Asked)
+    → refusal_of v at_rest (Steps.Issue t r asked)
+    ≡ refusal_by (has_line v t r) ((Refusals.ManagerDown, not v.up) ∷ call_guards v t r asked)
+issue_refusal v t r asked =
+    issue_rule v at_rest t r asked
+    ∙ λ i. if has_line v t r then (if not v.up then Some Refusals.ManagerDown
+    else option_or (bar_of (and-false (not (opens asked)) i) false) (or_none (first_guard (call_guards v t r asked)) i)) else Some Refusals.Limit
+
+-- the manager refuses no call that may be issued for what it is itself
+pub none_of_call : (k : Book) (t r : ℕ) (asked : Asked) → refusal_in k (Steps.Issue t r asked) ≡ None → first_guard (call_guards (view_in k) t r asked) ≡ None
+none_of_call k t r asked none =
+    (peel (not k.up) Refusals.ManagerDown _ (none_refused (has_line (view_in k) t r) _ (sym (issue_refusal (view_in k) t r asked) ∙ none))).1
 
 there : (t n r m : ℕ) → t < n → r < m → (nat_lt t n && nat_lt r m) ≡ true
 there t n r m a b = grind arith
 
--- on a line of the system nothing but the rules refuses a call
-pub asked_there : (k : Book) (t r : ℕ) (asked : Asked) (result : Option Refusal) → t < k.threads → r < k.rms
-    → result ≡ first_of (applies_in k (Steps.Issue t r asked)) manager_rules → result ≡ refusal_in k (Steps.Issue t r asked)
-asked_there k t r asked result thread rm found =
+pub asked_there : (k : Book) (t r : ℕ) (asked : Asked) (result : Option Refusal) → t < k.threads → r < k.rms → k.up ≡ true
+    → result ≡ first_guard (call_guards (view_in k) t r asked) → result ≡ refusal_in k (Steps.Issue t r asked)
+asked_there k t r asked result thread rm up found =
     found
-    ∙ sym (ap (λ (e : Bool). if e then first_of (applies_in k (Steps.Issue t r asked)) manager_rules else Some Refusals.Limit)
-    (there t k.threads r k.rms thread rm))
+    ∙ sym (issue_refusal (view_in k) t r asked ∙ λ i. refusal_by (there t k.threads r k.rms thread rm i)
+    ((Refusals.ManagerDown, not (up i)) ∷ call_guards (view_in k) t r asked))
 
--- what a branch's rules say of a call is what the call's say
-pub asked_ours : (k : Book) (t r : ℕ) (asked : Asked) (kind : Kind) (x : Xid) (b : Branch) (result : Option Refusal)
+-- what a branch's guards say of a call is what the call's say
+pub asked_ours : (v : View) (t r : ℕ) (asked : Asked) (kind : Kind) (x : Xid) (b : Branch) (result : Option Refusal)
     → asked ≡ on kind (name_of x) → Some b ≡ branch_of_xid x
-    → result ≡ first_of (applies_in k (Steps.Issue t r (on kind (Ours b)))) manager_rules
-    → result ≡ first_of (applies_in k (Steps.Issue t r asked)) manager_rules
-asked_ours k t r asked kind x b result is own found =
-    found ∙ ap (λ o. first_of (applies_in k (Steps.Issue t r (on kind (name_by x o)))) manager_rules) own
-    ∙ ap (λ a. first_of (applies_in k (Steps.Issue t r a)) manager_rules) (sym is)
+    → result ≡ first_guard (call_guards v t r (on kind (Ours b)))
+    → result ≡ first_guard (call_guards v t r asked)
+asked_ours v t r asked kind x b result is own found =
+    found ∙ ap (λ o. first_guard (call_guards v t r (on kind (name_by x o)))) own
+    ∙ ap (λ a. first_guard (call_guards v t r a)) (sym is)
 
 -- ** what is noted
 

@@ -1,7 +1,6 @@
 -- The refusal of the first of several steps that is refused, each after the ones before it.
 use Rattle.std.proofs.Common.{◌≡◌, ℕ, ◌+◌, ◌==◌, ◌<◌, ◌≤◌, List, [], ◌∷◌, ◌++◌, length, take, drop, get_or, Bool, true, false, not, ◌&&◌, ◌||◌, Option, Some, None, is_some, refl, sym, ap, ◌∙◌}
 use Rattle.std.specs.Prelude.{if◌then◌else◌, nat_lt}
-use Rattle.std.specs.List.{list_any}
 use Rattle.std.specs.Option.{option_or}
 use Rattle.std.proofs.lemmas.Bool.{or_parts}
 use Rattle.std.proofs.lemmas.List.{drop_all, drop_more, take_more}
@@ -14,12 +13,12 @@ use Rattle.xa_base.specs.declared.step.Outcome.TheVariants as Outcomes
 use Rattle.xa_base.specs.declared.step.Step.TheVariants as Steps
 use Rattle.xa_base.proofs.BranchKeys.{gtrid_eq-true}
 use Rattle.xa_model.specs.Facts.{has_gtrid}
-use Rattle.xa_model.specs.Replies.Rules.{first_of}
 use Rattle.xa_model.specs.Replies.Steps.{Step}
 use Rattle.xa_model.specs.Trace.{Happening, Happening.Decided, Happening.Done}
+use Rattle.xa_model.proofs.Replies.Guards.{IsForced, forced_of}
 use Rattle.xa_tm.specs.Book.{Book, Waiting, after, voted_yes}
 use Rattle.xa_tm.specs.Calls.{IsOpenIn}
-use Rattle.xa_tm.specs.Refusing.{applies_in, is_shut_in, is_there_in, manager_rules, outlived_in, refusal_in, refusal_in_turn, waits_for_none}
+use Rattle.xa_tm.specs.Refusing.{is_shut_in, outlived_in, refusal_in, refusal_in_turn, view_in, at_rest, waits_for_none}
 use Rattle.xa_tm.proofs.Log.Asks.{is_fault}
 use Rattle.xa_tm.proofs.Log.Ties.{done_up}
 use Rattle.xa_tm.proofs.Several.Lists.{named_push}
@@ -99,21 +98,12 @@ turn_end step again k gs before i past = ap (turn step again k before) (drop_all
 
 -- ** no rule tells that the log failed
 
-rules_tell_no_fault : (p : Refusal → Bool) (rs : List Refusal) → list_any is_fault rs ≡ false → (n : Refusal) → first_of p rs ≡ Some n → is_fault n ≡ false
-rules_tell_no_fault p [] none n e = absurd (cc)
-rules_tell_no_fault p (r ∷ rs) none n e =
-    let parts = or_parts (is_fault r) (list_any is_fault rs) none in by (p r) parts.0 e (rules_tell_no_fault p rs parts.1 n)
-  where
-    by : (t : Bool) → is_fault r ≡ false → (if t then Some r else first_of p rs) ≡ Some n → (first_of p rs ≡ Some n → is_fault n ≡ false) → is_fault n ≡ false
-    by true here e rest = let same : r ≡ n = cc in ap is_fault (sym same) ∙ here
-    by false here e rest = rest e
+forced_is_no_fault : (n : Refusal) → IsForced n → is_fault n ≡ false
+forced_is_no_fault Refusals.LogFault f = absurd f
+forced_is_no_fault _ f = refl
 
 refusal_tells_no_fault : (k : Book) (s : Step) (n : Refusal) → refusal_in k s ≡ Some n → is_fault n ≡ false
-refusal_tells_no_fault k s n e = by (is_there_in k s) e
-  where
-    by : (t : Bool) → (if t then first_of (applies_in k s) manager_rules else Some Refusals.Limit) ≡ Some n → is_fault n ≡ false
-    by true e = rules_tell_no_fault (applies_in k s) manager_rules refl n e
-    by false e = let same : Refusals.Limit ≡ n = cc in ap is_fault (sym same)
+refusal_tells_no_fault k s n e = forced_is_no_fault n (forced_of (view_in k) at_rest s n e)
 
 pub turn_tells_no_fault : (step : Gtrid → Step) (happening : Gtrid → Happening) (k : Book) (gs : List Gtrid) (n : Refusal)
     → refusal_in_turn step happening k gs ≡ Some n → is_fault n ≡ false

@@ -10,13 +10,13 @@ ghost use Rattle.std.specs.List.{list_any};
 ghost use Rattle.xa_base.specs.Call.{map_call};
 ghost use Rattle.xa_model.specs.Replies.Steps.{accepted};
 ghost use Rattle.xa_model.specs.Replies.History.{name_of};
-ghost use Rattle.xa_model.specs.Replies.Rules.{first_of};
+ghost use Rattle.xa_model.specs.Replies.Guards.{call_guards, first_guard};
 ghost use Rattle.xa_model.specs.Trace.{Kind.Start, Kind.End, Kind.Prepare, Kind.Commit, Kind.Rollback, Kind.Forget};
 ghost use Rattle.xa_model.specs.Trace.{Name.Ours, line};
 ghost use Rattle.xa_log.specs.KeySet.{items};
 ghost use Rattle.xa_tm.specs.Answering.{branch_handed_over, branch_started};
 ghost use Rattle.xa_tm.specs.LedgerBook.{IsSound, as_book};
-ghost use Rattle.xa_tm.specs.Refusing.{applies_in, is_unfinished, manager_rules, refusal_in};
+ghost use Rattle.xa_tm.specs.Refusing.{is_unfinished, refusal_in, view_in};
 
 use crate::ledger::Ledger;
 use std::alloc::AllocError;
@@ -51,11 +51,10 @@ impl Ledger {
         self.may_call(thread, rm, call)
     }
 
-    /// The same on a line of the system, while the manager is up.
+    /// The same on a line of the system, while the manager is up: what the call itself is refused for.
     fn may_call(&self, thread: u32, rm: u32, call: &Call) -> Option<Refusal>
-        requires { self.now.is_up ≡ Bool.true }
-        ensures { result ≡ first_of (applies_in (as_book self.now)
-            (Steps.Issue thread rm (map_call name_of call.now))) manager_rules }
+        ensures { result ≡ first_guard
+            (call_guards (view_in (as_book self.now)) thread rm (map_call name_of call.now)) }
     {
         match call {
             Call::OpenRm => None,
@@ -109,9 +108,8 @@ impl Ledger {
 
     /// The refusal of xa_close.
     fn may_close(&self, thread: u32, rm: u32) -> Option<Refusal>
-        requires { self.now.is_up ≡ Bool.true }
-        ensures { result ≡ first_of
-            (applies_in (as_book self.now) (Steps.Issue thread rm Calls.CloseRm)) manager_rules }
+        ensures { result ≡ first_guard
+            (call_guards (view_in (as_book self.now)) thread rm Calls.CloseRm) }
     {
         if self.has_unfinished(thread, rm) {
             return Some(Refusal::Busy);
@@ -121,13 +119,10 @@ impl Ledger {
 
     /// The refusal of xa_start.
     fn may_start(&self, thread: u32, rm: u32, b: Branch) -> Option<Refusal>
-        requires { self.now.is_up ≡ Bool.true }
-        ensures start { result ≡ first_of
-            (applies_in (as_book self.now) (Steps.Issue thread rm (Calls.Start (Ours b) false)))
-            manager_rules }
-        ensures join { result ≡ first_of
-            (applies_in (as_book self.now) (Steps.Issue thread rm (Calls.Start (Ours b) true)))
-            manager_rules }
+        ensures start { result ≡ first_guard
+            (call_guards (view_in (as_book self.now)) thread rm (Calls.Start (Ours b) false)) }
+        ensures join { result ≡ first_guard
+            (call_guards (view_in (as_book self.now)) thread rm (Calls.Start (Ours b) true)) }
     {
         if !self.is_begun(b.gtrid) {
             return Some(Refusal::UnknownTransaction);
@@ -146,10 +141,9 @@ impl Ledger {
 
     /// The refusal of xa_end.
     fn may_end(&self, thread: u32, rm: u32, b: Branch) -> Option<Refusal>
-        requires { self.now.is_up ≡ Bool.true }
         ensures { (fail : Bool) →
-            result ≡ first_of (applies_in (as_book self.now)
-            (Steps.Issue thread rm (Calls.End (Ours b) fail))) manager_rules }
+            result ≡ first_guard
+            (call_guards (view_in (as_book self.now)) thread rm (Calls.End (Ours b) fail)) }
     {
         if !self.is_begun(b.gtrid) {
             return Some(Refusal::UnknownTransaction);
@@ -162,10 +156,8 @@ impl Ledger {
 
     /// The refusal of xa_prepare.
     fn may_prepare(&self, thread: u32, rm: u32, b: Branch) -> Option<Refusal>
-        requires { self.now.is_up ≡ Bool.true }
-        ensures { result ≡ first_of
-            (applies_in (as_book self.now) (Steps.Issue thread rm (Calls.Prepare (Ours b))))
-            manager_rules }
+        ensures { result ≡ first_guard
+            (call_guards (view_in (as_book self.now)) thread rm (Calls.Prepare (Ours b))) }
     {
         if !self.is_begun(b.gtrid) {
             return Some(Refusal::UnknownTransaction);
@@ -181,10 +173,8 @@ impl Ledger {
 
     /// The refusal of xa_commit in one phase.
     fn may_hand_over(&self, thread: u32, rm: u32, b: Branch) -> Option<Refusal>
-        requires { self.now.is_up ≡ Bool.true }
-        ensures { result ≡ first_of
-            (applies_in (as_book self.now) (Steps.Issue thread rm (Calls.Commit (Ours b) true)))
-            manager_rules }
+        ensures { result ≡ first_guard
+            (call_guards (view_in (as_book self.now)) thread rm (Calls.Commit (Ours b) true)) }
     {
         if let Some(refusal) = self.may_prepare(thread, rm, b) {
             return Some(refusal);
@@ -197,10 +187,9 @@ impl Ledger {
 
     /// The refusal of xa_commit in two phases.
     fn may_commit(&self, rm: u32, b: Branch) -> Option<Refusal>
-        requires { self.now.is_up ≡ Bool.true }
         ensures { (thread : _) →
-            result ≡ first_of (applies_in (as_book self.now)
-            (Steps.Issue thread rm (Calls.Commit (Ours b) false))) manager_rules }
+            result ≡ first_guard
+            (call_guards (view_in (as_book self.now)) thread rm (Calls.Commit (Ours b) false)) }
     {
         if !self.is_begun(b.gtrid) && !self.is_outlived(b.gtrid) {
             return Some(Refusal::UnknownTransaction);
@@ -216,10 +205,9 @@ impl Ledger {
 
     /// The refusal of xa_rollback.
     fn may_roll_back(&self, rm: u32, b: Branch) -> Option<Refusal>
-        requires { self.now.is_up ≡ Bool.true }
         ensures { (thread : _) →
-            result ≡ first_of (applies_in (as_book self.now)
-            (Steps.Issue thread rm (Calls.Rollback (Ours b)))) manager_rules }
+            result ≡ first_guard
+            (call_guards (view_in (as_book self.now)) thread rm (Calls.Rollback (Ours b))) }
     {
         if !self.is_begun(b.gtrid) {
             return Some(Refusal::UnknownTransaction);
@@ -238,10 +226,9 @@ impl Ledger {
 
     /// The refusal of xa_forget.
     fn may_forget(&self, rm: u32, b: Branch) -> Option<Refusal>
-        requires { self.now.is_up ≡ Bool.true }
         ensures { (thread : _) →
-            result ≡ first_of (applies_in (as_book self.now)
-            (Steps.Issue thread rm (Calls.Forget (Ours b)))) manager_rules }
+            result ≡ first_guard
+            (call_guards (view_in (as_book self.now)) thread rm (Calls.Forget (Ours b))) }
     {
         if !self.is_begun(b.gtrid) {
             return Some(Refusal::UnknownTransaction);

@@ -3,9 +3,9 @@ use Rattle.std.specs.Prelude.{◌+◌, nat_lt}
 use Rattle.xa_line.specs.Grid.{line_at}
 use Rattle.xa_base.specs.Opening.{has_closed, has_opened}
 use Rattle.xa_line.specs.Traffic.{issued}
-use Rattle.xa_system.specs.Parts.{recovery_why, sees}
+use Rattle.xa_system.specs.Parts.{sees}
 use Rattle.xa_system.proofs.Steps.Crash.{rm_read}
-use Rattle.xa_system.proofs.Steps.Resolve.{recovery_found}
+use Rattle.xa_system.proofs.Steps.Resolve.{recovery_found, recovery_why}
 use Rattle.xa_system.proofs.parts.Parts.no_recovery.Goals as goal
 
 pub returns-then-not-index : goal.returns-then-not-index

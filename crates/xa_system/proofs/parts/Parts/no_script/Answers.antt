@@ -1,10 +1,10 @@
 use Rattle.std.proofs.Common.{true, false, arith, sym, ap, ◌∙◌}
 use Rattle.std.specs.Prelude.{not}
 use Rattle.xa_model.specs.Replies.History.{name_of}
-use Rattle.xa_model.specs.Replies.Rules.{is_at}
-use Rattle.xa_system.specs.Parts.{script_why, sees}
+use Rattle.xa_model.specs.Replies.Guards.{is_at}
+use Rattle.xa_system.specs.Parts.{sees}
 use Rattle.xa_system.proofs.Steps.Crash.{rm_read}
-use Rattle.xa_system.proofs.Steps.Script.{script_found, script_limit}
+use Rattle.xa_system.proofs.Steps.Script.{script_found, script_limit, script_why}
 use Rattle.xa_system.proofs.parts.Parts.no_script.Goals as goal
 
 pub returns-then-rm-rms-clause-why : goal.returns-then-rm-rms-clause-why
