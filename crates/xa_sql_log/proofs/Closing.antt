@@ -1,5 +1,5 @@
 -- The files of a log that is closed hold it, and who opens them finds it.
-use Rattle.std.proofs.Common.{◌≡◌, inr, true, Some, IsTrue, ap, sym, subst, ◌∙◌}
+use Rattle.std.proofs.Common.{◌≡◌, inr, true, Ok, Some, IsTrue, ap, sym, subst, ◌∙◌}
 use Rattle.std.proofs.Math.Logic.{∥∥₁_elim}
 use Rattle.sqlite.specs.Closing.{HoldsAlone}
 use Rattle.sqlite.specs.Effect.{Database}
@@ -10,7 +10,8 @@ use Rattle.sqlite_trees.specs.Props.{Trees-set}
 use Rattle.xa_log.specs.Content.{Content}
 use Rattle.xa_sql_log.proofs.Lasting.{as_log}
 use Rattle.xa_sql_log.specs.ClosedFiles.{HoldsWhole}
-use Rattle.xa_sql_log.specs.OpenedDatabase.{IsTaken, HoldsLog}
+use Rattle.xa_sql_log.specs.OpenedDatabase.{HoldsLog}
+use Rattle.xa_sql_log.specs.PreparedDatabase.{Prepares}
 use Rattle.xa_sql_log.specs.Rows.{content_of}
 use Rattle.xa_sql_log.specs.Sql.{AreLogTrees, IsLasting, IsReadyWith, content_in}
 
@@ -37,7 +38,7 @@ pub ready_content : (c : Content) (s : State) → IsReadyWith c s → content_in
 ready_content c s ready = let is_on : s.is_open ≡ true = ready.is_open in rw is_on (ap Some ready.content)
 
 pub found_whole : (c : Content) (image : Image) (was new : State) → Opens was → IsLive was → FindsIn image was → HoldsWhole c image
-    → IsTaken was new → content_in new ≡ Some c
+    → Prepares was new (Ok tt) → content_in new ≡ Some c
 found_whole c image was new opens live found whole taken =
     let held : was.committed.trees ≡ whole.db = ∥∥₁_elim whole.held.both (Trees-set _ _) (found.holds whole.db) in
     let clean : was.now.trees ≡ was.committed.trees = λ i. (opens.clean i).trees in

@@ -9,7 +9,7 @@ use Rattle.sqlite_trees.specs.Objects.{catalog_tree}
 use Rattle.xa_log.specs.Content.{Content, unchanged}
 use Rattle.xa_log.specs.Contract.{Changes, Makes, Reads, faults_after}
 use Rattle.xa_log.specs.declared.log_fault.LogFault.{LogFault}
-use Rattle.xa_sql_log.specs.OpenedDatabase.{IsFoundLog}
+use Rattle.xa_sql_log.specs.OpenedDatabase.{IsFoundLog, IsKnownDatabase}
 use Rattle.xa_sql_log.specs.Rows.{IsLog}
 use Rattle.xa_sql_log.specs.Sql.{AreLogTrees, IsLasting, IsOrderly, IsReadyWith, HasLogTables, MayChange, OnlyReads, content_in, sql_moment}
 use Rattle.xa_sql_log.specs.Tables.{log_schema}
@@ -80,3 +80,10 @@ found_ready s is =
     let tables = lists_once (s.now.trees catalog_tree) s.now.schema log_schema (is.live is.opens.is_open).0.lists is.log.sound.lists in
     let same : record { schema = log_schema; trees = s.now.trees } ≡ s.now = λ i. record { schema = sym tables i; trees = s.now.trees } in
     record { autocommit = is.opens.autocommit; now = subst IsLog same is.log.log; committed = sym is.opens.clean }
+
+-- so it is kept as a log of version 2 is, and refused for no other reasons
+pub found_kept : {P : Type 0} (s : State) → (s.now.schema ≡ log_schema → IsOrderly s → P) → IsFoundLog s → P
+found_kept s kept is = let ready = found_ready s is in kept ready.now.schema (λ _. ready)
+
+pub found_known : {P : Type 0} (s : State) → (IsKnownDatabase s → P) → IsFoundLog s → P
+found_known s known is = known (inr (inr (found_ready s is)))

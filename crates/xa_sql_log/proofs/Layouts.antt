@@ -6,6 +6,7 @@ use Rattle.sqlite.specs.State.{State, IsUnchanged}
 use Rattle.xa_sql_log.specs.Tables.{old_schema, log_schema}
 use Rattle.xa_sql_log.specs.Rows.{IsOldLog, content_of, old_content_of}
 use Rattle.xa_sql_log.specs.OpenedDatabase.{HasRow}
+use Rattle.xa_sql_log.specs.PreparedDatabase.{IsUntouched, LeavesSame}
 use Rattle.xa_sql_log.specs.Sql.{IsOldReady, HasLogTables, IsShutOrAsBefore, Rests}
 
 pub meta_in_old : is_some (table_named old_schema (codes "tm_meta")) ≡ true
@@ -35,6 +36,10 @@ rests_undone a b settled mode (inl same) = record {
   autocommit = same.0.mode ∙ mode;
 }
 rests_undone a b settled mode (inr undone) = record { was_open = undone.was_open; undone = undone.undone; autocommit = undone.autocommit }
+
+pub rests_untouched : (a b : State) → (IsTrue a.is_open → a.now ≡ a.committed) → a.in_transaction ≡ false
+    → Rests a b × LeavesSame a b → IsUntouched a b
+rests_untouched a b settled mode left = record { undone = rests_undone a b settled mode left.0; crash = left.1 }
 
 -- a log of version 1 has the row of one
 pub named_first : (s : State) → IsOldReady s → HasRow 1 (old_content_of s.now.trees).incarnation s

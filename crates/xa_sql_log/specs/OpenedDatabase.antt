@@ -1,22 +1,17 @@
--- What a log finds in a database that it takes, and what it makes of it.
-use Rattle.std.specs.Prelude.{◌≡◌, ◌⊎◌, ℕ, pos, false, List, [], ◌∷◌, length, Ok, IsTrue}
+-- What a log finds in a database that it takes, and in the files of one.
+use Rattle.std.specs.Prelude.{◌≡◌, ◌⊎◌, ℕ, pos, List, [], ◌∷◌, length, Ok, IsTrue}
 use Rattle.std.specs.List.{Contains}
 use Rattle.sqlite.specs.declared.types.Value.{Value}
 use Rattle.sqlite.specs.declared.types.Value.TheVariants.{Null, Int}
 use Rattle.sqlite.specs.Order.{Row, column}
 use Rattle.sqlite.specs.Tree.{Trees}
 use Rattle.sqlite.specs.State.{State, Executes, IsLive, Opens}
-use Rattle.sqlite.specs.Held.{Held}
-use Rattle.sqlite.specs.declared.FileStore.{FileStore}
 use Rattle.sqlite.specs.Recovery.{Image}
 use Rattle.sqlite_catalog.specs.Listing.{IsSound}
-use Rattle.sqlite.specs.Files.{file_state, over_files, AreFoundIn, HoldsDatabase, IsBlankAs, IsEmpty, IsOpened}
-use Rattle.sqlite.specs.Start.{FindsIn}
-use Rattle.sqlite_disk.specs.declared.Disk.{Ghosts}
-use Rattle.xa_log.specs.Content.{nothing}
+use Rattle.sqlite.specs.Files.{AreFoundIn, HoldsDatabase, IsEmpty}
 use Rattle.xa_sql_log.specs.Tables.{no_tables, old_schema, log_schema}
-use Rattle.xa_sql_log.specs.Rows.{IsOldLog, content_of, old_content_of}
-use Rattle.xa_sql_log.specs.Sql.{AreLogTrees, IsOrderly, IsOldReady, HasLogTables, IsReadyWith, IsShutOrAsBefore, AreNewTrees}
+use Rattle.xa_sql_log.specs.Rows.{IsOldLog}
+use Rattle.xa_sql_log.specs.Sql.{AreLogTrees, IsOldReady, HasLogTables}
 
 -- the statement ran in the transaction, which goes on
 abbrev pub RunsInside : List ℕ → State → State → Type 0
@@ -66,46 +61,6 @@ pub record IsFoundLog (s : State) : Type 0 where
   pub opens : Opens s
   pub live : IsLive s
   pub log : AreLogTrees s.now.trees
-
--- what one transaction makes: an empty log of a blank database, and a log of version 2 with the same rows of version 1
-abbrev pub AreMade : State → Trees → Type 0
-AreMade old db =
-    (IsBlank old × AreNewTrees nothing db)
-    ⊎ (IsOldReady old × AreNewTrees (old_content_of old.now.trees) db)
-
--- a crash leaves what it might have left before, or such rows
-abbrev pub LeavesOr : (Trees → Type 0) → State → State → Type 0
-LeavesOr These old new = (db : Trees) → new.may_leave db → old.may_leave db ⊎ These db
-
-abbrev pub LeavesTables : State → State → Type 0
-LeavesTables old new = LeavesOr (AreMade old) old new
-
--- a crash leaves nothing new
-abbrev pub LeavesSame : State → State → Type 0
-LeavesSame old new = (db : Trees) → new.may_leave db → old.may_leave db
-
--- nothing has changed, but that a fault may have shut the database
-pub record IsUntouched (old new : State) : Type 0 where
-  pub undone : IsShutOrAsBefore old new
-  pub crash : LeavesSame old new
-
--- What a log makes of a database that it takes: an empty log where that was blank, and else one with its rows.
-pub record IsTaken (old new : State) : Type 0 where
-  pub made : IsBlank old → IsReadyWith nothing new
-  pub migrated : IsOldReady old → IsReadyWith (old_content_of old.now.trees) new
-  pub kept : old.now.schema ≡ log_schema → IsOrderly old → IsReadyWith (content_of old.now.trees) new
-  pub found : IsFoundLog old → IsReadyWith (content_of old.now.trees) new
-  pub version : HasTables old → NamesKnown old
-  pub crash : IsTakeable old → LeavesTables old new
-
--- The log is over the database that was found in files with these contents.
-pub record IsOver {D : Type 0} {g : Ghosts D} (image : Image) (log : Held (FileStore D g)) : Type 0 where
-  pub was : Held (FileStore D g)
-  pub opened : IsOpened was
-  pub found : FindsIn image (file_state was)
-  -- where there was no file, its pages end in no sums of their own, so that any program of SQLite may write them
-  pub plain : IsBlankAs false image → (over_files.view was.store).has_sums ≡ false
-  pub taken : IsTaken (file_state was) (file_state log)
 
 -- ** the files that a log is in order over
 

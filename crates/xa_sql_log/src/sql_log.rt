@@ -1,13 +1,9 @@
 //! A decision log in a database.
-ghost use Rattle.std.specs.Prelude.{◌≡◌, false, Err, IsTrue, IfOk, IfErr};
+ghost use Rattle.std.specs.Prelude.{◌≡◌, Ok, Err, IsTrue, IfOk, IfErr};
 ghost use Rattle.sqlite.specs.State.{HasCleanDisk};
 ghost use Rattle.sqlite.specs.Held.{state};
-ghost use Rattle.xa_log.specs.Content.{nothing};
-ghost use Rattle.xa_log.specs.Contract.{IsStoreFault};
-ghost use Rattle.xa_sql_log.specs.Rows.{content_of, old_content_of};
-ghost use Rattle.xa_sql_log.specs.Tables.{log_schema};
-ghost use Rattle.xa_sql_log.specs.Sql.{IsOrderly, IsReadyWith, IsShutOrAsBefore, IsOldReady};
-ghost use Rattle.xa_sql_log.specs.OpenedDatabase.{IsBlank, IsFoundLog, IsTakeable, IsKnownDatabase, HasTables, NamesKnown, LeavesTables, LeavesSame, IsUntouched};
+ghost use Rattle.xa_sql_log.specs.OpenedDatabase.{IsFoundLog, IsKnownDatabase};
+ghost use Rattle.xa_sql_log.specs.PreparedDatabase.{Prepares};
 
 mod closing;
 mod looking;
@@ -39,72 +35,29 @@ impl<S: Alter + Drop> SqlLog<S> {
     /// - [`LogFault::Store`]: the store failed, a transaction is open, or other tables have these names.
     /// - [`LogFault::Memory`]: a request for memory was refused.
     ///
-    /// In the contract:
+    /// In the contract `ok` says what the log then holds and `err` what a failure leaves, each by `Prepares`:
     ///
-    /// - `made`, `migrated`, `kept`: what the log then holds, by what the database was;
+    /// - `made`, `migrated`, `kept`: what the log holds, by what the database was;
     /// - `found`, `found_err`: what a crash may have left of a log in order, also of one that a failure had shut, is a log
     ///   when it is opened again: it is taken with its content, and never refused as unknown;
-    /// - `order`, `order_found`: the log is in order, as the clauses of `DecisionLog` ask, over a blank database, one of a
-    ///   log of version 1 or 2, and what a crash may have left of one;
     /// - `version`: no log is made of the tables of one where no row of `tm_meta` names version 1 or 2 and a natural
     ///   incarnation;
     /// - `known`: a database without tables, or one that a log has left, is refused by the store or for want of memory
     ///   alone;
     /// - `undone`, `unknown`, `refused`: after a failure the database is as it was, or shut;
-    /// - `crash`, `crash_kept` and the same for a failure: a crash leaves what it might have left before, or all
-    ///   that one transaction made; over version 2 nothing else.
+    /// - `crash`, `crash_kept`: a crash leaves what it might have left before, or all that one transaction made; over
+    ///   version 2 nothing else.
+    ///
+    /// The log is in order, as the clauses of `DecisionLog` ask, over a blank database and one of a log of version 1 or 2
+    /// (`order`), and over what a crash may have left of a log (`order_found`).
     pub fn adopt(mut conn: Connection<S>) -> Result<SqlLog<S>, (LogFault, Connection<S>)>
         ensures faults { IfOk result (λ log. log.faults ≡ 0) }
         ensures busy { IsTrue conn.in_transaction → result ≡ Err (LogFault.Store, conn) }
-        ensures honest { IfOk result (λ log.
-            HasCleanDisk (state S.Store log.conn) → HasCleanDisk (state S.Store conn)) }
-        ensures honest_err { IfErr result (λ e.
-            HasCleanDisk (state S.Store e.1) → HasCleanDisk (state S.Store conn)) }
-        // What the log then holds, by what the database was.
-        ensures made { IfOk result (λ log. IsBlank (state S.Store conn) →
-            HasCleanDisk (state S.Store log.conn) →
-            IsReadyWith nothing (state S.Store log.conn)) }
-        ensures migrated { IfOk result (λ log. IsOldReady (state S.Store conn) →
-            HasCleanDisk (state S.Store log.conn) →
-            IsReadyWith (old_content_of (state S.Store conn).now.trees) (state S.Store log.conn)) }
-        ensures kept { IfOk result (λ log. (state S.Store conn).now.schema ≡ log_schema →
-            IsOrderly (state S.Store conn) → HasCleanDisk (state S.Store log.conn) →
-            IsReadyWith (content_of (state S.Store conn).now.trees) (state S.Store log.conn)) }
-        // After a failure the database is as it was, or shut.
-        ensures undone { IfErr result (λ e. conn.in_transaction ≡ false →
-            IsTakeable (state S.Store conn) → HasCleanDisk (state S.Store e.1) →
-            IsShutOrAsBefore (state S.Store conn) (state S.Store e.1)) }
-        // What a crash may have left of a log.
-        ensures found { IfOk result (λ log. IsFoundLog (state S.Store conn) →
-            HasCleanDisk (state S.Store log.conn) →
-            IsReadyWith (content_of (state S.Store conn).now.trees) (state S.Store log.conn)) }
-        ensures found_err { IfErr result (λ e. IsFoundLog (state S.Store conn) →
-            HasCleanDisk (state S.Store e.1) → IsStoreFault e.0) }
-        // Which tables are refused, and as what.
-        ensures version { IfOk result (λ log. HasTables (state S.Store conn) →
-            HasCleanDisk (state S.Store log.conn) → NamesKnown (state S.Store conn)) }
-        ensures known { IfErr result (λ e. IsKnownDatabase (state S.Store conn) →
-            HasCleanDisk (state S.Store e.1) → IsStoreFault e.0) }
-        ensures unknown { IfErr result (λ e. conn.in_transaction ≡ false →
-            HasTables (state S.Store conn) → ¬ NamesKnown (state S.Store conn) →
-            HasCleanDisk (state S.Store e.1) →
-            IsUntouched (state S.Store conn) (state S.Store e.1)) }
-        ensures refused { IfErr result (λ e. e.0 ≡ LogFault.Version →
-            HasTables (state S.Store conn) → HasCleanDisk (state S.Store e.1) →
-            IsUntouched (state S.Store conn) (state S.Store e.1)) }
-        // What a crash leaves, after success and after a failure.
-        ensures crash { IfOk result (λ log. IsTakeable (state S.Store conn) →
-            HasCleanDisk (state S.Store log.conn) →
-            LeavesTables (state S.Store conn) (state S.Store log.conn)) }
-        ensures crash_err { IfErr result (λ e. IsTakeable (state S.Store conn) →
-            HasCleanDisk (state S.Store e.1) →
-            LeavesTables (state S.Store conn) (state S.Store e.1)) }
-        ensures crash_kept { IfOk result (λ log. (state S.Store conn).now.schema ≡ log_schema →
-            HasCleanDisk (state S.Store log.conn) →
-            LeavesSame (state S.Store conn) (state S.Store log.conn)) }
-        ensures crash_kept_err { IfErr result (λ e. (state S.Store conn).now.schema ≡ log_schema →
-            HasCleanDisk (state S.Store e.1) →
-            LeavesSame (state S.Store conn) (state S.Store e.1)) }
+        // What the log then holds, or what a failure leaves.
+        ensures ok { IfOk result (λ log. HasCleanDisk (state S.Store log.conn) →
+            Prepares (state S.Store conn) (state S.Store log.conn) (Ok tt)) }
+        ensures err { IfErr result (λ e. HasCleanDisk (state S.Store e.1) →
+            Prepares (state S.Store conn) (state S.Store e.1) (Err e.0)) }
         // The log is in order.
         ensures order { IfOk result (λ log. IsKnownDatabase (state S.Store conn) →
             (⟦<SqlLog<S> as DecisionLog>⟧.moment log).is_in_order) }

@@ -1,13 +1,14 @@
 //! The tables of a log: made where there is none, and migrated from version 1.
-ghost use Rattle.std.specs.Prelude.{◌≡◌, false, true, IsTrue, [], Err, IfErr, OnOk, OnErr};
+ghost use Rattle.std.specs.Prelude.{◌≡◌, ◌⊎◌, false, IsTrue, [], Err, IfErr, OnOk};
 ghost use Rattle.sqlite.specs.State.{HasCleanDisk, KeepsCommit, Survives};
 ghost use Rattle.sqlite.specs.Held.{state};
 ghost use Rattle.xa_log.specs.Content.{nothing};
 ghost use Rattle.xa_log.specs.Contract.{IsStoreFault};
-ghost use Rattle.xa_sql_log.specs.Rows.{content_of, old_content_of, IsOldLog};
+ghost use Rattle.xa_sql_log.specs.Rows.{old_content_of, IsOldLog};
 ghost use Rattle.xa_sql_log.specs.Tables.{old_schema, log_schema};
-ghost use Rattle.xa_sql_log.specs.Sql.{IsOrderly, IsReadyWith, IsShutOrAsBefore, IsNewLog, AreNewTrees, IsOldReady, Rests};
-ghost use Rattle.xa_sql_log.specs.OpenedDatabase.{IsBlank, HasTables, IsTakeable, IsKnownDatabase, NamesVersion, NamesKnown, RunsInside, LeavesOr, LeavesTables, LeavesSame, IsUntouched};
+ghost use Rattle.xa_sql_log.specs.Sql.{IsNewLog, AreNewTrees, IsOldReady, Rests};
+ghost use Rattle.xa_sql_log.specs.OpenedDatabase.{IsBlank, HasTables, NamesVersion, NamesKnown, RunsInside};
+ghost use Rattle.xa_sql_log.specs.PreparedDatabase.{LeavesOr, LeavesSame, MakesLog, Prepares};
 
 use crate::statements::of_store;
 use crate::version::check_version;
@@ -85,10 +86,8 @@ fn create_tables<S: Alter>(tx: &mut Transaction<'_, S>) -> Result<(), LogFault>
 fn make_tables<S: Alter>(conn: &mut Connection<S>) -> Result<(), LogFault>
     requires { conn.old.in_transaction ≡ false }
     ensures honest { HasCleanDisk (state S.Store conn.new) → HasCleanDisk (state S.Store conn.old) }
-    ensures ok { HasCleanDisk (state S.Store conn.new) → IsBlank (state S.Store conn.old) →
-        OnOk result (IsReadyWith nothing (state S.Store conn.new)) }
-    ensures err { HasCleanDisk (state S.Store conn.new) → IsBlank (state S.Store conn.old) →
-        OnErr result (IsShutOrAsBefore (state S.Store conn.old) (state S.Store conn.new)) }
+    ensures makes { HasCleanDisk (state S.Store conn.new) → IsBlank (state S.Store conn.old) →
+        MakesLog nothing (state S.Store conn.old) (state S.Store conn.new) result }
     ensures crash { IsBlank (state S.Store conn.old) →
         Survives (state S.Store conn.old) (state S.Store conn.new) (AreNewTrees nothing) }
     ensures cause { IfErr result IsStoreFault }
@@ -123,11 +122,9 @@ fn make_version_2<S: Alter>(tx: &mut Transaction<'_, S>) -> Result<(), LogFault>
 fn migrate<S: Alter>(conn: &mut Connection<S>) -> Result<(), LogFault>
     requires { conn.old.in_transaction ≡ false }
     ensures honest { HasCleanDisk (state S.Store conn.new) → HasCleanDisk (state S.Store conn.old) }
-    ensures ok { HasCleanDisk (state S.Store conn.new) → IsOldReady (state S.Store conn.old) →
-        OnOk result (IsReadyWith (old_content_of (state S.Store conn.old).now.trees)
-        (state S.Store conn.new)) }
-    ensures err { HasCleanDisk (state S.Store conn.new) → IsOldReady (state S.Store conn.old) →
-        OnErr result (IsShutOrAsBefore (state S.Store conn.old) (state S.Store conn.new)) }
+    ensures makes { HasCleanDisk (state S.Store conn.new) → IsOldReady (state S.Store conn.old) →
+        MakesLog (old_content_of (state S.Store conn.old).now.trees)
+        (state S.Store conn.old) (state S.Store conn.new) result }
     ensures crash { IsOldReady (state S.Store conn.old) →
         Survives (state S.Store conn.old) (state S.Store conn.new)
         (AreNewTrees (old_content_of (state S.Store conn.old).now.trees)) }
@@ -144,11 +141,9 @@ fn upgrade<S: Alter>(conn: &mut Connection<S>) -> Result<(), LogFault>
     requires { conn.old.in_transaction ≡ false }
     ensures honest { HasCleanDisk (state S.Store conn.new) → HasCleanDisk (state S.Store conn.old) }
     // What is done, and what a failure and a crash leave.
-    ensures ok { HasCleanDisk (state S.Store conn.new) → IsOldReady (state S.Store conn.old) →
-        OnOk result (IsReadyWith (old_content_of (state S.Store conn.old).now.trees)
-        (state S.Store conn.new)) }
-    ensures err { HasCleanDisk (state S.Store conn.new) → IsOldReady (state S.Store conn.old) →
-        OnErr result (IsShutOrAsBefore (state S.Store conn.old) (state S.Store conn.new)) }
+    ensures makes { HasCleanDisk (state S.Store conn.new) → IsOldReady (state S.Store conn.old) →
+        MakesLog (old_content_of (state S.Store conn.old).now.trees)
+        (state S.Store conn.old) (state S.Store conn.new) result }
     ensures crash { IsOldReady (state S.Store conn.old) → HasCleanDisk (state S.Store conn.new) →
         LeavesOr (AreNewTrees (old_content_of (state S.Store conn.old).now.trees))
         (state S.Store conn.old) (state S.Store conn.new) }
@@ -157,11 +152,8 @@ fn upgrade<S: Alter>(conn: &mut Connection<S>) -> Result<(), LogFault>
         OnOk result (NamesVersion 1 (state S.Store conn.old)) }
     ensures known { IsOldReady (state S.Store conn.old) →
         HasCleanDisk (state S.Store conn.new) → IfErr result IsStoreFault }
-    ensures unknown { HasTables (state S.Store conn.old) → ¬ NamesKnown (state S.Store conn.old) →
-        HasCleanDisk (state S.Store conn.new) →
-        Rests (state S.Store conn.old) (state S.Store conn.new) ×
-        LeavesSame (state S.Store conn.old) (state S.Store conn.new) }
-    ensures refused { HasTables (state S.Store conn.old) → result ≡ Err LogFault.Version →
+    ensures refused { HasTables (state S.Store conn.old) →
+        (result ≡ Err LogFault.Version) ⊎ ¬ NamesKnown (state S.Store conn.old) →
         HasCleanDisk (state S.Store conn.new) →
         Rests (state S.Store conn.old) (state S.Store conn.new) ×
         LeavesSame (state S.Store conn.old) (state S.Store conn.new) }
@@ -203,39 +195,8 @@ pub(crate) fn has_log<S: Alter>(conn: &Connection<S>) -> bool
 pub(crate) fn prepare<S: Alter>(conn: &mut Connection<S>) -> Result<(), LogFault>
     ensures busy { IsTrue conn.old.in_transaction →
         (result ≡ Err LogFault.Store) × (conn.new ≡ conn.old) }
-    ensures honest { HasCleanDisk (state S.Store conn.new) → HasCleanDisk (state S.Store conn.old) }
-    // What the tables then are.
-    ensures made { IsBlank (state S.Store conn.old) → HasCleanDisk (state S.Store conn.new) →
-        OnOk result (IsReadyWith nothing (state S.Store conn.new)) }
-    ensures migrated { IsOldReady (state S.Store conn.old) → HasCleanDisk (state S.Store conn.new) →
-        OnOk result (IsReadyWith (old_content_of (state S.Store conn.old).now.trees)
-        (state S.Store conn.new)) }
-    ensures kept { (state S.Store conn.old).now.schema ≡ log_schema →
-        IsOrderly (state S.Store conn.old) → HasCleanDisk (state S.Store conn.new) →
-        OnOk result (IsReadyWith (content_of (state S.Store conn.old).now.trees)
-        (state S.Store conn.new)) }
-    // What a failure and a crash leave.
-    ensures undone { conn.old.in_transaction ≡ false → IsTakeable (state S.Store conn.old) →
-        HasCleanDisk (state S.Store conn.new) →
-        OnErr result (IsShutOrAsBefore (state S.Store conn.old) (state S.Store conn.new)) }
-    ensures crash { IsTakeable (state S.Store conn.old) → HasCleanDisk (state S.Store conn.new) →
-        LeavesTables (state S.Store conn.old) (state S.Store conn.new) }
-    ensures crash_kept { (state S.Store conn.old).now.schema ≡ log_schema →
-        HasCleanDisk (state S.Store conn.new)
-        → LeavesSame (state S.Store conn.old) (state S.Store conn.new) }
-    // Which tables are refused, and as what.
-    ensures version { HasTables (state S.Store conn.old) → HasCleanDisk (state S.Store conn.new) →
-        OnOk result (NamesKnown (state S.Store conn.old)) }
-    ensures known { IsKnownDatabase (state S.Store conn.old)
-        → HasCleanDisk (state S.Store conn.new) →
-        IfErr result IsStoreFault }
-    ensures unknown { conn.old.in_transaction ≡ false →
-        HasTables (state S.Store conn.old) → ¬ NamesKnown (state S.Store conn.old) →
-        HasCleanDisk (state S.Store conn.new) →
-        IsUntouched (state S.Store conn.old) (state S.Store conn.new) }
-    ensures refused { result ≡ Err LogFault.Version → HasTables (state S.Store conn.old) →
-        HasCleanDisk (state S.Store conn.new) →
-        IsUntouched (state S.Store conn.old) (state S.Store conn.new) }
+    ensures prepares { HasCleanDisk (state S.Store conn.new) →
+        Prepares (state S.Store conn.old) (state S.Store conn.new) result }
 {
     if !conn.is_autocommit() {
         return Err(LogFault::Store);

@@ -6,7 +6,8 @@ ghost use Rattle.sqlite_wal.specs.Reads.{AreClean};
 ghost use Rattle.xa_log.specs.Content.{Content};
 ghost use Rattle.xa_log.specs.Contract.{IsStoreFault};
 ghost use Rattle.xa_sql_log.specs.ClosedFiles.{HoldsWhole};
-ghost use Rattle.xa_sql_log.specs.OpenedDatabase.{HoldsLog, IsOver};
+ghost use Rattle.xa_sql_log.specs.OpenedDatabase.{HoldsLog};
+ghost use Rattle.xa_sql_log.specs.PreparedDatabase.{IsOver};
 
 use super::SqlLog;
 use crate::statements::store_fault;

@@ -6,7 +6,8 @@ ghost use Rattle.sqlite.specs.Held.{state};
 ghost use Rattle.sqlite.specs.Files.{file_state};
 ghost use Rattle.sqlite_wal.specs.Files.{image_at};
 ghost use Rattle.xa_log.specs.Contract.{IsStoreFault};
-ghost use Rattle.xa_sql_log.specs.OpenedDatabase.{FindsLog, HoldsLog, IsBlank, IsOver};
+ghost use Rattle.xa_sql_log.specs.OpenedDatabase.{FindsLog, HoldsLog, IsBlank};
+ghost use Rattle.xa_sql_log.specs.PreparedDatabase.{IsOver};
 
 use super::SqlLog;
 use crate::statements::{of_store, store_fault};

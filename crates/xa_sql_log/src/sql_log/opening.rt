@@ -1,5 +1,5 @@
 //! A log that is opened: in memory, and in the file at a path.
-ghost use Rattle.std.specs.Prelude.{◌≡◌, false, codes, Err, IfOk, IsErrAnd};
+ghost use Rattle.std.specs.Prelude.{◌≡◌, false, codes, Ok, Err, IfOk, IsErrAnd};
 ghost use Rattle.sqlite.specs.State.{HasCleanDisk};
 ghost use Rattle.sqlite.specs.Held.{state};
 ghost use Rattle.sqlite.specs.Steps.{over_memory};
@@ -10,7 +10,8 @@ ghost use Rattle.xa_log.specs.Content.{nothing};
 ghost use Rattle.xa_log.specs.Contract.{IsStoreFault};
 ghost use Rattle.xa_sql_log.specs.Sql.{IsLasting, IsReadyWith};
 ghost use Rattle.xa_sql_log.specs.declared.sql_log.SqlLog.{SqlLog as Log};
-ghost use Rattle.xa_sql_log.specs.OpenedDatabase.{IsTaken, IsOver, IsKnownDatabase, HoldsLog, FindsLog};
+ghost use Rattle.xa_sql_log.specs.OpenedDatabase.{IsKnownDatabase, HoldsLog, FindsLog};
+ghost use Rattle.xa_sql_log.specs.PreparedDatabase.{IsOver, Prepares};
 
 use super::SqlLog;
 use crate::statements::store_fault;
@@ -23,10 +24,8 @@ impl<S: Alter + Drop> SqlLog<S> {
     /// Does what `adopt` does, and closes the connection where that fails.
     fn adopt_or_close(conn: Connection<S>) -> Result<SqlLog<S>, LogFault>
         ensures faults { IfOk result (λ log. log.faults ≡ 0) }
-        ensures honest { IfOk result (λ log.
-            HasCleanDisk (state S.Store log.conn) → HasCleanDisk (state S.Store conn)) }
         ensures taken { IfOk result (λ log. HasCleanDisk (state S.Store log.conn) →
-            IsTaken (state S.Store conn) (state S.Store log.conn)) }
+            Prepares (state S.Store conn) (state S.Store log.conn) (Ok tt)) }
         ensures order { IfOk result (λ log.
             (HasCleanDisk (state S.Store conn) → IsKnownDatabase (state S.Store conn)) →
             IsLasting (state S.Store log.conn)) }
@@ -65,10 +64,8 @@ impl<D: Disk + Drop> SqlLog<FileStore<D>> {
         conn: Connection<FileStore<D>>,
     ) -> Result<SqlLog<FileStore<D>>, LogFault>
         ensures faults { IfOk result (λ log. log.faults ≡ 0) }
-        ensures honest { IfOk result (λ log.
-            HasCleanDisk (file_state log.conn) → HasCleanDisk (file_state conn)) }
         ensures taken { IfOk result (λ log. HasCleanDisk (file_state log.conn) →
-            IsTaken (file_state conn) (file_state log.conn)) }
+            Prepares (file_state conn) (file_state log.conn) (Ok tt)) }
         ensures order { IfOk result (λ log.
             (HasCleanDisk (file_state conn) → IsKnownDatabase (file_state conn)) →
             IsLasting (file_state log.conn)) }

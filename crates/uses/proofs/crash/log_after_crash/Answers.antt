@@ -11,14 +11,14 @@ returns-in-Ok-adopt-clause-order g c lasts =
     let again = c.in-Ok.ensures in
     lasts_if_clean (state g.S.Store left) (opened_clean _ _ (g.met.S.Store.shut_if_dirty left.store))
     (λ clean. taken.order_found (found_log g.S.Store c.args.log.conn c.into_connection.result c.in-Ok.conn c.into_connection.ensures
-    lasts again.honest again.opens again.found (taken.honest clean)))
+    lasts again.honest again.opens again.found (taken.ok clean).honest))
 
 pub returns-in-Ok-adopt-clause-leaves : goal.returns-in-Ok-adopt-clause-leaves
 returns-in-Ok-adopt-clause-leaves g c lasts clean =
     let taken = c.in-Ok-adopt.ensures in
     let again = c.in-Ok.ensures in
-    let now = taken.honest clean in
+    let now = (taken.ok clean).honest in
     content_left g.S.Store c.args.log.conn c.into_connection.result c.in-Ok.conn c.into_connection.ensures (state g.S.Store c.in-Ok-adopt.left.conn)
     (again.found now)
-    (taken.found (found_log g.S.Store c.args.log.conn c.into_connection.result c.in-Ok.conn c.into_connection.ensures lasts again.honest
-    again.opens again.found now) clean)
+    ((taken.ok clean).found (found_log g.S.Store c.args.log.conn c.into_connection.result c.in-Ok.conn c.into_connection.ensures lasts again.honest
+    again.opens again.found now))

@@ -1,4 +1,4 @@
-use Rattle.std.proofs.Common.{inl, inr, subst}
+use Rattle.std.proofs.Common.{inl, inr, subst, rules}
 use Rattle.sqlite.specs.Held.{state}
 use Rattle.sqlite.specs.Effect.{Database}
 use Rattle.xa_sql_log.specs.Sql.{AreNewTrees}
@@ -10,8 +10,11 @@ use Rattle.xa_sql_log.proofs.tables.upgrade.Goals as goal
 pub returns-clause-version : goal.returns-clause-version
 returns-clause-version g c has clean = on_ok _ _ (c.in_ok-check_version.ensures.version has (c.migrate.ensures.honest clean))
 
-pub returns-clause-unknown : goal.returns-clause-unknown
-returns-clause-unknown g c has unknown clean = absurd (unknown (inl (c.in_ok-check_version.ensures.version has (c.migrate.ensures.honest clean))))
+pub returns-clause-refused : goal.returns-clause-refused
+returns-clause-refused g c has why clean = elim why [
+  | inl version ↦ search rules
+  | inr unknown ↦ absurd (unknown (inl (c.in_ok-check_version.ensures.version has (c.migrate.ensures.honest clean))))
+]
 
 pub returns-clause-crash : goal.returns-clause-crash
 returns-clause-crash g c is clean db left =

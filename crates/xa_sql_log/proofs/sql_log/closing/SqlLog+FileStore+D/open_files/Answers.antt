@@ -1,4 +1,4 @@
-use Rattle.xa_log.proofs.Parts.{both_ok, if_ok}
+use Rattle.xa_log.proofs.Parts.{if_ok}
 use Rattle.sqlite.specs.Files.{file_state}
 use Rattle.xa_sql_log.proofs.Closing.{found_whole}
 use Rattle.xa_sql_log.proofs.FoundDatabase.{known_held}
@@ -6,13 +6,13 @@ use Rattle.xa_sql_log.proofs.sql_log.closing.SqlLog+FileStore+D.open_files.Goals
 
 pub returns-clause-honest : goal.returns-clause-honest
 returns-clause-honest g c =
-    if_ok c.adopt_files.result _ _ (λ log honest clean. (c.in-Ok.ensures.found (honest clean)).honest) c.adopt_files.ensures.honest
+    if_ok c.adopt_files.result _ _ (λ log taken clean. (c.in-Ok.ensures.found (taken clean).honest).honest) c.adopt_files.ensures.taken
 
 pub returns-clause-opened : goal.returns-clause-opened
 returns-clause-opened g c =
-    both_ok c.adopt_files.result _ _ _
-    (λ log honest taken clean.
-    let early = honest clean in
+    if_ok c.adopt_files.result _ _
+    (λ log taken clean.
+    let early = (taken clean).honest in
     let found = c.in-Ok.ensures.found early in
     record {
       was = c.in-Ok.conn;
@@ -21,7 +21,6 @@ returns-clause-opened g c =
       plain = c.in-Ok.ensures.plain early;
       taken = taken clean;
     })
-    c.adopt_files.ensures.honest
     c.adopt_files.ensures.taken
 
 pub returns-clause-order : goal.returns-clause-order
@@ -37,11 +36,10 @@ returns-clause-order g c =
 pub returns-clause-held : goal.returns-clause-held
 returns-clause-held g c =
     let conn = c.in-Ok.conn in
-    both_ok c.adopt_files.result _ _ _
-    (λ log honest taken content whole clean.
-    let early = honest clean in
+    if_ok c.adopt_files.result _ _
+    (λ log taken content whole clean.
+    let early = (taken clean).honest in
     let opened = c.in-Ok.ensures.opened early in
     let found = c.in-Ok.ensures.found early in
     found_whole content _ (file_state conn) (file_state log.conn) opened.0 opened.1 (record { holds = found.holds; reads = found.reads }) whole (taken clean))
-    c.adopt_files.ensures.honest
     c.adopt_files.ensures.taken

@@ -1,13 +1,13 @@
-use Rattle.xa_log.proofs.Parts.{both_ok, if_ok}
+use Rattle.xa_log.proofs.Parts.{if_ok}
 use Rattle.sqlite.specs.Files.{file_state}
 use Rattle.xa_sql_log.proofs.FoundDatabase.{known_found, known_held}
 use Rattle.xa_sql_log.proofs.sql_log.opening.SqlLog+FileStore+FileFrom+S.open_from.Goals as goal
 
 pub returns-clause-opened : goal.returns-clause-opened
 returns-clause-opened g c =
-    both_ok c.adopt_files.result _ _ _
-    (λ log honest taken clean.
-    let early = honest clean in
+    if_ok c.adopt_files.result _ _
+    (λ log taken clean.
+    let early = (taken clean).honest in
     record {
       was = c.in_ok-conn.conn;
       opened = c.in_ok-conn.ensures.opened early;
@@ -15,7 +15,6 @@ returns-clause-opened g c =
       plain = c.in_ok-conn.ensures.plain early;
       taken = taken clean;
     })
-    c.adopt_files.ensures.honest
     c.adopt_files.ensures.taken
 
 pub returns-clause-order : goal.returns-clause-order
