@@ -1,15 +1,15 @@
 -- What the fault of a document is to its text.
-use Rattle.std.proofs.Common.{◌≡◌, List, ℕ, Option, Result, Ok, Err, refl, subst}
+use Rattle.std.proofs.Common.{◌≡◌, ◌⊎◌, ⊎_elim, List, ℕ, Option, Result, Ok, Err, IfErr, OnOk, refl, subst, sym}
+use Rattle.std.specs.Io.KnownBytes.{Appends}
 use Rattle.toml.specs.Data.{Members}
 use Rattle.xa_files.proofs.DocumentLemmas.{fails_on}
-use Rattle.xa_files.proofs.TablesInTurnLemmas.{same_err}
 use Rattle.xa_files.proofs.TextFaults.{no_text_fault}
 use Rattle.xa_files.specs.Documents.{document_of}
-use Rattle.xa_files.specs.Reading.{Fails}
+use Rattle.xa_files.specs.Reading.{Explains, Fails}
 use Rattle.xa_files.specs.declared.fault.RunFault.{RunFault}
-use Rattle.xa_files.specs.declared.fault.RunFault.TheVariants.{Memory, Step}
-use Rattle.xa_diagnostics.specs.Explanations.{Tells}
+use Rattle.xa_files.specs.declared.fault.RunFault.TheVariants.{Memory, Output, Step}
 use Rattle.xa_scenario.proofs.TextFaults.{faults_are_of_texts}
+use Rattle.xa_scenario.specs.Runs.{PrintsCheck, check_line}
 use Rattle.xa_scenario.specs.Scenarios.{Plan, scenario_in, scenario_of}
 
 -- the fault of a text that is no document
@@ -36,7 +36,16 @@ not_memory text fault read is =
     no_text_fault Step Memory (λ q. cc) (λ q. cc) (λ n q. cc)
     (faults_are_of_texts text Memory (subst (λ (f : RunFault). scenario_of text ≡ Err f) is read))
 
--- what is told of the fault that a check ends with
-pub tells_of : (fault e : RunFault) (old new : Option (List ℕ)) → Tells fault old new → ◌≡◌ {A = Result (Unit {0}) RunFault} (Err fault) (Err e)
-    → Tells e old new
-tells_of fault e old new told is = subst (λ (f : RunFault). Tells f old new) (same_err fault e is) told
+-- ** a text that is a scenario
+
+pub prints_check : (result : Result (Unit {0}) RunFault) (plan : Plan) (text : List ℕ) (old new : Option (List ℕ)) → scenario_of text ≡ Ok plan
+    → OnOk result (Appends old new (check_line plan)) → OnOk result (PrintsCheck text old new)
+prints_check (Ok done) plan text old new reads written = record { plan = plan; reads = reads; writes = written }
+prints_check (Err e) plan text old new reads written = tt
+
+pub explains_written : (result : Result (Unit {0}) RunFault) (plan : Plan) (text : List ℕ) → scenario_of text ≡ Ok plan
+    → IfErr result (λ e. (e ≡ Memory) ⊎ (e ≡ Output)) → IfErr result (λ e. Explains e (scenario_of text))
+explains_written (Ok done) plan text reads why = tt
+explains_written (Err e) plan text reads why =
+    ⊎_elim (λ (m : e ≡ Memory). subst (λ (f : RunFault). Explains f (scenario_of text)) (sym m) tt)
+    (λ (o : e ≡ Output). subst (λ (f : RunFault). Explains f (scenario_of text)) (sym o) (rw reads)) why
