@@ -9,7 +9,7 @@ ghost use Rattle.xa_model.specs.Promises.Headline.{HeadlineSince};
 ghost use Rattle.xa_model.specs.Promises.Processes.{Resumes, joined, resumed};
 ghost use Rattle.xa_model.specs.Trace.{Trace};
 ghost use Rattle.xa_system.specs.NextProcess.{FindsNewer};
-ghost use Rattle.xa_system.specs.StartFaults.{IsToBlame};
+ghost use Rattle.xa_tm.specs.StartFaults.{IsToBlame};
 ghost use Rattle.xa_system.specs.SystemView.{HasWrongSize, HoldsItsTrace, MayRestart, observes, origin_in};
 ghost use Rattle.xa_system.specs.declared.resume.ResumeFault.TheVariants as ResumeFault;
 ghost use Rattle.xa_tm.specs.Slots.{log_held, slot_moment};

@@ -21,7 +21,7 @@ use Rattle.xa_scenario.specs.Scenarios.{Plan}
 use Rattle.xa_scenario.proofs.StartLemmas.{in_slot, out_of_slot}
 use Rattle.xa_system.specs.LogInHistory.{StartsOver}
 use Rattle.xa_system.specs.NextProcess.{FindsNewer, Leaves}
-use Rattle.xa_system.specs.StartFaults.{IsToBlame}
+use Rattle.xa_tm.specs.StartFaults.{IsToBlame}
 use Rattle.xa_system.specs.SystemView.{MayRestart, Observes, SystemView, origin_in, trace_in}
 use Rattle.xa_tm.specs.Slots.{log_held, order_in, slot_moment}
 use Rattle.xa_tm.specs.declared.slot.Slot.{Slot}

@@ -5,7 +5,7 @@ use Rattle.xa_log.specs.declared.decision_log.DecisionLog as DecisionLog
 use Rattle.xa_model.specs.Promises.Processes.{Resumes}
 use Rattle.xa_scenario.specs.Runs.{StartsOverLog}
 use Rattle.xa_system.specs.NextProcess.{FindsNewer}
-use Rattle.xa_system.specs.StartFaults.{IsToBlame}
+use Rattle.xa_tm.specs.StartFaults.{IsToBlame}
 use Rattle.xa_system.specs.SystemView.{MayRestart, Observes, SystemView, origin_in, trace_in}
 use Rattle.xa_tm.specs.Slots.{log_held}
 use Rattle.xa_rm.specs.Look.{Look}

@@ -26,7 +26,7 @@ use Rattle.xa_scenario.specs.Plays.{IsPlay, Performs, gtrids_of}
 use Rattle.xa_scenario.specs.Replies.{trace_lines}
 use Rattle.xa_scenario.specs.Runs.{IsStartOf, StartsOverLog}
 use Rattle.xa_scenario.specs.Scenarios.{Plan}
-use Rattle.xa_system.specs.StartFaults.{IsToBlame}
+use Rattle.xa_tm.specs.StartFaults.{IsToBlame}
 use Rattle.xa_system.specs.SystemView.{HoldsItsTrace, MayRestart, Observes, SystemView, origin_in, trace_in}
 use Rattle.xa_tm.specs.Slots.{log_held}
 

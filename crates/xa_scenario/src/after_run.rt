@@ -5,7 +5,7 @@ ghost use Rattle.xa_files.specs.declared.fault.RunFault.TheVariants.{Log, Memory
 ghost use Rattle.xa_model.specs.Protocol.{RightOrigin};
 ghost use Rattle.xa_scenario.specs.Runs.{IsRunOf, IsStartFault, IsStartOf, StartsOverLog};
 ghost use Rattle.xa_scenario.specs.Scenarios.{IsSized, plan_of};
-ghost use Rattle.xa_system.specs.StartFaults.{IsToBlame};
+ghost use Rattle.xa_tm.specs.StartFaults.{IsToBlame};
 ghost use Rattle.xa_system.specs.SystemView.{origin_in};
 
 use crate::document::Scenario;

@@ -15,7 +15,7 @@ ghost use Rattle.xa_scenario.specs.Processes.{StopsAnywhere, StopsBetween, headi
 ghost use Rattle.xa_scenario.specs.Replies.{trace_lines};
 ghost use Rattle.xa_scenario.specs.Runs.{IsNewRm, IsStartFault};
 ghost use Rattle.xa_scenario.specs.Scenarios.{IsSized, Plan, plan_of};
-ghost use Rattle.xa_system.specs.StartFaults.{IsToBlame};
+ghost use Rattle.xa_tm.specs.StartFaults.{IsToBlame};
 ghost use Rattle.xa_system.specs.SystemView.{HasWrongSize, observes, origin_in, trace_in};
 
 use crate::document::Scenario;

@@ -12,7 +12,7 @@ ghost use Rattle.xa_scenario.specs.LogKeeping.{HasStarted};
 ghost use Rattle.xa_scenario.specs.Runs.{Begins, BeginsCheck, BeginsRun, IsNewRm, IsStartFault, IsStartOf, IsTextOf, Prints, PrintsCheck, PrintsRun, check_line};
 ghost use Rattle.xa_scenario.specs.Scenarios.{IsSized, plan_of, scenario_of};
 ghost use Rattle.xa_system.specs.SystemView.{observes, origin_in};
-ghost use Rattle.xa_system.specs.StartFaults.{IsToBlame};
+ghost use Rattle.xa_tm.specs.StartFaults.{IsToBlame};
 
 use crate::document::{Scenario, read_scenario};
 use crate::play::play;

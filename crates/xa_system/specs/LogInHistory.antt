@@ -124,18 +124,6 @@ abbrev pub log_faults_but_restarts : List Event → ℕ
 log_faults_but_restarts events =
     length (filter (λ event. says_log_fault event.reply && not (is_restart (step_of event.step))) events)
 
--- ** a manager that was just started
-
--- over a log that was handed to it so
-pub record IsStartedOver {L : Type 0} (moment : L → Moment) (threads rms : ℕ) (handed : Moment) (manager : Manager L) : Type 0 where
-  pub order : handed.is_in_order → (moment (log_in manager)).is_in_order
-  pub honest : (moment (log_in manager)).is_honest → handed.is_honest
-  pub tied : (near : Bool) → Honestly handed (moment (log_in manager)) (IsTied near (book_in manager) (moment (log_in manager)).content)
-  pub book : Honestly handed (moment (log_in manager))
-      (IsSomeAnd (moment (log_in manager)).content (λ c. book_in manager ≡ book_at_start threads rms c))
-  pub raised : Honestly handed (moment (log_in manager)) (Makes with_bump handed.content (moment (log_in manager)).content)
-  pub faults : (moment (log_in manager)).fault_count ≡ handed.fault_count
-
 -- ** what a crash may leave
 
 -- each content that it may leave is tied to the book

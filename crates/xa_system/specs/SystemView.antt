@@ -191,14 +191,6 @@ pub record IsOwnIn {R L : Type 0} (s : SystemView R L) (b : Branch) : Type 0 whe
 
 -- ** the start
 
--- the manager was just started: a history that begins with what it began with has its book
-pub record IsStarted {L : Type 0} (threads rms : ℕ) (manager : Manager L) : Type 0 where
-  pub book : (o : Origin) → BeginsWith threads rms manager o → book_in manager ≡ book_of (From o)
-  pub old : IsOld (book_in manager)
-  pub apart : ApartRows (rows_begun manager)
-  pub sound : books.IsSound (book_in manager)
-  pub room : HasRoomForRun (book_in manager)
-
 module _ {R : Type 0} (look : R → Look) where
   -- no branch of this manager's format was ever started there, and what is in doubt is listed
   pub record IsClear (rm : R) : Type 0 where

@@ -5,7 +5,7 @@ ghost use Rattle.xa_model.specs.Protocol.{RightOrigin};
 ghost use Rattle.xa_model.specs.Trace.{Trace};
 ghost use Rattle.xa_system.specs.KeptLog.{IsMadeOver};
 ghost use Rattle.xa_system.specs.NextProcess.{FindsNewer, Leaves};
-ghost use Rattle.xa_system.specs.StartFaults.{IsToBlame};
+ghost use Rattle.xa_tm.specs.StartFaults.{IsToBlame};
 ghost use Rattle.xa_system.specs.Steps.{AreCrashed};
 ghost use Rattle.xa_system.specs.SystemView.{AreClear, ArePast, HasNewer, HasWrongSize, HoldsItsTrace, observes, origin_in};
 ghost use Rattle.xa_system.specs.declared.resume.ResumeFault.{ResumeFault};

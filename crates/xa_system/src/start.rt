@@ -1,11 +1,10 @@
 //! The parts of a system as it starts.
-ghost use Rattle.std.specs.Prelude.{◌≡◌, ◌≤◌, length, map, Err, IfOk, IsSome, IsSomeAnd, vec_len};
-ghost use Rattle.xa_system.specs.LogInHistory.{IsStartedOver};
-ghost use Rattle.xa_system.specs.SystemView.{AreNew, IsStarted, new_site};
-ghost use Rattle.xa_system.specs.StartFaults.{IsToBlame};
+ghost use Rattle.std.specs.Prelude.{◌≡◌, ◌≤◌, length, map, Err, IfOk, IsSome, vec_len};
+ghost use Rattle.xa_system.specs.SystemView.{AreNew, new_site};
+ghost use Rattle.xa_tm.specs.Started.{IsStarted, IsStartedOver};
+ghost use Rattle.xa_tm.specs.StartFaults.{IsOnlyRead, IsToBlame};
 ghost use Rattle.xa_tm.specs.Calls.{log_in};
-ghost use Rattle.xa_tm.specs.Slots.{ReadsRows, log_held, slot_moment};
-ghost use Rattle.xa_tm.specs.Starting.{IsPast};
+ghost use Rattle.xa_tm.specs.Slots.{log_held, slot_moment};
 ghost use Rattle.xa_tm.specs.declared.manager.start.StartFault.{StartFault};
 
 use crate::parts::Parts;
@@ -42,12 +41,9 @@ fn start_manager<L: DecisionLog + Drop>(
     ensures log { IfOk result
         (IsStartedOver (slot_moment L.moment) threads rms (L.moment log)) }
     ensures held { IfOk result (λ manager. IsSome (log_held (log_in manager))) }
-    ensures past { (L.moment log).is_in_order →
-        IfOk result (λ manager. (slot_moment L.moment (log_in manager)).is_honest →
-        IsSomeAnd (L.moment log).content IsPast) }
     ensures log_fault { result ≡ Err StartFault.Log → IsToBlame L.DecisionLog log }
     ensures memory_fault { result ≡ Err StartFault.Memory →
-        ((left : L) × ReadsRows L.DecisionLog log left) }
+        ((left : L) × IsOnlyRead L.DecisionLog log left) }
 {
     let manager = Manager::new(alloc, threads, rms, log)?;
     Ok(manager.into_slot())
@@ -68,9 +64,6 @@ pub(crate) fn start_parts<R: ResourceManager + Drop, L: DecisionLog + Drop>(
         IsStartedOver (slot_moment L.moment) threads (length rms.items)
         (L.moment log) parts.manager) }
     ensures held { IfOk result (λ parts. IsSome (log_held (log_in parts.manager))) }
-    ensures past { (L.moment log).is_in_order →
-        IfOk result (λ parts. (slot_moment L.moment (log_in parts.manager)).is_honest →
-        IsSomeAnd (L.moment log).content IsPast) }
     ensures log_fault { result ≡ Err StartFault.Log → IsToBlame L.DecisionLog log }
 {
     let count = rms.len() as u32;

@@ -1,7 +1,7 @@
 //! The system: its parts, with the events that left them where they stand.
 ghost use Rattle.std.specs.Prelude.{◌≡◌, ◌+◌, true, false, [], length, Err, IfOk, IsSome, IsSomeAnd, vec_len};
 ghost use Rattle.xa_system.specs.SystemView.{AreClear, IsUnclear};
-ghost use Rattle.xa_system.specs.StartFaults.{IsToBlame};
+ghost use Rattle.xa_tm.specs.StartFaults.{IsToBlame};
 ghost use Rattle.xa_system.specs.declared.system.NewFault.{NewFault};
 
 use crate::parts::Parts;

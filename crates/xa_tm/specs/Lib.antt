@@ -14,6 +14,8 @@ pub mod Outcomes
 pub mod Refusing
 pub mod Resolving
 pub mod BookAndLog
+pub mod StartFaults
+pub mod Started
 pub mod Starting
 pub mod Ascending
 pub mod Begins

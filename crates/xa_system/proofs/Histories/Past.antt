@@ -29,7 +29,8 @@ use Rattle.xa_tm.specs.Calls.{book_in}
 use Rattle.xa_tm.specs.Starting.{IsOld}
 use Rattle.xa_tm.specs.declared.manager.Manager.{Manager}
 use Rattle.xa_system.specs.Parts.{Sees, origin_of}
-use Rattle.xa_system.specs.SystemView.{AreClear, ArePast, HasNewer, IsOfPast, IsStarted, new_site}
+use Rattle.xa_system.specs.SystemView.{AreClear, ArePast, HasNewer, IsOfPast, new_site}
+use Rattle.xa_tm.specs.Started.{IsStarted}
 use Rattle.xa_system.specs.RmInHistory.{BeginsOver, IsOwnAt}
 use Rattle.xa_system.specs.Steps.{AreCrashed, Crashes}
 use Rattle.xa_system.specs.declared.site.Site.{Site}

@@ -11,6 +11,7 @@ use Rattle.std.proofs.lemmas.Option.{slice_get-map, slice_get_within}
 use Rattle.xa_tm.proofs.History.Limits.{old_start_is_right}
 use Rattle.xa_tm.specs.Starting.{IsOld, book_at_start}
 use Rattle.xa_tm.specs.Limits.{HasRoomForRun}
+use Rattle.xa_tm.specs.Release.{RowsAreOwn}
 use Rattle.xa_log.specs.Content.{with_bump}
 use Rattle.xa_log.specs.Contract.{Makes, Moment}
 use Rattle.xa_system.specs.declared.parts.Parts.{Parts}
@@ -44,14 +45,15 @@ use Rattle.xa_line.proofs.GridLaws.{line_at-new_grid, whole-new_grid}
 use Rattle.xa_tm.specs.declared.manager.Manager.{Manager}
 use Rattle.xa_tm.specs.Calls.{book_in, log_in}
 use Rattle.xa_tm.specs.BookAndLog.{IsTied}
-use Rattle.xa_system.specs.LogInHistory.{IsDurable, IsStartedOver, StartsOver}
+use Rattle.xa_system.specs.LogInHistory.{IsDurable, StartsOver}
 use Rattle.xa_system.proofs.Log.Changes.{left_up}
 use Rattle.xa_system.specs.declared.system.System.TheInside.{Inside}
 use Rattle.xa_system.proofs.Log.Laws.{near_restarts, starts_over}
 use Rattle.xa_line.specs.Histories.{LineStands}
 use Rattle.xa_system.specs.Parts.{Sees, SiteStands, Stands, origin_of}
 use Rattle.xa_system.specs.declared.system.TheConstants.{EVENT_LIMIT}
-use Rattle.xa_system.specs.SystemView.{AreClear, AreNew, IsStarted, IsSound, IsUnclear, MayRestart, new_site, observes_parts, view_of, start_of}
+use Rattle.xa_system.specs.SystemView.{AreClear, AreNew, IsSound, IsUnclear, MayRestart, new_site, observes_parts, view_of, start_of}
+use Rattle.xa_tm.specs.Started.{IsStarted, IsStartedOver}
 use Rattle.xa_system.specs.Trace.{IsElsewhere, IsUnknown}
 use Rattle.xa_system.specs.RmInHistory.{BeginsOver, RmStands, scan_by}
 use Rattle.xa_system.specs.declared.site.Site.{Site}
@@ -233,6 +235,7 @@ started_in_slot place moment threads rms started manager at new = record {
     records = begins.records ∙ at.records;
   });
   old = subst IsOld (sym at.book) new.old;
+  own = subst RowsAreOwn (sym at.book) new.own;
   apart = subst ApartRows (sym at.rows) new.apart;
   sound = subst books.IsSound (sym at.book) new.sound;
   room = subst HasRoomForRun (sym at.book) new.room;
@@ -266,6 +269,7 @@ over_in_slot place moment threads rms started manager handed at over = record {
       (subst (λ k. IsSomeAnd (moment (log_in started)).content (λ c. k ≡ book_at_start threads rms c)) (sym at.book)
       (over.book order (at.log.honest honest)));
   raised = λ order honest. subst (Makes with_bump handed.content) (sym at.log.content) (over.raised order (at.log.honest honest));
+  past = λ order honest. over.past order (at.log.honest honest);
   faults = at.log.faults ∙ over.faults;
 }
 

@@ -1,7 +1,6 @@
 use Rattle.std.proofs.Common.{◌≡◌, Global, Vec, length, ap, subst, ◌∙◌}
 use Rattle.xa_line.specs.Grid.{new_grid}
-use Rattle.xa_system.specs.LogInHistory.{IsStartedOver}
-use Rattle.xa_system.specs.SystemView.{IsStarted}
+use Rattle.xa_tm.specs.Started.{IsStarted, IsStartedOver}
 use Rattle.xa_tm.specs.Slots.{slot_moment}
 use Rattle.xa_system.proofs.start.start_parts.Goals as goal
 

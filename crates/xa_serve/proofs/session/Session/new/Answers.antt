@@ -33,11 +33,12 @@ returns-in-Ok-new-clause-ready g c =
       in_doubt = λ r. [];
       scans = λ r. NotOpen;
     } in
-    let is = c.in-Ok-new.ensures.start o (record { threads_are = refl; rms_are = refl; incarnation = refl; rows = refl; records = refl }) in
+    let started = c.in-Ok-new.ensures.started in
+    let is = started.book o (record { threads_are = refl; rms_are = refl; incarnation = refl; rows = refl; records = refl }) in
     record {
       few = omega arith;
-      headroom = subst (HasHeadroom first_headroom) (sym is) (starts_have_headroom o (subst IsSound is c.in-Ok-new.ensures.sound)
-          (subst IsOld is c.in-Ok-new.ensures.old) (subst HasRoomForRun is c.in-Ok-new.ensures.room));
+      headroom = subst (HasHeadroom first_headroom) (sym is) (starts_have_headroom o (subst IsSound is started.sound)
+          (subst IsOld is started.old) (subst HasRoomForRun is started.room));
       heard = subst AllHeard (sym c.in-Ok.ensures) (all_new c.args.threads c.args.rms);
     }
 
@@ -46,15 +47,15 @@ returns-in-Ok-new-clause-stands g c = λ o begins.
     let lines = c.in-Ok.ensures in (
       λ runs. record {
         run = runs;
-        apart = subst ApartRows (sym begins.rows) c.in-Ok-new.ensures.apart;
+        apart = subst ApartRows (sym begins.rows) c.in-Ok-new.ensures.started.apart;
         threads = ap (λ l. l.threads) lines ∙ sym begins.threads_are;
         rms = ap (λ l. l.rms) lines ∙ sym begins.rms_are;
         whole = subst IsWhole (sym lines) (whole-new_grid c.args.threads c.args.rms);
         rms_up = λ r. refl;
         book = (
           (λ g. false),
-          subst (λ w. HasReleased (λ g. false) w (book_in c.in-Ok-new.manager)) (c.in-Ok-new.ensures.start o begins)
-              (books_are_whole (book_in c.in-Ok-new.manager) c.in-Ok-new.ensures.own),
+          subst (λ w. HasReleased (λ g. false) w (book_in c.in-Ok-new.manager)) (c.in-Ok-new.ensures.started.book o begins)
+              (books_are_whole (book_in c.in-Ok-new.manager) c.in-Ok-new.ensures.started.own),
         );
         lines =
             λ t r has. subst (LineStands (From o) (line t r)) (sym (ap (λ l. line_at l t r) lines ∙ line_at-new_grid c.args.threads c.args.rms t r))
@@ -64,4 +65,13 @@ returns-in-Ok-new-clause-stands g c = λ o begins.
     )
 
 pub returns-in-Ok-new-clause-old : goal.returns-in-Ok-new-clause-old
-returns-in-Ok-new-clause-old g c = λ o begins. old_log o (subst IsOld (c.in-Ok-new.ensures.start o begins) c.in-Ok-new.ensures.old)
+returns-in-Ok-new-clause-old g c = λ o begins. old_log o (subst IsOld (c.in-Ok-new.ensures.started.book o begins) c.in-Ok-new.ensures.started.old)
+
+pub returns-in-Ok-new-clause-tied : goal.returns-in-Ok-new-clause-tied
+returns-in-Ok-new-clause-tied g c = c.in-Ok-new.ensures.over.tied
+
+pub returns-in-Ok-new-clause-order : goal.returns-in-Ok-new-clause-order
+returns-in-Ok-new-clause-order g c = c.in-Ok-new.ensures.over.order
+
+pub returns-in-Ok-new-clause-honest : goal.returns-in-Ok-new-clause-honest
+returns-in-Ok-new-clause-honest g c = c.in-Ok-new.ensures.over.honest

@@ -83,7 +83,7 @@ returns-in-Ok-start_parts-clause-log g c =
       held = made.held;
       honest = made.log.honest;
       faults = made.log.faults;
-      past = made.past;
+      past = made.log.past;
       near = near;
       crash = λ order h. follows_a_crash see moment _ sound (slot_durable moment g.met.L.DecisionLog.durable)
           (starts_up see moment c.args.threads c.args.rms.items parts made.parts made.manager)

@@ -124,7 +124,7 @@ returns-clause-log g c =
       held = made.held;
       honest = made.log.honest;
       faults = made.log.faults;
-      past = made.past;
+      past = made.log.past;
       near = near;
       crash = λ order h. follows_a_crash see moment _ sound (slot_durable moment g.met.L.DecisionLog.durable)
           (starts_up see moment c.args.threads c.crash_rms.new.rms.items parts made.parts made.manager)

@@ -18,88 +18,70 @@ use Rattle.xa_tm.proofs.History.Starts.{in_incarnation, loaded_own, raised_over,
 use Rattle.xa_tm.proofs.Log.Pasts.{not_past, past_of}
 use Rattle.xa_tm.proofs.manager.Manager.new.Goals as goal
 
-pub returns-then-can_start-clause-book : goal.returns-then-can_start-clause-book
-returns-then-can_start-clause-book g c = λ order honest.
+pub returns-then-can_start-clause-started : goal.returns-then-can_start-clause-started
+returns-then-can_start-clause-started g c =
     let rows = c.in-Ok.rows in
-    let i = c.in-Ok-bump.incarnation in
-    let still = c.in-Ok-bump.ensures.changes.honest honest in
-    let is =
-    in_incarnation c.in-Ok-load.ledger i c.args.threads c.args.rms (loaded rows.decisions.items rows.participants.items)
-    (length rows.decisions.items) (ended_among rows.heuristics.items) (length rows.heuristics.items) c.in-Ok-load.ensures in
-    let new = (g.L.DecisionLog.moment c.bump.new.self).content in
-    subst (λ k. IsSomeAnd new (λ c'. k ≡ book_at_start c.args.threads c.args.rms c')) (sym is)
-    (started_over c.args.threads c.args.rms i rows.decisions.items rows.participants.items rows.heuristics.items
-    (g.L.DecisionLog.moment c.args.log).content (g.L.DecisionLog.moment c.rows.new.self).content new
-    (c.in-Ok.ensures.decisions order still) (c.in-Ok.ensures.participants order still) (c.in-Ok.ensures.heuristics order still)
-    (c.in-Ok.ensures.reads.ok order still)
-    (c.in-Ok-bump.ensures.changes.ok (c.in-Ok.ensures.reads.order order) honest) (c.in-Ok-bump.ensures.answer (c.in-Ok.ensures.reads.order order) honest)
-    (λ content is. g.met.L.DecisionLog.own c.args.log content order is))
-
-pub returns-then-can_start-clause-tied : goal.returns-then-can_start-clause-tied
-returns-then-can_start-clause-tied g c = λ near order honest.
-    start_tied near c.args.threads c.args.rms _ (g.L.DecisionLog.moment c.bump.new.self).content (returns-then-can_start-clause-book g c order honest)
-
-pub returns-then-can_start-clause-sound : goal.returns-then-can_start-clause-sound
-returns-then-can_start-clause-sound g c =
-    let rows = c.in-Ok.rows in
-    let i = c.in-Ok-bump.incarnation in
-    let is =
-    in_incarnation c.in-Ok-load.ledger i c.args.threads c.args.rms (loaded rows.decisions.items rows.participants.items)
-    (length rows.decisions.items) (ended_among rows.heuristics.items) (length rows.heuristics.items) c.in-Ok-load.ensures in
     let some : length rows.decisions.items < 2 ^ 64 - 1 = omega arith in
     let few : length rows.heuristics.items < 2 ^ 64 - 1 = omega arith in
-    subst IsSound (sym is) (start_sound c.args.threads c.args.rms i rows.decisions.items rows.participants.items rows.heuristics.items some few
-    c.in-Ok-bump.ensures.most
-    (and_parts (list_all (fits_before i) rows.decisions.items)
-    (list_all (λ (e : Branch × How). fits_before i e.0.gtrid) rows.heuristics.items) (and_parts _ _ (sym c.can_start.ensures ∙ c.if-can_start.true)).0).0)
-
-pub returns-then-can_start-clause-old : goal.returns-then-can_start-clause-old
-returns-then-can_start-clause-old g c =
-    let rows = c.in-Ok.rows in
+    let some_rows : length rows.decisions.items ≤ last_number = omega arith in
+    let few_records : length rows.heuristics.items ≤ last_number = omega arith in
     let i = c.in-Ok-bump.incarnation in
     let is =
     in_incarnation c.in-Ok-load.ledger i c.args.threads c.args.rms (loaded rows.decisions.items rows.participants.items)
     (length rows.decisions.items) (ended_among rows.heuristics.items) (length rows.heuristics.items) c.in-Ok-load.ensures in
-    subst IsOld (sym is) (start_old c.args.threads c.args.rms i rows.decisions.items rows.participants.items rows.heuristics.items
-    (and_parts _ _ (sym c.can_start.ensures ∙ c.if-can_start.true)).0)
-
-pub returns-then-can_start-clause-own : goal.returns-then-can_start-clause-own
-returns-then-can_start-clause-own g c =
-    let rows = c.in-Ok.rows in
-    let i = c.in-Ok-bump.incarnation in
-    let is =
-    in_incarnation c.in-Ok-load.ledger i c.args.threads c.args.rms (loaded rows.decisions.items rows.participants.items)
-    (length rows.decisions.items) (ended_among rows.heuristics.items) (length rows.heuristics.items) c.in-Ok-load.ensures in
-    subst RowsAreOwn (sym is) (loaded_own rows.decisions.items rows.participants.items)
-
-pub returns-then-can_start-clause-start : goal.returns-then-can_start-clause-start
-returns-then-can_start-clause-start g c o with =
-    let rows = c.in-Ok.rows in
-    let i = c.in-Ok-bump.incarnation in
-    let is =
-    in_incarnation c.in-Ok-load.ledger i c.args.threads c.args.rms (loaded rows.decisions.items rows.participants.items)
-    (length rows.decisions.items) (ended_among rows.heuristics.items) (length rows.heuristics.items) c.in-Ok-load.ensures in
-    let up = and_parts _ _ (and_parts _ _ (sym c.can_start.ensures ∙ c.if-can_start.true)).1 in
-    is ∙ begun_book c.args.threads c.args.rms i rows.decisions.items rows.participants.items rows.heuristics.items o up.0 up.1 with.threads_are with.rms_are
-    with.incarnation
-    (with.rows ∙ ap (λ (r : LogRows). rows_listed r.decisions.items r.participants.items) c.of-began.ensures)
-    (with.records ∙ ap (λ (r : LogRows). records_listed r.heuristics.items) c.of-began.ensures)
-
-pub returns-then-can_start-clause-apart : goal.returns-then-can_start-clause-apart
-returns-then-can_start-clause-apart g c =
-    let rows = c.in-Ok.rows in
-    let up = and_parts _ _ (and_parts _ _ (sym c.can_start.ensures ∙ c.if-can_start.true)).1 in
-    subst (λ (r : LogRows). ApartRows (rows_listed r.decisions.items r.participants.items)) (sym c.of-began.ensures)
-    (begun_apart rows.decisions.items rows.participants.items up.0)
-
-pub returns-then-can_start-clause-room : goal.returns-then-can_start-clause-room
-returns-then-can_start-clause-room g c =
-    let rows = c.in-Ok.rows in
-    let some : length rows.decisions.items ≤ last_number = omega arith in
-    let few : length rows.heuristics.items ≤ last_number = omega arith in
+    let starts = and_parts _ _ (sym c.can_start.ensures ∙ c.if-can_start.true) in
+    let up = and_parts _ _ starts.1 in
     record {
-      rows = subst (λ n. n ≤ last_number) (sym (ap (λ (k : Book). k.rows) c.in-Ok-load.ensures)) some;
-      records = subst (λ n. n ≤ last_number) (sym (ap (λ (k : Book). k.records) c.in-Ok-load.ensures)) few;
+      book = λ o with.
+          is ∙ begun_book c.args.threads c.args.rms i rows.decisions.items rows.participants.items rows.heuristics.items o up.0 up.1 with.threads_are
+          with.rms_are with.incarnation
+          (with.rows ∙ ap (λ (r : LogRows). rows_listed r.decisions.items r.participants.items) c.of-began.ensures)
+          (with.records ∙ ap (λ (r : LogRows). records_listed r.heuristics.items) c.of-began.ensures);
+      old = subst IsOld (sym is) (start_old c.args.threads c.args.rms i rows.decisions.items rows.participants.items rows.heuristics.items starts.0);
+      own = subst RowsAreOwn (sym is) (loaded_own rows.decisions.items rows.participants.items);
+      apart = subst (λ (r : LogRows). ApartRows (rows_listed r.decisions.items r.participants.items)) (sym c.of-began.ensures)
+          (begun_apart rows.decisions.items rows.participants.items up.0);
+      sound = subst IsSound (sym is) (start_sound c.args.threads c.args.rms i rows.decisions.items rows.participants.items rows.heuristics.items some few
+          c.in-Ok-bump.ensures.most
+          (and_parts (list_all (fits_before i) rows.decisions.items)
+          (list_all (λ (e : Branch × How). fits_before i e.0.gtrid) rows.heuristics.items) starts.0).0);
+      room = record {
+        rows = subst (λ n. n ≤ last_number) (sym (ap (λ (k : Book). k.rows) c.in-Ok-load.ensures)) some_rows;
+        records = subst (λ n. n ≤ last_number) (sym (ap (λ (k : Book). k.records) c.in-Ok-load.ensures)) few_records;
+      };
+    }
+
+pub returns-then-can_start-clause-over : goal.returns-then-can_start-clause-over
+returns-then-can_start-clause-over g c =
+    let moment = g.L.DecisionLog.moment in
+    let rows = c.in-Ok.rows in
+    let i = c.in-Ok-bump.incarnation in
+    let handed = (moment c.args.log).content in
+    let read = (moment c.rows.new.self).content in
+    let new = (moment c.bump.new.self).content in
+    let bumped = c.in-Ok-bump.ensures.changes in
+    let is =
+    in_incarnation c.in-Ok-load.ledger i c.args.threads c.args.rms (loaded rows.decisions.items rows.participants.items)
+    (length rows.decisions.items) (ended_among rows.heuristics.items) (length rows.heuristics.items) c.in-Ok-load.ensures in
+    let raised = λ (order : (moment c.args.log).is_in_order) (honest : (moment c.bump.new.self).is_honest).
+    raised_over c.args.threads c.args.rms i rows.decisions.items rows.participants.items rows.heuristics.items handed read new
+    (c.in-Ok.ensures.reads.ok order (bumped.honest honest)) (bumped.ok (c.in-Ok.ensures.reads.order order) honest) in
+    let book = λ (order : (moment c.args.log).is_in_order) (honest : (moment c.bump.new.self).is_honest).
+    subst (λ k. IsSomeAnd new (λ c'. k ≡ book_at_start c.args.threads c.args.rms c')) (sym is)
+    (started_over c.args.threads c.args.rms i rows.decisions.items rows.participants.items rows.heuristics.items handed read new
+    (c.in-Ok.ensures.decisions order (bumped.honest honest)) (c.in-Ok.ensures.participants order (bumped.honest honest))
+    (c.in-Ok.ensures.heuristics order (bumped.honest honest)) (c.in-Ok.ensures.reads.ok order (bumped.honest honest))
+    (bumped.ok (c.in-Ok.ensures.reads.order order) honest) (c.in-Ok-bump.ensures.answer (c.in-Ok.ensures.reads.order order) honest)
+    (λ content is. g.met.L.DecisionLog.own c.args.log content order is)) in
+    record {
+      order = λ order. bumped.order (c.in-Ok.ensures.reads.order order);
+      honest = λ honest. c.in-Ok.ensures.reads.honest (bumped.honest honest);
+      faults = bumped.faults ∙ c.in-Ok.ensures.reads.faults;
+      past = λ order honest. past_of c.args.threads c.args.rms _ handed new (raised order honest) (book order honest)
+          (returns-then-can_start-clause-started g c).old;
+      raised = raised;
+      tied = λ near order honest. start_tied near c.args.threads c.args.rms _ new (book order honest);
+      book = book;
     }
 
 -- ** the faults
@@ -108,41 +90,37 @@ pub returns-in-Err-clause-log_fault : goal.returns-in-Err-clause-log_fault
 returns-in-Err-clause-log_fault g c = λ is. (c.rows.new.self, inl c.in-Err.ensures.reads.faults)
 
 pub returns-in-Err-load-clause-memory_fault : goal.returns-in-Err-load-clause-memory_fault
-returns-in-Err-load-clause-memory_fault g c = λ is. (c.rows.new.self, (c.in-Ok.ensures.reads.faults, λ order honest. c.in-Ok.ensures.reads.ok order honest))
+returns-in-Err-load-clause-memory_fault g c = λ is. (
+  c.rows.new.self,
+  record {
+    rows = record { says = c.in-Ok.ensures.cause; faults = c.in-Ok.ensures.reads.faults };
+    same = λ order honest. c.in-Ok.ensures.reads.ok order honest;
+  },
+)
 
 pub returns-in-Err-bump-clause-log_fault : goal.returns-in-Err-bump-clause-log_fault
 returns-in-Err-bump-clause-log_fault g c = λ is. (c.bump.new.self, inl (c.in-Err-bump.ensures.changes.faults ∙ ap one_more_fault c.in-Ok.ensures.reads.faults))
 
 pub returns-else-can_start-clause-log_fault : goal.returns-else-can_start-clause-log_fault
-returns-else-can_start-clause-log_fault g c = λ is. (
-  c.bump.new.self,
-  inr (
-    c.in-Ok-bump.ensures.changes.faults ∙ c.in-Ok.ensures.reads.faults,
-    λ order honest.
-        let rows = c.in-Ok.rows in
-        let i = c.in-Ok-bump.incarnation in
-        let still = c.in-Ok-bump.ensures.changes.honest honest in
-        let mid = (g.L.DecisionLog.moment c.rows.new.self).content in
-        let kept = c.in-Ok.ensures.reads.ok order still in (
-          not_past i rows.decisions.items rows.heuristics.items (g.L.DecisionLog.moment c.args.log).content mid
-              (c.in-Ok.ensures.decisions order still) (c.in-Ok.ensures.heuristics order still) kept
-              (c.in-Ok-bump.ensures.answer (c.in-Ok.ensures.reads.order order) honest)
-              (λ content is. g.met.L.DecisionLog.fits c.args.log content order is)
-              (sym c.can_start.ensures ∙ c.if-can_start.false),
-          raised_over c.args.threads c.args.rms i rows.decisions.items rows.participants.items rows.heuristics.items
-              (g.L.DecisionLog.moment c.args.log).content mid (g.L.DecisionLog.moment c.bump.new.self).content
-              kept (c.in-Ok-bump.ensures.changes.ok (c.in-Ok.ensures.reads.order order) honest),
-        ),
-  ),
-)
-
-pub returns-then-can_start-clause-past : goal.returns-then-can_start-clause-past
-returns-then-can_start-clause-past g c = λ order honest.
+returns-else-can_start-clause-log_fault g c = λ is.
     let rows = c.in-Ok.rows in
     let i = c.in-Ok-bump.incarnation in
-    let still = c.in-Ok-bump.ensures.changes.honest honest in
-    past_of c.args.threads c.args.rms _ (g.L.DecisionLog.moment c.args.log).content (g.L.DecisionLog.moment c.bump.new.self).content
-    (raised_over c.args.threads c.args.rms i rows.decisions.items rows.participants.items rows.heuristics.items
-    (g.L.DecisionLog.moment c.args.log).content (g.L.DecisionLog.moment c.rows.new.self).content (g.L.DecisionLog.moment c.bump.new.self).content
-    (c.in-Ok.ensures.reads.ok order still) (c.in-Ok-bump.ensures.changes.ok (c.in-Ok.ensures.reads.order order) honest))
-    (returns-then-can_start-clause-book g c order honest) (returns-then-can_start-clause-old g c)
+    let handed = (g.L.DecisionLog.moment c.args.log).content in
+    let mid = (g.L.DecisionLog.moment c.rows.new.self).content in
+    let bumped = c.in-Ok-bump.ensures.changes in (
+      c.bump.new.self,
+      inr (record {
+        faults = bumped.faults ∙ c.in-Ok.ensures.reads.faults;
+        not_past = λ order honest.
+            let still = bumped.honest honest in
+            not_past i rows.decisions.items rows.heuristics.items handed mid
+            (c.in-Ok.ensures.decisions order still) (c.in-Ok.ensures.heuristics order still) (c.in-Ok.ensures.reads.ok order still)
+            (c.in-Ok-bump.ensures.answer (c.in-Ok.ensures.reads.order order) honest)
+            (λ content is. g.met.L.DecisionLog.fits c.args.log content order is)
+            (sym c.can_start.ensures ∙ c.if-can_start.false);
+        raised = λ order honest.
+            raised_over c.args.threads c.args.rms i rows.decisions.items rows.participants.items rows.heuristics.items
+            handed mid (g.L.DecisionLog.moment c.bump.new.self).content
+            (c.in-Ok.ensures.reads.ok order (bumped.honest honest)) (bumped.ok (c.in-Ok.ensures.reads.order order) honest);
+      }),
+    )

@@ -1,8 +1,9 @@
--- Why no system is made over a log that was handed in.
+-- Why no manager starts over a log that was handed in, and what is left of that.
 use Rattle.std.specs.Prelude.{◌≡◌, ◌⊎◌, IsSomeAnd}
-use Rattle.xa_log.specs.Content.{with_bump}
+use Rattle.xa_log.specs.Content.{unchanged, with_bump}
 use Rattle.xa_log.specs.Contract.{Honestly, Makes, one_more_fault}
 use Rattle.xa_log.specs.declared.decision_log.DecisionLog as DecisionLog
+use Rattle.xa_tm.specs.Slots.{ReadsRows}
 use Rattle.xa_tm.specs.Starting.{IsPast}
 
 module _ {L : Type 0} (logs : DecisionLog.Ghosts L) where
@@ -16,6 +17,11 @@ module _ {L : Type 0} (logs : DecisionLog.Ghosts L) where
     pub not_past : Honestly (logs.moment handed) (logs.moment left) (IsSomeAnd (logs.moment handed).content (λ c. ¬ IsPast c))
     pub raised : Honestly (logs.moment handed) (logs.moment left) (Makes with_bump (logs.moment handed).content (logs.moment left).content)
 
-  -- the log is to blame: no system can be made over it
+  -- the log is to blame
   abbrev pub IsToBlame : L → Type 0
   IsToBlame handed = (left : L) × (HasFailed handed left ⊎ IsRaisedInVain handed left)
+
+  -- only its rows were read, so that it has what it had
+  pub record IsOnlyRead (handed left : L) : Type 0 where
+    pub rows : ReadsRows logs handed left
+    pub same : Honestly (logs.moment handed) (logs.moment left) (Makes unchanged (logs.moment handed).content (logs.moment left).content)
