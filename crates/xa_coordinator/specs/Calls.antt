@@ -14,23 +14,21 @@ use Rattle.xa_coordinator.specs.Standing.{LacksMemory, OnlyTells, StandsFor}
 use Rattle.xa_coordinator.specs.declared.coordinator.Coordinator.{Coordinator}
 use Rattle.xa_line.specs.Grid.{Grid, line_at, new_grid, with_line}
 use Rattle.xa_line.specs.Traffic.{with_one_more}
-use Rattle.xa_model.specs.Facts.{record_of}
 use Rattle.xa_model.specs.Replies.History.{name_of}
 use Rattle.xa_model.specs.Replies.Steps.{accepted}
-use Rattle.xa_model.specs.Trace.{Call as KnownCall, Fault.InHear, Happening.Issued, line}
+use Rattle.xa_model.specs.Trace.{Call as KnownCall, Happening.Issued, line}
 use Rattle.xa_requests.specs.declared.request.CallName.{CallName}
 use Rattle.xa_requests.specs.declared.response.RequestFault.TheVariants as faults
 use Rattle.xa_requests.specs.declared.response.Response.{Response}
 use Rattle.xa_requests.specs.declared.response.Response.TheVariants as responses
-use Rattle.xa_serve.specs.Answering.{HearsAs, IsFirst}
+use Rattle.xa_serve.specs.Answering.{FailsToHear, HearsAs, IsFirst}
 use Rattle.xa_serve.specs.Following.{StaysAs}
 use Rattle.xa_serve.specs.Hearing.{with_answer}
 use Rattle.xa_serve.specs.Session.{BranchExplains, IsExplainable, first_waiting, issue_refusal, unfit}
 use Rattle.xa_serve.specs.declared.session.Session.{Session}
 use Rattle.xa_serve.specs.declared.session.answers.Unfit.{Unfit}
 use Rattle.xa_serve.specs.declared.session.answers.Unfit.TheVariants as Unfits
-use Rattle.xa_tm.specs.Book.{doubt_of}
-use Rattle.xa_tm.specs.Calls.{FailsBy, book_in, log_in}
+use Rattle.xa_tm.specs.Calls.{log_in}
 
 -- ** what a session does
 
@@ -56,7 +54,7 @@ module _ {L : Type 0} where
     pub lines : OnOk result (new.lines ≡ with_line old.lines thread rm (with_answer (line_at old.lines thread rm) answer))
     -- where nothing of this refuses it, memory does or the log
     pub fails : (n : Refusal) → result ≡ Err (Unfits.Refused n) → unfit old thread rm answer ≡ None → (c : KnownCall) → IsFirst old thread rm c
-        → FailsBy (doubt_of (record_of c (map_answer name_of answer))) (InHear (line thread rm)) (book_in old.manager) (book_in new.manager) n
+        → FailsToHear thread rm c (map_answer name_of answer) old new n
     pub stays : IfErr result (λ u. u ≢ Unfits.Refused Refusals.LogFault → StaysAs old new)
     pub broken : result ≡ Err (Unfits.Refused Refusals.LogFault) → new.lines ≡ new_grid old.lines.threads old.lines.rms
 

@@ -1,16 +1,13 @@
 //! Answers that the driver tells.
 
-ghost use Rattle.std.specs.Prelude.{◌≡◌, ◌≢◌, ◌⊎◌, [], Some, None, Err, IfErr, OnOk};
+ghost use Rattle.std.specs.Prelude.{◌≡◌, ◌≢◌, [], Some, None, Err, IfErr, OnOk};
 ghost use Rattle.xa_base.specs.Answer.{map_answer};
 ghost use Rattle.xa_base.specs.declared.refusal.Refusal.{Refusal as Refused};
 ghost use Rattle.xa_base.specs.declared.refusal.Refusal.TheVariants as Refusals;
 ghost use Rattle.xa_line.specs.Grid.{line_at, new_grid, with_line};
-ghost use Rattle.xa_model.specs.Facts.{record_of};
 ghost use Rattle.xa_model.specs.Replies.History.{name_of};
-ghost use Rattle.xa_model.specs.Trace.{Call as KnownCall, Fault.InHear, line};
-ghost use Rattle.xa_tm.specs.Book.{doubt_of};
-ghost use Rattle.xa_tm.specs.Calls.{FailsBy, book_in};
-ghost use Rattle.xa_serve.specs.Answering.{HearsAs, IsFirst};
+ghost use Rattle.xa_model.specs.Trace.{Call as KnownCall};
+ghost use Rattle.xa_serve.specs.Answering.{FailsToHear, HearsAs, IsFirst, IsFoundLater};
 ghost use Rattle.xa_serve.specs.Following.{StaysAs, StaysTied};
 ghost use Rattle.xa_serve.specs.Hearing.{with_answer};
 ghost use Rattle.xa_serve.specs.Session.{BranchExplains, IsExplainable, IsReady, unfit};
@@ -60,14 +57,11 @@ impl<L: DecisionLog + Drop> Session<L> {
         ensures lines { OnOk result (self.new.lines ≡ with_line self.old.lines thread rm
             (with_answer (line_at self.old.lines thread rm) answer)) }
         // Else memory was refused, or the log failed.
-        ensures only { unfit self.old thread rm answer ≡ None →
-            IfErr result (λ u. ((n : Refused) × (u ≡ Unfits.Refused n))
-            ⊎ ((b : Branch) × (u ≡ Unfits.NoSuchState b))) }
+        ensures only { unfit self.old thread rm answer ≡ None → IfErr result IsFoundLater }
         ensures err { (n : Refused) → result ≡ Err (Unfits.Refused n) →
             unfit self.old thread rm answer ≡ None →
             (c : KnownCall) → IsFirst self.old thread rm c →
-            FailsBy (doubt_of (record_of c (map_answer name_of answer)))
-            (InHear (line thread rm)) (book_in self.old.manager) (book_in self.new.manager) n }
+            FailsToHear thread rm c (map_answer name_of answer) self.old self.new n }
         ensures stays { IfErr result (λ u. u ≢ Unfits.Refused Refusals.LogFault →
             StaysAs self.old self.new) }
         ensures broken { result ≡ Err (Unfits.Refused Refusals.LogFault) →
