@@ -1,6 +1,6 @@
 -- A demanded reply is a right happening.
 use Rattle.std.proofs.Common.{◌≡◌, ℕ, List, [], ◌∷◌, Bool, true, false, not, ◌&&◌, ◌||◌, refl, sym, ap, ◌∙◌, subst, ◌⊎◌}
-use Rattle.std.specs.Prelude.{if◌then◌else◌, nat_eq, Option, Some, None}
+use Rattle.std.specs.Prelude.{if◌then◌else◌, Some, None}
 use mathlib.Core.Logic.{◌⊎◌.inl, ◌⊎◌.inr}
 use Rattle.std.proofs.lemmas.Bool.{and_parts, eqb-true, not-false, or_cases, or_parts}
 use Rattle.xa_base.specs.Branch.{gtrid_eq, branch_eq}
@@ -10,7 +10,7 @@ use Rattle.xa_base.specs.declared.state.Standing.{Standing}
 use Rattle.xa_base.specs.declared.state.Standing.TheVariants.{Prepared}
 use Rattle.xa_base.specs.declared.step.Side.TheVariants as Side
 use Rattle.xa_model.specs.Replies.Allowed.{Takes, Takes.Takes_one, Takes.Takes_none, Hears, Hears.Hears_one, Hears.Hears_none, Restarts, Restarts.Restarts_as, IsValue, UsesLog, Allowed, Allowed.By_rule, Allowed.As_value, Allowed.For_memory, Allowed.For_log, with_steps, AllAllowed}
-use Rattle.xa_model.specs.Facts.{branches, outlived, participants_settled, decided_so, claimed, up, begun, live, started, is_settled, all_of, has_voted, is_closed, is_taken_up, is_shut}
+use Rattle.xa_model.specs.Facts.{branches, outlived, participants_settled, decided_so, up, begun, live, started, is_settled, all_of, has_voted, is_closed, is_taken_up, is_shut}
 use Rattle.xa_model.specs.Protocol.{IsKnown, IsRowSettled, HasVoted, MayBeCalled, IsOpen, RightCall, IsOnOwnThread, RightClaim, RightDecision, RightDone, Right, AllRight}
 use Rattle.xa_model.specs.Replies.Guards.{is_off_line}
 use Rattle.xa_model.specs.Replies.Rules.{applies, must_refuse}
