@@ -1,5 +1,5 @@
 -- How the parts that a system holds stand to its history.
-use Rattle.std.specs.Prelude.{◌≡◌, ◌≢◌, ◌<◌, ◌≤◌, ◌+◌, ℕ, Bool, not, nat_lt, if◌then◌else◌, List, [], length, Option, Some, None, slice_get, vec_len, Result, Ok, Err}
+use Rattle.std.specs.Prelude.{◌≡◌, ◌≢◌, ◌<◌, ◌≤◌, ℕ, not, List, [], length, Option, Some, None, slice_get, vec_len, Result, Ok, Err}
 use Rattle.std.specs.Option.{option_map_or}
 use Rattle.xa_model.specs.Replies.Allowed.{Allowed}
 use Rattle.xa_model.specs.Facts.Distinct.{ApartRows}

@@ -1,6 +1,6 @@
 -- A demanded reply is a right happening.
 use Rattle.std.proofs.Common.{◌≡◌, ℕ, List, [], ◌∷◌, Bool, true, false, not, ◌&&◌, ◌||◌, refl, sym, ap, ◌∙◌, subst, ◌⊎◌}
-use Rattle.std.specs.Prelude.{if◌then◌else◌, nat_eq, Option, Some, None}
+use Rattle.std.specs.Prelude.{if◌then◌else◌, Some, None}
 use mathlib.Core.Logic.{◌⊎◌.inl, ◌⊎◌.inr}
 use Rattle.std.proofs.lemmas.Bool.{and_parts, eqb-true, not-false, or_cases, or_parts}
 use Rattle.xa_base.specs.Branch.{gtrid_eq, branch_eq}
@@ -10,16 +10,17 @@ use Rattle.xa_base.specs.declared.state.Standing.{Standing}
 use Rattle.xa_base.specs.declared.state.Standing.TheVariants.{Prepared}
 use Rattle.xa_base.specs.declared.step.Side.TheVariants as Side
 use Rattle.xa_model.specs.Replies.Allowed.{Takes, Takes.Takes_one, Takes.Takes_none, Hears, Hears.Hears_one, Hears.Hears_none, Restarts, Restarts.Restarts_as, IsValue, UsesLog, Allowed, Allowed.By_rule, Allowed.As_value, Allowed.For_memory, Allowed.For_log, with_steps, AllAllowed}
-use Rattle.xa_model.specs.Facts.{branches, outlived, participants_settled, decided_so, claimed, up, begun, live, started, is_settled, all_of, has_voted, is_taken_up, is_shut}
+use Rattle.xa_model.specs.Facts.{branches, outlived, participants_settled, decided_so, up, begun, live, started, is_settled, all_of, has_voted, is_closed, is_taken_up, is_shut}
 use Rattle.xa_model.specs.Protocol.{IsKnown, IsRowSettled, HasVoted, MayBeCalled, IsOpen, RightCall, IsOnOwnThread, RightClaim, RightDecision, RightDone, Right, AllRight}
 use Rattle.xa_model.specs.Replies.Guards.{is_off_line}
 use Rattle.xa_model.specs.Replies.Rules.{applies, must_refuse}
 use Rattle.xa_base.specs.declared.reply.Reply.TheVariants as Replies
 use Rattle.xa_base.specs.declared.step.Step.TheVariants as Steps
 use Rattle.xa_model.specs.Replies.Steps.{Step, Refusal, Reply, accepted, if_ours, happened}
+use Rattle.xa_base.specs.declared.call.Call as Called
 use Rattle.xa_base.specs.declared.call.Call.TheVariants as Calls
 use Rattle.xa_base.specs.StateTable.{on}
-use Rattle.xa_model.specs.Trace.{Gtrid, Branch, Call, Name.Ours, Name.Foreign, Kind, Kind.Start, Kind.Join, Kind.End, Kind.Prepare, Kind.Commit, Kind.OnePhase, Kind.Rollback, Kind.Forget, Outcome, Happening, Happening.Issued, Trace, Trace.From, Trace.Then, line}
+use Rattle.xa_model.specs.Trace.{Gtrid, Branch, Call, Name, Name.Ours, Name.Foreign, Kind, Kind.Start, Kind.Join, Kind.End, Kind.Prepare, Kind.Commit, Kind.OnePhase, Kind.Rollback, Kind.Forget, Outcome, Happening, Happening.Issued, Trace, Trace.From, Trace.Then, line}
 use Rattle.xa_base.proofs.BranchKeys.{branch_eq-true, gtrid_eq-refl}
 use Rattle.xa_model.proofs.RecoveryLemmas.Pages.{right_is_sound}
 use Rattle.xa_model.proofs.Replies.Guards.{IsForced, forced, none_applies}
@@ -89,60 +90,69 @@ prepared_of _ h = cc
 
 -- ** steps that no rule refuses
 
-pub is_known : (tr : Trace) (t n : ℕ) (k : Kind) (b : Branch) → must_refuse tr (Steps.Issue t n (on k (Ours b))) ≡ None → IsKnown tr k b.gtrid
-is_known tr t n Start b e = not-false _ (none_applies tr (Steps.Issue t n (Calls.Start (Ours b) false)) Refusal.UnknownTransaction e)
-is_known tr t n Join b e = not-false _ (none_applies tr (Steps.Issue t n (Calls.Start (Ours b) true)) Refusal.UnknownTransaction e)
-is_known tr t n (End fail) b e = not-false _ (none_applies tr (Steps.Issue t n (Calls.End (Ours b) fail)) Refusal.UnknownTransaction e)
-is_known tr t n Prepare b e = not-false _ (none_applies tr (Steps.Issue t n (Calls.Prepare (Ours b))) Refusal.UnknownTransaction e)
-is_known tr t n OnePhase b e = not-false _ (none_applies tr (Steps.Issue t n (Calls.Commit (Ours b) true)) Refusal.UnknownTransaction e)
-is_known tr t n Commit b e = not-false _ (none_applies tr (Steps.Issue t n (Calls.Commit (Ours b) false)) Refusal.UnknownTransaction e)
-is_known tr t n Rollback b e = not-false _ (none_applies tr (Steps.Issue t n (Calls.Rollback (Ours b))) Refusal.UnknownTransaction e)
-is_known tr t n Forget b e = not-false _ (none_applies tr (Steps.Issue t n (Calls.Forget (Ours b))) Refusal.UnknownTransaction e)
+-- no refusal applies to a call of this kind
+abbrev Passes : Trace → (thread rm : ℕ) → Kind → Branch → Type 0
+Passes tr t n k b = (m : Refusal) → applies tr (Steps.Issue t n (on k (Ours b))) m ≡ false
 
-pub may_be_called : (tr : Trace) (t n : ℕ) (k : Kind) (b : Branch) → must_refuse tr (Steps.Issue t n (on k (Ours b))) ≡ None
-    → IsKnown tr k b.gtrid → MayBeCalled tr k b
-may_be_called tr t n Start b e h = (
-  none_applies tr (Steps.Issue t n (Calls.Start (Ours b) false)) Refusal.AlreadyStarted e,
-  is_open tr b.gtrid h
-      (none_applies tr (Steps.Issue t n (Calls.Start (Ours b) false)) Refusal.Decided e),
-)
-may_be_called tr t n Join b e h = (
-  none_applies tr (Steps.Issue t n (Calls.Start (Ours b) true)) Refusal.AlreadyStarted e,
-  is_open tr b.gtrid h
-      (none_applies tr (Steps.Issue t n (Calls.Start (Ours b) true)) Refusal.Decided e),
-)
-may_be_called tr t n (End fail) b e h = tt
-may_be_called tr t n Prepare b e h = is_open tr b.gtrid h (none_applies tr (Steps.Issue t n (Calls.Prepare (Ours b))) Refusal.Decided e)
-may_be_called tr t n OnePhase b e h =
-    let v = and_parts _ _ (not-false _ (none_applies tr (Steps.Issue t n (Calls.Commit (Ours b) true)) Refusal.Votes e)) in (
-      is_open tr b.gtrid h (none_applies tr (Steps.Issue t n (Calls.Commit (Ours b) true)) Refusal.Decided e),
-      (v.0, λ c q s. branch_eq-true c b (all_of-started tr b.gtrid (λ d. branch_eq d b) (branches tr) c v.1 (started_in tr c s) q)),
-    )
-may_be_called tr t n Commit b e h = not-false _ (none_applies tr (Steps.Issue t n (Calls.Commit (Ours b) false)) Refusal.NotDecided e)
-may_be_called tr t n Rollback b e h = or_cases _ _ (not-false _ (none_applies tr (Steps.Issue t n (Calls.Rollback (Ours b))) Refusal.NotDecided e))
-may_be_called tr t n Forget b e h = not-false _ (none_applies tr (Steps.Issue t n (Calls.Forget (Ours b))) Refusal.NotDecided e)
+is_known : (tr : Trace) (t n : ℕ) (k : Kind) (b : Branch) → Passes tr t n k b → IsKnown tr k b.gtrid
+is_known tr t n Commit b p = not-false _ (p Refusal.UnknownTransaction)
+is_known tr t n _ b p = not-false _ (p Refusal.UnknownTransaction)
 
 -- the line is the branch's own
 on_own_line : (t n : ℕ) (b : Branch) → is_off_line t n b ≡ false → (n ≡ b.rm) × (t ≡ b.thread)
 on_own_line t n b e = let p = or_parts _ _ e in (eqb-true _ _ (not-false _ p.0), eqb-true _ _ (not-false _ p.1))
 
-own_line : (tr : Trace) (t n : ℕ) (k : Kind) (b : Branch) → must_refuse tr (Steps.Issue t n (on k (Ours b))) ≡ None
-    → (n ≡ b.rm) × IsOnOwnThread k (line t n) b
-own_line tr t n Start b e = on_own_line t n b (none_applies tr (Steps.Issue t n (Calls.Start (Ours b) false)) Refusal.WrongThread e)
-own_line tr t n Join b e = on_own_line t n b (none_applies tr (Steps.Issue t n (Calls.Start (Ours b) true)) Refusal.WrongThread e)
-own_line tr t n (End fail) b e = on_own_line t n b (none_applies tr (Steps.Issue t n (Calls.End (Ours b) fail)) Refusal.WrongThread e)
-own_line tr t n Prepare b e = on_own_line t n b (none_applies tr (Steps.Issue t n (Calls.Prepare (Ours b))) Refusal.WrongThread e)
-own_line tr t n OnePhase b e = on_own_line t n b (none_applies tr (Steps.Issue t n (Calls.Commit (Ours b) true)) Refusal.WrongThread e)
-own_line tr t n Commit b e =
-    (eqb-true _ _ (not-false _ (none_applies tr (Steps.Issue t n (Calls.Commit (Ours b) false)) Refusal.WrongThread e)), tt)
-own_line tr t n Rollback b e = (eqb-true _ _ (not-false _ (none_applies tr (Steps.Issue t n (Calls.Rollback (Ours b))) Refusal.WrongThread e)), tt)
-own_line tr t n Forget b e = (eqb-true _ _ (not-false _ (none_applies tr (Steps.Issue t n (Calls.Forget (Ours b))) Refusal.WrongThread e)), tt)
+own_line : (tr : Trace) (t n : ℕ) (k : Kind) (b : Branch) → Passes tr t n k b → (n ≡ b.rm) × IsOnOwnThread k (line t n) b
+own_line tr t n Commit b p = (eqb-true _ _ (not-false _ (p Refusal.WrongThread)), tt)
+own_line tr t n Rollback b p = (eqb-true _ _ (not-false _ (p Refusal.WrongThread)), tt)
+own_line tr t n Forget b p = (eqb-true _ _ (not-false _ (p Refusal.WrongThread)), tt)
+own_line tr t n _ b p = on_own_line t n b (p Refusal.WrongThread)
+
+may_be_called : (tr : Trace) (t n : ℕ) (k : Kind) (b : Branch) → Passes tr t n k b → IsKnown tr k b.gtrid → MayBeCalled tr k b
+may_be_called tr t n Start b p h = (p Refusal.AlreadyStarted, is_open tr b.gtrid h (p Refusal.Decided))
+may_be_called tr t n Join b p h = (p Refusal.AlreadyStarted, is_open tr b.gtrid h (p Refusal.Decided))
+may_be_called tr t n (End fail) b p h = tt
+may_be_called tr t n Prepare b p h = is_open tr b.gtrid h (p Refusal.Decided)
+may_be_called tr t n OnePhase b p h =
+    let only = and_parts _ _ (not-false _ (p Refusal.Votes)) in (
+      is_open tr b.gtrid h (p Refusal.Decided),
+      (only.0, λ c q s. branch_eq-true c b (all_of-started tr b.gtrid (λ d. branch_eq d b) (branches tr) c only.1 (started_in tr c s) q)),
+    )
+may_be_called tr t n Commit b p h = not-false _ (p Refusal.NotDecided)
+may_be_called tr t n Rollback b p h = or_cases _ _ (not-false _ (p Refusal.NotDecided))
+may_be_called tr t n Forget b p h = not-false _ (p Refusal.NotDecided)
 
 pub right_call : (tr : Trace) (t n : ℕ) (k : Kind) (b : Branch) → must_refuse tr (Steps.Issue t n (on k (Ours b))) ≡ None → RightCall tr (line t n) k b
 right_call tr t n k b e =
-    let h = is_known tr t n k b e in
-    let own = own_line tr t n k b e in
-    record { known = h; own_rm = own.0; own_thread = own.1; may_be = may_be_called tr t n k b e h }
+    let p : Passes tr t n k b = λ m. none_applies tr (Steps.Issue t n (on k (Ours b))) m e in
+    let h = is_known tr t n k b p in
+    let own = own_line tr t n k b p in
+    record { known = h; own_rm = own.0; own_thread = own.1; may_be = may_be_called tr t n k b p h }
+
+-- a call that waits
+issue_right : (tr : Trace) (t n : ℕ) (a : Called.Call Name) → must_refuse tr (Steps.Issue t n a) ≡ None
+    → Right tr (happened (Steps.Issue t n a) Replies.Issued)
+issue_right tr t n a e = by_call a e (is_up tr (Steps.Issue t n a) e refl) (none_applies tr (Steps.Issue t n a) Refusal.Closed e)
+  where
+    by_call : (a : Called.Call Name) → must_refuse tr (Steps.Issue t n a) ≡ None → up tr ≡ true → is_closed tr (line t n) ≡ false
+        → Right tr (happened (Steps.Issue t n a) Replies.Issued)
+    by_call (Calls.Start (Ours b) false) e u c = (u, right_call tr t n Start b e, c)
+    by_call (Calls.Start (Ours b) true) e u c = (u, right_call tr t n Join b e, c)
+    by_call (Calls.End (Ours b) fail) e u c = (u, right_call tr t n (End fail) b e, c)
+    by_call (Calls.Prepare (Ours b)) e u c = (u, right_call tr t n Prepare b e, c)
+    by_call (Calls.Commit (Ours b) false) e u c = (u, right_call tr t n Commit b e, c)
+    by_call (Calls.Commit (Ours b) true) e u c = (u, right_call tr t n OnePhase b e, c)
+    by_call (Calls.Rollback (Ours b)) e u c = (u, right_call tr t n Rollback b e, c)
+    by_call (Calls.Forget (Ours b)) e u c = (u, right_call tr t n Forget b e, c)
+    by_call (Calls.Start (Foreign x) join) e u c = tt
+    by_call (Calls.End (Foreign x) fail) e u c = tt
+    by_call (Calls.Prepare (Foreign x)) e u c = tt
+    by_call (Calls.Commit (Foreign x) one_phase) e u c = tt
+    by_call (Calls.Rollback (Foreign x)) e u c = tt
+    by_call (Calls.Forget (Foreign x)) e u c = tt
+    by_call Calls.OpenRm e u c = (u, tt, c)
+    by_call Calls.CloseRm e u c = (u, tt, c)
+    by_call (Calls.Recover k x y) e u c = (u, tt, c)
 
 pub right_decision : (tr : Trace) (g : Gtrid) (o : Outcome) → must_refuse tr (Steps.Decide g o) ≡ None → RightDecision tr g o
 right_decision tr g o e = record {
@@ -215,77 +225,7 @@ restarts_right tr r u (Restarts_as i d h a m b c) = (u, a, b, c)
 
 pub value_right : (tr : Trace) (s : Step) (r : Reply) → must_refuse tr s ≡ None → IsValue tr s r → Right tr (happened s r)
 value_right tr (Steps.Begin t) r e v = by tr (Steps.Begin t) r _ v (is_up tr (Steps.Begin t) e refl, refl, refl)
-value_right tr (Steps.Issue t n Calls.OpenRm) r e v =
-    by tr (Steps.Issue t n Calls.OpenRm) r _ v
-    (is_up tr (Steps.Issue t n Calls.OpenRm) e refl, tt, none_applies tr (Steps.Issue t n Calls.OpenRm) Refusal.Closed e)
-value_right tr (Steps.Issue t n Calls.CloseRm) r e v =
-    by tr (Steps.Issue t n Calls.CloseRm) r _ v
-    (is_up tr (Steps.Issue t n Calls.CloseRm) e refl, tt, none_applies tr (Steps.Issue t n Calls.CloseRm) Refusal.Closed e)
-value_right tr (Steps.Issue t n (Calls.Start (Ours b) false)) r e v =
-    by tr (Steps.Issue t n (Calls.Start (Ours b) false)) r _ v (
-      is_up tr (Steps.Issue t n (Calls.Start (Ours b) false)) e refl,
-      right_call tr t n Start b e,
-      none_applies tr
-          (Steps.Issue t n (Calls.Start (Ours b) false)) Refusal.Closed e,
-    )
-value_right tr (Steps.Issue t n (Calls.Start (Ours b) true)) r e v =
-    by tr (Steps.Issue t n (Calls.Start (Ours b) true)) r _ v (
-      is_up tr (Steps.Issue t n (Calls.Start (Ours b) true)) e refl,
-      right_call tr t n Join b e,
-      none_applies tr
-          (Steps.Issue t n (Calls.Start (Ours b) true)) Refusal.Closed e,
-    )
-value_right tr (Steps.Issue t n (Calls.End (Ours b) fail)) r e v =
-    by tr (Steps.Issue t n (Calls.End (Ours b) fail)) r _ v (
-      is_up tr (Steps.Issue t n (Calls.End (Ours b) fail)) e refl,
-      right_call tr t n (End fail) b e,
-      none_applies tr
-          (Steps.Issue t n (Calls.End (Ours b) fail)) Refusal.Closed e,
-    )
-value_right tr (Steps.Issue t n (Calls.Prepare (Ours b))) r e v =
-    by tr (Steps.Issue t n (Calls.Prepare (Ours b))) r _ v (
-      is_up tr (Steps.Issue t n (Calls.Prepare (Ours b))) e refl,
-      right_call tr t n Prepare b e,
-      none_applies tr
-          (Steps.Issue t n (Calls.Prepare (Ours b))) Refusal.Closed e,
-    )
-value_right tr (Steps.Issue t n (Calls.Commit (Ours b) false)) r e v =
-    by tr (Steps.Issue t n (Calls.Commit (Ours b) false)) r _ v (
-      is_up tr (Steps.Issue t n (Calls.Commit (Ours b) false)) e refl,
-      right_call tr t n Commit b e,
-      none_applies tr
-          (Steps.Issue t n (Calls.Commit (Ours b) false)) Refusal.Closed e,
-    )
-value_right tr (Steps.Issue t n (Calls.Commit (Ours b) true)) r e v =
-    by tr (Steps.Issue t n (Calls.Commit (Ours b) true)) r _ v (
-      is_up tr (Steps.Issue t n (Calls.Commit (Ours b) true)) e refl,
-      right_call tr t n OnePhase b e,
-      none_applies tr
-          (Steps.Issue t n (Calls.Commit (Ours b) true)) Refusal.Closed e,
-    )
-value_right tr (Steps.Issue t n (Calls.Rollback (Ours b))) r e v =
-    by tr (Steps.Issue t n (Calls.Rollback (Ours b))) r _ v (
-      is_up tr (Steps.Issue t n (Calls.Rollback (Ours b))) e refl,
-      right_call tr t n Rollback b e,
-      none_applies tr
-          (Steps.Issue t n (Calls.Rollback (Ours b))) Refusal.Closed e,
-    )
-value_right tr (Steps.Issue t n (Calls.Forget (Ours b))) r e v =
-    by tr (Steps.Issue t n (Calls.Forget (Ours b))) r _ v (
-      is_up tr (Steps.Issue t n (Calls.Forget (Ours b))) e refl,
-      right_call tr t n Forget b e,
-      none_applies tr
-          (Steps.Issue t n (Calls.Forget (Ours b))) Refusal.Closed e,
-    )
-value_right tr (Steps.Issue t n (Calls.Start (Foreign x) join)) r e v = by tr (Steps.Issue t n (Calls.Start (Foreign x) join)) r _ v tt
-value_right tr (Steps.Issue t n (Calls.End (Foreign x) fail)) r e v = by tr (Steps.Issue t n (Calls.End (Foreign x) fail)) r _ v tt
-value_right tr (Steps.Issue t n (Calls.Prepare (Foreign x))) r e v = by tr (Steps.Issue t n (Calls.Prepare (Foreign x))) r _ v tt
-value_right tr (Steps.Issue t n (Calls.Commit (Foreign x) one_phase)) r e v = by tr (Steps.Issue t n (Calls.Commit (Foreign x) one_phase)) r _ v tt
-value_right tr (Steps.Issue t n (Calls.Rollback (Foreign x))) r e v = by tr (Steps.Issue t n (Calls.Rollback (Foreign x))) r _ v tt
-value_right tr (Steps.Issue t n (Calls.Forget (Foreign x))) r e v = by tr (Steps.Issue t n (Calls.Forget (Foreign x))) r _ v tt
-value_right tr (Steps.Issue t n (Calls.Recover k x y)) r e v =
-    by tr (Steps.Issue t n (Calls.Recover k x y)) r _ v
-    (is_up tr (Steps.Issue t n (Calls.Recover k x y)) e refl, tt, none_applies tr (Steps.Issue t n (Calls.Recover k x y)) Refusal.Closed e)
+value_right tr (Steps.Issue t n a) r e v = by tr (Steps.Issue t n a) r _ v (issue_right tr t n a e)
 value_right tr (Steps.Take t n) r e v = takes_right tr t n r v
 value_right tr (Steps.Hear t n) r e v = hears_right tr t n r (is_up tr (Steps.Hear t n) e refl) v
 value_right tr (Steps.Vote n (Ours b) x) r e v = by tr (Steps.Vote n (Ours b) x) r _ v tt

@@ -1,5 +1,5 @@
 -- A call that is issued, or refused.
-use Rattle.std.proofs.Common.{◌≡◌, ◌≢◌, ◌-◌, ℕ, Bool, true, false, List, [], ◌∷◌, ◌++◌, length, refl, sym, ap, ◌∙◌, subst, arith, append_assoc}
+use Rattle.std.proofs.Common.{◌≡◌, ◌≢◌, ◌-◌, ℕ, Bool, true, false, [], ◌∷◌, length, refl, sym, ap, ◌∙◌, subst, arith, append_assoc}
 use Rattle.std.specs.Prelude.{◌&&◌, not, if◌then◌else◌, Option, Some, None, Result, Ok, Err, OnOk, slice_get, nat_le, nat_lt}
 use Rattle.std.specs.Option.{option_or}
 use Rattle.std.specs.Result.{result_err}

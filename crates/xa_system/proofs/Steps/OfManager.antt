@@ -1,6 +1,6 @@
 -- Steps that the manager does or refuses.
-use Rattle.std.proofs.Common.{◌≡◌, ◌≤◌, ◌<◌, ◌+◌, ◌≢◌, ℕ, [], Bool, true, false, refl, sym, ap, ◌∙◌, subst, arith}
-use Rattle.std.specs.Prelude.{not, ◌&&◌, Option, Some, None, Result, Ok, Err}
+use Rattle.std.proofs.Common.{◌≡◌, ◌≤◌, ◌<◌, ◌+◌, ◌≢◌, ℕ, [], true, false, refl, sym, ap, ◌∙◌, subst, arith}
+use Rattle.std.specs.Prelude.{not, Option, Some, None, Result, Ok, Err}
 use Rattle.xa_base.specs.Xid.{Xid}
 use Rattle.xa_model.specs.Replies.Allowed.{Allowed.As_value, IsValue, MayLackMemory}
 use Rattle.xa_model.specs.Facts as facts

@@ -5,11 +5,12 @@ use Rattle.xa_model.specs.Replies.History.{name_of}
 use Rattle.xa_base.specs.declared.refusal.Refusal.TheVariants as Refusals
 use Rattle.xa_base.specs.declared.reply.Reply.TheVariants as Replies
 use Rattle.xa_base.specs.declared.step.Step.TheVariants as Steps
+use Rattle.xa_model.proofs.Replies.Guards.{issue_why}
 use Rattle.xa_line.specs.Grid.{line_at}
 use Rattle.xa_line.specs.Traffic.{barred, issued}
 use Rattle.xa_tm.specs.Calls.{book_in}
 use Rattle.xa_system.specs.Parts.{sees}
-use Rattle.xa_system.proofs.Steps.Issue.{has_room_at, is_full_at, issue_did, issue_found, issue_limit, issue_manager_down, issue_why, line_took}
+use Rattle.xa_system.proofs.Steps.Issue.{has_room_at, is_full_at, issue_did, issue_found, issue_limit, issue_manager_down, line_took}
 use Rattle.xa_system.proofs.Steps.OfManager.{sound_book}
 use Rattle.xa_system.proofs.Histories.Standing.{lacking_goes, refused_goes, site_read}
 use Rattle.xa_tm.specs.Refusing.{refusal_in}
