@@ -34,43 +34,49 @@ LeavesTables old new = LeavesOr (AreMade old) old new
 abbrev pub LeavesSame : State → State → Type 0
 LeavesSame old new = (db : Trees) → new.may_leave db → old.may_leave db
 
--- one transaction makes a log with this content, and where it fails the database is shut or as before
+-- One transaction makes a log with this content. It is said where the disk is clean at the end.
 pub record MakesLog (c : Content) (old new : State) (result : Result (Unit {0}) LogFault) : Type 0 where
+  -- the log is ready
   pub ok : OnOk result (IsReadyWith c new)
+  -- after a failure the database is as it was, or shut
   pub err : OnErr result (IsShutOrAsBefore old new)
+  -- it fails by the store or for want of memory alone
+  pub cause : IfErr result IsStoreFault
+  -- a crash leaves what it might have left before, or all of the log
+  pub crash : LeavesOr (AreNewTrees c) old new
 
 -- nothing has changed, but that a fault may have shut the database
 pub record IsUntouched (old new : State) : Type 0 where
   pub undone : IsShutOrAsBefore old new
   pub crash : LeavesSame old new
 
--- What a log makes of a database, or leaves of it where that fails, if the disk is clean at the end.
+-- What a log makes of a database that it takes, and what it leaves of it where that fails. It is said where the disk is clean at the end.
 pub record Prepares (old new : State) (result : Result (Unit {0}) LogFault) : Type 0 where
-  -- the disk was clean before
+  -- the disk was clean at the start
   pub honest : HasCleanDisk old
-  -- a blank database is an empty log then
+  -- a blank database has become an empty log
   pub made : IsBlank old → OnOk result (IsReadyWith nothing new)
-  -- a log of version 1 is one of version 2 then, with the same rows
+  -- a log of version 1 has become one of version 2 with the same rows
   pub migrated : IsOldReady old → OnOk result (IsReadyWith (old_content_of old.now.trees) new)
-  -- a log of version 2 keeps its content
+  -- a log of version 2 has kept its content
   pub kept : old.now.schema ≡ log_schema → IsOrderly old → OnOk result (IsReadyWith (content_of old.now.trees) new)
-  -- so does what a crash may have left of a log
+  -- what a crash may have left of a log has kept its content too
   pub found : IsFoundLog old → OnOk result (IsReadyWith (content_of old.now.trees) new)
-  -- that is refused by the store or for want of memory alone
+  -- what a crash may have left of a log is refused by the store or for want of memory alone
   pub found_err : IsFoundLog old → IfErr result IsStoreFault
-  -- and so is a database without tables, or one that a log has left
+  -- a database without tables, or one that a log has left, is refused by the store or for want of memory alone
   pub known : IsKnownDatabase old → IfErr result IsStoreFault
-  -- no log is made of tables where no row of tm_meta names version 1 or 2 and a natural incarnation
+  -- tables of which a log is made have a row of tm_meta that names version 1 or 2 and a natural incarnation
   pub version : HasTables old → OnOk result (NamesKnown old)
-  -- such tables stay as they are
+  -- tables without such a row stay as they are
   pub unknown : old.in_transaction ≡ false → HasTables old → ¬ NamesKnown old → IsUntouched old new
-  -- and so do tables that are refused for their version
+  -- tables that are refused for their version stay as they are
   pub refused : result ≡ Err Version → HasTables old → IsUntouched old new
   -- after a failure the database is as it was, or shut
   pub undone : old.in_transaction ≡ false → IsTakeable old → OnErr result (IsShutOrAsBefore old new)
   -- a crash leaves what it might have left before, or all that one transaction made
   pub crash : IsTakeable old → LeavesTables old new
-  -- of tables of version 2 it leaves nothing new
+  -- over tables of version 2 a crash leaves nothing new
   pub crash_kept : old.now.schema ≡ log_schema → LeavesSame old new
 
 -- The log is over the database that was found in files with these contents.

@@ -1,5 +1,5 @@
 //! The tables of a log: made where there is none, and migrated from version 1.
-ghost use Rattle.std.specs.Prelude.{◌≡◌, ◌⊎◌, false, IsTrue, [], Err, IfErr, OnOk};
+ghost use Rattle.std.specs.Prelude.{◌≡◌, ◌⊎◌, false, true, IsTrue, [], Err, IfErr, OnOk};
 ghost use Rattle.sqlite.specs.State.{HasCleanDisk, KeepsCommit, Survives};
 ghost use Rattle.sqlite.specs.Held.{state};
 ghost use Rattle.xa_log.specs.Content.{nothing};
@@ -8,7 +8,7 @@ ghost use Rattle.xa_sql_log.specs.Rows.{old_content_of, IsOldLog};
 ghost use Rattle.xa_sql_log.specs.Tables.{old_schema, log_schema};
 ghost use Rattle.xa_sql_log.specs.Sql.{IsNewLog, AreNewTrees, IsOldReady, Rests};
 ghost use Rattle.xa_sql_log.specs.OpenedDatabase.{IsBlank, HasTables, NamesVersion, NamesKnown, RunsInside};
-ghost use Rattle.xa_sql_log.specs.PreparedDatabase.{LeavesOr, LeavesSame, MakesLog, Prepares};
+ghost use Rattle.xa_sql_log.specs.PreparedDatabase.{LeavesSame, MakesLog, Prepares};
 
 use crate::statements::of_store;
 use crate::version::check_version;
@@ -140,18 +140,12 @@ fn migrate<S: Alter>(conn: &mut Connection<S>) -> Result<(), LogFault>
 fn upgrade<S: Alter>(conn: &mut Connection<S>) -> Result<(), LogFault>
     requires { conn.old.in_transaction ≡ false }
     ensures honest { HasCleanDisk (state S.Store conn.new) → HasCleanDisk (state S.Store conn.old) }
-    // What is done, and what a failure and a crash leave.
     ensures makes { HasCleanDisk (state S.Store conn.new) → IsOldReady (state S.Store conn.old) →
         MakesLog (old_content_of (state S.Store conn.old).now.trees)
         (state S.Store conn.old) (state S.Store conn.new) result }
-    ensures crash { IsOldReady (state S.Store conn.old) → HasCleanDisk (state S.Store conn.new) →
-        LeavesOr (AreNewTrees (old_content_of (state S.Store conn.old).now.trees))
-        (state S.Store conn.old) (state S.Store conn.new) }
-    // Which tables are refused, and as what.
+    // Which tables are refused.
     ensures version { HasTables (state S.Store conn.old) → HasCleanDisk (state S.Store conn.new) →
         OnOk result (NamesVersion 1 (state S.Store conn.old)) }
-    ensures known { IsOldReady (state S.Store conn.old) →
-        HasCleanDisk (state S.Store conn.new) → IfErr result IsStoreFault }
     ensures refused { HasTables (state S.Store conn.old) →
         (result ≡ Err LogFault.Version) ⊎ ¬ NamesKnown (state S.Store conn.old) →
         HasCleanDisk (state S.Store conn.new) →

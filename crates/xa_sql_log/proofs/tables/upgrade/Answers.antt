@@ -16,13 +16,19 @@ returns-clause-refused g c has why clean = elim why [
   | inr unknown ↦ absurd (unknown (inl (c.in_ok-check_version.ensures.version has (c.migrate.ensures.honest clean))))
 ]
 
-pub returns-clause-crash : goal.returns-clause-crash
-returns-clause-crash g c is clean db left =
+pub returns-clause-makes : goal.returns-clause-makes
+returns-clause-makes g c clean is =
     let old = state g.S.Store c.args.conn.now in
     let mid = state g.S.Store c.check_version.new.conn in
     let early = c.migrate.ensures.honest clean in
     let same = c.in_ok-check_version.ensures.same (inl is.now.schema) early in
-    elim ((c.migrate.ensures.crash (old_ready_after old mid same is)).crash clean db left) [
-      | inl was ↦ elim ((c.check_version.ensures.survives (inl is.now.schema)).crash early db was) [ inl first ↦ inl first | inr none ↦ absurd none ]
-      | inr made ↦ inr (subst (λ (d : Database). AreNewTrees (old_content_of d.trees) db) same.0.now_is made)
-    ]
+    let made = c.migrate.ensures.makes clean (old_ready_after old mid same is) in
+    record {
+      ok = search rules;
+      err = search rules;
+      cause = made.cause;
+      crash = λ db left. elim (made.crash db left) [
+        | inl was ↦ elim ((c.check_version.ensures.survives (inl is.now.schema)).crash early db was) [ inl first ↦ inl first | inr none ↦ absurd none ]
+        | inr whole ↦ inr (subst (λ (d : Database). AreNewTrees (old_content_of d.trees) db) same.0.now_is whole)
+      ];
+    }
