@@ -13,7 +13,7 @@ use Rattle.xa_model.specs.Trace.{Fault, Happening, Happening.Failed, Happening.N
 use Rattle.xa_tm.specs.Book.{after, after_all, Book, book_after, Doubt, Doubt.NoDoubt}
 use Rattle.xa_standings.specs.Monitor.{SaysTheSame, states_of}
 use Rattle.xa_tm.specs.Calls.{FailsBy, book_in, log_in}
-use Rattle.xa_tm.specs.Refusing.{refusal_in, refusal_in_turn}
+use Rattle.xa_tm.specs.Refusing.{refusal_in}
 use Rattle.xa_tm.specs.declared.manager.Manager.{Manager}
 use Rattle.xa_serve.specs.Following.{StaysAs}
 use Rattle.xa_serve.specs.Headroom.{HasHeadroom, MayHappen, first_headroom}
@@ -124,9 +124,9 @@ pub refusal_is : {L : Type 0} (s : Session L) (step : Step) → is_over s ≡ fa
 refusal_is s step e = ap (λ t. if t then Some Limit else refusal_in (book_in s.manager) step) e
 
 -- and so of several, where there is room for them
-pub refusal_of_all_is : {L : Type 0} (s : Session L) (step : Gtrid → Step) (does : Gtrid → Happening) (gs : List Gtrid)
-    → has_room_for s (length gs) ≡ true → refusal_of_all s step does gs ≡ refusal_in_turn step does (book_in s.manager) gs
-refusal_of_all_is s step does gs e = ap (λ t. if t then refusal_in_turn step does (book_in s.manager) gs else Some Limit) e
+pub refusal_of_all_is : {L : Type 0} (s : Session L) (of_manager : Book → List Gtrid → Option Refusal) (gs : List Gtrid)
+    → has_room_for s (length gs) ≡ true → refusal_of_all s of_manager gs ≡ of_manager (book_in s.manager) gs
+refusal_of_all_is s of_manager gs e = ap (λ t. if t then of_manager (book_in s.manager) gs else Some Limit) e
 
 -- ** a call that a rule refuses, or else leaves the book, leaves the book
 pub refused_or : (o : Option Refusal) (k l : Book) → ((n : Refusal) → o ≡ Some n → k ≡ l) → (o ≡ None → k ≡ l) → k ≡ l

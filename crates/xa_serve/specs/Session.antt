@@ -17,10 +17,12 @@ use Rattle.xa_line.specs.Histories.{AreKnownAs, known}
 use Rattle.xa_line.specs.Traffic.{Flow, Traffic, barred, is_full, issued, places}
 use Rattle.xa_model.specs.Replies.History.{name_of}
 use Rattle.xa_model.specs.Replies.Steps.{Step}
-use Rattle.xa_model.specs.Trace.{Branch, Call as KnownCall, Happening, Happening.Decided, Happening.Done, line}
+use Rattle.xa_model.specs.Trace.{Branch, Call as KnownCall, line}
 use Rattle.xa_standings.specs.Monitor.{CanExplain, IsSomewhere, states_of}
+use Rattle.xa_tm.specs.Book.{Book}
 use Rattle.xa_tm.specs.Calls.{book_in}
-use Rattle.xa_tm.specs.Refusing.{refusal_in, refusal_in_turn, service_refusal_in}
+use Rattle.xa_tm.specs.InTurn as turns
+use Rattle.xa_tm.specs.Refusing.{refusal_in, service_refusal_in}
 use Rattle.xa_serve.specs.Headroom.{HasHeadroom, first_headroom}
 use Rattle.xa_serve.specs.Hearing.{can_hear}
 use Rattle.xa_serve.specs.declared.session.Session.{Session}
@@ -53,17 +55,18 @@ refusal_at s step = if is_over s then Some Limit else refusal_in (book_in s.mana
 abbrev pub has_room_for : {L : Type 0} → Session L → ℕ → Bool
 has_room_for s n = not (is_over s) && nat_le n (first_headroom - s.happenings)
 
--- why it refuses steps that ask no line, one for each of these transactions and in turn: the first reason that applies
-abbrev pub refusal_of_all : {L : Type 0} → Session L → (step : Gtrid → Step) → (does : Gtrid → Happening) → List Gtrid → Option Refusal
-refusal_of_all s step does gs = if has_room_for s (length gs) then refusal_in_turn step does (book_in s.manager) gs else Some Limit
+-- why it refuses steps that ask no line, one for each of these transactions and in turn, by why the manager does: the first
+-- reason that applies
+abbrev pub refusal_of_all : {L : Type 0} → Session L → (of_manager : Book → List Gtrid → Option Refusal) → List Gtrid → Option Refusal
+refusal_of_all s of_manager gs = if has_room_for s (length gs) then of_manager (book_in s.manager) gs else Some Limit
 
 -- why it refuses to decide these transactions so
 abbrev pub decide_refusal : {L : Type 0} → Session L → Outcome → List Gtrid → Option Refusal
-decide_refusal s outcome gs = refusal_of_all s (λ g. Steps.Decide g outcome) (λ g. Decided g outcome) gs
+decide_refusal s outcome gs = refusal_of_all s (turns.decide_refusal outcome) gs
 
 -- why it refuses that these are done
 abbrev pub done_refusal : {L : Type 0} → Session L → List Gtrid → Option Refusal
-done_refusal s gs = refusal_of_all s (λ g. Steps.Done g) (λ g. Done g) gs
+done_refusal s gs = refusal_of_all s turns.done_refusal gs
 
 -- why it refuses a thread's begin, the first reason that applies
 abbrev pub begin_refusal : {L : Type 0} → Session L → (thread : ℕ) → Option Refusal

@@ -1,16 +1,11 @@
 //! The system's log is taken out while the manager is down, and one with the same rows is put in.
-ghost use Rattle.std.specs.Prelude.{◌≡◌, ◌≢◌, ◌⊎◌, Bool, Some, None, IsSome, Err, IfErr, OnOk, OnErr};
-ghost use Rattle.xa_log.specs.Content.{Content};
-ghost use Rattle.xa_log.specs.Contract.{Honestly, one_more_fault};
-ghost use Rattle.xa_log.specs.declared.log_fault.LogFault.{LogFault};
+ghost use Rattle.std.specs.Prelude.{◌≡◌, ◌⊎◌, Bool, Some, None, IsSome, Err, IfErr, OnOk, OnErr};
 ghost use Rattle.xa_model.specs.Facts.{up};
-ghost use Rattle.xa_model.specs.Promises.Headline.{Headline, HeadlineSince};
-ghost use Rattle.xa_model.specs.Promises.Processes.{Resumes, resumed};
-ghost use Rattle.xa_model.specs.Protocol.{AllRight, RightOrigin};
-ghost use Rattle.xa_model.specs.Trace.{Trace};
 ghost use Rattle.xa_system.specs.LogInHistory.{MayHoldRows};
-ghost use Rattle.xa_system.specs.SystemView.{HoldsItsTrace, observes, origin_in, trace_in};
-ghost use Rattle.xa_tm.specs.Slots.{FailsToRead, LooksAt, ReadsRows, TakesIn, last_out, log_held};
+ghost use Rattle.xa_system.specs.Promising.{KeepsItsPromises};
+ghost use Rattle.xa_system.specs.SystemView.{observes, trace_in};
+ghost use Rattle.xa_tm.specs.Slots.{TakesIn, last_out, log_held};
+ghost use Rattle.xa_tm.specs.Swapping.{GivesBack};
 ghost use Rattle.xa_tm.specs.declared.swap_fault.SwapFault.TheVariants as SwapFault;
 
 use crate::system::System;
@@ -33,12 +28,7 @@ impl<R: ResourceManager + Drop, L: DecisionLog + Drop> System<R, L> {
         ensures was { (log : L) → result ≡ Some log → last_out self.new.log ≡ log }
         // What stays.
         ensures others { self.new ≡ record self.old { log = self.new.log } }
-        ensures parts { HoldsItsTrace (observes R.look L.moment) self.new }
-        ensures headline { RightOrigin (origin_in R.look self.new) →
-            Headline (origin_in R.look self.new) self.new.events }
-        ensures resumed { (past : Trace) → AllRight past →
-            Resumes past (origin_in R.look self.new) →
-            HeadlineSince (resumed past (origin_in R.look self.new)) self.new.events }
+        ensures promises { KeepsItsPromises (observes R.look L.moment) self.new }
     {
         let log = self.parts.manager.take_log();
         self.agree();
@@ -63,33 +53,13 @@ impl<R: ResourceManager + Drop, L: DecisionLog + Drop> System<R, L> {
             (up (trace_in R.look self.old) ≡ Bool.true) ⊎ IsSome (log_held self.old.log)) }
         // A fault changes nothing but the log that comes back.
         ensures err { OnErr result (self.new ≡ self.old) }
-        ensures back { IfErr result (λ e. LooksAt (L.moment log) (L.moment e.1)) }
-        // Which fault it is.
-        ensures memory_fault { IfErr result (λ e. e.0 ≡ SwapFault.Memory →
-            ReadsRows L.DecisionLog log e.1 ⊎
-            FailsToRead L.DecisionLog log e.1 LogFault.Memory) }
-        ensures log_cause { IfErr result (λ e. e.0 ≡ SwapFault.Log →
-            ((cause : LogFault) × (cause ≢ LogFault.Memory) ×
-            FailsToRead L.DecisionLog log e.1 cause)) }
-        ensures rows_read { IfErr result (λ e. e.0 ≡ SwapFault.OtherRows →
-            ReadsRows L.DecisionLog log e.1) }
-        ensures log_fault { IfErr result (λ e. e.0 ≡ SwapFault.Log →
-            (L.moment e.1).fault_count ≡ one_more_fault (L.moment log).fault_count) }
-        ensures other_rows { IfErr result (λ e. e.0 ≡ SwapFault.OtherRows →
-            (L.moment e.1).fault_count ≡ (L.moment log).fault_count) }
-        ensures only_other_rows { IfErr result (λ e. e.0 ≡ SwapFault.OtherRows →
-            Honestly (L.moment log) (L.moment e.1) ((c : Content) →
-            (L.moment log).content ≡ Some c → MayHoldRows (trace_in R.look self.old) c → ⊥)) }
+        ensures back { IfErr result (λ e. GivesBack L.DecisionLog
+            (MayHoldRows (trace_in R.look self.old)) log e.0 e.1) }
         // The log that is put in, and what stays.
         ensures ok { OnOk result (TakesIn L.DecisionLog log (log_held self.new.log)) }
         ensures others { OnOk result
             (self.new ≡ record self.old { handed = log; log = self.new.log }) }
-        ensures parts { HoldsItsTrace (observes R.look L.moment) self.new }
-        ensures headline { RightOrigin (origin_in R.look self.new) →
-            Headline (origin_in R.look self.new) self.new.events }
-        ensures resumed { (past : Trace) → AllRight past →
-            Resumes past (origin_in R.look self.new) →
-            HeadlineSince (resumed past (origin_in R.look self.new)) self.new.events }
+        ensures promises { KeepsItsPromises (observes R.look L.moment) self.new }
     {
         let handed = Snapshot::of(&log);
         let given = self.parts.manager.give_log(log);

@@ -21,3 +21,6 @@ pub mod Ascending
 pub mod Begins
 pub mod Slots
 pub mod Swaps
+pub mod Swapping
+pub mod LogUse
+pub mod InTurn

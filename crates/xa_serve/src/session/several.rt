@@ -3,8 +3,9 @@
 ghost use Rattle.std.specs.Prelude.{◌≡◌, ◌≢◌, map, Bool, Some, None, Err, IfErr, OnOk};
 ghost use Rattle.xa_base.specs.declared.refusal.Refusal.TheVariants as Refusals;
 ghost use Rattle.xa_model.specs.Trace.{Fault.InDecide, Fault.InDone, Happening.Decided, Happening.Done};
-ghost use Rattle.xa_tm.specs.Book.{Doubt.Adds, Doubt.Drops, after_all, rows_for};
+ghost use Rattle.xa_tm.specs.Book.{Doubt.Drops, after_all};
 ghost use Rattle.xa_tm.specs.Calls.{FailsBy, book_in, log_in, written_by};
+ghost use Rattle.xa_tm.specs.InTurn.{rows_added};
 ghost use Rattle.xa_serve.specs.Following.{FollowsAll, StaysAs, StaysTied};
 ghost use Rattle.xa_serve.specs.Session.{IsReady, decide_refusal, done_refusal, lines_by};
 
@@ -33,8 +34,7 @@ impl<L: DecisionLog + Drop> Session<L> {
         ensures ok { OnOk result (book_in self.new.manager ≡
             after_all (book_in self.old.manager) (map (λ g. Decided g outcome) gtrids.now)) }
         ensures err { decide_refusal self.old outcome gtrids.now ≡ None → IfErr result (FailsBy
-            (Adds (rows_for (book_in self.old.manager)
-            (written_by outcome (book_in self.old.manager) gtrids.now)))
+            (rows_added outcome (book_in self.old.manager) gtrids.now)
             (InDecide (written_by outcome (book_in self.old.manager) gtrids.now))
             (book_in self.old.manager) (book_in self.new.manager)) }
         ensures follows { OnOk result

@@ -3,17 +3,16 @@
 ghost use Rattle.std.specs.Prelude.{◌≡◌, ◌≢◌, ◌<◌, ◌+◌, ◌^◌, [], length, map, Bool, Some, None, Err, IfErr, OnOk};
 ghost use Rattle.std.specs.List.{AllByRecursion};
 ghost use Rattle.xa_base.specs.declared.refusal.Refusal.TheVariants as Refusals;
-ghost use Rattle.xa_base.specs.declared.step.Step.TheVariants as Steps;
 ghost use Rattle.xa_log.specs.Content.{with_commits};
 ghost use Rattle.xa_log.specs.Contract.{Changes, FitsRow};
 ghost use Rattle.xa_model.specs.Facts.Distinct.{EachOnce};
 ghost use Rattle.xa_model.specs.Trace.{Fault.InDecide, Happening.Decided};
-ghost use Rattle.xa_tm.specs.Book.{Doubt.Adds, after_all, rows_for};
+ghost use Rattle.xa_tm.specs.Book.{after_all, rows_for};
 ghost use Rattle.xa_tm.specs.BookAndLog.{changed_by, IsTied};
 ghost use Rattle.xa_tm.specs.Calls.{AsksFor, FailsBy, IsOpenIn, book_in, log_in, written_by};
 ghost use Rattle.xa_tm.specs.Concluding.{Concludes};
+ghost use Rattle.xa_tm.specs.InTurn.{decide_refusal, rows_added};
 ghost use Rattle.xa_tm.specs.LedgerBook.{HasRoomForDecisions, IsSound, NamesOwn, decided_rows};
-ghost use Rattle.xa_tm.specs.Refusing.{refusal_in_turn};
 
 use crate::change::Change;
 use crate::manager::Manager;
@@ -34,23 +33,18 @@ impl<L: DecisionLog + Drop> Manager<L> {
         requires room { (book_in self.old).rows + length gtrids.now < 2 ^ 64 }
         // A rule that refuses changes nothing.
         ensures refused { (n : Refusal) →
-            refusal_in_turn (λ g. Steps.Decide g outcome) (λ g. Decided g outcome)
-            (book_in self.old) gtrids.now ≡ Some n →
+            decide_refusal outcome (book_in self.old) gtrids.now ≡ Some n →
             (result ≡ Err n) × (self.new ≡ self.old) }
         ensures allowed { OnOk result
-            (refusal_in_turn (λ g. Steps.Decide g outcome) (λ g. Decided g outcome)
-            (book_in self.old) gtrids.now ≡ None) }
+            (decide_refusal outcome (book_in self.old) gtrids.now ≡ None) }
         // What the book then says.
         ensures ok { OnOk result (book_in self.new ≡
             after_all (book_in self.old) (map (λ g. Decided g outcome) gtrids.now)) }
-        ensures err { refusal_in_turn (λ g. Steps.Decide g outcome) (λ g. Decided g outcome)
-            (book_in self.old) gtrids.now ≡ None →
-            IfErr result (FailsBy
-            (Adds (rows_for (book_in self.old) (written_by outcome (book_in self.old) gtrids.now)))
+        ensures err { decide_refusal outcome (book_in self.old) gtrids.now ≡ None →
+            IfErr result (FailsBy (rows_added outcome (book_in self.old) gtrids.now)
             (InDecide (written_by outcome (book_in self.old) gtrids.now))
             (book_in self.old) (book_in self.new)) }
-        ensures asked { refusal_in_turn (λ g. Steps.Decide g outcome) (λ g. Decided g outcome)
-            (book_in self.old) gtrids.now ≡ None →
+        ensures asked { decide_refusal outcome (book_in self.old) gtrids.now ≡ None →
             result ≡ Err Refusals.LogFault →
             written_by outcome (book_in self.old) gtrids.now ≢ [] }
         // What becomes of the log.
@@ -62,8 +56,7 @@ impl<L: DecisionLog + Drop> Manager<L> {
             (λ n. n ≢ Refusals.LogFault → log_in self.new ≡ log_in self.old) }
         ensures without_row { written_by outcome (book_in self.old) gtrids.now ≡ [] →
             log_in self.new ≡ log_in self.old }
-        ensures asks { AsksFor (changed_by
-            (Adds (rows_for (book_in self.old) (written_by outcome (book_in self.old) gtrids.now))))
+        ensures asks { AsksFor (changed_by (rows_added outcome (book_in self.old) gtrids.now))
             (L.moment (log_in self.old)) (L.moment (log_in self.new)) result }
     {
         match self.ledger.may_decide_all(gtrids, outcome) {

@@ -3,7 +3,6 @@
 ghost use Rattle.std.specs.Prelude.{◌≡◌, ◌≢◌, ◌∷◌, map, true, is_some, Bool, Some, None, Err, IfErr, OnOk};
 ghost use Rattle.std.specs.List.{AllByRecursion};
 ghost use Rattle.xa_base.specs.declared.refusal.Refusal.TheVariants as Refusals;
-ghost use Rattle.xa_base.specs.declared.step.Step.TheVariants as Steps;
 ghost use Rattle.xa_log.specs.Content.{without_decisions};
 ghost use Rattle.xa_log.specs.Contract.{Changes, FitsRow};
 ghost use Rattle.xa_model.specs.Facts.Distinct.{EachOnce};
@@ -11,8 +10,8 @@ ghost use Rattle.xa_model.specs.Trace.{Fault.InDone, Happening.Done, Happening.F
 ghost use Rattle.xa_tm.specs.Book.{Doubt.Drops, after_all, book_after};
 ghost use Rattle.xa_tm.specs.BookAndLog.{changed_by, IsTied};
 ghost use Rattle.xa_tm.specs.Calls.{AsksFor, FailsBy, book_in, log_in};
+ghost use Rattle.xa_tm.specs.InTurn.{done_refusal};
 ghost use Rattle.xa_tm.specs.LedgerBook.{IsSound};
-ghost use Rattle.xa_tm.specs.Refusing.{refusal_in_turn};
 
 use crate::change::Change;
 use crate::manager::Manager;
@@ -26,16 +25,13 @@ impl<L: DecisionLog + Drop> Manager<L> {
         requires { IsSound (book_in self.old) }
         // A rule that refuses changes nothing.
         ensures refused { (n : Refusal) →
-            refusal_in_turn (λ g. Steps.Done g) (λ g. Done g)
-            (book_in self.old) gtrids.now ≡ Some n →
+            done_refusal (book_in self.old) gtrids.now ≡ Some n →
             (result ≡ Err n) × (self.new ≡ self.old) }
-        ensures allowed { OnOk result (refusal_in_turn (λ g. Steps.Done g) (λ g. Done g)
-            (book_in self.old) gtrids.now ≡ None) }
+        ensures allowed { OnOk result (done_refusal (book_in self.old) gtrids.now ≡ None) }
         // What the book then says.
         ensures ok { OnOk result (book_in self.new ≡
             after_all (book_in self.old) (map (λ g. Done g) gtrids.now)) }
-        ensures err { refusal_in_turn (λ g. Steps.Done g) (λ g. Done g)
-            (book_in self.old) gtrids.now ≡ None →
+        ensures err { done_refusal (book_in self.old) gtrids.now ≡ None →
             IfErr result (FailsBy (Drops gtrids.now) (InDone gtrids.now)
             (book_in self.old) (book_in self.new)) }
         // What becomes of the log.
@@ -57,8 +53,7 @@ impl<L: DecisionLog + Drop> Manager<L> {
     /// Takes the rows of these transactions away, which no rule refuses.
     fn conclude_done(&mut self, gtrids: &[Gtrid]) -> Result<(), Refusal>
         requires sound { IsSound (book_in self.old) }
-        requires may { refusal_in_turn (λ g. Steps.Done g) (λ g. Done g)
-            (book_in self.old) gtrids.now ≡ None }
+        requires may { done_refusal (book_in self.old) gtrids.now ≡ None }
         // What the book then says.
         ensures ok { OnOk result (book_in self.new ≡
             after_all (book_in self.old) (map (λ g. Done g) gtrids.now)) }

@@ -17,7 +17,8 @@ ghost use Rattle.xa_tm.specs.Answering.{FitsRecord, IsAnswerTo, MakesRecord};
 ghost use Rattle.xa_tm.specs.News.{news_by, recording};
 ghost use Rattle.xa_tm.specs.BookAndLog.{MakesOf, changed_by};
 ghost use Rattle.xa_tm.specs.LedgerBook.{IsSound, doubt_of_change};
-ghost use Rattle.xa_tm.specs.Calls.{AsksFor, FailsBy, book_in, faults_by, log_in};
+ghost use Rattle.xa_tm.specs.Calls.{AsksFor, FailsBy, book_in, log_in};
+ghost use Rattle.xa_tm.specs.LogUse.{UsesLog};
 ghost use Rattle.xa_tm.specs.BookAndLog.{IsTied};
 
 use crate::change::Change;
@@ -64,12 +65,7 @@ impl<L: DecisionLog + Drop> Manager<L> {
             AsksFor (changed_by (doubt_of (record_of c (map_answer name_of answer.now))))
             (L.moment (log_in self.old)) (L.moment (log_in self.new)) result }
         // Of the log after any call, also one that no history knows.
-        ensures order { (L.moment (log_in self.old)).is_in_order →
-            (L.moment (log_in self.new)).is_in_order }
-        ensures honest { (L.moment (log_in self.new)).is_honest →
-            (L.moment (log_in self.old)).is_honest }
-        ensures faults { (L.moment (log_in self.new)).fault_count ≡
-            faults_by result (L.moment (log_in self.old)).fault_count }
+        ensures log { UsesLog (L.moment (log_in self.old)) (L.moment (log_in self.new)) result }
     {
         if !self.ledger.is_up {
             return Err(Refusal::ManagerDown);

@@ -8,7 +8,8 @@ ghost use Rattle.xa_tm.specs.Book.{Doubt.NoDoubt, after};
 ghost use Rattle.xa_log.specs.Contract.{LeavesAlso, Makes, MayMake, faults_after};
 ghost use Rattle.xa_tm.specs.BookAndLog.{FoundIn, IsFound, IsReadFrom};
 ghost use Rattle.xa_tm.specs.LedgerBook.{IsSound};
-ghost use Rattle.xa_tm.specs.Calls.{FailsBy, book_in, faults_by, log_in};
+ghost use Rattle.xa_tm.specs.Calls.{FailsBy, book_in, log_in};
+ghost use Rattle.xa_tm.specs.LogUse.{AsksToRaise};
 ghost use Rattle.xa_tm.specs.BookAndLog.{IsTied};
 
 use crate::manager::Manager;
@@ -52,28 +53,8 @@ impl<L: DecisionLog + Drop> Manager<L> {
             IsTied near (book_in self.new) (L.moment (log_in self.new)).content }
         ensures kept { IfErr result
             (λ n. n ≢ Refusals.LogFault → log_in self.new ≡ log_in self.old) }
-        ensures fault { (L.moment (log_in self.old)).is_in_order →
-            (L.moment (log_in self.new)).is_honest → result ≡ Err Refusals.LogFault →
-            MayMake with_bump (L.moment (log_in self.old)).content
-            (L.moment (log_in self.new)).content }
-        ensures crash { (L.moment (log_in self.old)).is_in_order →
-            (L.moment (log_in self.new)).is_honest →
-            LeavesAlso with_bump (L.moment (log_in self.old)).content
-            (L.moment (log_in self.old)).may_leave (L.moment (log_in self.new)).may_leave }
-        ensures order { (L.moment (log_in self.old)).is_in_order →
-            (L.moment (log_in self.new)).is_in_order }
-        ensures honest { (L.moment (log_in self.new)).is_honest →
-            (L.moment (log_in self.old)).is_honest }
-        // What its log counts.
-        ensures faults { (L.moment (log_in self.old)).is_in_order →
-            (L.moment (log_in self.new)).is_honest →
-            IsTied Bool.true (book_in self.old) (L.moment (log_in self.old)).content →
-            (L.moment (log_in self.new)).fault_count ≡
-            faults_by result (L.moment (log_in self.old)).fault_count }
-        ensures counted { ((L.moment (log_in self.new)).fault_count ≡
-            faults_by result (L.moment (log_in self.old)).fault_count) ⊎
-            ((result ≡ Err Refusals.LogFault) × ((L.moment (log_in self.new)).fault_count ≡
-            (L.moment (log_in self.old)).fault_count)) }
+        ensures log { AsksToRaise (book_in self.old) (L.moment (log_in self.old))
+            (L.moment (log_in self.new)) result }
     {
         if self.ledger.is_up {
             return Err(Refusal::Busy);

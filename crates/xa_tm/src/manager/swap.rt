@@ -1,14 +1,14 @@
 //! The manager's log is taken out while the manager is down, and one with the same rows is put in.
 
-ghost use Rattle.std.specs.Prelude.{◌≡◌, ◌≢◌, ◌⊎◌, Bool, Some, None, IsSome, IsSomeAnd, Err, IfErr, OnOk, OnErr};
-ghost use Rattle.xa_log.specs.Content.{Content, unchanged};
-ghost use Rattle.xa_log.specs.Contract.{Makes, one_more_fault};
+ghost use Rattle.std.specs.Prelude.{◌≡◌, ◌≢◌, ◌⊎◌, Bool, Some, None, IfSome, IsSome, IsSomeAnd, Err, IfErr, OnOk, OnErr};
+ghost use Rattle.xa_log.specs.Content.{unchanged};
+ghost use Rattle.xa_log.specs.Contract.{Makes};
 ghost use Rattle.xa_tm.specs.Begins.{records_begun, rows_begun};
 ghost use Rattle.xa_tm.specs.LedgerBook.{as_book};
 ghost use Rattle.xa_tm.specs.Calls.{book_in, log_in};
-ghost use Rattle.xa_log.specs.declared.log_fault.LogFault.{LogFault};
-ghost use Rattle.xa_tm.specs.Slots.{FailsToRead, LooksAt, ReadsRows, TakesIn, last_out, log_held, slot_moment};
+ghost use Rattle.xa_tm.specs.Slots.{LooksAt, TakesIn, last_out, log_held, slot_moment};
 ghost use Rattle.xa_tm.specs.BookAndLog.{MayHold};
+ghost use Rattle.xa_tm.specs.Swapping.{GivesBack};
 
 use crate::ledger::Ledger;
 use crate::manager::Manager;
@@ -66,24 +66,8 @@ impl<L: DecisionLog + Drop> Manager<Slot<L>> {
             ((book_in self.old).up ≡ Bool.true) ⊎ IsSome (log_held (log_in self.old))) }
         // A fault changes nothing but the log that comes back.
         ensures err { OnErr result (self.new ≡ self.old) }
-        ensures back { IfErr result (λ e. LooksAt (L.moment log) (L.moment e.1)) }
-        // Which fault it is.
-        ensures memory_fault { IfErr result (λ e. e.0 ≡ SwapFault.Memory →
-            ReadsRows L.DecisionLog log e.1 ⊎
-            FailsToRead L.DecisionLog log e.1 LogFault.Memory) }
-        ensures log_cause { IfErr result (λ e. e.0 ≡ SwapFault.Log →
-            ((cause : LogFault) × (cause ≢ LogFault.Memory) ×
-            FailsToRead L.DecisionLog log e.1 cause)) }
-        ensures rows_read { IfErr result (λ e. e.0 ≡ SwapFault.OtherRows →
-            ReadsRows L.DecisionLog log e.1) }
-        ensures log_fault { IfErr result (λ e. e.0 ≡ SwapFault.Log →
-            (L.moment e.1).fault_count ≡ one_more_fault (L.moment log).fault_count) }
-        ensures other_rows { IfErr result (λ e. e.0 ≡ SwapFault.OtherRows →
-            (L.moment e.1).fault_count ≡ (L.moment log).fault_count) }
-        ensures only_other_rows { IfErr result
-            (λ e. e.0 ≡ SwapFault.OtherRows → (L.moment log).is_in_order →
-            (L.moment e.1).is_honest → (c : Content) → (L.moment log).content ≡ Some c →
-            MayHold (book_in self.old) c → ⊥) }
+        ensures back { IfErr result (λ e. GivesBack L.DecisionLog
+            (MayHold (book_in self.old)) log e.0 e.1) }
         // The log is in.
         ensures ok { OnOk result (TakesIn L.DecisionLog log (log_held (log_in self.new))) }
         ensures may_hold { OnOk result ((L.moment log).is_in_order →
@@ -115,22 +99,8 @@ fn swap_fault<L: DecisionLog>(ledger: &Ledger, log: &mut L) -> Option<SwapFault>
     // The log is only read.
     ensures looks { LooksAt (L.moment log.old) (L.moment log.new) }
     ensures not_up { result ≢ Some SwapFault.Up }
-    // Which fault it is.
-    ensures memory_fault { result ≡ Some SwapFault.Memory →
-        ReadsRows L.DecisionLog log.old log.new ⊎
-        FailsToRead L.DecisionLog log.old log.new LogFault.Memory }
-    ensures log_cause { result ≡ Some SwapFault.Log →
-        ((cause : LogFault) × (cause ≢ LogFault.Memory) ×
-        FailsToRead L.DecisionLog log.old log.new cause) }
-    ensures rows_read { result ≡ Some SwapFault.OtherRows →
-        ReadsRows L.DecisionLog log.old log.new }
-    ensures log_fault { result ≡ Some SwapFault.Log →
-        (L.moment log.new).fault_count ≡ one_more_fault (L.moment log.old).fault_count }
-    ensures other_rows { result ≡ Some SwapFault.OtherRows →
-        (L.moment log.new).fault_count ≡ (L.moment log.old).fault_count }
-    ensures only_other_rows { result ≡ Some SwapFault.OtherRows → (L.moment log.old).is_in_order →
-        (L.moment log.new).is_honest → (c : Content) → (L.moment log.old).content ≡ Some c →
-        MayHold (as_book ledger.now) c → ⊥ }
+    ensures some { IfSome result (λ fault. GivesBack L.DecisionLog
+        (MayHold (as_book ledger.now)) log.old fault log.new) }
     ensures ok { result ≡ None → (L.moment log.new).fault_count ≡ (L.moment log.old).fault_count }
 {
     match log.rows() {

@@ -31,7 +31,7 @@ returns-in-Err-clause-given g c content is =
     let old = c.args.system.now in
     let tr = trace_in look old in
     let gave = c.in-Err.ensures in
-    why_not {A = Unit {0}} g.L.DecisionLog.moment tr c.args.left (Err c.in-Err.fault) _ gave.back gave.only_up gave.only_other_rows
+    why_not {A = Unit {0}} g.L.DecisionLog.moment tr c.args.left (Err c.in-Err.fault) _ gave.back.looks gave.only_up gave.back.other
     (not_there_yet g.R.ResourceManager.look g.L.DecisionLog.moment
     (up tr) (log_held old.log) is.down is.out) is.order content is.content
     (λ honest. left_down tr content is.down (c.agree.ensures.parts.log.leaves is.was_in_order is.was_honest content is.leaves))

@@ -5,20 +5,19 @@ use Rattle.xa_base.proofs.Options.{on_ok}
 use Rattle.xa_base.specs.declared.step.Step.TheVariants as Steps
 use Rattle.xa_model.specs.Trace.{Fault.InDecide, Happening.Decided}
 use Rattle.xa_tm.specs.Calls.{book_in, written_by}
+use Rattle.xa_tm.specs.InTurn.{decide_refusal, rows_added}
 use Rattle.xa_serve.proofs.Following.{follows_if_ok}
 use Rattle.xa_serve.proofs.Refusals.{no_fault_in_turn}
 use Rattle.xa_serve.proofs.Sessions.{concluded, concluded_refused, refusal_of_all_is}
 use Rattle.xa_serve.proofs.Turns.{decisions_lead, decisions_may}
 use Rattle.xa_serve.proofs.session.Session.decide_all.Goals as goal
-use Rattle.xa_tm.specs.Book.{rows_for, Doubt.Adds}
-use Rattle.xa_tm.specs.Refusing.{refusal_in_turn}
 
 pub returns-clause-ready : goal.returns-clause-ready
 returns-clause-ready g c =
     let s = c.args.self.now in
     let k = book_in s.manager in
     let gs = c.args.gtrids.now in
-    concluded s _ _ (length gs) (refusal_in_turn (λ g. Steps.Decide g c.args.outcome) (λ g. Decided g c.args.outcome) k gs) (Adds (rows_for k (written_by c.args.outcome k gs)))
+    concluded s _ _ (length gs) (decide_refusal c.args.outcome k gs) (rows_added c.args.outcome k gs)
     (InDecide (written_by c.args.outcome k gs))
     (map (λ g. Decided g c.args.outcome) gs) c.decide_all-reply.result c.requires (sym c.has_room_for.ensures ∙ c.if-not-has_room_for.false)
     (sym (length-map gs (λ g. Decided g c.args.outcome)))
@@ -32,8 +31,8 @@ returns-clause-refused g c = λ n some.
     let s = c.args.self.now in
     let k = book_in s.manager in
     let gs = c.args.gtrids.now in
-    concluded_refused s c.conclude.new.self _ (length gs) (refusal_in_turn (λ g. Steps.Decide g c.args.outcome) (λ g. Decided g c.args.outcome) k gs) _ c.decide_all-reply.result _ n
-    (refusal_of_all_is s (λ g. Steps.Decide g c.args.outcome) (λ g. Decided g c.args.outcome) gs (sym c.has_room_for.ensures ∙ c.if-not-has_room_for.false))
+    concluded_refused s c.conclude.new.self _ (length gs) (decide_refusal c.args.outcome k gs) _ c.decide_all-reply.result _ n
+    (refusal_of_all_is s (decide_refusal c.args.outcome) gs (sym c.has_room_for.ensures ∙ c.if-not-has_room_for.false))
     (no_fault_in_turn (λ g. Steps.Decide g c.args.outcome) (λ g. Decided g c.args.outcome) gs k)
     (record { manager = c.conclude.ensures.manager; lines = c.conclude.ensures.lines; happenings = c.conclude.ensures.happenings })
     c.conclude.ensures.value c.conclude.ensures.monitor c.decide_all-reply.ensures.refused some
@@ -42,7 +41,7 @@ pub returns-clause-follows : goal.returns-clause-follows
 returns-clause-follows g c =
     let s = c.args.self.now in
     let gs = c.args.gtrids.now in
-    follows_if_ok s c.conclude.new.self (refusal_in_turn (λ g. Steps.Decide g c.args.outcome) (λ g. Decided g c.args.outcome) (book_in s.manager) gs)
+    follows_if_ok s c.conclude.new.self (decide_refusal c.args.outcome (book_in s.manager) gs)
     (map (λ g. Decided g c.args.outcome) gs) c.decide_all-reply.new.self c.decide_all-reply.result _ c.conclude.ensures.value c.conclude.ensures.manager
     c.conclude.ensures.lines c.decide_all-reply.ensures.allowed c.decide_all-reply.ensures.ok c.conclude.ensures.monitor
     (decisions_lead s c.conclude.new.self c.args.outcome gs)

@@ -4,6 +4,7 @@ use Rattle.std.proofs.lemmas.List.{length-map}
 use Rattle.xa_base.proofs.Options.{on_ok}
 use Rattle.xa_base.specs.declared.step.Step.TheVariants as Steps
 use Rattle.xa_model.specs.Trace.{Fault.InDone, Happening.Done}
+use Rattle.xa_tm.specs.InTurn.{done_refusal}
 use Rattle.xa_tm.specs.Calls.{book_in}
 use Rattle.xa_serve.proofs.Following.{follows_if_ok}
 use Rattle.xa_serve.proofs.Refusals.{no_fault_in_turn}
@@ -11,14 +12,13 @@ use Rattle.xa_serve.proofs.Sessions.{concluded, concluded_refused, refusal_of_al
 use Rattle.xa_serve.proofs.Turns.{done_lead, done_may}
 use Rattle.xa_serve.proofs.session.Session.done_all.Goals as goal
 use Rattle.xa_tm.specs.Book.{Doubt.Drops}
-use Rattle.xa_tm.specs.Refusing.{refusal_in_turn}
 
 pub returns-clause-ready : goal.returns-clause-ready
 returns-clause-ready g c =
     let s = c.args.self.now in
     let k = book_in s.manager in
     let gs = c.args.gtrids.now in
-    concluded s _ _ (length gs) (refusal_in_turn (λ g. Steps.Done g) (λ g. Done g) k gs) (Drops gs) (InDone gs)
+    concluded s _ _ (length gs) (done_refusal k gs) (Drops gs) (InDone gs)
     (map (λ g. Done g) gs) c.done_all-reply.result c.requires (sym c.has_room_for.ensures ∙ c.if-not-has_room_for.false)
     (sym (length-map gs (λ g. Done g)))
     (record { manager = c.conclude.ensures.manager; lines = c.conclude.ensures.lines; happenings = c.conclude.ensures.happenings }) tt
@@ -31,8 +31,8 @@ returns-clause-refused g c = λ n some.
     let s = c.args.self.now in
     let k = book_in s.manager in
     let gs = c.args.gtrids.now in
-    concluded_refused s c.conclude.new.self _ (length gs) (refusal_in_turn (λ g. Steps.Done g) (λ g. Done g) k gs) _ c.done_all-reply.result _ n
-    (refusal_of_all_is s (λ g. Steps.Done g) (λ g. Done g) gs (sym c.has_room_for.ensures ∙ c.if-not-has_room_for.false))
+    concluded_refused s c.conclude.new.self _ (length gs) (done_refusal k gs) _ c.done_all-reply.result _ n
+    (refusal_of_all_is s done_refusal gs (sym c.has_room_for.ensures ∙ c.if-not-has_room_for.false))
     (no_fault_in_turn (λ g. Steps.Done g) (λ g. Done g) gs k)
     (record { manager = c.conclude.ensures.manager; lines = c.conclude.ensures.lines; happenings = c.conclude.ensures.happenings })
     c.conclude.ensures.value c.conclude.ensures.monitor c.done_all-reply.ensures.refused some
@@ -41,7 +41,7 @@ pub returns-clause-follows : goal.returns-clause-follows
 returns-clause-follows g c =
     let s = c.args.self.now in
     let gs = c.args.gtrids.now in
-    follows_if_ok s c.conclude.new.self (refusal_in_turn (λ g. Steps.Done g) (λ g. Done g) (book_in s.manager) gs)
+    follows_if_ok s c.conclude.new.self (done_refusal (book_in s.manager) gs)
     (map (λ g. Done g) gs) c.done_all-reply.new.self c.done_all-reply.result _ c.conclude.ensures.value c.conclude.ensures.manager
     c.conclude.ensures.lines c.done_all-reply.ensures.allowed c.done_all-reply.ensures.ok c.conclude.ensures.monitor
     (done_lead s c.conclude.new.self gs)

@@ -132,11 +132,11 @@ returns-in-Ok-hear g c tr stands few =
     hear_did see tr p t r stands there none c.in-Some.field-0.now.0 c.in-Some.field-0.now.1 c.heard.new.line c.hear.new.self c.heard.result first did.reply_is
     c.in-Ok-hear.ensures.ok did.heard did.calls
     (record {
-      order = c.in-Ok-hear.ensures.order;
-      honest = c.in-Ok-hear.ensures.honest;
+      order = c.in-Ok-hear.ensures.log.order;
+      honest = c.in-Ok-hear.ensures.log.honest;
       tied = c.in-Ok-hear.ensures.tied;
-      faults = λ o h t. c.in-Ok-hear.ensures.faults;
-      counts = inl c.in-Ok-hear.ensures.faults;
+      faults = λ o h t. c.in-Ok-hear.ensures.log.faults;
+      counts = inl c.in-Ok-hear.ensures.log.faults;
     })
 
 pub returns-in-Err : goal.returns-in-Err

@@ -28,12 +28,12 @@ returns-in-Ok-clause-goes g c tr stands few =
     (λ tr. log_done see.moment {A = Found}
     (Restarted c.in-Ok.field-0.incarnation c.in-Ok.field-0.decisions c.in-Ok.field-0.heuristics) c.in-Ok.field-0 p.manager c.restart.new.self
     (λ n. refl) (ap (λ (k : Book). k.up) c.in-Ok.ensures.ok) (record {
-      order = c.in-Ok.ensures.order;
-      honest = c.in-Ok.ensures.honest;
+      order = c.in-Ok.ensures.log.order;
+      honest = c.in-Ok.ensures.log.honest;
       tied = c.in-Ok.ensures.tied;
-      faults = c.in-Ok.ensures.faults;
+      faults = c.in-Ok.ensures.log.faults;
       counts = restart_counts see.moment {A = Found} (Ok c.in-Ok.field-0) p.manager c.restart.new.self
-          (λ up. (c.in-Ok.ensures.busy up).0) c.in-Ok.ensures.counted;
+          (λ up. (c.in-Ok.ensures.busy up).0) c.in-Ok.ensures.log.counted;
     })) tr
     stands
 
@@ -45,17 +45,17 @@ returns-in-Err-clause-goes g c tr stands few =
     (λ e. (err_is {A = Found} _ _ (c.in-Err.ensures.busy e).0, ap book_in (c.in-Err.ensures.busy e).1)) c.in-Err.ensures.err
     (record {
       called = record {
-        order = c.in-Err.ensures.order;
-        honest = c.in-Err.ensures.honest;
+        order = c.in-Err.ensures.log.order;
+        honest = c.in-Err.ensures.log.honest;
         tied = c.in-Err.ensures.tied;
-        faults = c.in-Err.ensures.faults;
+        faults = c.in-Err.ensures.log.faults;
         counts = restart_counts see.moment {A = Found} (Err c.in-Err.refusal) p.manager c.restart.new.self (λ up. (c.in-Err.ensures.busy up).0)
-            c.in-Err.ensures.counted;
+            c.in-Err.ensures.log.counted;
       };
       kept = c.in-Err.ensures.kept;
-      failed = λ is order honest. c.in-Err.ensures.fault order honest
+      failed = λ is order honest. c.in-Err.ensures.log.fault order honest
           (ap (λ (m : Refusal). let x : Result Found Refusal = Err m in x) is);
-      crash = c.in-Err.ensures.crash;
+      crash = c.in-Err.ensures.log.crash;
     }) tr stands
 
 pub returns-in-Ok-clause-read : goal.returns-in-Ok-clause-read

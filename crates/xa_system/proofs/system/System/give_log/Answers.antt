@@ -16,14 +16,20 @@ use Rattle.xa_tm.specs.BookAndLog.{MayHold}
 use Rattle.xa_tm.proofs.History.HeardAnswers.{if_err}
 use Rattle.xa_system.proofs.system.System.give_log.Goals as goal
 
-pub returns-clause-only_other_rows : goal.returns-clause-only_other_rows
-returns-clause-only_other_rows g c =
+pub returns-clause-back : goal.returns-clause-back
+returns-clause-back g c =
     let see = observes g.R.ResourceManager.look g.L.DecisionLog.moment in
     let tr = trace_in see.look (view_of c.self.inside) in
-    if_err c.give_log-given.result _ _ (λ e only is order honest content held may.
-    only is order honest content held
-    (subst (λ k. MayHold k content) (sym c.self.invariant.stands.book)
-    (rows_may_hold tr content (doubt_is_new_to tr c.self.invariant.stands.kept.run) (subst (λ v. MayHoldRows (trace_in see.look v) content) (sym c.self.view_is) may)))) c.give_log-given.ensures.only_other_rows
+    if_err c.give_log-given.result _ _ (λ e gave. record {
+      looks = gave.looks;
+      memory = gave.memory;
+      log = gave.log;
+      read = gave.read;
+      other = λ is order honest content held may.
+          gave.other is order honest content held
+          (subst (λ k. MayHold k content) (sym c.self.invariant.stands.book)
+          (rows_may_hold tr content (doubt_is_new_to tr c.self.invariant.stands.kept.run) (subst (λ v. MayHoldRows (trace_in see.look v) content) (sym c.self.view_is) may)));
+    }) c.give_log-given.ensures.back
 
 pub invariant_of-self : goal.invariant_of-self
 invariant_of-self g c =

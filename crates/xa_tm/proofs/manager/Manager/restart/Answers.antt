@@ -25,14 +25,23 @@ returns-else-try_restart-clause-tied g c = λ near order honest tied.
     (tied_no_restart near k (g.L.DecisionLog.moment c.args.self.now.log).content new c.if-self.false
     (inr (inr (c.in-Ok-find_and_raise.ensures.ok order honest))) tied)
 
-pub returns-else-try_restart-clause-faults : goal.returns-else-try_restart-clause-faults
-returns-else-try_restart-clause-faults g c = λ order honest tied.
-    let k = as_book c.args.self.now.ledger in
-    let f = c.in-Ok-find_and_raise.found in
-    absurd (never_found k f.incarnation f.decisions f.heuristics
-    (ap (λ b. may_find b f.incarnation f.decisions f.heuristics) (sym c.prepare_restart.ensures.book) ∙ sym c.if-try_restart.ensures.value)
-    (is_found k f.incarnation f.decisions f.heuristics (g.L.DecisionLog.moment c.args.self.now.log).content c.if-self.false
-    (c.in-Ok-find_and_raise.ensures.found order honest) tied))
+pub returns-else-try_restart-clause-log : goal.returns-else-try_restart-clause-log
+returns-else-try_restart-clause-log g c =
+    let raised = c.in-Ok-find_and_raise.ensures in
+    record {
+      fault = λ order honest failed. inr (inr (raised.ok order honest));
+      crash = raised.crash;
+      order = raised.order;
+      honest = raised.honest;
+      faults = λ order honest tied.
+          let k = as_book c.args.self.now.ledger in
+          let f = c.in-Ok-find_and_raise.found in
+          absurd (never_found k f.incarnation f.decisions f.heuristics
+          (ap (λ b. may_find b f.incarnation f.decisions f.heuristics) (sym c.prepare_restart.ensures.book) ∙ sym c.if-try_restart.ensures.value)
+          (is_found k f.incarnation f.decisions f.heuristics (g.L.DecisionLog.moment c.args.self.now.log).content c.if-self.false
+          (raised.found order honest) tied));
+      counted = inr (refl, raised.faults);
+    }
 
 pub returns-in-Err-find_and_raise-clause-tied : goal.returns-in-Err-find_and_raise-clause-tied
 returns-in-Err-find_and_raise-clause-tied g c = λ near order honest tied.
@@ -40,6 +49,3 @@ returns-in-Err-find_and_raise-clause-tied g c = λ near order honest tied.
     let new = (g.L.DecisionLog.moment c.find_and_raise.new.log).content in
     subst (λ b. IsTied near b new) (sym (c.fail_restart.ensures NoDoubt ∙ ap (λ b. book_after b NoDoubt (Failed InRestart)) c.prepare_restart.ensures.book))
     (tied_no_restart near k (g.L.DecisionLog.moment c.args.self.now.log).content new c.if-self.false (c.in-Err-find_and_raise.ensures.err order honest) tied)
-
-pub returns-else-try_restart-clause-fault : goal.returns-else-try_restart-clause-fault
-returns-else-try_restart-clause-fault g c = λ order honest failed. inr (inr (c.in-Ok-find_and_raise.ensures.ok order honest))
