@@ -45,7 +45,7 @@ use Rattle.xa_serve.specs.Following.{AreRight, BookStands, LeadsTo, LeadsByAnswe
 use Rattle.xa_serve.specs.Hearing.{heard_first, with_answer}
 use Rattle.xa_serve.specs.Session.{LetsWait, has_line, known_waiting, line_refusal, recovery_bar, recovery_refusal, with_more}
 use Rattle.xa_serve.specs.declared.session.Session.{Session}
-use Rattle.xa_serve.proofs.Books.{book_goes, refuses_no_more, resolves_alike, resolves_open_alike, up_alike}
+use Rattle.xa_serve.proofs.Books.{book_goes, call_allowed, refuses_no_more, resolves_alike, resolves_open_alike, up_alike}
 use Rattle.xa_serve.proofs.Following.{line_stays}
 use Rattle.xa_serve.proofs.Refusals.{issued_begun}
 use Rattle.xa_tm.specs.Release.{MayFollow}
