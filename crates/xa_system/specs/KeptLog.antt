@@ -13,7 +13,7 @@ use Rattle.xa_tm.specs.Slots.{log_held}
 use Rattle.xa_tm.specs.Starting.{IsPast}
 
 -- a system was made over this log
-pub record BeginsOver {R L : Type 0} (see : Observes R L) (log : L) (system : SystemView R L) : Type 0 where
+pub record IsMadeOver {R L : Type 0} (see : Observes R L) (log : L) (system : SystemView R L) : Type 0 where
   -- it is the log that was handed in first and last, the manager began over it, and it is held
   pub handed : system.handed ≡ log
   pub first : system.first ≡ log

@@ -1,5 +1,5 @@
 -- What a resource manager holds, as the history knows it.
-use Rattle.std.specs.Prelude.{◌≡◌, ◌≤◌, ◌⊎◌, ℕ, Contains, List, None}
+use Rattle.std.specs.Prelude.{◌≡◌, ◌≤◌, ◌⊎◌, ℕ, Contains, None}
 use Rattle.std.specs.Option.{option_map}
 use Rattle.xa_base.specs.Branch.{IsBranch, branch_of_xid, xid_of_branch}
 use Rattle.xa_model.specs.Facts as facts

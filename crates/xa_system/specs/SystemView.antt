@@ -12,8 +12,6 @@ use Rattle.xa_base.specs.Recover.{IsInDoubtList}
 use Rattle.xa_base.specs.declared.branch.Branch.{Branch}
 use Rattle.xa_rm.specs.ResourceManager.{HoldsFormat, HoldsNewer, HoldsNoFormat, HoldsPast}
 use Rattle.xa_system.specs.declared.site.Site.{Site}
-use Rattle.xa_base.specs.HeldBranch.{HeldBranch}
-use Rattle.xa_base.specs.Scan.{Scan}
 use Rattle.xa_log.specs.Content.{Content}
 use Rattle.xa_log.specs.Contract.{Honestly, Moment}
 use Rattle.xa_base.specs.declared.refusal.Refusal.TheVariants as Refusals

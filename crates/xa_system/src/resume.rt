@@ -3,7 +3,7 @@ ghost use Rattle.std.specs.Prelude.{◌≡◌, ◌≤◌, true, false, [], lengt
 ghost use Rattle.xa_model.specs.Promises.Processes.{Resumes};
 ghost use Rattle.xa_model.specs.Protocol.{RightOrigin};
 ghost use Rattle.xa_model.specs.Trace.{Trace};
-ghost use Rattle.xa_system.specs.KeptLog.{BeginsOver};
+ghost use Rattle.xa_system.specs.KeptLog.{IsMadeOver};
 ghost use Rattle.xa_system.specs.NextProcess.{FindsNewer, Leaves};
 ghost use Rattle.xa_system.specs.StartFaults.{IsToBlame};
 ghost use Rattle.xa_system.specs.Steps.{AreCrashed};
@@ -88,7 +88,7 @@ impl<R: ResourceManager + Drop, L: DecisionLog + Drop> System<R, L> {
             IfOk result (λ system. (slot_moment L.moment system.log).is_honest →
             IsSomeAnd (L.moment log).content (λ content. (past : Trace) →
             Leaves R.look past rms.items content → Resumes past (origin_in R.look system))) }
-        ensures log { IfOk result (BeginsOver (observes R.look L.moment) log) }
+        ensures log { IfOk result (IsMadeOver (observes R.look L.moment) log) }
     {
         if threads == 0 || threads > 8 || rms.is_empty() || rms.len() > 8 {
             return Err(ResumeFault::Limit);

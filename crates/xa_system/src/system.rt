@@ -82,7 +82,7 @@ impl<R: ResourceManager + Drop, L: DecisionLog + Drop> System<R, L> {
     ghost use Rattle.xa_model.specs.Promises.Processes.{Resumes, resumed};
     ghost use Rattle.xa_model.specs.Protocol.{AllRight, RightOrigin};
     ghost use Rattle.xa_model.specs.Trace.{Trace};
-    ghost use Rattle.xa_system.specs.KeptLog.{BeginsOver};
+    ghost use Rattle.xa_system.specs.KeptLog.{IsMadeOver};
     ghost use Rattle.xa_system.specs.SystemView.{HasWrongSize, HoldsItsTrace, observes, origin_in};
     ghost use Rattle.xa_system.specs.declared.system.TheConstants.{EVENT_LIMIT};
     ghost use Rattle.xa_tm.specs.Slots.{log_held, slot_moment};
@@ -107,7 +107,7 @@ impl<R: ResourceManager + Drop, L: DecisionLog + Drop> System<R, L> {
             × (system.rms ≡ rms.items) × (system.lines.threads ≡ threads) × HoldsItsTrace
             (observes R.look L.moment) system) }
         ensures right { IfOk result (λ system. RightOrigin (origin_in R.look system)) }
-        ensures log { IfOk result (BeginsOver (observes R.look L.moment) log) }
+        ensures log { IfOk result (IsMadeOver (observes R.look L.moment) log) }
     {
         if threads == 0 || threads > 8 || rms.is_empty() || rms.len() > 8 {
             return Err(NewFault::Limit);

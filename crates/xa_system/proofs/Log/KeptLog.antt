@@ -1,5 +1,5 @@
 -- The log that was handed in last is kept over many steps.
-use Rattle.std.proofs.Common.{◌≡◌, ◌∷◌, ◌++◌, List, [], inr, refl, sym, subst, ◌∙◌, arith}
+use Rattle.std.proofs.Common.{◌≡◌, ◌∷◌, ◌++◌, [], inr, refl, sym, subst, ◌∙◌, arith}
 use Rattle.xa_base.specs.declared.reply.Event.{Event}
 use Rattle.xa_system.specs.KeptLog.{KeepsItsLog}
 use Rattle.xa_system.specs.SystemView.{Observes, SystemView}

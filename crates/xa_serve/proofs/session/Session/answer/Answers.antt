@@ -42,11 +42,16 @@ returns-in-Some-unexplained-clause-unexplained g c = λ b e.
     let waits : slice_get (line_at s.lines t r).calls.waiting 0 ≡ Some c.copy-call.result =
     ap (λ (l : Traffic). slice_get l.calls.waiting 0) (sym c.line.ensures.value) ∙ sym c.front.ensures ∙ ap option_copied c.in-Some-front.is
     ∙ ap (λ k. Some k) (sym c.copy-call.ensures)
-    in
-    ((λ explains.
-    subst (λ q. CanExplain (states_of s.monitor) (line t r) knows.0 (map_answer name_of c.args.answer) q → ⊥) same
-    (c.in-Some-unexplained.ensures.some t knows.0 knows.1)
-    (explains knows.0 (waiting_known s.lines t r c.copy-call.result may.there waits ∙ knows.1))), refl)
+    in (
+      (λ explains.
+          subst (λ q. CanExplain (states_of s.monitor) (line t r) knows.0 (map_answer name_of c.args.answer) q → ⊥) same
+          (c.in-Some-unexplained.ensures.some t knows.0 knows.1)
+          (explains knows.0 (waiting_known s.lines t r c.copy-call.result may.there waits ∙ knows.1))),
+      refl,
+    )
+
+pub returns-in-Some-unexplained-clause-explained : goal.returns-in-Some-unexplained-clause-explained
+returns-in-Some-unexplained-clause-explained g c = λ fit not. absurd (not c.in-Some-unexplained.b refl)
 
 pub returns-in-Ok-hear-clause-explained : goal.returns-in-Ok-hear-clause-explained
 returns-in-Ok-hear-clause-explained g c = λ fit not q some d is.

@@ -3,7 +3,7 @@ use Rattle.xa_model.specs.Promises.Headline.{Headline, HeadlineSince}
 use Rattle.xa_model.specs.Promises.Processes.{Resumes, resumed}
 use Rattle.xa_model.specs.Protocol.{AllRight, RightOrigin}
 use Rattle.xa_model.specs.Trace.{Trace}
-use Rattle.xa_system.specs.SystemView.{HoldsItsTrace, Observes, observes, origin_in, view_of}
+use Rattle.xa_system.specs.SystemView.{HoldsItsTrace, observes, origin_in, view_of}
 use Rattle.xa_system.proofs.Histories.SystemView.{holds}
 use Rattle.xa_system.proofs.system.System.agree.Goals as goal
 

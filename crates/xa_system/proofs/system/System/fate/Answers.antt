@@ -1,6 +1,6 @@
 use Rattle.std.proofs.Common.{◌≡◌, sym, subst, ◌∙◌}
 use Rattle.xa_model.specs.Facts.{fate}
-use Rattle.xa_system.specs.SystemView.{Observes, observes, trace_in}
+use Rattle.xa_system.specs.SystemView.{observes, trace_in}
 use Rattle.xa_system.proofs.Histories.SystemView.{fate_is}
 use Rattle.xa_system.proofs.Histories.Standing.{site_read}
 use Rattle.xa_system.proofs.system.System.fate.Goals as goal

@@ -9,7 +9,7 @@ use Rattle.xa_tm.specs.Calls.{book_in, log_in}
 use Rattle.xa_tm.specs.Slots.{TakesIn, honest_in, last_out, log_held, order_in, slot_moment}
 use Rattle.xa_tm.specs.declared.slot.Slot.{Slot}
 use Rattle.xa_system.specs.LogInHistory.{MayHoldRows}
-use Rattle.xa_system.specs.SystemView.{Observes, observes, view_of, trace_in}
+use Rattle.xa_system.specs.SystemView.{observes, view_of, trace_in}
 use Rattle.xa_model.proofs.AgreementLemmas.Distinct.{doubt_is_new_to}
 use Rattle.xa_system.proofs.Log.Laws.{rows_may_hold}
 use Rattle.xa_tm.specs.BookAndLog.{MayHold}

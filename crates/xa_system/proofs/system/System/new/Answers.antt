@@ -1,7 +1,7 @@
 use Rattle.std.proofs.Common.{◌<◌, arith, map, refl, sym, ap, subst, ◌∙◌}
 use Rattle.xa_line.specs.Grid.{Grid}
 use Rattle.xa_system.specs.declared.site.Site.{Site}
-use Rattle.xa_system.specs.SystemView.{Observes, observes}
+use Rattle.xa_system.specs.SystemView.{observes}
 use Rattle.xa_system.proofs.Histories.Start.{back_again, new_may_restart, new_sound, not_both, origin_same, starts_clear, starts_old, starts_right, starts_up}
 use Rattle.xa_model.specs.Protocol.{RightOrigin}
 use Rattle.xa_system.specs.Parts.{Sees, sees}

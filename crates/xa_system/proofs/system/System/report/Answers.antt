@@ -1,5 +1,5 @@
 use Rattle.std.proofs.Common.{◌<◌, ◌≤◌, arith, length, rules}
-use Rattle.xa_system.specs.SystemView.{Observes, observes, trace_in}
+use Rattle.xa_system.specs.SystemView.{observes, trace_in}
 use Rattle.xa_system.proofs.Histories.Report.{one_more, own_at, told, told_in_order}
 use Rattle.xa_system.proofs.system.System.report.Goals as goal
 
