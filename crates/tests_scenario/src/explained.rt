@@ -1,6 +1,6 @@
 //! What the rows of a log ask of an operator, as text.
 
-use crate::logs::{FIRST, LATER, OF_LATER_START, branch, full_log, written};
+use crate::logs::{FIRST, LATER, OF_LATER_START, branch, full_log};
 use std::alloc::Global;
 use std::test::Fail;
 use xa_base::How;
@@ -58,7 +58,9 @@ fn other_log(alloc: Global) -> Result<MemLog, LogFault> {
 
 /// What is told of a log, or the fault of it.
 fn told_of<L: DecisionLog>(alloc: Global, log: &mut L) -> Result<String, RunFault> {
-    written(alloc, |out| explain_log(log, out))
+    let mut out = Vec::new(alloc);
+    explain_log(log, &mut out)?;
+    String::from_utf8(out).map_err(|_| RunFault::Output)
 }
 
 #[test]

@@ -64,19 +64,11 @@ pub(crate) fn full_log(alloc: Global) -> Result<MemLog, LogFault> {
     Ok(log)
 }
 
-/// The text that is written, or the fault of it.
-pub(crate) fn written<F: FnOnce(&mut Vec<u8>) -> Result<(), RunFault>>(
-    alloc: Global,
-    write: F,
-) -> Result<String, RunFault> {
-    let mut out = Vec::new(alloc);
-    write(&mut out)?;
-    String::from_utf8(out).map_err(|_| RunFault::Output)
-}
-
 /// The list of a log, or the fault of it.
 fn list_of<L: DecisionLog>(alloc: Global, log: &mut L) -> Result<String, RunFault> {
-    written(alloc, |out| list_log(log, out))
+    let mut out = Vec::new(alloc);
+    list_log(log, &mut out)?;
+    String::from_utf8(out).map_err(|_| RunFault::Output)
 }
 
 #[test]

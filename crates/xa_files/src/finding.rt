@@ -1,4 +1,4 @@
-//! What is wrong with a table, and what is allowed there.
+//! What is wrong with a table of a file.
 
 use toml::Value;
 use xa_base::CallKind;
