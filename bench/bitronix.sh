@@ -13,12 +13,15 @@ if has "a Java development kit" default-jdk command -v javac &&
     sides=2
 fi
 
-# bitronix JOURNAL TRANSACTIONS: its figures at 1 and at 4 threads, where it is there.
+# bitronix JOURNAL TRANSACTIONS THREADS..: its figures at so many threads each time, where it is there.
 bitronix() {
     [ "$sides" = 2 ] || return 0
-    for threads in 1 4; do
+    journal=$1
+    transactions=$2
+    shift 2
+    for threads; do
         mkdir "$work/journal"
-        java -cp "$classes:$work" Bitronix "$1" "$threads" "$2" "$work/journal" > "$work/printed"
+        java -cp "$classes:$work" Bitronix "$journal" "$threads" "$transactions" "$work/journal" > "$work/printed"
         rm -r "$work/journal"
         awk -v threads="$threads" '$1 == "warm" { warm = $2 } $1 == "cold" { cold = $2 }
             END { print "threads: " threads "|Bitronix, warm|" warm; print "threads: " threads "|Bitronix, cold|" cold }' \

@@ -16,7 +16,7 @@ has() {
     package=$2
     shift 2
     if ! "$@" > /dev/null 2>&1; then
-        echo "bench/run: $what is missing (of Debian the package $package), so ours runs alone" >&2
+        echo "bench/run: $what is missing (of Debian the package $package), so what needs it isn't measured" >&2
         return 1
     fi
 }
@@ -59,6 +59,13 @@ on_disk() {
         tmpfs | ramfs) stop "the temporary folder $work is in memory ($kind); set TMPDIR to a folder on a disk" ;;
     esac
     echo "files lie in $work, on a file system $kind"
+}
+
+# disk_rate: how many commits a second the disk takes, of the bytes that a commit of the log writes to its journal, in as many
+# writes. The C compiler has to be there.
+disk_rate() {
+    [ -x "$work/sync" ] || cc -O2 -o "$work/sync" bench/sync.c
+    "$work/sync" "$work/file" 5000 3 20609
 }
 
 # micros COMMAND..: the microseconds that a command takes. What it prints goes to $work/printed.

@@ -1,4 +1,5 @@
-# Commits a second of the decision log, in memory and in a file, beside the C library sqlite3 with the same rows.
+# Commits a second of the decision log, in memory and in a file, beside the C library sqlite3 with the same rows, and beside
+# programs that do a part of it and of which nothing is proved.
 
 # by_place WHO FILE: the figures of a program that tells its commits a second, and where.
 by_place() {
@@ -6,15 +7,23 @@ by_place() {
         / commits a second in a file$/ { print "in a file|" who "|" $1 }' "$2"
 }
 
-figures() {
+# commits WHO COMMAND..: the figures of a command that commits, in a new file.
+commits() {
+    who=$1
+    shift
     mkdir "$work/logs"
-    crates/benches/out/benches log time "$work/logs/ours.db" > "$work/ours"
-    by_place ours "$work/ours"
-    if [ "$sides" = 2 ]; then
-        "$work/sqlite3_commits" "$work/logs/library.db" > "$work/library"
-        by_place "sqlite3 in C" "$work/library"
-    fi
+    "$@" "$work/logs/log.db" > "$work/commits"
     rm -r "$work/logs"
+    by_place "$who" "$work/commits"
+}
+
+figures() {
+    commits ours crates/benches/out/benches log time
+    if [ "$sides" = 2 ]; then commits "sqlite3 in C" "$work/sqlite3_commits"; fi
+    commits "the crate sqlite alone" crates/benches/out/benches sql time
+    if [ "$sides" = 2 ]; then
+        echo "in a file|the disk alone|$(disk_rate)"
+    fi
 }
 
 on_disk
@@ -24,4 +33,4 @@ if has "the C compiler cc" gcc command -v cc &&
     cc -O2 -o "$work/sqlite3_commits" bench/sqlite3_commits.c -lsqlite3
     sides=2
 fi
-show $((2 * sides)) "commits a second"
+show $((4 + 3 * (sides - 1))) "commits a second"

@@ -1,5 +1,6 @@
 /* How many hops a second two rings carry: a call goes over one and is taken, and its answer comes back over the other. They
-   have the places and the bytes of a line, and do nothing else: no call is looked at and no state is kept. */
+   have the places and the bytes of a line, and do nothing else: no call is looked at and no state is kept. An item is
+   published by a release, or, with -DPUBLISHED=memory_order_seq_cst, by the order that a line's rings have. */
 #include <pthread.h>
 #include <sched.h>
 #include <stdatomic.h>
@@ -8,6 +9,10 @@
 #include <stdlib.h>
 #include <string.h>
 #include <time.h>
+
+#ifndef PUBLISHED
+#define PUBLISHED memory_order_release
+#endif
 
 enum { HOPS = 3000000, PLACES = 64, CALL_BYTES = 152, ANSWERED_BYTES = 184, APART = 128 };
 
@@ -34,7 +39,7 @@ typedef struct { char bytes[ANSWERED_BYTES]; } answered;
             if (at - ring->seen_popped == PLACES) return false;                                                \
         }                                                                                                      \
         ring->places[at % PLACES] = *from;                                                                     \
-        atomic_store_explicit(&ring->pushed, at + 1, memory_order_release);                                    \
+        atomic_store_explicit(&ring->pushed, at + 1, PUBLISHED);                                               \
         return true;                                                                                           \
     }                                                                                                          \
                                                                                                                \
@@ -45,7 +50,7 @@ typedef struct { char bytes[ANSWERED_BYTES]; } answered;
             if (at == ring->seen_pushed) return false;                                                         \
         }                                                                                                      \
         *to = ring->places[at % PLACES];                                                                       \
-        atomic_store_explicit(&ring->popped, at + 1, memory_order_release);                                    \
+        atomic_store_explicit(&ring->popped, at + 1, PUBLISHED);                                               \
         return true;                                                                                           \
     }
 

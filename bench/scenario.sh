@@ -1,7 +1,7 @@
 # Milliseconds of `xatm run`, with the start of the program and the reading of the file, for scenarios of 10,000 events, which
 # is the most that one may have, and of a quarter and a half of them.
 
-target=50
+target=40
 
 # took FILE WORDS..: the milliseconds of a run of the file, over a new log where the words name one.
 took() {

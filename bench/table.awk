@@ -1,5 +1,5 @@
 # Prints the lines 'CASE|WHO|FIGURE' of some runs as a table: a row for each who of a case, a column for each run, and the
-# middle of them. Below the second row of a case stands the first divided by the second, run by run.
+# middle of them. Below each row of a case but the first stands the first divided by it, run by run, unless it ends in ', cold'.
 
 # 1234567 as 1,234,567; and 12.34 as 12.3.
 function shown(figure,   text, groups) {
@@ -51,8 +51,8 @@ END {
         for (w = 1; w <= whos[name]; w++) {
             for (run = 1; run <= runs; run++) row[run] = figure[name, who[name, w], run]
             print_row(who[name, w], 0)
-            if (w != 2) continue
-            for (run = 1; run <= runs; run++) row[run] = figure[name, who[name, 1], run] / figure[name, who[name, 2], run]
+            if (w == 1 || who[name, w] ~ /, cold$/) continue
+            for (run = 1; run <= runs; run++) row[run] = figure[name, who[name, 1], run] / figure[name, who[name, w], run]
             print_row("ratio", 1)
         }
     }

@@ -1,5 +1,6 @@
 # Two-phase commits a second of `xatm threads --log` over a new log in a file, with the start of the program and the reading of
-# the jobs, beside Bitronix with its journal on the same disk. Both force each decision to the disk.
+# the jobs, beside Bitronix with its journal on the same disk. Both force each decision to the disk. Below stands what of the
+# log a program does of which nothing is proved, where each transaction of the database has a decision of each thread.
 
 figures() {
     for threads in 1 2 4 8; do
@@ -9,12 +10,24 @@ figures() {
         rm -r "$work/log"
         echo "threads: $threads|ours|$((jobs * 1000000 / took))"
     done
-    bitronix disk "${BENCH_TRANSACTIONS:-3000}"
+    bitronix disk "${BENCH_TRANSACTIONS:-3000}" 1 4 8
+    mkdir "$work/log"
+    crates/benches/out/benches sql groups "$work/log/log.db" > "$work/printed"
+    rm -r "$work/log"
+    awk '/ decisions a second, [0-9]+ a transaction$/ { print "threads: " $(NF - 2) "|the crate sqlite alone|" $1 }' \
+        "$work/printed"
+    if [ "$compiled" = 1 ]; then
+        rate=$(disk_rate)
+        for threads in 1 2 4 8; do echo "threads: $threads|the disk alone|$((threads * rate))"; done
+    fi
 }
 
 on_disk
 ./xatm --help > /dev/null
+build benches
 . bench/bitronix.sh
+compiled=0
+if has "the C compiler cc" gcc command -v cc; then compiled=1; fi
 jobs=1000
 for threads in 1 2 4 8; do
     {
@@ -23,4 +36,4 @@ for threads in 1 2 4 8; do
 votes = ["ok", "ok"]' | head -n $((2 * jobs))
     } > "$work/$threads.toml"
 done
-show $((4 * sides)) "two-phase commits a second, log in a file"
+show $((8 + 6 * (sides - 1) + 4 * compiled)) "two-phase commits a second, log in a file"

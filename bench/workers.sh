@@ -3,7 +3,7 @@
 figures() {
     crates/benches/out/benches workers time > "$work/ours"
     awk '/ threads, log in memory: [0-9]+ a second$/ { print "threads: " $1 "|ours|" $(NF - 2) }' "$work/ours"
-    bitronix null "${BENCH_TRANSACTIONS:-100000}"
+    bitronix null "${BENCH_TRANSACTIONS:-100000}" 1 4
 }
 
 build benches

@@ -3,41 +3,47 @@
 
 use crate::hops::{hops_between_threads, hops_in_one_thread};
 use std::thread::Threads;
-use std::time::Instant;
+use std::time::{Duration, Instant};
 use xa_base::{Branch, Call, Gtrid};
 use xa_line::Line;
 
-/// How many hops are made, and how many where they are timed.
-const HOPS: u32 = 200_000;
+/// How many hops are made.
+pub(crate) fn hop_count(timed: bool) -> u32 {
+    if timed { 3_000_000 } else { 200_000 }
+}
 
-const TIMED_HOPS: u32 = 3_000_000;
-
-/// Prints how many hops were made in one thread, and how many between two. Where they are timed it also prints how many they
-/// are a second, and makes more of them, so that the figures are steady.
+/// Makes hops in one thread, and between two. Where they are timed it makes more of them, so that the figures are steady.
 pub(crate) fn show<T: Threads>(rt: &HostRuntime, threads: &T, timed: bool) -> anyhow::Result<()> {
-    let hops = if timed { TIMED_HOPS } else { HOPS };
+    let hops = hop_count(timed);
     let mut line = Line::new(rt.alloc())?;
     line.issue(Call::OpenRm)?;
     let _open = line.take();
     let start = Instant::now(rt)?;
-    let alone = hops_in_one_thread(&mut line, prepare(), hops);
-    let alone_micros = start.elapsed(rt)?.as_micros();
+    let made = hops_in_one_thread(&mut line, prepare(), hops);
+    show_hops(rt, "in one thread", made, timed, start.elapsed(rt)?)?;
     let start = Instant::now(rt)?;
-    let between = hops_between_threads(threads, line, prepare(), hops);
-    let between_micros = start.elapsed(rt)?.as_micros();
-    println!(rt; "{alone} hops in one thread")?;
+    let made = hops_between_threads(threads, line, prepare(), hops);
+    show_hops(rt, "between two threads", made, timed, start.elapsed(rt)?)
+}
+
+/// Prints how many hops were made, and how many they are a second where they are timed.
+pub(crate) fn show_hops(
+    rt: &HostRuntime,
+    place: &str,
+    hops: u32,
+    timed: bool,
+    took: Duration,
+) -> anyhow::Result<()> {
+    println!(rt; "{hops} hops {place}")?;
     if timed {
-        println!(rt; "{} a second", a_second(alone, alone_micros))?;
-    }
-    println!(rt; "{between} hops between two threads")?;
-    if timed {
-        println!(rt; "{} a second", a_second(between, between_micros))?;
+        let a_second = u128::from(hops) * 1_000_000 / took.as_micros().max(1);
+        println!(rt; "{a_second} a second")?;
     }
     Ok(())
 }
 
 /// The call that is made: an xa_prepare.
-fn prepare() -> Call {
+pub(crate) fn prepare() -> Call {
     let branch = Branch {
         gtrid: Gtrid {
             incarnation: 1,
@@ -47,9 +53,4 @@ fn prepare() -> Call {
         rm: 0,
     };
     Call::Prepare { xid: branch.xid() }
-}
-
-/// How many hops a second these are.
-fn a_second(hops: u32, micros: u128) -> u128 {
-    u128::from(hops) * 1_000_000 / micros.max(1)
 }

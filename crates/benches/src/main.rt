@@ -1,10 +1,12 @@
 //! The benchmarks, each by its name: `benches NAME [time]`. With `time` they print their figures, of which nothing is claimed.
 //! Without a name all of them run without times, and print what they counted.
 //!
-//! - `line`: calls that go over a line and come back answered;
+//! - `line`: calls that go over a line and come back answered; `rings`: the same over two rings of the crate rtrb alone;
 //! - `log`: commits of the decision log. `log time [PATH]` measures in memory and in the new file at PATH; `log write PATH`
 //!   makes a log at PATH with a few rows of each kind; `log read PATH` prints the rows of the log at PATH, whose incarnation it
 //!   raises by one;
+//! - `sql`: the same commits by the crate sqlite alone. `sql time [PATH]` measures as `log time` does, `sql groups PATH` in the
+//!   new file at PATH with several decisions in a transaction;
 //! - `scan`: recovery pages of a resource manager with few branches and with many;
 //! - `steps`: steps of a system with few transactions and with many;
 //! - `workers`: jobs that worker threads commit;
@@ -15,7 +17,9 @@
 mod hops;
 mod line;
 mod log;
+mod rtrb_alone;
 mod scan;
+mod sqlite_alone;
 mod steps;
 mod stress;
 mod workers;
@@ -33,7 +37,9 @@ fn main(rt: HostRuntime) -> anyhow::Result<()> {
     let timed = command == Some("time");
     match words.get(1).map(|word| word.as_str()) {
         Some("line") => line::show(&rt, &rt, timed),
+        Some("rings") => rtrb_alone::show(&rt, &rt, timed),
         Some("log") => log::run(&rt, command, path),
+        Some("sql") => sqlite_alone::run(&rt, command, path),
         Some("scan") => scan::show(&rt, timed),
         Some("steps") => steps::show(&rt, timed),
         Some("workers") => workers::show(&rt, &rt, timed),
@@ -47,7 +53,9 @@ fn main(rt: HostRuntime) -> anyhow::Result<()> {
         Some(name) => bail!("there is no benchmark {name}"),
         None => {
             line::show(&rt, &rt, false)?;
+            rtrb_alone::show(&rt, &rt, false)?;
             log::run(&rt, None, None)?;
+            sqlite_alone::run(&rt, None, None)?;
             scan::show(&rt, false)?;
             steps::show(&rt, false)?;
             workers::show(&rt, &rt, false)
