@@ -1,4 +1,4 @@
-//! What is wrong with a table of a file.
+//! What is wrong with a table, and what is allowed there.
 
 use toml::Value;
 use xa_base::CallKind;
