@@ -60,7 +60,7 @@ impl<L: DecisionLog + Drop> Manager<Slot<L>> {
         // Where no log can be put in, the one handed in isn't looked at.
         ensures up { (book_in self.old).up ≡ Bool.true → (result ≡ Err (SwapFault.Up, log)) ×
             (self.new ≡ self.old) }
-        ensures as_book { IsSome (log_held (log_in self.old)) → (result ≡ Err (SwapFault.Up, log)) ×
+        ensures held { IsSome (log_held (log_in self.old)) → (result ≡ Err (SwapFault.Up, log)) ×
             (self.new ≡ self.old) }
         ensures only_up { IfErr result (λ e. e.0 ≡ SwapFault.Up →
             ((book_in self.old).up ≡ Bool.true) ⊎ IsSome (log_held (log_in self.old))) }
