@@ -12,7 +12,7 @@ returns-in-Ok-clause-restarted g c content is =
     let did = c.step.ensures in
     not_blamed g.R.ResourceManager.look g.L.DecisionLog c.args.system.now
     c.give_log.new.self c.step.new.self c.args.left content _
-    c.step.result gave.others gave.ok is.order is.content (is.near content is.leaves) did.full did.adds did.honest did.faults
+    c.step.result gave.others gave.ok is.order is.content (is.near content is.leaves) did.full did.adds did.log.honest did.log.faults
 
 pub returns-in-Ok-clause-honest : goal.returns-in-Ok-clause-honest
 returns-in-Ok-clause-honest g c honest =
