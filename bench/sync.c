@@ -38,7 +38,8 @@ static int file_with_room(const char *path) {
 
 int main(int count, char **words) {
     if (count != 5) {
-        fprintf(stderr, "sync PATH COMMITS WRITES BYTES: commits of so many bytes in so many writes\n");
+        fprintf(stderr, "sync PATH COMMITS WRITES BYTES: "
+                        "commits of so many bytes in so many writes\n");
         return 2;
     }
     int commits = atoi(words[2]), writes = atoi(words[3]), size = atoi(words[4]);
