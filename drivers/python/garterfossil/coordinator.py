@@ -152,10 +152,7 @@ class Coordinator:
 
     def wait(self, reply: Reply) -> str:
         """The reply to a request that was posted. Raises Refused, RequestError or CoordinatorGone."""
-        if reply.line is None:
-            with self._writing:
-                self._write(self._process.stdin.flush)
-            self._read_until(reply)
+        self.arrive(reply)
         kind, _, rest = reply.line.partition(" ")
         if kind == "error":
             error = Unexplained if reply.line == UNEXPLAINED else RequestError
@@ -166,6 +163,13 @@ class Coordinator:
                 raise self._gone(f"its log failed: refused {rest}")
             raise Refused(int(number), name, reply.request)
         return reply.line
+
+    def arrive(self, reply: Reply) -> None:
+        """Waits until a reply has come, whatever it is, and with it those to all requests before. Raises CoordinatorGone."""
+        if reply.line is None:
+            with self._writing:
+                self._write(self._process.stdin.flush)
+            self._read_until(reply)
 
     def _write(self, write: Callable[..., object], *line: bytes) -> None:
         """Requests are written whole, or the session is over: the replies would no longer fit the requests."""

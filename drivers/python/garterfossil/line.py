@@ -153,6 +153,8 @@ class Line:
         due, self._replies = self._replies[: self._due], self._replies[self._due :]
         self._due = 0
         try:
+            if due:
+                self._coordinator.arrive(due[-1])
             for reply in due:
                 self._coordinator.wait(reply)
         except BaseException:

@@ -169,7 +169,7 @@ class Transactions(unittest.TestCase):
     # ** recovery
 
     def test_a_database_that_goes_down_behind_the_decision(self):
-        with self.manager(patience=0.2) as xa:
+        with self.manager(patience=1.0) as xa:
             with xa.transaction() as t:
                 t[0].execute("take")
                 t[1].execute("give")
