@@ -5,6 +5,7 @@ import os
 import pwd
 import shutil
 import signal
+import socket
 import subprocess
 import sys
 import time
@@ -55,8 +56,17 @@ def processes_of(parent):
     return found
 
 
+def free_port():
+    """A port of TCP that nobody listens on."""
+    with socket.socket() as it:
+        it.bind(("127.0.0.1", 0))
+        return it.getsockname()[1]
+
+
 class Server:
-    """A server, in a folder of its own."""
+    """A server, in a folder of its own. It listens on a socket there, and on a port only where it is given one."""
+
+    port = None
 
     def __init__(self, home, name):
         self.name = name
@@ -99,6 +109,12 @@ class Server:
             self.process.send_signal(self.STOP)
             self.process.wait()
 
+    def restart(self, port):
+        """Stops it, and starts it again, on a port or without one."""
+        self.stop()
+        self.port = port
+        self.start()
+
 
 class PostgreSQLServer(Server):
     PROGRAMS = ["initdb", "postgres", "pg_isready"]
@@ -110,23 +126,28 @@ class PostgreSQLServer(Server):
         run([binary("initdb"), "-D", f"{self.home}/data", "-A", "trust", "-U", "xa", "--no-sync", "-E", "UTF8", "--locale=C"], cwd=self.home)
         with open(f"{self.home}/data/postgresql.conf", "a") as it:
             it.write(
-                f"listen_addresses = ''\nunix_socket_directories = '{self.home}'\nmax_connections = 40\n"
+                f"unix_socket_directories = '{self.home}'\nmax_connections = 40\n"
                 "max_prepared_transactions = 64\nshared_buffers = 32MB\nmax_wal_size = 256MB\nautovacuum = off\n"
                 "max_parallel_workers = 0\njit = off\n"
             )
 
     def words(self):
-        return [binary("postgres"), "-D", f"{self.home}/data"]
+        network = ["-c", "listen_addresses="] if self.port is None else ["-c", "listen_addresses=127.0.0.1", "-p", str(self.port)]
+        return [binary("postgres"), "-D", f"{self.home}/data", *network]
 
     def answers(self):
-        words = [binary("pg_isready"), "-q", "-h", self.home, "-U", "xa", "-d", "postgres"]
+        words = [binary("pg_isready"), "-q", "-h", self.home, "-p", str(self.port or 5432), "-U", "xa", "-d", "postgres"]
         return subprocess.run(words, **as_server_user()).returncode == 0
 
     def database(self):
         """What the driver is given for it."""
         from garterfossil.adapters.postgresql import PostgreSQL
 
-        return PostgreSQL(f"host={self.home} user=xa dbname=postgres connect_timeout=5", lock_timeout=2)
+        return PostgreSQL(f"host={self.home} port={self.port or 5432} user=xa dbname=postgres connect_timeout=5", lock_timeout=2)
+
+    def url(self):
+        """What a JDBC driver is given for it, on its port."""
+        return f"jdbc:postgresql://127.0.0.1:{self.port}/postgres?user=xa"
 
 
 class MariaDBServer(Server):
@@ -143,8 +164,9 @@ class MariaDBServer(Server):
         self.is_new = True
 
     def words(self):
+        network = ["--skip-networking"] if self.port is None else ["--bind-address=127.0.0.1", f"--port={self.port}"]
         return [binary("mariadbd"), "--no-defaults", f"--datadir={self.home}/data", f"--tmpdir={self.home}/tmp",
-                f"--socket={self.home}/sock", f"--pid-file={self.home}/pid", "--skip-networking", "--innodb-log-file-size=16M",
+                f"--socket={self.home}/sock", f"--pid-file={self.home}/pid", *network, "--innodb-log-file-size=16M",
                 "--innodb-buffer-pool-size=32M", "--performance-schema=OFF", "--max-connections=40", "--skip-log-bin"]
 
     def answers(self):
@@ -168,6 +190,10 @@ class MariaDBServer(Server):
         from garterfossil.adapters.mariadb import MariaDB
 
         return MariaDB(unix_socket=f"{self.home}/sock", user="bank", database="bank", connect_timeout=5, lock_timeout=2)
+
+    def url(self):
+        """What a JDBC driver is given for it, on its port."""
+        return f"jdbc:mariadb://127.0.0.1:{self.port}/bank?user=bank"
 
 
 def binary(name):

@@ -8,6 +8,7 @@ import statistics
 import threading
 import time
 
+import jdbc
 from world import ACCOUNTS
 
 from garterfossil.calls import Call
@@ -86,5 +87,6 @@ def run(world, seconds):
                 rates.append(per_second(functools.partial(through_the_coordinator, xa), threads, seconds))
                 rates_by_hand.append(per_second(functools.partial(by_hand, world.databases(), numbers), threads, seconds))
         rate, hand = statistics.median(rates), statistics.median(rates_by_hand)
-        print(f"speed: {threads} threads: {rate:.0f} transfers a second, {hand:.0f} without a coordinator: {rate / hand:.2f} of that", flush=True)
+        print(f"speed: Python, {threads} threads: {rate:.0f} transfers a second; {hand:.0f} by hand: {rate / hand:.2f} of that", flush=True)
+    jdbc.run(world, THREADS, seconds, ROUNDS)
     return 0

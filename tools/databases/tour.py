@@ -12,6 +12,11 @@ from garterfossil.calls import Call
 
 BOTH, NEITHER = [True, True], [False, False]
 SECOND_ONE = "INSERT INTO once VALUES (1)"
+BEHIND = "behind the decision"
+
+
+def when(moment):
+    return moment if moment == BEHIND else f"before {moment}"
 
 
 class Tour:
@@ -55,6 +60,21 @@ class Tour:
             return post(request)
 
         coordinator.post = posted
+
+    def at(self, moment, do):
+        """Has something done at a moment: before the first request of this name or call, or behind the decision to commit."""
+        if moment != BEHIND:
+            self.before([moment], [do])
+            return
+        commits = self.xa._session.commits
+        decide = commits.decide
+
+        def decided(*words):
+            commits.decide = decide
+            decide(*words)
+            do()
+
+        commits.decide = decided
 
     def lose(self, t, rm):
         """The connection of a branch is ended at the database, and what it had under way with it."""
@@ -128,42 +148,42 @@ class Tour:
             self.told(f"a deadlock {name}", t, BOTH if t.outcome.value == "committed" else NEITHER)
 
     def connections_are_lost(self):
-        moments = [("xa_end", NEITHER), ("xa_prepare", NEITHER), ("decide", BOTH), ("xa_commit", BOTH)]
+        moments = [("xa_end", NEITHER), ("xa_prepare", NEITHER), ("decide", BOTH), (BEHIND, BOTH)]
         for rm in (0, 1):
             for moment, wanted in moments:
                 try:
                     with self.xa.transaction() as t:
                         self.write(t, 0, 1)
-                        self.before([moment], [lambda: self.lose(t, rm)])
+                        self.at(moment, lambda: self.lose(t, rm))
                 except RolledBack:
                     pass
-                self.told(f"the connection to database {rm} is lost before {moment}", t, wanted)
+                self.told(f"the connection to database {rm} is lost {when(moment)}", t, wanted)
 
     def databases_go_down(self):
         for rm, server in enumerate(self.world.servers):
-            for moment, wanted in [("xa_prepare", NEITHER), ("decide", BOTH), ("xa_commit", BOTH)]:
+            for moment, wanted in [("xa_prepare", NEITHER), ("decide", BOTH), (BEHIND, BOTH)]:
                 self.xa.close()
                 self.xa = self.world.manager(2, patience=1.0)
                 try:
                     with self.xa.transaction() as t:
                         self.write(t, 0, 1)
-                        self.before([moment], [server.kill])
+                        self.at(moment, server.kill)
                 except RolledBack:
                     pass
                 server.start()
                 self.goes_on()
-                self.told(f"database {rm} is killed before {moment}", t, wanted)
+                self.told(f"database {rm} is killed {when(moment)}", t, wanted)
 
     def coordinator_ends(self):
-        for moment, wanted in [("xa_prepare", NEITHER), ("decide", NEITHER), ("xa_commit", BOTH), ("done", BOTH)]:
+        for moment, wanted in [("xa_prepare", NEITHER), ("decide", NEITHER), (BEHIND, BOTH), ("done", BOTH)]:
             try:
                 with self.xa.transaction() as t:
                     self.write(t, 0, 1)
-                    self.before([moment], [self.xa._session.coordinator.kill])
+                    self.at(moment, self.xa._session.coordinator.kill)
             except (RolledBack, OutcomeUnknown):
                 pass
             self.goes_on()
-            self.told(f"the coordinator is killed before {moment}", t, wanted)
+            self.told(f"the coordinator is killed {when(moment)}", t, wanted)
 
     def driver_is_frozen(self):
         """A driver stops behind its decision and keeps its connections. The next one has to end them before it looks."""
@@ -177,7 +197,7 @@ class Tour:
 
         with self.xa.transaction() as t:
             self.write(t, 0, 1)
-            self.before(["xa_commit"], [freeze])
+            self.at(BEHIND, freeze)
         self.goes_on()
         self.told("a driver is frozen behind its decision, and the next one goes on", t, BOTH)
 
@@ -215,6 +235,9 @@ class Tour:
         session = self.xa._session
         for rm in (0, 1):
             line = session.line(0, rm)
+            if line is not t[rm].line:
+                # MariaDB lets no other connection end the branch while its own one lives.
+                t[rm].line.lose()
             line.make_ready()
             line.call(Call("xa_recover", count=32, flags=("TMSTARTRSCAN", "TMENDRSCAN")))
             line.see_heard()
@@ -233,7 +256,7 @@ class Tour:
         try:
             with self.xa.transaction() as t:
                 self.write(t, 0, 1)
-                self.before(["xa_commit"], [by_hand])
+                self.at(BEHIND, by_hand)
         except HeuristicEnd as error:
             raised = str(error)
         self.stories += 1

@@ -23,7 +23,7 @@ def see_module(kind):
         try:
             import pymysql  # noqa: F401
         except ImportError:
-            raise Missing("the module pymysql (of Debian the package python3-pymysql)") from None
+            raise Missing(f"the module pymysql of {sys.executable} (Debian's package python3-pymysql is for /usr/bin/python3)") from None
         return "module"
     try:
         import psycopg2  # noqa: F401

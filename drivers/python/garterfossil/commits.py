@@ -3,17 +3,28 @@
 from __future__ import annotations
 
 import threading
-from typing import List, Optional
+from typing import List, Optional, Protocol
 
 from .coordinator import Coordinator
 from .errors import CoordinatorGone, Refused, XaError
 
 
+class Behind(Protocol):
+    """What a thread asks for behind its decision, by the same write. It is refused where the decision is."""
+
+    def post(self) -> None:
+        """Puts it on its way."""
+
+    def take_back(self) -> None:
+        """It was refused, with the decision."""
+
+
 class _Commit:
     """A decision that a thread waits for."""
 
-    def __init__(self, gtrid: str):
+    def __init__(self, gtrid: str, behind: Behind):
         self.gtrid = gtrid
+        self.behind = behind
         self.is_over = False
         self.error: Optional[XaError] = None
 
@@ -28,9 +39,9 @@ class Commits:
         self._asked: List[_Commit] = []
         self._is_deciding = False
 
-    def decide(self, gtrid: str) -> None:
+    def decide(self, gtrid: str, behind: Behind) -> None:
         """Decides that the transaction commits. Once this returns, the decision is in the log."""
-        mine = _Commit(gtrid)
+        mine = _Commit(gtrid, behind)
         with self._change:
             self._asked.append(mine)
             self._change.wait_for(lambda: mine.is_over or not self._is_deciding)
@@ -60,8 +71,13 @@ class Commits:
     def _ask(self, group: List[_Commit]) -> None:
         """Asks for these by one request. Where one of them is refused, none is decided: then each is asked for alone."""
         try:
-            self._coordinator.decide([commit.gtrid for commit in group], "commit")
+            reply = self._coordinator.decide([commit.gtrid for commit in group], "commit")
+            for commit in group:
+                commit.behind.post()
+            self._coordinator.wait(reply)
         except Refused as refused:
+            for commit in group:
+                commit.behind.take_back()
             if len(group) == 1:
                 group[0].error = refused
             else:

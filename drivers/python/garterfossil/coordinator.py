@@ -33,7 +33,7 @@ class Coordinator:
     """The coordinator's process, and one session with it.
 
     Any thread may ask. The coordinator replies in the order of the requests, so several may be under way at once: whichever
-    thread waits reads the next line, and it is the reply to the request that was posted first."""
+    thread waits reads what has come: its lines are the replies to the requests that were posted first."""
 
     def __init__(self, command: Sequence[str]):
         self._process = subprocess.Popen(
@@ -45,10 +45,12 @@ class Coordinator:
         self._is_read = False
         self._asleep: List[Reply] = []
         self._waiting: Deque[Reply] = collections.deque()
+        # The beginning of a line whose end has yet to come.
+        self._begun = b""
         self._ending = threading.Lock()
         self._fault: Optional[str] = None
         #: The first line of the session: `restarted`, the incarnation, and how many decisions and heuristic ends the log has.
-        self.greeting = self._read_line()
+        self.greeting = self._greet()
         if not self.greeting.startswith("restarted "):
             raise self._gone(f"it began with the line: {self.greeting}")
 
@@ -76,9 +78,13 @@ class Coordinator:
 
     # ** requests
 
-    def begin(self, thread: int) -> str:
-        """A transaction of the thread begins: its name."""
-        return self.ask(f"begin {thread}").split(" ")[1]
+    def begin(self, thread: int) -> Reply:
+        """A transaction of the thread begins (`begun_in`)."""
+        return self.post(f"begin {thread}")
+
+    def begun_in(self, reply: Reply) -> str:
+        """The name of the transaction that began."""
+        return self.wait(reply).split(" ")[1]
 
     def issue(self, thread: int, rm: int, call: Call) -> Reply:
         """Lets a call wait on the line of the thread to the resource manager. The reply says that the call may be made."""
@@ -93,10 +99,10 @@ class Coordinator:
         kind, *words = self.ask(f"waiting {thread} {rm}").split(" ", 1)
         return Call.parse(words[0]) if kind == "waits" else None
 
-    def decide(self, gtrids: Iterable[str], outcome: str) -> None:
-        """Decides the transactions: `commit` or `rollback`. Once it returns from a commit, the decisions are in the log. Where
-        one of them is refused, none is decided."""
-        self.ask(" ".join(["decide", *gtrids, outcome]))
+    def decide(self, gtrids: Iterable[str], outcome: str) -> Reply:
+        """Decides the transactions: `commit` or `rollback`. Once the reply to a commit is there, the decisions are in the log.
+        Where one of them is refused, none is decided."""
+        return self.post(" ".join(["decide", *gtrids, outcome]))
 
     def done(self, gtrids: Iterable[str]) -> None:
         """The rows of committed transactions, of which each branch has acknowledged, leave the log."""
@@ -146,10 +152,7 @@ class Coordinator:
 
     def wait(self, reply: Reply) -> str:
         """The reply to a request that was posted. Raises Refused, RequestError or CoordinatorGone."""
-        if reply.line is None:
-            with self._writing:
-                self._write(self._process.stdin.flush)
-            self._read_until(reply)
+        self.arrive(reply)
         kind, _, rest = reply.line.partition(" ")
         if kind == "error":
             error = Unexplained if reply.line == UNEXPLAINED else RequestError
@@ -160,6 +163,13 @@ class Coordinator:
                 raise self._gone(f"its log failed: refused {rest}")
             raise Refused(int(number), name, reply.request)
         return reply.line
+
+    def arrive(self, reply: Reply) -> None:
+        """Waits until a reply has come, whatever it is, and with it those to all requests before. Raises CoordinatorGone."""
+        if reply.line is None:
+            with self._writing:
+                self._write(self._process.stdin.flush)
+            self._read_until(reply)
 
     def _write(self, write: Callable[..., object], *line: bytes) -> None:
         """Requests are written whole, or the session is over: the replies would no longer fit the requests."""
@@ -181,7 +191,7 @@ class Coordinator:
                     if self._is_read:
                         self._sleep_until(reply)
                     else:
-                        self._read_one()
+                        self._read()
             finally:
                 if self._asleep and not self._is_read:
                     # Somebody has to read on.
@@ -195,32 +205,41 @@ class Coordinator:
         finally:
             self._asleep.remove(reply)
 
-    def _read_one(self) -> None:
-        """Reads a line, which is the reply to the request that was posted first. Called with the lock `_reading`, which is free
+    def _read(self) -> None:
+        """Reads what has come: the replies to the requests that were posted first. Called with the lock `_reading`, which is free
         while it reads."""
         self._is_read = True
         self._reading.release()
         try:
-            line = self._read_line()
+            lines = self._read_lines()
         finally:
             self._reading.acquire()
             self._is_read = False
-        first = self._waiting.popleft()
-        first.line = line
-        if first.arrival is not None:
-            first.arrival.notify()
+        for line in lines:
+            first = self._waiting.popleft()
+            first.line = line
+            if first.arrival is not None:
+                first.arrival.notify()
 
-    def _read_line(self) -> str:
+    def _greet(self) -> str:
+        """The first line. Nothing comes behind it, since nothing was asked for."""
+        while True:
+            for line in self._read_lines():
+                return line
+
+    def _read_lines(self) -> List[str]:
+        """The lines of which the ends have come, at once; waits for something to come."""
         try:
-            line = self._process.stdout.readline()
+            some = self._process.stdout.read1(65536)
         except (OSError, ValueError) as error:
             raise self._gone(str(error)) from None
         except BaseException:
             self.kill()
             raise
-        if not line.endswith(b"\n"):
+        if not some:
             raise self._gone("its output ended")
-        return line[:-1].decode("ascii")
+        *lines, self._begun = (self._begun + some).split(b"\n")
+        return [line.decode("ascii") for line in lines]
 
     # ** its end
 

@@ -92,6 +92,12 @@ class Line:
         for call in calls:
             self._post(call)
 
+    def take_back(self) -> None:
+        """The call that was issued last was refused, as is known by another reply: it doesn't wait."""
+        self._waiting.pop()
+        self._replies.pop()
+        self._due = min(self._due, len(self._replies))
+
     def make(self, call: Call) -> Answer:
         """Makes the call that waits first on the line, once the coordinator says that it is issued, and tells what was answered.
         The answers before it were heard, then. Whatever comes in place of a reply or an answer, the line is lost with it."""
@@ -147,6 +153,8 @@ class Line:
         due, self._replies = self._replies[: self._due], self._replies[self._due :]
         self._due = 0
         try:
+            if due:
+                self._coordinator.arrive(due[-1])
             for reply in due:
                 self._coordinator.wait(reply)
         except BaseException:

@@ -88,7 +88,7 @@ class TransactionManager:
                 session.recover_what_is_due()
                 with contextlib.ExitStack() as mine:
                     thread = mine.enter_context(session.thread(until))
-                    gtrid = session.coordinator.begin(thread)
+                    gtrid = session.begin(thread)
                     stack.enter_context(mine.pop_all())
                     return session, thread, gtrid
             except CoordinatorGone as gone:

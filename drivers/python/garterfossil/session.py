@@ -6,12 +6,12 @@ import contextlib
 import logging
 import threading
 import time
-from typing import Iterator, List, Sequence
+from typing import Iterator, List, Optional, Sequence
 
 from .adapters.base import Database
 from .calls import Call
 from .commits import Commits
-from .coordinator import Coordinator
+from .coordinator import Coordinator, Reply
 from .debts import Debts
 from .errors import ConnectionLost, Overdue, Refused, RequestError, XaError
 from .line import Line
@@ -37,6 +37,8 @@ class Session:
         self.debts = Debts()
         self._rms = [ResourceManager(number, database) for number, database in enumerate(databases)]
         self._lines = [[Line(self.coordinator, thread, rm, patience) for rm in self._rms] for thread in range(threads)]
+        # By thread, what begins its next transaction, where that was asked for ahead.
+        self._begun: List[Optional[Reply]] = [None] * threads
         self._done: List[str] = []
         self._done_lock = threading.Lock()
         try:
@@ -73,6 +75,21 @@ class Session:
                 line.let_go()
         finally:
             self.threads.give_back(thread)
+
+    def begin(self, thread: int) -> str:
+        """A transaction of the thread begins: its name."""
+        self.begin_ahead(thread)
+        reply, self._begun[thread] = self._begun[thread], None
+        return self.coordinator.begun_in(reply)
+
+    def begin_ahead(self, thread: int) -> None:
+        """Asks for the thread's next transaction, unless that was done: the reply comes with others that are waited for."""
+        if self._begun[thread] is None:
+            self._begun[thread] = self.coordinator.begin(thread)
+
+    def roll_back(self, gtrid: str) -> None:
+        """Decides that the transaction rolls back."""
+        self.coordinator.wait(self.coordinator.decide([gtrid], "rollback"))
 
     def note_done(self, gtrid: str) -> None:
         """All branches of the committed transaction have acknowledged: its row may leave the log."""

@@ -118,9 +118,16 @@ class Branch:
         if self.line.connection is not None:
             self.line.issue(Call("xa_commit", self.xid))
 
+    def take_back_commit(self) -> None:
+        """The xa_commit that was issued was refused, with the decision."""
+        if self.line.connection is not None:
+            self.line.take_back()
+
     def commit(self) -> None:
-        """xa_commit of the prepared branch."""
+        """xa_commit of the prepared branch. Of any other answer than OK, also that the coordinator heard it."""
         code = self._told(Call("xa_commit", self.xid), None)
+        if code is not Code.OK:
+            self.line.see_heard()
         if code.is_heuristic:
             self.oddity = code.name
 
@@ -144,6 +151,24 @@ class Branch:
             self.line.see_heard()
             self.line.call(Call("xa_forget", self.xid))
         return code
+
+
+class _Commits:
+    """What is asked for behind the decision: that the branches commit, and the next transaction of the thread."""
+
+    def __init__(self, session: Session, thread: int, branches: List[Branch]):
+        self._session = session
+        self._thread = thread
+        self._branches = branches
+
+    def post(self) -> None:
+        for branch in self._branches:
+            branch.issue_commit()
+        self._session.begin_ahead(self._thread)
+
+    def take_back(self) -> None:
+        for branch in self._branches:
+            branch.take_back_commit()
 
 
 class Transaction:
@@ -243,6 +268,7 @@ class Transaction:
     def _commit_in_one_phase(self, line: Line, call: Call) -> None:
         self.outcome = Outcome.UNKNOWN
         try:
+            self._session.begin_ahead(self._thread)
             code = line.make(call).code
         except XaError as error:
             # It is over, one way or the other; the coordinator is told so.
@@ -258,7 +284,7 @@ class Transaction:
     def _commit_in_two_phases(self, prepared: List[Branch]) -> None:
         self.outcome = Outcome.UNKNOWN
         try:
-            self._session.commits.decide(self.gtrid)
+            self._session.commits.decide(self.gtrid, _Commits(self._session, self._thread, prepared))
         except CoordinatorGone as error:
             raise OutcomeUnknown(f"{self.gtrid}: {error}") from error
         except XaError as error:
@@ -266,11 +292,8 @@ class Transaction:
             self._roll_back()
             raise RolledBack(str(error)) from error
         self.outcome = Outcome.COMMITTED
-        for branch in prepared:
-            self._try(branch.issue_commit)
         told = [branch for branch in prepared if self._is_done("xa_commit", branch, branch.commit)]
-        heard = [branch for branch in told if self._is_done("xa_commit", branch, branch.line.see_heard)]
-        if prepared and heard == prepared:
+        if prepared and told == prepared:
             self._session.note_done(self.gtrid)
         odd = [f"database {branch.line.rm.number}: {branch.oddity}" for branch in prepared if branch.oddity]
         if odd:
@@ -282,7 +305,7 @@ class Transaction:
         branches = list(self._branches.values())
         for branch in branches:
             self._try(branch.give_up)
-        self._try(lambda: self._session.coordinator.decide([self.gtrid], "rollback"))
+        self._try(lambda: self._session.roll_back(self.gtrid))
         told = [branch for branch in branches if self._is_done("xa_rollback", branch, branch.roll_back)]
         for branch in told:
             self._is_done("xa_rollback", branch, branch.line.see_heard)

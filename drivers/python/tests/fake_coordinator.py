@@ -3,7 +3,8 @@
 usage: fake_coordinator.py LOG [DIES_AT]
 
 LOG is a file of JSON with the rows, the incarnation, and all requests that it got. DIES_AT is a request, without its words,
-that it ends at instead of a reply, the first time; `decided` is a decision to commit that it makes, and doesn't tell."""
+that it ends at instead of a reply, the first time; `decided` is a decision to commit that it makes, and doesn't tell. With `memory`
+it refuses the first decision to commit."""
 
 import json
 import os
@@ -48,6 +49,8 @@ class Coordinator:
         return f"begun {gtrid}"
 
     def do_issue(self, thread, rm, *call):
+        if call[0] == "xa_commit" and len(call) == 2 and call[1].split(":")[1] not in self.log["rows"]:
+            return "refused 9 NotDecided"
         self.waiting.setdefault((thread, rm), []).append(" ".join(call))
         return f"issued {' '.join(call)}"
 
@@ -70,6 +73,9 @@ class Coordinator:
 
     def do_decide(self, *words):
         *gtrids, outcome = words
+        if self.dies_at == "memory" and outcome == "commit":
+            self.dies_at = None
+            return "refused 16 Memory"
         rows = {gtrid: self.votes[gtrid] for gtrid in gtrids if outcome == "commit" and gtrid in self.votes}
         if rows:
             self.log["rows"].update(rows)

@@ -169,7 +169,7 @@ class Transactions(unittest.TestCase):
     # ** recovery
 
     def test_a_database_that_goes_down_behind_the_decision(self):
-        with self.manager(patience=0.2) as xa:
+        with self.manager(patience=1.0) as xa:
             with xa.transaction() as t:
                 t[0].execute("take")
                 t[1].execute("give")
@@ -205,6 +205,18 @@ class Transactions(unittest.TestCase):
             self.move(xa)
         self.assertEqual(self.written(), (["take", "take"], ["give", "give"]))
         self.assertEqual(self.in_the_log()["rows"], {})
+
+    def test_a_decision_that_is_refused(self):
+        with self.manager(dies_at="memory") as xa:
+            with self.assertRaises(RolledBack) as raised:
+                self.move(xa)
+            self.assertEqual(raised.exception.__cause__.number, 16)
+            self.assertEqual(self.written(), ([], []))
+            self.move(xa)
+        self.assertEqual(self.written(), (["take"], ["give"]))
+        self.assertEqual((self.left.prepared, self.right.prepared), ({}, {}))
+        # The commits that were issued behind it were refused too, and no line was lost.
+        self.assertEqual(self.requests("crash"), [])
 
     def test_the_coordinator_ends_while_nothing_is_open(self):
         with self.manager(dies_at="begin") as xa:

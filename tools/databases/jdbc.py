@@ -1,0 +1,92 @@
+"""Transfers a second from Java, whose threads have no interpreter's lock: java/Speed.java, over the databases' JDBC drivers. Through
+Bitronix too, where it is there."""
+
+import collections
+import glob
+import os
+import shutil
+import statistics
+import subprocess
+import tempfile
+
+from servers import Missing, PostgreSQLServer, free_port
+from world import HERE
+
+JARS = "/usr/share/java"
+#: The files of Bitronix and of what it needs, and their packages of Debian.
+BITRONIX = {
+    "btm.jar": "libbtm-java",
+    "geronimo-jta-1.2-spec.jar": "libgeronimo-jta-1.2-spec-java",
+    "geronimo-jms_1.1_spec.jar": "libgeronimo-jms-1.1-spec-java",
+    "slf4j-api.jar": "libslf4j-java",
+    "slf4j-nop.jar": "libslf4j-java",
+}
+WAYS = {"coordinator": "through the coordinator", "bitronix": "through Bitronix", "hand": "by hand"}
+
+
+def driver_of(server):
+    """The JDBC driver of a server, and its package of Debian."""
+    if isinstance(server, PostgreSQLServer):
+        return "postgresql.jar", "libpostgresql-jdbc-java"
+    return "mariadb-java-client.jar", "libmariadb-java"
+
+
+def paths_of(packages):
+    """The paths of these files. Raises Missing with those that aren't there."""
+    missing = {package for name, package in packages.items() if not os.path.exists(f"{JARS}/{name}")}
+    if missing:
+        raise Missing(f"Java's packages {', '.join(sorted(missing))}, of Debian")
+    return [f"{JARS}/{name}" for name in packages]
+
+
+class Java:
+    """The program, compiled in a folder."""
+
+    def __init__(self, world):
+        for name in ("java", "javac"):
+            if shutil.which(name) is None:
+                raise Missing(f"{name} (of Debian the package default-jdk-headless)")
+        self.world = world
+        self.folder = tempfile.mkdtemp(dir=world.home)
+        self.path = [self.folder, *paths_of(dict(driver_of(server) for server in world.servers))]
+        sources = [f"{HERE}/java/{name}.java" for name in ("Coordinator", "Commits", "Speed")]
+        try:
+            self.path += paths_of(BITRONIX)
+            sources.append(f"{HERE}/java/Bitronix.java")
+        except Missing as missing:
+            print(f"speed: without Bitronix: {missing}")
+        subprocess.run(["javac", "-cp", ":".join(self.path), "-d", self.folder, *sources], check=True)
+
+    def rates(self, threads, seconds, rounds):
+        """Transfers a second, by the way."""
+        self.world.prepare()
+        urls = [server.url() for server in self.world.servers]
+        words = ["java", "-cp", ":".join(self.path), "Speed", *urls, self.folder, str(seconds), str(rounds), str(threads)]
+        it = subprocess.run([*words, *self.world.command(threads)], stdout=subprocess.PIPE, text=True, check=True)
+        for path in glob.glob(f"{self.folder}/*.tlog"):
+            os.remove(path)
+        rates = collections.defaultdict(list)
+        for line in it.stdout.splitlines():
+            way, rate = line.split()
+            rates[way].append(float(rate))
+        return {way: statistics.median(found) for way, found in rates.items()}
+
+
+def run(world, all_threads, seconds, rounds):
+    """Prints the figures. The servers listen on TCP meanwhile, which is all that the drivers know."""
+    try:
+        java = Java(world)
+    except Missing as missing:
+        print(f"speed: without Java: {missing}")
+        return
+    for server in world.servers:
+        server.restart(free_port())
+    try:
+        for threads in all_threads:
+            rates = java.rates(threads, seconds, rounds)
+            mine = rates["coordinator"]
+            beside = [f"{rates[way]:.0f} {WAYS[way]}: {mine / rates[way]:.2f} of that" for way in WAYS if way in rates and way != "coordinator"]
+            print(f"speed: Java, {threads} threads: {mine:.0f} transfers a second; {'; '.join(beside)}", flush=True)
+    finally:
+        for server in world.servers:
+            server.restart(None)
