@@ -1,5 +1,5 @@
 /* How many commits a second the disk takes: the bytes of a commit written to a file whose places are there already, and then
-   forced. Nothing is computed, so no log that forces each of its commits goes beyond it. */
+   forced. Nothing is computed. */
 #define _GNU_SOURCE
 #include <fcntl.h>
 #include <stdio.h>
@@ -29,18 +29,21 @@ static double now(void) {
 static int file_with_room(const char *path) {
     int file = open(path, O_RDWR | O_CREAT | O_EXCL, 0600);
     must(file >= 0);
-    for (off_t at = 0; at < ROOM; at += sizeof bytes) must(pwrite(file, bytes, sizeof bytes, at) == sizeof bytes);
+    for (off_t at = 0; at < ROOM; at += sizeof bytes) {
+        must(pwrite(file, bytes, sizeof bytes, at) == sizeof bytes);
+    }
     must(fsync(file) == 0);
     return file;
 }
 
 int main(int count, char **words) {
     if (count != 5) {
-        fprintf(stderr, "sync PATH COMMITS WRITES BYTES: so many commits, of so many writes each that have so many bytes together\n");
+        fprintf(stderr, "sync PATH COMMITS WRITES BYTES: "
+                        "commits of so many bytes in so many writes\n");
         return 2;
     }
     int commits = atoi(words[2]), writes = atoi(words[3]), size = atoi(words[4]);
-    must(0 < commits && 0 < writes && writes <= size && size <= MOST_BYTES);
+    if (commits < 1 || writes < 1 || size < writes || size > MOST_BYTES) return 2;
     int file = file_with_room(words[1]);
     memset(bytes, 7, sizeof bytes);
     off_t at = 0;
