@@ -56,11 +56,7 @@ not_false false e = absurd (cc)
 
 -- where a transaction may begin, the manager is up
 pub up_if_begins : (k : Book) (t : ℕ) → service_refusal_in k t ≡ None → k.up ≡ true
-up_if_begins k t none = if_up k.up (if_there _ _ _ none)
-  where
-    if_up : (up : Bool) → (if up then None else Some ManagerDown) ≡ None → up ≡ true
-    if_up true e = refl
-    if_up false e = absurd (cc)
+up_if_begins k t none = not_false k.up (if_none _ _ _ (if_there _ _ _ none)).0
 
 -- what may be decided is begun
 pub begun_if_decided : (k : Book) (g : Gtrid) (o : Outcome) → refusal_in k (Steps.Decide g o) ≡ None → (k.transaction g).begun ≡ true

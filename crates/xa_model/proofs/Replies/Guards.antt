@@ -1,5 +1,5 @@
 -- What the table of refusals says: its refusals come in the order of their numbers, and where none applies each guard is passed.
-use Rattle.std.proofs.Common.{◌≡◌, ℕ, List, [], ◌∷◌, ◌++◌, Bool, true, false, not, refl, sym, ap, ◌∙◌, subst}
+use Rattle.std.proofs.Common.{◌≡◌, ℕ, List, [], ◌∷◌, ◌++◌, Bool, true, false, not, ◌&&◌, refl, sym, ap, ◌∙◌, subst}
 use Rattle.std.specs.Prelude.{if◌then◌else◌, nat_eq, nat_le, Option, Some, None}
 use Rattle.std.specs.Option.{option_or}
 use Rattle.xa_base.specs.Refusal.{refusal_number}
@@ -9,7 +9,7 @@ use Rattle.xa_base.specs.declared.limits.TheConstants.{LINE_LIMIT}
 use Rattle.xa_base.specs.declared.step.Part.TheVariants as Part
 use Rattle.xa_base.specs.declared.step.Side.TheVariants as Side
 use Rattle.xa_base.specs.declared.step.Step.TheVariants as Steps
-use Rattle.xa_base.specs.Opening.{comes_unopened, has_closed}
+use Rattle.xa_base.specs.Opening.{opens}
 use Rattle.xa_model.specs.Replies.Guards.{Guard, call_guards, first_guard, guards, has_line, is_there, refusal_by, refusal_of}
 use Rattle.xa_model.specs.Replies.Rules.{applies, first_of, is_among, must_refuse, refused_in_order, rules}
 use Rattle.xa_model.specs.Replies.Steps.{Refusal, Step, accepted}
@@ -98,10 +98,10 @@ issue_why there up rm_up bar call full =
     (option_or call (if full then Some Refusal.Full else None)))) else Some Refusal.Limit
 
 pub issue_rule : (v : View) (l : LineView) (t r : ℕ) (a : Asked) → refusal_of v l (Steps.Issue t r a)
-    ≡ issue_why (has_line v t r) v.up (l.rm_up r) (bar_of (comes_unopened (l.issued (line t r)) a) (has_closed (l.issued (line t r))))
+    ≡ issue_why (has_line v t r) v.up (l.rm_up r) (bar_of (not (opens a) && not (l.is_open (line t r))) (l.is_closed (line t r)))
     (first_guard (call_guards v t r a)) (nat_le LINE_LIMIT (l.waiting (line t r)))
 issue_rule v l t r a =
-    by_tests (has_line v t r) v.up (l.rm_up r) (comes_unopened (l.issued (line t r)) a) (has_closed (l.issued (line t r)))
+    by_tests (has_line v t r) v.up (l.rm_up r) (not (opens a) && not (l.is_open (line t r))) (l.is_closed (line t r))
     ((Refusal.Full, nat_le LINE_LIMIT (l.waiting (line t r))) ∷ [])
   where
     by_tests : (there up up_rm unopened closed : Bool) (full : List Guard)

@@ -3,7 +3,7 @@
 -- is this table read off its notes.
 use Rattle.xa_base.specs.declared.limits.TheConstants.{BEGIN_LIMIT, LINE_LIMIT}
 use Rattle.std.specs.Prelude.{ℕ, ◌+◌, List, [], ◌∷◌, ◌++◌, Bool, true, false, not, ◌&&◌, ◌||◌, if◌then◌else◌, Option, Some, None, nat_eq, nat_le, nat_lt}
-use Rattle.xa_base.specs.Opening.{comes_unopened, has_closed, has_opened}
+use Rattle.xa_base.specs.Opening.{opens}
 use Rattle.xa_base.specs.Standing.{is_in_doubt, is_prepared}
 use Rattle.xa_base.specs.declared.call.Call as Called
 use Rattle.xa_base.specs.declared.call.Call.TheVariants as Calls
@@ -78,7 +78,7 @@ call_guards v t r (Calls.Commit (Ours b) false) =
 call_guards v t r (Calls.Rollback (Ours b)) =
     (Refusal.UnknownTransaction, not (v.begun b.gtrid))
     ∷ (Refusal.WrongThread, is_off_rm r b)
-    ∷ (Refusal.NotDecided, not (v.rolls_back b.gtrid))
+    ∷ (Refusal.NotDecided, not (v.may_roll_back b.gtrid))
     ∷ (Refusal.Busy, v.may_still_start b) ∷ []
 call_guards v t r (Calls.Forget (Ours b)) =
     (Refusal.UnknownTransaction, not (v.begun b.gtrid))
@@ -91,8 +91,8 @@ abbrev pub recovery_guards : View → LineView → (rm calls : ℕ) → List Gua
 recovery_guards v l r calls =
     (Refusal.ManagerDown, not v.up)
     ∷ (Refusal.RmDown, not (l.rm_up r))
-    ∷ (Refusal.NotOpen, not (has_opened (l.issued (line 0 r))))
-    ∷ (Refusal.Closed, has_closed (l.issued (line 0 r)))
+    ∷ (Refusal.NotOpen, not (l.is_open (line 0 r)))
+    ∷ (Refusal.Closed, l.is_closed (line 0 r))
     ∷ (Refusal.Full, nat_lt LINE_LIMIT (l.waiting (line 0 r) + calls)) ∷ []
 
 -- what the end of a claim is refused for
@@ -113,8 +113,8 @@ guards v l (Steps.Begin t) = (Refusal.ManagerDown, not v.up) ∷ (Refusal.Limit,
 guards v l (Steps.Issue t r c) =
     (Refusal.ManagerDown, not v.up)
     ∷ (Refusal.RmDown, not (l.rm_up r))
-    ∷ (Refusal.NotOpen, comes_unopened (l.issued (line t r)) c)
-    ∷ (Refusal.Closed, has_closed (l.issued (line t r)))
+    ∷ (Refusal.NotOpen, not (opens c) && not (l.is_open (line t r)))
+    ∷ (Refusal.Closed, l.is_closed (line t r))
     ∷ (call_guards v t r c ++ (Refusal.Full, nat_le LINE_LIMIT (l.waiting (line t r))) ∷ [])
 guards v l (Steps.Take t r) = (Refusal.RmDown, not (l.rm_up r)) ∷ (Refusal.Full, nat_le LINE_LIMIT (l.unheard (line t r))) ∷ []
 guards v l (Steps.Hear t r) = (Refusal.ManagerDown, not v.up) ∷ (Refusal.RmDown, not (l.rm_up r)) ∷ []
@@ -136,8 +136,8 @@ guards v l (Steps.Abandon g) = conclusion_guards v g
 guards v l (Steps.Recover r n start end) =
     (Refusal.ManagerDown, not v.up)
     ∷ (Refusal.RmDown, not (l.rm_up r))
-    ∷ (Refusal.NotOpen, not (has_opened (l.issued (line 0 r))))
-    ∷ (Refusal.Closed, has_closed (l.issued (line 0 r)))
+    ∷ (Refusal.NotOpen, not (l.is_open (line 0 r)))
+    ∷ (Refusal.Closed, l.is_closed (line 0 r))
     ∷ (Refusal.Full, nat_le LINE_LIMIT (l.waiting (line 0 r))) ∷ []
 guards v l (Steps.Resolve r) = recovery_guards v l r (l.resolving r)
 guards v l (Steps.ResolveOpen r) = recovery_guards v l r (l.resolving_open r)

@@ -1,10 +1,10 @@
 -- What a refusal looks at. It is read off a history here; the manager reads its part off its own notes.
-use Rattle.std.specs.Prelude.{ℕ, Bool, not, ◌&&◌, ◌||◌, List, length}
+use Rattle.std.specs.Prelude.{ℕ, Bool, not, ◌&&◌, ◌||◌, length}
 use Rattle.xa_base.specs.Branch.{branch_eq}
 use Rattle.xa_base.specs.declared.state.Standing.{Standing}
 use Rattle.xa_base.specs.declared.step.Outcome.TheVariants as Outcome
 use Rattle.xa_model.specs.Facts as facts
-use Rattle.xa_model.specs.Trace.{Gtrid, Branch, Line, Call, Happening.ResolvedOpen, Trace, Trace.Then}
+use Rattle.xa_model.specs.Trace.{Gtrid, Branch, Line, Happening.ResolvedOpen, Trace, Trace.Then}
 
 -- what the manager knows of itself, of transactions and of branches
 pub record View : Type 0 where
@@ -15,7 +15,7 @@ pub record View : Type 0 where
   pub up : Bool
   pub begins : ℕ
   -- a transaction: begun in this incarnation; with a row, with one that has outlived its incarnation, with one that waits for nothing more;
-  -- decided or handed over; the same or claimed; claimed; to be rolled back; with all votes
+  -- decided or handed over; the same or claimed; claimed; decided to roll back, or handed over; with all votes
   pub begun : Gtrid → Bool
   pub has_row : Gtrid → Bool
   pub outlived : Gtrid → Bool
@@ -23,7 +23,7 @@ pub record View : Type 0 where
   pub is_taken_up : Gtrid → Bool
   pub is_shut : Gtrid → Bool
   pub claimed : Gtrid → Bool
-  pub rolls_back : Gtrid → Bool
+  pub may_roll_back : Gtrid → Bool
   pub all_voted : Gtrid → Bool
   -- a branch: started; the only one of its transaction; recorded; with an xa_start that may still come
   pub started : Branch → Bool
@@ -33,11 +33,13 @@ pub record View : Type 0 where
   -- a line has branches that are not finished
   pub has_unfinished : Line → Bool
 
--- what lines and resource managers know: whether each resource manager is up; the calls that were accepted on a line, how many of them
--- wait, and how many answers do; how many calls a recovery would make, and one that first rolls back what is open; where a branch is
+-- what lines and resource managers know: whether each resource manager is up; whether an xa_open and an xa_close were issued on a line, how
+-- many calls wait there, and how many answers; how many calls a recovery would make, and one that first rolls back what is open; where a
+-- branch is
 pub record LineView : Type 0 where
   pub rm_up : (rm : ℕ) → Bool
-  pub issued : Line → List Call
+  pub is_open : Line → Bool
+  pub is_closed : Line → Bool
   pub waiting : Line → ℕ
   pub unheard : Line → ℕ
   pub resolving : (rm : ℕ) → ℕ
@@ -59,7 +61,7 @@ view_of tr = record {
   is_taken_up = facts.is_taken_up tr;
   is_shut = facts.is_shut tr;
   claimed = facts.claimed tr;
-  rolls_back = λ g. facts.decided_so Outcome.Rollback tr g || facts.handed_over tr g;
+  may_roll_back = λ g. facts.decided_so Outcome.Rollback tr g || facts.handed_over tr g;
   all_voted = λ g. facts.all_of g (facts.has_voted tr) (facts.branches tr);
   started = facts.started tr;
   is_only = λ b. facts.started tr b && facts.all_of b.gtrid (λ c. branch_eq c b) (facts.branches tr);
@@ -71,7 +73,8 @@ view_of tr = record {
 abbrev pub lines_of : Trace → LineView
 lines_of tr = record {
   rm_up = facts.rm_up tr;
-  issued = facts.issued tr;
+  is_open = facts.is_open tr;
+  is_closed = facts.is_closed tr;
   waiting = facts.waiting tr;
   unheard = facts.unheard tr;
   resolving = λ r. length (facts.resolving_calls tr (facts.page tr r));

@@ -12,7 +12,7 @@ use Rattle.xa_base.specs.declared.refusal.Refusal.{Refusal}
 use Rattle.xa_base.specs.declared.refusal.Refusal.TheVariants as Refusals
 use Rattle.xa_model.proofs.Replies.Guards.{refused_in_order_is}
 use Rattle.xa_tm.specs.RefusalOrder.{lower, other_rules}
-use Rattle.xa_tm.specs.Refusing.{manager_rules}
+use Rattle.xa_tm.specs.Refusing.{is_managers, manager_rules}
 
 -- a refusal has a lower number than all of a list, and so has each of a list
 abbrev before : Refusal → List Refusal → Bool
@@ -72,15 +72,6 @@ parted t p (a ∷ ns) e = let q = and_parts _ _ e in of_rest (parted t p ns q.1)
         ∙ (least t a (filter p ns) (before_some p a ns first)).1)
     of_rest rest first false false is =
         rest ∙ sym (ap (λ (u : Bool). lower (first_of t (filter p ns)) (if u then Some a else first_of t (filter (λ n. not (p n)) ns))) is)
-
--- what the manager finds
-abbrev is_managers : Refusal → Bool
-is_managers Refusals.RmDown = false
-is_managers Refusals.NotOpen = false
-is_managers Refusals.Closed = false
-is_managers Refusals.Full = false
-is_managers Refusals.Script = false
-is_managers _ = true
 
 merged : (t : Refusal → Bool) → first_of t rules ≡ lower (first_of t manager_rules) (first_of t other_rules)
 merged t = parted t is_managers rules refl
