@@ -11,12 +11,13 @@ use crate::docket::Asked;
 use crate::fault::Halt;
 use crate::jobs::gtrid;
 use crate::limits::JOB_LIMIT;
+use crate::pace::Pace;
 use crate::patience::Idle;
 use crate::{Gate, Jobs, WorkFault};
 use std::alloc::{AllocError, Global};
 use std::snapshot::Snapshot;
 use std::sync::Wait;
-use std::time::Clock;
+use std::time::{Clock, Instant};
 use xa_log::{Decision, DecisionLog};
 
 /// A run's log, and for each job whether the run wrote its row. `first` remembers the log as it was before the run.
@@ -187,9 +188,13 @@ pub(crate) fn write_rows<R: Wait + Clock, J: Run, G: Gate, L: DecisionLog>(
         FailsNot L.moment journal.old.log journal.new.log }
 {
     let mut idle = Idle::NEW;
+    let mut pace = Pace::NEW;
     for _ in rt.forever() {
         let left = crew.docket.is_left();
+        pace.gather(rt, crew.docket);
+        let start = Instant::now(rt).ok();
         if write_asked(alloc, crew, journal)? {
+            pace.note(rt, start);
             idle.found();
         } else if left {
             return Ok(());
