@@ -1,5 +1,5 @@
 //! Calls to a resource manager (XA, chapter 5, Reference Manual Pages).
-ghost use Rattle.std.specs.Prelude.{◌≡◌, IfErr};
+ghost use Rattle.std.specs.Prelude.{◌≡◌, false, IfErr};
 ghost use Rattle.std.specs.Option.{option_copied};
 ghost use Rattle.std.specs.Result.{result_ok};
 ghost use Rattle.xa_base.specs.Call.{CallsHaveTheirParts, flags_of};
@@ -147,6 +147,31 @@ impl Call {
 
 impl<X> Call<X> {
     ghost use Rattle.xa_base.specs.Call.{are_alike, kind_of};
+    ghost use Rattle.xa_base.specs.declared.call.Call.TheVariants as Calls;
+
+    /// xa_start of a new branch, without TMJOIN.
+    pub fn start(xid: X) -> Call<X>
+        ensures { result ≡ Calls.Start xid false }
+    {
+        Call::Start { xid, join: false }
+    }
+
+    /// xa_end with TMSUCCESS.
+    pub fn end(xid: X) -> Call<X>
+        ensures { result ≡ Calls.End xid false }
+    {
+        Call::End { xid, fail: false }
+    }
+
+    /// xa_commit of a prepared branch, without TMONEPHASE.
+    pub fn commit(xid: X) -> Call<X>
+        ensures { result ≡ Calls.Commit xid false }
+    {
+        Call::Commit {
+            xid,
+            one_phase: false,
+        }
+    }
 
     /// The name of the call, without its flags.
     pub fn kind(&self) -> CallKind

@@ -1,6 +1,8 @@
 //! Why a step is refused.
 ghost use Rattle.std.specs.Prelude.{◌≡◌};
 
+use crate::Memory;
+use std::alloc::AllocError;
 use std::error::Error;
 use std::fmt;
 
@@ -124,3 +126,23 @@ impl fmt::Display for Refusal {
 }
 
 impl Error for Refusal {}
+
+impl From<AllocError> for Refusal {
+    ghost use Rattle.xa_base.specs.declared.refusal.Refusal.TheVariants as Refusals;
+
+    ghost from_gives = { λ _ refusal. refusal ≡ Refusals.Memory };
+
+    fn from(error: AllocError) -> Refusal {
+        Refusal::from(Memory::from(error))
+    }
+}
+
+impl From<Memory> for Refusal {
+    ghost use Rattle.xa_base.specs.declared.refusal.Refusal.TheVariants as Refusals;
+
+    ghost from_gives = { λ _ refusal. refusal ≡ Refusals.Memory };
+
+    fn from(_memory: Memory) -> Refusal {
+        Refusal::Memory
+    }
+}
