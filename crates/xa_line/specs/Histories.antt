@@ -1,12 +1,12 @@
 -- What goes over a line, as histories know it.
-use Rattle.std.specs.Prelude.{◌≡◌, List, map, Option, Some}
+use Rattle.std.specs.Prelude.{◌≡◌, ◌++◌, List, map, Option, Some}
 use Rattle.std.specs.Option.{option_map}
 use Rattle.xa_base.specs.Answer.{map_answer}
 use Rattle.xa_base.specs.Call.{map_call}
 use Rattle.xa_model.specs.Facts as facts
 use Rattle.xa_model.specs.Replies.History.{name_of}
 use Rattle.xa_model.specs.Replies.Steps.{accepted}
-use Rattle.xa_model.specs.Trace.{Line, Trace, Answer as KnownAnswer, Call as KnownCall}
+use Rattle.xa_model.specs.Trace.{Happening, Line, Trace, Answer as KnownAnswer, Call as KnownCall}
 use Rattle.xa_base.specs.Xid.{Xid}
 use Rattle.xa_base.specs.declared.answer.Answer.{Answer}
 use Rattle.xa_base.specs.declared.call.Call.{Call}
@@ -27,6 +27,17 @@ AreKnownAs calls in_history = map known calls ≡ map Some in_history
 -- these calls and answers are known to a history as those
 abbrev pub AreAnsweredAs : List (Call Xid × Answer Xid) → List (KnownCall × KnownAnswer) → Type 0
 AreAnsweredAs pairs in_history = map known_answered pairs ≡ map Some in_history
+
+-- a list grows by items that are known to a history as these
+abbrev pub GrowsBy : {A B : Type 0} → (A → Option B) → (old new : List A) → List B → Type 0
+GrowsBy {A} name old new in_history = (items : List A) × (new ≡ old ++ items) × (map name items ≡ map Some in_history)
+
+-- the calls, the answers and the answers heard of a line grow by what a happening adds to them, and each call taken is answered
+pub record HasGrown (tr : Trace) (e : Happening) (l : Line) (old new : Traffic) : Type 0 where
+  pub calls : GrowsBy known (issued old) (issued new) (facts.new_calls tr e l)
+  pub answers : GrowsBy known_answered (answered old) (answered new) (facts.new_taken e l)
+  pub hearings : GrowsBy known_answered (heard old) (heard new) (facts.new_heard e l)
+  pub each_answered : taken new ≡ map (λ p. p.0) (answered new)
 
 -- the traffic of a line is what a history says of it since it last broke, and each call that was taken was answered
 pub record LineStands (tr : Trace) (l : Line) (t : Traffic) : Type 0 where

@@ -12,8 +12,8 @@ ghost use Rattle.xa_base.specs.Xid.{Xid};
 ghost use Rattle.xa_base.specs.declared.answer.Answer.{Answer};
 ghost use Rattle.xa_base.specs.declared.call.Call.{Call};
 ghost use Rattle.xa_base.specs.declared.step.Step.TheVariants.{Issue};
-ghost use Rattle.xa_line.specs.Histories.{AreAnsweredAs, AreKnownAs, LineStands, known, known_answered};
-ghost use Rattle.xa_line.specs.Traffic.{Traffic, answered, heard, is_full, issued, no_traffic, taken};
+ghost use Rattle.xa_line.specs.Histories.{AreKnownAs, HasGrown, LineStands, known, known_answered};
+ghost use Rattle.xa_line.specs.Traffic.{Traffic, is_full, issued, no_traffic};
 
 /// A line refuses a call exactly where a history does. This is a law; the function does nothing:
 ///
@@ -41,7 +41,7 @@ pub fn lines_as_in_histories()
 /// - `calls`, `answers`: as many wait;
 /// - `new`, `renewed`: a new line stands as at the start of a history, and as after each happening that breaks it;
 /// - `goes_on`: a line that isn't broken still stands so after a happening, if the line's calls, answers and answers
-///   heard grow by what the happening adds to them.
+///   heard grow by what the happening adds to them (`HasGrown`).
 pub fn traffic_as_in_histories()
     // What waits, while the two stand alike.
     ensures front { (tr : Trace) (l : Line) (t : Traffic) → LineStands tr l t →
@@ -57,11 +57,7 @@ pub fn traffic_as_in_histories()
     ensures new { (o : Origin) (l : Line) → LineStands (From o) l no_traffic }
     ensures renewed { (tr : Trace) (e : Happening) (l : Line) → facts.breaks tr e l ≡ true →
         LineStands (Then tr e) l no_traffic }
-    ensures goes_on { (tr : Trace) (e : Happening) (l : Line) (old new : Traffic)
-        (calls : List (Call Xid)) (answers hearings : List (Call Xid × Answer Xid)) →
-        LineStands tr l old → facts.breaks tr e l ≡ false →
-        issued new ≡ issued old ++ calls → AreKnownAs calls (facts.new_calls tr e l) →
-        answered new ≡ answered old ++ answers → AreAnsweredAs answers (facts.new_taken e l) →
-        heard new ≡ heard old ++ hearings → AreAnsweredAs hearings (facts.new_heard e l) →
-        taken new ≡ map (λ p. p.0) (answered new) → LineStands (Then tr e) l new }
+    ensures goes_on { (tr : Trace) (e : Happening) (l : Line) (old new : Traffic) →
+        LineStands tr l old → facts.breaks tr e l ≡ false → HasGrown tr e l old new →
+        LineStands (Then tr e) l new }
 {}

@@ -4,19 +4,19 @@ ghost use Rattle.xa_base.specs.declared.reply.Event.{Event};
 ghost use Rattle.xa_model.specs.Promises.Headline.{HeadlineSince};
 ghost use Rattle.xa_model.specs.Facts.{incarnation};
 ghost use Rattle.xa_model.specs.Promises.Processes.{AllAreNamed, IsLeft, ListsFound, OfProcesses, OwnAreAlike};
-ghost use Rattle.xa_model.specs.Promises.Processes.{Resumes, joined, next_start, resumed};
+ghost use Rattle.xa_model.specs.Promises.Processes.{IsNext, Resumes, joined, next_start, resumed};
 ghost use Rattle.xa_model.specs.Promises.Recovery.{IsRecovered, MayComplete, recovery};
 ghost use Rattle.xa_model.specs.Protocol.{AllRight, IsRun, OldOrigin};
 ghost use Rattle.xa_model.specs.Replies.Allowed.{AllAllowed, with_steps};
-ghost use Rattle.xa_model.specs.Replies.History.{AreAllowed, history};
+ghost use Rattle.xa_model.specs.Replies.History.{history};
 ghost use Rattle.xa_model.specs.Trace.{Answer, Call, Name, Origin, Recorded, Row, Trace};
 
 /// The promises hold through any number of processes of the manager, one after another, over the same resource managers
 /// and the same log. A process ends with a crash of its manager, whether or not anyone saw it. The next one begins with
 /// a restart: it finds what the log and the resource managers then hold, and knows nothing else of the past.
 ///
-/// In `right`, `headline` and `passes_on` the past history is right, the new start resumes it (`Resumes`), and each
-/// reply of the new process is one that the process's own events allow:
+/// In `right`, `headline`, `passes_on` and `recovers` the past history is right, the new start resumes it, and each
+/// reply of the new process is one that the process's own events allow (`IsNext`):
 ///
 /// - `right`: the past and the new process together are one right history;
 /// - `headline`: so agreement and its invariant hold at every moment of the new process, of the branches of all
@@ -35,13 +35,12 @@ ghost use Rattle.xa_model.specs.Trace.{Answer, Call, Name, Origin, Recorded, Row
 pub fn across_processes()
     // One process more.
     ensures right { (past : Trace) (o : Origin) (events : List Event) →
-        AllRight past → Resumes past o → AreAllowed o events → AllRight (joined past o events) }
+        IsNext past o events → AllRight (joined past o events) }
     ensures headline { (past : Trace) (o : Origin) (events : List Event) →
-        AllRight past → Resumes past o → AreAllowed o events →
-        HeadlineSince (resumed past o) events }
+        IsNext past o events → HeadlineSince (resumed past o) events }
     ensures passes_on { (past : Trace) (o : Origin) (events : List Event) (next : Origin) →
-        AllRight past → Resumes past o → AreAllowed o events → Resumes (history o events) next
-        → Resumes (joined past o events) next }
+        IsNext past o events → Resumes (history o events) next →
+        Resumes (joined past o events) next }
     // All of them.
     ensures all { (whole : Trace) → OfProcesses whole → AllRight whole }
     // What is left, and its recovery.
@@ -50,7 +49,7 @@ pub fn across_processes()
         → Resumes past (next_start past i rows records) }
     ensures recovers { (past : Trace) (o : Origin) (events : List Event)
         (r count : ℕ) (names : List Name) (answers : List (Call × Answer)) →
-        AllRight past → Resumes past o → OldOrigin o → ListsFound o → AreAllowed o events →
+        IsNext past o events → OldOrigin o → ListsFound o →
         MayComplete (history o events) r count answers →
         AllAllowed (history o events) (recovery r count names answers) →
         IsRecovered (with_steps (history o events) (recovery r count names answers)) r }

@@ -13,7 +13,7 @@ use Rattle.xa_base.specs.declared.vote.Vote.TheVariants.{Yes}
 use Rattle.xa_model.specs.Facts.{doubt, fits, has_branch, has_record, held_of, heuristic_rows, heuristics_changed, incarnation, log, origin, participants_in, retries, rows_changed, standing, vote}
 use Rattle.xa_model.specs.Facts.InDoubt.{in_doubt, name_of, xid_of_name}
 use Rattle.xa_model.specs.Promises.Agreement.{IsUndone}
-use Rattle.xa_model.specs.Protocol.{RightOrigin}
+use Rattle.xa_model.specs.Protocol.{AllRight, RightOrigin}
 use Rattle.xa_model.specs.Replies.History.{AreAllowed, and_then, history}
 use Rattle.xa_model.specs.Trace.{Gtrid, Branch, Name, Name.Ours, Name.Foreign, How, Happening.CompletedAlone, Happening.Crashed, Happening.Restarted, Row, Recorded, Origin, Trace, Trace.Then}
 
@@ -94,6 +94,12 @@ abbrev pub AllAreNamed : Trace → Type 0
 AllAreNamed tr = (b : Branch) → fits b ≡ false → (standing tr b ≡ Unstarted) × (vote tr b ≡ Yes) × (retries tr b ≡ 0)
 
 -- ** the whole
+
+-- a process resumed a right history, and these are its events
+pub record IsNext (past : Trace) (o : Origin) (events : List Event) : Type 0 where
+  pub right : AllRight past
+  pub resumes : Resumes past o
+  pub allowed : AreAllowed o events
 
 -- the history that goes on with the events of the next process
 abbrev pub joined : Trace → Origin → List Event → Trace

@@ -1,5 +1,5 @@
 use Rattle.std.proofs.Common.{◌∙◌, subst, sym}
-use Rattle.xa_model.specs.Promises.Processes.{Resumes}
+use Rattle.xa_model.specs.Promises.Processes.{IsNext, Resumes}
 use Rattle.xa_system.specs.SystemView.{observes, origin_in}
 use Rattle.uses.proofs.LaterProcesses.{of_held, resumes}
 use Rattle.uses.proofs.processes.go_on.Goals as goal
@@ -37,10 +37,11 @@ returns-in-Ok-clause-chain g c past ends honest =
     let start = origin_in look c.run-ran.new.self in
     let events = c.run-ran.new.self.events in
     let resumed : Resumes past start = returns-in-Ok-clause-follows g c past ends honest in
+    let is_next : IsNext past start events = record { right = ends.right; resumes = resumed; allowed = ran.parts.allowed } in
     let log_order = of_held (λ l. (moment l).is_in_order) c.args.remains.log c.in-Some.log c.in-Some.is ends.order in
     record {
-      right = c.across_processes.ensures.right past start events ends.right resumed ran.parts.allowed;
-      passes_on = λ next own. c.across_processes.ensures.passes_on past start events next ends.right resumed ran.parts.allowed own;
+      right = c.across_processes.ensures.right past start events is_next;
+      passes_on = λ next own. c.across_processes.ensures.passes_on past start events next is_next own;
       order = subst (λ l. (moment l).is_in_order) (sym (ran.log.handed ∙ made.log.handed)) log_order;
       near = returns-in-Ok-clause-near g c ends.order honest;
     }

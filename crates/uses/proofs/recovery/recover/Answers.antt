@@ -14,5 +14,6 @@ returns g c r count names answers (inr resumed) is none enough put_off =
     let old = c.agree.ensures.parts in
     let start = origin_in g.R.ResourceManager.look c.args.system.now in
     recovered _ _ _ _ r count names answers
-    (c.across_processes.ensures.recovers resumed.0 start _ r count names answers resumed.1 resumed.2 old.old (lists_found start old.listed) old.allowed)
+    (c.across_processes.ensures.recovers resumed.0 start _ r count names answers
+    (record { right = resumed.1; resumes = resumed.2; allowed = old.allowed }) old.old (lists_found start old.listed))
     old.numbers c.run-ran.ensures.start c.run-ran.ensures.parts.allowed is none enough put_off

@@ -17,5 +17,9 @@ pub returns-clause-renewed : goal.returns-clause-renewed
 returns-clause-renewed c tr e l b = line_renewed tr e l b
 
 pub returns-clause-goes_on : goal.returns-clause-goes_on
-returns-clause-goes_on c tr e l old new calls answers hearings stands b i ik a ak h hk each =
-    line_goes_on tr e l old new calls answers hearings stands b i ik a ak h hk each
+returns-clause-goes_on c tr e l old new stands b grown =
+    let calls = grown.calls in
+    let answers = grown.answers in
+    let hearings = grown.hearings in
+    line_goes_on tr e l old new calls.0 answers.0 hearings.0 stands b calls.1 calls.2 answers.1 answers.2 hearings.1 hearings.2
+    grown.each_answered

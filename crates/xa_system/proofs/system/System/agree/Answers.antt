@@ -23,5 +23,5 @@ returns-clause-resumed g c =
     let see = observes g.R.ResourceManager.look g.L.DecisionLog.moment in
     subst (λ v. (past : Trace) → AllRight past → Resumes past (origin_in see.look v)
     → HeadlineSince (resumed past (origin_in see.look v)) v.events) c.self.view_is
-    (λ past right resumes. c.across_processes.ensures.headline past (origin_in see.look (view_of c.self.inside)) (view_of c.self.inside).events right resumes
-    c.self.invariant.allowed)
+    (λ past right resumes. c.across_processes.ensures.headline past (origin_in see.look (view_of c.self.inside)) (view_of c.self.inside).events
+    (record { right = right; resumes = resumes; allowed = c.self.invariant.allowed }))
