@@ -92,8 +92,13 @@ class Server:
         until = time.monotonic() + 60
         while not self.answers():
             if self.process.poll() is not None or time.monotonic() > until:
-                sys.exit(f"{self.name} doesn't start: see {self.home}/log")
+                sys.exit(f"{self.name} doesn't start; the end of its log:\n{self.last_of_log()}")
             time.sleep(0.05)
+
+    def last_of_log(self):
+        """The last 4,000 bytes of what it said, since its folder may be gone when this is read."""
+        with open(f"{self.home}/log", "rb") as it:
+            return it.read()[-4000:].decode(errors="replace")
 
     def kill(self):
         """Kills it, and all its processes, as a loss of power would."""
