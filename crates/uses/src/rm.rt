@@ -13,27 +13,9 @@ pub(crate) fn committed(alloc: Global, xid: &Xid) -> Result<Fate, Memory>
     ensures { IfOk result (λ fate. fate ≡ Fates.Committed) }
 {
     let mut rm = MemRm::new(alloc);
-    rm.apply(
-        0,
-        &Call::Start {
-            xid: xid.copy(),
-            join: false,
-        },
-    )?;
-    rm.apply(
-        0,
-        &Call::End {
-            xid: xid.copy(),
-            fail: false,
-        },
-    )?;
+    rm.apply(0, &Call::start(xid.copy()))?;
+    rm.apply(0, &Call::end(xid.copy()))?;
     rm.apply(0, &Call::Prepare { xid: xid.copy() })?;
-    rm.apply(
-        0,
-        &Call::Commit {
-            xid: xid.copy(),
-            one_phase: false,
-        },
-    )?;
+    rm.apply(0, &Call::commit(xid.copy()))?;
     Ok(rm.fate(xid))
 }
