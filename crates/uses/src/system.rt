@@ -1,6 +1,5 @@
 //! `xa_system`: two-phase commit of one transaction.
 
-ghost use Rattle.std.specs.Prelude.{◌≡◌};
 ghost use Rattle.xa_model.specs.Promises.Agreement.{AreAlike};
 ghost use Rattle.xa_model.specs.Promises.Processes.{Resumes, joined};
 ghost use Rattle.xa_model.specs.Protocol.{AllRight, RightOrigin};
