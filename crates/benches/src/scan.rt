@@ -71,21 +71,9 @@ fn filled(alloc: Global, branches: u32) -> Result<MemRm, Memory> {
             rm: 0,
         };
         let xid = branch.xid();
-        rm.apply(
-            0,
-            &Call::Start {
-                xid: xid.copy(),
-                join: false,
-            },
-        )?;
+        rm.apply(0, &Call::start(xid.copy()))?;
         if n % step == 0 {
-            rm.apply(
-                0,
-                &Call::End {
-                    xid: xid.copy(),
-                    fail: false,
-                },
-            )?;
+            rm.apply(0, &Call::end(xid.copy()))?;
             rm.apply(0, &Call::Prepare { xid })?;
         }
     }

@@ -129,7 +129,7 @@ fn start(system: &mut MemSystem) -> anyhow::Result<Gtrid> {
     };
     for rm in 0..RMS {
         let xid = branch(gtrid, rm);
-        call(system, rm, Call::Start { xid, join: false });
+        call(system, rm, Call::start(xid));
     }
     Ok(gtrid)
 }
@@ -138,7 +138,7 @@ fn start(system: &mut MemSystem) -> anyhow::Result<Gtrid> {
 fn commit(system: &mut MemSystem, gtrid: Gtrid) {
     for rm in 0..RMS {
         let xid = branch(gtrid, rm);
-        call(system, rm, Call::End { xid, fail: false });
+        call(system, rm, Call::end(xid));
         let xid = branch(gtrid, rm);
         call(system, rm, Call::Prepare { xid });
     }
@@ -148,8 +148,7 @@ fn commit(system: &mut MemSystem, gtrid: Gtrid) {
     });
     for rm in 0..RMS {
         let xid = branch(gtrid, rm);
-        let one_phase = false;
-        call(system, rm, Call::Commit { xid, one_phase });
+        call(system, rm, Call::commit(xid));
     }
     let _done = system.step(Step::Done { gtrid });
 }

@@ -36,7 +36,8 @@ const FILES: [(&str, &str); 47] = [
         "xatm: scenario: step 2",
     ),
     (
-        "threads = 1\nrms = 1\nstep = [{ do = 'call', thread = 0, rm = 0, xa = 'xa_start', tx = 'a' }, \
+        "threads = 1\nrms = 1\nstep = [\
+        { do = 'call', thread = 0, rm = 0, xa = 'xa_start', tx = 'a' }, \
         { do = 'begin', thread = 0, tx = 'a' }]\n",
         "xatm: scenario: step 1",
     ),
@@ -51,12 +52,14 @@ const FILES: [(&str, &str); 47] = [
         "xatm: scenario: step 1",
     ),
     (
-        "threads = 1\nrms = 1\nstep = [{ do = 'begin', thread = 0, tx = '012345678901234567890123456789-a' }, \
+        "threads = 1\nrms = 1\nstep = [\
+        { do = 'begin', thread = 0, tx = '012345678901234567890123456789-a' }, \
         { do = 'begin', thread = 0, tx = 'a' }]\n",
         "ok 1 1 2\n",
     ),
     (
-        "threads = 1\nrms = 1\nstep = [{ do = 'begin', thread = 0, tx = '012345678901234567890123456789-ab' }, \
+        "threads = 1\nrms = 1\nstep = [\
+        { do = 'begin', thread = 0, tx = '012345678901234567890123456789-ab' }, \
         { do = 'begin', thread = 0, tx = 'a' }]\n",
         "xatm: scenario: step 1",
     ),
@@ -116,7 +119,8 @@ const FILES: [(&str, &str); 47] = [
         "xatm: scenario: step 1",
     ),
     (
-        "threads = 1\nrms = 1\nstep = [{ do = 'recover', rm = 0, count = 1, flags = ['TMENDRSCAN'] }, \
+        "threads = 1\nrms = 1\nstep = [\
+        { do = 'recover', rm = 0, count = 1, flags = ['TMENDRSCAN'] }, \
         { do = 'begin', thread = 0, tx = 'a' }]\n",
         "ok 1 1 2\n",
     ),
@@ -131,12 +135,14 @@ const FILES: [(&str, &str); 47] = [
         "ok 1 1 2\n",
     ),
     (
-        "threads = 1\nrms = 1\nstep = [{ do = 'call', thread = 0, rm = 0, xa = 'xa_open', flags = ['TMSUSPEND'] }, \
+        "threads = 1\nrms = 1\nstep = [\
+        { do = 'call', thread = 0, rm = 0, xa = 'xa_open', flags = ['TMSUSPEND'] }, \
         { do = 'begin', thread = 0, tx = 'a' }]\n",
         "xatm: scenario: step 1",
     ),
     (
-        "threads = 1\nrms = 1\nstep = [{ do = 'call', thread = 0, rm = 0, xa = 'xa_open', of = 0 }, \
+        "threads = 1\nrms = 1\nstep = [\
+        { do = 'call', thread = 0, rm = 0, xa = 'xa_open', of = 0 }, \
         { do = 'begin', thread = 0, tx = 'a' }]\n",
         "xatm: scenario: step 1",
     ),
@@ -147,12 +153,14 @@ const FILES: [(&str, &str); 47] = [
     ),
     (
         "threads = 1\nrms = 1\nstep = [{ do = 'begin', thread = 0, tx = 'a' }, \
-        { do = 'call', thread = 0, rm = 0, xa = 'xa_start', tx = 'a', flags = ['TMNOFLAGS', 'TMJOIN'] }]\n",
+        { do = 'call', thread = 0, rm = 0, xa = 'xa_start', tx = 'a', \
+        flags = ['TMNOFLAGS', 'TMJOIN'] }]\n",
         "ok 1 1 2\n",
     ),
     (
         "threads = 1\nrms = 1\nstep = [{ do = 'begin', thread = 0, tx = 'a' }, \
-        { do = 'call', thread = 0, rm = 0, xa = 'xa_start', tx = 'a', flags = ['TMJOIN', 'TMJOIN'] }]\n",
+        { do = 'call', thread = 0, rm = 0, xa = 'xa_start', tx = 'a', \
+        flags = ['TMJOIN', 'TMJOIN'] }]\n",
         "xatm: scenario: step 2",
     ),
     (
@@ -172,7 +180,8 @@ const FILES: [(&str, &str); 47] = [
     ),
     (
         "threads = 1\nrms = 1\nstep = [{ do = 'begin', thread = 0, tx = 'a' }, \
-        { do = 'call', thread = 0, rm = 0, xa = 'xa_end', tx = 'a', flags = ['TMSUCCESS', 'TMFAIL'] }]\n",
+        { do = 'call', thread = 0, rm = 0, xa = 'xa_end', tx = 'a', \
+        flags = ['TMSUCCESS', 'TMFAIL'] }]\n",
         "xatm: scenario: step 2",
     ),
     (
@@ -192,7 +201,8 @@ const FILES: [(&str, &str); 47] = [
     ),
     (
         "threads = 1\nrms = 1\nstep = [{ do = 'begin', thread = 0, tx = 'a' }, \
-        { do = 'call', thread = 0, rm = 0, xa = 'xa_recover', count = 8, flags = ['TMSTARTRSCAN', 'TMENDRSCAN'] }]\n",
+        { do = 'call', thread = 0, rm = 0, xa = 'xa_recover', count = 8, \
+        flags = ['TMSTARTRSCAN', 'TMENDRSCAN'] }]\n",
         "ok 1 1 2\n",
     ),
     (

@@ -109,10 +109,7 @@ fn newer_branches(rt: HostRuntime) -> Result<(), Fail> {
         thread: 0,
         rm: 0,
     };
-    let start = Call::Start {
-        xid: first.xid(),
-        join: false,
-    };
+    let start = Call::start(first.xid());
     let steps = [
         Step::Begin { thread: 0 },
         Step::Issue {

@@ -1,8 +1,6 @@
 -- Processes one after another.
 use Rattle.std.proofs.Common.{◌≡◌, ◌<◌, ◌≤◌, ◌+◌, ◌++◌, ◌∙◌, ℕ, zero, suc, arith, List, [], ◌∷◌, length, map, take, refl, sym, ap, subst}
 use Rattle.std.specs.Prelude.{IfOk, IfSome, IsOk, IsSomeAnd, OnErr, OnOk, Option, Some, None, Result, Ok, Err, slice_index_or}
-use Rattle.xa_base.specs.HeldBranch.{HeldBranch}
-use Rattle.xa_base.specs.Scan.{Scan}
 use Rattle.xa_base.specs.Xid.{Xid}
 use Rattle.xa_base.specs.declared.refusal.Refusal.{Refusal}
 use Rattle.xa_base.specs.declared.refusal.Refusal.TheVariants as Refusals

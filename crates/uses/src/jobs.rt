@@ -1,6 +1,6 @@
 //! `xa_jobs`: a jobs file is run on threads, and a line for each job is printed.
 
-ghost use Rattle.std.specs.Prelude.{◌≡◌, Some, [], IfOk};
+ghost use Rattle.std.specs.Prelude.{Some, [], IfOk};
 ghost use Rattle.xa_jobs.specs.JobRuns.{Prints};
 
 use std::alloc::Global;

@@ -1,6 +1,6 @@
 //! `xa_listing`: a log is printed.
 
-ghost use Rattle.std.specs.Prelude.{◌≡◌, Some, [], IfOk};
+ghost use Rattle.std.specs.Prelude.{Some, [], IfOk};
 ghost use Rattle.xa_listing.specs.Texts.{PrintsLog};
 ghost use Rattle.xa_log.specs.Contract.{Honestly};
 

@@ -195,20 +195,8 @@ fn decide_first(alloc: Global) -> Result<Vec<Step>, AllocError> {
     let xid = BRANCH.xid();
     push_call(&mut steps, Call::OpenRm)?;
     steps.push(Step::Begin { thread: 0 })?;
-    push_call(
-        &mut steps,
-        Call::Start {
-            xid: xid.copy(),
-            join: false,
-        },
-    )?;
-    push_call(
-        &mut steps,
-        Call::End {
-            xid: xid.copy(),
-            fail: false,
-        },
-    )?;
+    push_call(&mut steps, Call::start(xid.copy()))?;
+    push_call(&mut steps, Call::end(xid.copy()))?;
     push_call(&mut steps, Call::Prepare { xid })?;
     steps.push(Step::Decide {
         gtrid: BRANCH.gtrid,

@@ -1,6 +1,5 @@
 //! `xa_model`: what a list of events means, where each reply is the one that the events before it demand.
 
-ghost use Rattle.std.specs.Prelude.{◌≡◌};
 ghost use Rattle.xa_model.specs.Promises.Agreement.{AreAlike};
 ghost use Rattle.xa_model.specs.Replies.History.{AreAllowed, history};
 ghost use Rattle.xa_model.specs.Protocol.{RightOrigin};

@@ -1,6 +1,5 @@
 //! `xa_system`: two-phase commit of one transaction.
 
-ghost use Rattle.std.specs.Prelude.{◌≡◌};
 ghost use Rattle.xa_model.specs.Promises.Agreement.{AreAlike};
 ghost use Rattle.xa_model.specs.Promises.Processes.{Resumes, joined};
 ghost use Rattle.xa_model.specs.Protocol.{AllRight, RightOrigin};
@@ -55,31 +54,13 @@ pub(crate) fn commit<R: ResourceManager + Drop, L: DecisionLog + Drop>(system: &
     };
     call(system, Call::OpenRm);
     let _begun = system.step(Step::Begin { thread: 0 });
-    call(
-        system,
-        Call::Start {
-            xid: branch.xid(),
-            join: false,
-        },
-    );
-    call(
-        system,
-        Call::End {
-            xid: branch.xid(),
-            fail: false,
-        },
-    );
+    call(system, Call::start(branch.xid()));
+    call(system, Call::end(branch.xid()));
     call(system, Call::Prepare { xid: branch.xid() });
     let _decided = system.step(Step::Decide {
         gtrid: FIRST,
         outcome: Outcome::Commit,
     });
-    call(
-        system,
-        Call::Commit {
-            xid: branch.xid(),
-            one_phase: false,
-        },
-    );
+    call(system, Call::commit(branch.xid()));
     let _done = system.step(Step::Done { gtrid: FIRST });
 }

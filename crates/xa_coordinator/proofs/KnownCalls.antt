@@ -2,7 +2,6 @@
 use Rattle.std.proofs.Common.{◌≡◌, ℕ, Bool, true, false, not, ◌||◌, Option, Some, None, refl, subst}
 use Rattle.std.specs.Prelude.{if◌then◌else◌, slice_get}
 use Rattle.std.specs.Option.{option_map, option_or}
-use Rattle.std.proofs.lemmas.Bool.{true≢false}
 use Rattle.xa_base.specs.Answer.{map_answer}
 use Rattle.xa_base.specs.Call.{map_call}
 use Rattle.xa_base.specs.Xid.{Xid}
@@ -24,7 +23,6 @@ use Rattle.xa_serve.specs.Hearing.{can_hear}
 use Rattle.xa_serve.specs.Session.{has_line, is_over, issue_refusal, line_refusal, unfit, unfit_for}
 use Rattle.xa_serve.specs.declared.session.Session.{Session}
 use Rattle.xa_serve.specs.declared.session.answers.Unfit.TheVariants as Unfits
-use Rattle.xa_tm.specs.Book.{Book}
 use Rattle.xa_tm.specs.Calls.{book_in}
 use Rattle.xa_tm.specs.News.{Asked}
 use Rattle.xa_model.proofs.Replies.Guards.{known_call}

@@ -1,5 +1,5 @@
 -- Requests to make calls, and what was answered to them.
-use Rattle.std.specs.Prelude.{◌≡◌, ◌≢◌, ◌⊎◌, ℕ, Bool, true, false, not, ◌&&◌, MatchBool, slice_get, Option, Some, None, Result, Ok, Err, IfErr, OnErr, OnOk}
+use Rattle.std.specs.Prelude.{◌≡◌, ◌≢◌, ◌⊎◌, ℕ, Bool, true, false, not, ◌&&◌, MatchBool, Option, Some, None, Result, Ok, Err, IfErr, OnErr, OnOk}
 use Rattle.xa_base.specs.Answer.{answer_number, map_answer}
 use Rattle.xa_base.specs.Call.{are_alike, kind_of, map_call, xid_in}
 use Rattle.xa_base.specs.Xid.{Xid, xid_eq}

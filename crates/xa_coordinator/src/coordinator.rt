@@ -1,6 +1,6 @@
 //! The coordinator: a session, and what it owes since before. A file for each family of requests.
 
-ghost use Rattle.std.specs.Prelude.{◌≡◌, ◌∷◌, [], Bool, true, Some, IfOk, IsSomeAnd, length};
+ghost use Rattle.std.specs.Prelude.{◌≡◌, ◌∷◌, [], Bool, true, IfOk, IsSomeAnd, length};
 ghost use Rattle.std.specs.FinMap.{entries, keys};
 ghost use Rattle.xa_coordinator.specs.Performing.{ChangesNothing, Does, Performs, is_not_done, is_one_step};
 ghost use Rattle.xa_coordinator.specs.Releasing.{ended_by};

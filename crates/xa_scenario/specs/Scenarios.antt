@@ -1,6 +1,6 @@
 -- Which texts are scenarios, and the fault of each other text.
 use Rattle.xa_system.specs.declared.system.TheConstants.{EVENT_LIMIT}
-use Rattle.std.specs.Prelude.{◌≤◌, ℕ, ◌+◌, nat_lt, if◌then◌else◌, List, [], ◌∷◌, ◌++◌, Option, Some, None, Result, Ok, Err}
+use Rattle.std.specs.Prelude.{◌≤◌, ℕ, ◌+◌, nat_lt, if◌then◌else◌, List, [], ◌∷◌, ◌++◌, Option, Some, None, Result, Ok}
 use Rattle.std.specs.Option.{ok_or, option_and_then}
 use Rattle.toml.specs.Data.{Data, Items, no_items, item, Members, as_table}
 use Rattle.xa_files.specs.Documents.{document_of}

@@ -1,6 +1,6 @@
 //! The system that a run of a scenario leaves, for those who tell of it in other ways than `run_scenario`.
 
-ghost use Rattle.std.specs.Prelude.{◌≡◌, ◌⊎◌, [], Err, IfErr, IfOk};
+ghost use Rattle.std.specs.Prelude.{◌≡◌, [], Err, IfErr, IfOk};
 ghost use Rattle.xa_files.specs.declared.fault.RunFault.TheVariants.{Log, Memory};
 ghost use Rattle.xa_model.specs.Protocol.{RightOrigin};
 ghost use Rattle.xa_scenario.specs.Runs.{IsRunOf, IsStartFault, IsStartOf, StartsOverLog};

@@ -59,7 +59,8 @@ fn kind_at(table: &Table) -> Result<EntryKind, Finding<'_>>
 /// What a table asks for, where `begun` are the names that were begun before it.
 #[tactic(auto, unfolding(crate::specs::Tables::entry_of))]
 pub fn entry_of<'a>(table: &'a Table, begun: &[&str]) -> Result<Entry, Finding<'a>>
-    ensures { result_ok result ≡ entry_of (map (λ name. name.now) begun.now) (table_view table.now) }
+    ensures { result_ok result
+        ≡ entry_of (map (λ name. name.now) begun.now) (table_view table.now) }
 {
     let kind = kind_at(table)?;
     row_of(kind, table, begun)

@@ -28,7 +28,7 @@ use Rattle.xa_tm.specs.Release.{MayFollow}
 use Rattle.xa_tm.specs.Refusing.{managers_refusal, refusal_in, service_refusal_in}
 use Rattle.xa_tm.specs.declared.manager.Manager.{Manager}
 use Rattle.xa_serve.proofs.Books.{book_goes, next_alike, next_of, refuses_no_more, up_alike}
-use Rattle.xa_serve.proofs.Refusals.{begun_if_abandoned, begun_if_decided, begun_if_settled, up_if_begins}
+use Rattle.xa_serve.proofs.Refusals.{begun_if_abandoned, begun_if_settled, up_if_begins}
 use Rattle.xa_serve.specs.Following.{BookStands, FollowsAll, LeadsTo, StandsIn}
 use Rattle.xa_serve.specs.Session.{lines_by}
 use Rattle.xa_serve.specs.declared.session.Session.{Session}

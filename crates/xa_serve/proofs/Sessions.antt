@@ -10,7 +10,7 @@ use Rattle.xa_line.specs.Traffic.{Traffic}
 use Rattle.xa_line.proofs.GridLaws.{line_at-new_grid}
 use Rattle.xa_model.specs.Replies.Steps.{Step}
 use Rattle.xa_model.specs.Trace.{Fault, Happening, Happening.Failed, Happening.Nothing}
-use Rattle.xa_tm.specs.Book.{after, after_all, Book, book_after, Doubt, Doubt.NoDoubt}
+use Rattle.xa_tm.specs.Book.{after_all, Book, book_after, Doubt, Doubt.NoDoubt}
 use Rattle.xa_standings.specs.Monitor.{SaysTheSame, states_of}
 use Rattle.xa_tm.specs.Calls.{FailsBy, book_in, log_in}
 use Rattle.xa_tm.specs.Refusing.{refusal_in}
@@ -20,7 +20,7 @@ use Rattle.xa_serve.specs.Headroom.{HasHeadroom, MayHappen, first_headroom}
 use Rattle.xa_serve.specs.Session.{AllHeard, IsReady, happenings_by, has_room_for, is_over, lines_by, refusal_at, refusal_of_all}
 use Rattle.xa_serve.specs.declared.session.Session.{Session}
 use Rattle.xa_serve.proofs.Headroom.{MayHappenInTurn, headroom_kept, headroom_kept_by_all}
-use Rattle.xa_serve.proofs.Refusals.{no_fault, not_over}
+use Rattle.xa_serve.proofs.Refusals.{not_over}
 
 left : (m n : ℕ) → n < m → m - n ≡ (m - (n + 1)) + 1
 left m n few = omega (arith, few)

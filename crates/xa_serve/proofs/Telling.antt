@@ -1,5 +1,5 @@
 -- What is told of a line, in histories: calls that are issued, and lines that are lost.
-use Rattle.std.proofs.Common.{◌≡◌, ◌≢◌, ℕ, Bool, true, false, not, List, [], ◌∷◌, ◌++◌, map, inl, inr, Option, Some, None, refl, sym, ap, ◌∙◌, subst, append_assoc, length}
+use Rattle.std.proofs.Common.{◌≡◌, ◌≢◌, ℕ, Bool, true, false, List, [], ◌∷◌, ◌++◌, map, inl, inr, Option, Some, None, refl, sym, ap, ◌∙◌, subst, append_assoc, length}
 use Rattle.std.specs.Prelude.{◌&&◌, if◌then◌else◌, nat_eq, nat_le, nat_lt, slice_get}
 use Rattle.std.specs.Option.{option_and_then, option_map}
 use Rattle.std.proofs.lemmas.Bool.{ne_eqb}
@@ -12,8 +12,6 @@ use Rattle.xa_base.specs.Opening.{comes_unopened, has_closed}
 use Rattle.xa_base.specs.Xid.{Xid}
 use Rattle.xa_base.specs.declared.answer.Answer as Given
 use Rattle.xa_base.specs.declared.call.Call as Asking
-use Rattle.xa_base.specs.declared.call.Call.TheVariants as Calls
-use Rattle.xa_base.specs.declared.refusal.Refusal.{Refusal}
 use Rattle.xa_base.specs.declared.refusal.Refusal.TheVariants as Refusals
 use Rattle.xa_base.specs.declared.reply.Reply.TheVariants as Replies
 use Rattle.xa_base.specs.declared.step.Part.TheVariants as Parts
@@ -32,7 +30,7 @@ use Rattle.xa_model.specs.Replies.History.{name_of}
 use Rattle.xa_model.specs.Replies.Rules.{must_refuse}
 use Rattle.xa_model.specs.Replies.View.{lines_of, view_of}
 use Rattle.xa_model.specs.Replies.Steps.{accepted, happened, if_ours}
-use Rattle.xa_model.specs.Trace.{Answer as KnownAnswer, Call, Happening, Happening.Crashed, Happening.Heard, Happening.Issued, Happening.Resolved, Happening.ResolvedOpen, Happening.Took, Line, Name.Foreign, Name.Ours, Trace, Trace.Then, line, line_eq}
+use Rattle.xa_model.specs.Trace.{Answer as KnownAnswer, Call, Happening, Happening.Crashed, Happening.Heard, Happening.Issued, Happening.Resolved, Happening.ResolvedOpen, Happening.Took, Line, Trace, Trace.Then, line, line_eq}
 use Rattle.xa_model.proofs.Keys.{line_eq-refl}
 use Rattle.xa_model.proofs.Replies.Guards.{bar_of, issue_rule, issue_why}
 use Rattle.xa_model.proofs.Replies.Replies.{allowed_right}
@@ -45,7 +43,7 @@ use Rattle.xa_serve.specs.Following.{AreRight, BookStands, LeadsTo, LeadsByAnswe
 use Rattle.xa_serve.specs.Hearing.{heard_first, with_answer}
 use Rattle.xa_serve.specs.Session.{LetsWait, has_line, known_waiting, line_refusal, recovery_bar, recovery_refusal, with_more}
 use Rattle.xa_serve.specs.declared.session.Session.{Session}
-use Rattle.xa_serve.proofs.Books.{book_goes, call_allowed, refuses_no_more, resolves_alike, resolves_open_alike, up_alike}
+use Rattle.xa_serve.proofs.Books.{book_goes, call_allowed, resolves_alike, resolves_open_alike, up_alike}
 use Rattle.xa_serve.proofs.Following.{line_stays}
 use Rattle.xa_serve.proofs.Refusals.{issued_begun}
 use Rattle.xa_tm.specs.Release.{MayFollow}

@@ -1,5 +1,5 @@
 -- A session tracks what is seen.
-use Rattle.std.proofs.Common.{◌≡◌, ◌∙◌, ◌<◌, ℕ, zero, suc, List, [], ◌∷◌, length, Option, ap, arith, refl, subst, sym}
+use Rattle.std.proofs.Common.{◌≡◌, ◌∙◌, ◌<◌, ℕ, suc, List, [], ◌∷◌, length, Option, ap, arith, refl, subst, sym}
 use Rattle.std.specs.Prelude.{All}
 use Rattle.xa_line.specs.Grid.{HasLine, IsWhole, line_at}
 use Rattle.xa_line.specs.Histories.{LineStands}
@@ -54,8 +54,8 @@ rules_kept : (o : Origin) (seen : Seen) (es : List Happening) → KeepsRules o s
     → ((tr : Trace) → IsHistory o seen tr → IsRun tr → AreRight tr es) → KeepsRules o (did_all seen es)
 rules_kept o seen [] keeps managers right = keeps
 rules_kept o seen (e ∷ es) keeps managers right =
-    rules_kept o (Did seen e) es (keeps, managers 0 e (arith_zero (length es)), λ tr h run. (right tr h run).0) (λ k d less. managers (suc k) d (omega (arith, less)))
-    later
+    rules_kept o (Did seen e) es (keeps, managers 0 e (arith_zero (length es)), λ tr h run. (right tr h run).0)
+    (λ k d less. managers (suc k) d (omega (arith, less))) later
   where
     arith_zero : (n : ℕ) → 0 < suc n
     arith_zero n = omega arith

@@ -1,6 +1,5 @@
 -- What is written to a driver.
-use Rattle.std.specs.Prelude.{◌⊎◌, ℕ, List, Option}
-use Rattle.std.specs.Io.KnownBytes.{Keeps}
+use Rattle.std.specs.Prelude.{ℕ, List, Option}
 use Rattle.xa_coordinator.specs.Replies.{greeting_of}
 use Rattle.xa_coordinator.specs.Serving.{BreaksSession, Serves}
 use Rattle.xa_coordinator.specs.declared.coordinator.Coordinator.{Coordinator}

@@ -1,10 +1,8 @@
 //! What is done for a driver, over a log in any store and over one in files.
 
-ghost use Rattle.std.specs.Prelude.{◌≡◌, ◌⊎◌, IfErr, IfOk, OnErr, OnOk};
+ghost use Rattle.std.specs.Prelude.{◌≡◌, ◌⊎◌, IfErr, OnErr, OnOk};
 ghost use Rattle.std.specs.Io.KnownBytes.{Keeps};
 ghost use Rattle.xa_coordinator.specs.declared.coordinator.Coordinator.{Coordinator};
-ghost use Rattle.xa_serve.specs.Following.{StandsAtStart};
-ghost use Rattle.xa_serve.specs.Session.{IsReady};
 ghost use Rattle.xatm.specs.Failures.{failure_status};
 ghost use Rattle.xatm.specs.Services.{IsBrokenOff, IsServed};
 

@@ -77,14 +77,8 @@ impl<L: DecisionLog + Drop> Player<L> {
             let xid = || Branch { gtrid, thread, rm }.xid();
             last = self.call(thread, rm, Call::OpenRm)?;
             let calls = [
-                Call::Start {
-                    xid: xid(),
-                    join: false,
-                },
-                Call::End {
-                    xid: xid(),
-                    fail: false,
-                },
+                Call::start(xid()),
+                Call::end(xid()),
                 Call::Prepare { xid: xid() },
             ];
             for call in calls {
@@ -161,7 +155,7 @@ impl<L: DecisionLog + Drop> Player<L> {
         let xid = branch.xid();
         let call = match self.chance.below(7) {
             0 => Call::OpenRm,
-            1 => Call::Start { xid, join: false },
+            1 => Call::start(xid),
             2 => Call::End { xid, fail: true },
             3 => Call::Prepare { xid },
             4 => Call::Rollback { xid },
@@ -240,10 +234,7 @@ fn script_of(number: u32, branch: Branch) -> Step {
 /// The call that ends a branch.
 fn end_of(xid: Xid, is_commit: bool) -> Call {
     if is_commit {
-        Call::Commit {
-            xid,
-            one_phase: false,
-        }
+        Call::commit(xid)
     } else {
         Call::Rollback { xid }
     }

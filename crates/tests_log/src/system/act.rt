@@ -57,19 +57,10 @@ pub(crate) enum Act {
 fn call_of(act: Act) -> Option<(u32, Call)> {
     match act {
         Act::Open(rm) => Some((rm, Call::OpenRm)),
-        Act::Start(rm) => {
-            let xid = branch(rm);
-            Some((rm, Call::Start { xid, join: false }))
-        }
-        Act::End(rm) => {
-            let xid = branch(rm);
-            Some((rm, Call::End { xid, fail: false }))
-        }
+        Act::Start(rm) => Some((rm, Call::start(branch(rm)))),
+        Act::End(rm) => Some((rm, Call::end(branch(rm)))),
         Act::Prepare(rm) => Some((rm, Call::Prepare { xid: branch(rm) })),
-        Act::Commit(rm) => {
-            let (xid, one_phase) = (branch(rm), false);
-            Some((rm, Call::Commit { xid, one_phase }))
-        }
+        Act::Commit(rm) => Some((rm, Call::commit(branch(rm)))),
         Act::Rollback(rm) => Some((rm, Call::Rollback { xid: branch(rm) })),
         Act::Forget(rm) => Some((rm, Call::Forget { xid: branch(rm) })),
         _ => None,

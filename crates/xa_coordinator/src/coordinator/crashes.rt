@@ -1,6 +1,5 @@
 //! Lines that are lost.
 
-ghost use Rattle.std.specs.Prelude.{◌≡◌};
 ghost use Rattle.xa_coordinator.specs.Crashes.{LosesOne, PerformsCrashLine, PerformsCrashRm};
 ghost use Rattle.xa_serve.specs.Session.{IsReady};
 

@@ -1,6 +1,6 @@
 //! Transactions that are over are forgotten, so that a session takes memory only for those that are open.
 
-ghost use Rattle.std.specs.Prelude.{◌≡◌, ◌∷◌, []};
+ghost use Rattle.std.specs.Prelude.{◌≡◌};
 ghost use Rattle.xa_coordinator.specs.Releasing.{Releases, ReleasesAll, all_if_taken, ended_by, if_taken, is_taken, transaction_of};
 ghost use Rattle.xa_serve.specs.Session.{IsReady};
 

@@ -1,6 +1,6 @@
 //! Transactions that are decided, or done, by one write of the log.
 
-ghost use Rattle.std.specs.Prelude.{◌≡◌, ◌≢◌, map, Bool, Some, None, Err, IfErr, OnOk};
+ghost use Rattle.std.specs.Prelude.{◌≡◌, ◌≢◌, map, Some, None, Err, IfErr, OnOk};
 ghost use Rattle.xa_base.specs.declared.refusal.Refusal.TheVariants as Refusals;
 ghost use Rattle.xa_model.specs.Trace.{Fault.InDecide, Fault.InDone, Happening.Decided, Happening.Done};
 ghost use Rattle.xa_tm.specs.Book.{Doubt.Drops, after_all};

@@ -1,5 +1,5 @@
 use Rattle.std.proofs.Common.{◌∙◌, sym}
-use Rattle.xa_coordinator.proofs.ReleaseLemmas.{all_are_released, none_are_released}
+use Rattle.xa_coordinator.proofs.ReleaseLemmas.{all_are_released}
 use Rattle.xa_coordinator.proofs.coordinator.Coordinator.release_all_taken.Goals as goal
 
 pub returns-then-is_taken-clause-releases : goal.returns-then-is_taken-clause-releases

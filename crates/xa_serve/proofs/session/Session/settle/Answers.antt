@@ -28,7 +28,8 @@ returns-clause-ready g c =
 pub returns-clause-err : goal.returns-clause-err
 returns-clause-err g c =
     let s = c.args.self.now in
-    concluded_err s c.conclude.new.self _ 1 (refusal_in (book_in s.manager) (Steps.Settle c.args.gtrid)) _ (Adds (rows_for (book_in s.manager) (c.args.gtrid ∷ []))) (InDecide (c.args.gtrid ∷ [])) c.settle-reply.result _
+    concluded_err s c.conclude.new.self _ 1 (refusal_in (book_in s.manager) (Steps.Settle c.args.gtrid)) _
+    (Adds (rows_for (book_in s.manager) (c.args.gtrid ∷ []))) (InDecide (c.args.gtrid ∷ [])) c.settle-reply.result _
     (refusal_is s (Steps.Settle c.args.gtrid) (sym c.is_over.ensures ∙ c.if-is_over.false))
     (record { manager = c.conclude.ensures.manager; lines = c.conclude.ensures.lines; happenings = c.conclude.ensures.happenings })
     c.conclude.ensures.value c.settle-reply.ensures.err
