@@ -34,31 +34,60 @@ use xa_base::{Branch, Gtrid, Page};
 /// The manager's book: all that it has to remember, beside the log.
 #[derive(Drop)]
 pub(crate) struct Ledger {
-    pub threads: u32,
-    pub rms: u32,
-    pub is_up: bool,
-    pub incarnation: u64,
+    threads: u32,
+    rms: u32,
+    is_up: bool,
+    incarnation: u64,
     /// How many transactions were begun in this incarnation.
-    pub sequence: u64,
+    sequence: u64,
     /// How many were begun in all.
-    pub begins: u64,
+    begins: u64,
     /// How many restarts have failed since the manager was up.
-    pub failed_restarts: u64,
-    pub transactions: BTreeMap<Gtrid, Transaction>,
-    pub branches: BTreeMap<Branch, BranchNotes>,
+    failed_restarts: u64,
+    transactions: BTreeMap<Gtrid, Transaction>,
+    branches: BTreeMap<Branch, BranchNotes>,
     /// The last page that each resource manager listed on the first thread's line, since that broke.
-    pub pages: BTreeMap<u32, Page>,
+    pages: BTreeMap<u32, Page>,
     /// The rows of the log, each with the branches whose xa_commit it waits for. At `None` there is room for a row alone.
-    pub rows: BTreeMap<Gtrid, Option<Vec<Branch>>>,
+    rows: BTreeMap<Gtrid, Option<Vec<Branch>>>,
     /// How many rows the log has.
-    pub row_count: u64,
+    row_count: u64,
     /// How many branches are recorded as heuristic.
-    pub records: u64,
-    pub doubt: Change,
-    pub alloc: Global,
+    records: u64,
+    doubt: Change,
+    alloc: Global,
 }
 
 impl Ledger {
+    /// Whether the manager is up.
+    pub(crate) fn is_up(&self) -> bool
+        ensures { result ≡ self.now.is_up }
+    {
+        self.is_up
+    }
+
+    /// The incarnation of the transactions that may be begun.
+    pub(crate) fn incarnation(&self) -> u64
+        ensures { result ≡ self.now.incarnation }
+    {
+        self.incarnation
+    }
+
+    /// The allocator of its room.
+    pub(crate) fn alloc(&self) -> Global {
+        self.alloc
+    }
+
+    /// The same in another incarnation.
+    pub(crate) fn in_incarnation(self, incarnation: u64) -> Ledger
+        ensures { result ≡ record self { incarnation = incarnation } }
+    {
+        Ledger {
+            incarnation,
+            ..self
+        }
+    }
+
     /// What is noted of a transaction.
     pub(crate) fn transaction(&self, g: Gtrid) -> Transaction
         ensures { result ≡ transaction_at self.now.transactions g }

@@ -38,13 +38,13 @@ impl<L: DecisionLog + Drop> Manager<L> {
     pub fn is_up(&self) -> bool
         ensures { result ≡ (book_in self.now).up }
     {
-        self.ledger.is_up
+        self.ledger.is_up()
     }
 
     /// The incarnation of the transactions that may be begun.
     pub fn incarnation(&self) -> u64
         ensures { result ≡ (book_in self.now).incarnation }
     {
-        self.ledger.incarnation
+        self.ledger.incarnation()
     }
 }

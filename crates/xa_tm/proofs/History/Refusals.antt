@@ -1,5 +1,5 @@
 -- The refusals that are read off the book of a right history are those that the history forces.
-use Rattle.std.proofs.Common.{◌≡◌, ℕ, ◌+◌, ◌==◌, List, [], ◌∷◌, Bool, true, false, not, ◌&&◌, ◌||◌, Some, None, is_some, refl, sym, ap, ◌∙◌, arith}
+use Rattle.std.proofs.Common.{◌≡◌, ℕ, ◌+◌, ◌==◌, List, [], ◌∷◌, Bool, true, false, not, ◌&&◌, ◌||◌, Some, is_some, refl, sym, ap, ◌∙◌, arith}
 use Rattle.std.specs.Prelude.{if◌then◌else◌}
 use Rattle.std.specs.List.{list_any}
 use Rattle.xa_base.specs.declared.call.Call.TheVariants as Calls
@@ -7,8 +7,6 @@ use Rattle.xa_base.specs.declared.step.Step.TheVariants as Steps
 use Rattle.xa_base.specs.Branch.{gtrid_eq, branch_eq}
 use Rattle.xa_base.specs.declared.branch.Branch.{Branch}
 use Rattle.xa_base.specs.declared.branch.Gtrid.{Gtrid}
-use Rattle.xa_base.specs.declared.refusal.Refusal.{Refusal}
-use Rattle.xa_base.specs.declared.refusal.Refusal.TheVariants as Refusals
 use Rattle.xa_base.specs.declared.step.Outcome.TheVariants as Outcome
 use Rattle.xa_base.specs.declared.step.Part.TheVariants as Part
 use Rattle.xa_base.specs.declared.step.Side.TheVariants as Side
@@ -18,7 +16,7 @@ use Rattle.xa_model.specs.Replies.Guards.{refusal_of}
 use Rattle.xa_model.specs.Replies.Rules.{must_refuse}
 use Rattle.xa_model.specs.Replies.View.{view_of}
 use Rattle.xa_model.specs.Replies.Steps.{Step}
-use Rattle.xa_model.specs.Trace.{Line, Name.Foreign, Name.Ours, Row, Trace, line, line_eq, line_of}
+use Rattle.xa_model.specs.Trace.{Line, Name.Foreign, Name.Ours, Row, Trace, line_eq, line_of}
 use Rattle.xa_model.proofs.AgreementLemmas.Distinct.{branches_listed}
 use Rattle.xa_base.proofs.BranchKeys.{gtrid_eq-refl}
 use Rattle.xa_log.specs.KeySet.{from_list, items}

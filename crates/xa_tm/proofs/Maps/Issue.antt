@@ -1,5 +1,5 @@
 -- Calls on branches of this manager.
-use Rattle.std.proofs.Common.{false, ◌≡◌, ◌<◌, ℕ, [], ◌∷◌, Bool, true, not, ◌&&◌, Option, Some, None, Result, Ok, Err, OnOk, refl, sym, ap, ◌∙◌, subst, arith}
+use Rattle.std.proofs.Common.{false, ◌≡◌, ◌<◌, ℕ, ◌∷◌, true, not, ◌&&◌, Option, Some, None, Result, Ok, Err, OnOk, refl, sym, ap, ◌∙◌, subst, arith}
 use Rattle.std.specs.Prelude.{if◌then◌else◌, nat_lt}
 use Rattle.xa_base.specs.declared.call.Call.TheVariants as Calls
 use Rattle.xa_base.specs.declared.step.Step.TheVariants as Steps

@@ -1,5 +1,6 @@
 //! What decisions make of the manager's book whose rows are written together.
 
+ghost use Rattle.std.specs.Result.{result_err};
 ghost use Rattle.std.specs.Prelude.{◌≡◌, ◌<◌, ◌-◌, ◌^◌, ◌+◌, ◌++◌, [], ◌∷◌, length, map, IfOk, OnOk};
 ghost use Rattle.std.specs.List.{AllByRecursion};
 ghost use Rattle.xa_base.specs.declared.step.Step.TheVariants as Steps;
@@ -20,19 +21,17 @@ use xa_log::Decision;
 
 impl Ledger {
     /// The refusal of the first of these decisions that is refused, each after the ones before it.
-    pub(crate) fn may_decide_all(&self, gtrids: &[Gtrid], outcome: Outcome) -> Option<Refusal>
-        ensures { result ≡ refusal_in_turn (λ g. Steps.Decide g outcome) (λ g. Decided g outcome)
+    pub(crate) fn check_decide_all(&self, gtrids: &[Gtrid], outcome: Outcome) -> Result<(), Refusal>
+        ensures { result_err result ≡ refusal_in_turn (λ g. Steps.Decide g outcome) (λ g. Decided g outcome)
             (as_book self.now) gtrids.now }
     {
         for (i, g) in gtrids.iter().enumerate() {
             if is_named(&gtrids[..i], *g) {
-                return Some(Refusal::Decided);
+                return Err(Refusal::Decided);
             }
-            if let Some(refusal) = self.may_decide(*g, outcome) {
-                return Some(refusal);
-            }
+            self.check_decide(*g, outcome)?;
         }
-        None
+        Ok(())
     }
 
     /// Makes room for a decision and for its row, and adds the decision to the others where it writes one.

@@ -1,5 +1,6 @@
 //! What the end of several rows makes of the manager's book.
 
+ghost use Rattle.std.specs.Result.{result_err};
 ghost use Rattle.std.specs.Prelude.{◌≡◌, true, is_some, map, if◌then◌else◌};
 ghost use Rattle.xa_base.specs.declared.refusal.Refusal.TheVariants as Refusals;
 ghost use Rattle.xa_base.specs.declared.step.Step.TheVariants as Steps;
@@ -27,19 +28,17 @@ impl Ledger {
     }
 
     /// The refusal of the first Done of these transactions that is refused, each after the ones before it.
-    pub(crate) fn may_done_all(&self, gtrids: &[Gtrid]) -> Option<Refusal>
-        ensures { result ≡ refusal_in_turn (λ g. Steps.Done g) (λ g. Done g)
+    pub(crate) fn check_done_all(&self, gtrids: &[Gtrid]) -> Result<(), Refusal>
+        ensures { result_err result ≡ refusal_in_turn (λ g. Steps.Done g) (λ g. Done g)
             (as_book self.now) gtrids.now }
     {
         for (i, g) in gtrids.iter().enumerate() {
             if is_named(&gtrids[..i], *g) {
-                return Some(self.refusal_without_row(*g));
+                return Err(self.refusal_without_row(*g));
             }
-            if let Some(refusal) = self.may_done(*g) {
-                return Some(refusal);
-            }
+            self.check_done(*g)?;
         }
-        None
+        Ok(())
     }
 
     /// The rows of these transactions leave.

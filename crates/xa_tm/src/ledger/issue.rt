@@ -1,12 +1,14 @@
 //! The refusals of calls, and what is noted of a call that is issued.
 
-ghost use Rattle.std.specs.Prelude.{true, false, ◌≡◌, Bool, nat_eq, if◌then◌else◌, Option, Some, None, OnOk, OnErr};
+ghost use Rattle.std.specs.Prelude.{true, false, ◌≡◌, Bool, nat_eq, if◌then◌else◌, Option, Some, None, IfErr, OnOk, OnErr};
+ghost use Rattle.std.specs.Result.{result_err, result_ok};
 ghost use Rattle.xa_tm.specs.Book.{after};
 ghost use Rattle.xa_base.specs.declared.call.Call.TheVariants as Calls;
 ghost use Rattle.xa_base.specs.declared.step.Step.TheVariants as Steps;
 ghost use Rattle.xa_model.specs.Trace.{Line, Call as KnownCall, Happening.Issued};
-ghost use Rattle.xa_base.specs.declared.refusal.Refusal.TheVariants.{WrongThread};
+ghost use Rattle.xa_base.specs.declared.refusal.Refusal.TheVariants.{UnknownTransaction, WrongThread};
 ghost use Rattle.std.specs.List.{list_any};
+ghost use Rattle.xa_base.specs.Branch.{branch_of_xid};
 ghost use Rattle.xa_base.specs.Call.{map_call};
 ghost use Rattle.xa_model.specs.Replies.Steps.{accepted};
 ghost use Rattle.xa_model.specs.Replies.History.{name_of};
@@ -20,7 +22,7 @@ ghost use Rattle.xa_tm.specs.Refusing.{is_unfinished, refusal_in, view_in};
 
 use crate::ledger::Ledger;
 use std::alloc::AllocError;
-use xa_base::{Branch, Call, Refusal};
+use xa_base::{Branch, Call, Refusal, Xid};
 
 impl Ledger {
     /// Whether a branch that was started on a line, since that last broke, isn't finished.
@@ -38,54 +40,45 @@ impl Ledger {
     }
 
     /// The refusal of a call on a line, but for those that the line and the resource manager find.
-    pub(crate) fn may_issue(&self, thread: u32, rm: u32, call: &Call) -> Option<Refusal>
-        ensures { result ≡ refusal_in (as_book self.now)
+    pub(crate) fn check_issue(&self, thread: u32, rm: u32, call: &Call) -> Result<(), Refusal>
+        ensures { result_err result ≡ refusal_in (as_book self.now)
             (Steps.Issue thread rm (map_call name_of call.now)) }
     {
         if thread >= self.threads || rm >= self.rms {
-            return Some(Refusal::Limit);
+            return Err(Refusal::Limit);
         }
         if !self.is_up {
-            return Some(Refusal::ManagerDown);
+            return Err(Refusal::ManagerDown);
         }
-        self.may_call(thread, rm, call)
+        self.check_call(thread, rm, call)
     }
 
     /// The same on a line of the system, while the manager is up: what the call itself is refused for.
-    fn may_call(&self, thread: u32, rm: u32, call: &Call) -> Option<Refusal>
-        ensures { result ≡ first_guard
+    fn check_call(&self, thread: u32, rm: u32, call: &Call) -> Result<(), Refusal>
+        ensures { result_err result ≡ first_guard
             (call_guards (view_in (as_book self.now)) thread rm (map_call name_of call.now)) }
     {
         match call {
-            Call::OpenRm => None,
-            Call::CloseRm => self.may_close(thread, rm),
-            Call::Recover { .. } => may_recover(thread),
-            Call::Start { xid, join: true } | Call::Start { xid, join: false } =>
-                match xid.branch() {
-                    Some(b) => self.may_start(thread, rm, b),
-                    None => Some(Refusal::UnknownTransaction),
-                },
-            Call::End { xid, .. } => match xid.branch() {
-                Some(b) => self.may_end(thread, rm, b),
-                None => Some(Refusal::UnknownTransaction),
-            },
-            Call::Prepare { xid } => match xid.branch() {
-                Some(b) => self.may_prepare(thread, rm, b),
-                None => Some(Refusal::UnknownTransaction),
-            },
-            Call::Commit { xid, one_phase } => match xid.branch() {
-                Some(b) if *one_phase => self.may_hand_over(thread, rm, b),
-                Some(b) => self.may_commit(rm, b),
-                None => Some(Refusal::UnknownTransaction),
-            },
-            Call::Rollback { xid } => match xid.branch() {
-                Some(b) => self.may_roll_back(rm, b),
-                None => Some(Refusal::UnknownTransaction),
-            },
-            Call::Forget { xid } => match xid.branch() {
-                Some(b) => self.may_forget(rm, b),
-                None => Some(Refusal::UnknownTransaction),
-            },
+            Call::OpenRm => Ok(()),
+            Call::CloseRm => self.check_close(thread, rm),
+            Call::Recover { .. } => check_recover(thread),
+            Call::Start { xid, join: true } | Call::Start { xid, join: false } => self.check_start(
+                thread,
+                rm,
+                own_branch(xid)?,
+            ),
+            Call::End { xid, .. } => self.check_own(thread, rm, own_branch(xid)?),
+            Call::Prepare { xid } => self.check_prepare(thread, rm, own_branch(xid)?),
+            Call::Commit { xid, one_phase } => {
+                let b = own_branch(xid)?;
+                if *one_phase {
+                    self.check_hand_over(thread, rm, b)
+                } else {
+                    self.check_commit(rm, b)
+                }
+            }
+            Call::Rollback { xid } => self.check_roll_back(rm, own_branch(xid)?),
+            Call::Forget { xid } => self.check_forget(rm, own_branch(xid)?),
         }
     }
 
@@ -107,150 +100,145 @@ impl Ledger {
     }
 
     /// The refusal of xa_close.
-    fn may_close(&self, thread: u32, rm: u32) -> Option<Refusal>
-        ensures { result ≡ first_guard
+    fn check_close(&self, thread: u32, rm: u32) -> Result<(), Refusal>
+        ensures { result_err result ≡ first_guard
             (call_guards (view_in (as_book self.now)) thread rm Calls.CloseRm) }
     {
         if self.has_unfinished(thread, rm) {
-            return Some(Refusal::Busy);
+            return Err(Refusal::Busy);
         }
-        None
+        Ok(())
     }
 
     /// The refusal of xa_start.
-    fn may_start(&self, thread: u32, rm: u32, b: Branch) -> Option<Refusal>
-        ensures start { result ≡ first_guard
+    fn check_start(&self, thread: u32, rm: u32, b: Branch) -> Result<(), Refusal>
+        ensures start { result_err result ≡ first_guard
             (call_guards (view_in (as_book self.now)) thread rm (Calls.Start (Ours b) false)) }
-        ensures join { result ≡ first_guard
+        ensures join { result_err result ≡ first_guard
             (call_guards (view_in (as_book self.now)) thread rm (Calls.Start (Ours b) true)) }
     {
-        if !self.is_begun(b.gtrid) {
-            return Some(Refusal::UnknownTransaction);
-        }
-        if rm != b.rm || thread != b.thread {
-            return Some(Refusal::WrongThread);
-        }
+        self.check_own(thread, rm, b)?;
         if self.branch(b).is_started {
-            return Some(Refusal::AlreadyStarted);
+            return Err(Refusal::AlreadyStarted);
         }
         if self.is_shut(b.gtrid) {
-            return Some(Refusal::Decided);
+            return Err(Refusal::Decided);
         }
-        None
+        Ok(())
     }
 
-    /// The refusal of xa_end.
-    fn may_end(&self, thread: u32, rm: u32, b: Branch) -> Option<Refusal>
-        ensures { (fail : Bool) →
-            result ≡ first_guard
-            (call_guards (view_in (as_book self.now)) thread rm (Calls.End (Ours b) fail)) }
+    /// The refusal of a call on a branch that is its own thread's alone: of xa_end, and the first of others.
+    fn check_own(&self, thread: u32, rm: u32, b: Branch) -> Result<(), Refusal>
+        ensures { result_err result ≡ first_guard
+            (call_guards (view_in (as_book self.now)) thread rm (Calls.End (Ours b) false)) }
     {
         if !self.is_begun(b.gtrid) {
-            return Some(Refusal::UnknownTransaction);
+            return Err(Refusal::UnknownTransaction);
         }
         if rm != b.rm || thread != b.thread {
-            return Some(Refusal::WrongThread);
+            return Err(Refusal::WrongThread);
         }
-        None
+        Ok(())
     }
 
     /// The refusal of xa_prepare.
-    fn may_prepare(&self, thread: u32, rm: u32, b: Branch) -> Option<Refusal>
-        ensures { result ≡ first_guard
+    fn check_prepare(&self, thread: u32, rm: u32, b: Branch) -> Result<(), Refusal>
+        ensures { result_err result ≡ first_guard
             (call_guards (view_in (as_book self.now)) thread rm (Calls.Prepare (Ours b))) }
     {
-        if !self.is_begun(b.gtrid) {
-            return Some(Refusal::UnknownTransaction);
-        }
-        if rm != b.rm || thread != b.thread {
-            return Some(Refusal::WrongThread);
-        }
+        self.check_own(thread, rm, b)?;
         if self.is_shut(b.gtrid) {
-            return Some(Refusal::Decided);
+            return Err(Refusal::Decided);
         }
-        None
+        Ok(())
     }
 
     /// The refusal of xa_commit in one phase.
-    fn may_hand_over(&self, thread: u32, rm: u32, b: Branch) -> Option<Refusal>
-        ensures { result ≡ first_guard
+    fn check_hand_over(&self, thread: u32, rm: u32, b: Branch) -> Result<(), Refusal>
+        ensures { result_err result ≡ first_guard
             (call_guards (view_in (as_book self.now)) thread rm (Calls.Commit (Ours b) true)) }
     {
-        if let Some(refusal) = self.may_prepare(thread, rm, b) {
-            return Some(refusal);
-        }
+        self.check_prepare(thread, rm, b)?;
         if !self.branch(b).is_started || self.transaction(b.gtrid).branches != 1 {
-            return Some(Refusal::Votes);
+            return Err(Refusal::Votes);
         }
-        None
+        Ok(())
     }
 
     /// The refusal of xa_commit in two phases.
-    fn may_commit(&self, rm: u32, b: Branch) -> Option<Refusal>
+    fn check_commit(&self, rm: u32, b: Branch) -> Result<(), Refusal>
         ensures { (thread : _) →
-            result ≡ first_guard
+            result_err result ≡ first_guard
             (call_guards (view_in (as_book self.now)) thread rm (Calls.Commit (Ours b) false)) }
     {
         if !self.is_begun(b.gtrid) && !self.is_outlived(b.gtrid) {
-            return Some(Refusal::UnknownTransaction);
+            return Err(Refusal::UnknownTransaction);
         }
         if rm != b.rm {
-            return Some(Refusal::WrongThread);
+            return Err(Refusal::WrongThread);
         }
         if !self.has_row(b.gtrid) {
-            return Some(Refusal::NotDecided);
+            return Err(Refusal::NotDecided);
         }
-        None
+        Ok(())
     }
 
     /// The refusal of xa_rollback.
-    fn may_roll_back(&self, rm: u32, b: Branch) -> Option<Refusal>
+    fn check_roll_back(&self, rm: u32, b: Branch) -> Result<(), Refusal>
         ensures { (thread : _) →
-            result ≡ first_guard
+            result_err result ≡ first_guard
             (call_guards (view_in (as_book self.now)) thread rm (Calls.Rollback (Ours b))) }
     {
         if !self.is_begun(b.gtrid) {
-            return Some(Refusal::UnknownTransaction);
+            return Err(Refusal::UnknownTransaction);
         }
         if rm != b.rm {
-            return Some(Refusal::WrongThread);
+            return Err(Refusal::WrongThread);
         }
         if !self.transaction(b.gtrid).may_roll_back() {
-            return Some(Refusal::NotDecided);
+            return Err(Refusal::NotDecided);
         }
         if self.branch(b).may_still_start() {
-            return Some(Refusal::Busy);
+            return Err(Refusal::Busy);
         }
-        None
+        Ok(())
     }
 
     /// The refusal of xa_forget.
-    fn may_forget(&self, rm: u32, b: Branch) -> Option<Refusal>
+    fn check_forget(&self, rm: u32, b: Branch) -> Result<(), Refusal>
         ensures { (thread : _) →
-            result ≡ first_guard
+            result_err result ≡ first_guard
             (call_guards (view_in (as_book self.now)) thread rm (Calls.Forget (Ours b))) }
     {
         if !self.is_begun(b.gtrid) {
-            return Some(Refusal::UnknownTransaction);
+            return Err(Refusal::UnknownTransaction);
         }
         if rm != b.rm {
-            return Some(Refusal::WrongThread);
+            return Err(Refusal::WrongThread);
         }
         if self.branch(b).recorded.is_none() {
-            return Some(Refusal::NotDecided);
+            return Err(Refusal::NotDecided);
         }
-        None
+        Ok(())
     }
 }
 
+/// The branch of this manager that an identifier names. Of any other there is no transaction here.
+fn own_branch(xid: &Xid) -> Result<Branch, Refusal>
+    ensures own { result_ok result ≡ branch_of_xid xid.now }
+    ensures other { IfErr result (λ n. n ≡ UnknownTransaction) }
+{
+    xid.branch().ok_or(Refusal::UnknownTransaction)
+}
+
 /// The refusal of xa_recover: it is the first thread's alone.
-fn may_recover(thread: u32) -> Option<Refusal>
-    ensures { result ≡ (if nat_eq thread 0 then None else Some WrongThread) }
+fn check_recover(thread: u32) -> Result<(), Refusal>
+    ensures { result_err result ≡ (if nat_eq thread 0 then None else Some WrongThread) }
 {
     if thread != 0 {
-        return Some(Refusal::WrongThread);
+        return Err(Refusal::WrongThread);
     }
-    None
+    Ok(())
 }
 
 /// The branch of this manager that a call starts.

@@ -1,5 +1,6 @@
 //! The refusals that the manager finds in its book, each before those with a higher number.
 
+ghost use Rattle.std.specs.Result.{result_err};
 ghost use Rattle.std.specs.Prelude.{◌≡◌};
 ghost use Rattle.xa_base.specs.declared.step.Step.TheVariants as Steps;
 ghost use Rattle.xa_model.specs.Facts.{each_of_some};
@@ -47,87 +48,85 @@ impl Ledger {
     }
 
     /// The refusal of a thread's begin, however many transactions were begun before.
-    pub(crate) fn may_begin_in_service(&self, thread: u32) -> Option<Refusal>
-        ensures { result ≡ service_refusal_in (as_book self.now) thread }
+    pub(crate) fn check_begin_in_service(&self, thread: u32) -> Result<(), Refusal>
+        ensures { result_err result ≡ service_refusal_in (as_book self.now) thread }
     {
         if thread >= self.threads {
-            return Some(Refusal::Limit);
+            return Err(Refusal::Limit);
         }
         if !self.is_up {
-            return Some(Refusal::ManagerDown);
+            return Err(Refusal::ManagerDown);
         }
-        None
+        Ok(())
     }
 
     /// The refusal of a thread's Begin.
-    pub(crate) fn may_begin(&self, thread: u32) -> Option<Refusal>
-        ensures { result ≡ refusal_in (as_book self.now) (Steps.Begin thread) }
+    pub(crate) fn check_begin(&self, thread: u32) -> Result<(), Refusal>
+        ensures { result_err result ≡ refusal_in (as_book self.now) (Steps.Begin thread) }
     {
-        if let Some(refusal) = self.may_begin_in_service(thread) {
-            return Some(refusal);
-        }
+        self.check_begin_in_service(thread)?;
         if self.begins >= BEGIN_LIMIT {
-            return Some(Refusal::Limit);
+            return Err(Refusal::Limit);
         }
-        None
+        Ok(())
     }
 
     /// The refusal of a decision.
-    pub(crate) fn may_decide(&self, g: Gtrid, outcome: Outcome) -> Option<Refusal>
-        ensures { result ≡ refusal_in (as_book self.now) (Steps.Decide g outcome) }
+    pub(crate) fn check_decide(&self, g: Gtrid, outcome: Outcome) -> Result<(), Refusal>
+        ensures { result_err result ≡ refusal_in (as_book self.now) (Steps.Decide g outcome) }
     {
         if !self.is_up {
-            return Some(Refusal::ManagerDown);
+            return Err(Refusal::ManagerDown);
         }
         if !self.is_begun(g) {
-            return Some(Refusal::UnknownTransaction);
+            return Err(Refusal::UnknownTransaction);
         }
         if self.is_shut(g) {
-            return Some(Refusal::Decided);
+            return Err(Refusal::Decided);
         }
         if outcome == Outcome::Commit && self.transaction(g).unvoted != 0 {
-            return Some(Refusal::Votes);
+            return Err(Refusal::Votes);
         }
-        None
+        Ok(())
     }
 
     /// The refusal of a claim.
-    pub(crate) fn may_claim(&self, g: Gtrid) -> Option<Refusal>
-        ensures { result ≡ refusal_in (as_book self.now) (Steps.Claim g) }
+    pub(crate) fn check_claim(&self, g: Gtrid) -> Result<(), Refusal>
+        ensures { result_err result ≡ refusal_in (as_book self.now) (Steps.Claim g) }
     {
         if !self.is_up {
-            return Some(Refusal::ManagerDown);
+            return Err(Refusal::ManagerDown);
         }
         if !self.is_begun(g) {
-            return Some(Refusal::UnknownTransaction);
+            return Err(Refusal::UnknownTransaction);
         }
         if self.is_shut(g) {
-            return Some(Refusal::Decided);
+            return Err(Refusal::Decided);
         }
         if self.transaction(g).unvoted != 0 {
-            return Some(Refusal::Votes);
+            return Err(Refusal::Votes);
         }
-        None
+        Ok(())
     }
 
     /// The refusal of the end of a claim, by commit or by rollback.
-    pub(crate) fn may_settle(&self, g: Gtrid) -> Option<Refusal>
-        ensures settle { result ≡ refusal_in (as_book self.now) (Steps.Settle g) }
-        ensures abandon { result ≡ refusal_in (as_book self.now) (Steps.Abandon g) }
+    pub(crate) fn check_settle(&self, g: Gtrid) -> Result<(), Refusal>
+        ensures settle { result_err result ≡ refusal_in (as_book self.now) (Steps.Settle g) }
+        ensures abandon { result_err result ≡ refusal_in (as_book self.now) (Steps.Abandon g) }
     {
         if !self.is_up {
-            return Some(Refusal::ManagerDown);
+            return Err(Refusal::ManagerDown);
         }
         if !self.is_begun(g) {
-            return Some(Refusal::UnknownTransaction);
+            return Err(Refusal::UnknownTransaction);
         }
         if self.is_taken_up(g) {
-            return Some(Refusal::Decided);
+            return Err(Refusal::Decided);
         }
         if !self.transaction(g).is_claimed {
-            return Some(Refusal::NotDecided);
+            return Err(Refusal::NotDecided);
         }
-        None
+        Ok(())
     }
 
     /// Whether each participant of a transaction's row is settled since the manager came up, and there is one.
@@ -160,21 +159,21 @@ impl Ledger {
     }
 
     /// The refusal of Done.
-    pub(crate) fn may_done(&self, g: Gtrid) -> Option<Refusal>
-        ensures { result ≡ refusal_in (as_book self.now) (Steps.Done g) }
+    pub(crate) fn check_done(&self, g: Gtrid) -> Result<(), Refusal>
+        ensures { result_err result ≡ refusal_in (as_book self.now) (Steps.Done g) }
     {
         if !self.is_up {
-            return Some(Refusal::ManagerDown);
+            return Err(Refusal::ManagerDown);
         }
         if !self.is_begun(g) && !self.is_outlived(g) {
-            return Some(Refusal::UnknownTransaction);
+            return Err(Refusal::UnknownTransaction);
         }
         if !self.has_row(g) {
-            return Some(Refusal::NotDecided);
+            return Err(Refusal::NotDecided);
         }
         if !self.is_row_settled(g) {
-            return Some(Refusal::Busy);
+            return Err(Refusal::Busy);
         }
-        None
+        Ok(())
     }
 }

@@ -29,9 +29,7 @@ impl<L: DecisionLog + Drop> Manager<L> {
         ensures tied { (near : Bool) (log : Option Content) →
             IsTied near (book_in self.old) log → IsTied near (book_in self.new) log }
     {
-        match self.ledger.may_settle(g) {
-            Some(refusal) => Err(refusal),
-            None => self.decide_without_row(g, Outcome::Rollback),
-        }
+        self.ledger.check_settle(g)?;
+        self.decide_without_row(g, Outcome::Rollback)
     }
 }

@@ -33,13 +33,8 @@ impl<L: DecisionLog + Drop> Manager<L> {
             IfErr result (λ n. (n ≡ Refusals.Memory) × (book_in self.new ≡ book_in self.old)) }
         ensures log { log_in self.new ≡ log_in self.old }
     {
-        match self.ledger.may_begin(thread) {
-            Some(refusal) => Err(refusal),
-            None => match self.ledger.begin() {
-                Ok(g) => Ok(g),
-                Err(_) => Err(Refusal::Memory),
-            },
-        }
+        self.ledger.check_begin(thread)?;
+        Ok(self.ledger.begin()?)
     }
 
     /// The same, however many transactions were begun before: for a service, which ends when its numbers do. A run
@@ -62,12 +57,7 @@ impl<L: DecisionLog + Drop> Manager<L> {
             IfErr result (λ n. (n ≡ Refusals.Memory) × (book_in self.new ≡ book_in self.old)) }
         ensures log { log_in self.new ≡ log_in self.old }
     {
-        match self.ledger.may_begin_in_service(thread) {
-            Some(refusal) => Err(refusal),
-            None => match self.ledger.begin() {
-                Ok(g) => Ok(g),
-                Err(_) => Err(Refusal::Memory),
-            },
-        }
+        self.ledger.check_begin_in_service(thread)?;
+        Ok(self.ledger.begin()?)
     }
 }

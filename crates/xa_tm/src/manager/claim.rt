@@ -23,12 +23,8 @@ impl<L: DecisionLog + Drop> Manager<L> {
             IfErr result (λ n. (n ≡ Refusals.Memory) × (book_in self.new ≡ book_in self.old)) }
         ensures log { log_in self.new ≡ log_in self.old }
     {
-        match self.ledger.may_claim(g) {
-            Some(refusal) => Err(refusal),
-            None => match self.ledger.claim(g) {
-                Ok(()) => Ok(()),
-                Err(_) => Err(Refusal::Memory),
-            },
-        }
+        self.ledger.check_claim(g)?;
+        self.ledger.claim(g)?;
+        Ok(())
     }
 }

@@ -48,10 +48,8 @@ impl<L: DecisionLog + Drop> Manager<L> {
         ensures asks { AsksFor (changed_by (Adds (rows_for (book_in self.old) (g ∷ []))))
             (L.moment (log_in self.old)) (L.moment (log_in self.new)) result }
     {
-        match self.ledger.may_decide(g, outcome) {
-            Some(refusal) => Err(refusal),
-            None => self.conclude(g, outcome),
-        }
+        self.ledger.check_decide(g, outcome)?;
+        self.conclude(g, outcome)
     }
 
     /// Decides what no rule refuses to decide.
@@ -96,10 +94,7 @@ impl<L: DecisionLog + Drop> Manager<L> {
         ensures tied { (near : Bool) (log : Option Content) →
             IsTied near (book_in self.old) log → IsTied near (book_in self.new) log }
     {
-        match self.ledger.decide(g, outcome) {
-            Ok(()) => Ok(()),
-            Err(_) => Err(Refusal::Memory),
-        }
+        Ok(self.ledger.decide(g, outcome)?)
     }
 
     /// Commits a transaction of which some branch voted XA_OK: its row names those that did.
@@ -123,6 +118,7 @@ impl<L: DecisionLog + Drop> Manager<L> {
         ensures asks { AsksFor (changed_by (Adds (rows_for (book_in self.old) (g ∷ []))))
             (L.moment (log_in self.old)) (L.moment (log_in self.new)) result }
     {
-        self.conclude_all(self.ledger.alloc, &[g], Outcome::Commit)
+        let alloc = self.ledger.alloc();
+        self.conclude_all(alloc, &[g], Outcome::Commit)
     }
 }

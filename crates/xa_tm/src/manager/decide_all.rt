@@ -59,10 +59,8 @@ impl<L: DecisionLog + Drop> Manager<L> {
         ensures asks { AsksFor (changed_by (rows_added outcome (book_in self.old) gtrids.now))
             (L.moment (log_in self.old)) (L.moment (log_in self.new)) result }
     {
-        match self.ledger.may_decide_all(gtrids, outcome) {
-            Some(refusal) => Err(refusal),
-            None => self.conclude_all(alloc, gtrids, outcome),
-        }
+        self.ledger.check_decide_all(gtrids, outcome)?;
+        self.conclude_all(alloc, gtrids, outcome)
     }
 
     /// Decides what no rule refuses to decide.
@@ -80,10 +78,8 @@ impl<L: DecisionLog + Drop> Manager<L> {
         ensures { Concludes L.moment outcome gtrids.now (book_in self.old) (log_in self.old)
             self.new result }
     {
-        match self.ledger.prepare_decisions(alloc, gtrids, outcome) {
-            Err(_) => Err(Refusal::Memory),
-            Ok(decisions) => self.write_decisions(alloc, gtrids, outcome, decisions),
-        }
+        let decisions = self.ledger.prepare_decisions(alloc, gtrids, outcome)?;
+        self.write_decisions(alloc, gtrids, outcome, decisions)
     }
 
     /// Decides these transactions, where there is room for all, by the decisions that write their rows.

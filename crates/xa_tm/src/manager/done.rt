@@ -37,9 +37,8 @@ impl<L: DecisionLog + Drop> Manager<L> {
         ensures asks { AsksFor (changed_by (Drops (g ∷ [])))
             (L.moment (log_in self.old)) (L.moment (log_in self.new)) result }
     {
-        match self.ledger.may_done(g) {
-            Some(refusal) => Err(refusal),
-            None => self.take_rows(&[g], g, Vec::new(self.ledger.alloc)),
-        }
+        self.ledger.check_done(g)?;
+        let alloc = self.ledger.alloc();
+        self.take_rows(&[g], g, Vec::new(alloc))
     }
 }

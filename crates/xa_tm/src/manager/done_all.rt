@@ -44,10 +44,8 @@ impl<L: DecisionLog + Drop> Manager<L> {
         ensures asks { AsksFor (changed_by (Drops gtrids.now))
             (L.moment (log_in self.old)) (L.moment (log_in self.new)) result }
     {
-        match self.ledger.may_done_all(gtrids) {
-            Some(refusal) => Err(refusal),
-            None => self.conclude_done(gtrids),
-        }
+        self.ledger.check_done_all(gtrids)?;
+        self.conclude_done(gtrids)
     }
 
     /// Takes the rows of these transactions away, which no rule refuses.
@@ -71,7 +69,7 @@ impl<L: DecisionLog + Drop> Manager<L> {
     {
         match gtrids {
             [] => Ok(()),
-            [first, others @ ..] => match others.iter().copied().collect(self.ledger.alloc) {
+            [first, others @ ..] => match others.iter().copied().collect(self.ledger.alloc()) {
                 Err(_) => Err(Refusal::Memory),
                 Ok(others) => self.take_rows(gtrids, *first, others),
             },

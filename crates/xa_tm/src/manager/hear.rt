@@ -67,14 +67,11 @@ impl<L: DecisionLog + Drop> Manager<L> {
         // Of the log after any call, also one that no history knows.
         ensures log { UsesLog (L.moment (log_in self.old)) (L.moment (log_in self.new)) result }
     {
-        if !self.ledger.is_up {
+        if !self.ledger.is_up() {
             return Err(Refusal::ManagerDown);
         }
         match answer {
-            Answer::Page(page) => match self.ledger.hear_page(thread, rm, call, page) {
-                Ok(()) => Ok(()),
-                Err(_) => Err(Refusal::Memory),
-            },
+            Answer::Page(page) => Ok(self.ledger.hear_page(thread, rm, call, page)?),
             Answer::Ret(code) => match branch_of(call) {
                 Some(b) => self.hear_news(b, News::of(call, *code)),
                 None => Ok(()),
@@ -107,18 +104,16 @@ impl<L: DecisionLog + Drop> Manager<L> {
         ensures asks { AsksFor (changed_by (recording b news.how))
             (L.moment (log_in self.old)) (L.moment (log_in self.new)) result }
     {
-        match self.ledger.reserve(b) {
-            Err(_) => Err(Refusal::Memory),
-            Ok(()) => match note_end(&mut self.log, b, news.how) {
-                Ok(()) => {
-                    self.ledger.hear(b, news);
-                    Ok(())
-                }
-                Err(_) => {
-                    self.ledger.fail(change_of(b, news.how));
-                    Err(Refusal::LogFault)
-                }
-            },
+        self.ledger.reserve(b)?;
+        match note_end(&mut self.log, b, news.how) {
+            Ok(()) => {
+                self.ledger.hear(b, news);
+                Ok(())
+            }
+            Err(_) => {
+                self.ledger.fail(change_of(b, news.how));
+                Err(Refusal::LogFault)
+            }
         }
     }
 }

@@ -22,7 +22,7 @@ impl<L: DecisionLog + Drop> Manager<L> {
         ensures { result ≡ refusal_in (book_in self.now)
             (Steps.Issue thread rm (map_call name_of call.now)) }
     {
-        self.ledger.may_issue(thread, rm, call)
+        self.ledger.check_issue(thread, rm, call).err()
     }
 
     /// Notes a call that is issued.
@@ -34,9 +34,6 @@ impl<L: DecisionLog + Drop> Manager<L> {
             (λ n. (n ≡ Refusals.Memory) × (book_in self.new ≡ book_in self.old)) }
         ensures log { log_in self.new ≡ log_in self.old }
     {
-        match self.ledger.note_issued(call) {
-            Ok(()) => Ok(()),
-            Err(_) => Err(Refusal::Memory),
-        }
+        Ok(self.ledger.note_issued(call)?)
     }
 }

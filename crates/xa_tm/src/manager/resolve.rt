@@ -21,10 +21,7 @@ impl<L: DecisionLog + Drop> Manager<L> {
             map waiting_call calls.items ≡ map Some (resolved_in (book_in self.now) rm)) }
         ensures err { IfErr result (λ n. n ≡ Refusals.Memory) }
     {
-        match self.ledger.resolving_calls(rm) {
-            Ok(calls) => Ok(calls),
-            Err(_) => Err(Refusal::Memory),
-        }
+        Ok(self.ledger.resolving_calls(rm)?)
     }
 
     /// How many calls that gives.
@@ -47,10 +44,7 @@ impl<L: DecisionLog + Drop> Manager<L> {
         ensures tied { (near : Bool) (log : Option Content) →
             IsTied near (book_in self.old) log → IsTied near (book_in self.new) log }
     {
-        match self.ledger.resolve_open(rm) {
-            Ok(calls) => Ok(calls),
-            Err(_) => Err(Refusal::Memory),
-        }
+        Ok(self.ledger.resolve_open(rm)?)
     }
 
     /// How many calls [`Manager::resolve_open`] gives.

@@ -56,28 +56,22 @@ impl<L: DecisionLog + Drop> Manager<L> {
         ensures log { AsksToRaise (book_in self.old) (L.moment (log_in self.old))
             (L.moment (log_in self.new)) result }
     {
-        if self.ledger.is_up {
+        if self.ledger.is_up() {
             return Err(Refusal::Busy);
         }
-        match self.ledger.prepare_restart() {
-            Err(_) => Err(Refusal::Memory),
-            Ok(()) => match find_and_raise(&mut self.log) {
-                Ok(found) => {
-                    if self.ledger.try_restart(
-                        found.incarnation,
-                        found.decisions as u64,
-                        found.heuristics as u64,
-                    ) {
-                        Ok(found)
-                    } else {
-                        Err(Refusal::LogFault)
-                    }
-                }
-                Err(_) => {
-                    self.ledger.fail_restart();
-                    Err(Refusal::LogFault)
-                }
-            },
+        self.ledger.prepare_restart()?;
+        let Ok(found) = find_and_raise(&mut self.log) else {
+            self.ledger.fail_restart();
+            return Err(Refusal::LogFault);
+        };
+        if self.ledger.try_restart(
+            found.incarnation,
+            found.decisions as u64,
+            found.heuristics as u64,
+        ) {
+            Ok(found)
+        } else {
+            Err(Refusal::LogFault)
         }
     }
 }

@@ -42,9 +42,7 @@ impl<L: DecisionLog + Drop> Manager<L> {
         ensures asks { AsksFor (changed_by (Adds (rows_for (book_in self.old) (g ∷ []))))
             (L.moment (log_in self.old)) (L.moment (log_in self.new)) result }
     {
-        match self.ledger.may_settle(g) {
-            Some(refusal) => Err(refusal),
-            None => self.conclude(g, Outcome::Commit),
-        }
+        self.ledger.check_settle(g)?;
+        self.conclude(g, Outcome::Commit)
     }
 }

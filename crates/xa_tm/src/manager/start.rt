@@ -7,10 +7,10 @@ ghost use Rattle.xa_tm.specs.Started.{IsStarted, IsStartedOver};
 use crate::ledger::Ledger;
 use crate::ledger::order::can_start;
 use crate::manager::Manager;
-use std::alloc::Global;
+use std::alloc::{AllocError, Global};
 use std::snapshot::Snapshot;
 use thiserror::Error;
-use xa_log::DecisionLog;
+use xa_log::{DecisionLog, LogFault};
 
 /// Why a manager didn't start.
 #[derive(Clone, Copy, Debug, PartialEq, Eq, Error)]
@@ -22,6 +22,26 @@ pub enum StartFault {
     /// A request for memory was refused, but for one within the log, which is its failure. The log is as it was.
     #[error("out of memory")]
     Memory,
+}
+
+impl From<LogFault> for StartFault {
+    ghost use Rattle.xa_tm.specs.declared.manager.start.StartFault.TheVariants as StartFaults;
+
+    ghost from_gives = { λ _ fault. fault ≡ StartFaults.Log };
+
+    fn from(_fault: LogFault) -> StartFault {
+        StartFault::Log
+    }
+}
+
+impl From<AllocError> for StartFault {
+    ghost use Rattle.xa_tm.specs.declared.manager.start.StartFault.TheVariants as StartFaults;
+
+    ghost from_gives = { λ _ fault. fault ≡ StartFaults.Memory };
+
+    fn from(_error: AllocError) -> StartFault {
+        StartFault::Memory
+    }
 }
 
 impl<L: DecisionLog + Drop> Manager<L> {
@@ -37,23 +57,15 @@ impl<L: DecisionLog + Drop> Manager<L> {
         ensures memory_fault { result ≡ Err StartFault.Memory →
             ((left : L) × IsOnlyRead L.DecisionLog log left) }
     {
-        match log.rows() {
-            Err(_) => Err(StartFault::Log),
-            Ok(rows) => match Ledger::load(alloc, threads, rms, &rows) {
-                Err(_) => Err(StartFault::Memory),
-                Ok(mut ledger) => match log.bump() {
-                    Err(_) => Err(StartFault::Log),
-                    Ok(incarnation) => {
-                        if can_start(&rows, incarnation) {
-                            ledger.incarnation = incarnation;
-                            let began = Snapshot::of(&rows);
-                            Ok(Manager { ledger, log, began })
-                        } else {
-                            Err(StartFault::Log)
-                        }
-                    }
-                },
-            },
+        let rows = log.rows()?;
+        let ledger = Ledger::load(alloc, threads, rms, &rows)?;
+        let incarnation = log.bump()?;
+        if can_start(&rows, incarnation) {
+            let ledger = ledger.in_incarnation(incarnation);
+            let began = Snapshot::of(&rows);
+            Ok(Manager { ledger, log, began })
+        } else {
+            Err(StartFault::Log)
         }
     }
 }

@@ -43,7 +43,7 @@ impl<L: DecisionLog + Drop> Manager<Slot<L>> {
         ensures was { (log : L) → result ≡ Some log → last_out (log_in self.new) ≡ log }
         ensures book { book_in self.new ≡ book_in self.old }
     {
-        if self.ledger.is_up {
+        if self.ledger.is_up() {
             return None;
         }
         self.log.take()
@@ -76,7 +76,7 @@ impl<L: DecisionLog + Drop> Manager<Slot<L>> {
             (MayHold (book_in self.new))) }
         ensures book { book_in self.new ≡ book_in self.old }
     {
-        if self.ledger.is_up || self.log.is_held() {
+        if self.ledger.is_up() || self.log.is_held() {
             return Err((SwapFault::Up, log));
         }
         match swap_fault(&self.ledger, &mut log) {

@@ -25,13 +25,13 @@ write_decisions-requires-clause-open g c =
 pub write_decisions-requires-clause-room : goal.write_decisions-requires-clause-room
 write_decisions-requires-clause-room g c =
     subst (λ k. HasRoomForDecisions c.args.gtrids.now (written_by c.args.outcome k c.args.gtrids.now) c.prepare_decisions.new.self)
-    (sym c.prepare_decisions.ensures.book) c.in-Ok.ensures.room
+    (sym c.prepare_decisions.ensures.book) c.in_ok-decisions.ensures.room
 
 pub write_decisions-requires-clause-all : goal.write_decisions-requires-clause-all
 write_decisions-requires-clause-all g c =
-    c.in-Ok.ensures.all ∙ ap (λ k. rows_for k (written_by c.args.outcome k c.args.gtrids.now)) (sym c.prepare_decisions.ensures.book)
+    c.in_ok-decisions.ensures.all ∙ ap (λ k. rows_for k (written_by c.args.outcome k c.args.gtrids.now)) (sym c.prepare_decisions.ensures.book)
 
-pub returns-in-Ok : goal.returns-in-Ok
-returns-in-Ok g c =
+pub returns : goal.returns
+returns g c =
     subst (λ k. Concludes g.L.DecisionLog.moment c.args.outcome c.args.gtrids.now k (log_in c.args.self.now) c.write_decisions.new.self c.write_decisions.result)
     c.prepare_decisions.ensures.book c.write_decisions.ensures

@@ -4,7 +4,7 @@ use Rattle.xa_tm.specs.BookAndLog.{IsTied}
 use Rattle.xa_tm.proofs.Log.Ties.{tied_plain}
 use Rattle.xa_tm.proofs.manager.Manager.decide_without_row.Goals as goal
 
-pub returns-in-Ok-clause-tied : goal.returns-in-Ok-clause-tied
-returns-in-Ok-clause-tied g c = λ near log tied.
-    subst (λ b. IsTied near b log) (sym c.in-Ok.ensures.ok)
+pub returns-clause-tied : goal.returns-clause-tied
+returns-clause-tied g c = λ near log tied.
+    subst (λ b. IsTied near b log) (sym c.in_ok-decide.ensures.ok)
     (tied_plain near (as_book c.args.self.now.ledger) c.args.g c.args.outcome log c.requires.no_row tied)

@@ -11,8 +11,9 @@ use Rattle.xa_log.specs.Contract.{one_more_fault}
 use Rattle.xa_tm.specs.Begins.{records_listed, rows_listed}
 use Rattle.xa_tm.specs.Book.{Book}
 use Rattle.xa_tm.proofs.Log.Begins.{begun_apart, begun_book}
-use Rattle.xa_tm.specs.LedgerBook.{IsSound}
+use Rattle.xa_tm.specs.LedgerBook.{IsSound, as_book}
 use Rattle.xa_tm.specs.Release.{RowsAreOwn}
+use Rattle.xa_tm.specs.declared.ledger.Ledger.{Ledger}
 use Rattle.xa_tm.specs.Starting.{IsOld, ended_among, fits_before, loaded, book_at_start}
 use Rattle.xa_tm.proofs.History.Starts.{in_incarnation, loaded_own, raised_over, start_old, start_sound, start_tied, started_over}
 use Rattle.xa_tm.proofs.Log.Pasts.{not_past, past_of}
@@ -20,21 +21,21 @@ use Rattle.xa_tm.proofs.manager.Manager.new.Goals as goal
 
 pub returns-then-can_start-clause-started : goal.returns-then-can_start-clause-started
 returns-then-can_start-clause-started g c =
-    let rows = c.in-Ok.rows in
+    let rows = c.in_ok-rows.rows in
     let some : length rows.decisions.items < 2 ^ 64 - 1 = omega arith in
     let few : length rows.heuristics.items < 2 ^ 64 - 1 = omega arith in
     let some_rows : length rows.decisions.items ≤ last_number = omega arith in
     let few_records : length rows.heuristics.items ≤ last_number = omega arith in
-    let i = c.in-Ok-bump.incarnation in
-    let is =
-    in_incarnation c.in-Ok-load.ledger i c.args.threads c.args.rms (loaded rows.decisions.items rows.participants.items)
-    (length rows.decisions.items) (ended_among rows.heuristics.items) (length rows.heuristics.items) c.in-Ok-load.ensures in
+    let i = c.in_ok-incarnation.incarnation in
+    let is = ap as_book c.in_incarnation-ledger.ensures ∙
+    in_incarnation c.in_ok-ledger.ledger i c.args.threads c.args.rms (loaded rows.decisions.items rows.participants.items)
+    (length rows.decisions.items) (ended_among rows.heuristics.items) (length rows.heuristics.items) c.in_ok-ledger.ensures in
     let starts = and_parts _ _ (sym c.can_start.ensures ∙ c.if-can_start.true) in
     let up = and_parts _ _ starts.1 in
     record {
       book = λ o with.
           is ∙ begun_book c.args.threads c.args.rms i rows.decisions.items rows.participants.items rows.heuristics.items o up.0 up.1 with.threads_are
-          with.rms_are with.incarnation
+          with.rms_are (with.incarnation ∙ ap (λ (l : Ledger). l.incarnation) c.in_incarnation-ledger.ensures)
           (with.rows ∙ ap (λ (r : LogRows). rows_listed r.decisions.items r.participants.items) c.of-began.ensures)
           (with.records ∙ ap (λ (r : LogRows). records_listed r.heuristics.items) c.of-began.ensures);
       old = subst IsOld (sym is) (start_old c.args.threads c.args.rms i rows.decisions.items rows.participants.items rows.heuristics.items starts.0);
@@ -42,41 +43,41 @@ returns-then-can_start-clause-started g c =
       apart = subst (λ (r : LogRows). ApartRows (rows_listed r.decisions.items r.participants.items)) (sym c.of-began.ensures)
           (begun_apart rows.decisions.items rows.participants.items up.0);
       sound = subst IsSound (sym is) (start_sound c.args.threads c.args.rms i rows.decisions.items rows.participants.items rows.heuristics.items some few
-          c.in-Ok-bump.ensures.most
+          c.in_ok-incarnation.ensures.most
           (and_parts (list_all (fits_before i) rows.decisions.items)
           (list_all (λ (e : Branch × How). fits_before i e.0.gtrid) rows.heuristics.items) starts.0).0);
       room = record {
-        rows = subst (λ n. n ≤ last_number) (sym (ap (λ (k : Book). k.rows) c.in-Ok-load.ensures)) some_rows;
-        records = subst (λ n. n ≤ last_number) (sym (ap (λ (k : Book). k.records) c.in-Ok-load.ensures)) few_records;
+        rows = subst (λ n. n ≤ last_number) (sym (ap (λ (k : Book). k.rows) is)) some_rows;
+        records = subst (λ n. n ≤ last_number) (sym (ap (λ (k : Book). k.records) is)) few_records;
       };
     }
 
 pub returns-then-can_start-clause-over : goal.returns-then-can_start-clause-over
 returns-then-can_start-clause-over g c =
     let moment = g.L.DecisionLog.moment in
-    let rows = c.in-Ok.rows in
-    let i = c.in-Ok-bump.incarnation in
+    let rows = c.in_ok-rows.rows in
+    let i = c.in_ok-incarnation.incarnation in
     let handed = (moment c.args.log).content in
     let read = (moment c.rows.new.self).content in
     let new = (moment c.bump.new.self).content in
-    let bumped = c.in-Ok-bump.ensures.changes in
-    let is =
-    in_incarnation c.in-Ok-load.ledger i c.args.threads c.args.rms (loaded rows.decisions.items rows.participants.items)
-    (length rows.decisions.items) (ended_among rows.heuristics.items) (length rows.heuristics.items) c.in-Ok-load.ensures in
+    let bumped = c.in_ok-incarnation.ensures.changes in
+    let is = ap as_book c.in_incarnation-ledger.ensures ∙
+    in_incarnation c.in_ok-ledger.ledger i c.args.threads c.args.rms (loaded rows.decisions.items rows.participants.items)
+    (length rows.decisions.items) (ended_among rows.heuristics.items) (length rows.heuristics.items) c.in_ok-ledger.ensures in
     let raised = λ (order : (moment c.args.log).is_in_order) (honest : (moment c.bump.new.self).is_honest).
     raised_over c.args.threads c.args.rms i rows.decisions.items rows.participants.items rows.heuristics.items handed read new
-    (c.in-Ok.ensures.reads.ok order (bumped.honest honest)) (bumped.ok (c.in-Ok.ensures.reads.order order) honest) in
+    (c.in_ok-rows.ensures.reads.ok order (bumped.honest honest)) (bumped.ok (c.in_ok-rows.ensures.reads.order order) honest) in
     let book = λ (order : (moment c.args.log).is_in_order) (honest : (moment c.bump.new.self).is_honest).
     subst (λ k. IsSomeAnd new (λ c'. k ≡ book_at_start c.args.threads c.args.rms c')) (sym is)
     (started_over c.args.threads c.args.rms i rows.decisions.items rows.participants.items rows.heuristics.items handed read new
-    (c.in-Ok.ensures.decisions order (bumped.honest honest)) (c.in-Ok.ensures.participants order (bumped.honest honest))
-    (c.in-Ok.ensures.heuristics order (bumped.honest honest)) (c.in-Ok.ensures.reads.ok order (bumped.honest honest))
-    (bumped.ok (c.in-Ok.ensures.reads.order order) honest) (c.in-Ok-bump.ensures.answer (c.in-Ok.ensures.reads.order order) honest)
+    (c.in_ok-rows.ensures.decisions order (bumped.honest honest)) (c.in_ok-rows.ensures.participants order (bumped.honest honest))
+    (c.in_ok-rows.ensures.heuristics order (bumped.honest honest)) (c.in_ok-rows.ensures.reads.ok order (bumped.honest honest))
+    (bumped.ok (c.in_ok-rows.ensures.reads.order order) honest) (c.in_ok-incarnation.ensures.answer (c.in_ok-rows.ensures.reads.order order) honest)
     (λ content is. g.met.L.DecisionLog.own c.args.log content order is)) in
     record {
-      order = λ order. bumped.order (c.in-Ok.ensures.reads.order order);
-      honest = λ honest. c.in-Ok.ensures.reads.honest (bumped.honest honest);
-      faults = bumped.faults ∙ c.in-Ok.ensures.reads.faults;
+      order = λ order. bumped.order (c.in_ok-rows.ensures.reads.order order);
+      honest = λ honest. c.in_ok-rows.ensures.reads.honest (bumped.honest honest);
+      faults = bumped.faults ∙ c.in_ok-rows.ensures.reads.faults;
       past = λ order honest. past_of c.args.threads c.args.rms _ handed new (raised order honest) (book order honest)
           (returns-then-can_start-clause-started g c).old;
       raised = raised;
@@ -86,41 +87,41 @@ returns-then-can_start-clause-over g c =
 
 -- ** the faults
 
-pub returns-in-Err-clause-log_fault : goal.returns-in-Err-clause-log_fault
-returns-in-Err-clause-log_fault g c = λ is. (c.rows.new.self, inl c.in-Err.ensures.reads.faults)
+pub returns-in_err-rows-clause-log_fault : goal.returns-in_err-rows-clause-log_fault
+returns-in_err-rows-clause-log_fault g c = λ is. (c.rows.new.self, inl c.in_err-rows.ensures.reads.faults)
 
-pub returns-in-Err-load-clause-memory_fault : goal.returns-in-Err-load-clause-memory_fault
-returns-in-Err-load-clause-memory_fault g c = λ is. (
+pub returns-in_err-ledger-clause-memory_fault : goal.returns-in_err-ledger-clause-memory_fault
+returns-in_err-ledger-clause-memory_fault g c = λ is. (
   c.rows.new.self,
   record {
-    rows = record { says = c.in-Ok.ensures.cause; faults = c.in-Ok.ensures.reads.faults };
-    same = λ order honest. c.in-Ok.ensures.reads.ok order honest;
+    rows = record { says = c.in_ok-rows.ensures.cause; faults = c.in_ok-rows.ensures.reads.faults };
+    same = λ order honest. c.in_ok-rows.ensures.reads.ok order honest;
   },
 )
 
-pub returns-in-Err-bump-clause-log_fault : goal.returns-in-Err-bump-clause-log_fault
-returns-in-Err-bump-clause-log_fault g c = λ is. (c.bump.new.self, inl (c.in-Err-bump.ensures.changes.faults ∙ ap one_more_fault c.in-Ok.ensures.reads.faults))
+pub returns-in_err-incarnation-clause-log_fault : goal.returns-in_err-incarnation-clause-log_fault
+returns-in_err-incarnation-clause-log_fault g c = λ is. (c.bump.new.self, inl (c.in_err-incarnation.ensures.changes.faults ∙ ap one_more_fault c.in_ok-rows.ensures.reads.faults))
 
 pub returns-else-can_start-clause-log_fault : goal.returns-else-can_start-clause-log_fault
 returns-else-can_start-clause-log_fault g c = λ is.
-    let rows = c.in-Ok.rows in
-    let i = c.in-Ok-bump.incarnation in
+    let rows = c.in_ok-rows.rows in
+    let i = c.in_ok-incarnation.incarnation in
     let handed = (g.L.DecisionLog.moment c.args.log).content in
     let mid = (g.L.DecisionLog.moment c.rows.new.self).content in
-    let bumped = c.in-Ok-bump.ensures.changes in (
+    let bumped = c.in_ok-incarnation.ensures.changes in (
       c.bump.new.self,
       inr (record {
-        faults = bumped.faults ∙ c.in-Ok.ensures.reads.faults;
+        faults = bumped.faults ∙ c.in_ok-rows.ensures.reads.faults;
         not_past = λ order honest.
             let still = bumped.honest honest in
             not_past i rows.decisions.items rows.heuristics.items handed mid
-            (c.in-Ok.ensures.decisions order still) (c.in-Ok.ensures.heuristics order still) (c.in-Ok.ensures.reads.ok order still)
-            (c.in-Ok-bump.ensures.answer (c.in-Ok.ensures.reads.order order) honest)
+            (c.in_ok-rows.ensures.decisions order still) (c.in_ok-rows.ensures.heuristics order still) (c.in_ok-rows.ensures.reads.ok order still)
+            (c.in_ok-incarnation.ensures.answer (c.in_ok-rows.ensures.reads.order order) honest)
             (λ content is. g.met.L.DecisionLog.fits c.args.log content order is)
             (sym c.can_start.ensures ∙ c.if-can_start.false);
         raised = λ order honest.
             raised_over c.args.threads c.args.rms i rows.decisions.items rows.participants.items rows.heuristics.items
             handed mid (g.L.DecisionLog.moment c.bump.new.self).content
-            (c.in-Ok.ensures.reads.ok order (bumped.honest honest)) (bumped.ok (c.in-Ok.ensures.reads.order order) honest);
+            (c.in_ok-rows.ensures.reads.ok order (bumped.honest honest)) (bumped.ok (c.in_ok-rows.ensures.reads.order order) honest);
       }),
     )

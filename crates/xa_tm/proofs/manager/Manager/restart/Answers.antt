@@ -9,12 +9,12 @@ use Rattle.xa_tm.proofs.manager.Manager.restart.Goals as goal
 pub returns-then-try_restart-clause-tied : goal.returns-then-try_restart-clause-tied
 returns-then-try_restart-clause-tied g c = λ near order honest tied.
     let k = as_book c.args.self.now.ledger in
-    let f = c.in-Ok-find_and_raise.found in
+    let f = c.in-Ok.found in
     let new = (g.L.DecisionLog.moment c.find_and_raise.new.log).content in
     subst (λ b. IsTied near b new) (sym
     (c.if-try_restart.ensures.up refl ∙ ap (λ b. after b (Restarted f.incarnation f.decisions f.heuristics)) c.prepare_restart.ensures.book))
-    (tied_restart near k f.incarnation f.decisions f.heuristics (g.L.DecisionLog.moment c.args.self.now.log).content new c.if-self.false
-    (c.in-Ok-find_and_raise.ensures.found order honest) (c.in-Ok-find_and_raise.ensures.ok order honest) tied)
+    (tied_restart near k f.incarnation f.decisions f.heuristics (g.L.DecisionLog.moment c.args.self.now.log).content new (sym c.is_up.ensures ∙ c.if-is_up.false)
+    (c.in-Ok.ensures.found order honest) (c.in-Ok.ensures.ok order honest) tied)
 
 pub returns-else-try_restart-clause-tied : goal.returns-else-try_restart-clause-tied
 returns-else-try_restart-clause-tied g c = λ near order honest tied.
@@ -22,12 +22,12 @@ returns-else-try_restart-clause-tied g c = λ near order honest tied.
     let new = (g.L.DecisionLog.moment c.find_and_raise.new.log).content in
     subst (λ b. IsTied near b new) (sym
     (c.if-try_restart.ensures.down refl NoDoubt ∙ ap (λ b. book_after b NoDoubt (Failed InRestart)) c.prepare_restart.ensures.book))
-    (tied_no_restart near k (g.L.DecisionLog.moment c.args.self.now.log).content new c.if-self.false
-    (inr (inr (c.in-Ok-find_and_raise.ensures.ok order honest))) tied)
+    (tied_no_restart near k (g.L.DecisionLog.moment c.args.self.now.log).content new (sym c.is_up.ensures ∙ c.if-is_up.false)
+    (inr (inr (c.in-Ok.ensures.ok order honest))) tied)
 
 pub returns-else-try_restart-clause-log : goal.returns-else-try_restart-clause-log
 returns-else-try_restart-clause-log g c =
-    let raised = c.in-Ok-find_and_raise.ensures in
+    let raised = c.in-Ok.ensures in
     record {
       fault = λ order honest failed. inr (inr (raised.ok order honest));
       crash = raised.crash;
@@ -35,17 +35,17 @@ returns-else-try_restart-clause-log g c =
       honest = raised.honest;
       faults = λ order honest tied.
           let k = as_book c.args.self.now.ledger in
-          let f = c.in-Ok-find_and_raise.found in
+          let f = c.in-Ok.found in
           absurd (never_found k f.incarnation f.decisions f.heuristics
           (ap (λ b. may_find b f.incarnation f.decisions f.heuristics) (sym c.prepare_restart.ensures.book) ∙ sym c.if-try_restart.ensures.value)
-          (is_found k f.incarnation f.decisions f.heuristics (g.L.DecisionLog.moment c.args.self.now.log).content c.if-self.false
+          (is_found k f.incarnation f.decisions f.heuristics (g.L.DecisionLog.moment c.args.self.now.log).content (sym c.is_up.ensures ∙ c.if-is_up.false)
           (raised.found order honest) tied));
       counted = inr (refl, raised.faults);
     }
 
-pub returns-in-Err-find_and_raise-clause-tied : goal.returns-in-Err-find_and_raise-clause-tied
-returns-in-Err-find_and_raise-clause-tied g c = λ near order honest tied.
+pub returns-in_default-clause-tied : goal.returns-in_default-clause-tied
+returns-in_default-clause-tied g c = λ near order honest tied.
     let k = as_book c.args.self.now.ledger in
     let new = (g.L.DecisionLog.moment c.find_and_raise.new.log).content in
     subst (λ b. IsTied near b new) (sym (c.fail_restart.ensures NoDoubt ∙ ap (λ b. book_after b NoDoubt (Failed InRestart)) c.prepare_restart.ensures.book))
-    (tied_no_restart near k (g.L.DecisionLog.moment c.args.self.now.log).content new c.if-self.false (c.in-Err-find_and_raise.ensures.err order honest) tied)
+    (tied_no_restart near k (g.L.DecisionLog.moment c.args.self.now.log).content new (sym c.is_up.ensures ∙ c.if-is_up.false) (c.in_default.ensures.err order honest) tied)
