@@ -101,7 +101,7 @@ pub(crate) fn crash_rms<R: ResourceManager>(rms: &mut Vec<R>)
     }
 }
 
-/// Refuses a call that the line takes at no time, however little waits on it.
+/// Whether a line that has room takes such a call.
 pub(crate) fn check_line(line: &Line, call: &Call) -> Result<(), Refusal>
     ensures { result_err result ≡ barred (issued line.now) call.now }
 {
