@@ -14,7 +14,7 @@ ghost use Rattle.xa_tm.specs.Slots.{slot_moment};
 use crate::site::{Site, crash_rms};
 use crate::start::start_parts;
 use crate::system::{EVENT_LIMIT, System};
-use std::alloc::Global;
+use std::alloc::{AllocError, Global};
 use std::snapshot::Snapshot;
 use thiserror::Error;
 use xa_log::DecisionLog;
@@ -39,6 +39,29 @@ pub enum ResumeFault {
     /// A request for memory was refused. The log is as it was.
     #[error("out of memory")]
     Memory,
+}
+
+impl From<StartFault> for ResumeFault {
+    ghost use Rattle.xa_system.specs.StartFaults.{resume_fault_of};
+
+    ghost from_gives = { λ start fault. fault ≡ resume_fault_of start };
+
+    fn from(fault: StartFault) -> ResumeFault {
+        match fault {
+            StartFault::Log => ResumeFault::Log,
+            StartFault::Memory => ResumeFault::Memory,
+        }
+    }
+}
+
+impl From<AllocError> for ResumeFault {
+    ghost use Rattle.xa_system.specs.declared.resume.ResumeFault.TheVariants as Faults;
+
+    ghost from_gives = { λ _ fault. fault ≡ Faults.Memory };
+
+    fn from(_error: AllocError) -> ResumeFault {
+        ResumeFault::Memory
+    }
 }
 
 /// Whether each branch of this manager that was ever started is one that an earlier incarnation may have left where it
@@ -94,16 +117,10 @@ impl<R: ResourceManager + Drop, L: DecisionLog + Drop> System<R, L> {
             return Err(ResumeFault::Limit);
         }
         crash_rms(&mut rms);
-        let Ok(events) = Vec::with_capacity(alloc, EVENT_LIMIT) else {
-            return Err(ResumeFault::Memory);
-        };
+        let events = Vec::with_capacity(alloc, EVENT_LIMIT)?;
         let first = Snapshot::of(&log);
         let handed = Snapshot::of(&log);
-        let parts = match start_parts(alloc, threads, rms, log) {
-            Ok(parts) => parts,
-            Err(StartFault::Log) => return Err(ResumeFault::Log),
-            Err(StartFault::Memory) => return Err(ResumeFault::Memory),
-        };
+        let parts = start_parts(alloc, threads, rms, log)?;
         if !are_past(parts.sites.as_slice(), parts.manager.incarnation()) {
             return Err(ResumeFault::Newer);
         }

@@ -1,5 +1,6 @@
 //! A resource manager of the system.
 ghost use Rattle.std.specs.Prelude.{◌≡◌, ◌≢◌, ◌≤◌, ◌<◌, ◌+◌, ◌++◌, true, false, length, vec_len, slice_get, IsSomeAnd, OnErr, IfOk};
+ghost use Rattle.std.specs.Result.{result_err};
 ghost use Rattle.xa_model.specs.Replies.History.{name_of};
 ghost use Rattle.xa_base.specs.Opening.{has_closed, has_opened};
 ghost use Rattle.xa_model.specs.Replies.ReadBack.{CallHasXid};
@@ -100,17 +101,17 @@ pub(crate) fn crash_rms<R: ResourceManager>(rms: &mut Vec<R>)
     }
 }
 
-/// Why a line takes no such call, however little waits on it.
-pub(crate) fn bar(line: &Line, call: &Call) -> Option<Refusal>
-    ensures { result ≡ barred (issued line.now) call.now }
+/// Whether a line that has room takes such a call.
+pub(crate) fn check_line(line: &Line, call: &Call) -> Result<(), Refusal>
+    ensures { result_err result ≡ barred (issued line.now) call.now }
 {
     if !matches!(call, Call::OpenRm) && !line.is_open() {
-        return Some(Refusal::NotOpen);
+        return Err(Refusal::NotOpen);
     }
     if line.is_closed() {
-        return Some(Refusal::Closed);
+        return Err(Refusal::Closed);
     }
-    None
+    Ok(())
 }
 
 /// The line's oldest answer, which is heard; `copy` is that answer too.

@@ -6,7 +6,7 @@ ghost use Rattle.xa_system.specs.declared.system.NewFault.{NewFault};
 
 use crate::parts::Parts;
 use crate::start::start_parts;
-use std::alloc::Global;
+use std::alloc::{AllocError, Global};
 use std::marker::Model;
 use std::snapshot::Snapshot;
 use thiserror::Error;
@@ -58,6 +58,29 @@ pub enum NewFault {
     /// A request for memory was refused. The log is as it was.
     #[error("out of memory")]
     Memory,
+}
+
+impl From<StartFault> for NewFault {
+    ghost use Rattle.xa_system.specs.StartFaults.{new_fault_of};
+
+    ghost from_gives = { λ start fault. fault ≡ new_fault_of start };
+
+    fn from(fault: StartFault) -> NewFault {
+        match fault {
+            StartFault::Log => NewFault::Log,
+            StartFault::Memory => NewFault::Memory,
+        }
+    }
+}
+
+impl From<AllocError> for NewFault {
+    ghost use Rattle.xa_system.specs.declared.system.NewFault.TheVariants as Faults;
+
+    ghost from_gives = { λ _ fault. fault ≡ Faults.Memory };
+
+    fn from(_error: AllocError) -> NewFault {
+        NewFault::Memory
+    }
 }
 
 /// The format of this manager's identifiers.
@@ -115,21 +138,16 @@ impl<R: ResourceManager + Drop, L: DecisionLog + Drop> System<R, L> {
         if !are_clear::<R>(rms.as_slice()) {
             return Err(NewFault::NotClear);
         }
-        let Ok(events) = Vec::with_capacity(alloc, EVENT_LIMIT) else {
-            return Err(NewFault::Memory);
-        };
+        let events = Vec::with_capacity(alloc, EVENT_LIMIT)?;
         let first = Snapshot::of(&log);
         let handed = Snapshot::of(&log);
-        match start_parts(alloc, threads, rms, log) {
-            Ok(parts) => Ok(System {
-                first,
-                handed,
-                parts,
-                events,
-            }),
-            Err(StartFault::Log) => Err(NewFault::Log),
-            Err(StartFault::Memory) => Err(NewFault::Memory),
-        }
+        let parts = start_parts(alloc, threads, rms, log)?;
+        Ok(System {
+            first,
+            handed,
+            parts,
+            events,
+        })
     }
 
     /// The events so far, oldest first.

@@ -214,9 +214,6 @@ pub record IsLike (a b : Moment) : Type 0 where
   pub honest : a.is_honest → b.is_honest
   pub faults : a.fault_count ≡ b.fault_count
 
-pub same_moment : (a : Moment) → IsLike a a
-same_moment a = record { content = refl; order = λ h. h; honest = λ h. h; faults = refl }
-
 -- the manager and its log tell what they told before
 pub record IsInSlot {L : Type 0} (place : Slot L → Moment) (moment : L → Moment) (started : Manager L) (manager : Manager (Slot L)) : Type 0 where
   pub book : book_in manager ≡ book_in started

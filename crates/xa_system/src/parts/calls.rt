@@ -4,7 +4,7 @@ ghost use Rattle.xa_base.specs.declared.step.Step.TheVariants as Steps;
 ghost use Rattle.xa_system.specs.Parts.{GoesOn, StandsSomewhere, sees};
 
 use super::Parts;
-use crate::site::{bar, heard, take, undone};
+use crate::site::{check_line, heard, take, undone};
 use crate::twin::Twin;
 use xa_base::{Call, Refusal, Reply};
 use xa_log::DecisionLog;
@@ -28,7 +28,7 @@ impl<R: ResourceManager + Drop, L: DecisionLog + Drop> Parts<R, L> {
         if !self.sites[rm as usize].is_up {
             return Twin::refused(Refusal::RmDown);
         }
-        if let Some(refusal) = bar(self.lines.line(thread, rm), call) {
+        if let Err(refusal) = check_line(self.lines.line(thread, rm), call) {
             return Twin::refused(refusal);
         }
         if let Some(refusal) = self.manager.may_issue(thread, rm, call) {

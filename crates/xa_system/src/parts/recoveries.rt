@@ -1,4 +1,5 @@
 //! The manager ends what a resource manager lists.
+ghost use Rattle.std.specs.Result.{result_err};
 ghost use Rattle.xa_base.specs.declared.step.Step.TheVariants as Steps;
 ghost use Rattle.xa_system.specs.Parts.{GoesOn, HindersRecovery, StandsSomewhere, sees};
 
@@ -10,31 +11,33 @@ use xa_log::DecisionLog;
 use xa_rm::ResourceManager;
 
 impl<R: ResourceManager + Drop, L: DecisionLog + Drop> Parts<R, L> {
-    /// Why no recovery of so many calls may begin at a resource manager, looked for in the order of the numbers.
-    fn no_recovery(&self, rm: u32, count: usize) -> Option<Refusal>
+    /// Whether a recovery of so many calls may begin at a resource manager. The reasons against it are looked for in the
+    /// order of the numbers.
+    fn check_recovery(&self, rm: u32, count: usize) -> Result<(), Refusal>
         requires { StandsSomewhere (sees R.look L.moment) self.now }
-        ensures { HindersRecovery (sees R.look L.moment) rm count self.now result }
+        ensures { HindersRecovery (sees R.look L.moment) rm count self.now
+            (result_err result) }
     {
         if rm >= self.lines.rms() {
-            return Some(Refusal::Limit);
+            return Err(Refusal::Limit);
         }
         if !self.manager.is_up() {
-            return Some(Refusal::ManagerDown);
+            return Err(Refusal::ManagerDown);
         }
         if !self.sites[rm as usize].is_up {
-            return Some(Refusal::RmDown);
+            return Err(Refusal::RmDown);
         }
         let line = self.lines.line(0, rm);
         if !line.is_open() {
-            return Some(Refusal::NotOpen);
+            return Err(Refusal::NotOpen);
         }
         if line.is_closed() {
-            return Some(Refusal::Closed);
+            return Err(Refusal::Closed);
         }
         if line.is_full_for(count) {
-            return Some(Refusal::Full);
+            return Err(Refusal::Full);
         }
-        None
+        Ok(())
     }
 
     /// The manager ends the branches that a resource manager listed last: all of them, or none.
@@ -43,7 +46,7 @@ impl<R: ResourceManager + Drop, L: DecisionLog + Drop> Parts<R, L> {
         ensures { GoesOn (sees R.look L.moment) (Steps.Resolve rm) result self.old self.new }
     {
         let count = self.manager.resolve_len(rm);
-        if let Some(refusal) = self.no_recovery(rm, count) {
+        if let Err(refusal) = self.check_recovery(rm, count) {
             return Twin::refused(refusal);
         }
         match self.manager.resolve(rm) {
@@ -61,7 +64,7 @@ impl<R: ResourceManager + Drop, L: DecisionLog + Drop> Parts<R, L> {
         ensures { GoesOn (sees R.look L.moment) (Steps.ResolveOpen rm) result self.old self.new }
     {
         let count = self.manager.resolve_open_len(rm);
-        if let Some(refusal) = self.no_recovery(rm, count) {
+        if let Err(refusal) = self.check_recovery(rm, count) {
             return Twin::refused(refusal);
         }
         match self.manager.resolve_open(rm) {

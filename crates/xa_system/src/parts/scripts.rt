@@ -1,7 +1,8 @@
 //! What resource managers are told to do.
 ghost use Rattle.xa_base.specs.Xid.{IsXid};
 ghost use Rattle.xa_base.specs.declared.step.Step.TheVariants as Steps;
-ghost use Rattle.std.specs.Prelude.{◌≡◌, ◌<◌, None};
+ghost use Rattle.std.specs.Prelude.{◌≡◌, ◌<◌, OnOk};
+ghost use Rattle.std.specs.Result.{result_err};
 ghost use Rattle.xa_model.specs.Replies.History.{name_of};
 ghost use Rattle.xa_system.specs.Parts.{GoesOn, HindersScript, StandsSomewhere, noted_as, sees};
 
@@ -24,22 +25,24 @@ fn noted(told: Result<(), RmFault>) -> Twin
 }
 
 impl<R: ResourceManager + Drop, L: DecisionLog + Drop> Parts<R, L> {
-    /// Why no resource manager is told anything of the branch, looked for in the order of the numbers.
-    fn no_script(&self, rm: u32, xid: &Xid) -> Option<Refusal>
+    /// Whether a resource manager may be told anything of the branch. The reasons against it are looked for in the order
+    /// of the numbers.
+    fn check_script(&self, rm: u32, xid: &Xid) -> Result<(), Refusal>
         requires { StandsSomewhere (sees R.look L.moment) self.now }
-        ensures why { HindersScript (sees R.look L.moment) rm (name_of xid.now) self.now result }
-        ensures there { result ≡ None → rm < self.now.lines.rms }
+        ensures why { HindersScript (sees R.look L.moment) rm (name_of xid.now) self.now
+            (result_err result) }
+        ensures there { OnOk result (rm < self.now.lines.rms) }
     {
         if rm >= self.lines.rms() {
-            return Some(Refusal::Limit);
+            return Err(Refusal::Limit);
         }
         if !self.sites[rm as usize].is_up {
-            return Some(Refusal::RmDown);
+            return Err(Refusal::RmDown);
         }
         if !is_at(xid, rm) {
-            return Some(Refusal::Script);
+            return Err(Refusal::Script);
         }
-        None
+        Ok(())
     }
 
     /// A resource manager is told how to vote.
@@ -49,7 +52,7 @@ impl<R: ResourceManager + Drop, L: DecisionLog + Drop> Parts<R, L> {
         ensures { GoesOn (sees R.look L.moment) (Steps.Vote rm xid.now vote) result self.old
             self.new }
     {
-        if let Some(refusal) = self.no_script(rm, xid) {
+        if let Err(refusal) = self.check_script(rm, xid) {
             return Twin::refused(refusal);
         }
         noted(self.sites[rm as usize].rm.vote(xid, vote))
@@ -62,7 +65,7 @@ impl<R: ResourceManager + Drop, L: DecisionLog + Drop> Parts<R, L> {
         ensures { GoesOn (sees R.look L.moment) (Steps.Busy rm xid.now times) result self.old
             self.new }
     {
-        if let Some(refusal) = self.no_script(rm, xid) {
+        if let Err(refusal) = self.check_script(rm, xid) {
             return Twin::refused(refusal);
         }
         noted(self.sites[rm as usize].rm.retry(xid, times))
@@ -75,7 +78,7 @@ impl<R: ResourceManager + Drop, L: DecisionLog + Drop> Parts<R, L> {
         ensures { GoesOn (sees R.look L.moment) (Steps.Heuristic rm xid.now how) result self.old
             self.new }
     {
-        if let Some(refusal) = self.no_script(rm, xid) {
+        if let Err(refusal) = self.check_script(rm, xid) {
             return Twin::refused(refusal);
         }
         noted(self.sites[rm as usize].rm.heuristic(xid, how))

@@ -1,4 +1,5 @@
 use Rattle.std.proofs.Common.{refl, sym, ap, ◌∙◌}
+use Rattle.std.specs.Result.{result_err}
 use Rattle.xa_model.specs.Replies.History.{name_of}
 use Rattle.xa_base.specs.declared.reply.Reply.TheVariants as Replies
 use Rattle.xa_model.specs.Replies.Steps as known
@@ -10,15 +11,15 @@ use Rattle.xa_system.proofs.Steps.Crash.{rm_read}
 use Rattle.xa_system.proofs.Steps.Script.{alone_script, ended_alone, held_here, heuristic_bad, heuristic_elsewhere, heuristic_fine, script_hinders, script_told}
 use Rattle.xa_system.proofs.parts.Parts.heuristic.Goals as goal
 
-pub returns-in-Some : goal.returns-in-Some
-returns-in-Some g c =
+pub returns-in-Err : goal.returns-in-Err
+returns-in-Err g c =
     let see = sees g.R.ResourceManager.look g.L.DecisionLog.moment in
     let p = c.args.self.now in
     let r = c.args.rm in
     let x = c.args.xid.now in
     let v = c.args.how in
-    script_hinders see (Steps.Heuristic r x v) p r x c.in-Some.refusal c.refused.result c.requires.has_xid c.refused.ensures
-    (λ tr stands. sym c.in-Some.is ∙ c.no_script.ensures.why tr stands) (λ tr. refl) (λ tr q. heuristic_elsewhere tr r (name_of x) v q)
+    script_hinders see (Steps.Heuristic r x v) p r x c.in-Err.refusal c.refused.result c.requires.has_xid c.refused.ensures
+    (λ tr stands. sym (ap result_err c.in-Err.is) ∙ c.check_script.ensures.why tr stands) (λ tr. refl) (λ tr q. heuristic_elsewhere tr r (name_of x) v q)
 
 pub returns : goal.returns
 returns g c tr stands few =
@@ -27,10 +28,10 @@ returns g c tr stands few =
     let r = c.args.rm in
     let x = c.args.xid.now in
     let v = c.args.how in
-    let at = rm_read see tr p r c.index_mut.result.now stands (c.no_script.ensures.there c.in_default.is) c.index_mut.ensures.value in
+    let at = rm_read see tr p r c.index_mut.result.now stands c.in_default.ensures.there c.index_mut.ensures.value in
     script_told see tr (Steps.Heuristic r x v) (λ b. CompletedAlone b v) p r c.index_mut.result.now c.heuristic.new.self c.noted.result x
     (completed_by v) c.heuristic.result stands c.requires.has_xid at c.noted.ensures
-    (λ tr stands. sym c.in_default.is ∙ c.no_script.ensures.why tr stands) refl
+    (λ tr stands. sym (ap result_err c.in_default.is) ∙ c.check_script.ensures.why tr stands) refl
     (λ b named here told. heuristic_bad tr r (name_of x) b v ((see.look c.index_mut.result.now.rm).held x).standing named here
     (held_here see tr p r c.index_mut.result.now x b at c.requires.has_xid named here stands) (c.heuristic.ensures.script.0 told))
     (λ b named here other. heuristic_fine tr r (name_of x) b v ((see.look c.index_mut.result.now.rm).held x).standing named here

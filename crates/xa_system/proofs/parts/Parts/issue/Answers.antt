@@ -1,5 +1,6 @@
 use Rattle.std.proofs.Common.{length, true, sym, ap, ◌∙◌}
 use Rattle.std.specs.Prelude.{nat_le}
+use Rattle.std.specs.Result.{result_err}
 use Rattle.xa_base.specs.Call.{map_call}
 use Rattle.xa_model.specs.Replies.History.{name_of}
 use Rattle.xa_base.specs.declared.refusal.Refusal.TheVariants as Refusals
@@ -61,6 +62,22 @@ returns-then-not-index g c =
     ∙ ap (λ u. issue_why true true u (barred (issued (line_at p.lines t r)) call) (refusal_in (book_in p.manager) (Steps.Issue t r (map_call name_of call)))
     (nat_le 64 (length (line_at p.lines t r).calls.waiting))) c.if-not-index.true)
 
+pub returns-in-Err : goal.returns-in-Err
+returns-in-Err g c =
+    let see = sees g.R.ResourceManager.look g.L.DecisionLog.moment in
+    let p = c.args.self.now in
+    let t = c.args.thread in
+    let r = c.args.rm in
+    let call = c.args.call.now in
+    let there = sym c.has_line.ensures ∙ c.if-not-has_line.false in
+    let up = sym c.is_up.ensures ∙ c.if-not-is_up.false in
+    let barred_so = sym (c.check_line.ensures ∙ ap (λ l. barred (issued l) call) c.line.ensures.value) ∙ ap result_err c.in-Err.is in
+    refused_goes see (Steps.Issue t r call) p c.refused-in-Err.result c.in-Err.refusal c.requires.has_xid c.refused-in-Err.ensures
+    (λ tr stands. issue_found see tr p t r c.index.result.now call stands there up
+    (site_read see tr p t r c.index.result.now stands there c.index.ensures)
+    ∙ λ i. issue_why true true (c.if-not-index.false i) (barred_so i)
+    (refusal_in (book_in p.manager) (Steps.Issue t r (map_call name_of call))) (nat_le 64 (length (line_at p.lines t r).calls.waiting)))
+
 pub returns-in-Some : goal.returns-in-Some
 returns-in-Some g c =
     let see = sees g.R.ResourceManager.look g.L.DecisionLog.moment in
@@ -70,28 +87,12 @@ returns-in-Some g c =
     let call = c.args.call.now in
     let there = sym c.has_line.ensures ∙ c.if-not-has_line.false in
     let up = sym c.is_up.ensures ∙ c.if-not-is_up.false in
-    let barred_so = sym (c.bar.ensures ∙ ap (λ l. barred (issued l) call) c.line.ensures.value) ∙ c.in-Some.is in
-    refused_goes see (Steps.Issue t r call) p c.refused-in-Some.result c.in-Some.refusal c.requires.has_xid c.refused-in-Some.ensures
+    let barred_so = sym (c.check_line.ensures ∙ ap (λ l. barred (issued l) call) c.line.ensures.value) ∙ ap result_err c.in_default.is in
+    refused_goes see (Steps.Issue t r call) p c.refused-in-Some.result c.in-Some.refusal c.requires.has_xid
+    c.refused-in-Some.ensures
     (λ tr stands. issue_found see tr p t r c.index.result.now call stands there up
     (site_read see tr p t r c.index.result.now stands there c.index.ensures)
-    ∙ λ i. issue_why true true (c.if-not-index.false i) (barred_so i)
-    (refusal_in (book_in p.manager) (Steps.Issue t r (map_call name_of call))) (nat_le 64 (length (line_at p.lines t r).calls.waiting)))
-
-pub returns-in-Some-may_issue : goal.returns-in-Some-may_issue
-returns-in-Some-may_issue g c =
-    let see = sees g.R.ResourceManager.look g.L.DecisionLog.moment in
-    let p = c.args.self.now in
-    let t = c.args.thread in
-    let r = c.args.rm in
-    let call = c.args.call.now in
-    let there = sym c.has_line.ensures ∙ c.if-not-has_line.false in
-    let up = sym c.is_up.ensures ∙ c.if-not-is_up.false in
-    let barred_so = sym (c.bar.ensures ∙ ap (λ l. barred (issued l) call) c.line.ensures.value) ∙ c.in_default.is in
-    refused_goes see (Steps.Issue t r call) p c.refused-in-Some-may_issue.result c.in-Some-may_issue.refusal c.requires.has_xid
-    c.refused-in-Some-may_issue.ensures
-    (λ tr stands. issue_found see tr p t r c.index.result.now call stands there up
-    (site_read see tr p t r c.index.result.now stands there c.index.ensures)
-    ∙ λ i. issue_why true true (c.if-not-index.false i) (barred_so i) ((sym c.may_issue.ensures ∙ c.in-Some-may_issue.is) i)
+    ∙ λ i. issue_why true true (c.if-not-index.false i) (barred_so i) ((sym c.may_issue.ensures ∙ c.in-Some.is) i)
     (nat_le 64 (length (line_at p.lines t r).calls.waiting)))
 
 pub returns-then-free_calls-eq0 : goal.returns-then-free_calls-eq0
@@ -103,7 +104,7 @@ returns-then-free_calls-eq0 g c =
     let call = c.args.call.now in
     let there = sym c.has_line.ensures ∙ c.if-not-has_line.false in
     let up = sym c.is_up.ensures ∙ c.if-not-is_up.false in
-    let barred_so = sym (c.bar.ensures ∙ ap (λ l. barred (issued l) call) c.line.ensures.value) ∙ c.in_default.is in
+    let barred_so = sym (c.check_line.ensures ∙ ap (λ l. barred (issued l) call) c.line.ensures.value) ∙ ap result_err c.in_default.is in
     let free = sym c.may_issue.ensures ∙ c.in_default-may_issue.is in
     let full =
     is_full_at c.free_calls.result (length (line_at p.lines t r).calls.waiting)
@@ -113,8 +114,8 @@ returns-then-free_calls-eq0 g c =
     (site_read see tr p t r c.index.result.now stands there c.index.ensures)
     ∙ λ i. issue_why true true (c.if-not-index.false i) (barred_so i) (free i) (full i))
 
-pub returns-in-Err : goal.returns-in-Err
-returns-in-Err g c tr stands few =
+pub returns-in-Err-note_issued : goal.returns-in-Err-note_issued
+returns-in-Err-note_issued g c tr stands few =
     let see = sees g.R.ResourceManager.look g.L.DecisionLog.moment in
     let p = c.args.self.now in
     let t = c.args.thread in
@@ -122,7 +123,7 @@ returns-in-Err g c tr stands few =
     let call = c.args.call.now in
     let there = sym c.has_line.ensures ∙ c.if-not-has_line.false in
     let up = sym c.is_up.ensures ∙ c.if-not-is_up.false in
-    let barred_so = sym (c.bar.ensures ∙ ap (λ l. barred (issued l) call) c.line.ensures.value) ∙ c.in_default.is in
+    let barred_so = sym (c.check_line.ensures ∙ ap (λ l. barred (issued l) call) c.line.ensures.value) ∙ ap result_err c.in_default.is in
     let free = sym c.may_issue.ensures ∙ c.in_default-may_issue.is in
     let full =
     has_room_at c.free_calls.result (length (line_at p.lines t r).calls.waiting)
@@ -130,8 +131,8 @@ returns-in-Err g c tr stands few =
     let none =
     issue_found see tr p t r c.index.result.now call stands there up (site_read see tr p t r c.index.result.now stands there c.index.ensures)
     ∙ λ i. issue_why true true (c.if-not-index.false i) (barred_so i) (free i) (full i) in
-    lacking_goes see tr (Steps.Issue t r call) p c.note_issued.new.self c.refused-in-Err.result stands c.requires.has_xid
-    (c.refused-in-Err.ensures ∙ ap (λ n. Replies.Refused n) c.in-Err.ensures.err.0) none tt c.in-Err.ensures.err.1 c.in-Err.ensures.log
+    lacking_goes see tr (Steps.Issue t r call) p c.note_issued.new.self c.refused-in-Err-note_issued.result stands c.requires.has_xid
+    (c.refused-in-Err-note_issued.ensures ∙ ap (λ n. Replies.Refused n) c.in-Err-note_issued.ensures.err.0) none tt c.in-Err-note_issued.ensures.err.1 c.in-Err-note_issued.ensures.log
 
 pub returns : goal.returns
 returns g c tr stands few =
@@ -142,7 +143,7 @@ returns g c tr stands few =
     let call = c.args.call.now in
     let there = sym c.has_line.ensures ∙ c.if-not-has_line.false in
     let up = sym c.is_up.ensures ∙ c.if-not-is_up.false in
-    let barred_so = sym (c.bar.ensures ∙ ap (λ l. barred (issued l) call) c.line.ensures.value) ∙ c.in_default.is in
+    let barred_so = sym (c.check_line.ensures ∙ ap (λ l. barred (issued l) call) c.line.ensures.value) ∙ ap result_err c.in_default.is in
     let free = sym c.may_issue.ensures ∙ c.in_default-may_issue.is in
     let full =
     has_room_at c.free_calls.result (length (line_at p.lines t r).calls.waiting)

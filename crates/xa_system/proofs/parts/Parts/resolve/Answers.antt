@@ -1,4 +1,5 @@
 use Rattle.std.proofs.Common.{sym, ap, ◌∙◌}
+use Rattle.std.specs.Result.{result_err}
 use Rattle.xa_line.specs.Traffic.{Traffic}
 use Rattle.xa_tm.specs.Calls.{book_in}
 use Rattle.xa_system.specs.Lines.{with_more}
@@ -7,13 +8,13 @@ use Rattle.xa_system.proofs.Steps.Resolve.{resolved_closes_none, recovery_open, 
 use Rattle.xa_tm.specs.Refusing.{resolved_in}
 use Rattle.xa_system.proofs.parts.Parts.resolve.Goals as goal
 
-pub returns-in-Some : goal.returns-in-Some
-returns-in-Some g c =
+pub returns-in-Err : goal.returns-in-Err
+returns-in-Err g c =
     let see = sees g.R.ResourceManager.look g.L.DecisionLog.moment in
     let p = c.args.self.now in
     let r = c.args.rm in
-    resolve_hindered see p r c.resolve_len-count.result c.in-Some.refusal c.refused.result c.refused.ensures c.resolve_len-count.ensures
-    (λ tr stands. sym c.in-Some.is ∙ c.no_recovery.ensures tr stands)
+    resolve_hindered see p r c.resolve_len-count.result c.in-Err.refusal c.refused.result c.refused.ensures c.resolve_len-count.ensures
+    (λ tr stands. sym (ap result_err c.in-Err.is) ∙ c.check_recovery.ensures tr stands)
 
 pub issue_all-requires-clause-room : goal.issue_all-requires-clause-room
 issue_all-requires-clause-room g c =
@@ -21,7 +22,7 @@ issue_all-requires-clause-room g c =
     let p = c.args.self.now in
     let r = c.args.rm in
     recovery_room see p r c.resolve_len-count.result (resolved_in (book_in p.manager) r) c.in-Ok.calls.items
-    (λ tr stands. sym c.in_default.is ∙ c.no_recovery.ensures tr stands) c.in-Ok.ensures.ok c.line_mut.result.now _ c.in-Ok.calls.ok.0
+    (λ tr stands. sym (ap result_err c.in_default.is) ∙ c.check_recovery.ensures tr stands) c.in-Ok.ensures.ok c.line_mut.result.now _ c.in-Ok.calls.ok.0
     c.resolve_len-count.ensures c.line_mut.ensures.value c.requires
 
 pub issue_all-requires-clause-open : goal.issue_all-requires-clause-open
@@ -30,7 +31,7 @@ issue_all-requires-clause-open g c =
     let p = c.args.self.now in
     let r = c.args.rm in
     recovery_open see p r c.resolve_len-count.result (resolved_in (book_in p.manager) r) c.in-Ok.calls.items
-    (λ tr stands. sym c.in_default.is ∙ c.no_recovery.ensures tr stands) c.in-Ok.ensures.ok c.line_mut.result.now c.line_mut.ensures.value c.requires
+    (λ tr stands. sym (ap result_err c.in_default.is) ∙ c.check_recovery.ensures tr stands) c.in-Ok.ensures.ok c.line_mut.result.now c.line_mut.ensures.value c.requires
 
 pub issue_all-requires-clause-unclosed : goal.issue_all-requires-clause-unclosed
 issue_all-requires-clause-unclosed g c =
@@ -38,7 +39,7 @@ issue_all-requires-clause-unclosed g c =
     let p = c.args.self.now in
     let r = c.args.rm in
     recovery_unclosed see p r c.resolve_len-count.result (resolved_in (book_in p.manager) r) c.in-Ok.calls.items
-    (λ tr stands. sym c.in_default.is ∙ c.no_recovery.ensures tr stands) c.in-Ok.ensures.ok c.line_mut.result.now c.line_mut.ensures.value
+    (λ tr stands. sym (ap result_err c.in_default.is) ∙ c.check_recovery.ensures tr stands) c.in-Ok.ensures.ok c.line_mut.result.now c.line_mut.ensures.value
     (resolved_closes_none (book_in p.manager) r) c.requires
 
 pub returns-in-Ok : goal.returns-in-Ok
@@ -48,12 +49,12 @@ returns-in-Ok g c =
     let r = c.args.rm in
     let put = c.issue_all.ensures ∙ ap (λ (t : Traffic). record t { calls = with_more t.calls c.in-Ok.calls.items }) c.line_mut.ensures.value in
     resolve_did see p r c.resolve_len-count.result c.in-Ok.calls.items c.issue_all.new.line c.new.result c.new.ensures c.resolve_len-count.ensures
-    (λ tr stands. sym c.in_default.is ∙ c.no_recovery.ensures tr stands) c.in-Ok.ensures.ok put
+    (λ tr stands. sym (ap result_err c.in_default.is) ∙ c.check_recovery.ensures tr stands) c.in-Ok.ensures.ok put
 
-pub returns-in-Err : goal.returns-in-Err
-returns-in-Err g c =
+pub returns-in-Err-resolve : goal.returns-in-Err-resolve
+returns-in-Err-resolve g c =
     let see = sees g.R.ResourceManager.look g.L.DecisionLog.moment in
     let p = c.args.self.now in
     let r = c.args.rm in
-    resolve_lacks see p r c.resolve_len-count.result c.in-Err.refusal c.refused-in-Err.result c.refused-in-Err.ensures c.in-Err.ensures.err
-    c.resolve_len-count.ensures (λ tr stands. sym c.in_default.is ∙ c.no_recovery.ensures tr stands)
+    resolve_lacks see p r c.resolve_len-count.result c.in-Err-resolve.refusal c.refused-in-Err-resolve.result c.refused-in-Err-resolve.ensures c.in-Err-resolve.ensures.err
+    c.resolve_len-count.ensures (λ tr stands. sym (ap result_err c.in_default.is) ∙ c.check_recovery.ensures tr stands)

@@ -1,4 +1,5 @@
 use Rattle.std.proofs.Common.{refl, sym, ap, ◌∙◌}
+use Rattle.std.specs.Result.{result_err}
 use Rattle.xa_line.specs.Traffic.{Traffic}
 use Rattle.xa_tm.specs.Calls.{book_in}
 use Rattle.xa_model.specs.Trace.{Happening.ResolvedOpen}
@@ -9,13 +10,13 @@ use Rattle.xa_system.proofs.Steps.Resolve.{open_closes_none, recovery_open, reco
 use Rattle.xa_tm.specs.Refusing.{resolved_open_in}
 use Rattle.xa_system.proofs.parts.Parts.resolve_open.Goals as goal
 
-pub returns-in-Some : goal.returns-in-Some
-returns-in-Some g c =
+pub returns-in-Err : goal.returns-in-Err
+returns-in-Err g c =
     let see = sees g.R.ResourceManager.look g.L.DecisionLog.moment in
     let p = c.args.self.now in
     let r = c.args.rm in
-    open_hindered see p r c.resolve_open_len-count.result c.in-Some.refusal c.refused.result c.refused.ensures c.resolve_open_len-count.ensures
-    (λ tr stands. sym c.in-Some.is ∙ c.no_recovery.ensures tr stands)
+    open_hindered see p r c.resolve_open_len-count.result c.in-Err.refusal c.refused.result c.refused.ensures c.resolve_open_len-count.ensures
+    (λ tr stands. sym (ap result_err c.in-Err.is) ∙ c.check_recovery.ensures tr stands)
 
 pub issue_all-requires-clause-room : goal.issue_all-requires-clause-room
 issue_all-requires-clause-room g c =
@@ -23,7 +24,7 @@ issue_all-requires-clause-room g c =
     let p = c.args.self.now in
     let r = c.args.rm in
     recovery_room see p r c.resolve_open_len-count.result (resolved_open_in (book_in p.manager) r) c.in-Ok.calls.items
-    (λ tr stands. sym c.in_default.is ∙ c.no_recovery.ensures tr stands) c.in-Ok.ensures.calls c.line_mut.result.now _ c.in-Ok.calls.ok.0
+    (λ tr stands. sym (ap result_err c.in_default.is) ∙ c.check_recovery.ensures tr stands) c.in-Ok.ensures.calls c.line_mut.result.now _ c.in-Ok.calls.ok.0
     c.resolve_open_len-count.ensures c.line_mut.ensures.value c.requires
 
 pub issue_all-requires-clause-open : goal.issue_all-requires-clause-open
@@ -32,7 +33,7 @@ issue_all-requires-clause-open g c =
     let p = c.args.self.now in
     let r = c.args.rm in
     recovery_open see p r c.resolve_open_len-count.result (resolved_open_in (book_in p.manager) r) c.in-Ok.calls.items
-    (λ tr stands. sym c.in_default.is ∙ c.no_recovery.ensures tr stands) c.in-Ok.ensures.calls c.line_mut.result.now c.line_mut.ensures.value c.requires
+    (λ tr stands. sym (ap result_err c.in_default.is) ∙ c.check_recovery.ensures tr stands) c.in-Ok.ensures.calls c.line_mut.result.now c.line_mut.ensures.value c.requires
 
 pub issue_all-requires-clause-unclosed : goal.issue_all-requires-clause-unclosed
 issue_all-requires-clause-unclosed g c =
@@ -40,7 +41,7 @@ issue_all-requires-clause-unclosed g c =
     let p = c.args.self.now in
     let r = c.args.rm in
     recovery_unclosed see p r c.resolve_open_len-count.result (resolved_open_in (book_in p.manager) r) c.in-Ok.calls.items
-    (λ tr stands. sym c.in_default.is ∙ c.no_recovery.ensures tr stands) c.in-Ok.ensures.calls c.line_mut.result.now c.line_mut.ensures.value
+    (λ tr stands. sym (ap result_err c.in_default.is) ∙ c.check_recovery.ensures tr stands) c.in-Ok.ensures.calls c.line_mut.result.now c.line_mut.ensures.value
     (open_closes_none (book_in p.manager) r) c.requires
 
 pub returns-in-Ok : goal.returns-in-Ok
@@ -50,13 +51,13 @@ returns-in-Ok g c =
     let r = c.args.rm in
     let put = c.issue_all.ensures ∙ ap (λ (t : Traffic). record t { calls = with_more t.calls c.in-Ok.calls.items }) c.line_mut.ensures.value in
     open_did see p r c.resolve_open_len-count.result c.in-Ok.calls.items c.issue_all.new.line c.resolve_open.new.self c.new.result c.new.ensures
-    c.resolve_open_len-count.ensures (λ tr stands. sym c.in_default.is ∙ c.no_recovery.ensures tr stands) c.in-Ok.ensures.calls put c.in-Ok.ensures.ok
+    c.resolve_open_len-count.ensures (λ tr stands. sym (ap result_err c.in_default.is) ∙ c.check_recovery.ensures tr stands) c.in-Ok.ensures.calls put c.in-Ok.ensures.ok
     (λ tr. log_kept see.moment (ResolvedOpen r) p.manager c.resolve_open.new.self (λ n. refl) c.in-Ok.ensures.log c.in-Ok.ensures.tied)
 
-pub returns-in-Err : goal.returns-in-Err
-returns-in-Err g c =
+pub returns-in-Err-resolve_open : goal.returns-in-Err-resolve_open
+returns-in-Err-resolve_open g c =
     let see = sees g.R.ResourceManager.look g.L.DecisionLog.moment in
     let p = c.args.self.now in
     let r = c.args.rm in
-    open_lacks see p c.resolve_open.new.self r c.resolve_open_len-count.result c.in-Err.refusal c.refused-in-Err.result c.refused-in-Err.ensures
-    c.in-Err.ensures.err c.resolve_open_len-count.ensures (λ tr stands. sym c.in_default.is ∙ c.no_recovery.ensures tr stands) c.in-Err.ensures.log
+    open_lacks see p c.resolve_open.new.self r c.resolve_open_len-count.result c.in-Err-resolve_open.refusal c.refused-in-Err-resolve_open.result c.refused-in-Err-resolve_open.ensures
+    c.in-Err-resolve_open.ensures.err c.resolve_open_len-count.ensures (λ tr stands. sym (ap result_err c.in_default.is) ∙ c.check_recovery.ensures tr stands) c.in-Err-resolve_open.ensures.log

@@ -19,47 +19,35 @@ invariant_of-result g c =
     let clear = rw c.as_slice.ensures.value at (c.if-not-are_clear.ensures.clear refl) in
     let moment = g.L.DecisionLog.moment in
     let some : 0 < c.args.threads = omega (arith, c.if-threads-eq0.false) in
-    let parts = c.in-Ok-start_parts.parts in
-    let made = c.in-Ok-start_parts.ensures in
+    let parts = c.in_ok-parts.parts in
+    let made = c.in_ok-parts.ensures in
     let rms = c.args.rms.items in
     new_sound see moment c.args.threads rms parts made.parts made.manager c.args.log made.log
     (starts_clear see c.args.threads rms parts.manager clear made.manager) (starts_old see c.args.threads rms parts.manager clear made.manager)
-    (record { first = c.of-first.result; handed = c.of-handed.result; parts = parts; events = c.in-Ok.events }) refl
-    (slot_durable moment g.met.L.DecisionLog.durable) some c.in-Ok.ensures.items c.in-Ok.ensures.len c.in-Ok.ensures.exact c.of-first.ensures
+    (record { first = c.of-first.result; handed = c.of-handed.result; parts = parts; events = c.in_ok-events.events }) refl
+    (slot_durable moment g.met.L.DecisionLog.durable) some c.in_ok-events.ensures.items c.in_ok-events.ensures.len c.in_ok-events.ensures.exact c.of-first.ensures
     c.of-handed.ensures
 
-pub returns-in-Ok-start_parts-clause-ok : goal.returns-in-Ok-start_parts-clause-ok
-returns-in-Ok-start_parts-clause-ok g c =
-    let first = c.in-Ok-start_parts.ensures.parts in (
-      c.in-Ok.ensures.items,
+pub returns-clause-ok : goal.returns-clause-ok
+returns-clause-ok g c =
+    let first = c.in_ok-parts.ensures.parts in (
+      c.in_ok-events.ensures.items,
       first.start,
       ap (map (λ (x : Site g.row.R.Denot). x.rm)) first.sites ∙ back_again c.args.rms.items,
       ap (λ (q : Grid). q.threads) first.lines,
       holds _ _ _ (invariant_of-result g c),
     )
 
-pub returns-in-Ok-start_parts-clause-right : goal.returns-in-Ok-start_parts-clause-right
-returns-in-Ok-start_parts-clause-right g c =
+pub returns-clause-right : goal.returns-clause-right
+returns-clause-right g c =
     let see : Sees g.row.R.Denot (Slot g.row.L.Denot) =
     sees g.R.ResourceManager.look (slot_moment g.L.DecisionLog.moment) in
     let clear = rw c.as_slice.ensures.value at (c.if-not-are_clear.ensures.clear refl) in
-    let parts = c.in-Ok-start_parts.parts in
-    let made = c.in-Ok-start_parts.ensures in
+    let parts = c.in_ok-parts.parts in
+    let made = c.in_ok-parts.ensures in
     let rms = c.args.rms.items in
     subst RightOrigin (sym (origin_same see g.L.DecisionLog.moment c.args.threads rms parts made.parts made.manager))
     (starts_right see c.args.threads rms parts.manager clear made.manager)
-
-pub returns-in_default-clause-not_clear : goal.returns-in_default-clause-not_clear
-returns-in_default-clause-not_clear g c size un =
-    let see = observes g.R.ResourceManager.look g.L.DecisionLog.moment in
-    let clear = rw c.as_slice.ensures.value at (c.if-not-are_clear.ensures.clear refl) in
-    absurd (not_both see.look c.args.rms.items clear un)
-
-pub returns-in-Ok-start_parts-clause-not_clear : goal.returns-in-Ok-start_parts-clause-not_clear
-returns-in-Ok-start_parts-clause-not_clear g c size un =
-    let see = observes g.R.ResourceManager.look g.L.DecisionLog.moment in
-    let clear = rw c.as_slice.ensures.value at (c.if-not-are_clear.ensures.clear refl) in
-    absurd (not_both see.look c.args.rms.items clear un)
 
 pub returns-clause-not_clear : goal.returns-clause-not_clear
 returns-clause-not_clear g c size un =
@@ -67,13 +55,13 @@ returns-clause-not_clear g c size un =
     let clear = rw c.as_slice.ensures.value at (c.if-not-are_clear.ensures.clear refl) in
     absurd (not_both see.look c.args.rms.items clear un)
 
-pub returns-in-Ok-start_parts-clause-log : goal.returns-in-Ok-start_parts-clause-log
-returns-in-Ok-start_parts-clause-log g c =
+pub returns-clause-log : goal.returns-clause-log
+returns-clause-log g c =
     let see : Sees g.row.R.Denot (Slot g.row.L.Denot) =
     sees g.R.ResourceManager.look (slot_moment g.L.DecisionLog.moment) in
     let moment = g.L.DecisionLog.moment in
-    let made = c.in-Ok-start_parts.ensures in
-    let parts = c.in-Ok-start_parts.parts in
+    let made = c.in_ok-parts.ensures in
+    let parts = c.in_ok-parts.parts in
     let sound = invariant_of-result g c in
     let near = new_may_restart see moment c.args.threads c.args.rms.items parts made.parts made.manager c.args.log made.log _ sound refl in
     record {
@@ -90,8 +78,14 @@ returns-in-Ok-start_parts-clause-log g c =
           (subst (λ l. (moment l).is_in_order) (sym c.of-handed.ensures) order) h (near order h);
     }
 
-pub returns-in-Err-Log-clause-not_clear : goal.returns-in-Err-Log-clause-not_clear
-returns-in-Err-Log-clause-not_clear g c size un =
+pub returns-in_err-events-clause-not_clear : goal.returns-in_err-events-clause-not_clear
+returns-in_err-events-clause-not_clear g c size un =
+    let see = observes g.R.ResourceManager.look g.L.DecisionLog.moment in
+    let clear = rw c.as_slice.ensures.value at (c.if-not-are_clear.ensures.clear refl) in
+    absurd (not_both see.look c.args.rms.items clear un)
+
+pub returns-in_err-parts-clause-not_clear : goal.returns-in_err-parts-clause-not_clear
+returns-in_err-parts-clause-not_clear g c size un =
     let see = observes g.R.ResourceManager.look g.L.DecisionLog.moment in
     let clear = rw c.as_slice.ensures.value at (c.if-not-are_clear.ensures.clear refl) in
     absurd (not_both see.look c.args.rms.items clear un)

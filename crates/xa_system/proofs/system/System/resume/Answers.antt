@@ -29,16 +29,16 @@ invariant_of-result g c =
     let some : 0 < c.args.threads = omega (arith, c.if-threads-eq0.false) in
     let rms = c.crash_rms.new.rms.items in
     let few : length rms ≤ 8 = omega (arith, crashes.count, c.if-len-gt8.false, c.len.ensures, c.args.rms.ok.0) in
-    let parts = c.in-Ok-start_parts.parts in
-    let made = c.in-Ok-start_parts.ensures in
+    let parts = c.in_ok-parts.parts in
+    let made = c.in_ok-parts.ensures in
     let past : ArePast see.look (book_in parts.manager).incarnation rms =
     of_sites (ArePast see.look) c.incarnation.result _ c.as_slice.result.now parts.sites.items rms c.incarnation.ensures c.as_slice.ensures.value
     made.parts.sites (c.if-not-are_past.ensures.past refl) in
     let still = all_still see.look c.args.rms.items rms crashes in
     new_sound see moment c.args.threads rms parts made.parts made.manager c.args.log made.log
     (past_over see c.args.threads rms parts.manager made.manager few past still) (past_old see c.args.threads rms parts.manager made.manager few past still)
-    (record { first = c.of-first.result; handed = c.of-handed.result; parts = parts; events = c.in-Ok.events }) refl
-    (slot_durable moment g.met.L.DecisionLog.durable) some c.in-Ok.ensures.items c.in-Ok.ensures.len c.in-Ok.ensures.exact c.of-first.ensures
+    (record { first = c.of-first.result; handed = c.of-handed.result; parts = parts; events = c.in_ok-events.events }) refl
+    (slot_durable moment g.met.L.DecisionLog.durable) some c.in_ok-events.ensures.items c.in_ok-events.ensures.len c.in_ok-events.ensures.exact c.of-first.ensures
     c.of-handed.ensures
 
 pub returns-then-not-are_past-clause-only_newer : goal.returns-then-not-are_past-clause-only_newer
@@ -46,8 +46,8 @@ returns-then-not-are_past-clause-only_newer g c _ =
     let see : Sees g.row.R.Denot (Slot g.row.L.Denot) =
     sees g.R.ResourceManager.look (slot_moment g.L.DecisionLog.moment) in
     let rms = c.crash_rms.new.rms.items in
-    let parts = c.in-Ok-start_parts.parts in
-    let made = c.in-Ok-start_parts.ensures in
+    let parts = c.in_ok-parts.parts in
+    let made = c.in_ok-parts.ensures in
     let newer : HasNewer see.look (book_in parts.manager).incarnation rms =
     of_sites (HasNewer see.look) c.incarnation.result _ c.as_slice.result.now parts.sites.items rms c.incarnation.ensures c.as_slice.ensures.value
     made.parts.sites (c.if-not-are_past.ensures.newer refl) in
@@ -59,8 +59,8 @@ pub returns-clause-newer : goal.returns-clause-newer
 returns-clause-newer g c newer =
     let look = g.R.ResourceManager.look in
     let rms = c.crash_rms.new.rms.items in
-    let parts = c.in-Ok-start_parts.parts in
-    let made = c.in-Ok-start_parts.ensures in
+    let parts = c.in_ok-parts.parts in
+    let made = c.in_ok-parts.ensures in
     let past : ArePast look (book_in parts.manager).incarnation rms =
     of_sites (ArePast look) c.incarnation.result _ c.as_slice.result.now parts.sites.items rms c.incarnation.ensures c.as_slice.ensures.value made.parts.sites
     (c.if-not-are_past.ensures.past refl) in
@@ -71,9 +71,9 @@ returns-clause-newer g c newer =
 pub returns-clause-ok : goal.returns-clause-ok
 returns-clause-ok g c =
     let look = g.R.ResourceManager.look in
-    let first = c.in-Ok-start_parts.ensures.parts in
+    let first = c.in_ok-parts.ensures.parts in
     let rms = c.crash_rms.new.rms.items in (
-      c.in-Ok.ensures.items,
+      c.in_ok-events.ensures.items,
       first.start ∙ sym (ap (map (λ (x : Site g.row.R.Denot). x.rm)) first.sites ∙ back_again rms),
       subst (AreCrashed look c.args.rms.items) (sym first.start) c.crash_rms.ensures,
       ap (λ (q : Grid). q.threads) first.lines,
@@ -85,8 +85,8 @@ returns-clause-fresh g c clear =
     let see : Sees g.row.R.Denot (Slot g.row.L.Denot) =
     sees g.R.ResourceManager.look (slot_moment g.L.DecisionLog.moment) in
     let rms = c.crash_rms.new.rms.items in
-    let parts = c.in-Ok-start_parts.parts in
-    let made = c.in-Ok-start_parts.ensures in
+    let parts = c.in_ok-parts.parts in
+    let made = c.in_ok-parts.ensures in
     let past : ArePast see.look (book_in parts.manager).incarnation rms =
     of_sites (ArePast see.look) c.incarnation.result _ c.as_slice.result.now parts.sites.items rms c.incarnation.ensures c.as_slice.ensures.value
     made.parts.sites (c.if-not-are_past.ensures.past refl) in
@@ -100,8 +100,8 @@ returns-clause-follows g c order h =
     sees g.R.ResourceManager.look (slot_moment g.L.DecisionLog.moment) in
     let moment = g.L.DecisionLog.moment in
     let rms = c.crash_rms.new.rms.items in
-    let parts = c.in-Ok-start_parts.parts in
-    let made = c.in-Ok-start_parts.ensures in
+    let parts = c.in_ok-parts.parts in
+    let made = c.in_ok-parts.ensures in
     subst (λ (o : Origin). IsSomeAnd (moment c.args.log).content (λ content. (past : Trace) → Leaves see.look past c.args.rms.items content → Resumes past o))
     (sym (origin_same see moment c.args.threads rms parts made.parts made.manager))
     (each_resumes see.look c.args.rms.items rms c.crash_rms.ensures c.args.threads (book_in parts.manager).incarnation (rows_begun parts.manager)
@@ -113,8 +113,8 @@ returns-clause-log g c =
     let see : Sees g.row.R.Denot (Slot g.row.L.Denot) =
     sees g.R.ResourceManager.look (slot_moment g.L.DecisionLog.moment) in
     let moment = g.L.DecisionLog.moment in
-    let made = c.in-Ok-start_parts.ensures in
-    let parts = c.in-Ok-start_parts.parts in
+    let made = c.in_ok-parts.ensures in
+    let parts = c.in_ok-parts.parts in
     let sound = invariant_of-result g c in
     let near = new_may_restart see moment c.args.threads c.crash_rms.new.rms.items parts made.parts made.manager c.args.log made.log _ sound refl in
     record {

@@ -6,7 +6,7 @@ use Rattle.xa_line.specs.Traffic.{issued}
 use Rattle.xa_system.specs.Parts.{sees}
 use Rattle.xa_system.proofs.Steps.Crash.{rm_read}
 use Rattle.xa_system.proofs.Steps.Resolve.{recovery_found, recovery_why}
-use Rattle.xa_system.proofs.parts.Parts.no_recovery.Goals as goal
+use Rattle.xa_system.proofs.parts.Parts.check_recovery.Goals as goal
 
 pub returns-then-not-index : goal.returns-then-not-index
 returns-then-not-index g c tr stands =

@@ -5,7 +5,7 @@ use Rattle.xa_model.specs.Replies.Guards.{is_at}
 use Rattle.xa_system.specs.Parts.{sees}
 use Rattle.xa_system.proofs.Steps.Crash.{rm_read}
 use Rattle.xa_system.proofs.Steps.Script.{script_found, script_limit, script_why}
-use Rattle.xa_system.proofs.parts.Parts.no_script.Goals as goal
+use Rattle.xa_system.proofs.parts.Parts.check_script.Goals as goal
 
 pub returns-then-rm-rms-clause-why : goal.returns-then-rm-rms-clause-why
 returns-then-rm-rms-clause-why g c tr stands =
