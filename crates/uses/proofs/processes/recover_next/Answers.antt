@@ -11,5 +11,5 @@ returns-clause-recovers g c past ends honest before =
     let parts = c.agree.ensures.parts in
     ends_recovered start before system.events parts.allowed parts.numbers
     (λ r count names answers allowed. c.across_processes.ensures.recovers past start before r count names answers
-    (record { right = ends.right; resumes = c.in_ok-system.ensures.follows past ends honest; allowed = parts.allowed }) parts.old
-    (lists_found start parts.listed) allowed)
+    (record { right = ends.right; resumes = c.in_ok-system.ensures.follows past ends honest; allowed = allowed }) parts.old
+    (lists_found start parts.listed))
