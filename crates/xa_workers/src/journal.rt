@@ -11,12 +11,12 @@ use crate::docket::Asked;
 use crate::fault::Halt;
 use crate::jobs::gtrid;
 use crate::limits::JOB_LIMIT;
-use crate::patience::Idle;
+use crate::pace::Pace;
 use crate::{Gate, Jobs, WorkFault};
 use std::alloc::{AllocError, Global};
 use std::snapshot::Snapshot;
 use std::sync::Wait;
-use std::time::Clock;
+use std::time::{Clock, Instant};
 use xa_log::{Decision, DecisionLog};
 
 /// A run's log, and for each job whether the run wrote its row. `first` remembers the log as it was before the run.
@@ -142,9 +142,11 @@ impl<L: DecisionLog> Journal<L> {
 /// Writes the rows that threads of control ask for, those that are asked for at the same time at once, and says whether
 /// there was one.
 fn write_asked<J: Run, G: Gate, L: DecisionLog>(
+    clock: &impl Clock,
     alloc: Global,
     crew: &Crew<'_, J, G>,
     journal: &mut Journal<L>,
+    pace: &mut Pace,
 ) -> Result<bool, WorkFault>
     requires few { vec_len journal.old.written ≤ JOB_LIMIT }
     requires kept { HasRowsOf L.DecisionLog crew.now.jobs.now crew.now.incarnation journal.old }
@@ -155,12 +157,18 @@ fn write_asked<J: Run, G: Gate, L: DecisionLog>(
     ensures log { result ≡ Err WorkFault.Log → HasFailed L.moment journal.old.log journal.new.log }
     ensures other { result ≢ Err WorkFault.Log → FailsNot L.moment journal.old.log journal.new.log }
 {
+    if !crew.docket.is_asked() {
+        return Ok(false);
+    }
+    pace.fill(clock, crew.docket);
     let asked = crew.docket.take_all(alloc)?;
+    let start = Instant::now(clock).ok();
     match asked.as_slice() {
         [] => return Ok(false),
         [Asked { job, .. }] => journal.write(alloc, crew.jobs, crew.incarnation, *job)?,
         several => journal.write_all(alloc, crew.jobs, crew.incarnation, several)?,
     }
+    pace.wrote(clock, start);
     for Asked { thread, .. } in &asked {
         crew.docket.reply(*thread);
         crew.signals.wake_thread(*thread);
@@ -186,10 +194,11 @@ pub(crate) fn write_rows<R: Wait + Clock, J: Run, G: Gate, L: DecisionLog>(
     ensures other { result ≢ Err (Halt.Fault WorkFault.Log) →
         FailsNot L.moment journal.old.log journal.new.log }
 {
-    let mut idle = Idle::NEW;
+    let mut idle = crew.signals.new_idle();
+    let mut pace = Pace::NEW;
     for _ in rt.forever() {
         let left = crew.docket.is_left();
-        if write_asked(alloc, crew, journal)? {
+        if write_asked(rt, alloc, crew, journal, &mut pace)? {
             idle.found();
         } else if left {
             return Ok(());

@@ -24,6 +24,7 @@ mod journal;
 mod limits;
 mod numbered;
 mod outcomes;
+mod pace;
 mod patience;
 mod reunite;
 mod rule;

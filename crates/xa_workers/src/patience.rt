@@ -15,11 +15,17 @@ const MOST_YIELDS: u32 = 1_000;
 /// A yield that took more microseconds went to another program.
 const LONG_YIELD: u128 = 500;
 
+/// One that took more went to a worker on the same processor: with nobody there it takes less than one.
+const SHARED_YIELD: u128 = 2;
+
 /// How often a worker sleeps at once after its first long yield. Each later one makes it eight times as often.
 const FIRST_SLEEPS: u32 = 16;
 
 /// How often it does so at most after one long yield.
 const MOST_SLEEPS: u32 = 4_096;
+
+/// Behind so many short yields in a row a long one counts as the first again: the other program was there for a moment.
+const FORGIVEN: u32 = 20_000;
 
 /// What an idle worker is to do before it looks again.
 #[derive(Clone, Copy)]
@@ -31,9 +37,22 @@ pub(crate) enum Pause {
     Sleep,
 }
 
+/// To whom a yield went.
+#[derive(Clone, Copy, PartialEq, Eq)]
+pub(crate) enum Yielded {
+    /// To nobody.
+    Nobody,
+    /// To a worker on the same processor.
+    Worker,
+    /// To another program, which may have run for a whole slice of time.
+    Program,
+}
+
 /// What a worker did since it last found something to do, and what its yields cost it.
 #[derive(Clone, Copy)]
 pub(crate) struct Idle {
+    /// How often it looks before it yields: not at all where workers share processors.
+    most_looks: u32,
     looks: u32,
     yields: u32,
     announced: bool,
@@ -41,6 +60,8 @@ pub(crate) struct Idle {
     sleeps: u32,
     /// How often it does so after its next long yield.
     penalty: u32,
+    /// How many yields in a row went to no other program.
+    short: u32,
 }
 
 /// How often an idle worker of these jobs looks before it yields.
@@ -52,15 +73,34 @@ pub(crate) fn most_looks(rt: &impl Threads, jobs: &Jobs) -> u32 {
     }
 }
 
-impl Idle {
-    /// A worker that has just begun.
-    pub(crate) const NEW: Idle = Idle {
-        looks: 0,
-        yields: 0,
-        announced: false,
-        sleeps: 0,
-        penalty: FIRST_SLEEPS,
+/// Lets another worker run, and says who did, as far as the clock tells it.
+pub(crate) fn give_way(clock: &impl Clock) -> Yielded {
+    let start = Instant::now(clock);
+    thread::yield_now();
+    let Ok(start) = start else {
+        return Yielded::Nobody;
     };
+    match start.elapsed(clock) {
+        Ok(took) if took.as_micros() > LONG_YIELD => Yielded::Program,
+        Ok(took) if took.as_micros() > SHARED_YIELD => Yielded::Worker,
+        _ => Yielded::Nobody,
+    }
+}
+
+impl Idle {
+    /// A worker that has just begun. Where each has a processor of its own it sleeps at once the first time: Linux may start
+    /// several on one processor, but wakes each on one that is free.
+    pub(crate) fn new(most_looks: u32) -> Idle {
+        Idle {
+            most_looks,
+            looks: 0,
+            yields: 0,
+            announced: false,
+            sleeps: u32::from(most_looks > 0),
+            penalty: FIRST_SLEEPS,
+            short: 0,
+        }
+    }
 
     /// The worker found something to do.
     pub(crate) fn found(&mut self) {
@@ -70,18 +110,18 @@ impl Idle {
     }
 
     /// Waits a little, unless the worker is to fall asleep.
-    pub(crate) fn pause(&mut self, clock: &impl Clock, most_looks: u32) -> Pause {
-        let pause = self.next(most_looks);
+    pub(crate) fn pause(&mut self, clock: &impl Clock) -> Pause {
+        let pause = self.next();
         match pause {
             Pause::Spin => hint::spin_loop(),
-            Pause::Yield => self.give_way(clock),
+            Pause::Yield => self.note(give_way(clock)),
             Pause::Announce | Pause::Sleep => {}
         }
         pause
     }
 
-    fn next(&mut self, most_looks: u32) -> Pause {
-        if self.sleeps == 0 && self.looks < most_looks {
+    fn next(&mut self) -> Pause {
+        if self.sleeps == 0 && self.looks < self.most_looks {
             self.looks += 1;
             return Pause::Spin;
         }
@@ -98,20 +138,27 @@ impl Idle {
         Pause::Sleep
     }
 
-    /// Lets another worker run. Where another program ran instead, yields may cost a whole slice of time each, and the
-    /// worker goes without them for a while.
-    fn give_way(&mut self, clock: &impl Clock) {
-        let start = Instant::now(clock);
-        thread::yield_now();
-        let Ok(start) = start else {
+    /// Notes to whom a yield went. Where another program ran, yields may cost a whole slice of time each, and the worker goes
+    /// without them for a while. Where another worker did, though each has a processor of its own, it sleeps once, and is
+    /// woken on one that is free.
+    fn note(&mut self, yielded: Yielded) {
+        if yielded == Yielded::Program {
+            self.go_without();
             return;
-        };
-        let Ok(took) = start.elapsed(clock) else {
-            return;
-        };
-        if took.as_micros() > LONG_YIELD {
-            self.sleeps = self.penalty;
-            self.penalty = self.penalty.saturating_mul(8).min(MOST_SLEEPS);
         }
+        self.short = self.short.saturating_add(1);
+        if yielded == Yielded::Worker && self.most_looks > 0 {
+            self.sleeps = 1;
+        }
+    }
+
+    /// Has the worker sleep at once from now on: the more often, the more long yields came before, unless they are long past.
+    fn go_without(&mut self) {
+        if self.short >= FORGIVEN {
+            self.penalty = FIRST_SLEEPS;
+        }
+        self.short = 0;
+        self.sleeps = self.penalty;
+        self.penalty = self.penalty.saturating_mul(8).min(MOST_SLEEPS);
     }
 }
