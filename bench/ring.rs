@@ -14,16 +14,16 @@ const PLACES: usize = 64;
 
 /// 152 bytes, as a call of a line has.
 #[derive(Clone)]
-struct Call([u64; 19]);
+pub struct Call(pub [u64; 19]);
 
 /// 32 bytes, so that a call beside its answer has 184.
-struct Answer([u64; 4]);
+pub struct Answer([u64; 4]);
 
 /// What the two ends write lies apart.
 #[repr(align(128))]
 struct Apart(AtomicUsize);
 
-struct Ring<T> {
+pub struct Ring<T> {
     popped: Apart,
     pushed: Apart,
     places: UnsafeCell<[MaybeUninit<T>; PLACES]>,
@@ -33,21 +33,21 @@ struct Ring<T> {
 unsafe impl<T: Send> Sync for Ring<T> {}
 
 /// The end that pushes, with the other's index as it last saw it.
-struct Inlet<'a, T> {
+pub struct Inlet<'a, T> {
     ring: &'a Ring<T>,
     pushed: usize,
     seen_popped: usize,
 }
 
 /// The end that pops.
-struct Outlet<'a, T> {
+pub struct Outlet<'a, T> {
     ring: &'a Ring<T>,
     popped: usize,
     seen_pushed: usize,
 }
 
 impl<T> Ring<T> {
-    fn new() -> Ring<T> {
+    pub fn new() -> Ring<T> {
         Ring {
             popped: Apart(AtomicUsize::new(0)),
             pushed: Apart(AtomicUsize::new(0)),
@@ -55,7 +55,7 @@ impl<T> Ring<T> {
         }
     }
 
-    fn ends(&mut self) -> (Inlet<'_, T>, Outlet<'_, T>) {
+    pub fn ends(&mut self) -> (Inlet<'_, T>, Outlet<'_, T>) {
         let ring = &*self;
         (Inlet { ring, pushed: 0, seen_popped: 0 }, Outlet { ring, popped: 0, seen_pushed: 0 })
     }
@@ -66,7 +66,7 @@ impl<T> Ring<T> {
 }
 
 impl<T> Inlet<'_, T> {
-    fn push(&mut self, item: T) -> Result<(), T> {
+    pub fn push(&mut self, item: T) -> Result<(), T> {
         if self.pushed - self.seen_popped == PLACES {
             self.seen_popped = self.ring.popped.0.load(SeqCst);
             if self.pushed - self.seen_popped == PLACES {
@@ -96,19 +96,19 @@ impl<T> Outlet<'_, T> {
 }
 
 /// The end that issues calls and hears answers.
-struct Front<'a> {
-    calls: Inlet<'a, Call>,
-    answers: Outlet<'a, (Call, Answer)>,
+pub struct Front<'a> {
+    pub calls: Inlet<'a, Call>,
+    pub answers: Outlet<'a, (Call, Answer)>,
 }
 
 /// The end that takes calls and answers them.
-struct Back<'a> {
-    calls: Outlet<'a, Call>,
-    answers: Inlet<'a, (Call, Answer)>,
+pub struct Back<'a> {
+    pub calls: Outlet<'a, Call>,
+    pub answers: Inlet<'a, (Call, Answer)>,
 }
 
 impl Front<'_> {
-    fn hear(&mut self) -> Option<Call> {
+    pub fn hear(&mut self) -> Option<Call> {
         let (call, answer) = self.answers.pop()?;
         (answer.0[0] == 0).then_some(call)
     }
@@ -116,7 +116,7 @@ impl Front<'_> {
 
 impl Back<'_> {
     /// Whether a call was there, and is answered.
-    fn answer(&mut self) -> bool {
+    pub fn answer(&mut self) -> bool {
         match self.calls.pop() {
             Some(call) => self.answers.push((call, Answer([0; 4]))).is_ok(),
             None => false,
@@ -124,7 +124,7 @@ impl Back<'_> {
     }
 }
 
-fn must(is_well: bool) {
+pub fn must(is_well: bool) {
     if !is_well {
         exit(1);
     }

@@ -1,16 +1,37 @@
 # Two-phase commits a second of `xatm threads --log` over a new log in a file, with the start of the program and the reading of
-# the jobs, beside Bitronix with its journal on the same disk. Both force each decision to the disk. Below stands what of the
-# log a program does of which nothing is proved, where each transaction of the database has a decision of each thread.
+# the jobs, beside Bitronix with its journal on the same disk. Both force each decision to the disk. Below stands the same with
+# the log in memory, and what of the log programs do of which nothing is proved, where each transaction of the database has a
+# decision of each thread: one that makes the file and closes it too, and one without that.
+
+# rate COMMAND..: how many of the jobs a second the command makes, with its start and its end.
+rate() {
+    took=$(micros "$@")
+    echo $((jobs * 1000000 / took))
+}
+
+# all_committed: stops unless the run that was made last committed all jobs.
+all_committed() {
+    [ "$(grep -c ' committed$' "$work/printed")" = "$jobs" ] || stop "not all jobs were committed"
+}
 
 figures() {
     for threads in 1 2 4 8; do
         mkdir "$work/log"
-        took=$(micros crates/xatm/out/xatm threads --log "$work/log/log.db" "$work/$threads.toml")
-        [ "$(grep -c ' committed$' "$work/printed")" = "$jobs" ] || stop "not all jobs were committed"
+        ours=$(rate crates/xatm/out/xatm threads --log "$work/log/log.db" "$work/$threads.toml")
+        all_committed
         rm -r "$work/log"
-        echo "threads: $threads|ours|$((jobs * 1000000 / took))"
+        echo "threads: $threads|ours|$ours"
     done
     bitronix disk "${BENCH_TRANSACTIONS:-3000}" 1 4 8
+    for threads in 1 2 4 8; do
+        ours=$(rate crates/xatm/out/xatm threads "$work/$threads.toml")
+        all_committed
+        echo "threads: $threads|ours, log in memory|$ours"
+        mkdir "$work/log"
+        alone=$(rate crates/benches/out/benches sql whole "$work/log/log.db" "$threads")
+        rm -r "$work/log"
+        echo "threads: $threads|sqlite alone, file made|$alone"
+    done
     mkdir "$work/log"
     crates/benches/out/benches sql groups "$work/log/log.db" > "$work/printed"
     rm -r "$work/log"
@@ -36,4 +57,4 @@ for threads in 1 2 4 8; do
 votes = ["ok", "ok"]' | head -n $((2 * jobs))
     } > "$work/$threads.toml"
 done
-show $((8 + 6 * (sides - 1) + 4 * compiled)) "two-phase commits a second, log in a file"
+show $((16 + 6 * (sides - 1) + 4 * compiled)) "two-phase commits a second, log in a file"

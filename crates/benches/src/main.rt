@@ -6,7 +6,9 @@
 //!   makes a log at PATH with a few rows of each kind; `log read PATH` prints the rows of the log at PATH, whose incarnation it
 //!   raises by one;
 //! - `sql`: the same commits by the crate sqlite alone. `sql time [PATH]` measures as `log time` does, `sql groups PATH` in the
-//!   new file at PATH with several decisions in a transaction;
+//!   new file at PATH with several decisions in a transaction; `sql whole PATH DECISIONS` makes the file at PATH, commits 1,000 decisions,
+//!   so many in a transaction, and closes it;
+//! - `maps`: identifiers that the map finds on which a resource manager's branches stand;
 //! - `scan`: recovery pages of a resource manager with few branches and with many;
 //! - `steps`: steps of a system with few transactions and with many;
 //! - `workers`: jobs that worker threads commit;
@@ -17,6 +19,7 @@
 mod hops;
 mod line;
 mod log;
+mod maps;
 mod rtrb_alone;
 mod scan;
 mod sqlite_alone;
@@ -39,7 +42,11 @@ fn main(rt: HostRuntime) -> anyhow::Result<()> {
         Some("line") => line::show(&rt, &rt, timed),
         Some("rings") => rtrb_alone::show(&rt, &rt, timed),
         Some("log") => log::run(&rt, command, path),
-        Some("sql") => sqlite_alone::run(&rt, command, path),
+        Some("sql") => {
+            let decisions = words.get(4).map(|word| word.as_str());
+            sqlite_alone::run(&rt, command, path, decisions)
+        }
+        Some("maps") => maps::show(&rt, timed),
         Some("scan") => scan::show(&rt, timed),
         Some("steps") => steps::show(&rt, timed),
         Some("workers") => workers::show(&rt, &rt, timed),
@@ -55,7 +62,8 @@ fn main(rt: HostRuntime) -> anyhow::Result<()> {
             line::show(&rt, &rt, false)?;
             rtrb_alone::show(&rt, &rt, false)?;
             log::run(&rt, None, None)?;
-            sqlite_alone::run(&rt, None, None)?;
+            sqlite_alone::run(&rt, None, None, None)?;
+            maps::show(&rt, false)?;
             scan::show(&rt, false)?;
             steps::show(&rt, false)?;
             workers::show(&rt, &rt, false)

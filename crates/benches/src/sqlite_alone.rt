@@ -56,12 +56,17 @@ const DECIDE: &str = "INSERT INTO decision (inc, seq) VALUES (?1, ?2)";
 
 const JOIN: &str = "INSERT INTO participant (inc, seq, thread, rm) VALUES (?1, ?2, ?3, ?4)";
 
+/// How many decisions a database gets that is made for them and closed behind them.
+const WHOLE: i64 = 1_000;
+
 /// What is done over a database.
 #[derive(Clone, Copy)]
 enum Work {
     Count,
     Time,
     Group,
+    /// All decisions, so many in a transaction.
+    Whole(i64),
 }
 
 impl Load {
@@ -70,13 +75,25 @@ impl Load {
     }
 }
 
-/// Runs a command, with a path where it needs one.
+/// Runs a command, with a path and a number of decisions where it needs them.
 pub(crate) fn run(
     rt: &HostRuntime,
     command: Option<&str>,
     path: Option<&str>,
+    decisions: Option<&str>,
 ) -> anyhow::Result<()> {
     match (command, path) {
+        (Some("whole"), Some(path)) => {
+            let decisions = match decisions {
+                Some(word) => word.parse::<i64>()?,
+                None => 1,
+            };
+            close(work_in_files(
+                rt,
+                Connection::open(rt, path)?,
+                Work::Whole(decisions.max(1)),
+            )?)
+        }
         (Some("time"), Some(path)) => {
             work_in_memory(rt, Work::Time)?;
             work_at(rt, path, Work::Time)
@@ -88,17 +105,19 @@ pub(crate) fn run(
 }
 
 fn work_in_memory(rt: &HostRuntime, work: Work) -> anyhow::Result<()> {
-    work_over(
+    let _conn = work_over(
         rt,
         "in memory",
         Connection::open_in_memory(rt.alloc())?,
         work,
-    )
+    )?;
+    Ok(())
 }
 
 /// Works over the new file at a path.
 fn work_at(rt: &HostRuntime, path: &str, work: Work) -> anyhow::Result<()> {
-    work_in_files(rt, Connection::open(rt, path)?, work)
+    let _conn = work_in_files(rt, Connection::open(rt, path)?, work)?;
+    Ok(())
 }
 
 /// Works over files of any kind: a proof at one kind of file takes several times as long.
@@ -106,17 +125,23 @@ fn work_in_files<D: Disk + Drop>(
     rt: &HostRuntime,
     conn: Connection<FileStore<D>>,
     work: Work,
-) -> anyhow::Result<()> {
+) -> anyhow::Result<Connection<FileStore<D>>> {
     work_over(rt, "in a file", conn, work)
 }
 
-/// Works over a database without tables, in any store.
+/// Copies the journal into the file, and closes both.
+fn close<D: Disk + Drop>(conn: Connection<FileStore<D>>) -> anyhow::Result<()> {
+    conn.close()?;
+    Ok(())
+}
+
+/// Works over a database without tables, in any store, and gives it back.
 fn work_over<S: Alter + Drop>(
     rt: &HostRuntime,
     place: &str,
     mut conn: Connection<S>,
     work: Work,
-) -> anyhow::Result<()> {
+) -> anyhow::Result<Connection<S>> {
     create_tables(&mut conn)?;
     match work {
         Work::Count => {
@@ -125,15 +150,23 @@ fn work_over<S: Alter + Drop>(
                 "{} commits of the crate sqlite alone",
                 COUNTED.transactions
             )?;
-            Ok(())
         }
         Work::Time => {
             let commits = rate(rt, &mut conn, 0, TIMED)?;
             println!(rt; "{commits} commits a second {place}")?;
-            Ok(())
         }
-        Work::Group => show_groups(rt, &mut conn),
+        Work::Group => show_groups(rt, &mut conn)?,
+        Work::Whole(decisions) => {
+            let transactions = WHOLE / decisions;
+            let load = Load {
+                transactions,
+                decisions,
+            };
+            commit_all(&mut conn, 0, load)?;
+            println!(rt; "{} decisions {place}", load.total())?;
+        }
     }
+    Ok(conn)
 }
 
 /// Prints how many decisions a second there are for each size of a transaction.

@@ -54,12 +54,13 @@ fn committed<T: Threads + Wait + Clock + Sync>(
     )
 }
 
-/// Times a run, and prints how many jobs it committed a second.
+/// Times a run behind one that isn't timed, and prints how many jobs it committed a second.
 fn measure<T: Threads + Wait + Clock + Sync>(
     rt: &HostRuntime,
     threads: &T,
     jobs: &Jobs,
 ) -> anyhow::Result<()> {
+    let _first = committed(threads, rt.alloc(), jobs)?;
     let start = Instant::now(rt)?;
     let count = committed(threads, rt.alloc(), jobs)?;
     let micros = start.elapsed(rt)?.as_micros();
