@@ -1,4 +1,5 @@
 pub mod Crashes
+pub mod FirstRuns
 pub mod Processes
 pub mod Sessions
 pub mod Starts

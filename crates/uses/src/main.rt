@@ -268,8 +268,10 @@ fn show_jobs<T: Threads + Wait + Clock + Sync>(
         let listed = listing::listed(&mut done.log, alloc)?;
         println!(rt; "xa_workers, in files: {}", String::from_utf8(listed)?)?;
     }
-    let printed = jobs::printed(threads, alloc, JOBS.as_bytes())?;
+    let (printed, mut log) = jobs::printed_and_logged(threads, alloc, JOBS.as_bytes())?;
     println!(rt; "xa_jobs:\n{}", String::from_utf8(printed)?)?;
+    let listed = listing::listed(&mut log, alloc)?;
+    println!(rt; "xa_jobs, the log: {}", String::from_utf8(listed)?)?;
     Ok(())
 }
 

@@ -1,12 +1,11 @@
 -- The ends of jobs, and of the file that they were read from.
 use Rattle.std.proofs.Common.{◌≡◌, ◌∙◌, false, List, [], ◌∷◌, map, Option, Result, Ok, Err, Vec, Global, refl, sym, ap, subst}
 use Rattle.std.proofs.lemmas.List.{length-map}
-use Rattle.std.specs.Prelude.{IfErr, IfOk}
+use Rattle.std.specs.Prelude.{IfOk}
 use Rattle.xa_base.specs.declared.step.Outcome.{Outcome}
 use Rattle.xa_base.specs.declared.vote.Vote.{Vote}
-use Rattle.xa_files.specs.declared.fault.RunFault.{RunFault}
 use Rattle.xa_jobs.specs.JobFiles.{plan_of, rows_in}
-use Rattle.xa_jobs.specs.JobRuns.{AreEnds, planned_ends, run_fault_of}
+use Rattle.xa_jobs.specs.JobRuns.{AreEnds, planned_ends}
 use Rattle.xa_workers.specs.Jobs.{AreEndsOf, MayAllEnd, planned_end, ends_of}
 use Rattle.xa_workers.specs.declared.fault.WorkFault.{WorkFault}
 use Rattle.xa_workers.specs.declared.jobs.Jobs.{Jobs}
@@ -28,10 +27,9 @@ are_ends jobs ends are plain = record {
   plain = λ none. plain none ∙ planned jobs;
 }
 
--- and so are those that are told of a run
-pub ends_told : {L : Type 0} (jobs : Jobs) (ran : Result (Outcomes L) WorkFault) (told : Result (Vec Outcome Global) RunFault)
-    → IfOk ran (λ done. told ≡ Ok done.ends) → IfErr ran (λ fault. told ≡ Err (run_fault_of fault))
+-- and so are those of a run
+pub ends_of_done : {L : Type 0} (jobs : Jobs) (ran : Result (Outcomes L) WorkFault)
     → IfOk ran (λ done. AreEndsOf jobs done.ends.items) → (jobs.sweep ≡ false → IfOk ran (λ done. done.ends.items ≡ ends_of jobs))
-    → IfOk told (λ ends. AreEnds (plan_of jobs) ends.items)
-ends_told jobs (Ok done) told ends fault are plain = rw ends (are_ends jobs done.ends.items are plain)
-ends_told jobs (Err fault) told ends is are plain = rw is tt
+    → IfOk ran (λ done. AreEnds (plan_of jobs) done.ends.items)
+ends_of_done jobs (Ok done) are plain = are_ends jobs done.ends.items are plain
+ends_of_done jobs (Err fault) are plain = tt

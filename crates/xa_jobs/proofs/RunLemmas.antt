@@ -5,10 +5,12 @@ use Rattle.xa_files.proofs.ReadingLemmas.{explained as explained_by_text}
 use Rattle.xa_files.specs.Reading.{Explains, Fails}
 use Rattle.xa_files.specs.declared.fault.RunFault.{RunFault}
 use Rattle.xa_files.specs.declared.fault.RunFault.TheVariants.{NotToml, Header, Step, Job, Log, Memory, Work, Output}
-use Rattle.xa_jobs.specs.JobFiles.{Plan, jobs_of}
-use Rattle.xa_jobs.specs.JobRuns.{Begins, BeginsEnds, IsRunFault, IsWorkFault, Prints, PrintsEnds, run_fault_of}
+use Rattle.xa_jobs.specs.JobFiles.{Plan, jobs_of, plan_of}
+use Rattle.xa_jobs.specs.JobRuns.{Begins, BeginsEnds, IsRunFault, IsWorkFault, RunsFile, RunsJobs, run_fault_of}
+use Rattle.xa_log.specs.declared.decision_log.DecisionLog as DecisionLog
 use Rattle.xa_workers.specs.declared.fault.WorkFault.{WorkFault}
 use Rattle.xa_workers.specs.declared.fault.WorkFault.TheVariants as work
+use Rattle.xa_workers.specs.declared.jobs.Jobs.{Jobs}
 use Rattle.xa_workers.specs.declared.outcomes.Outcomes.{Outcomes}
 use Rattle.xa_jobs.proofs.TextFaults as texts
 
@@ -59,13 +61,13 @@ explained plan Header is = elim is [ ]
 explained plan (Step n) is = elim is [ ]
 explained plan (Job n) is = elim is [ ]
 
-explained_by : (plan : Plan) (result : Result (Unit {0}) RunFault) → IfErr result IsRunFault
+explained_by : {A : Type 0} (plan : Plan) (result : Result A RunFault) → IfErr result IsRunFault
     → IfErr result (λ e. Explains e (Ok plan))
 explained_by plan (Ok done) is = tt
 explained_by plan (Err e) is = explained plan e is
 
 -- a file that was read has faults of the run only
-pub run_explains : (plan : Plan) (read : Result Plan RunFault) (result : Result (Unit {0}) RunFault) → read ≡ Ok plan
+pub run_explains : {A : Type 0} (plan : Plan) (read : Result Plan RunFault) (result : Result A RunFault) → read ≡ Ok plan
     → IfErr result IsRunFault → IfErr result (λ e. Explains e read)
 run_explains plan read result is faults =
     subst (λ (r : Result Plan RunFault). IfErr result (λ e. Explains e r)) (sym is) (explained_by plan result faults)
@@ -76,9 +78,11 @@ no_fault plan read fault is other = let e : ◌≡◌ {A = Result Plan RunFault}
 
 -- ** what was written
 
-pub ends_printed : (text : List ℕ) (plan : Plan) (old new : Option (List ℕ)) → jobs_of text ≡ Ok plan
-    → PrintsEnds plan old new → Prints text old new
-ends_printed text plan old new reads lines = record { plan = plan; reads = reads; lines = lines }
+pub file_run : {L : Type 0} (g : DecisionLog.Ghosts L) (text : List ℕ) (jobs : Jobs) (old new : Option (List ℕ)) (first : L)
+    (result : Result L RunFault) → jobs_of text ≡ Ok (plan_of jobs)
+    → IfOk result (RunsJobs g jobs old new first) → IfOk result (RunsFile g text old new first)
+file_run g text jobs old new first (Ok log) reads runs = record { jobs = jobs; reads = reads; runs = runs }
+file_run g text jobs old new first (Err e) reads runs = tt
 
 pub ends_begun : (text : List ℕ) (plan : Plan) (old new : Option (List ℕ)) → jobs_of text ≡ Ok plan
     → BeginsEnds plan old new → Begins text old new
@@ -101,16 +105,25 @@ not_told_as_log (Ok done) told is other = λ e. cc
 not_told_as_log (Err fault) told is other = not_by_the_log fault (run_fault_of fault) refl (λ e. other (is ∙ e))
 
 -- and the fault that is told is one of a run
-pub fault_told : {L : Type 0} (ran : Result (Outcomes L) WorkFault) (told : Result (Vec Outcome Global) RunFault)
-    → IfOk ran (λ done. told ≡ Ok done.ends) → IfErr ran (λ fault. told ≡ Err (run_fault_of fault)) → IfErr told IsWorkFault
-fault_told (Ok done) told ends is = rw ends tt
-fault_told (Err fault) told ends is = rw is (is_work_fault fault)
+pub fault_told : {L : Type 0} (ran : Result (Outcomes L) WorkFault) (told : Result (Outcomes L) RunFault)
+    → IfOk ran (λ done. told ≡ Ok done) → IfErr ran (λ fault. told ≡ Err (run_fault_of fault)) → IfErr told IsWorkFault
+fault_told (Ok done) told is fault = rw is tt
+fault_told (Err fault) told done is = rw is (is_work_fault fault)
+
+-- ** what is handed on
+
+-- what holds of what a run came to holds of what is told of it
+pub told_as : {L : Type 0} (P : Outcomes L → Type 0) (ran : Result (Outcomes L) WorkFault)
+    (told : Result (Outcomes L) RunFault)
+    → IfOk ran (λ done. told ≡ Ok done) → IfErr ran (λ fault. told ≡ Err (run_fault_of fault)) → IfOk ran P → IfOk told P
+told_as P (Ok done) told is fault holds = rw is holds
+told_as P (Err fault) told done is holds = rw is tt
 
 -- it is so where it ends well, and where it ends by the work
-pub where_well : (result : Result (Unit {0}) RunFault) (P : Type 0) → (result ≢ Err Log → P) → OnOk result P
+pub where_well : {A : Type 0} (result : Result A RunFault) (P : Type 0) → (result ≢ Err Log → P) → OnOk result P
 where_well (Ok done) P known = known (λ e. cc)
 where_well (Err e) P known = tt
 
-pub where_by_work : (result : Result (Unit {0}) RunFault) (P : Type 0) → (result ≢ Err Log → P) → result ≡ Err Work → P
-where_by_work result P known is =
-    known (λ e. let no : ◌≡◌ {A = Result (Unit {0}) RunFault} (Err Work) (Err Log) = sym is ∙ e in cc)
+pub where_by_work : {A : Type 0} (result : Result A RunFault) (P : Type 0) → (result ≢ Err Log → P) → result ≡ Err Work → P
+where_by_work {A = A} result P known is =
+    known (λ e. let no : ◌≡◌ {A = Result A RunFault} (Err Work) (Err Log) = sym is ∙ e in cc)

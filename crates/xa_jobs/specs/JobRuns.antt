@@ -1,15 +1,18 @@
--- What a run of a jobs file prints, and why it ends early.
+-- What a run of a jobs file prints and leaves in its log, and why it ends early.
 use Rattle.std.specs.Prelude.{◌≡◌, ℕ, false, List, length, map, Option, Ok}
 use Rattle.std.specs.Io.KnownBytes.{Appends}
 use Rattle.xa_base.specs.declared.step.Outcome.{Outcome}
 use Rattle.xa_files.specs.Outputs.{AppendsBeginning}
 use Rattle.xa_files.specs.declared.fault.RunFault.{RunFault}
 use Rattle.xa_files.specs.declared.fault.RunFault.TheVariants.{Log, Memory, Work, Output}
-use Rattle.xa_jobs.specs.JobFiles.{Plan, jobs_of}
+use Rattle.xa_jobs.specs.JobFiles.{Plan, jobs_of, plan_of}
 use Rattle.xa_jobs.specs.Lines.{end_lines}
+use Rattle.xa_log.specs.declared.decision_log.DecisionLog as DecisionLog
 use Rattle.xa_workers.specs.Jobs.{MayAllEnd, planned_end}
+use Rattle.xa_workers.specs.Rows.{Logs, rows_of_jobs}
 use Rattle.xa_workers.specs.declared.fault.WorkFault.{WorkFault}
 use Rattle.xa_workers.specs.declared.fault.WorkFault.TheVariants as work
+use Rattle.xa_workers.specs.declared.jobs.Jobs.{Jobs}
 
 -- how the jobs end by their votes alone
 abbrev pub planned_ends : Plan → List Outcome
@@ -22,25 +25,30 @@ pub record AreEnds (plan : Plan) (ends : List Outcome) : Type 0 where
   pub each : MayAllEnd plan.sweep (planned_ends plan) ends
   pub plain : plan.sweep ≡ false → ends ≡ planned_ends plan
 
--- What was written are the lines of ends that the jobs may have.
-pub record PrintsEnds (plan : Plan) (old new : Option (List ℕ)) : Type 0 where
+-- What was written are the lines of ends that the jobs may have, and the log has the rows that it came with and, in the
+-- incarnation that it gave, those of jobs that ended so.
+pub record RunsJobs {L : Type 0} (g : DecisionLog.Ghosts L) (jobs : Jobs) (old new : Option (List ℕ)) (first log : L)
+    : Type 0 where
   pub ends : List Outcome
-  pub allowed : AreEnds plan ends
+  pub allowed : AreEnds (plan_of jobs) ends
   pub writes : Appends old new (end_lines ends)
+  pub incarnation : ℕ
+  pub logs : Logs g incarnation (rows_of_jobs jobs incarnation ends) first log
 
--- What was written is a beginning of such lines.
+-- What was written is a beginning of lines of ends that the jobs may have.
 pub record BeginsEnds (plan : Plan) (old new : Option (List ℕ)) : Type 0 where
   pub ends : List Outcome
   pub allowed : AreEnds plan ends
   pub begins : AppendsBeginning old new (end_lines ends)
 
--- The text is a jobs file, and what was written are the lines of its jobs.
-pub record Prints (text : List ℕ) (old new : Option (List ℕ)) : Type 0 where
-  pub plan : Plan
-  pub reads : jobs_of text ≡ Ok plan
-  pub lines : PrintsEnds plan old new
+-- The text is a jobs file, what was written are the lines of its jobs, and the log has their rows.
+pub record RunsFile {L : Type 0} (g : DecisionLog.Ghosts L) (text : List ℕ) (old new : Option (List ℕ)) (first log : L)
+    : Type 0 where
+  pub jobs : Jobs
+  pub reads : jobs_of text ≡ Ok (plan_of jobs)
+  pub runs : RunsJobs g jobs old new first log
 
--- The text is a jobs file, and what was written is a beginning of those lines.
+-- The text is a jobs file, and what was written is a beginning of such lines.
 pub record Begins (text : List ℕ) (old new : Option (List ℕ)) : Type 0 where
   pub plan : Plan
   pub reads : jobs_of text ≡ Ok plan

@@ -6,9 +6,10 @@ ghost use Rattle.xa_files.specs.Reading.{EndsWith, Explains};
 ghost use Rattle.xa_files.specs.declared.fault.RunFault.{RunFault};
 ghost use Rattle.xa_files.specs.declared.fault.RunFault.TheVariants.{Log, Output, Work};
 ghost use Rattle.xa_jobs.specs.JobFiles.{jobs_of, plan_of};
-ghost use Rattle.xa_jobs.specs.JobRuns.{AreEnds, Begins, BeginsEnds, Prints, PrintsEnds};
+ghost use Rattle.xa_jobs.specs.JobRuns.{AreEnds, Begins, BeginsEnds, RunsFile, RunsJobs};
 ghost use Rattle.xa_jobs.specs.JobRuns.{IsRunFault, IsWorkFault, run_fault_of};
 ghost use Rattle.xa_workers.specs.Jobs.{IsRunnable};
+ghost use Rattle.xa_workers.specs.Outcomes.{IsOutcomeOf};
 ghost use Rattle.xa_workers.specs.Rows.{CanBegin};
 
 use crate::jobs::read_jobs;
@@ -18,7 +19,6 @@ use std::io::Write;
 use std::sync::Wait;
 use std::thread::Threads;
 use std::time::Clock;
-use xa_base::Outcome;
 use xa_files::RunFault;
 use xa_log::DecisionLog;
 use xa_workers::{Gate, Jobs, Outcomes, Point, WorkFault, run_jobs};
@@ -43,43 +43,44 @@ fn run_fault_of(fault: WorkFault) -> RunFault
     }
 }
 
-/// What a run came to, as the file tells it: how each job ended, or the fault.
-fn told<L: Drop>(ran: Result<Outcomes<L>, WorkFault>) -> Result<Vec<Outcome>, RunFault>
-    ensures ends { IfOk ran (λ done. result ≡ Ok done.ends) }
+/// What a run came to, with its fault as the file tells it.
+fn told<L: Drop>(ran: Result<Outcomes<L>, WorkFault>) -> Result<Outcomes<L>, RunFault>
+    ensures done { IfOk ran (λ done. result ≡ Ok done) }
     ensures fault { IfErr ran (λ fault. result ≡ Err (run_fault_of fault)) }
 {
     match ran {
-        Ok(done) => Ok(done.ends),
+        Ok(done) => Ok(done),
         Err(fault) => Err(run_fault_of(fault)),
     }
 }
 
-/// Runs jobs over a log, and gives how each ended.
-fn ends_of_run<R: Threads + Wait + Clock + Sync, L: DecisionLog + Drop>(
+/// Runs jobs over a log, and gives how each ended and the log.
+fn outcomes_of_run<R: Threads + Wait + Clock + Sync, L: DecisionLog + Drop>(
     rt: &R,
     alloc: Global,
     jobs: &Jobs,
     log: L,
-) -> Result<Vec<Outcome>, RunFault>
+) -> Result<Outcomes<L>, RunFault>
     requires { IsRunnable jobs.now }
-    ensures ends { IfOk result (λ ends. AreEnds (plan_of jobs.now) ends.items) }
+    ensures ends { IfOk result (λ done. AreEnds (plan_of jobs.now) done.ends.items) }
+    ensures outcome { IfOk result (IsOutcomeOf L.DecisionLog jobs.now log) }
     ensures can_begin { result ≢ Err Log → CanBegin L.DecisionLog log }
     ensures fault { IfErr result IsWorkFault }
 {
     told(run_jobs(rt, alloc, jobs, log, &Open))
 }
 
-/// Runs jobs over a log, and prints how each ended.
+/// Runs jobs over a log, prints how each ended, and gives the log back.
 fn run_and_print<R: Threads + Wait + Clock + Sync, L: DecisionLog + Drop, W: Write>(
     rt: &R,
     alloc: Global,
     jobs: &Jobs,
     log: L,
     out: &mut W,
-) -> Result<(), RunFault>
+) -> Result<L, RunFault>
     requires { IsRunnable jobs.now }
-    ensures ends { OnOk result (PrintsEnds (plan_of jobs.now) (W.contents out.old)
-        (W.contents out.new)) }
+    ensures ends { IfOk result (RunsJobs L.DecisionLog jobs.now (W.contents out.old)
+        (W.contents out.new) log) }
     ensures begun { IfErr result (λ e. e ≡ Output →
         BeginsEnds (plan_of jobs.now) (W.contents out.old) (W.contents out.new)) }
     ensures kept { IfErr result (λ e. e ≢ Output
@@ -87,24 +88,32 @@ fn run_and_print<R: Threads + Wait + Clock + Sync, L: DecisionLog + Drop, W: Wri
     ensures can_begin { result ≢ Err Log → CanBegin L.DecisionLog log }
     ensures fault { IfErr result IsRunFault }
 {
-    let ends = ends_of_run(rt, alloc, jobs, log)?;
-    print_ends(alloc, &ends, out)
+    let done = outcomes_of_run(rt, alloc, jobs, log)?;
+    print_ends(alloc, &done.ends, out)?;
+    Ok(done.log)
 }
 
-/// Runs the jobs of a file over a log by [`run_jobs`], and prints a line for each job, in order, once all have ended.
+/// Runs the jobs of a file over a log by [`run_jobs`], prints a line for each job, in order, once all have ended, and
+/// gives the log back.
+///
+/// The log that is given back has what it came with, and a row for each job whose line says that it committed and of
+/// which a branch voted yes, with the branches that did as its participants. It has nothing else, and its incarnation is
+/// one more. That holds of a log that was in order, and as far as it has been honest.
 ///
 /// A file that is no jobs file is refused before anything is run, by NotToml, Header or Job. Of a run, Memory comes
 /// where a request for memory or for a thread was refused, Log where the log failed or can't begin a run, Work where
-/// the workers stood still or don't agree, over a log that could begin it; nothing is written then. Output comes where a write failed: what was
-/// written before it is left, and is a beginning of what is printed otherwise. After a fault nothing is said of the log.
+/// the workers stood still or don't agree, over a log that could begin it; nothing is written then. Output comes where
+/// a write failed: what was written before it is left, and is a beginning of what is printed otherwise. After a fault
+/// the log is dropped, and nothing is said of it.
 pub fn run_job_file<R: Threads + Wait + Clock + Sync, L: DecisionLog + Drop, W: Write>(
     rt: &R,
     alloc: Global,
     text: &[u8],
     log: L,
     out: &mut W,
-) -> Result<(), RunFault>
-    ensures ok { OnOk result (Prints text.now (W.contents out.old) (W.contents out.new)) }
+) -> Result<L, RunFault>
+    ensures ok { IfOk result (RunsFile L.DecisionLog text.now (W.contents out.old)
+        (W.contents out.new) log) }
     ensures fault { IfErr result (λ e. Explains e (jobs_of text.now)) }
     ensures refused { (e : RunFault) → jobs_of text.now ≡ Err e → EndsWith e result }
     // A log over which no run can begin is told as Log, unless the file is refused or can't be read for want of memory.

@@ -154,7 +154,7 @@ fn run<W: Write>(
 }
 
 /// Runs the jobs of a file over the log at a path, or over one in memory. The log is opened before the text is read
-/// as a jobs file.
+/// as a jobs file. A run that ends well gives it back, and it is closed; after any other it is looked at to be closed.
 fn run_threads<T: Threads + Wait + Clock + Sync, W: Write>(
     rt: &HostRuntime,
     threads: &T,
@@ -165,12 +165,18 @@ fn run_threads<T: Threads + Wait + Clock + Sync, W: Write>(
     let alloc = rt.alloc();
     match log {
         Some(path) => {
-            let ran = run_jobs_in_files(threads, alloc, text, SqlLog::open(rt, path)?, out);
-            let gathered = gather(rt, path);
-            ran?;
-            gathered?;
+            match run_jobs_in_files(threads, alloc, text, SqlLog::open(rt, path)?, out) {
+                Ok(log) => close_in_files(log)?,
+                Err(fault) => {
+                    // What is told is why the run ended, also where its log can't be gathered.
+                    let _gathered = gather(rt, path);
+                    return Err(Failure::from(fault));
+                }
+            }
         }
-        None => run_jobs_over(threads, alloc, text, SqlLog::open_in_memory(alloc)?, out)?,
+        None => {
+            let _log = run_jobs_over(threads, alloc, text, SqlLog::open_in_memory(alloc)?, out)?;
+        }
     }
     Ok(())
 }

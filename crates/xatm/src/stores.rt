@@ -45,14 +45,14 @@ pub(crate) fn run_in_files<D: Disk + Drop, W: Write>(
     run_over(alloc, texts, log, with_trace, out)
 }
 
-/// Runs the jobs of a file.
+/// Runs the jobs of a file, and gives the log back.
 pub(crate) fn run_jobs_over<S: Alter + Drop, T: Threads + Wait + Clock + Sync, W: Write>(
     threads: &T,
     alloc: Global,
     text: &[u8],
     log: SqlLog<S>,
     out: &mut W,
-) -> Result<(), RunFault> {
+) -> Result<SqlLog<S>, RunFault> {
     run_job_file(threads, alloc, text, log, out)
 }
 
@@ -63,7 +63,7 @@ pub(crate) fn run_jobs_in_files<D: Disk + Drop, T: Threads + Wait + Clock + Sync
     text: &[u8],
     log: SqlLog<FileStore<D>>,
     out: &mut W,
-) -> Result<(), RunFault> {
+) -> Result<SqlLog<FileStore<D>>, RunFault> {
     run_jobs_over(threads, alloc, text, log, out)
 }
 

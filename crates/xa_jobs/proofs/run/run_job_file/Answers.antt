@@ -3,7 +3,7 @@ use Rattle.xa_jobs.specs.JobFiles.{jobs_of, plan_of}
 use Rattle.xa_files.proofs.ReadingLemmas.{ends_with}
 use Rattle.xa_files.proofs.TablesInTurnLemmas.{same_err}
 use Rattle.xa_files.proofs.TextFaults.{on_output}
-use Rattle.xa_jobs.proofs.RunLemmas.{explains, not_of_output, not_of_work, run_explains, no_fault, ends_begun, where_by_work, where_well}
+use Rattle.xa_jobs.proofs.RunLemmas.{explains, not_of_output, not_of_work, run_explains, no_fault, ends_begun, file_run, where_by_work, where_well}
 use Rattle.xa_jobs.proofs.run.run_job_file.Goals as goal
 
 pub returns-in_err-jobs-clause-fault : goal.returns-in_err-jobs-clause-fault
@@ -21,6 +21,12 @@ pub returns-in_err-jobs-clause-begun : goal.returns-in_err-jobs-clause-begun
 returns-in_err-jobs-clause-begun g c =
     let p = err_from_is_err_and c.from_residual.result c.from_residual.ensures.1 in
     rw (p.1, p.2) (λ e. absurd (not_of_output c.in_err-jobs.field-0.0 c.args.text.now c.in_err-jobs.ensures.read e))
+
+pub returns-clause-ok : goal.returns-clause-ok
+returns-clause-ok g c =
+    let contents = g.W.Write.contents in
+    file_run g.L.DecisionLog c.args.text.now c.in_ok-jobs.jobs (contents c.args.out.now) (contents c.run_and_print.new.out)
+    c.args.log c.run_and_print.result c.in_ok-jobs.ensures.read c.run_and_print.ensures.ends
 
 pub returns-clause-fault : goal.returns-clause-fault
 returns-clause-fault g c = run_explains (plan_of c.in_ok-jobs.jobs) (jobs_of c.args.text.now) c.run_and_print.result
