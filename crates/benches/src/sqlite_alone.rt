@@ -88,11 +88,8 @@ pub(crate) fn run(
                 Some(word) => word.parse::<i64>()?,
                 None => 1,
             };
-            close(work_in_files(
-                rt,
-                Connection::open(rt, path)?,
-                Work::Whole(decisions.max(1)),
-            )?)
+            let conn = Connection::open(rt, path)?;
+            close(work_in_files(rt, conn, Work::Whole(decisions))?)
         }
         (Some("time"), Some(path)) => {
             work_in_memory(rt, Work::Time)?;
@@ -157,7 +154,7 @@ fn work_over<S: Alter + Drop>(
         }
         Work::Group => show_groups(rt, &mut conn)?,
         Work::Whole(decisions) => {
-            let transactions = WHOLE / decisions;
+            let transactions = WHOLE.checked_div(decisions).unwrap_or(0);
             let load = Load {
                 transactions,
                 decisions,
