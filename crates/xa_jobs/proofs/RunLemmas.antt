@@ -1,6 +1,5 @@
 -- Why a run ended.
-use Rattle.std.proofs.Common.{◌≡◌, ◌≢◌, ◌∙◌, List, ℕ, Option, Result, Ok, Err, IfErr, IfOk, OnOk, Vec, Global, ap, refl, sym, subst}
-use Rattle.xa_base.specs.declared.step.Outcome.{Outcome}
+use Rattle.std.proofs.Common.{◌≡◌, ◌≢◌, ◌∙◌, List, ℕ, Option, Result, Ok, Err, IfErr, IfOk, OnOk, ap, refl, sym, subst}
 use Rattle.xa_files.proofs.ReadingLemmas.{explained as explained_by_text}
 use Rattle.xa_files.specs.Reading.{Explains, Fails}
 use Rattle.xa_files.specs.declared.fault.RunFault.{RunFault}
@@ -87,6 +86,12 @@ file_run g text jobs old new first (Err e) reads runs = tt
 pub ends_begun : (text : List ℕ) (plan : Plan) (old new : Option (List ℕ)) → jobs_of text ≡ Ok plan
     → BeginsEnds plan old new → Begins text old new
 ends_begun text plan old new reads lines = record { plan = plan; reads = reads; lines = lines }
+
+-- and so it is by the fault of the output, whatever a run that ends well gives
+pub begun_at_output : {A : Type 0} (result : Result A RunFault) (P Q : Type 0) → (P → Q)
+    → IfErr result (λ e. e ≡ Output → P) → IfErr result (λ e. e ≡ Output → Q)
+begun_at_output (Ok x) P Q so known = tt
+begun_at_output (Err e) P Q so known = λ is. so (known is)
 
 -- ** a fault of the log
 

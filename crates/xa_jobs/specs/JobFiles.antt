@@ -1,6 +1,6 @@
 -- Which texts are jobs files, and the fault of each other text.
 use Rattle.std.specs.Prelude.{ℕ, ◌+◌, ◌==◌, nat_lt, Bool, if◌then◌else◌, List, [], ◌∷◌, length, map, codes, Option}
-use Rattle.std.specs.Prelude.{Some, None, Result, Ok, Err, option_map}
+use Rattle.std.specs.Prelude.{Some, None, Result, Ok, option_map}
 use Rattle.std.specs.Str.{bytes_eq}
 use Rattle.std.specs.Global.{Vec}
 use Rattle.std.specs.Option.{ok_or, option_and_then}

@@ -1,10 +1,10 @@
 //! Runs of jobs files, over any log and any writer.
 
-ghost use Rattle.std.specs.Prelude.{◌≡◌, ◌≢◌, Err, IfErr, IfOk, IsErr, Ok, OnOk};
+ghost use Rattle.std.specs.Prelude.{◌≡◌, ◌≢◌, ◌⊎◌, Err, IfErr, IfOk, IsErr, IsErrAnd, Ok, OnOk};
 ghost use Rattle.std.specs.Io.KnownBytes.{Keeps};
-ghost use Rattle.xa_files.specs.Reading.{EndsWith, Explains};
+ghost use Rattle.xa_files.specs.Reading.{Explains};
 ghost use Rattle.xa_files.specs.declared.fault.RunFault.{RunFault};
-ghost use Rattle.xa_files.specs.declared.fault.RunFault.TheVariants.{Log, Output, Work};
+ghost use Rattle.xa_files.specs.declared.fault.RunFault.TheVariants.{Log, Memory, Output, Work};
 ghost use Rattle.xa_jobs.specs.JobFiles.{jobs_of, plan_of};
 ghost use Rattle.xa_jobs.specs.JobRuns.{AreEnds, Begins, BeginsEnds, RunsFile, RunsJobs};
 ghost use Rattle.xa_jobs.specs.JobRuns.{IsRunFault, IsWorkFault, run_fault_of};
@@ -115,7 +115,8 @@ pub fn run_job_file<R: Threads + Wait + Clock + Sync, L: DecisionLog + Drop, W: 
     ensures ok { IfOk result (RunsFile L.DecisionLog text.now (W.contents out.old)
         (W.contents out.new) log) }
     ensures fault { IfErr result (λ e. Explains e (jobs_of text.now)) }
-    ensures refused { (e : RunFault) → jobs_of text.now ≡ Err e → EndsWith e result }
+    ensures refused { (e : RunFault) → jobs_of text.now ≡ Err e →
+        IsErrAnd result (λ found. (found ≡ e) ⊎ (found ≡ Memory)) }
     // A log over which no run can begin is told as Log, unless the file is refused or can't be read for want of memory.
     ensures can_begin { OnOk result (CanBegin L.DecisionLog log) }
     ensures work { result ≡ Err Work → CanBegin L.DecisionLog log }

@@ -2,8 +2,7 @@ use Rattle.std.proofs.lemmas.Result.{err_from_is_err_and}
 use Rattle.xa_jobs.specs.JobFiles.{jobs_of, plan_of}
 use Rattle.xa_files.proofs.ReadingLemmas.{ends_with}
 use Rattle.xa_files.proofs.TablesInTurnLemmas.{same_err}
-use Rattle.xa_files.proofs.TextFaults.{on_output}
-use Rattle.xa_jobs.proofs.RunLemmas.{explains, not_of_output, not_of_work, run_explains, no_fault, ends_begun, file_run, where_by_work, where_well}
+use Rattle.xa_jobs.proofs.RunLemmas.{begun_at_output, explains, not_of_output, not_of_work, run_explains, no_fault, ends_begun, file_run, where_by_work, where_well}
 use Rattle.xa_jobs.proofs.run.run_job_file.Goals as goal
 
 pub returns-in_err-jobs-clause-fault : goal.returns-in_err-jobs-clause-fault
@@ -39,7 +38,7 @@ returns-clause-refused g c = λ e other. absurd
 pub returns-clause-begun : goal.returns-clause-begun
 returns-clause-begun g c =
     let contents = g.W.Write.contents in
-    on_output c.run_and_print.result _ _
+    begun_at_output c.run_and_print.result _ _
     (λ written. ends_begun c.args.text.now (plan_of c.in_ok-jobs.jobs) (contents c.args.out.now)
     (contents c.run_and_print.new.out) c.in_ok-jobs.ensures.read written)
     c.run_and_print.ensures.begun
