@@ -3,8 +3,8 @@
 # the log in memory, and what of the log programs do of which nothing is proved, where each transaction of the database has a
 # decision of each thread: one that makes the file and closes it too, and one without that.
 
-# rate COMMAND..: how many of the jobs a second the command makes, with its start and its end.
-rate() {
+# rate_of COMMAND..: how many of the jobs a second the command makes, with its start and its end.
+rate_of() {
     took=$(micros "$@")
     echo $((jobs * 1000000 / took))
 }
@@ -17,18 +17,18 @@ all_committed() {
 figures() {
     for threads in 1 2 4 8; do
         mkdir "$work/log"
-        ours=$(rate crates/xatm/out/xatm threads --log "$work/log/log.db" "$work/$threads.toml")
+        ours=$(rate_of crates/xatm/out/xatm threads --log "$work/log/log.db" "$work/$threads.toml")
         all_committed
         rm -r "$work/log"
         echo "threads: $threads|ours|$ours"
     done
     bitronix disk "${BENCH_TRANSACTIONS:-3000}" 1 4 8
     for threads in 1 2 4 8; do
-        ours=$(rate crates/xatm/out/xatm threads "$work/$threads.toml")
+        ours=$(rate_of crates/xatm/out/xatm threads "$work/$threads.toml")
         all_committed
         echo "threads: $threads|ours, log in memory|$ours"
         mkdir "$work/log"
-        alone=$(rate crates/benches/out/benches sql whole "$work/log/log.db" "$threads")
+        alone=$(rate_of crates/benches/out/benches sql whole "$work/log/log.db" "$threads")
         rm -r "$work/log"
         echo "threads: $threads|sqlite alone, file made|$alone"
     done
