@@ -55,6 +55,13 @@ impl Shared {
     fn is_over(&self) -> bool {
         self.running.load(SeqCst) == 0
     }
+
+    /// Works until all threads of control have ended. The work says whether there was any.
+    fn while_running(&self, mut work: impl FnMut() -> bool) {
+        while !self.is_over() {
+            self.until(|| work() || self.is_over());
+        }
+    }
 }
 
 fn issue(front: &mut Front<'_>, calls: usize) {
@@ -86,32 +93,28 @@ fn control(shared: &Shared, slip: &Slip, mut fronts: Vec<Front<'_>>, jobs: usize
 }
 
 fn serve(shared: &Shared, mut backs: Vec<Back<'_>>) {
-    while !shared.is_over() {
-        shared.until(|| {
-            let mut any = false;
-            for back in &mut backs {
-                while back.answer() {
-                    any = true;
-                }
+    shared.while_running(|| {
+        let mut any = false;
+        for back in &mut backs {
+            while back.answer() {
+                any = true;
             }
-            any || shared.is_over()
-        });
-    }
+        }
+        any
+    });
 }
 
 fn log(shared: &Shared) {
-    while !shared.is_over() {
-        shared.until(|| {
-            let mut any = false;
-            for slip in &shared.slips {
-                if slip.asked.load(SeqCst) && slip.asked.swap(false, SeqCst) {
-                    slip.written.store(true, SeqCst);
-                    any = true;
-                }
+    shared.while_running(|| {
+        let mut any = false;
+        for slip in &shared.slips {
+            if slip.asked.load(SeqCst) && slip.asked.swap(false, SeqCst) {
+                slip.written.store(true, SeqCst);
+                any = true;
             }
-            any || shared.is_over()
-        });
-    }
+        }
+        any
+    });
 }
 
 /// Makes the hops of all jobs on so many threads of control. Starts and joins all workers but the log's.
