@@ -66,15 +66,53 @@ step = [
 ]
 ";
 
-/// A driver's part of a session: a branch is started, and its line is lost.
+/// A driver's part of a session: a transfer over two databases, in two phases.
 const SESSION: &str = "issue 0 0 xa_open
 answer 0 0 xa_open 0
+issue 0 1 xa_open
+answer 0 1 xa_open 0
 begin 0
 issue 0 0 xa_start 00000000000000010000000000000001
 answer 0 0 xa_start 00000000000000010000000000000001 0
+issue 0 1 xa_start 00000000000000010000000000000001
+answer 0 1 xa_start 00000000000000010000000000000001 0
+issue 0 0 xa_end 00000000000000010000000000000001 TMSUCCESS
 answer 0 0 xa_end 00000000000000010000000000000001 0
-crash line 0 0
+issue 0 1 xa_end 00000000000000010000000000000001 TMSUCCESS
+answer 0 1 xa_end 00000000000000010000000000000001 0
+issue 0 0 xa_prepare 00000000000000010000000000000001
+answer 0 0 xa_prepare 00000000000000010000000000000001 0
+issue 0 1 xa_prepare 00000000000000010000000000000001
+answer 0 1 xa_prepare 00000000000000010000000000000001 0
+decide 00000000000000010000000000000001 commit
+issue 0 0 xa_commit 00000000000000010000000000000001
+answer 0 0 xa_commit 00000000000000010000000000000001 0
+issue 0 1 xa_commit 00000000000000010000000000000001
+answer 0 1 xa_commit 00000000000000010000000000000001 0
+done 00000000000000010000000000000001
 quit
+";
+
+/// Another driver's: a transaction of each of two threads votes, and one line commits both.
+const COMMITS: &str = "issue 0 0 xa_open
+answer 0 0 xa_open 0
+issue 1 1 xa_open
+answer 1 1 xa_open 0
+begin 0
+begin 1
+issue 0 0 xa_start 00000000000000010000000000000001
+answer 0 0 xa_start 00000000000000010000000000000001 0
+issue 1 1 xa_start 00000000000000010000000000000002
+answer 1 1 xa_start 00000000000000010000000000000002 0
+issue 0 0 xa_end 00000000000000010000000000000001 TMSUCCESS
+answer 0 0 xa_end 00000000000000010000000000000001 0
+issue 1 1 xa_end 00000000000000010000000000000002 TMSUCCESS
+answer 1 1 xa_end 00000000000000010000000000000002 0
+issue 0 0 xa_prepare 00000000000000010000000000000001
+issue 1 1 xa_prepare 00000000000000010000000000000002
+answer 0 0 xa_prepare 00000000000000010000000000000001 0
+answer 1 1 xa_prepare 00000000000000010000000000000002 0
+decide 00000000000000010000000000000001 00000000000000010000000000000002 commit
 ";
 
 const JOBS: &str = "threads = 1\nrms = 1\njob = [{ votes = ['ok'] }, { votes = ['102'] }]\n";
@@ -287,10 +325,15 @@ fn show_scenario(rt: &HostRuntime) -> anyhow::Result<()> {
     Ok(())
 }
 
-/// What a driver is told in a session.
+/// What a driver of one thread and two databases is told in a session.
 fn show_session(rt: &HostRuntime) -> anyhow::Result<()> {
-    if let Ok(written) = serve::served(rt.alloc(), SESSION.as_bytes()) {
+    if let Ok(written) = serve::served(rt.alloc(), 1, 2, SESSION.as_bytes()) {
         println!(rt; "xa_coordinator:\n{}", String::from_utf8(written)?)?;
+    }
+    let log = MemLog::new(rt.alloc());
+    if let Ok((_written, mut log)) = serve::commits(rt.alloc(), log, COMMITS.as_bytes()) {
+        let listed = listing::listed(&mut log, rt.alloc())?;
+        println!(rt; "xa_coordinator, its log: {}", String::from_utf8(listed)?)?;
     }
     Ok(())
 }

@@ -1,9 +1,16 @@
 pub mod AnswerLemmas
+pub mod Failures
+pub mod FaultLemmas
 pub mod KnownCalls
 pub mod LineLemmas
+pub mod LogLemmas
+pub mod ManagerLemmas
 pub mod ReleaseLemmas
 pub mod RowLemmas
 pub mod ServingLemmas
+pub mod SessionChains
+pub mod SinceStart
 pub mod StandingLemmas
 pub mod TrackLemmas
 pub mod UnchangedLemmas
+pub mod VoteLemmas

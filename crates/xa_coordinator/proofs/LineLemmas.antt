@@ -9,7 +9,10 @@ use Rattle.std.specs.List.{list_any}
 use Rattle.std.specs.Str.{IsUtf8, is_utf8}
 use Rattle.xa_files.specs.Outputs.{AppendsBeginning}
 use Rattle.xa_coordinator.specs.Lines.{IsKeptOf, IsPlain, KeepsShort, ReadsOne, asked_in}
+use Rattle.xa_coordinator.specs.NamedLines.{line_read}
 use Rattle.xa_coordinator.specs.declared.lines.TheConstants.{LINE_LIMIT}
+use Rattle.xa_names.specs.Laws.{LinesStay}
+use Rattle.xa_names.specs.Lines.{line_renamed}
 use Rattle.xa_requests.specs.Requests.{request_of}
 
 -- ** what a line asks for
@@ -31,6 +34,39 @@ asked_of_long : (line : List ℕ) → LINE_LIMIT < length line → asked_in line
 asked_of_long line long =
     let no_fit : nat_le (length line) LINE_LIMIT ≡ false = grind (arith, nat_tests) in
     rw no_fit refl
+
+-- ** what a line asks a manager of a name for
+
+pub read_of_text : (name line : List ℕ) → length line ≤ LINE_LIMIT → IsUtf8 line → line_read name line ≡ line_renamed name line
+read_of_text name line short text =
+    let fits : nat_le (length line) LINE_LIMIT ≡ true = grind (arith, nat_tests) in
+    rw fits (rw (is_utf8-from_IsUtf8 line text) refl)
+
+pub read_of_none : (name line : List ℕ) → ¬ IsUtf8 line → line_read name line ≡ line
+read_of_none name line other = by_test (nat_le (length line) LINE_LIMIT) (is_utf8 line) refl
+  where
+    by_test : (fits b : Bool) → is_utf8 line ≡ b → cond (fits && b) (line_renamed name line) line ≡ line
+    by_test fits true is = absurd (other (IsUtf8-from_is_utf8 line is))
+    by_test true false is = refl
+    by_test false false is = refl
+
+read_of_long : (name line : List ℕ) → LINE_LIMIT < length line → line_read name line ≡ line
+read_of_long name line long =
+    let no_fit : nat_le (length line) LINE_LIMIT ≡ false = grind (arith, nat_tests) in
+    rw no_fit refl
+
+pub asked_of_no_text : (name line : List ℕ) → ¬ IsUtf8 line → asked_in (line_read name line) ≡ None
+asked_of_no_text name line other = ap asked_in (read_of_none name line other) ∙ asked_of_none line other
+
+pub asked_of_too_long : (name line : List ℕ) → LINE_LIMIT < length line → asked_in (line_read name line) ≡ None
+asked_of_too_long name line long = ap asked_in (read_of_long name line long) ∙ asked_of_long line long
+
+pub asked_without_name : LinesStay → (name line : List ℕ) → name ≡ [] → asked_in (line_read name line) ≡ asked_in line
+asked_without_name law name line none = ap (λ n. asked_in (line_read n line)) none ∙ ap asked_in (by_test _)
+  where
+    by_test : (t : Bool) → cond t (line_renamed [] line) line ≡ line
+    by_test true = law line
+    by_test false = refl
 
 -- ** known bytes
 
@@ -146,13 +182,13 @@ part_on a b c old new x so_far more not_end keeps = record {
   consumed = both_consumed a b c so_far.line (x ∷ []) so_far.consumed more;
 }
 
--- what is asked of a line that may be too long is what is asked of what is kept of it
-pub asked_of_kept : (line kept : List ℕ) → IsKeptOf line kept → asked_in kept ≡ asked_in line
-asked_of_kept line kept keeps = by_cases (cases_lt LINE_LIMIT (length line))
+-- what is asked of a line that may be too long is what is asked of what is kept of it, at a manager of any name
+pub asked_of_kept_by : (name line kept : List ℕ) → IsKeptOf line kept → asked_in (line_read name kept) ≡ asked_in (line_read name line)
+asked_of_kept_by name line kept keeps = by_cases (cases_lt LINE_LIMIT (length line))
   where
-    by_cases : (LINE_LIMIT < length line) ⊎ (length line ≤ LINE_LIMIT) → asked_in kept ≡ asked_in line
-    by_cases (inl long) = asked_of_long kept (keeps.long long) ∙ sym (asked_of_long line long)
-    by_cases (inr short) = ap asked_in (keeps.short short)
+    by_cases : (LINE_LIMIT < length line) ⊎ (length line ≤ LINE_LIMIT) → asked_in (line_read name kept) ≡ asked_in (line_read name line)
+    by_cases (inl long) = asked_of_too_long name kept (keeps.long long) ∙ sym (asked_of_too_long name line long)
+    by_cases (inr short) = ap (λ l. asked_in (line_read name l)) (keeps.short short)
 
 nothing_less : LINE_LIMIT < 0 → ⊥
 nothing_less h = omega (arith, h)

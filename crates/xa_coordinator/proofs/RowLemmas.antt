@@ -21,7 +21,7 @@ use Rattle.xa_coordinator.specs.Replies.{reply_of}
 use Rattle.xa_requests.specs.declared.request.Request.TheVariants as requests
 use Rattle.xa_requests.specs.declared.response.Response.{Response}
 use Rattle.xa_requests.specs.declared.response.Response.TheVariants as responses
-use Rattle.xa_serve.specs.Following.{StaysTied}
+use Rattle.xa_serve.specs.Logging.{KeepsLog}
 use Rattle.xa_serve.specs.Session.{decide_refusal, has_room_for, refusal_at}
 use Rattle.xa_serve.specs.declared.session.Session.{Session}
 use Rattle.xa_tm.specs.Book.{Book, Waiting, after, after_all, voted_yes}
@@ -88,7 +88,7 @@ still_up [] k = refl
 still_up (h ∷ hs) k = still_up hs (after k (Decided h Outcomes.Commit))
 
 -- the rows are in a log that holds what the book then says
-row_written : (k l : Book) (near : Bool) (log : Option Content) (gs : List Gtrid) (g : Gtrid) → k.up ≡ true → is_among gs g ≡ true
+pub row_written : (k l : Book) (near : Bool) (log : Option Content) (gs : List Gtrid) (g : Gtrid) → k.up ≡ true → is_among gs g ≡ true
     → (k.transaction g).has_yes ≡ true → l ≡ after_all k (commits gs) → IsTied near l log → HasRow log g (voted_yes k g)
 row_written k l near log gs g up among voted is tied = in_log log
     (subst (λ u. TiedBy u near (after_all k (commits gs)) log) (still_up gs k ∙ up) (subst (λ b. IsTied near b log) is tied))
@@ -100,9 +100,9 @@ row_written k l near log gs g up among voted is tied = in_log log
 -- what is told to be decided is so, by a manager that was up, and its rows are in the log
 pub told_rows : {L : Type 0} (moment : L → Moment) (s t : Session L) (gs : List Gtrid) (reply : Response) (r : Result (Unit {0}) Refusal)
     → reply ≡ reply_of (λ _. responses.Decided) r → OnOk r ((gs ≡ []) ⊎ ((book_in s.manager).up ≡ true))
-    → OnOk r (book_in t.manager ≡ after_all (book_in s.manager) (commits gs)) → StaysTied moment s t → LogsRows moment gs s reply t
-told_rows moment s t gs reply r replied up book stays = λ near g among told order honest tied voted.
-    by r (sym replied ∙ told) up book near g among voted (stays near order honest tied)
+    → OnOk r (book_in t.manager ≡ after_all (book_in s.manager) (commits gs)) → KeepsLog moment s.manager t.manager → LogsRows moment gs s reply t
+told_rows moment s t gs reply r replied up book keeps = λ near g among told order honest holds voted.
+    by r (sym replied ∙ told) up book near g among voted (keeps.holds near order honest holds).tied
   where
     by : (r : Result (Unit {0}) Refusal) → reply_of (λ _. responses.Decided) r ≡ responses.Decided
         → OnOk r ((gs ≡ []) ⊎ ((book_in s.manager).up ≡ true)) → OnOk r (book_in t.manager ≡ after_all (book_in s.manager) (commits gs))

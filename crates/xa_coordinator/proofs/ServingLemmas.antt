@@ -1,14 +1,22 @@
 -- Lines and their replies, in turn.
-use Rattle.std.proofs.Common.{◌≡◌, ◌≢◌, ◌∙◌, ◌==◌, ℕ, Bool, true, false, cond, List, [], ◌∷◌, ◌++◌, Option, refl, sym, ap, subst, append_assoc, arith, ◌||◌, ◌&&◌, not}
-use Rattle.std.specs.Prelude.{MatchBool, Result, Ok, Err, OnErr}
-use Rattle.std.proofs.lemmas.List.{append-nil}
+use Rattle.std.proofs.Common.{◌≡◌, ◌≢◌, ◌∙◌, ◌==◌, ℕ, Bool, true, false, cond, List, [], ◌∷◌, ◌++◌, map, Option, refl, sym, ap, subst, append_assoc, arith, ◌||◌, ◌&&◌, not}
+use Rattle.std.specs.Prelude.{MatchBool, Result, Ok, Err, OnErr, OnOk}
+use Rattle.std.proofs.lemmas.List.{append-nil, map-append}
 use Rattle.std.specs.Io.KnownBytes.{Appends, Consumes, IsAtEnd}
 use Rattle.std.specs.List.{list_any}
 use Rattle.xa_files.specs.Outputs.{AppendsBeginning}
-use Rattle.xa_coordinator.proofs.LineLemmas.{appends_none, asked_of_kept, kept_none, begins_with_all, begins_with_none, both_consumed, both_written, consumed_none, keeps_all, written_then_begun}
+use Rattle.xa_log.specs.Contract.{Moment}
+use Rattle.xa_serve.proofs.Logging.{both_keep, kept}
+use Rattle.xa_coordinator.proofs.LogLemmas.{replies_keep}
+use Rattle.xa_coordinator.proofs.LineLemmas.{appends_none, asked_of_kept_by, kept_none, begins_with_all, begins_with_none, both_consumed, both_written, consumed_none, keeps_all, written_then_begun}
 use Rattle.xa_coordinator.specs.Lines.{IsKeptOf, IsPlain, ReadsLine, is_nothing, line_of, lines_of, with_first}
-use Rattle.xa_coordinator.specs.Serving.{BreaksOff, BreaksSession, EndsBy, HaveReplies, IsWholeLines, RepliesBy, RepliesTo, Serves, ServesLine, is_bye, text_of}
+use Rattle.xa_coordinator.specs.NamedLines.{BreaksSessionUnder, ServesUnder, line_read, line_written, lines_read, text_written}
+use Rattle.xa_coordinator.specs.Serving.{BreaksSession, EndsBy, HaveReplies, RepliesBy, RepliesTo, Serves, is_bye, text_of}
+use Rattle.xa_coordinator.specs.ServingLines.{BreaksOff, IsWholeLines, ServesLine}
 use Rattle.xa_coordinator.specs.declared.coordinator.Coordinator.{Coordinator}
+use Rattle.xa_names.specs.Laws.{LinesStay}
+use Rattle.xa_names.specs.Lines.{line_renamed}
+use Rattle.xa_requests.specs.Responses.{response_text}
 use Rattle.xa_requests.specs.declared.response.Response.{Response}
 
 true_is_not_false : true ≡ false → ⊥
@@ -59,14 +67,21 @@ whole_both read more first second rest =
 
 -- ** replies
 
-pub text_of_both : (rs ss : List Response) → text_of (rs ++ ss) ≡ text_of rs ++ text_of ss
-text_of_both [] ss = refl
-text_of_both (r ∷ rs) ss = ap (λ t. line_of r ++ t) (text_of_both rs ss) ∙ sym (append_assoc (line_of r) (text_of rs) (text_of ss))
+pub text_of_both : (name : List ℕ) (rs ss : List Response) → text_written name (rs ++ ss) ≡ text_written name rs ++ text_written name ss
+text_of_both name [] ss = refl
+text_of_both name (r ∷ rs) ss =
+    ap (λ t. line_written name r ++ t) (text_of_both name rs ss)
+    ∙ sym (append_assoc (line_written name r) (text_written name rs) (text_written name ss))
 
-module _ {L : Type 0} where
+-- the lines of both, as they are meant
+lines_both : (name : List ℕ) (read more : List ℕ) → IsWholeLines read
+    → lines_read name (lines_of (read ++ more)) ≡ lines_read name (lines_of read) ++ lines_read name (lines_of more)
+lines_both name read more whole = ap (lines_read name) (whole more) ∙ map-append (line_read name) (lines_of read) (lines_of more)
+
+module _ {L : Type 0} (moment : L → Moment) where
   pub both_replied : (ls : List (List ℕ)) (rs : List Response) (ms : List (List ℕ)) (ss : List Response) (a b c : Coordinator L)
-      → HaveReplies ls rs a b → HaveReplies ms ss b c → HaveReplies (ls ++ ms) (rs ++ ss) a c
-  both_replied [] [] ms ss a b c first second = subst (λ x. HaveReplies ms ss x c) first second
+      → HaveReplies moment ls rs a b → HaveReplies moment ms ss b c → HaveReplies moment (ls ++ ms) (rs ++ ss) a c
+  both_replied [] [] ms ss a b c first second = subst (λ x. HaveReplies moment ms ss x c) first second
   both_replied [] (r ∷ rs) ms ss a b c first second = absurd first
   both_replied (l ∷ ls) [] ms ss a b c first second = absurd first
   both_replied (l ∷ ls) (r ∷ rs) ms ss a b c first second = (first.0, first.1, both_replied ls rs ms ss first.0 b c first.2 second)
@@ -93,88 +108,98 @@ silent_both (r ∷ rs) ss first second = by_test (is_bye r) first (λ rest. sile
 -- ** a session in parts
 
 -- what is written by both
-texts : (greeting : Response) (written mid all : Option (List ℕ)) (rs ss : List Response) → Appends written mid (text_of (greeting ∷ rs))
-    → Appends mid all (text_of ss) → Appends written all (text_of (greeting ∷ rs ++ ss))
-texts greeting written mid all rs ss first second =
-    subst (Appends written all) (sym (text_of_both (greeting ∷ rs) ss)) (both_written written mid all (text_of (greeting ∷ rs)) (text_of ss) first second)
+texts : (name : List ℕ) (greeting : Response) (written mid all : Option (List ℕ)) (rs ss : List Response)
+    → Appends written mid (text_written name (greeting ∷ rs)) → Appends mid all (text_written name ss)
+    → Appends written all (text_written name (greeting ∷ rs ++ ss))
+texts name greeting written mid all rs ss first second =
+    subst (Appends written all) (sym (text_of_both name (greeting ∷ rs) ss))
+    (both_written written mid all (text_written name (greeting ∷ rs)) (text_written name ss) first second)
 
 -- Some lines were served behind the first line of the session, and it goes on.
-module _ {L : Type 0} where
-  pub record ServesSome (greeting : Response) (unread left : Option (List ℕ)) (written all : Option (List ℕ)) (old new : Coordinator L) : Type 0 where
+module _ {L : Type 0} (moment : L → Moment) where
+  pub record ServesSome (name : List ℕ) (greeting : Response) (unread left : Option (List ℕ)) (written all : Option (List ℕ)) (old new : Coordinator L) : Type 0 where
     pub read : List ℕ
     pub replies : List Response
     pub consumed : Consumes unread left read
-    pub replied : HaveReplies (lines_of read) replies old new
-    pub appended : Appends written all (text_of (greeting ∷ replies))
+    pub replied : HaveReplies moment (lines_read name (lines_of read)) replies old new
+    pub appended : Appends written all (text_written name (greeting ∷ replies))
     pub whole : IsWholeLines read
     pub silent : list_any is_bye replies ≡ false
 
-module _ {L : Type 0} (greeting : Response) where
-  pub greeted : (unread : Option (List ℕ)) (written all : Option (List ℕ)) (c : Coordinator L) → Appends written all (line_of greeting)
-      → ServesSome greeting unread unread written all c c
+module _ {L : Type 0} (moment : L → Moment) (name : List ℕ) (greeting : Response) where
+  pub greeted : (unread : Option (List ℕ)) (written all : Option (List ℕ)) (c : Coordinator L) → Appends written all (line_written name greeting)
+      → ServesSome moment name greeting unread unread written all c c
   greeted unread written all c appended = record {
     read = [];
     replies = [];
     consumed = consumed_none unread unread (keeps_all unread);
     replied = refl;
-    appended = subst (Appends written all) (sym (append-nil (line_of greeting))) appended;
+    appended = subst (Appends written all) (sym (append-nil (line_written name greeting))) appended;
     whole = whole_none;
     silent = refl;
   }
 
-  pub one_more : (unread part left written mid all : Option (List ℕ)) (a b c : Coordinator L) → ServesSome greeting unread part written mid a b
-      → ServesLine part left mid all b c true → ServesSome greeting unread left written all a c
+  pub one_more : (unread part left written mid all : Option (List ℕ)) (a b c : Coordinator L) → ServesSome moment name greeting unread part written mid a b
+      → ServesLine moment name part left mid all b c true → ServesSome moment name greeting unread left written all a c
   one_more unread part left written mid all a b c some next = record {
     read = some.read ++ next.read;
     replies = some.replies ++ next.replies;
     consumed = both_consumed unread part left some.read next.read some.consumed next.consumed;
-    replied = subst (λ ls. HaveReplies ls (some.replies ++ next.replies) a c) (sym (some.whole next.read))
-        (both_replied (lines_of some.read) some.replies (lines_of next.read) next.replies a b c some.replied next.replied);
-    appended = texts greeting written mid all some.replies next.replies some.appended next.appended;
+    replied = subst (λ ls. HaveReplies moment ls (some.replies ++ next.replies) a c) (sym (lines_both name some.read next.read some.whole))
+        (both_replied moment (lines_read name (lines_of some.read)) some.replies (lines_read name (lines_of next.read)) next.replies a b c some.replied next.replied);
+    appended = texts name greeting written mid all some.replies next.replies some.appended next.appended;
     whole = whole_both some.read next.read some.whole (next.whole refl);
     silent = silent_both some.replies next.replies some.silent (next.silent refl);
   }
 
-  pub the_last : (unread part left written mid all : Option (List ℕ)) (a b c : Coordinator L) → ServesSome greeting unread part written mid a b
-      → ServesLine part left mid all b c false → Serves greeting unread left written all a c
+  pub the_last : (unread part left written mid all : Option (List ℕ)) (a b c : Coordinator L) → ServesSome moment name greeting unread part written mid a b
+      → ServesLine moment name part left mid all b c false → ServesUnder moment name greeting unread left written all a c
   the_last unread part left written mid all a b c some next = record {
     read = some.read ++ next.read;
     replies = some.replies ++ next.replies;
     consumed = both_consumed unread part left some.read next.read some.consumed next.consumed;
-    replied = subst (λ ls. HaveReplies ls (some.replies ++ next.replies) a c) (sym (some.whole next.read))
-        (both_replied (lines_of some.read) some.replies (lines_of next.read) next.replies a b c some.replied next.replied);
-    appended = texts greeting written mid all some.replies next.replies some.appended next.appended;
+    replied = subst (λ ls. HaveReplies moment ls (some.replies ++ next.replies) a c) (sym (lines_both name some.read next.read some.whole))
+        (both_replied moment (lines_read name (lines_of some.read)) some.replies (lines_read name (lines_of next.read)) next.replies a b c some.replied next.replied);
+    appended = texts name greeting written mid all some.replies next.replies some.appended next.appended;
     ends = ends_behind some.replies next.replies (IsAtEnd left) some.silent (next.ends refl);
+    keeps = both_keep moment a.session.manager b.session.manager c.session.manager
+        (replies_keep moment (lines_read name (lines_of some.read)) some.replies a b some.replied)
+        (replies_keep moment (lines_read name (lines_of next.read)) next.replies b c next.replied);
   }
 
-  pub broken_off : (unread part written mid all : Option (List ℕ)) (a b c : Coordinator L) → ServesSome greeting unread part written mid a b
-      → BreaksOff mid all b c → BreaksSession greeting written all a c
+  pub broken_off : (unread part written mid all : Option (List ℕ)) (a b c : Coordinator L) → ServesSome moment name greeting unread part written mid a b
+      → BreaksOff moment name mid all b c → BreaksSessionUnder moment name greeting written all a c
   broken_off unread part written mid all a b c some broken = record {
-    lines = lines_of some.read ++ broken.lines;
+    lines = lines_read name (lines_of some.read) ++ broken.lines;
     replies = some.replies ++ broken.replies;
-    replied = both_replied (lines_of some.read) some.replies broken.lines broken.replies a b c some.replied broken.replied;
-    begun = subst (AppendsBeginning written all) (sym (text_of_both (greeting ∷ some.replies) broken.replies))
-        (written_then_begun written mid all (text_of (greeting ∷ some.replies)) (text_of broken.replies) some.appended broken.begun);
+    replied = both_replied moment (lines_read name (lines_of some.read)) some.replies broken.lines broken.replies a b c some.replied broken.replied;
+    begun = subst (AppendsBeginning written all) (sym (text_of_both name (greeting ∷ some.replies) broken.replies))
+        (written_then_begun written mid all (text_written name (greeting ∷ some.replies)) (text_written name broken.replies) some.appended broken.begun);
+    keeps = both_keep moment a.session.manager b.session.manager c.session.manager
+        (replies_keep moment (lines_read name (lines_of some.read)) some.replies a b some.replied)
+        (replies_keep moment broken.lines broken.replies b c broken.replied);
   }
 
   -- the first line couldn't be written
-  pub not_greeted : (written all : Option (List ℕ)) (c : Coordinator L) → AppendsBeginning written all (line_of greeting)
-      → BreaksSession greeting written all c c
+  pub not_greeted : (written all : Option (List ℕ)) (c : Coordinator L) → AppendsBeginning written all (line_written name greeting)
+      → BreaksSessionUnder moment name greeting written all c c
   not_greeted written all c begun = record {
     lines = [];
     replies = [];
     replied = refl;
-    begun = subst (AppendsBeginning written all) (sym (append-nil (line_of greeting))) begun;
+    begun = subst (AppendsBeginning written all) (sym (append-nil (line_written name greeting))) begun;
+    keeps = kept moment c.session.manager;
   }
 
   -- it was broken off behind some lines
-  pub no_more : (unread part written all : Option (List ℕ)) (a b : Coordinator L) → ServesSome greeting unread part written all a b
-      → BreaksSession greeting written all a b
+  pub no_more : (unread part written all : Option (List ℕ)) (a b : Coordinator L) → ServesSome moment name greeting unread part written all a b
+      → BreaksSessionUnder moment name greeting written all a b
   no_more unread part written all a b some = record {
-    lines = lines_of some.read;
+    lines = lines_read name (lines_of some.read);
     replies = some.replies;
     replied = some.replied;
-    begun = begins_with_all written all (text_of (greeting ∷ some.replies)) some.appended;
+    begun = begins_with_all written all (text_written name (greeting ∷ some.replies)) some.appended;
+    keeps = replies_keep moment (lines_read name (lines_of some.read)) some.replies a b some.replied;
   }
 
 -- ** one line
@@ -191,24 +216,24 @@ kept_of_none : (line kept : List ℕ) → IsKeptOf line kept → line ≡ [] →
 kept_of_none [] kept keeps none = keeps.short (omega arith)
 kept_of_none (b ∷ bs) kept keeps none = absurd (cons_is_not_nil b bs none)
 
-module _ {L : Type 0} where
+module _ {L : Type 0} (moment : L → Moment) (name : List ℕ) where
   -- nothing was written, and nothing done
-  pub off_at_once : (all : Option (List ℕ)) (c : Coordinator L) → BreaksOff all all c c
+  pub off_at_once : (all : Option (List ℕ)) (c : Coordinator L) → BreaksOff moment name all all c c
   off_at_once all c = record { lines = []; replies = []; replied = refl; begun = begins_with_none all [] }
 
   -- the reply couldn't be written
-  pub off_behind : (written all : Option (List ℕ)) (line : List ℕ) (reply : Response) (a b : Coordinator L) → RepliesTo line a reply b
-      → AppendsBeginning written all (line_of reply) → BreaksOff written all a b
+  pub off_behind : (written all : Option (List ℕ)) (line : List ℕ) (reply : Response) (a b : Coordinator L) → RepliesTo moment line a reply b
+      → AppendsBeginning written all (line_written name reply) → BreaksOff moment name written all a b
   off_behind written all line reply a b replied begun = record {
     lines = line ∷ [];
     replies = reply ∷ [];
     replied = (b, replied, refl);
-    begun = subst (AppendsBeginning written all) (sym (append-nil (line_of reply))) begun;
+    begun = subst (AppendsBeginning written all) (sym (append-nil (line_written name reply))) begun;
   }
 
   -- nothing is left
   pub at_end : (unread left all : Option (List ℕ)) (kept : List ℕ) (is_ended : Bool) (c : Coordinator L) → ReadsLine unread left kept is_ended
-      → is_nothing kept is_ended ≡ true → ServesLine unread left all all c c false
+      → is_nothing kept is_ended ≡ true → ServesLine moment name unread left all all c c false
   at_end unread left all (b ∷ bs) is_ended c was none = absurd (true_is_not_false (sym none))
   at_end unread left all [] true c was none = absurd (true_is_not_false (sym none))
   at_end unread left all [] false c was none =
@@ -225,15 +250,15 @@ module _ {L : Type 0} where
       }
 
   pub one_line : (unread left written all : Option (List ℕ)) (kept : List ℕ) (is_ended : Bool) (reply : Response) (a b : Coordinator L)
-      → ReadsLine unread left kept is_ended → is_nothing kept is_ended ≡ false → RepliesTo kept a reply b → Appends written all (line_of reply)
-      → ServesLine unread left written all a b (is_ended && not (is_bye reply))
+      → ReadsLine unread left kept is_ended → is_nothing kept is_ended ≡ false → RepliesTo moment (line_read name kept) a reply b → Appends written all (line_written name reply)
+      → ServesLine moment name unread left written all a b (is_ended && not (is_bye reply))
   one_line unread left written all kept true reply a b was some replied appended = record {
     read = was.line ++ 10 ∷ [];
     replies = reply ∷ [];
     consumed = was.consumed;
-    replied = subst (λ ls. HaveReplies ls (reply ∷ []) a b) (sym (first_line was.line [] was.plain))
-        (b, subst (λ q. RepliesBy q a reply b) (asked_of_kept was.line kept was.keeps) replied, refl);
-    appended = subst (Appends written all) (sym (append-nil (line_of reply))) appended;
+    replied = subst (λ ls. HaveReplies moment ls (reply ∷ []) a b) (sym (ap (lines_read name) (first_line was.line [] was.plain)))
+        (b, subst (λ q. RepliesBy moment q a reply b) (asked_of_kept_by name was.line kept was.keeps) replied, refl);
+    appended = subst (Appends written all) (sym (append-nil (line_written name reply))) appended;
     whole = λ h. whole_line was.line was.plain;
     silent = λ h. not_bye (is_bye reply) h;
     ends = λ h. bye_ends reply (is_bye reply) (IsAtEnd left) refl (λ no_bye. absurd (true_is_not_false (subst (λ c. not c ≡ false) no_bye h)));
@@ -242,18 +267,70 @@ module _ {L : Type 0} where
     read = was.line;
     replies = reply ∷ [];
     consumed = was.consumed;
-    replied = subst (λ ls. HaveReplies ls (reply ∷ []) a b)
-        (sym (last_line was.line was.plain (λ none. true_is_not_false
-        (subst (λ xs. is_nothing xs false ≡ false) (kept_of_none was.line kept was.keeps none) some))))
-        (b, subst (λ q. RepliesBy q a reply b) (asked_of_kept was.line kept was.keeps) replied, refl);
-    appended = subst (Appends written all) (sym (append-nil (line_of reply))) appended;
+    replied = subst (λ ls. HaveReplies moment ls (reply ∷ []) a b)
+        (sym (ap (lines_read name) (last_line was.line was.plain (λ none. true_is_not_false
+        (subst (λ xs. is_nothing xs false ≡ false) (kept_of_none was.line kept was.keeps none) some)))))
+        (b, subst (λ q. RepliesBy moment q a reply b) (asked_of_kept_by name was.line kept was.keeps) replied, refl);
+    appended = subst (Appends written all) (sym (append-nil (line_written name reply))) appended;
     whole = λ h. absurd (true_is_not_false (sym h));
     silent = λ h. absurd (true_is_not_false (sym h));
     ends = λ h. bye_ends reply (is_bye reply) (IsAtEnd left) refl (λ no_bye. was.end refl);
   }
+
+-- ** without a name
+
+module _ (law : LinesStay) where
+  read_as_is : (line : List ℕ) → line_read [] line ≡ line
+  read_as_is line = by_test _
+    where
+      by_test : (t : Bool) → cond t (line_renamed [] line) line ≡ line
+      by_test true = law line
+      by_test false = refl
+
+  pub lines_as_are : (lines : List (List ℕ)) → lines_read [] lines ≡ lines
+  lines_as_are [] = refl
+  lines_as_are (line ∷ lines) = ap (λ l. l ∷ lines_read [] lines) (read_as_is line) ∙ ap (λ ls. line ∷ ls) (lines_as_are lines)
+
+  written_as_is : (reply : Response) → line_written [] reply ≡ line_of reply
+  written_as_is reply = ap (λ t. t ++ 10 ∷ []) (law (response_text reply))
+
+  pub text_as_is : (replies : List Response) → text_written [] replies ≡ text_of replies
+  text_as_is [] = refl
+  text_as_is (r ∷ rs) = ap (λ t. t ++ text_written [] rs) (written_as_is r) ∙ ap (λ t. line_of r ++ t) (text_as_is rs)
+
+  module _ {L : Type 0} (moment : L → Moment) where
+    pub serves_as_is : (greeting : Response) (unread left written all : Option (List ℕ)) (a b : Coordinator L)
+        → ServesUnder moment [] greeting unread left written all a b → Serves moment greeting unread left written all a b
+    serves_as_is greeting unread left written all a b serves = record {
+      read = serves.read;
+      replies = serves.replies;
+      consumed = serves.consumed;
+      replied = subst (λ ls. HaveReplies moment ls serves.replies a b) (lines_as_are (lines_of serves.read)) serves.replied;
+      appended = subst (Appends written all) (text_as_is (greeting ∷ serves.replies)) serves.appended;
+      ends = serves.ends;
+      keeps = serves.keeps;
+    }
+
+    pub breaks_as_is : (greeting : Response) (written all : Option (List ℕ)) (a b : Coordinator L)
+        → BreaksSessionUnder moment [] greeting written all a b → BreaksSession moment greeting written all a b
+    breaks_as_is greeting written all a b breaks = record {
+      lines = breaks.lines;
+      replies = breaks.replies;
+      replied = breaks.replied;
+      begun = subst (AppendsBeginning written all) (text_as_is (greeting ∷ breaks.replies)) breaks.begun;
+      keeps = breaks.keeps;
+    }
 
 -- ** results
 
 pub on_err : {A E : Type 0} (result : Result A E) (P : Type 0) → P → OnErr result P
 on_err (Ok x) P holds = tt
 on_err (Err e) P holds = holds
+
+pub on_ok_as : {A E : Type 0} (result : Result A E) (P Q : Type 0) → (P → Q) → OnOk result P → OnOk result Q
+on_ok_as (Ok x) P Q leads holds = leads holds
+on_ok_as (Err e) P Q leads holds = tt
+
+pub on_err_as : {A E : Type 0} (result : Result A E) (P Q : Type 0) → (P → Q) → OnErr result P → OnErr result Q
+on_err_as (Ok x) P Q leads holds = tt
+on_err_as (Err e) P Q leads holds = leads holds

@@ -26,6 +26,7 @@ use Rattle.xa_coordinator.specs.Standing.{LacksMemory, OnlyTells, StandsFor}
 use Rattle.xa_coordinator.specs.Telling.{HaveTold, Tells, TellsBy, TellsLost, is_log_fault, is_refusal}
 use Rattle.xa_coordinator.specs.Tracking.{TracksReplies, TracksReply}
 use Rattle.xa_coordinator.specs.declared.coordinator.Coordinator.{Coordinator}
+use Rattle.xa_log.specs.Contract.{Moment}
 use Rattle.xa_model.specs.Replies.History.{name_of}
 use Rattle.xa_model.specs.Trace.{Happening, Happening.Begun, Happening.Claimed, Happening.Decided, Happening.Done, Happening.Issued, Happening.Resolved, Happening.ResolvedOpen, Origin, line}
 use Rattle.xa_requests.specs.declared.request.CallName.{CallName}
@@ -185,7 +186,7 @@ module _ {L : Type 0} (laws : Laws L) (o : Origin) (seen : Seen) (old new : Sess
 
 -- ** what a coordinator does
 
-module _ {L : Type 0} (laws : Laws L) (o : Origin) where
+module _ {L : Type 0} (laws : Laws L) (o : Origin) (moment : L → Moment) where
   module _ (seen : Seen) (old new : Coordinator L) (keeps : KeepsTrack o seen old.session) where
     looked : new ≡ old → Goes o (λ more. more ≡ seen) old.session new.session
     looked same = unchanged laws o seen old.session new.session keeps (ap (λ c. c.session) same)
@@ -293,12 +294,12 @@ module _ {L : Type 0} (laws : Laws L) (o : Origin) where
       forgot Told gs old next new (subst (λ c. Goes o Told old.session c.session) (sym same) goes) others
 
   done_and_forgot : (request : Request) (reply : Response) (seen : Seen) (old new : Coordinator L) → KeepsTrack o seen old.session
-      → Performs request old reply new → is_log_fault reply ≡ false → Goes o (Tells old.session.lines.threads request reply seen) old.session new.session
-  done_and_forgot request reply seen old new keeps (mid, does, releases) none =
-      forgot (Tells old.session.lines.threads request reply seen) _ old mid new (performed request reply seen old mid keeps does none) releases
+      → Performs moment request old reply new → is_log_fault reply ≡ false → Goes o (Tells old.session.lines.threads request reply seen) old.session new.session
+  done_and_forgot request reply seen old new keeps does none =
+      forgot (Tells old.session.lines.threads request reply seen) _ old does.mid new (performed request reply seen old does.mid keeps does.does none) does.releases
 
   pub reply_tracked : (seen : Seen) (request : Request) (reply : Response) (old new : Coordinator L) → KeepsTrack o seen old.session
-      → Performs request old reply new → is_log_fault reply ≡ false → TracksReply o request reply seen old new
+      → Performs moment request old reply new → is_log_fault reply ≡ false → TracksReply o request reply seen old new
   reply_tracked seen request reply old new keeps does none =
       let goes = done_and_forgot request reply seen old new keeps does none in
       record { more = goes.more; told = goes.told; keeps = goes.keeps; threads = goes.threads }
@@ -306,7 +307,7 @@ module _ {L : Type 0} (laws : Laws L) (o : Origin) where
   -- ** all lines and their replies
 
   line_told : (asks : Option Request) (reply : Response) (seen : Seen) (old new : Coordinator L) → KeepsTrack o seen old.session
-      → RepliesBy asks old reply new → is_log_fault reply ≡ false → Goes o (TellsBy old.session.lines.threads asks reply seen) old.session new.session
+      → RepliesBy moment asks old reply new → is_log_fault reply ≡ false → Goes o (TellsBy old.session.lines.threads asks reply seen) old.session new.session
   line_told None reply seen old new keeps does none = looked seen old new keeps does.1
   line_told (Some request) reply seen old new keeps does none = done_and_forgot request reply seen old new keeps does none
 
@@ -319,7 +320,7 @@ module _ {L : Type 0} (laws : Laws L) (o : Origin) where
   fault_before false c e is = fault_is_told (sym is)
 
   pub replies_tracked : (lines : List (List ℕ)) (replies : List Response) (n : ℕ) (seen : Seen) (old new : Coordinator L) → KeepsTrack o seen old.session
-      → old.session.lines.threads ≡ n → HaveReplies lines replies old new → TracksReplies o n lines replies seen new
+      → old.session.lines.threads ≡ n → HaveReplies moment lines replies old new → TracksReplies o n lines replies seen new
   replies_tracked [] [] n seen old new keeps threads have = record { more = seen; told = refl; last = old; keeps = keeps; to_end = λ none. sym have }
   replies_tracked [] (r ∷ rs) n seen old new keeps threads have = absurd have
   replies_tracked (l ∷ ls) [] n seen old new keeps threads have = absurd have

@@ -13,7 +13,9 @@ use Rattle.xa_requests.specs.declared.request.Request.{Request}
 use Rattle.xa_requests.specs.declared.request.Request.TheVariants as requests
 use Rattle.xa_requests.specs.declared.response.Response.{Response}
 use Rattle.xa_requests.specs.declared.response.Response.TheVariants as responses
+use Rattle.xa_log.specs.Contract.{Moment}
 use Rattle.xa_serve.specs.Following.{StaysAs}
+use Rattle.xa_serve.specs.Logging.{KeepsLog}
 
 module _ {L : Type 0} where
   -- what is done, and so replied
@@ -35,9 +37,12 @@ module _ {L : Type 0} where
   Does requests.Status old reply new = OnlyTells (status_of old) old reply new
   Does requests.Quit old reply new = OnlyTells responses.Bye old reply new
 
-  -- and then what is over is forgotten of the transactions whose last step that may have been
-  abbrev pub Performs : Request → (old : Coordinator L) → Response → (new : Coordinator L) → Type 0
-  Performs request old reply new = (mid : Coordinator L) × Does request old reply mid × ReleasesAll (ended_by request reply) mid new
+-- and then what is over is forgotten of the transactions whose last step that may have been. The log keeps what the book says
+pub record Performs {L : Type 0} (moment : L → Moment) (request : Request) (old : Coordinator L) (reply : Response) (new : Coordinator L) : Type 0 where
+  pub mid : Coordinator L
+  pub does : Does request old reply mid
+  pub releases : ReleasesAll (ended_by request reply) mid new
+  pub keeps : KeepsLog moment old.session.manager new.session.manager
 
 -- ** what isn't done
 

@@ -13,9 +13,9 @@ use Rattle.xa_requests.specs.declared.request.Request.{Request}
 use Rattle.xa_requests.specs.declared.request.Request.TheVariants as requests
 use Rattle.xa_requests.specs.declared.response.Response.{Response}
 use Rattle.xa_requests.specs.declared.response.Response.TheVariants as responses
+use Rattle.xa_serve.specs.Logging.{HoldsItsBook}
 use Rattle.xa_serve.specs.declared.session.Session.{Session}
 use Rattle.xa_tm.specs.Book.{Waiting, voted_yes}
-use Rattle.xa_tm.specs.BookAndLog.{IsTied}
 use Rattle.xa_tm.specs.Calls.{book_in, log_in}
 
 -- it is one of these transactions
@@ -42,10 +42,10 @@ abbrev pub HasRow : Option Content → Gtrid → Waiting → Type 0
 HasRow log g waiting = IsSomeAnd log (λ c. get c.decisions g ≡ Some waiting)
 
 -- Where these are told as decided, the log has the row of each that some branch voted XA_OK for, which waits for those that did. The log
--- was in order, held what the book said, and has been honest since.
+-- was in order, had what the book said, and has been honest since.
 abbrev pub LogsRows : {L : Type 0} → (moment : L → Moment) → List Gtrid → (old : Session L) → Response → (new : Session L) → Type 0
 LogsRows moment gs old reply new =
     (near : Bool) (g : Gtrid) → is_among gs g ≡ true → reply ≡ responses.Decided
     → Honestly (moment (log_in old.manager)) (moment (log_in new.manager))
-    (IsTied near (book_in old.manager) (moment (log_in old.manager)).content → ((book_in old.manager).transaction g).has_yes ≡ true
+    (HoldsItsBook moment near old.manager → ((book_in old.manager).transaction g).has_yes ≡ true
     → HasRow (moment (log_in new.manager)).content g (voted_yes (book_in old.manager) g))

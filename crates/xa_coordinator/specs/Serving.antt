@@ -1,16 +1,18 @@
 -- What is written to the lines that are read.
-use Rattle.std.specs.Prelude.{◌≡◌, ℕ, Bool, true, false, MatchBool, List, [], ◌∷◌, ◌++◌, Option, Some, None}
+use Rattle.std.specs.Prelude.{◌≡◌, ℕ, Bool, true, false, MatchBool, List, [], ◌∷◌, Option, Some, None}
 use Rattle.std.specs.Io.KnownBytes.{Appends, Consumes, IsAtEnd}
-use Rattle.std.specs.List.{flat_map, list_any}
+use Rattle.std.specs.List.{flat_map}
 use Rattle.xa_coordinator.specs.Lines.{asked_in, line_of, lines_of}
 use Rattle.xa_coordinator.specs.Performing.{Performs}
 use Rattle.xa_coordinator.specs.Standing.{OnlyTells}
 use Rattle.xa_coordinator.specs.declared.coordinator.Coordinator.{Coordinator}
 use Rattle.xa_files.specs.Outputs.{AppendsBeginning}
+use Rattle.xa_log.specs.Contract.{Moment}
 use Rattle.xa_requests.specs.declared.request.Request.{Request}
 use Rattle.xa_requests.specs.declared.response.RequestFault.TheVariants as faults
 use Rattle.xa_requests.specs.declared.response.Response.{Response}
 use Rattle.xa_requests.specs.declared.response.Response.TheVariants as responses
+use Rattle.xa_serve.specs.Logging.{KeepsLog}
 
 -- ** lines and replies
 
@@ -22,10 +24,10 @@ abbrev pub is_bye : Response → Bool
 is_bye responses.Bye = true
 is_bye reply = false
 
-module _ {L : Type 0} where
+module _ {L : Type 0} (moment : L → Moment) where
   abbrev pub RepliesBy : Option Request → (old : Coordinator L) → Response → (new : Coordinator L) → Type 0
   RepliesBy None old reply new = OnlyTells (responses.Fault faults.NoRequest) old reply new
-  RepliesBy (Some request) old reply new = Performs request old reply new
+  RepliesBy (Some request) old reply new = Performs moment request old reply new
 
   -- what a line asks for is done, and so replied; a line that asks for nothing is a fault
   abbrev pub RepliesTo : List ℕ → (old : Coordinator L) → Response → (new : Coordinator L) → Type 0
@@ -42,45 +44,23 @@ abbrev pub EndsBy : List Response → Type 0 → Type 0
 EndsBy [] P = P
 EndsBy (reply ∷ replies) P = MatchBool (is_bye reply) (replies ≡ []) (EndsBy replies P)
 
-module _ {L : Type 0} where
+module _ {L : Type 0} (moment : L → Moment) where
   -- A session: what was written is its first line and a line for each line of what was read. It ends behind `quit`, or at the end of
   -- the input.
   pub record Serves (greeting : Response) (unread left : Option (List ℕ)) (written all : Option (List ℕ)) (old new : Coordinator L) : Type 0 where
     pub read : List ℕ
     pub replies : List Response
     pub consumed : Consumes unread left read
-    pub replied : HaveReplies (lines_of read) replies old new
+    pub replied : HaveReplies moment (lines_of read) replies old new
     pub appended : Appends written all (text_of (greeting ∷ replies))
     pub ends : EndsBy replies (IsAtEnd left)
+    -- the log has what the book says at the end, if it had at the start
+    pub keeps : KeepsLog moment old.session.manager new.session.manager
 
   -- A session that was broken off: what was written is a beginning of that.
   pub record BreaksSession (greeting : Response) (written all : Option (List ℕ)) (old new : Coordinator L) : Type 0 where
     pub lines : List (List ℕ)
     pub replies : List Response
-    pub replied : HaveReplies lines replies old new
+    pub replied : HaveReplies moment lines replies old new
     pub begun : AppendsBeginning written all (text_of (greeting ∷ replies))
-
--- ** one line
-
--- another line begins behind what was read
-abbrev pub IsWholeLines : List ℕ → Type 0
-IsWholeLines read = (more : List ℕ) → lines_of (read ++ more) ≡ lines_of read ++ lines_of more
-
-module _ {L : Type 0} where
-  -- One line was served, or none at the end of the input, and the session goes on or not.
-  pub record ServesLine (unread left : Option (List ℕ)) (written all : Option (List ℕ)) (old new : Coordinator L) (goes_on : Bool) : Type 0 where
-    pub read : List ℕ
-    pub replies : List Response
-    pub consumed : Consumes unread left read
-    pub replied : HaveReplies (lines_of read) replies old new
-    pub appended : Appends written all (text_of replies)
-    pub whole : goes_on ≡ true → IsWholeLines read
-    pub silent : goes_on ≡ true → list_any is_bye replies ≡ false
-    pub ends : goes_on ≡ false → EndsBy replies (IsAtEnd left)
-
-  -- It was broken off.
-  pub record BreaksOff (written all : Option (List ℕ)) (old new : Coordinator L) : Type 0 where
-    pub lines : List (List ℕ)
-    pub replies : List Response
-    pub replied : HaveReplies lines replies old new
-    pub begun : AppendsBeginning written all (text_of replies)
+    pub keeps : KeepsLog moment old.session.manager new.session.manager

@@ -1,6 +1,6 @@
 //! The coordinator: a session, and what it owes since before. A file for each family of requests.
 
-ghost use Rattle.std.specs.Prelude.{◌≡◌, ◌∷◌, [], Bool, true, IfOk, IsSomeAnd, length};
+ghost use Rattle.std.specs.Prelude.{◌≡◌, ◌∷◌, [], Bool, true, Err, IfOk, IsSomeAnd, length};
 ghost use Rattle.std.specs.FinMap.{entries, keys};
 ghost use Rattle.xa_coordinator.specs.Performing.{ChangesNothing, Does, Performs, is_not_done, is_one_step};
 ghost use Rattle.xa_coordinator.specs.Releasing.{ended_by};
@@ -11,12 +11,14 @@ ghost use Rattle.xa_log.specs.Content.{all_listed};
 ghost use Rattle.xa_log.specs.Contract.{Honestly};
 ghost use Rattle.xa_model.specs.Trace.{Origin};
 ghost use Rattle.xa_serve.specs.Following.{StandsAtStart};
+ghost use Rattle.xa_serve.specs.Logging.{HoldsItsBook, KeepsLog};
 ghost use Rattle.xa_serve.specs.Session.{IsReady};
 ghost use Rattle.xa_standings.specs.Explained.{IsOldLog};
 ghost use Rattle.xa_tm.specs.Begins.{BeginsWith};
-ghost use Rattle.xa_tm.specs.BookAndLog.{IsTied};
 ghost use Rattle.xa_tm.specs.Calls.{book_in, log_in};
 ghost use Rattle.xa_tm.specs.Release.{HoldsNothingOf, IsOver};
+ghost use Rattle.xa_tm.specs.Started.{IsStarted, IsStartedOver};
+ghost use Rattle.xa_tm.specs.StartFaults.{IsOnlyRead, IsToBlame};
 
 mod calls;
 mod crashes;
@@ -50,12 +52,7 @@ pub struct Coordinator<L: DecisionLog + Drop> {
 
 impl<L: DecisionLog + Drop> Coordinator<L> {
     /// A coordinator over a log, of so many threads and resource managers.
-    pub fn new(
-        alloc: Global,
-        threads: u32,
-        rms: u32,
-        mut log: L,
-    ) -> Result<Coordinator<L>, StartFault>
+    pub fn new(alloc: Global, threads: u32, rms: u32, log: L) -> Result<Coordinator<L>, StartFault>
         ensures ready { IfOk result (λ c. IsReady c.session) }
         ensures stands { IfOk result (λ c. StandsAtStart threads rms c.session) }
         ensures old { IfOk result (λ c. (o : Origin) →
@@ -73,31 +70,38 @@ impl<L: DecisionLog + Drop> Coordinator<L> {
             Honestly (L.moment log) (L.moment (log_in c.session.manager))
             (IsSomeAnd (L.moment log).content (λ content.
             c.heuristics ≡ length (entries content.heuristics)))) }
-        // The log, whose incarnation is raised.
-        ensures tied { (near : Bool) → IfOk result (λ c.
+        // The log that was handed in: its rows and its records, and its incarnation, which is raised.
+        ensures started { IfOk result (λ c. IsStarted threads rms c.session.manager) }
+        ensures over { IfOk result (λ c.
+            IsStartedOver L.moment threads rms (L.moment log) c.session.manager) }
+        ensures holds { (near : Bool) → IfOk result (λ c.
             Honestly (L.moment log) (L.moment (log_in c.session.manager))
-            (IsTied near (book_in c.session.manager)
-            (L.moment (log_in c.session.manager)).content)) }
-        ensures order { IfOk result (λ c. (L.moment log).is_in_order →
-            (L.moment (log_in c.session.manager)).is_in_order) }
-        ensures honest { IfOk result (λ c. (L.moment (log_in c.session.manager)).is_honest →
-            (L.moment log).is_honest) }
+            (HoldsItsBook L.moment near c.session.manager)) }
+        // Over which logs none starts, and what is left of them.
+        ensures log_fault { result ≡ Err StartFault.Log → IsToBlame L.DecisionLog log }
+        ensures memory_fault { result ≡ Err StartFault.Memory →
+            ((left : L) × IsOnlyRead L.DecisionLog log left) }
     {
-        let Ok(rows) = log.rows() else {
-            return Err(StartFault::Log);
-        };
-        let decisions = rows.decisions.len();
-        let heuristics = rows.heuristics.len();
         match Session::new(alloc, threads, rms, log) {
-            Ok(session) => Ok(Coordinator {
-                alloc,
-                session,
-                owed: rows.participants,
-                decisions,
-                heuristics,
-            }),
+            Ok(made) => {
+                let rows = made.1;
+                Ok(Coordinator {
+                    alloc,
+                    session: made.0,
+                    decisions: rows.decisions.len(),
+                    heuristics: rows.heuristics.len(),
+                    owed: rows.participants,
+                })
+            }
             Err(fault) => Err(fault),
         }
+    }
+
+    /// Its log, where the session ends.
+    pub fn into_log(self) -> L
+        ensures { result ≡ log_in self.session.manager }
+    {
+        self.session.into_log()
     }
 
     /// The first line of a session.
@@ -118,6 +122,8 @@ impl<L: DecisionLog + Drop> Coordinator<L> {
         ensures does { Does request.now self.old result self.new }
         ensures unchanged { is_one_step request.now ≡ true → is_not_done result ≡ true →
             ChangesNothing self.old self.new }
+        ensures keeps { KeepsLog L.moment
+            self.old.session.manager self.new.session.manager }
         ensures rows { LogsRows L.moment (committed_by request.now)
             self.old.session result self.new.session }
     {
@@ -155,7 +161,7 @@ impl<L: DecisionLog + Drop> Coordinator<L> {
     pub fn perform(&mut self, request: &Request) -> Response
         requires { IsReady self.old.session }
         ensures ready { IsReady self.new.session }
-        ensures performs { Performs request.now self.old result self.new }
+        ensures performs { Performs L.moment request.now self.old result self.new }
         ensures unchanged { is_one_step request.now ≡ true → is_not_done result ≡ true →
             ChangesNothing self.old self.new }
         // Nothing is held of the transaction of an answered call, or of one that alone is decided or done, if it is over.

@@ -1,18 +1,27 @@
 //! How a session tracks what a driver tells. These functions do nothing: each contract is a theorem.
 
-ghost use Rattle.xa_coordinator.specs.Tracking.{RepliesAreTracked, ServedSessionsAreExplained, SessionsAreTracked};
+ghost use Rattle.xa_coordinator.specs.Faults.{FaultsLeaveAllOrNone};
+ghost use Rattle.xa_coordinator.specs.Managers.{ManagersAreApart, RepliesTellOwn};
+ghost use Rattle.xa_coordinator.specs.Sessions.{ServedSessionsAgree};
+ghost use Rattle.xa_coordinator.specs.Tracking.{FailedSessionsGoOn, RepliesAreTracked, ServedDatabasesAgree};
+ghost use Rattle.xa_coordinator.specs.Tracking.{ServedSessionsAreExplained};
+ghost use Rattle.xa_coordinator.specs.Tracking.{ServedSessionsGoOn, SessionsAreTracked};
+ghost use Rattle.xa_coordinator.specs.Votes.{CommitsAreLogged, VotedCommitsAreLogged};
 
 use xa_log::DecisionLog;
+use xa_names::names_part_identifiers;
 use xa_serve::{
-    answers_are_tracked, losses_are_tracked, refusals_are_tracked, releases_are_tracked,
-    sessions_are_explained, starts_are_tracked, steps_are_tracked,
+    answers_are_tracked, first_calls_are_tracked, losses_are_tracked, refusals_are_tracked,
+    releases_are_tracked, sessions_are_explained, starts_are_tracked, starts_find_the_log,
+    steps_are_tracked,
 };
+use xa_standings::{answers_are_explained, sessions_agree};
 
 /// A session that tracks what was seen does so with each request and its reply (`performs` of
 /// [`Coordinator::perform`](crate::Coordinator::perform)), as long as the log doesn't fail: just what both tell is seen
 /// more (`Tells`).
 pub fn replies_are_tracked<L: DecisionLog + Drop>()
-    ensures { RepliesAreTracked L }
+    ensures { RepliesAreTracked L.moment }
 {
     steps_are_tracked::<L>();
     answers_are_tracked::<L>();
@@ -24,7 +33,7 @@ pub fn replies_are_tracked<L: DecisionLog + Drop>()
 /// And so it does with all lines and their replies (`served` and `broken` of
 /// [`Coordinator::serve`](crate::Coordinator::serve)), up to where the log failed.
 pub fn sessions_are_tracked<L: DecisionLog + Drop>()
-    ensures { SessionsAreTracked L }
+    ensures { SessionsAreTracked L.moment }
 {
     steps_are_tracked::<L>();
     answers_are_tracked::<L>();
@@ -40,9 +49,84 @@ pub fn sessions_are_tracked<L: DecisionLog + Drop>()
 /// What was told is read off the lines and their replies alone (`HaveTold`). It ends where the log failed: the manager is
 /// then down, and hears nothing more.
 pub fn served_sessions_are_explained<L: DecisionLog + Drop>()
-    ensures explained { ServedSessionsAreExplained L }
+    ensures explained { ServedSessionsAreExplained L.moment }
 {
     starts_are_tracked::<L>();
     sessions_are_tracked::<L>();
+    sessions_are_explained::<L>();
+}
+
+/// And databases that obey the branch state table agree, behind each line that a driver told a new coordinator. Let the
+/// branches stand wherever they may by what was told; let the call that waits first on any line be done or not, though its
+/// answer isn't told; let lines be cut off, as all are where the driver is killed; and let databases end prepared branches
+/// by themselves. Then no branch of a transaction that this session began is committed beside one that is rolled back or
+/// lost.
+///
+/// That a database obeys the table is the one premise about it (`StandSo`), and that it has no branch of this incarnation
+/// at the start. Where the log failed, this is of the moment before, at which all that waits on the lines may still be done.
+pub fn served_databases_agree<L: DecisionLog + Drop>()
+    ensures agree { ServedDatabasesAgree L.moment }
+{
+    starts_are_tracked::<L>();
+    sessions_are_tracked::<L>();
+    sessions_are_explained::<L>();
+    first_calls_are_tracked::<L>();
+    answers_are_explained();
+}
+
+/// And a session goes on: what a driver told a new coordinator, while the log didn't fail, is a session of several one
+/// after another, which agree (`sessions_agree` of `xa_standings`). The next one is to start over a log that has what this
+/// one's book says: the log itself, or what a crash leaves of it.
+///
+/// So does one whose log failed in a decision to commit, or that was killed in it (`failed`): the next start finds all of
+/// the rows in doubt, or none.
+pub fn served_sessions_go_on<L: DecisionLog + Drop>()
+    ensures goes_on { ServedSessionsGoOn L.moment }
+    ensures failed { FailedSessionsGoOn L.moment }
+{
+    starts_are_tracked::<L>();
+    sessions_are_tracked::<L>();
+    first_calls_are_tracked::<L>();
+    starts_find_the_log::<L>();
+}
+
+/// So sessions of drivers agree, one after another over one log and the same databases, of which each obeys the branch
+/// state table: no branch of any transaction is committed beside one that is rolled back or lost, whichever session began,
+/// decided or recovered it, and wherever a session was left.
+///
+/// Each session is one of [`served_sessions_go_on`], and starts over what the one before it left of its log (`HasLeft`).
+pub fn served_sessions_agree<L: DecisionLog + Drop>()
+    ensures agree { ServedSessionsAgree L }
+{
+    sessions_agree();
+}
+
+/// Where a `decide` of commits, a `settle` or a `done` is replied that the log failed (reply 15 of a manager that was up), the log
+/// has either all of the change that was asked for or nothing of it, unless it is shut; and so has whatever a crash of its
+/// store then leaves.
+pub fn faults_leave_all_or_none<L: DecisionLog + Drop>()
+    ensures { FaultsLeaveAllOrNone L.moment }
+{}
+
+/// Behind lines that tell a vote each, XA_OK to an xa_prepare, and are heard, a line commits their transactions and is replied by
+/// `decided`: the log then has the row of each. It was in order and had what the book says before, and has been honest since.
+pub fn voted_commits_are_logged<L: DecisionLog + Drop>()
+    ensures { VotedCommitsAreLogged L.moment }
+{}
+
+/// Where a request to commit is replied by `decided`, the log has the row of each of its transactions that some branch voted XA_OK
+/// for, which waits for those that did. It was in order and had what the book says before, and has been honest since.
+pub fn commits_are_logged<L: DecisionLog + Drop>()
+    ensures { CommitsAreLogged L.moment }
+{}
+
+/// A manager tells its driver calls on identifiers of its own name alone (`own`). So managers of different names never tell
+/// their drivers calls on the same identifier (`apart`): what one does at a database touches no branch of another. Nothing
+/// is asked of what other managers do, nor of the databases.
+pub fn managers_stay_apart<L: DecisionLog + Drop>()
+    ensures own { RepliesTellOwn L.moment }
+    ensures apart { ManagersAreApart L.moment }
+{
+    names_part_identifiers();
     sessions_are_explained::<L>();
 }

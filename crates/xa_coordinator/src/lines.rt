@@ -3,8 +3,10 @@
 ghost use Rattle.std.specs.Prelude.{◌≡◌, IfOk, OnErr, OnOk};
 ghost use Rattle.std.specs.Io.KnownBytes.{Appends};
 ghost use Rattle.std.specs.String.{string_bytes};
-ghost use Rattle.xa_coordinator.specs.Lines.{KeepsShort, ReadsLine, ReadsOne, asked_in, is_nothing, line_of};
+ghost use Rattle.xa_coordinator.specs.Lines.{KeepsShort, ReadsLine, ReadsOne, asked_in, is_nothing};
+ghost use Rattle.xa_coordinator.specs.NamedLines.{line_read, line_written};
 ghost use Rattle.xa_files.specs.Outputs.{AppendsBeginning};
+ghost use Rattle.xa_names.specs.Lines.{line_renamed};
 
 use crate::serving::ServeFault;
 use std::alloc::{AllocError, Global};
@@ -12,6 +14,7 @@ use std::io::{ErrorKind, Read, Write};
 use std::str::from_utf8;
 use xa_base::Memory;
 use xa_files::write_text;
+use xa_names::{ManagerName, line_renamed, without_a_name_nothing_changes};
 use xa_requests::{Request, Response, read_request, response_text};
 
 /// The most bytes that a line has, without its line feed. A longer one is no request.
@@ -89,7 +92,7 @@ pub(crate) fn read_line<R: Read>(alloc: Global, input: &mut R) -> Result<Line, S
 }
 
 /// What a line asks for; none, where it is no request.
-pub(crate) fn asked_in(alloc: Global, line: &[u8]) -> Result<Option<Request>, Memory>
+fn asked_in(alloc: Global, line: &[u8]) -> Result<Option<Request>, Memory>
     ensures { IfOk result (λ request. request ≡ asked_in line.now) }
 {
     if line.len() > LINE_LIMIT {
@@ -101,11 +104,47 @@ pub(crate) fn asked_in(alloc: Global, line: &[u8]) -> Result<Option<Request>, Me
     }
 }
 
-/// The line of a reply, with its line feed.
-fn line_of(alloc: Global, reply: &Response) -> Result<String, Memory>
-    ensures { IfOk result (λ text. string_bytes text ≡ line_of reply.now) }
+/// What a line asks a manager of this name for; none, where it is no request.
+pub(crate) fn asked_by(
+    alloc: Global,
+    name: &ManagerName,
+    line: &[u8],
+) -> Result<Option<Request>, Memory>
+    ensures { IfOk result (λ request. request ≡ asked_in (line_read name.now line.now)) }
 {
-    let mut text = response_text(alloc, reply)?;
+    without_a_name_nothing_changes();
+    if name.as_slice().is_empty() {
+        return asked_in(alloc, line);
+    }
+    if line.len() > LINE_LIMIT {
+        return Ok(None);
+    }
+    match from_utf8(line) {
+        Ok(text) => {
+            let meant = line_renamed(alloc, name, text)?;
+            asked_in(alloc, meant.as_bytes())
+        }
+        Err(_) => Ok(None),
+    }
+}
+
+/// A line, as a manager of this name means it.
+fn meant_by(alloc: Global, name: &ManagerName, line: String) -> Result<String, Memory>
+    ensures { IfOk result (λ text. string_bytes text ≡ line_renamed name.now (string_bytes line)) }
+{
+    without_a_name_nothing_changes();
+    if name.as_slice().is_empty() {
+        return Ok(line);
+    }
+    line_renamed(alloc, name, line.as_str())
+}
+
+/// The line of a reply of a manager of this name, with its line feed.
+fn line_written(alloc: Global, name: &ManagerName, reply: &Response) -> Result<String, Memory>
+    ensures { IfOk result (λ text. string_bytes text ≡ line_written name.now reply.now) }
+{
+    let line = response_text(alloc, reply)?;
+    let mut text = meant_by(alloc, name, line)?;
     text.push_str("\n")?;
     Ok(text)
 }
@@ -113,15 +152,16 @@ fn line_of(alloc: Global, reply: &Response) -> Result<String, Memory>
 /// Writes the line of a reply, and lets the driver have it.
 pub(crate) fn write_reply<W: Write>(
     alloc: Global,
+    name: &ManagerName,
     reply: &Response,
     output: &mut W,
 ) -> Result<(), ServeFault>
     ensures ok { OnOk result (Appends (W.contents output.old) (W.contents output.new)
-        (line_of reply.now)) }
+        (line_written name.now reply.now)) }
     ensures err { OnErr result (AppendsBeginning (W.contents output.old)
-        (W.contents output.new) (line_of reply.now)) }
+        (W.contents output.new) (line_written name.now reply.now)) }
 {
-    let Ok(text) = line_of(alloc, reply) else {
+    let Ok(text) = line_written(alloc, name, reply) else {
         return Err(ServeFault::Memory);
     };
     match write_text(text.as_bytes(), output) {

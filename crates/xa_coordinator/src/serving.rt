@@ -2,15 +2,18 @@
 
 ghost use Rattle.std.specs.Prelude.{◌≡◌, ◌&&◌, not, IfOk, OnErr, OnOk};
 ghost use Rattle.xa_coordinator.specs.Replies.{greeting_of};
-ghost use Rattle.xa_coordinator.specs.Serving.{BreaksOff, BreaksSession, RepliesTo, Serves, ServesLine, is_bye};
+ghost use Rattle.xa_coordinator.specs.NamedLines.{BreaksSessionUnder, ServesUnder, line_read};
+ghost use Rattle.xa_coordinator.specs.Serving.{BreaksSession, RepliesTo, Serves, is_bye};
+ghost use Rattle.xa_coordinator.specs.ServingLines.{BreaksOff, ServesLine};
 ghost use Rattle.xa_serve.specs.Session.{IsReady};
 
 use crate::coordinator::Coordinator;
-use crate::lines::{asked_in, is_nothing, read_line, write_reply};
+use crate::lines::{asked_by, is_nothing, read_line, write_reply};
 use std::alloc::AllocError;
 use std::io::{Read, Write};
 use thiserror::Error;
 use xa_log::DecisionLog;
+use xa_names::{ManagerName, without_a_name_nothing_changes};
 use xa_requests::{RequestFault, Response};
 
 /// Why a session ends early.
@@ -46,13 +49,14 @@ fn goes_on(is_ended: bool, reply: &Response) -> bool
 
 impl<L: DecisionLog + Drop> Coordinator<L> {
     /// Does what a line asks for, and gives its reply.
-    fn reply_to(&mut self, line: &[u8]) -> Result<Response, ServeFault>
+    fn reply_to(&mut self, name: &ManagerName, line: &[u8]) -> Result<Response, ServeFault>
         requires { IsReady self.old.session }
         ensures ready { IsReady self.new.session }
-        ensures ok { IfOk result (λ reply. RepliesTo line.now self.old reply self.new) }
+        ensures ok { IfOk result (λ reply.
+            RepliesTo L.moment (line_read name.now line.now) self.old reply self.new) }
         ensures err { OnErr result (self.new ≡ self.old) }
     {
-        match asked_in(self.alloc, line) {
+        match asked_by(self.alloc, name, line) {
             Ok(Some(request)) => Ok(self.perform(&request)),
             Ok(None) => Ok(Response::Fault(RequestFault::NoRequest)),
             Err(_) => Err(ServeFault::Memory),
@@ -63,22 +67,24 @@ impl<L: DecisionLog + Drop> Coordinator<L> {
     /// not at the end of the input.
     fn serve_line<R: Read, W: Write>(
         &mut self,
+        name: &ManagerName,
         input: &mut R,
         output: &mut W,
     ) -> Result<bool, ServeFault>
         requires { IsReady self.old.session }
         ensures ready { IsReady self.new.session }
-        ensures ok { IfOk result (ServesLine (R.remaining input.old) (R.remaining input.new)
+        ensures ok { IfOk result (ServesLine L.moment name.now
+            (R.remaining input.old) (R.remaining input.new)
             (W.contents output.old) (W.contents output.new) self.old self.new) }
-        ensures err { OnErr result (BreaksOff
+        ensures err { OnErr result (BreaksOff L.moment name.now
             (W.contents output.old) (W.contents output.new) self.old self.new) }
     {
         let line = read_line(self.alloc, input)?;
         if is_nothing(&line) {
             return Ok(false);
         }
-        let reply = self.reply_to(&line.bytes)?;
-        write_reply(self.alloc, &reply, output)?;
+        let reply = self.reply_to(name, &line.bytes)?;
+        write_reply(self.alloc, name, &reply, output)?;
         Ok(goes_on(line.is_ended, &reply))
     }
 
@@ -95,16 +101,37 @@ impl<L: DecisionLog + Drop> Coordinator<L> {
     ) -> Result<(), ServeFault>
         requires { IsReady self.old.session }
         ensures ready { IsReady self.new.session }
-        ensures served { OnOk result (Serves (greeting_of self.old)
+        ensures served { OnOk result (Serves L.moment (greeting_of self.old)
             (R.remaining input.old) (R.remaining input.new)
             (W.contents output.old) (W.contents output.new) self.old self.new) }
-        ensures broken { OnErr result (BreaksSession (greeting_of self.old)
+        ensures broken { OnErr result (BreaksSession L.moment (greeting_of self.old)
+            (W.contents output.old) (W.contents output.new) self.old self.new) }
+    {
+        without_a_name_nothing_changes();
+        self.serve_under(&ManagerName::none(), input, output)
+    }
+
+    /// The same for a manager of this name: in each line that is read, and in each that is written, an identifier stands
+    /// for another one (`renamed` of [`xa_names`]). So the branches of this manager have its name in their identifiers,
+    /// and those of managers of other names, and of one without, are others' to it.
+    pub fn serve_under<R: Read, W: Write>(
+        &mut self,
+        name: &ManagerName,
+        input: &mut R,
+        output: &mut W,
+    ) -> Result<(), ServeFault>
+        requires { IsReady self.old.session }
+        ensures ready { IsReady self.new.session }
+        ensures served { OnOk result (ServesUnder L.moment name.now (greeting_of self.old)
+            (R.remaining input.old) (R.remaining input.new)
+            (W.contents output.old) (W.contents output.new) self.old self.new) }
+        ensures broken { OnErr result (BreaksSessionUnder L.moment name.now (greeting_of self.old)
             (W.contents output.old) (W.contents output.new) self.old self.new) }
     {
         let greeting = self.greeting();
-        write_reply(self.alloc, &greeting, output)?;
+        write_reply(self.alloc, name, &greeting, output)?;
         for _ in 0..u64::MAX {
-            if !self.serve_line(input, output)? {
+            if !self.serve_line(name, input, output)? {
                 return Ok(());
             }
         }

@@ -4,6 +4,6 @@ mod EachLemmas
 mod NumberLemmas
 mod Pieces
 mod ReadBackLemmas
-mod SpaceLemmas
+pub mod SpaceLemmas
 mod SpellingLemmas
 mod XidLemmas

@@ -2,6 +2,9 @@ mod Alone
 mod Following
 mod Headroom
 mod Lines
+pub mod Logging
+mod NextRows
+mod NextStarts
 mod Recoveries
 mod Hearings
 mod Refusals

@@ -3,7 +3,8 @@ use Rattle.std.proofs.Common.{◌≡◌, ◌-◌, Bool, true, false, refl, sym, 
 use Rattle.xa_base.specs.declared.branch.Gtrid.{Gtrid}
 use Rattle.xa_model.specs.Trace.{Trace}
 use Rattle.xa_tm.specs.Book.{Book}
-use Rattle.xa_tm.specs.Calls.{book_in}
+use Rattle.xa_log.specs.Contract.{Moment}
+use Rattle.xa_tm.specs.Calls.{book_in, log_in}
 use Rattle.xa_tm.specs.Release.{IsOver, book_without}
 use Rattle.xa_tm.specs.declared.manager.Manager.{Manager}
 use Rattle.xa_serve.specs.Following.{BookStands, StandsIn}
@@ -12,6 +13,8 @@ use Rattle.xa_serve.specs.Session.{IsReady}
 use Rattle.xa_serve.specs.declared.session.Session.{Session}
 use Rattle.xa_serve.proofs.Books.{book_left}
 use Rattle.xa_serve.proofs.Headroom.{releases_keep_headroom}
+use Rattle.xa_serve.proofs.Logging.{kept_as, quiet_keeps, same_released}
+use Rattle.xa_serve.specs.Logging.{KeepsLog}
 
 module _ {L : Type 0} (s : Session L) (m : Manager L) (g : Gtrid) (done : Bool) (over : done ≡ true → IsOver (book_in s.manager) g)
     (released : done ≡ true → book_in m ≡ book_without g (book_in s.manager)) (same : done ≡ false → m ≡ s.manager) where
@@ -44,3 +47,11 @@ module _ {L : Type 0} (s : Session L) (m : Manager L) (g : Gtrid) (done : Bool) 
     book = stays (BookStands tr) (λ gone book. book_left tr (book_in s.manager) book g gone) stands.book;
     lines = stands.lines;
   }
+
+-- and the log
+pub release_keeps : {L : Type 0} (moment : L → Moment) (old new : Session L) (g : Gtrid) (over : Bool)
+    → (over ≡ true → book_in new.manager ≡ book_without g (book_in old.manager)) → (over ≡ false → new.manager ≡ old.manager)
+    → log_in new.manager ≡ log_in old.manager → KeepsLog moment old.manager new.manager
+release_keeps moment old new g true released same log =
+    quiet_keeps moment old.manager new.manager log (same_released (book_in old.manager) (book_in new.manager) g (released refl))
+release_keeps moment old new g false released same log = kept_as moment old.manager new.manager (same refl)

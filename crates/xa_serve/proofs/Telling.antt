@@ -88,6 +88,14 @@ known_first f None (Some b) e = absurd (cc)
 known_first f (Some a) None e = absurd (cc)
 known_first f (Some a) (Some b) e = sym (some_is (f a) (Some b) e)
 
+-- the call that waits first on a line of a session does by each history in which the session stands
+pub first_waits : {L : Type 0} (s : Session L) (tr : Trace) (t r : ℕ) → StandsIn tr s → HasLine s.lines t r → has_line s.lines t r ≡ true
+    → facts.next_call tr (line t r) ≡ known_waiting s.lines t r
+first_waits s tr t r stands has there =
+    let at = line_at s.lines t r in
+    known_first known_call (slice_get at.calls.waiting 0) _ (next_call_waits tr (line t r) at (stands.lines t r has))
+    ∙ ap (λ b. option_and_then known_call (if b then slice_get at.calls.waiting 0 else None)) (sym there)
+
 -- a session stands in a history but for one line
 record StandsBeside {L : Type 0} (tr : Trace) (t r : ℕ) (s : Session L) : Type 0 where
   run : IsRun tr
@@ -158,10 +166,7 @@ module _ {L : Type 0} (old new : Session L) (t r : ℕ) where
   pub lost_follows : MayTell old t r → book_in new.manager ≡ after (book_in old.manager) (Crashed (Parts.Line t r))
       → new.lines ≡ with_line old.lines t r no_traffic → LeadsByLoss (line t r) (known_waiting old.lines t r) old new
   lost_follows may book lines tr stands =
-      let at = line_at old.lines t r in
-      let first : facts.next_call tr (line t r) ≡ known_waiting old.lines t r =
-      known_first known_call (slice_get at.calls.waiting 0) _ (next_call_waits tr (line t r) at (stands.lines t r may.has))
-      ∙ ap (λ b. option_and_then known_call (if b then slice_get at.calls.waiting 0 else None)) (sym may.there) in (
+      let first = first_waits old tr t r stands may.has may.there in (
         first,
         lost_goes tr (beside tr t r old stands) may book lines,
         λ k a is sound. lost_goes (Then tr (Took (line t r) k a)) (beside_taken tr t r old k a stands (first ∙ is, sound)) may book lines,

@@ -3,7 +3,6 @@ use Rattle.std.specs.Prelude.{ℕ, ◌≡◌, Bool, true, List, [], ◌∷◌, O
 use Rattle.xa_base.specs.declared.branch.Gtrid.{Gtrid}
 use Rattle.xa_line.specs.Grid.{HasLine, IsWhole, line_at}
 use Rattle.xa_line.specs.Histories.{LineStands}
-use Rattle.xa_log.specs.Contract.{Honestly, Moment}
 use Rattle.xa_model.specs.Facts.{next_call, origin, rm_up}
 use Rattle.xa_model.specs.Facts.Distinct.{ApartRows}
 use Rattle.xa_model.specs.Protocol.{IsRun, OldOrigin, Right, SoundAnswer}
@@ -12,7 +11,6 @@ use Rattle.xa_standings.specs.Monitor.{Hears, Loses, Monitors, SaysTheSame}
 use Rattle.xa_standings.specs.Seen.{Seen.Start, Waits, break_of}
 use Rattle.xa_tm.specs.Begins.{BeginsWith}
 use Rattle.xa_tm.specs.Book.{Book, book_of}
-use Rattle.xa_tm.specs.BookAndLog.{IsTied}
 use Rattle.xa_tm.specs.Calls.{book_in, log_in}
 use Rattle.xa_tm.specs.Release.{HasReleased}
 use Rattle.xa_serve.specs.declared.session.Session.{Session}
@@ -96,12 +94,3 @@ pub record StaysAs {L : Type 0} (old new : Session L) : Type 0 where
   pub lines : new.lines ≡ old.lines
   pub happenings : new.happenings ≡ old.happenings
   pub states : SaysTheSame old.monitor new.monitor
-
--- ** and the log
-
--- a log that was in order, has been honest since and held what the book said, holds what it says now
-abbrev pub StaysTied : {L : Type 0} → (moment : L → Moment) → (old new : Session L) → Type 0
-StaysTied moment old new =
-    (near : Bool) → Honestly (moment (log_in old.manager)) (moment (log_in new.manager))
-    (IsTied near (book_in old.manager) (moment (log_in old.manager)).content
-    → IsTied near (book_in new.manager) (moment (log_in new.manager)).content)

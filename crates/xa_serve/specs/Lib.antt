@@ -2,5 +2,6 @@ pub mod Answering
 pub mod Headroom
 pub mod Following
 pub mod Hearing
+pub mod Logging
 pub mod Session
 pub mod Tracking

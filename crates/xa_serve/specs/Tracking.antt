@@ -1,12 +1,26 @@
 -- How a session tracks what is seen.
-use Rattle.std.specs.Prelude.{ℕ, ◌≡◌, All, List, [], ◌∷◌, Option}
+use Rattle.std.specs.Prelude.{ℕ, ◌≡◌, ◌<◌, All, true, List, [], ◌∷◌, Option, Some, None}
+use Rattle.xa_base.specs.declared.branch.Gtrid.{Gtrid}
+use Rattle.xa_base.specs.declared.step.Outcome.TheVariants as Outcomes
+use Rattle.xa_base.specs.declared.step.Step.TheVariants as Steps
+use Rattle.xa_log.specs.Content.{Content}
+use Rattle.xa_model.specs.Facts.Distinct.{ApartRows}
 use Rattle.xa_model.specs.Protocol.{IsRun}
-use Rattle.xa_model.specs.Trace.{Answer, Call, Happening, Line, Origin, Trace}
+use Rattle.xa_model.specs.Trace.{Answer, Call, Fault, Fault.InDecide, Fault.InDone, Happening, Happening.Failed, Line, Origin, Trace, line}
+use Rattle.xa_standings.specs.Agreement.{WaitsFirst}
 use Rattle.xa_standings.specs.Explained.{IsExplained, IsOldLog}
 use Rattle.xa_standings.specs.Monitor.{Monitors}
 use Rattle.xa_standings.specs.Seen.{HasAnswer, IsHistory, IsManagers, KeepsRules, Seen, Seen.Answered, Seen.Did, Seen.Lost, Seen.Start}
+use Rattle.xa_standings.specs.Sessions.{Finds, Log.LeftBy, MayFail}
 use Rattle.xa_tm.specs.Begins.{BeginsWith}
+use Rattle.xa_tm.specs.Book.{Doubt, Doubt.Drops, book_after}
+use Rattle.xa_tm.specs.BookAndLog.{IsTied}
+use Rattle.xa_tm.specs.Calls.{book_in, written_by}
+use Rattle.xa_tm.specs.InTurn as turns
+use Rattle.xa_tm.specs.Refusing.{refusal_in}
+use Rattle.xa_tm.specs.Starting.{HasContent}
 use Rattle.xa_serve.specs.Following.{FollowsAll, FollowsAnswer, FollowsLoss, StandsAtStart, StandsIn, StaysAs}
+use Rattle.xa_serve.specs.Session.{known_waiting}
 use Rattle.xa_serve.specs.declared.session.Session.{Session}
 
 -- the session stands in each history of what is seen that is a run, whatever the resource managers did by themselves
@@ -54,6 +68,51 @@ abbrev pub ReleasesAreTracked : Type 0 → Type 0
 ReleasesAreTracked L =
     (o : Origin) (seen : Seen) (old new : Session L) → KeepsTrack o seen old → ((tr : Trace) → StandsIn tr old → StandsIn tr new)
     → new.monitor ≡ old.monitor → KeepsTrack o seen new
+
+-- On each of its lines a session that keeps track has that call wait first which does by each right history of what is seen, or none.
+abbrev pub FirstCallsAreTracked : Type 0 → Type 0
+FirstCallsAreTracked L =
+    (o : Origin) (seen : Seen) (s : Session L) (t r : ℕ) → KeepsTrack o seen s → t < o.threads → r < o.rms
+    → WaitsFirst o seen (line t r) (known_waiting s.lines t r)
+
+-- the log fails in a decision to commit these: for the rows of those that some branch voted XA_OK for
+abbrev pub fault_in : {L : Type 0} → Session L → List Gtrid → Fault
+fault_in s gs = InDecide (written_by Outcomes.Commit (book_in s.manager) gs)
+
+-- a start over a log: it has the rows and records of that, in an incarnation that was raised since, once or more
+pub record IsRaisedFrom (c : Content) (next : Origin) : Type 0 where
+  pub found : Content
+  pub has : HasContent next found
+  pub rows : found.decisions ≡ c.decisions
+  pub records : found.heuristics ≡ c.heuristics
+  pub raised : c.incarnation < found.incarnation
+  pub apart : ApartRows next.rows
+
+-- A start over a log that has what a session's book says finds what the session left: over its own log, or over what a crash may leave of that.
+abbrev pub StartsFindTheLog : Type 0 → Type 0
+StartsFindTheLog L =
+    (o : Origin) (seen : Seen) (s : Session L) (c : Content) (next : Origin) → KeepsTrack o seen s → IsTied true (book_in s.manager) (Some c)
+    → IsRaisedFrom c next → Finds (LeftBy o seen None) next
+
+-- The same where the log failed in a step, or the program was killed in it: that was right, and the change is in doubt.
+pub record IsFailedStep {L : Type 0} (o : Origin) (seen : Seen) (s : Session L) (asked : Doubt) (f : Fault) : Type 0 where
+  pub may_fail : MayFail o seen (Some f)
+  pub finds :
+      (c : Content) (next : Origin) → IsTied true (book_after (book_in s.manager) asked (Failed f)) (Some c) → IsRaisedFrom c next
+      → Finds (LeftBy o seen (Some f)) next
+
+-- it was a decision to commit these that no rule refuses
+abbrev pub FailedDecisionsAreFound : Type 0 → Type 0
+FailedDecisionsAreFound L =
+    (o : Origin) (seen : Seen) (s : Session L) (gs : List Gtrid) → KeepsTrack o seen s
+    → turns.decide_refusal Outcomes.Commit (book_in s.manager) gs ≡ None
+    → IsFailedStep o seen s (turns.rows_added Outcomes.Commit (book_in s.manager) gs) (fault_in s gs)
+
+-- or a row was to be taken away
+abbrev pub FailedDonesAreFound : Type 0 → Type 0
+FailedDonesAreFound L =
+    (o : Origin) (seen : Seen) (s : Session L) (g : Gtrid) → KeepsTrack o seen s → refusal_in (book_in s.manager) (Steps.Done g) ≡ None
+    → IsFailedStep o seen s (Drops (g ∷ [])) (InDone (g ∷ []))
 
 -- What a session keeps track of, from an old log, has a right history.
 abbrev pub SessionsAreExplained : Type 0 → Type 0

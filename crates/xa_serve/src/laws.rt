@@ -3,8 +3,11 @@
 
 ghost use Rattle.xa_serve.specs.Headroom.{HeadroomIsSound, HeadroomIsUsedUpByOne};
 ghost use Rattle.xa_serve.specs.Headroom.{ReleasesKeepHeadroom, StartsHaveHeadroom};
-ghost use Rattle.xa_serve.specs.Tracking.{AnswersAreTracked, LossesAreTracked, RefusalsAreTracked, ReleasesAreTracked};
-ghost use Rattle.xa_serve.specs.Tracking.{SessionsAreExplained, StartsAreTracked, StepsAreTracked};
+ghost use Rattle.xa_serve.specs.Logging.{LaterSessionsAreNewer, LogsHaveAllOrNone, RowsAreHandedOn};
+ghost use Rattle.xa_serve.specs.Tracking.{AnswersAreTracked, FirstCallsAreTracked, LossesAreTracked};
+ghost use Rattle.xa_serve.specs.Tracking.{RefusalsAreTracked, ReleasesAreTracked};
+ghost use Rattle.xa_serve.specs.Tracking.{FailedDecisionsAreFound, FailedDonesAreFound};
+ghost use Rattle.xa_serve.specs.Tracking.{SessionsAreExplained, StartsAreTracked, StartsFindTheLog, StepsAreTracked};
 
 use xa_log::DecisionLog;
 
@@ -57,9 +60,38 @@ pub fn releases_are_tracked<L: DecisionLog + Drop>()
     ensures { ReleasesAreTracked L }
 {}
 
+/// The call that waits first on a line of a session that tracks what is seen does so by each right history of that. So it
+/// is known of which call it isn't known whether it was done.
+pub fn first_calls_are_tracked<L: DecisionLog + Drop>()
+    ensures { FirstCallsAreTracked L }
+{}
+
+/// The next start finds what a session left: its log has what the session's book says, which is what each right history
+/// of the session says. So sessions one after another agree (`sessions_agree` of `xa_standings`).
+///
+/// - `left`: of a session whose log didn't fail;
+/// - `decision`, `done`: of one whose log failed in a decision to commit or as a row was to be taken away, or that was
+///   killed in it. The change is in doubt then, and the step was right.
+pub fn starts_find_the_log<L: DecisionLog + Drop>()
+    ensures left { StartsFindTheLog L }
+    ensures decision { FailedDecisionsAreFound L }
+    ensures done { FailedDonesAreFound L }
+{}
+
 /// What a session tracks has a right history, whatever the resource managers are: of them it is only known what they
 /// answered, and each answer that was heard was looked at. The log that the session started from is old (`old` of
 /// [`Session::new`](crate::Session::new)).
 pub fn sessions_are_explained<L: DecisionLog + Drop>()
     ensures { SessionsAreExplained L }
+{}
+
+/// What a session leaves to the next: its log, or any content that a crash of the log's store may leave.
+///
+/// - `all`: it has the rows of the book and, once the log has failed, all those that are in doubt with them, or none;
+/// - `newer`: a session that starts over it is of a later incarnation, so that no identifier comes twice;
+/// - `rows`: and has these rows.
+pub fn later_sessions_go_on<L: DecisionLog + Drop>()
+    ensures all { LogsHaveAllOrNone L.moment }
+    ensures newer { LaterSessionsAreNewer L.moment }
+    ensures rows { RowsAreHandedOn L.moment }
 {}

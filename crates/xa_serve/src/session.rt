@@ -1,14 +1,16 @@
 //! A session: the manager over its log, the lines, and the monitor of the branches. A file for each family of requests.
 
-ghost use Rattle.std.specs.Prelude.{◌≡◌, Bool, true, IfOk};
+ghost use Rattle.std.specs.Prelude.{◌≡◌, Bool, true, Err, IfOk, IsSomeAnd};
 ghost use Rattle.xa_line.specs.Grid.{new_grid};
 ghost use Rattle.xa_log.specs.Contract.{Honestly};
 ghost use Rattle.xa_model.specs.Trace.{Origin};
 ghost use Rattle.xa_standings.specs.Explained.{IsOldLog};
 ghost use Rattle.xa_tm.specs.Begins.{BeginsWith};
-ghost use Rattle.xa_tm.specs.BookAndLog.{IsTied};
 ghost use Rattle.xa_tm.specs.Calls.{book_in, log_in};
+ghost use Rattle.xa_tm.specs.Started.{IsStarted, IsStartedOver};
+ghost use Rattle.xa_tm.specs.StartFaults.{IsOnlyRead, IsToBlame};
 ghost use Rattle.xa_serve.specs.Following.{StandsAtStart};
+ghost use Rattle.xa_serve.specs.Logging.{AreRowsOf, HoldsItsBook};
 ghost use Rattle.xa_serve.specs.Session.{IsReady, happenings_by, has_room_for, is_over, lines_by};
 
 pub(crate) mod answers;
@@ -22,7 +24,7 @@ mod several;
 use std::alloc::Global;
 use xa_base::Refusal;
 use xa_line::Lines;
-use xa_log::DecisionLog;
+use xa_log::{DecisionLog, LogRows};
 use xa_standings::Monitor;
 use xa_tm::{Manager, StartFault};
 
@@ -44,37 +46,61 @@ pub struct Session<L: DecisionLog + Drop> {
 }
 
 impl<L: DecisionLog + Drop> Session<L> {
-    /// A session over a log, of so many threads and resource managers.
-    pub fn new(alloc: Global, threads: u32, rms: u32, log: L) -> Result<Session<L>, StartFault>
-        ensures ready { IfOk result IsReady }
-        ensures lines { IfOk result (λ s. s.lines ≡ new_grid threads rms) }
-        ensures stands { IfOk result (StandsAtStart threads rms) }
-        ensures old { IfOk result (λ s. (o : Origin) → BeginsWith threads rms s.manager o →
+    /// A session over a log, of so many threads and resource managers, and the rows that the log had.
+    ///
+    /// The rows are read before room is made for lines, so that the log has only been read where memory is refused.
+    pub fn new(
+        alloc: Global,
+        threads: u32,
+        rms: u32,
+        mut log: L,
+    ) -> Result<(Session<L>, LogRows), StartFault>
+        ensures ready { IfOk result (λ s. IsReady s.0) }
+        ensures lines { IfOk result (λ s. s.0.lines ≡ new_grid threads rms) }
+        ensures stands { IfOk result (λ s. StandsAtStart threads rms s.0) }
+        ensures old { IfOk result (λ s. (o : Origin) → BeginsWith threads rms s.0.manager o →
             IsOldLog o) }
-        // The log, whose incarnation is raised.
-        ensures tied { (near : Bool) → IfOk result (λ s.
-            Honestly (L.moment log) (L.moment (log_in s.manager))
-            (IsTied near (book_in s.manager) (L.moment (log_in s.manager)).content)) }
-        ensures order { IfOk result (λ s. (L.moment log).is_in_order →
-            (L.moment (log_in s.manager)).is_in_order) }
-        ensures honest { IfOk result (λ s. (L.moment (log_in s.manager)).is_honest →
-            (L.moment log).is_honest) }
+        // The log that was handed in: its rows and its records, and its incarnation, which is raised.
+        ensures started { IfOk result (λ s. IsStarted threads rms s.0.manager) }
+        ensures over { IfOk result (λ s.
+            IsStartedOver L.moment threads rms (L.moment log) s.0.manager) }
+        ensures holds { (near : Bool) → IfOk result (λ s.
+            Honestly (L.moment log) (L.moment (log_in s.0.manager))
+            (HoldsItsBook L.moment near s.0.manager)) }
+        ensures rows { IfOk result (λ s.
+            Honestly (L.moment log) (L.moment (log_in s.0.manager))
+            (IsSomeAnd (L.moment log).content (AreRowsOf s.1))) }
+        // Over which logs none starts, and what is left of them.
+        ensures log_fault { result ≡ Err StartFault.Log → IsToBlame L.DecisionLog log }
+        ensures memory_fault { result ≡ Err StartFault.Memory →
+            ((left : L) × IsOnlyRead L.DecisionLog log left) }
     {
+        let Ok(rows) = log.rows() else {
+            return Err(StartFault::Log);
+        };
         let Ok(lines) = Lines::new(alloc, threads, rms) else {
             return Err(StartFault::Memory);
         };
         match Manager::new(alloc, threads, rms, log) {
             Ok(manager) => {
                 let monitor = Monitor::new(alloc, manager.incarnation());
-                Ok(Session {
+                let session = Session {
                     manager,
                     lines,
                     monitor,
                     happenings: 0,
-                })
+                };
+                Ok((session, rows))
             }
             Err(fault) => Err(fault),
         }
+    }
+
+    /// Its log, where it ends.
+    pub fn into_log(self) -> L
+        ensures { result ≡ log_in self.manager }
+    {
+        self.manager.into_log()
     }
 
     /// Whether the manager is up: until its log fails.

@@ -1,3 +1,6 @@
+pub mod Agreeing
+pub mod Books
+pub mod Chains
 pub mod Choices
 pub mod EntryLemmas
 pub mod Following

@@ -1,13 +1,14 @@
 -- A call is taken with an answer that is explained: what resource managers do by themselves before it, and where branches stand behind it.
-use Rattle.std.proofs.Common.{◌≡◌, ℕ, List, [], ◌∷◌, ◌++◌, length, Bool, true, false, ◌⊎◌, refl, sym, ap, ◌∙◌, subst}
+use Rattle.std.proofs.Common.{◌≡◌, ℕ, List, [], ◌∷◌, ◌++◌, length, ◌-◌, Bool, true, false, ◌⊎◌, refl, sym, ap, ◌∙◌, subst}
 use Rattle.std.proofs.lemmas.List.{append-nil}
 use Rattle.std.specs.Prelude.{if◌then◌else◌, Some, slice_get}
 use mathlib.Core.Logic.{◌⊎◌.inl, ◌⊎◌.inr}
 use Rattle.xa_base.proofs.BranchKeys.{branch_eq-true, branch_eq-refl}
 use Rattle.xa_base.specs.Branch.{branch_eq}
-use Rattle.xa_base.specs.StateTable.{Kind, answer, asks_of, completed, moved, state_of}
+use Rattle.xa_base.specs.StateTable.{Kind, Kind.Commit, answer, asks_of, completed, moved, state_of}
 use Rattle.xa_base.specs.declared.answer.Answer.TheVariants.{Ret}
 use Rattle.xa_base.specs.declared.call.Call.TheVariants as Calls
+use Rattle.xa_base.specs.declared.code.Code.TheVariants as Codes
 use Rattle.xa_base.specs.declared.state.Standing.{Standing}
 use Rattle.xa_base.specs.declared.state.Standing.TheVariants.{Completed, Prepared}
 use Rattle.xa_model.proofs.Keys.{line_eq-refl}
@@ -89,17 +90,36 @@ record Reached (tr : Trace) (d : Branch) (at : Standing) : Type 0 where
   alone : Alone tr now
   there : standing now d ≡ at
   others : (b : Branch) → branch_eq d b ≡ false → standing now b ≡ standing tr b
+  votes : (b : Branch) → vote now b ≡ vote tr b
+  retries_are : (b : Branch) → retries now b ≡ retries tr b
 
 reached : (tr : Trace) (d : Branch) (from at : Standing) → standing tr d ≡ from
     → (at ≡ from) ⊎ ((from ≡ Prepared) × ((how : How) × (at ≡ Completed how))) → Reached tr d at
-reached tr d from at e (inl s) = record { now = tr; alone = NoMore; there = e ∙ sym s; others = λ b n. refl }
+reached tr d from at e (inl s) =
+    record { now = tr; alone = NoMore; there = e ∙ sym s; others = λ b n. refl; votes = λ b. refl; retries_are = λ b. refl }
 reached tr d from at e (inr (p, (how, s))) = record {
   now = Then tr (CompletedAlone d how);
   alone = Ends tr d how NoMore (e ∙ p);
   there = ap (λ t. if t then completed (standing tr d) how else standing tr d) (branch_eq-refl d)
       ∙ (ap (λ f. completed f how) (e ∙ p) ∙ sym s);
   others = λ b n. ap (λ t. if t then completed (standing tr b) how else standing tr b) n;
+  votes = λ b. refl;
+  retries_are = λ b. refl;
 }
+
+-- a call asks nothing of this branch
+abbrev pub IsOtherThan : Call → Branch → Type 0
+IsOtherThan c b = (k : Kind) (d : Branch) → asks_of c ≡ Some (k, d) → branch_eq d b ≡ false
+
+-- all that a resource manager holds of the branch is as it was
+pub record IsKept (tr now : Trace) (b : Branch) : Type 0 where
+  pub stands : standing now b ≡ standing tr b
+  pub votes : vote now b ≡ vote tr b
+  pub retries_are : retries now b ≡ retries tr b
+
+pub retries_kept : (tr : Trace) (l : Line) (c : Call) (a : Answer) (b : Branch) → IsOtherThan c b → retries (Then tr (Took l c a)) b ≡ retries tr b
+retries_kept tr l (Calls.Commit x false) (Ret Codes.Retry) b other = ap (λ t. if t then retries tr b - 1 else retries tr b) (other Commit x refl)
+retries_kept tr l c a b other = refl
 
 -- a call is taken, and each branch then stands there
 pub record TakenThere (tr : Trace) (l : Line) (c : Call) (code : Code) (to : Branch → Standing) : Type 0 where
@@ -107,6 +127,7 @@ pub record TakenThere (tr : Trace) (l : Line) (c : Call) (code : Code) (to : Bra
   pub alone : Alone tr now
   pub sound : SoundAnswer now l c (Ret code)
   pub there : (b : Branch) → standing (Then now (Took l c (Ret code))) b ≡ to b
+  pub kept : (b : Branch) → IsOtherThan c b → IsKept tr (Then now (Took l c (Ret code))) b
 
 sound_of : (now : Trace) (l : Line) (c : Call) (code : Code) (k : Kind) (d : Branch) → asks_of c ≡ Some (k, d)
     → code ≡ answer k (state_of (standing now d)) (vote now d) (retries now d) → SoundAnswer now l c (Ret code)
@@ -129,7 +150,13 @@ taken_there tr l c code k d from to asks stands x others = record {
       (sym x.answers
       ∙ ((λ i. answer k (state_of (sym r.there i)) x.vote x.retries)
       ∙ (λ i. answer k (state_of (standing r.now d)) (sym vote_is i) (sym retries_are i))));
-  there = λ b. ap (λ o. moved_by o code b (standing r.now b)) asks ∙ by_test b (branch_eq d b) refl;
+  there = stands_there;
+  kept = λ b other. record {
+    stands = stands_there b ∙ (others b (other k d asks) ∙ sym (stands b));
+    votes = ap (λ t. if t then x.vote else vote r.now b) (other k d asks) ∙ r.votes b;
+    retries_are = retries_kept last l c (Ret code) b other
+        ∙ (ap (λ t. if t then x.retries else retries r.now b) (other k d asks) ∙ r.retries_are b);
+  };
 }
   where
     r : Reached tr d x.as_called
@@ -154,3 +181,6 @@ taken_there tr l c code k d from to asks stands x others = record {
     by_test b false e =
         ap (λ t. if t then moved (standing r.now b) k code else standing r.now b) e
         ∙ (r.others b e ∙ (stands b ∙ sym (others b e)))
+
+    stands_there : (b : Branch) → standing (Then last (Took l c (Ret code))) b ≡ to b
+    stands_there b = ap (λ o. moved_by o code b (standing r.now b)) asks ∙ by_test b (branch_eq d b) refl

@@ -2,8 +2,8 @@
 use Rattle.std.specs.Prelude.{◌≡◌}
 use Rattle.xa_base.specs.StateTable.{state_of}
 use Rattle.xa_base.specs.declared.state.Standing.{Standing}
-use Rattle.xa_model.specs.Facts.{standing}
-use Rattle.xa_model.specs.Promises.Processes.{resumed}
+use Rattle.xa_model.specs.Facts.{held_of, standing}
+use Rattle.xa_model.specs.Promises.Processes.{gone, resumed}
 use Rattle.xa_model.specs.Protocol.{AllRight}
 use Rattle.xa_model.specs.Trace.{Branch, Origin, Trace, Trace.From, Trace.Then}
 use Rattle.xa_standings.specs.Seen.{IsHistory, Seen}
@@ -13,9 +13,15 @@ abbrev pub behind : Trace → Trace → Trace
 behind past (From o) = past
 behind past (Then tr e) = Then (behind past tr) e
 
--- a history of what was seen, right behind the past that its start resumes; it leaves each branch in the state in which it then stands
+-- the start has the branch just as the past left it: it also knows how the branch ended, where it ended
+abbrev pub IsKnownAsLeft : (past : Trace) → Origin → Branch → Type 0
+IsKnownAsLeft past o b = (held_of o b).standing ≡ standing (gone past) b
+
+-- a history of what was seen, right behind the past that its start resumes; it leaves each branch in the state in which it then stands, and
+-- each branch that the start has just as the past left it, just there
 pub record GoesOn (past : Trace) (o : Origin) (seen : Seen) (f : Branch → Standing) : Type 0 where
   pub history : Trace
   pub is_history : IsHistory o seen history
   pub right : AllRight (behind (resumed past o) history)
-  pub there : (b : Branch) → state_of (standing (behind (resumed past o) history) b) ≡ state_of (f b)
+  pub states : (b : Branch) → state_of (standing (behind (resumed past o) history) b) ≡ state_of (f b)
+  pub there : (b : Branch) → IsKnownAsLeft past o b → standing (behind (resumed past o) history) b ≡ f b

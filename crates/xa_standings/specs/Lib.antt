@@ -1,8 +1,11 @@
 pub mod Across
+pub mod Agreement
 pub mod Entries
 pub mod Explained
 pub mod Monitor
+pub mod Named
 pub mod Rows
 pub mod Seen
+pub mod Sessions
 pub mod Standings
 pub mod States

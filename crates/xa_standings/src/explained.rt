@@ -6,8 +6,10 @@ ghost use Rattle.xa_model.specs.Protocol.{AllRight, OldOrigin};
 ghost use Rattle.xa_model.specs.Trace.{Branch, Origin, Trace};
 ghost use Rattle.xa_standings.specs.Seen.{KeepsRules, Seen};
 ghost use Rattle.xa_standings.specs.Standings.{Comes, MayStand};
-ghost use Rattle.xa_standings.specs.Across.{GoesOn};
+ghost use Rattle.xa_standings.specs.Across.{GoesOn, IsKnownAsLeft};
+ghost use Rattle.xa_standings.specs.Agreement.{HaveCome, OwnStandAlike, StandAlike, StandSo};
 ghost use Rattle.xa_standings.specs.Explained.{IsExplained, IsOldLog, IsRunOf};
+ghost use Rattle.xa_standings.specs.Sessions.{AfterSessions, Log};
 
 /// A manager that keeps its own rules, over resource managers of which only the answers are known: if each branch may
 /// stand somewhere, by the branch state table and all that was answered, then what was seen has a right history.
@@ -17,7 +19,11 @@ ghost use Rattle.xa_standings.specs.Explained.{IsExplained, IsOldLog, IsRunOf};
 /// - `some`: so there is one, if for each branch some standing explains all answers;
 /// - `across`: where the start resumes the right history of earlier processes, and each branch may have come from where it
 ///   stood at the start to some standing, what was seen has a history that is right behind theirs. So all promises hold
-///   of the whole.
+///   of the whole: of the states of all branches, and of how those ended of which the start knows all that the past says;
+/// - `agree`: so databases that obey the table agree. Wherever all branches may stand, also while calls are under way and
+///   where lines are cut off of which nothing was told, no branch of a transaction of this incarnation is committed beside
+///   one that is rolled back or lost;
+/// - `agree_across`: the same of all transactions, where the start has each branch just as the past left it.
 pub fn answers_are_explained()
     ensures each { (o : Origin) (seen : Seen) → IsOldLog o → KeepsRules o seen →
         (f : Branch → Standing) → ((b : Branch) → MayStand o seen b (f b)) → IsRunOf o seen f }
@@ -27,4 +33,22 @@ pub fn answers_are_explained()
         AllRight past → Resumes past o → OldOrigin o → KeepsRules o seen →
         (f : Branch → Standing) → ((b : Branch) → Comes seen b (held_of o b).standing (f b)) →
         GoesOn past o seen f }
+    // And where they all stand.
+    ensures agree { (o : Origin) (seen : Seen) → IsOldLog o → KeepsRules o seen →
+        (f : Branch → Standing) → StandSo o seen f → OwnStandAlike o.incarnation f }
+    ensures agree_across { (past : Trace) (o : Origin) (seen : Seen) →
+        AllRight past → Resumes past o → OldOrigin o → KeepsRules o seen →
+        ((b : Branch) → IsKnownAsLeft past o b) →
+        (f : Branch → Standing) → HaveCome o seen f → StandAlike f }
+{}
+
+/// Databases that obey the branch state table agree through any number of sessions of a manager, one after another, over
+/// the same log. Each starts with what the one before it left in that, with or without the change in doubt, in a later
+/// incarnation; the first over an empty log, before any branch. In between what was open is lost. A session may end at any
+/// moment, also where calls are under way, and where its log fails in a step that asks it for rows.
+///
+/// Then, whichever session began, decided or recovered it, no branch of a transaction stands committed beside one that
+/// stands rolled back or lost.
+pub fn sessions_agree()
+    ensures { (log : Log) (f : Branch → Standing) → AfterSessions log f → StandAlike f }
 {}

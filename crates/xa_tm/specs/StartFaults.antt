@@ -13,6 +13,7 @@ module _ {L : Type 0} (logs : DecisionLog.Ghosts L) where
 
   -- it has not failed, but has a row or a record of a later incarnation than its own, and that was raised
   pub record IsRaisedInVain (handed left : L) : Type 0 where
+    pub honest : (logs.moment left).is_honest → (logs.moment handed).is_honest
     pub faults : (logs.moment left).fault_count ≡ (logs.moment handed).fault_count
     pub not_past : Honestly (logs.moment handed) (logs.moment left) (IsSomeAnd (logs.moment handed).content (λ c. ¬ IsPast c))
     pub raised : Honestly (logs.moment handed) (logs.moment left) (Makes with_bump (logs.moment handed).content (logs.moment left).content)

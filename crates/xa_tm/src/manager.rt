@@ -1,7 +1,7 @@
 //! The coordinator, with its log. A file for each of its steps.
 
 ghost use Rattle.std.specs.Prelude.{◌≡◌};
-ghost use Rattle.xa_tm.specs.Calls.{book_in};
+ghost use Rattle.xa_tm.specs.Calls.{book_in, log_in};
 
 mod abandon;
 mod begin;
@@ -46,5 +46,12 @@ impl<L: DecisionLog + Drop> Manager<L> {
         ensures { result ≡ (book_in self.now).incarnation }
     {
         self.ledger.incarnation()
+    }
+
+    /// Its log, where it ends.
+    pub fn into_log(self) -> L
+        ensures { result ≡ log_in self }
+    {
+        self.log
     }
 }

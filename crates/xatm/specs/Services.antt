@@ -1,16 +1,43 @@
 -- What is written to a driver.
-use Rattle.std.specs.Prelude.{ℕ, List, Option}
+use Rattle.std.specs.Prelude.{◌≡◌, ◌⊎◌, ℕ, Bool, List, Option}
+use Rattle.std.specs.Io.KnownBytes.{Keeps}
+use Rattle.xa_coordinator.specs.NamedLines.{BreaksSessionUnder, ServesUnder}
 use Rattle.xa_coordinator.specs.Replies.{greeting_of}
-use Rattle.xa_coordinator.specs.Serving.{BreaksSession, Serves}
 use Rattle.xa_coordinator.specs.declared.coordinator.Coordinator.{Coordinator}
+use Rattle.xa_files.specs.declared.fault.RunFault.TheVariants as faults
+use Rattle.xa_log.specs.Contract.{Honestly, Moment}
+use Rattle.xa_log.specs.declared.decision_log.DecisionLog as DecisionLog
+use Rattle.xa_model.specs.Trace.{Origin}
 use Rattle.xa_serve.specs.Following.{StandsAtStart}
+use Rattle.xa_serve.specs.Logging.{HoldsItsBook}
+use Rattle.xa_standings.specs.Explained.{IsOldLog}
+use Rattle.xa_tm.specs.Begins.{BeginsWith}
+use Rattle.xa_tm.specs.Calls.{log_in}
+use Rattle.xa_tm.specs.Started.{IsStartedOver}
+use Rattle.xa_tm.specs.StartFaults.{IsOnlyRead, IsToBlame}
+use Rattle.xatm.specs.declared.failure.Failure.{Failure}
+use Rattle.xatm.specs.declared.failure.Failure.TheVariants.{Run}
 
--- A session of a coordinator that started for so many threads and resource managers: its greeting, and a reply to each line.
-pub record IsServed {L : Type 0} (threads rms : ℕ) (unread left written all : Option (List ℕ)) (first last : Coordinator L) : Type 0 where
-  pub stands : StandsAtStart threads rms first.session
-  pub serves : Serves (greeting_of first) unread left written all first last
+module _ {L : Type 0} (moment : L → Moment) (name : List ℕ) (threads rms : ℕ) (handed : Moment) where
+  -- A coordinator that started for so many threads and resource managers, over the log that was handed in.
+  pub record Starts (first : Coordinator L) : Type 0 where
+    pub stands : StandsAtStart threads rms first.session
+    pub old : (o : Origin) → BeginsWith threads rms first.session.manager o → IsOldLog o
+    pub over : IsStartedOver moment threads rms handed first.session.manager
+    pub holds : (near : Bool) → Honestly handed (moment (log_in first.session.manager)) (HoldsItsBook moment near first.session.manager)
 
--- Such a session that was broken off: what was written is a beginning of that.
-pub record IsBrokenOff {L : Type 0} (threads rms : ℕ) (written all : Option (List ℕ)) (first last : Coordinator L) : Type 0 where
-  pub stands : StandsAtStart threads rms first.session
-  pub breaks : BreaksSession (greeting_of first) written all first last
+  -- Its session, as the manager of this name: its greeting, and a reply to each line.
+  pub record IsServed (unread left written all : Option (List ℕ)) (first last : Coordinator L) : Type 0 where
+    pub starts : Starts first
+    pub serves : ServesUnder moment name (greeting_of first) unread left written all first last
+
+  -- Such a session that was broken off: what was written is a beginning of that.
+  pub record IsBrokenOff (written all : Option (List ℕ)) (first last : Coordinator L) : Type 0 where
+    pub starts : Starts first
+    pub breaks : BreaksSessionUnder moment name (greeting_of first) written all first last
+
+-- No coordinator started over the log that was handed in: the log is to blame, or memory was refused, and it was only read. Nothing was
+-- written.
+pub record StartsNot {L : Type 0} (logs : DecisionLog.Ghosts L) (handed : L) (written all : Option (List ℕ)) (failure : Failure) : Type 0 where
+  pub silent : Keeps written all
+  pub why : ((failure ≡ Run faults.Log) × IsToBlame logs handed) ⊎ ((failure ≡ Run faults.Memory) × ((left : L) × IsOnlyRead logs handed left))

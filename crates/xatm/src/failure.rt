@@ -33,6 +33,10 @@ pub enum Failure {
     TooLong,
     /// The requests of a driver can't be read.
     Input,
+    /// The name of the manager is none.
+    Name,
+    /// The log is that of a manager of another name, or of one without.
+    OtherName,
 }
 
 impl Failure {
@@ -68,10 +72,10 @@ impl Failure {
         ensures { result ≡ failure_status self.now }
     {
         match self {
-            Failure::CommandLine(_) | Failure::Words => 3,
+            Failure::CommandLine(_) | Failure::Words | Failure::Name => 3,
             Failure::NotReadable => 1,
             Failure::NotReadableAt(_) => 1,
-            Failure::TooLong | Failure::Input => 2,
+            Failure::TooLong | Failure::Input | Failure::OtherName => 2,
             Failure::Run(fault) | Failure::RunAt(fault, _) => fault.status(),
         }
     }
@@ -87,6 +91,8 @@ impl Failure {
             Failure::RunAt(fault, path) => eprintln!(rt; "{fault}: {path}"),
             Failure::TooLong => eprintln!(rt; "xatm: chart: more than 200 events"),
             Failure::Input => eprintln!(rt; "xatm: input"),
+            Failure::Name => eprintln!(rt; "xatm: name: 1 to 16 letters, digits, _ and -"),
+            Failure::OtherName => eprintln!(rt; "xatm: log: of another name"),
         }
     }
 }

@@ -7,12 +7,14 @@
 
 mod command;
 mod failure;
+mod log_name;
 mod service;
 mod stores;
 mod stories;
 
 use crate::command::{Command, command_of, parser};
 use crate::failure::Failure;
+use crate::log_name::claim_log;
 use crate::service::serve_in_files;
 use crate::stores::{
     close_in_files, list_in_files, run_in_files, run_jobs_in_files, run_jobs_over, run_over,
@@ -26,6 +28,7 @@ use std::time::Clock;
 use std::{env, fs, io};
 use xa_files::RunFault;
 use xa_log::LogFault;
+use xa_names::ManagerName;
 use xa_sql_log::SqlLog;
 
 fn main(rt: HostRuntime) -> ExitCode {
@@ -82,7 +85,12 @@ fn perform<T: Threads + Wait + Clock + Sync>(
             log,
             &mut out,
         ),
-        Command::Serve { log, threads, rms } => serve(rt, log, threads, rms, &mut out),
+        Command::Serve {
+            name,
+            log,
+            threads,
+            rms,
+        } => serve(rt, &name_of(name)?, log, threads, rms, &mut out),
         Command::Log { path, explains } => list(rt, path, explains, &mut out),
     }
 }
@@ -181,9 +189,18 @@ fn run_threads<T: Threads + Wait + Clock + Sync, W: Write>(
     Ok(())
 }
 
-/// Serves the driver behind standard input and output over the log at a path.
+/// The name that a manager is given.
+fn name_of(text: Option<&str>) -> Result<ManagerName, Failure> {
+    match text {
+        Some(text) => ManagerName::of_text(text).ok_or(Failure::Name),
+        None => Ok(ManagerName::none()),
+    }
+}
+
+/// Serves the driver behind standard input and output over the log at a path, as the manager of this name.
 fn serve<W: Write>(
     rt: &HostRuntime,
+    name: &ManagerName,
     log: &str,
     threads: u32,
     rms: u32,
@@ -191,8 +208,9 @@ fn serve<W: Write>(
 ) -> Result<(), Failure> {
     let alloc = rt.alloc();
     let mut input = rt.reader();
+    claim_log(rt, log, name)?;
     let opened = SqlLog::open(rt, log)?;
-    let served = serve_in_files(alloc, threads, rms, opened, &mut input, out);
+    let served = serve_in_files(alloc, name, threads, rms, opened, &mut input, out);
     let gathered = gather(rt, log);
     served?;
     gathered?;

@@ -22,9 +22,12 @@ class TransactionManager:
     """Runs transactions over several databases, by the coordinator `xatm serve` (docs/SERVE.md).
 
     The databases are numbered by their places in the list. They and the log belong together for ever: another log, or the
-    same databases in another order, would end branches wrongly. One program at a time uses them.
+    same databases in another order, would end branches wrongly. One program at a time uses the log.
 
-    A transaction needs one of the coordinator's `threads` (1 to 8). `patience` says for how many seconds a transaction
+    Programs that share a database have each a log of its own and a `name` of its own, 1 to 16 letters, digits, _ and -: it
+    stands in the identifiers of the branches, and a program leaves those of other names alone. A log keeps its name.
+
+    A transaction needs one of the coordinator's `threads` (1 to 256). `patience` says for how many seconds a transaction
     waits for one, and how long a database that has no answer is asked again before it is left to the recovery.
 
     Any thread may use it, and has one transaction at a time. Where the coordinator ends, the next transaction starts it
@@ -35,6 +38,7 @@ class TransactionManager:
         databases: Sequence[Database],
         log: str,
         *,
+        name: str = "",
         threads: int = 8,
         patience: float = 30.0,
         program: str = "xatm",
@@ -43,7 +47,11 @@ class TransactionManager:
         self._databases = list(databases)
         self._threads = threads
         self._patience = patience
-        self._command = command or [program, "serve", "--log", log, str(threads), str(len(self._databases))]
+        self._name = name
+        named = ["--name", name] if name else []
+        self._command = command or [program, "serve", *named, "--log", log, str(threads), str(len(self._databases))]
+        for database in self._databases:
+            database.belong_to(name)
         self._lock = threading.Lock()
         self._session: Optional[Session] = None
         self._is_closed = False
@@ -103,5 +111,5 @@ class TransactionManager:
             if self._is_closed:
                 raise CoordinatorGone("the transaction manager is closed")
             if self._session is None or self._session.coordinator.is_gone:
-                self._session = Session(self._command, self._databases, self._threads, self._patience)
+                self._session = Session(self._command, self._databases, self._threads, self._patience, self._name)
             return self._session

@@ -29,8 +29,10 @@ DONE_AT_ONCE = 8
 class Session:
     """A session with the coordinator, which begins with the recovery of each database that can be reached."""
 
-    def __init__(self, command: Sequence[str], databases: Sequence[Database], threads: int, patience: float):
+    def __init__(self, command: Sequence[str], databases: Sequence[Database], threads: int, patience: float, name: str = ""):
         self.patience = patience
+        #: The coordinator's name, which stands in front of the transaction in its identifiers.
+        self.name = name.encode("ascii")
         self.coordinator = Coordinator.start(command, patience)
         self.commits = Commits(self.coordinator)
         self.threads = Threads(threads)

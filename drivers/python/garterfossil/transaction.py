@@ -35,9 +35,9 @@ class Outcome(enum.Enum):
 class Branch:
     """The part of a transaction at one database. A transaction gives it out (`t[0]`), and ends it."""
 
-    def __init__(self, line: Line, gtrid: str, thread: int):
+    def __init__(self, line: Line, name: bytes, gtrid: str, thread: int):
         line.make_ready()
-        self.xid = Xid(FORMAT, bytes.fromhex(gtrid), thread.to_bytes(4, "big") + line.rm.number.to_bytes(4, "big"))
+        self.xid = Xid(FORMAT, name + bytes.fromhex(gtrid), thread.to_bytes(4, "big") + line.rm.number.to_bytes(4, "big"))
         self.line = line
         self._connection = line.connection
         self._is_active = False
@@ -192,7 +192,7 @@ class Transaction:
         if rm not in self._branches:
             self._require_open()
             try:
-                branch = Branch(self._session.line(self._thread, rm), self.gtrid, self._thread)
+                branch = Branch(self._session.line(self._thread, rm), self._session.name, self.gtrid, self._thread)
                 self._branches[rm] = branch
                 branch.start()
             except BaseException as error:

@@ -39,5 +39,6 @@ class Xid:
 
     @property
     def transaction(self) -> str:
-        """The transaction, as requests name it: 32 hexadecimal digits for one of the coordinator's own."""
-        return self.gtrid.hex()
+        """The transaction, as requests name it: 32 hexadecimal digits for one of the coordinator's own. The coordinator's name, if
+        it has one, stands in front of these in the identifier."""
+        return self.gtrid[-16:].hex()

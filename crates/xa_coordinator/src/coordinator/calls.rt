@@ -5,6 +5,7 @@ ghost use Rattle.xa_coordinator.specs.Calls.{PerformsAnswer, PerformsIssue, answ
 ghost use Rattle.xa_base.specs.Answer.{answer_number};
 ghost use Rattle.xa_base.specs.Call.{xid_in};
 ghost use Rattle.xa_requests.specs.declared.response.Response.TheVariants as responses;
+ghost use Rattle.xa_serve.specs.Logging.{KeepsLog};
 ghost use Rattle.xa_serve.specs.Session.{IsReady};
 
 use super::Coordinator;
@@ -20,6 +21,8 @@ impl<L: DecisionLog + Drop> Coordinator<L> {
         requires { IsReady self.old.session }
         ensures ready { IsReady self.new.session }
         ensures performs { PerformsIssue thread rm call.now self.old result self.new }
+        ensures keeps { KeepsLog L.moment
+            self.old.session.manager self.new.session.manager }
     {
         let issued = self.session.issue(thread, rm, call);
         reply_of(issued, Response::Issued(call.copy()))
@@ -46,6 +49,8 @@ impl<L: DecisionLog + Drop> Coordinator<L> {
         requires { IsReady self.old.session }
         ensures ready { IsReady self.new.session }
         ensures performs { PerformsAnswer thread rm name.now answer.now self.old result self.new }
+        ensures keeps { KeepsLog L.moment
+            self.old.session.manager self.new.session.manager }
     {
         if self.waits_for_other(thread, rm, name) {
             return Response::Fault(RequestFault::OtherCall);

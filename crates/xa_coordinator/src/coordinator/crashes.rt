@@ -1,6 +1,7 @@
 //! Lines that are lost.
 
 ghost use Rattle.xa_coordinator.specs.Crashes.{LosesOne, PerformsCrashLine, PerformsCrashRm};
+ghost use Rattle.xa_serve.specs.Logging.{KeepsLog};
 ghost use Rattle.xa_serve.specs.Session.{IsReady};
 
 use super::Coordinator;
@@ -15,6 +16,8 @@ impl<L: DecisionLog + Drop> Coordinator<L> {
         requires { IsReady self.old.session }
         ensures ready { IsReady self.new.session }
         ensures loses { LosesOne thread rm self.old result self.new }
+        ensures keeps { KeepsLog L.moment
+            self.old.session.manager self.new.session.manager }
     {
         self.session.lose_line(thread, rm)
     }
@@ -24,6 +27,8 @@ impl<L: DecisionLog + Drop> Coordinator<L> {
         requires { IsReady self.old.session }
         ensures ready { IsReady self.new.session }
         ensures performs { PerformsCrashLine thread rm self.old result self.new }
+        ensures keeps { KeepsLog L.moment
+            self.old.session.manager self.new.session.manager }
     {
         let lost = self.lose(thread, rm);
         reply_of(lost, Response::Crashed)

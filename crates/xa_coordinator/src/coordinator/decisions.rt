@@ -4,6 +4,7 @@ ghost use Rattle.std.specs.Prelude.{◌≡◌, ◌∷◌, []};
 ghost use Rattle.xa_base.specs.declared.step.Outcome.TheVariants as Outcomes;
 ghost use Rattle.xa_coordinator.specs.Decisions.{PerformsAbandon, PerformsBegin, PerformsClaim, PerformsDecide, PerformsDone, PerformsSettle};
 ghost use Rattle.xa_coordinator.specs.Rows.{LogsRows, owed_without};
+ghost use Rattle.xa_serve.specs.Logging.{KeepsLog};
 ghost use Rattle.xa_serve.specs.Session.{IsReady};
 
 use super::Coordinator;
@@ -18,6 +19,8 @@ impl<L: DecisionLog + Drop> Coordinator<L> {
         requires { IsReady self.old.session }
         ensures ready { IsReady self.new.session }
         ensures performs { PerformsBegin thread self.old result self.new }
+        ensures keeps { KeepsLog L.moment
+            self.old.session.manager self.new.session.manager }
     {
         let begun = self.session.begin(thread);
         begun_reply(begun)
@@ -28,6 +31,8 @@ impl<L: DecisionLog + Drop> Coordinator<L> {
         requires { IsReady self.old.session }
         ensures ready { IsReady self.new.session }
         ensures performs { PerformsDecide gtrids.now outcome self.old result self.new }
+        ensures keeps { KeepsLog L.moment
+            self.old.session.manager self.new.session.manager }
         ensures rows { outcome ≡ Outcomes.Commit →
             LogsRows L.moment gtrids.now self.old.session result self.new.session }
     {
@@ -40,6 +45,8 @@ impl<L: DecisionLog + Drop> Coordinator<L> {
         requires { IsReady self.old.session }
         ensures ready { IsReady self.new.session }
         ensures performs { PerformsClaim gtrid self.old result self.new }
+        ensures keeps { KeepsLog L.moment
+            self.old.session.manager self.new.session.manager }
     {
         let taken = self.session.claim(gtrid);
         reply_of(taken, Response::Claimed)
@@ -50,6 +57,8 @@ impl<L: DecisionLog + Drop> Coordinator<L> {
         requires { IsReady self.old.session }
         ensures ready { IsReady self.new.session }
         ensures performs { PerformsSettle gtrid self.old result self.new }
+        ensures keeps { KeepsLog L.moment
+            self.old.session.manager self.new.session.manager }
         ensures rows { LogsRows L.moment (gtrid ∷ []) self.old.session result self.new.session }
     {
         let taken = self.session.settle(gtrid);
@@ -61,6 +70,8 @@ impl<L: DecisionLog + Drop> Coordinator<L> {
         requires { IsReady self.old.session }
         ensures ready { IsReady self.new.session }
         ensures performs { PerformsAbandon gtrid self.old result self.new }
+        ensures keeps { KeepsLog L.moment
+            self.old.session.manager self.new.session.manager }
     {
         let taken = self.session.abandon(gtrid);
         reply_of(taken, Response::Decided)
@@ -71,6 +82,8 @@ impl<L: DecisionLog + Drop> Coordinator<L> {
         requires { IsReady self.old.session }
         ensures ready { IsReady self.new.session }
         ensures performs { PerformsDone gtrids.now self.old result self.new }
+        ensures keeps { KeepsLog L.moment
+            self.old.session.manager self.new.session.manager }
     {
         match self.session.done_all(gtrids) {
             Ok(()) => {

@@ -3,6 +3,7 @@
 ghost use Rattle.std.specs.Prelude.{◌≡◌, IfOk};
 ghost use Rattle.xa_coordinator.specs.Recoveries.{PerformsOwed, PerformsResolve, PerformsResolveOpen};
 ghost use Rattle.xa_coordinator.specs.Rows.{owed_xids};
+ghost use Rattle.xa_serve.specs.Logging.{KeepsLog};
 ghost use Rattle.xa_serve.specs.Session.{IsReady};
 
 use super::Coordinator;
@@ -18,6 +19,8 @@ impl<L: DecisionLog + Drop> Coordinator<L> {
         requires { IsReady self.old.session }
         ensures ready { IsReady self.new.session }
         ensures performs { PerformsResolve rm self.old result self.new }
+        ensures keeps { KeepsLog L.moment
+            self.old.session.manager self.new.session.manager }
     {
         let resolved = self.session.resolve(rm);
         resolved_reply(resolved)
@@ -28,6 +31,8 @@ impl<L: DecisionLog + Drop> Coordinator<L> {
         requires { IsReady self.old.session }
         ensures ready { IsReady self.new.session }
         ensures performs { PerformsResolveOpen rm self.old result self.new }
+        ensures keeps { KeepsLog L.moment
+            self.old.session.manager self.new.session.manager }
     {
         let resolved = self.session.resolve_open(rm);
         resolved_reply(resolved)

@@ -8,8 +8,9 @@ ghost use Rattle.xa_line.specs.Grid.{line_at, new_grid, with_line};
 ghost use Rattle.xa_model.specs.Replies.History.{name_of};
 ghost use Rattle.xa_model.specs.Trace.{Call as KnownCall};
 ghost use Rattle.xa_serve.specs.Answering.{FailsToHear, HearsAs, IsFirst, IsFoundLater};
-ghost use Rattle.xa_serve.specs.Following.{StaysAs, StaysTied};
+ghost use Rattle.xa_serve.specs.Following.{StaysAs};
 ghost use Rattle.xa_serve.specs.Hearing.{with_answer};
+ghost use Rattle.xa_serve.specs.Logging.{KeepsLog};
 ghost use Rattle.xa_serve.specs.Session.{BranchExplains, IsExplainable, IsReady, unfit};
 ghost use Rattle.xa_serve.specs.declared.session.answers.Unfit.TheVariants as Unfits;
 
@@ -66,7 +67,7 @@ impl<L: DecisionLog + Drop> Session<L> {
             StaysAs self.old self.new) }
         ensures broken { result ≡ Err (Unfits.Refused Refusals.LogFault) →
             self.new.lines ≡ new_grid self.old.lines.threads self.old.lines.rms }
-        ensures tied { StaysTied L.moment self.old self.new }
+        ensures keeps { KeepsLog L.moment self.old.manager self.new.manager }
     {
         books_have_headroom();
         if let Some(refusal) = self.line_refusal(thread, rm) {

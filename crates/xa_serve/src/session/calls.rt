@@ -12,6 +12,7 @@ ghost use Rattle.xa_model.specs.Trace.{Call as KnownCall, Happening.Issued, line
 ghost use Rattle.xa_tm.specs.Book.{after};
 ghost use Rattle.xa_tm.specs.Calls.{book_in, log_in};
 ghost use Rattle.xa_serve.specs.Following.{Follows, StaysAs};
+ghost use Rattle.xa_serve.specs.Logging.{KeepsLog};
 ghost use Rattle.xa_serve.specs.Session.{IsReady, first_waiting, issue_refusal, line_refusal};
 
 use super::Session;
@@ -84,6 +85,7 @@ impl<L: DecisionLog + Drop> Session<L> {
         ensures stays { OnErr result (StaysAs self.old self.new) }
         // The log and the lines.
         ensures log { log_in self.new.manager ≡ log_in self.old.manager }
+        ensures keeps { KeepsLog L.moment self.old.manager self.new.manager }
         ensures lines { OnOk result (self.new.lines ≡ with_line self.old.lines thread rm
             (record (line_at self.old.lines thread rm) {
               calls = with_one_more (line_at self.old.lines thread rm).calls call.now;

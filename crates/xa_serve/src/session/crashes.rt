@@ -10,6 +10,7 @@ ghost use Rattle.xa_model.specs.Trace.{Happening.Crashed, line};
 ghost use Rattle.xa_tm.specs.Book.{after};
 ghost use Rattle.xa_tm.specs.Calls.{book_in, log_in};
 ghost use Rattle.xa_serve.specs.Following.{FollowsLoss, StaysAs};
+ghost use Rattle.xa_serve.specs.Logging.{KeepsLog};
 ghost use Rattle.xa_serve.specs.Session.{IsReady, known_waiting, line_refusal};
 
 use super::Session;
@@ -37,6 +38,7 @@ impl<L: DecisionLog + Drop> Session<L> {
             (known_waiting self.old.lines thread rm) self.old self.new) }
         // The log and the lines.
         ensures log { log_in self.new.manager ≡ log_in self.old.manager }
+        ensures keeps { KeepsLog L.moment self.old.manager self.new.manager }
         ensures lines { OnOk result
             (self.new.lines ≡ with_line self.old.lines thread rm no_traffic) }
         ensures lines_stay { OnErr result (self.new.lines ≡ self.old.lines) }

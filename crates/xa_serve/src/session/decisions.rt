@@ -7,7 +7,8 @@ ghost use Rattle.xa_base.specs.declared.step.Step.TheVariants as Steps;
 ghost use Rattle.xa_model.specs.Trace.{Fault.InDecide, Happening.Begun, Happening.Claimed, Happening.Decided};
 ghost use Rattle.xa_tm.specs.Book.{Doubt.Adds, after, rows_for};
 ghost use Rattle.xa_tm.specs.Calls.{FailsBy, book_in, log_in};
-ghost use Rattle.xa_serve.specs.Following.{Follows, StaysAs, StaysTied};
+ghost use Rattle.xa_serve.specs.Following.{Follows, StaysAs};
+ghost use Rattle.xa_serve.specs.Logging.{KeepsLog};
 ghost use Rattle.xa_serve.specs.Session.{IsReady, begin_refusal, lines_by, refusal_at};
 
 use super::Session;
@@ -38,6 +39,7 @@ impl<L: DecisionLog + Drop> Session<L> {
         ensures stays { OnErr result (StaysAs self.old self.new) }
         // The log and the lines.
         ensures log { log_in self.new.manager ≡ log_in self.old.manager }
+        ensures keeps { KeepsLog L.moment self.old.manager self.new.manager }
         ensures lines { self.new.lines ≡ self.old.lines }
     {
         books_have_headroom();
@@ -71,6 +73,7 @@ impl<L: DecisionLog + Drop> Session<L> {
         ensures stays { OnErr result (StaysAs self.old self.new) }
         // The log and the lines.
         ensures log { log_in self.new.manager ≡ log_in self.old.manager }
+        ensures keeps { KeepsLog L.moment self.old.manager self.new.manager }
         ensures lines { self.new.lines ≡ self.old.lines }
     {
         books_have_headroom();
@@ -107,7 +110,7 @@ impl<L: DecisionLog + Drop> Session<L> {
         // The log and the lines.
         ensures log { IfErr result (λ n. n ≢ Refusals.LogFault →
             log_in self.new.manager ≡ log_in self.old.manager) }
-        ensures tied { StaysTied L.moment self.old self.new }
+        ensures keeps { KeepsLog L.moment self.old.manager self.new.manager }
         ensures lines { self.new.lines ≡ lines_by result self.old.lines }
     {
         books_have_headroom();
@@ -137,6 +140,7 @@ impl<L: DecisionLog + Drop> Session<L> {
         ensures stays { OnErr result (StaysAs self.old self.new) }
         // The log and the lines.
         ensures log { log_in self.new.manager ≡ log_in self.old.manager }
+        ensures keeps { KeepsLog L.moment self.old.manager self.new.manager }
         ensures lines { self.new.lines ≡ self.old.lines }
     {
         books_have_headroom();

@@ -9,6 +9,7 @@ ghost use Rattle.xa_tm.specs.Book.{after};
 ghost use Rattle.xa_tm.specs.Calls.{book_in, log_in};
 ghost use Rattle.xa_tm.specs.Refusing.{resolved_in, resolved_open_in};
 ghost use Rattle.xa_serve.specs.Following.{Follows, StaysAs};
+ghost use Rattle.xa_serve.specs.Logging.{KeepsLog};
 ghost use Rattle.xa_serve.specs.Session.{IsReady, LetsWait, recovery_refusal, with_more};
 
 use super::Session;
@@ -61,6 +62,7 @@ impl<L: DecisionLog + Drop> Session<L> {
             (resolved_in (book_in self.old.manager) rm) self.old.lines self.new.lines) }
         // The manager.
         ensures manager { self.new.manager ≡ self.old.manager }
+        ensures keeps { KeepsLog L.moment self.old.manager self.new.manager }
         ensures follows { OnOk result (Follows (Resolved rm) self.old self.new) }
         ensures stays { OnErr result (StaysAs self.old self.new) }
     {
@@ -105,6 +107,7 @@ impl<L: DecisionLog + Drop> Session<L> {
         ensures follows { OnOk result (Follows (ResolvedOpen rm) self.old self.new) }
         ensures stays { OnErr result (StaysAs self.old self.new) }
         ensures log { log_in self.new.manager ≡ log_in self.old.manager }
+        ensures keeps { KeepsLog L.moment self.old.manager self.new.manager }
     {
         books_have_headroom();
         recoveries_are_read();

@@ -5,6 +5,7 @@ ghost use Rattle.xa_model.specs.Trace.{Trace};
 ghost use Rattle.xa_tm.specs.Calls.{book_in, log_in};
 ghost use Rattle.xa_tm.specs.Release.{HoldsNothingOf, IsOver, book_without};
 ghost use Rattle.xa_serve.specs.Following.{StandsIn};
+ghost use Rattle.xa_serve.specs.Logging.{KeepsLog};
 ghost use Rattle.xa_serve.specs.Session.{IsReady};
 
 use super::Session;
@@ -30,6 +31,7 @@ impl<L: DecisionLog + Drop> Session<L> {
         ensures happenings { self.new.happenings ≡ self.old.happenings }
         // The log, the lines and the monitor.
         ensures log { log_in self.new.manager ≡ log_in self.old.manager }
+        ensures keeps { KeepsLog L.moment self.old.manager self.new.manager }
         ensures lines { self.new.lines ≡ self.old.lines }
         ensures monitor { self.new.monitor ≡ self.old.monitor }
     {

@@ -6,7 +6,8 @@ ghost use Rattle.xa_model.specs.Trace.{Fault.InDecide, Fault.InDone, Happening.D
 ghost use Rattle.xa_tm.specs.Book.{Doubt.Drops, after_all};
 ghost use Rattle.xa_tm.specs.Calls.{FailsBy, book_in, log_in, written_by};
 ghost use Rattle.xa_tm.specs.InTurn.{rows_added};
-ghost use Rattle.xa_serve.specs.Following.{FollowsAll, StaysAs, StaysTied};
+ghost use Rattle.xa_serve.specs.Following.{FollowsAll, StaysAs};
+ghost use Rattle.xa_serve.specs.Logging.{KeepsLog};
 ghost use Rattle.xa_serve.specs.Session.{IsReady, decide_refusal, done_refusal, lines_by};
 
 use super::Session;
@@ -44,7 +45,7 @@ impl<L: DecisionLog + Drop> Session<L> {
         // The log and the lines.
         ensures log { IfErr result (λ n. n ≢ Refusals.LogFault →
             log_in self.new.manager ≡ log_in self.old.manager) }
-        ensures tied { StaysTied L.moment self.old self.new }
+        ensures keeps { KeepsLog L.moment self.old.manager self.new.manager }
         ensures lines { self.new.lines ≡ lines_by result self.old.lines }
     {
         books_have_headroom();
@@ -77,7 +78,7 @@ impl<L: DecisionLog + Drop> Session<L> {
         // The log and the lines.
         ensures log { IfErr result (λ n. n ≢ Refusals.LogFault →
             log_in self.new.manager ≡ log_in self.old.manager) }
-        ensures tied { StaysTied L.moment self.old self.new }
+        ensures keeps { KeepsLog L.moment self.old.manager self.new.manager }
         ensures lines { self.new.lines ≡ lines_by result self.old.lines }
     {
         books_have_headroom();

@@ -1,6 +1,6 @@
 //! The rows of several transactions are taken away by one write of the log, once none waits for anything more.
 
-ghost use Rattle.std.specs.Prelude.{◌≡◌, ◌≢◌, ◌∷◌, map, true, is_some, Bool, Some, None, Err, IfErr, OnOk};
+ghost use Rattle.std.specs.Prelude.{◌≡◌, ◌≢◌, [], ◌∷◌, map, true, is_some, Bool, Some, None, Err, IfErr, OnOk};
 ghost use Rattle.std.specs.List.{AllByRecursion};
 ghost use Rattle.xa_base.specs.declared.refusal.Refusal.TheVariants as Refusals;
 ghost use Rattle.xa_log.specs.Content.{without_decisions};
@@ -34,6 +34,7 @@ impl<L: DecisionLog + Drop> Manager<L> {
         ensures err { done_refusal (book_in self.old) gtrids.now ≡ None →
             IfErr result (FailsBy (Drops gtrids.now) (InDone gtrids.now)
             (book_in self.old) (book_in self.new)) }
+        ensures asked { result ≡ Err Refusals.LogFault → gtrids.now ≢ [] }
         // What becomes of the log.
         ensures tied { (near : Bool) → (L.moment (log_in self.old)).is_in_order →
             (L.moment (log_in self.new)).is_honest →
@@ -41,6 +42,7 @@ impl<L: DecisionLog + Drop> Manager<L> {
             IsTied near (book_in self.new) (L.moment (log_in self.new)).content }
         ensures kept { IfErr result
             (λ n. n ≢ Refusals.LogFault → log_in self.new ≡ log_in self.old) }
+        ensures without_row { gtrids.now ≡ [] → log_in self.new ≡ log_in self.old }
         ensures asks { AsksFor (changed_by (Drops gtrids.now))
             (L.moment (log_in self.old)) (L.moment (log_in self.new)) result }
     {
@@ -57,6 +59,7 @@ impl<L: DecisionLog + Drop> Manager<L> {
             after_all (book_in self.old) (map (λ g. Done g) gtrids.now)) }
         ensures err { IfErr result (FailsBy (Drops gtrids.now) (InDone gtrids.now)
             (book_in self.old) (book_in self.new)) }
+        ensures asked { result ≡ Err Refusals.LogFault → gtrids.now ≢ [] }
         // What becomes of the log.
         ensures tied { (near : Bool) → (L.moment (log_in self.old)).is_in_order →
             (L.moment (log_in self.new)).is_honest →
@@ -64,6 +67,7 @@ impl<L: DecisionLog + Drop> Manager<L> {
             IsTied near (book_in self.new) (L.moment (log_in self.new)).content }
         ensures kept { IfErr result
             (λ n. n ≢ Refusals.LogFault → log_in self.new ≡ log_in self.old) }
+        ensures without_row { gtrids.now ≡ [] → log_in self.new ≡ log_in self.old }
         ensures asks { AsksFor (changed_by (Drops gtrids.now))
             (L.moment (log_in self.old)) (L.moment (log_in self.new)) result }
     {

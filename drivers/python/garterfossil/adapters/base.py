@@ -49,6 +49,9 @@ class Database(abc.ABC):
             return False
         return True
 
+    def belong_to(self, name: str) -> None:
+        """The driver's coordinator has this name, or none: `end_connections` ends no connections of drivers of another name."""
+
     @abc.abstractmethod
     def end_connections(self, kept: Collection[int]) -> None:
         """Ends all connections that drivers have to this database but those of these numbers, and waits until they are gone:

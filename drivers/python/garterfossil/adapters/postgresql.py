@@ -26,8 +26,8 @@ class PostgreSQL(Database):
     """A database of PostgreSQL. Its setting `max_prepared_transactions` has to be at least the number of threads; the
     default is 0.
 
-    `dsn` and `parameters` are those of psycopg2.connect. `name` is the application_name of the driver's connections: no
-    other program uses it with the same user. `lock_timeout` is for how many seconds a statement waits for a lock: no
+    `dsn` and `parameters` are those of psycopg2.connect. `name` is the application_name of the driver's connections, behind
+    which the coordinator's name comes, if it has one: no other program uses that with the same user. `lock_timeout` is for how many seconds a statement waits for a lock: no
     database sees a deadlock that goes over two of them."""
 
     def __init__(self, dsn: str = "", *, name: str = "garterfossil", lock_timeout: float = 10.0, **parameters: Any):
@@ -35,6 +35,10 @@ class PostgreSQL(Database):
         self._parameters = parameters
         self._name = name
         self._lock_timeout = lock_timeout
+
+    def belong_to(self, name: str) -> None:
+        if name:
+            self._name = f"{self._name} {name}"
 
     def connect(self) -> PostgreSQLConnection:
         return PostgreSQLConnection(self._link(self._name), self._lock_timeout)

@@ -4,6 +4,5 @@ use Rattle.uses.proofs.serve.served.Goals as goal
 pub returns-in-Ok-serve : goal.returns-in-Ok-serve
 returns-in-Ok-serve c =
     let made = c.in-Ok.ensures in
-    is_served 1 1 c.in-Ok.coordinator c.serve.new.self c.args.text.now c.serve.new.input.now c.new-written.result.items c.serve.new.output.items
-    made.stands made.old c.new-written.ensures.items c.in-Ok-serve.ensures.served c.served_sessions_are_explained.ensures.explained
-    c.across_processes.ensures.own
+    is_served _ c.args.threads c.args.rms c.in-Ok.coordinator c.serve.new.self c.args.text.now c.serve.new.input.now c.new-written.result.items c.serve.new.output.items
+    made.stands made.old c.new-written.ensures.items c.in-Ok-serve.ensures.served c.served_databases_agree.ensures.agree

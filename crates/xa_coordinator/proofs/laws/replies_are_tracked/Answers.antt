@@ -10,4 +10,4 @@ returns g c = λ o seen request reply old new keeps does none.
       refusals = c.refusals_are_tracked.ensures;
       releases = c.releases_are_tracked.ensures;
     } in
-    reply_tracked laws o seen request reply old new keeps does none
+    reply_tracked laws o g.L.DecisionLog.moment seen request reply old new keeps does none

@@ -11,4 +11,4 @@ returns g c = λ o seen lines replies old new keeps have.
       refusals = c.refusals_are_tracked.ensures;
       releases = c.releases_are_tracked.ensures;
     } in
-    replies_tracked laws o lines replies old.session.lines.threads seen old new keeps refl have
+    replies_tracked laws o g.L.DecisionLog.moment lines replies old.session.lines.threads seen old new keeps refl have

@@ -1,3 +1,4 @@
+use Rattle.xa_standings.proofs.Agreeing.{agreed, agreed_across}
 use Rattle.xa_standings.proofs.Choices.{chosen, gone_on}
 use Rattle.xa_standings.proofs.explained.answers_are_explained.Goals as goal
 
@@ -9,3 +10,9 @@ returns-clause-some c o seen old keeps may = (chosen o seen old keeps (λ b. (ma
 
 pub returns-clause-across : goal.returns-clause-across
 returns-clause-across c past o seen a r old keeps f may = gone_on past o seen a r old keeps f may
+
+pub returns-clause-agree : goal.returns-clause-agree
+returns-clause-agree c o seen old keeps f so = agreed o seen old keeps f so
+
+pub returns-clause-agree_across : goal.returns-clause-agree_across
+returns-clause-agree_across c past o seen a r old keeps known f so = agreed_across past o seen a r old keeps known f so

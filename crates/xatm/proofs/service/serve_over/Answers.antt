@@ -1,16 +1,61 @@
-use Rattle.std.proofs.Common.{inr}
+use Rattle.std.proofs.Common.{◌≡◌, ◌⊎◌, inl, inr, ℕ, List, Option, refl, sym, subst}
+use Rattle.std.specs.Prelude.{Result, Err}
 use Rattle.std.proofs.lemmas.Result.{err_from_is_err_and}
+use Rattle.xa_coordinator.proofs.LineLemmas.{keeps_all}
+use Rattle.xa_log.specs.declared.decision_log.DecisionLog as DecisionLog
+use Rattle.xa_tm.specs.StartFaults.{IsOnlyRead, IsToBlame}
+use Rattle.xa_tm.specs.declared.manager.start.StartFault.{StartFault}
+use Rattle.xa_tm.specs.declared.manager.start.StartFault.TheVariants as starts
+use Rattle.xa_files.specs.declared.fault.RunFault.TheVariants as faults
+use Rattle.xatm.specs.Failures.{failure_of_start}
+use Rattle.xatm.specs.Services.{StartsNot}
+use Rattle.xatm.specs.declared.failure.Failure.{Failure}
+use Rattle.xatm.specs.declared.failure.Failure.TheVariants.{Run}
 use Rattle.xatm.proofs.service.serve_over.Goals as goal
 
-pub returns-in_err-serve-clause-broken : goal.returns-in_err-serve-clause-broken
-returns-in_err-serve-clause-broken g c =
-    let p = err_from_is_err_and c.from_residual-in_err-serve.result c.from_residual-in_err-serve.ensures.1 in
+-- why no coordinator starts
+why_not : {C : Type 0} (fault : StartFault) (A B : Type 0) → ((let r : Result C StartFault = Err fault in r) ≡ Err starts.Log → A)
+    → ((let r : Result C StartFault = Err fault in r) ≡ Err starts.Memory → B)
+    → ((failure_of_start fault ≡ Run faults.Log) × A) ⊎ ((failure_of_start fault ≡ Run faults.Memory) × B)
+why_not starts.Log A B log memory = inl (refl, log refl)
+why_not starts.Memory A B log memory = inr (refl, memory refl)
+
+starts_not : {L C : Type 0} (logs : DecisionLog.Ghosts L) (handed : L) (written : Option (List ℕ)) (fault : StartFault) (failure : Failure)
+    → ((let r : Result C StartFault = Err fault in r) ≡ Err starts.Log → IsToBlame logs handed)
+    → ((let r : Result C StartFault = Err fault in r) ≡ Err starts.Memory → ((left : L) × IsOnlyRead logs handed left))
+    → failure ≡ failure_of_start fault → StartsNot logs handed written written failure
+starts_not {L = L} logs handed written fault failure log memory is = record {
+  silent = keeps_all written;
+  why = subst (λ f. ((f ≡ Run faults.Log) × IsToBlame logs handed) ⊎ ((f ≡ Run faults.Memory) × ((left : L) × IsOnlyRead logs handed left))) (sym is)
+      (why_not fault (IsToBlame logs handed) ((left : L) × IsOnlyRead logs handed left) log memory);
+}
+
+pub returns-in_err-coordinator-clause-broken : goal.returns-in_err-coordinator-clause-broken
+returns-in_err-coordinator-clause-broken g c =
+    let p = err_from_is_err_and c.from_residual.result c.from_residual.ensures.1 in
+    let e = c.in_err-coordinator.ensures in
+    rw p.1 (inl (starts_not g.L.DecisionLog c.args.log (g.W.Write.contents c.args.out.now) _ p.0 e.log_fault e.memory_fault p.2))
+
+pub returns-in_err-serve_under-clause-broken : goal.returns-in_err-serve_under-clause-broken
+returns-in_err-serve_under-clause-broken g c =
+    let p = err_from_is_err_and c.from_residual-in_err-serve_under.result c.from_residual-in_err-serve_under.ensures.1 in
+    let made = c.in_ok-coordinator.ensures in
     rw p.1 (inr (
       c.in_ok-coordinator.coordinator,
-      c.serve.new.self,
-      record { stands = c.in_ok-coordinator.ensures.stands; breaks = c.in_err-serve.ensures.broken },
+      c.serve_under.new.self,
+      record {
+        starts = record { stands = made.stands; old = made.old; over = made.over; holds = made.holds };
+        breaks = c.in_err-serve_under.ensures.broken;
+      },
     ))
 
 pub returns-clause-served : goal.returns-clause-served
 returns-clause-served g c =
-    (c.in_ok-coordinator.coordinator, c.serve.new.self, record { stands = c.in_ok-coordinator.ensures.stands; serves = c.in_ok-serve.ensures.served })
+    let made = c.in_ok-coordinator.ensures in (
+      c.in_ok-coordinator.coordinator,
+      c.serve_under.new.self,
+      record {
+        starts = record { stands = made.stands; old = made.old; over = made.over; holds = made.holds };
+        serves = c.in_ok-serve_under.ensures.served;
+      },
+    )

@@ -1,5 +1,7 @@
 use Rattle.std.proofs.Common.{◌≡◌, refl, subst, sym}
 use Rattle.xa_base.specs.declared.step.Outcome.TheVariants as Outcomes
+use Rattle.xa_coordinator.proofs.LogLemmas.{lines_keep}
+use Rattle.xa_serve.proofs.Logging.{kept}
 use Rattle.xa_coordinator.proofs.UnchangedLemmas.{not_done}
 use Rattle.xa_coordinator.proofs.RowLemmas.{decided_rows}
 use Rattle.xa_coordinator.specs.Performing.{Does}
@@ -37,3 +39,20 @@ pub returns-in-Settle-clause-rows : goal.returns-in-Settle-clause-rows
 returns-in-Settle-clause-rows g c =
     subst (λ q. LogsRows g.L.DecisionLog.moment (committed_by q) c.args.self.now.session c.settle.result c.settle.new.self.session) (sym c.in-Settle.is)
     c.settle.ensures.rows
+
+pub returns-in-CrashRm-clause-keeps : goal.returns-in-CrashRm-clause-keeps
+returns-in-CrashRm-clause-keeps g c =
+    lines_keep g.L.DecisionLog.moment c.in-CrashRm.rm 0 c.args.self.now.session.lines.threads c.crash_rm.result c.args.self.now c.crash_rm.new.self
+    c.crash_rm.ensures.performs
+
+pub returns-in-Waiting-clause-keeps : goal.returns-in-Waiting-clause-keeps
+returns-in-Waiting-clause-keeps g c = kept g.L.DecisionLog.moment c.args.self.now.session.manager
+
+pub returns-in-Owed-clause-keeps : goal.returns-in-Owed-clause-keeps
+returns-in-Owed-clause-keeps g c = kept g.L.DecisionLog.moment c.args.self.now.session.manager
+
+pub returns-in-Status-clause-keeps : goal.returns-in-Status-clause-keeps
+returns-in-Status-clause-keeps g c = kept g.L.DecisionLog.moment c.args.self.now.session.manager
+
+pub returns-in-Quit-clause-keeps : goal.returns-in-Quit-clause-keeps
+returns-in-Quit-clause-keeps g c = kept g.L.DecisionLog.moment c.args.self.now.session.manager

@@ -1,4 +1,5 @@
 use Rattle.std.proofs.Common.{◌∙◌, ap, refl, subst, sym}
+use Rattle.xa_serve.proofs.Logging.{kept}
 use Rattle.xa_coordinator.proofs.AnswerLemmas.{hears_it}
 use Rattle.xa_coordinator.specs.Calls.{Hears, answer_reply}
 use Rattle.xa_coordinator.proofs.coordinator.Coordinator.answer.Goals as goal
@@ -25,3 +26,9 @@ returns-clause-performs g c =
       told = c.answer_reply.ensures ∙ ap (λ r. answer_reply r call.result) c.heard_of-reply.ensures;
       rest = refl;
     })
+
+pub returns-then-waits_for_other-clause-keeps : goal.returns-then-waits_for_other-clause-keeps
+returns-then-waits_for_other-clause-keeps g c = kept g.L.DecisionLog.moment c.args.self.now.session.manager
+
+pub returns-in_default-clause-keeps : goal.returns-in_default-clause-keeps
+returns-in_default-clause-keeps g c = kept g.L.DecisionLog.moment c.args.self.now.session.manager

@@ -31,4 +31,4 @@ returns-clause-rows g c = λ commit.
     told_rows g.L.DecisionLog.moment old call.new.self gs c.reply_of.result call.result c.reply_of.ensures
     (decide_up old gs c.args.outcome call.result call.ensures.allowed)
     (subst (λ o. OnOk call.result (book_in call.new.self.manager ≡ after_all (book_in old.manager) (map (λ g. Decided g o) gs))) commit call.ensures.ok)
-    call.ensures.tied
+    call.ensures.keeps

@@ -1,14 +1,25 @@
 use Rattle.std.proofs.Common.{subst, sym}
 use Rattle.xa_coordinator.proofs.ReleaseLemmas.{all_is_same, is_forgotten, log_stays}
+use Rattle.xa_coordinator.proofs.LogLemmas.{releases_keep}
 use Rattle.xa_coordinator.specs.Performing.{ChangesNothing}
 use Rattle.xa_coordinator.specs.Releasing.{ReleasesAll, ended_by}
 use Rattle.xa_coordinator.specs.Rows.{HasRow}
+use Rattle.xa_serve.proofs.Logging.{both_keep}
 use Rattle.xa_tm.specs.Book.{voted_yes}
 use Rattle.xa_tm.specs.Calls.{book_in}
 use Rattle.xa_coordinator.proofs.coordinator.Coordinator.perform.Goals as goal
 
 pub returns-clause-performs : goal.returns-clause-performs
-returns-clause-performs g c = (c.act-reply.new.self, c.act-reply.ensures.does, c.release_ended.ensures.releases)
+returns-clause-performs g c =
+    let moment = g.L.DecisionLog.moment in
+    let mid = c.act-reply.new.self in
+    record {
+      mid = mid;
+      does = c.act-reply.ensures.does;
+      releases = c.release_ended.ensures.releases;
+      keeps = both_keep moment c.args.self.now.session.manager mid.session.manager c.release_ended.new.self.session.manager c.act-reply.ensures.keeps
+          (releases_keep moment (ended_by c.args.request.now c.act-reply.result) mid c.release_ended.new.self c.release_ended.ensures.releases);
+    }
 
 pub returns-clause-unchanged : goal.returns-clause-unchanged
 returns-clause-unchanged g c = λ one undone.

@@ -1,71 +1,32 @@
-use Rattle.std.proofs.Common.{subst}
-use Rattle.xa_coordinator.proofs.ServingLemmas.{broken_off, greeted, no_more, not_greeted, on_err, one_more, the_last}
-use Rattle.xa_coordinator.specs.Lines.{line_of}
+use Rattle.std.proofs.Common.{[], OnErr, OnOk, subst}
+use Rattle.xa_coordinator.proofs.ServingLemmas.{breaks_as_is, on_err_as, on_ok_as, serves_as_is}
+use Rattle.xa_coordinator.specs.NamedLines.{BreaksSessionUnder, ServesUnder}
 use Rattle.xa_coordinator.specs.Replies.{greeting_of}
-use Rattle.xa_coordinator.specs.Serving.{BreaksSession, ServesLine}
-use Rattle.std.specs.Io.KnownBytes.{Appends}
-use Rattle.xa_files.specs.Outputs.{AppendsBeginning}
+use Rattle.xa_coordinator.specs.Serving.{BreaksSession, Serves}
 use Rattle.xa_coordinator.proofs.coordinator.Coordinator.serve.Goals as goal
 
-pub returns-in_err-write_reply-clause-broken : goal.returns-in_err-write_reply-clause-broken
-returns-in_err-write_reply-clause-broken g c =
+pub returns : goal.returns
+returns g c =
     let contents = g.W.Write.contents in
+    let left = g.R.Read.remaining in
     let s = c.args.self.now in
-    on_err c.from_residual.result (BreaksSession (greeting_of s) (contents c.args.output.now) (contents c.write_reply.new.output) s s)
-    (not_greeted (greeting_of s) (contents c.args.output.now) (contents c.write_reply.new.output) s
-    (subst (λ r. AppendsBeginning (contents c.args.output.now) (contents c.write_reply.new.output) (line_of r)) c.greeting-greeting.ensures
-    c.in_err-write_reply.ensures.err))
-
-pub loop-init : goal.loop-init
-loop-init g c =
-    let contents = g.W.Write.contents in
-    let s = c.args.self.now in
+    let law = c.without_a_name_nothing_changes.ensures.lines in
+    let result = c.serve_under.result in
+    let new = c.serve_under.new in
+    let greeting = greeting_of s in
     record {
-      ready = c.requires;
-      some = greeted (greeting_of s) (g.R.Read.remaining c.args.input.now) (contents c.args.output.now) (contents c.write_reply.new.output) s
-          (subst (λ r. Appends (contents c.args.output.now) (contents c.write_reply.new.output) (line_of r)) c.greeting-greeting.ensures
-          c.in_ok-write_reply.ensures.ok);
+      ready = c.serve_under.ensures.ready;
+      served = on_ok_as result
+          (ServesUnder g.L.DecisionLog.moment [] greeting (left c.args.input.now) (left new.input) (contents c.args.output.now) (contents new.output) s new.self)
+          (Serves g.L.DecisionLog.moment greeting (left c.args.input.now) (left new.input) (contents c.args.output.now) (contents new.output) s new.self)
+          (serves_as_is law g.L.DecisionLog.moment greeting (left c.args.input.now) (left new.input) (contents c.args.output.now) (contents new.output) s new.self)
+          (subst (λ n. OnOk result
+          (ServesUnder g.L.DecisionLog.moment n greeting (left c.args.input.now) (left new.input) (contents c.args.output.now) (contents new.output) s new.self))
+          c.none.ensures c.serve_under.ensures.served);
+      broken = on_err_as result
+          (BreaksSessionUnder g.L.DecisionLog.moment [] greeting (contents c.args.output.now) (contents new.output) s new.self)
+          (BreaksSession g.L.DecisionLog.moment greeting (contents c.args.output.now) (contents new.output) s new.self)
+          (breaks_as_is law g.L.DecisionLog.moment greeting (contents c.args.output.now) (contents new.output) s new.self)
+          (subst (λ n. OnErr result (BreaksSessionUnder g.L.DecisionLog.moment n greeting (contents c.args.output.now) (contents new.output) s new.self))
+          c.none.ensures c.serve_under.ensures.broken);
     }
-
-pub returns-in_err-serve_line-clause-broken : goal.returns-in_err-serve_line-clause-broken
-returns-in_err-serve_line-clause-broken g c =
-    let contents = g.W.Write.contents in
-    let left = g.R.Read.remaining in
-    let s = c.args.self.now in
-    on_err c.from_residual-in_err-serve_line.result
-    (BreaksSession (greeting_of s) (contents c.args.output.now) (contents c.serve_line.new.output) s c.serve_line.new.self)
-    (broken_off (greeting_of s) (left c.args.input.now) (left c.loop.input) (contents c.args.output.now) (contents c.loop.output)
-    (contents c.serve_line.new.output)
-    s c.loop.self c.serve_line.new.self c.loop.invariant.some c.in_err-serve_line.ensures.err)
-
-pub returns-then-not-branch-clause-served : goal.returns-then-not-branch-clause-served
-returns-then-not-branch-clause-served g c =
-    let contents = g.W.Write.contents in
-    let left = g.R.Read.remaining in
-    let s = c.args.self.now in
-    the_last (greeting_of s) (left c.args.input.now) (left c.loop.input) (left c.serve_line.new.input) (contents c.args.output.now) (contents c.loop.output)
-    (contents c.serve_line.new.output) s c.loop.self c.serve_line.new.self c.loop.invariant.some
-    (subst (ServesLine (left c.loop.input) (left c.serve_line.new.input) (contents c.loop.output) (contents c.serve_line.new.output) c.loop.self
-    c.serve_line.new.self) c.if-not-branch.true c.in_ok-serve_line.ensures.ok)
-
-pub loop-preserved : goal.loop-preserved
-loop-preserved g c =
-    let contents = g.W.Write.contents in
-    let left = g.R.Read.remaining in
-    let s = c.args.self.now in
-    record {
-      ready = c.serve_line.ensures.ready;
-      some = one_more (greeting_of s) (left c.args.input.now) (left c.loop.input) (left c.serve_line.new.input) (contents c.args.output.now)
-          (contents c.loop.output)
-          (contents c.serve_line.new.output) s c.loop.self c.serve_line.new.self c.loop.invariant.some
-          (subst (ServesLine (left c.loop.input) (left c.serve_line.new.input) (contents c.loop.output) (contents c.serve_line.new.output) c.loop.self
-          c.serve_line.new.self) c.if-not-branch.false c.in_ok-serve_line.ensures.ok);
-    }
-
-pub returns-clause-broken : goal.returns-clause-broken
-returns-clause-broken g c =
-    let contents = g.W.Write.contents in
-    let left = g.R.Read.remaining in
-    let s = c.args.self.now in
-    no_more (greeting_of s) (left c.args.input.now) (left c.loop.input) (contents c.args.output.now) (contents c.loop.output) s c.loop.self
-    c.loop.invariant.some

@@ -1,44 +1,46 @@
 use Rattle.std.proofs.Common.{◌∙◌, subst, sym}
 use Rattle.xa_coordinator.proofs.ServingLemmas.{at_end, off_at_once, off_behind, on_err, one_line}
-use Rattle.xa_coordinator.specs.Serving.{BreaksOff, RepliesTo, ServesLine}
+use Rattle.xa_coordinator.specs.NamedLines.{line_read}
+use Rattle.xa_coordinator.specs.Serving.{RepliesTo}
+use Rattle.xa_coordinator.specs.ServingLines.{BreaksOff, ServesLine}
 use Rattle.xa_coordinator.proofs.coordinator.Coordinator.serve_line.Goals as goal
 
 pub returns-in_err-line-clause-err : goal.returns-in_err-line-clause-err
 returns-in_err-line-clause-err g c =
     let contents = g.W.Write.contents in
-    on_err c.from_residual.result (BreaksOff (contents c.args.output.now) (contents c.args.output.now) c.args.self.now c.args.self.now)
-    (off_at_once (contents c.args.output.now) c.args.self.now)
+    on_err c.from_residual.result (BreaksOff g.L.DecisionLog.moment c.args.name.now (contents c.args.output.now) (contents c.args.output.now) c.args.self.now c.args.self.now)
+    (off_at_once g.L.DecisionLog.moment c.args.name.now (contents c.args.output.now) c.args.self.now)
 
 pub returns-in_err-reply-clause-err : goal.returns-in_err-reply-clause-err
 returns-in_err-reply-clause-err g c =
     let all = g.W.Write.contents c.args.output.now in
-    on_err c.from_residual-in_err-reply.result (BreaksOff all all c.args.self.now c.reply_to.new.self)
-    (subst (λ s. BreaksOff all all c.args.self.now s) (sym c.in_err-reply.ensures.err) (off_at_once all c.args.self.now))
+    on_err c.from_residual-in_err-reply.result (BreaksOff g.L.DecisionLog.moment c.args.name.now all all c.args.self.now c.reply_to.new.self)
+    (subst (λ s. BreaksOff g.L.DecisionLog.moment c.args.name.now all all c.args.self.now s) (sym c.in_err-reply.ensures.err) (off_at_once g.L.DecisionLog.moment c.args.name.now all c.args.self.now))
 
 pub returns-in_err-write_reply-clause-err : goal.returns-in_err-write_reply-clause-err
 returns-in_err-write_reply-clause-err g c =
     let contents = g.W.Write.contents in
     on_err c.from_residual-in_err-write_reply.result
-    (BreaksOff (contents c.args.output.now) (contents c.write_reply.new.output) c.args.self.now c.reply_to.new.self)
-    (off_behind (contents c.args.output.now) (contents c.write_reply.new.output) c.in_ok-line.line.bytes.items c.in_ok-reply.reply c.args.self.now
+    (BreaksOff g.L.DecisionLog.moment c.args.name.now (contents c.args.output.now) (contents c.write_reply.new.output) c.args.self.now c.reply_to.new.self)
+    (off_behind g.L.DecisionLog.moment c.args.name.now (contents c.args.output.now) (contents c.write_reply.new.output) (line_read c.args.name.now c.in_ok-line.line.bytes.items) c.in_ok-reply.reply c.args.self.now
     c.reply_to.new.self
-    (subst (λ l. RepliesTo l c.args.self.now c.in_ok-reply.reply c.reply_to.new.self) c.deref.ensures.value c.in_ok-reply.ensures.ok)
+    (subst (λ l. RepliesTo g.L.DecisionLog.moment (line_read c.args.name.now l) c.args.self.now c.in_ok-reply.reply c.reply_to.new.self) c.deref.ensures.value c.in_ok-reply.ensures.ok)
     c.in_err-write_reply.ensures.err)
 
 pub returns-then-is_nothing-clause-ok : goal.returns-then-is_nothing-clause-ok
 returns-then-is_nothing-clause-ok g c =
     let left = g.R.Read.remaining in
-    at_end (left c.args.input.now) (left c.read_line.new.input) (g.W.Write.contents c.args.output.now) c.in_ok-line.line.bytes.items c.in_ok-line.line.is_ended
+    at_end g.L.DecisionLog.moment c.args.name.now (left c.args.input.now) (left c.read_line.new.input) (g.W.Write.contents c.args.output.now) c.in_ok-line.line.bytes.items c.in_ok-line.line.is_ended
     c.args.self.now c.in_ok-line.ensures (sym c.is_nothing.ensures ∙ c.if-is_nothing.true)
 
 pub returns-clause-ok : goal.returns-clause-ok
 returns-clause-ok g c =
     let left = g.R.Read.remaining in
     let contents = g.W.Write.contents in
-    subst (ServesLine (left c.args.input.now) (left c.read_line.new.input) (contents c.args.output.now) (contents c.write_reply.new.output) c.args.self.now
+    subst (ServesLine g.L.DecisionLog.moment c.args.name.now (left c.args.input.now) (left c.read_line.new.input) (contents c.args.output.now) (contents c.write_reply.new.output) c.args.self.now
     c.reply_to.new.self) (sym c.goes_on.ensures)
-    (one_line (left c.args.input.now) (left c.read_line.new.input) (contents c.args.output.now) (contents c.write_reply.new.output)
+    (one_line g.L.DecisionLog.moment c.args.name.now (left c.args.input.now) (left c.read_line.new.input) (contents c.args.output.now) (contents c.write_reply.new.output)
     c.in_ok-line.line.bytes.items c.in_ok-line.line.is_ended c.in_ok-reply.reply c.args.self.now c.reply_to.new.self
     c.in_ok-line.ensures (sym c.is_nothing.ensures ∙ c.if-is_nothing.false)
-    (subst (λ l. RepliesTo l c.args.self.now c.in_ok-reply.reply c.reply_to.new.self) c.deref.ensures.value c.in_ok-reply.ensures.ok)
+    (subst (λ l. RepliesTo g.L.DecisionLog.moment (line_read c.args.name.now l) c.args.self.now c.in_ok-reply.reply c.reply_to.new.self) c.deref.ensures.value c.in_ok-reply.ensures.ok)
     c.in_ok-write_reply.ensures.ok)

@@ -25,4 +25,4 @@ returns-clause-rows g c =
     let call = c.settle-taken in
     let old = c.args.self.now.session in
     told_rows g.L.DecisionLog.moment old call.new.self (c.args.gtrid ∷ []) c.reply_of.result call.result c.reply_of.ensures
-    (settled_up old c.args.gtrid call.result call.ensures.allowed) call.ensures.ok call.ensures.tied
+    (settled_up old c.args.gtrid call.result call.ensures.allowed) call.ensures.ok call.ensures.keeps

@@ -8,6 +8,7 @@ use Rattle.xa_tm.specs.Refusing.{refusal_in}
 use Rattle.xa_serve.proofs.Following.{abandoned_follows}
 use Rattle.xa_serve.proofs.Refusals.{begun_if_abandoned}
 use Rattle.xa_serve.proofs.Sessions.{has_few, refused_or, same_leaves, stays_by, step_leaves}
+use Rattle.xa_serve.proofs.Logging.{quiet_keeps, same_abandoned, same_book}
 use Rattle.xa_serve.proofs.session.Session.abandon.Goals as goal
 
 pub returns-in-Ok-clause-ready : goal.returns-in-Ok-clause-ready
@@ -36,3 +37,17 @@ returns-in-Err-clause-stays g c =
     stays_by s _
     (refused_or (refusal_in (book_in s.manager) (Steps.Abandon c.args.gtrid)) _ _
     (λ n is. ap book_in (c.in-Err.ensures.refused n is).1) (λ none. (c.in-Err.ensures.err none).1)) c.in-Err.ensures.log
+
+pub returns-in-Ok-clause-keeps : goal.returns-in-Ok-clause-keeps
+returns-in-Ok-clause-keeps g c =
+    let s = c.args.self.now in
+    quiet_keeps g.L.DecisionLog.moment s.manager c.abandon.new.self c.in-Ok.ensures.log
+    (same_abandoned (book_in s.manager) (book_in c.abandon.new.self) c.args.gtrid c.in-Ok.ensures.ok)
+
+pub returns-in-Err-clause-keeps : goal.returns-in-Err-clause-keeps
+returns-in-Err-clause-keeps g c =
+    let s = c.args.self.now in
+    quiet_keeps g.L.DecisionLog.moment s.manager c.abandon.new.self c.in-Err.ensures.log
+    (same_book (book_in s.manager) (book_in c.abandon.new.self)
+    (refused_or (refusal_in (book_in s.manager) (Steps.Abandon c.args.gtrid)) _ _
+    (λ n is. ap book_in (c.in-Err.ensures.refused n is).1) (λ none. (c.in-Err.ensures.err none).1)))

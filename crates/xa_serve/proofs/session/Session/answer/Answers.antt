@@ -21,6 +21,8 @@ use Rattle.xa_serve.proofs.Sessions.{book_kept, failed, has_few, kept_stays, roo
 use Rattle.xa_serve.proofs.Telling.{answered_follows}
 use Rattle.xa_serve.specs.Hearing.{with_answer}
 use Rattle.xa_serve.specs.declared.session.answers.Unfit.TheVariants.{Refused}
+use Rattle.xa_serve.specs.Logging.{KeepsLog}
+use Rattle.xa_serve.proofs.Logging.{heard_keeps, unheard_keeps}
 use Rattle.xa_serve.proofs.session.Session.answer.Goals as goal
 
 pub hear-requires-clause-answers : goal.hear-requires-clause-answers
@@ -164,3 +166,29 @@ pub conclude-requires : goal.conclude-requires
 conclude-requires g c =
     let may = may_tell c.args.self.now c.args.thread c.args.rm (sym c.line_refusal.ensures ∙ c.in_default.is) in
     room_for_one c.args.self.now may.free
+
+pub returns-in-Ok-hear-clause-keeps : goal.returns-in-Ok-hear-clause-keeps
+returns-in-Ok-hear-clause-keeps g c =
+    let s = c.args.self.now in
+    let t = c.args.thread in
+    let r = c.args.rm in
+    let a = map_answer name_of c.args.answer in
+    let may = may_tell s t r (sym c.line_refusal.ensures ∙ c.in_default.is) in
+    let knows = (hearable (map_call name_of c.copy-call.result) a (sym c.can_hear.ensures ∙ c.if-not-can_hear.false)).known in
+    let e = c.in-Ok-hear.ensures in
+    heard_keeps g.L.DecisionLog.moment (line t r) knows.0 a s.manager c.hear.new.self (λ log b d order is left. g.met.L.DecisionLog.durable log b d order is left)
+    may.up (e.asks knows.0 knows.1) e.tied (e.ok knows.0 knows.1)
+
+pub returns-in-Err-clause-keeps : goal.returns-in-Err-clause-keeps
+returns-in-Err-clause-keeps g c =
+    let moment = g.L.DecisionLog.moment in
+    let s = c.args.self.now in
+    let t = c.args.thread in
+    let r = c.args.rm in
+    let a = map_answer name_of c.args.answer in
+    let may = may_tell s t r (sym c.line_refusal.ensures ∙ c.in_default.is) in
+    let knows = (hearable (map_call name_of c.copy-call.result) a (sym c.can_hear.ensures ∙ c.if-not-can_hear.false)).known in
+    let e = c.in-Err.ensures in
+    subst (KeepsLog moment s.manager) (sym c.conclude.ensures.manager)
+    (unheard_keeps moment (line t r) knows.0 a s.manager c.hear.new.self c.in-Err.refusal
+    (λ log b d order is left. g.met.L.DecisionLog.durable log b d order is left) may.up (e.asks knows.0 knows.1) e.tied e.kept (e.err may.up knows.0 knows.1))

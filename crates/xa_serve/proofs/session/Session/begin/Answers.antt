@@ -5,6 +5,7 @@ use Rattle.xa_tm.specs.Calls.{book_in}
 use Rattle.xa_tm.specs.Refusing.{service_refusal_in}
 use Rattle.xa_serve.proofs.Following.{begun_follows}
 use Rattle.xa_serve.proofs.Sessions.{has_few, refused_or, same_leaves, stays_by, step_leaves}
+use Rattle.xa_serve.proofs.Logging.{quiet_keeps, same_begun, same_book}
 use Rattle.xa_serve.proofs.session.Session.begin.Goals as goal
 
 pub returns-in-Ok-clause-ready : goal.returns-in-Ok-clause-ready
@@ -33,3 +34,17 @@ returns-in-Err-clause-stays g c =
     stays_by s _
     (refused_or (service_refusal_in (book_in s.manager) c.args.thread) _ _
     (λ n is. ap book_in (c.in-Err.ensures.refused n is).1) (λ none. (c.in-Err.ensures.err none).1)) c.in-Err.ensures.log
+
+pub returns-in-Ok-clause-keeps : goal.returns-in-Ok-clause-keeps
+returns-in-Ok-clause-keeps g c =
+    let s = c.args.self.now in
+    quiet_keeps g.L.DecisionLog.moment s.manager c.begin_in_service.new.self c.in-Ok.ensures.log
+    (same_begun (book_in s.manager) (book_in c.begin_in_service.new.self) c.in-Ok.gtrid c.in-Ok.ensures.ok)
+
+pub returns-in-Err-clause-keeps : goal.returns-in-Err-clause-keeps
+returns-in-Err-clause-keeps g c =
+    let s = c.args.self.now in
+    quiet_keeps g.L.DecisionLog.moment s.manager c.begin_in_service.new.self c.in-Err.ensures.log
+    (same_book (book_in s.manager) (book_in c.begin_in_service.new.self)
+    (refused_or (service_refusal_in (book_in s.manager) c.args.thread) _ _
+    (λ n is. ap book_in (c.in-Err.ensures.refused n is).1) (λ none. (c.in-Err.ensures.err none).1)))

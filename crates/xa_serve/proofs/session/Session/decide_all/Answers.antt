@@ -10,6 +10,10 @@ use Rattle.xa_serve.proofs.Following.{follows_if_ok}
 use Rattle.xa_serve.proofs.Refusals.{no_fault_in_turn}
 use Rattle.xa_serve.proofs.Sessions.{concluded, concluded_refused, refusal_of_all_is}
 use Rattle.xa_serve.proofs.Turns.{decisions_lead, decisions_may}
+use Rattle.std.proofs.Common.{refl, subst}
+use Rattle.xa_serve.proofs.Headroom.{sound}
+use Rattle.xa_serve.proofs.Logging.{all_decided, asked_keeps, decisions_change}
+use Rattle.xa_serve.specs.Logging.{KeepsLog}
 use Rattle.xa_serve.proofs.session.Session.decide_all.Goals as goal
 
 pub returns-clause-ready : goal.returns-clause-ready
@@ -45,3 +49,26 @@ returns-clause-follows g c =
     (map (λ g. Decided g c.args.outcome) gs) c.decide_all-reply.new.self c.decide_all-reply.result _ c.conclude.ensures.value c.conclude.ensures.manager
     c.conclude.ensures.lines c.decide_all-reply.ensures.allowed c.decide_all-reply.ensures.ok c.conclude.ensures.monitor
     (decisions_lead s c.conclude.new.self c.args.outcome gs)
+
+pub returns-clause-keeps : goal.returns-clause-keeps
+returns-clause-keeps g c =
+    let moment = g.L.DecisionLog.moment in
+    let s = c.args.self.now in
+    let k = book_in s.manager in
+    let gs = c.args.gtrids.now in
+    let o = c.args.outcome in
+    let call = c.decide_all-reply in
+    subst (KeepsLog moment s.manager) (sym c.conclude.ensures.manager)
+    (asked_keeps moment (decide_refusal o k gs) (rows_added o k gs) (InDecide (written_by o k gs)) s.manager call.new.self call.result
+    (λ log b d order is left. g.met.L.DecisionLog.durable log b d order is left)
+    (record {
+      asks = call.ensures.asks;
+      tied = call.ensures.tied;
+      unasked = call.ensures.kept;
+      never = no_fault_in_turn (λ g. Steps.Decide g o) (λ g. Decided g o) gs k;
+      refused = call.ensures.refused;
+      err = call.ensures.err;
+      ok = all_decided moment o gs s.manager call.new.self call.result call.ensures.allowed call.ensures.ok call.ensures.without_row;
+      change = λ none fault. decisions_change o k gs (sound _ k c.requires.headroom) none (call.ensures.asked none fault);
+      still = λ n. refl;
+    }))

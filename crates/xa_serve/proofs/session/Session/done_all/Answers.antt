@@ -10,6 +10,10 @@ use Rattle.xa_serve.proofs.Following.{follows_if_ok}
 use Rattle.xa_serve.proofs.Refusals.{no_fault_in_turn}
 use Rattle.xa_serve.proofs.Sessions.{concluded, concluded_refused, refusal_of_all_is}
 use Rattle.xa_serve.proofs.Turns.{done_lead, done_may}
+use Rattle.xa_serve.specs.Logging.{KeepsLog}
+use Rattle.std.proofs.Common.{ap, refl, subst}
+use Rattle.xa_serve.proofs.Headroom.{sound}
+use Rattle.xa_serve.proofs.Logging.{all_done, asked_keeps, removals_change}
 use Rattle.xa_serve.proofs.session.Session.done_all.Goals as goal
 use Rattle.xa_tm.specs.Book.{Doubt.Drops}
 
@@ -45,3 +49,25 @@ returns-clause-follows g c =
     (map (λ g. Done g) gs) c.done_all-reply.new.self c.done_all-reply.result _ c.conclude.ensures.value c.conclude.ensures.manager
     c.conclude.ensures.lines c.done_all-reply.ensures.allowed c.done_all-reply.ensures.ok c.conclude.ensures.monitor
     (done_lead s c.conclude.new.self gs)
+
+pub returns-clause-keeps : goal.returns-clause-keeps
+returns-clause-keeps g c =
+    let moment = g.L.DecisionLog.moment in
+    let s = c.args.self.now in
+    let k = book_in s.manager in
+    let gs = c.args.gtrids.now in
+    let call = c.done_all-reply in
+    subst (KeepsLog moment s.manager) (sym c.conclude.ensures.manager)
+    (asked_keeps moment (done_refusal k gs) (Drops gs) (InDone gs) s.manager call.new.self call.result
+    (λ log b d order is left. g.met.L.DecisionLog.durable log b d order is left)
+    (record {
+      asks = call.ensures.asks;
+      tied = call.ensures.tied;
+      unasked = call.ensures.kept;
+      never = no_fault_in_turn (λ g. Steps.Done g) (λ g. Done g) gs k;
+      refused = call.ensures.refused;
+      err = call.ensures.err;
+      ok = all_done moment gs s.manager call.new.self call.result call.ensures.allowed call.ensures.ok call.ensures.without_row;
+      change = λ none fault. removals_change k gs none (call.ensures.asked fault);
+      still = λ n. refl;
+    }))

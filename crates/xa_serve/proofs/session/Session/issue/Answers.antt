@@ -11,6 +11,7 @@ use Rattle.xa_serve.proofs.Recoveries.{line_took}
 use Rattle.xa_serve.proofs.Refusals.{known_issue}
 use Rattle.xa_serve.proofs.Sessions.{has_few, stays_by, step_leaves}
 use Rattle.xa_serve.proofs.Telling.{issued_follows}
+use Rattle.xa_serve.proofs.Logging.{quiet_keeps, same_book, same_issued}
 use Rattle.xa_serve.proofs.session.Session.issue.Goals as goal
 
 pub returns-in-Ok-clause-ready : goal.returns-in-Ok-clause-ready
@@ -54,3 +55,19 @@ returns-in-Ok-clause-follows g c = λ d is.
 
 pub returns-in-Err-clause-stays : goal.returns-in-Err-clause-stays
 returns-in-Err-clause-stays g c = stays_by c.args.self.now _ c.in-Err.ensures.err.1 c.in-Err.ensures.log
+
+pub returns-in-Ok-clause-keeps : goal.returns-in-Ok-clause-keeps
+returns-in-Ok-clause-keeps g c =
+    let s = c.args.self.now in
+    let t = c.args.thread in
+    let r = c.args.rm in
+    let may = may_issue_so s t r c.args.call.now (sym c.may_issue.ensures ∙ c.in_default.is) in
+    let known = known_issue (book_in s.manager) t r (map_call name_of c.args.call.now) may.book in
+    quiet_keeps g.L.DecisionLog.moment s.manager c.note_issued.new.self c.in-Ok.ensures.log
+    (same_issued (book_in s.manager) (book_in c.note_issued.new.self) (line t r) known.0 (c.in-Ok.ensures.ok known.0 known.1))
+
+pub returns-in-Err-clause-keeps : goal.returns-in-Err-clause-keeps
+returns-in-Err-clause-keeps g c =
+    let s = c.args.self.now in
+    quiet_keeps g.L.DecisionLog.moment s.manager c.note_issued.new.self c.in-Err.ensures.log
+    (same_book (book_in s.manager) (book_in c.note_issued.new.self) c.in-Err.ensures.err.1)

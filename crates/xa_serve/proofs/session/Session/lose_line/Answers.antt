@@ -10,6 +10,8 @@ use Rattle.xa_tm.specs.Book.{Doubt.NoDoubt}
 use Rattle.xa_serve.proofs.Lines.{all_with, may_tell, waiting_if}
 use Rattle.xa_serve.proofs.Sessions.{has_few, step_leaves}
 use Rattle.xa_serve.proofs.Telling.{lost_follows}
+use Rattle.xa_tm.specs.Calls.{book_in}
+use Rattle.xa_serve.proofs.Logging.{quiet_keeps, same_lost}
 use Rattle.xa_serve.proofs.session.Session.lose_line.Goals as goal
 
 pub returns-clause-ready : goal.returns-clause-ready
@@ -35,3 +37,9 @@ returns-clause-follows g c =
           (c.front-call.ensures ∙ ap (λ (l : Traffic). slice_get l.calls.waiting 0) c.line.ensures.value))
           c.in-Ok.ensures.ok;
     }
+
+pub returns-clause-keeps : goal.returns-clause-keeps
+returns-clause-keeps g c =
+    let s = c.args.self.now in
+    quiet_keeps g.L.DecisionLog.moment s.manager c.crash.new.self c.crash.ensures.log
+    (same_lost (book_in s.manager) (book_in c.crash.new.self) c.args.thread c.args.rm c.crash.ensures.book)

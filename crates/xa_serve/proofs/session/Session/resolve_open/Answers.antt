@@ -11,6 +11,7 @@ use Rattle.xa_serve.specs.Session.{with_more}
 use Rattle.xa_serve.proofs.Recoveries.{recovery_unclosed}
 use Rattle.xa_serve.proofs.Sessions.{has_few, stays_by, step_leaves}
 use Rattle.xa_serve.proofs.Telling.{open_resolved_follows}
+use Rattle.xa_serve.proofs.Logging.{quiet_keeps, same_book, same_opened}
 use Rattle.xa_serve.proofs.session.Session.resolve_open.Goals as goal
 
 pub issue_all-requires-clause-unclosed : goal.issue_all-requires-clause-unclosed
@@ -50,3 +51,15 @@ returns-in-Ok-clause-follows g c =
 
 pub returns-in-Err-clause-stays : goal.returns-in-Err-clause-stays
 returns-in-Err-clause-stays g c = stays_by c.args.self.now _ c.in-Err.ensures.err.1 c.in-Err.ensures.log
+
+pub returns-in-Ok-clause-keeps : goal.returns-in-Ok-clause-keeps
+returns-in-Ok-clause-keeps g c =
+    let s = c.args.self.now in
+    quiet_keeps g.L.DecisionLog.moment s.manager c.resolve_open.new.self c.in-Ok.ensures.log
+    (same_opened (book_in s.manager) (book_in c.resolve_open.new.self) c.args.rm c.in-Ok.ensures.ok)
+
+pub returns-in-Err-clause-keeps : goal.returns-in-Err-clause-keeps
+returns-in-Err-clause-keeps g c =
+    let s = c.args.self.now in
+    quiet_keeps g.L.DecisionLog.moment s.manager c.resolve_open.new.self c.in-Err.ensures.log
+    (same_book (book_in s.manager) (book_in c.resolve_open.new.self) c.in-Err.ensures.err.1)

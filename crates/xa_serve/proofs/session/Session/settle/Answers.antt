@@ -9,6 +9,10 @@ use Rattle.xa_tm.specs.Refusing.{refusal_in}
 use Rattle.xa_serve.proofs.Refusals.{begun_if_settled, no_fault}
 use Rattle.xa_serve.proofs.Following.{settled_follows, follows_if_ok}
 use Rattle.xa_serve.proofs.Sessions.{concluded, concluded_err, concluded_stays, refusal_is, room_for_one}
+use Rattle.xa_serve.specs.Logging.{KeepsLog}
+use Rattle.std.proofs.Common.{subst}
+use Rattle.xa_serve.proofs.Headroom.{sound}
+use Rattle.xa_serve.proofs.Logging.{asked_keeps, one_settled, settlement_changes}
 use Rattle.xa_serve.proofs.session.Session.settle.Goals as goal
 
 pub conclude-requires : goal.conclude-requires
@@ -49,3 +53,25 @@ returns-clause-stays g c =
     (Adds (rows_for (book_in s.manager) (c.args.gtrid ∷ []))) (InDecide (c.args.gtrid ∷ [])) c.settle-reply.result _
     (record { manager = c.conclude.ensures.manager; lines = c.conclude.ensures.lines; happenings = c.conclude.ensures.happenings })
     c.conclude.ensures.value c.conclude.ensures.monitor c.settle-reply.ensures.refused c.settle-reply.ensures.err c.settle-reply.ensures.kept
+
+pub returns-clause-keeps : goal.returns-clause-keeps
+returns-clause-keeps g c =
+    let moment = g.L.DecisionLog.moment in
+    let s = c.args.self.now in
+    let k = book_in s.manager in
+    let h = c.args.gtrid in
+    let call = c.settle-reply in
+    subst (KeepsLog moment s.manager) (sym c.conclude.ensures.manager)
+    (asked_keeps moment (refusal_in k (Steps.Settle h)) (Adds (rows_for k (h ∷ []))) (InDecide (h ∷ [])) s.manager call.new.self call.result
+    (λ log b d order is left. g.met.L.DecisionLog.durable log b d order is left)
+    (record {
+      asks = call.ensures.asks;
+      tied = call.ensures.tied;
+      unasked = call.ensures.kept;
+      never = no_fault k (Steps.Settle h);
+      refused = call.ensures.refused;
+      err = call.ensures.err;
+      ok = one_settled moment h s.manager call.new.self call.result call.ensures.allowed call.ensures.ok;
+      change = λ none fault. settlement_changes k h (sound _ k c.requires.headroom) none;
+      still = λ n. refl;
+    }))

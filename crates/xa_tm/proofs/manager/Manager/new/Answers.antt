@@ -111,6 +111,7 @@ returns-else-can_start-clause-log_fault g c = λ is.
     let bumped = c.in_ok-incarnation.ensures.changes in (
       c.bump.new.self,
       inr (record {
+        honest = λ honest. c.in_ok-rows.ensures.reads.honest (bumped.honest honest);
         faults = bumped.faults ∙ c.in_ok-rows.ensures.reads.faults;
         not_past = λ order honest.
             let still = bumped.honest honest in

@@ -1,11 +1,11 @@
 use Rattle.xa_coordinator.proofs.ServingLemmas.{ServesSome}
 use Rattle.xa_coordinator.specs.Replies.{greeting_of}
 use Rattle.xa_serve.specs.Session.{IsReady}
-use Rattle.xa_coordinator.proofs.coordinator.Coordinator.serve.Given as goal
+use Rattle.xa_coordinator.proofs.coordinator.Coordinator.serve_under.Given as goal
 
 abbrev pub invariant-loop : goal.invariant-loop
 invariant-loop g l = record {
   ready : IsReady l.self.session;
-  some : ServesSome (greeting_of l.fn.self) (g.R.Read.remaining l.fn.input) (g.R.Read.remaining l.input) (g.W.Write.contents l.fn.output)
+  some : ServesSome g.L.DecisionLog.moment l.fn.name (greeting_of l.fn.self) (g.R.Read.remaining l.fn.input) (g.R.Read.remaining l.input) (g.W.Write.contents l.fn.output)
       (g.W.Write.contents l.output) l.fn.self l.self;
 }

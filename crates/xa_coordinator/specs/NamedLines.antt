@@ -1,0 +1,51 @@
+-- The lines of a manager that has a name.
+use Rattle.std.specs.Prelude.{ℕ, ◌&&◌, if◌then◌else◌, nat_le, List, ◌∷◌, ◌++◌, codes, length, map, Option}
+use Rattle.std.specs.Io.KnownBytes.{Appends, Consumes, IsAtEnd}
+use Rattle.std.specs.List.{flat_map}
+use Rattle.std.specs.Str.{is_utf8}
+use Rattle.xa_coordinator.specs.Lines.{lines_of}
+use Rattle.xa_coordinator.specs.Serving.{EndsBy, HaveReplies}
+use Rattle.xa_coordinator.specs.declared.coordinator.Coordinator.{Coordinator}
+use Rattle.xa_coordinator.specs.declared.lines.TheConstants.{LINE_LIMIT}
+use Rattle.xa_files.specs.Outputs.{AppendsBeginning}
+use Rattle.xa_log.specs.Contract.{Moment}
+use Rattle.xa_names.specs.Lines.{line_renamed}
+use Rattle.xa_requests.specs.Responses.{response_text}
+use Rattle.xa_requests.specs.declared.response.Response.{Response}
+use Rattle.xa_serve.specs.Logging.{KeepsLog}
+
+-- a line of a driver, as a manager of this name means it; one that is too long, or no text, is as it is, and asks for nothing
+abbrev pub line_read : List ℕ → List ℕ → List ℕ
+line_read name line = if nat_le (length line) LINE_LIMIT && is_utf8 line then line_renamed name line else line
+
+abbrev pub lines_read : List ℕ → List (List ℕ) → List (List ℕ)
+lines_read name lines = map (line_read name) lines
+
+-- the line of a reply, as a manager of this name means it
+abbrev pub line_written : List ℕ → Response → List ℕ
+line_written name reply = line_renamed name (response_text reply) ++ codes "\n"
+
+abbrev pub text_written : List ℕ → List Response → List ℕ
+text_written name replies = flat_map (line_written name) replies
+
+module _ {L : Type 0} (moment : L → Moment) where
+  -- A session of a manager of this name: what was written is its first line and a line for each line of what was read, each as it is
+  -- meant. It ends behind `quit`, or at the end of the input.
+  pub record ServesUnder (name : List ℕ) (greeting : Response) (unread left : Option (List ℕ)) (written all : Option (List ℕ))
+      (old new : Coordinator L) : Type 0 where
+    pub read : List ℕ
+    pub replies : List Response
+    pub consumed : Consumes unread left read
+    pub replied : HaveReplies moment (lines_read name (lines_of read)) replies old new
+    pub appended : Appends written all (text_written name (greeting ∷ replies))
+    pub ends : EndsBy replies (IsAtEnd left)
+    -- the log has what the book says at the end, if it had at the start
+    pub keeps : KeepsLog moment old.session.manager new.session.manager
+
+  -- A session that was broken off: what was written is a beginning of that. The lines are as they are meant.
+  pub record BreaksSessionUnder (name : List ℕ) (greeting : Response) (written all : Option (List ℕ)) (old new : Coordinator L) : Type 0 where
+    pub lines : List (List ℕ)
+    pub replies : List Response
+    pub replied : HaveReplies moment lines replies old new
+    pub begun : AppendsBeginning written all (text_written name (greeting ∷ replies))
+    pub keeps : KeepsLog moment old.session.manager new.session.manager

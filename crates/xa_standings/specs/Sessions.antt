@@ -1,0 +1,89 @@
+-- Sessions one after another over the same databases and the same log; and where all branches then stand, at databases that obey the
+-- branch state table.
+use Rattle.std.specs.Prelude.{ℕ, ◌≡◌, ◌<◌, if◌then◌else◌, List, [], Option, Some, None}
+use Rattle.xa_base.specs.Branch.{branch_eq}
+use Rattle.xa_base.specs.HeldBranch.{new_branch}
+use Rattle.xa_base.specs.Scan.{Scan.NotOpen}
+use Rattle.xa_base.specs.StateTable.{broken}
+use Rattle.xa_base.specs.declared.state.Standing.{Standing}
+use Rattle.xa_base.specs.declared.state.Standing.TheVariants.{Completed, Prepared, Unstarted}
+use Rattle.xa_model.specs.Facts.{heuristic_rows, incarnation, log as rows_of, next_call}
+use Rattle.xa_model.specs.Promises.Processes.{SameRecords, SameRows, resumed}
+use Rattle.xa_model.specs.Protocol.{IsRun, RightFault}
+use Rattle.xa_model.specs.Trace.{Branch, Call, Fault, Fault.InDecide, Fault.InDone, Fault.InResolve, Happening.Failed, How, Line, Origin, Trace, Trace.From, Trace.Then}
+use Rattle.xa_standings.specs.Agreement.{IsLineOf, MayAllStand}
+use Rattle.xa_standings.specs.Explained.{IsOldLog}
+use Rattle.xa_standings.specs.Named.{AreNamed, IsNamedCall}
+use Rattle.xa_standings.specs.Seen.{IsHistory, KeepsRules, Seen}
+use Rattle.xa_standings.specs.Standings.{Comes}
+
+-- ** the log
+
+-- a start finds what the log of a history has: its rows and records, with or without the change in doubt, in a later incarnation
+pub record FindsLog (past : Trace) (o : Origin) : Type 0 where
+  pub later : incarnation past < o.incarnation
+  pub rows : SameRows o.rows (rows_of (resumed past o))
+  pub records : SameRecords o.heuristic_rows (heuristic_rows (resumed past o))
+
+-- a step in which the log is asked for a change of rows, or for none
+abbrev pub AsksForRows : Fault → Type 0
+AsksForRows (InDecide gs) = Unit
+AsksForRows (InDone gs) = Unit
+AsksForRows InResolve = Unit
+AsksForRows _ = ⊥
+
+-- how a session was left: as all was told; or in a step in which its log failed, as it does for a program that is killed there
+abbrev pub failed_in : Option Fault → Trace → Trace
+failed_in None tr = tr
+failed_in (Some f) tr = Then tr (Failed f)
+
+-- such a step was right, by each right history of what was seen
+abbrev pub MayFail : Origin → Seen → Option Fault → Type 0
+MayFail o seen None = Unit
+MayFail o seen (Some f) = AsksForRows f × ((tr : Trace) → IsHistory o seen tr → IsRun tr → RightFault tr f)
+
+-- before the first session nothing is there
+abbrev pub nothing_yet : (incarnation : ℕ) → Trace
+nothing_yet i = From (record {
+  threads = 0;
+  rms = 0;
+  incarnation = i;
+  rows = [];
+  heuristic_rows = [];
+  held = λ r x. new_branch;
+  in_doubt = λ r. [];
+  scans = λ r. NotOpen;
+})
+
+-- a log: an empty one, of so late an incarnation, or what a session left
+pub data Log : Type 0 where
+  Empty : (incarnation : ℕ) → Log
+  LeftBy : Origin → Seen → Option Fault → Log
+
+-- a start finds it; what a session left, by each right history of what was seen in that
+abbrev pub Finds : Log → Origin → Type 0
+Finds (Empty i) next = FindsLog (nothing_yet i) next
+Finds (LeftBy o seen fails) next = (tr : Trace) → IsHistory o seen tr → IsRun tr → FindsLog (failed_in fails tr) next
+
+-- ** the sessions
+
+-- A session: its start has what was found in the log; the manager kept its rules in what was seen, in which each call is on a branch with
+-- an identifier; and where its log failed in a step, or the program was killed in one, that was right.
+pub record IsSession (o : Origin) (seen : Seen) (fails : Option Fault) : Type 0 where
+  pub old : IsOldLog o
+  pub keeps : KeepsRules o seen
+  pub named : AreNamed seen
+  pub named_first : (tr : Trace) (l : Line) (c : Call) → IsHistory o seen tr → IsRun tr → IsLineOf o l → next_call tr l ≡ Some c → IsNamedCall c
+  pub may_fail : MayFail o seen fails
+
+-- Where all branches may stand after sessions one after another, and what log these leave. Between two sessions what was open is lost, and
+-- a database may end a prepared branch by itself.
+pub data AfterSessions : Log → (Branch → Standing) → Type 0 where
+  NoneYet : (i : ℕ) → AfterSessions (Empty i) (λ b. Unstarted)
+  OneMore :
+      (log : Log) (from to : Branch → Standing) (o : Origin) (seen : Seen) (fails : Option Fault) (used : List Line)
+      → AfterSessions log from → Finds log o → IsSession o seen fails → MayAllStand o seen (λ b. Comes seen b (broken (from b))) used to
+      → AfterSessions (LeftBy o seen fails) to
+  Between :
+      (log : Log) (from to : Branch → Standing) (d : Branch) (how : How) → AfterSessions log from → from d ≡ Prepared
+      → ((b : Branch) → to b ≡ (if branch_eq d b then Completed how else from b)) → AfterSessions log to
