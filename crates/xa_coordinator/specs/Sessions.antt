@@ -1,10 +1,9 @@
 -- Sessions of drivers one after another, over one log and the same databases, and where all branches then stand at databases that obey the
 -- branch state table. Nothing is supposed of the coordinator: of the log only that it is in order and honest, which is its library's to
 -- prove, and that it is handed on.
-use Rattle.std.specs.Prelude.{◌≡◌, ◌≤◌, ℕ, false, if◌then◌else◌, List, Option, Some, None}
+use Rattle.std.specs.Prelude.{◌≡◌, ◌≤◌, ℕ, true, false, if◌then◌else◌, List, Option, Some, None}
 use Rattle.std.specs.FinMap.{contains_key, len}
 use Rattle.std.specs.List.{list_any}
-use Rattle.std.specs.Prelude.{true}
 use Rattle.xa_base.specs.Branch.{branch_eq}
 use Rattle.xa_base.specs.StateTable.{broken}
 use Rattle.xa_base.specs.declared.refusal.Refusal.TheVariants.{LogFault}
@@ -26,10 +25,11 @@ use Rattle.xa_requests.specs.declared.response.Response.{Response}
 use Rattle.xa_requests.specs.declared.response.Response.TheVariants as responses
 use Rattle.xa_serve.specs.Following.{StandsAtStart}
 use Rattle.xa_serve.specs.Logging.{HoldsItsBook, LeavesContent}
+use Rattle.xa_serve.specs.Tracking.{KeepsTrack}
 use Rattle.xa_standings.specs.Agreement.{IsLineOf, MayAllStand, StandAlike}
 use Rattle.xa_standings.specs.Explained.{IsOldLog}
 use Rattle.xa_standings.specs.Named.{AreNamed, IsNamedCall}
-use Rattle.xa_standings.specs.Seen.{IsHistory, KeepsRules, Seen, Seen.Start}
+use Rattle.xa_standings.specs.Seen.{IsHistory, Seen, Seen.Start}
 use Rattle.xa_standings.specs.Standings.{Comes}
 use Rattle.xa_tm.specs.Begins.{BeginsWith}
 use Rattle.xa_tm.specs.BookAndLog.{SameRows}
@@ -70,9 +70,9 @@ module _ {L : Type 0} (moment : L → Moment) where
     pub over : IsStartedOver moment threads rms (moment handed) first.session.manager
     pub holds : Honestly (moment handed) (moment (log_in first.session.manager)) (HoldsItsBook moment true first.session.manager)
 
-  -- A session over a log that was handed to it: a coordinator started over it, and lines were replied, none by a failure of the log. Of it
-  -- `o` says what it started with, and `seen` what the lines and their replies tell, in which of each lost line the call is known that
-  -- waited first on it (`keeps`).
+  -- A session over a log that was handed to it: a coordinator started over it, and lines were replied, none by a failure of the log. `o` is
+  -- what it started with, and `seen` what the lines and their replies tell, as the session keeps track of it: of each there is such
+  -- (`ServedSessionsAreSeen`).
   pub record IsSession (handed : L) (o : Origin) (seen : Seen) (now : Coordinator L) : Type 0 where
     pub threads : ℕ
     pub rms : ℕ
@@ -84,7 +84,7 @@ module _ {L : Type 0} (moment : L → Moment) where
     pub replied : HaveReplies moment lines replies first now
     pub no_fault : list_any is_log_fault replies ≡ false
     pub told : HaveTold o.threads lines replies Start seen
-    pub keeps : KeepsRules o seen
+    pub tracks : KeepsTrack o seen now.session
 
 -- A session is left: after a line, as where its driver ends or the program is killed; or in a request in which its log failed, as it does
 -- where the program is killed there.
