@@ -3,7 +3,8 @@ use Rattle.std.proofs.Common.{◌≡◌, ◌<◌, ◌+◌, ℕ, List, [], ◌∷
 use Rattle.std.specs.FinMap.{len}
 use Rattle.std.specs.Prelude.{◌==◌, if◌then◌else◌}
 use Rattle.xa_base.specs.declared.state.Standing.{Standing}
-use Rattle.xa_coordinator.specs.Sessions.{AreOnBranches, AreServed, AreServed.Between, AreServed.NoneYet, AreServed.OneFailed, AreServed.OneMore, HasLeft, IsEmptyLog, IsStartOver}
+use Rattle.xa_coordinator.proofs.BranchLemmas.{calls_on_branches}
+use Rattle.xa_coordinator.specs.Sessions.{AreServed, AreServed.Between, AreServed.NoneYet, AreServed.OneFailed, AreServed.OneMore, HasLeft, IsEmptyLog, IsStartOver}
 use Rattle.xa_coordinator.specs.declared.coordinator.Coordinator.{Coordinator}
 use Rattle.xa_log.specs.Content.{Content}
 use Rattle.xa_model.specs.Promises.Processes.{SameRecords, SameRows}
@@ -46,26 +47,24 @@ pub record AreSessions {L : Type 0} (i : ℕ) (last : Option (Coordinator L)) (l
 
 pub are_sessions : {L : Type 0} (i : ℕ) (last : Option (Coordinator L)) (log : Log) (f : Branch → Standing) → AreServed i last log f → AreSessions i last log f
 are_sessions i _ _ _ NoneYet = record { after = No_session i; finds = λ c o left start. empty_found i c o left start }
-are_sessions i _ _ _ (OneMore last log from to c o lines replies new goes used before left start named may) =
+are_sessions i _ _ _ (OneMore last log from to c o lines replies new goes used before left start may) =
     let b = are_sessions i last log from before in
     let session : IsSession o goes.seen None = record {
       old = start.old;
       keeps = goes.keeps;
-      named = named.named;
-      named_first = named.named_first;
+      on_branches = calls_on_branches o.threads lines replies Start goes.seen goes.told tt;
       may_fail = tt;
     } in
     record {
       after = One_session log from to o goes.seen None used b.after (b.finds c o left start) session may;
       finds = λ c next left start. goes.finds c next left start.raised;
     }
-are_sessions i _ _ _ (OneFailed last log from to c o lines replies gs mid new goes used before left start named may) =
+are_sessions i _ _ _ (OneFailed last log from to c o lines replies gs mid new goes used before left start may) =
     let b = are_sessions i last log from before in
     let session : IsSession o goes.seen (Some (fault_in mid.session gs)) = record {
       old = start.old;
       keeps = goes.keeps;
-      named = named.named;
-      named_first = named.named_first;
+      on_branches = calls_on_branches o.threads lines replies Start goes.seen goes.told tt;
       may_fail = goes.may_fail;
     } in
     record {

@@ -10,15 +10,11 @@ use Rattle.xa_base.specs.declared.state.Standing.TheVariants.{Completed, Prepare
 use Rattle.xa_coordinator.specs.Tracking.{GoesOn, GoesOnFailed}
 use Rattle.xa_coordinator.specs.declared.coordinator.Coordinator.{Coordinator}
 use Rattle.xa_log.specs.Content.{Content}
-use Rattle.xa_model.specs.Facts.{next_call}
-use Rattle.xa_model.specs.Protocol.{IsRun}
-use Rattle.xa_model.specs.Trace.{Branch, Call, How, Line, Origin, Trace}
+use Rattle.xa_model.specs.Trace.{Branch, How, Line, Origin}
 use Rattle.xa_requests.specs.declared.response.Response.{Response}
 use Rattle.xa_serve.specs.Tracking.{IsRaisedFrom, fault_in}
-use Rattle.xa_standings.specs.Agreement.{IsLineOf, MayAllStand, StandAlike}
+use Rattle.xa_standings.specs.Agreement.{MayAllStand, StandAlike}
 use Rattle.xa_standings.specs.Explained.{IsOldLog}
-use Rattle.xa_standings.specs.Named.{AreNamed, IsNamedCall}
-use Rattle.xa_standings.specs.Seen.{IsHistory, Seen}
 use Rattle.xa_standings.specs.Sessions.{Log, Log.Empty, Log.LeftBy}
 use Rattle.xa_standings.specs.Standings.{Comes}
 use Rattle.xa_tm.specs.BookAndLog.{IsTied}
@@ -40,11 +36,6 @@ pub record IsStartOver (c : Content) (o : Origin) : Type 0 where
   pub raised : IsRaisedFrom c o
   pub old : IsOldLog o
 
--- each call that was made, or that waits first, is on a branch that has an identifier
-pub record AreOnBranches (o : Origin) (seen : Seen) : Type 0 where
-  pub named : AreNamed seen
-  pub named_first : (tr : Trace) (l : Line) (c : Call) → IsHistory o seen tr → IsRun tr → IsLineOf o l → next_call tr l ≡ Some c → IsNamedCall c
-
 -- Where all branches may stand behind the last of them. A session may be left behind any line, with all its lines cut off and calls under
 -- way; or in a decision to commit in which its log failed, or in which the program was killed.
 pub data AreServed {L : Type 0} (i : ℕ) : Option (Coordinator L) → Log → (Branch → Standing) → Type 0 where
@@ -52,12 +43,12 @@ pub data AreServed {L : Type 0} (i : ℕ) : Option (Coordinator L) → Log → (
   OneMore :
       (last : Option (Coordinator L)) (log : Log) (from to : Branch → Standing) (c : Content) (o : Origin) (lines : List (List ℕ))
       (replies : List Response) (new : Coordinator L) (goes : GoesOn o lines replies new) (used : List Line) → AreServed i last log from
-      → HasLeft last i c → IsStartOver c o → AreOnBranches o goes.seen → MayAllStand o goes.seen (λ b. Comes goes.seen b (broken (from b))) used to
+      → HasLeft last i c → IsStartOver c o → MayAllStand o goes.seen (λ b. Comes goes.seen b (broken (from b))) used to
       → AreServed i (Some new) (LeftBy o goes.seen None) to
   OneFailed :
       (last : Option (Coordinator L)) (log : Log) (from to : Branch → Standing) (c : Content) (o : Origin) (lines : List (List ℕ))
       (replies : List Response) (gs : List Gtrid) (mid new : Coordinator L) (goes : GoesOnFailed o lines replies gs mid new) (used : List Line)
-      → AreServed i last log from → HasLeft last i c → IsStartOver c o → AreOnBranches o goes.seen
+      → AreServed i last log from → HasLeft last i c → IsStartOver c o
       → MayAllStand o goes.seen (λ b. Comes goes.seen b (broken (from b))) used to
       → AreServed i (Some new) (LeftBy o goes.seen (Some (fault_in mid.session gs))) to
   Between :

@@ -1,5 +1,6 @@
 //! How a session tracks what a driver tells. These functions do nothing: each contract is a theorem.
 
+ghost use Rattle.xa_coordinator.specs.Branches.{CallsAreOnBranches};
 ghost use Rattle.xa_coordinator.specs.Faults.{FaultsLeaveAllOrNone};
 ghost use Rattle.xa_coordinator.specs.Managers.{ManagersAreApart, RepliesTellOwn};
 ghost use Rattle.xa_coordinator.specs.Sessions.{ServedSessionsAgree};
@@ -100,6 +101,12 @@ pub fn served_sessions_agree<L: DecisionLog + Drop>()
 {
     sessions_agree();
 }
+
+/// What lines and their replies tell is of branches that have identifiers (XA, section 4.2): each call that was let wait is on
+/// one, and each branch of this manager that a page listed has one.
+pub fn calls_are_on_branches()
+    ensures { CallsAreOnBranches }
+{}
 
 /// Where a `decide` of commits, a `settle` or a `done` is replied that the log failed (reply 15 of a manager that was up), the log
 /// has either all of the change that was asked for or nothing of it, unless it is shut; and so has whatever a crash of its
