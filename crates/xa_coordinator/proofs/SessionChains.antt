@@ -1,30 +1,26 @@
 -- Sessions of drivers one after another agree.
-use Rattle.std.proofs.Common.{◌≡◌, ◌<◌, ◌≤◌, ◌+◌, ◌⊎◌, inl, inr, ℕ, true, false, List, [], ◌∷◌, length, Option, Some, None, IsSomeAnd, refl, sym, ap, ◌∙◌, subst, arith}
+use Rattle.std.proofs.Common.{◌≡◌, ◌<◌, ◌≤◌, ◌+◌, ℕ, true, List, [], ◌∷◌, length, Option, Some, None, IsSomeAnd, refl, sym, ap, ◌∙◌, subst, arith}
 use Rattle.std.specs.FinMap.{len}
-use Rattle.std.specs.List.{list_any}
 use Rattle.std.specs.Prelude.{◌==◌, if◌then◌else◌}
-use Rattle.xa_base.specs.declared.refusal.Refusal.TheVariants.{LogFault}
+use Rattle.xa_base.specs.StateTable.{broken}
 use Rattle.xa_base.specs.declared.state.Standing.{Standing}
-use Rattle.xa_coordinator.proofs.LogLemmas.{replies_keep}
-use Rattle.xa_coordinator.specs.Faults.{AsksForRows}
-use Rattle.xa_coordinator.specs.Performing.{Performs}
-use Rattle.xa_coordinator.specs.Serving.{HaveReplies}
-use Rattle.xa_coordinator.specs.Sessions.{AreOnBranches, AreServed, AreServed.Between, AreServed.NoneYet, AreServed.OneMore, IsEmptyLog, IsHandedOn, IsLeft, IsLeft.AfterLine, IsLeft.InRequest, IsSession, StartsOver, WasLeft}
-use Rattle.xa_coordinator.specs.Tracking.{FailedSessionsGoOn, GoesOn, GoesOnFailed, ServedSessionsGoOn, fault_by}
+use Rattle.xa_coordinator.proofs.BranchLemmas.{calls_on_branches}
+use Rattle.xa_coordinator.proofs.Failures.{failed_in_request}
+use Rattle.xa_coordinator.proofs.LogLemmas.{replies_keep, same_keeps}
+use Rattle.xa_coordinator.specs.Sessions.{AreServed, AreServed.Between, AreServed.NoneYet, AreServed.OneMore, IsEmptyLog, IsHandedOn, IsLeft, IsLeft.AfterLine, IsLeft.InRequest, IsSession, StartsOver, WasLeft}
 use Rattle.xa_coordinator.specs.declared.coordinator.Coordinator.{Coordinator}
 use Rattle.xa_log.specs.Content.{Content, with_bump}
 use Rattle.xa_log.specs.Contract.{Moment}
-use Rattle.xa_model.specs.Promises.Processes.{SameRecords, SameRows as SameRowLists}
 use Rattle.xa_model.specs.Facts.Distinct.{ApartRows}
-use Rattle.xa_model.specs.Trace.{Branch, Fault, Origin, Recorded, Row, Trace.From}
-use Rattle.xa_requests.specs.declared.request.Request.{Request}
-use Rattle.xa_requests.specs.declared.response.Response.{Response}
-use Rattle.xa_requests.specs.declared.response.Response.TheVariants as responses
-use Rattle.xa_serve.proofs.Logging.{left_tied}
+use Rattle.xa_model.specs.Promises.Processes.{SameRecords, SameRows as SameRowLists}
+use Rattle.xa_model.specs.Trace.{Branch, Fault, Line, Origin, Recorded, Row, Trace.From}
+use Rattle.xa_serve.proofs.Logging.{both_keep, left_tied}
 use Rattle.xa_serve.specs.Logging.{HoldsItsBook, KeepsLog, LeavesContent}
-use Rattle.xa_serve.specs.Tracking.{IsRaisedFrom}
-use Rattle.xa_standings.specs.Seen.{Seen}
-use Rattle.xa_standings.specs.Sessions.{AfterSessions, AfterSessions.Between as Ends_between, AfterSessions.NoneYet as No_session, AfterSessions.OneMore as One_session, Finds, FindsLog, IsSession as Is_session, Log, Log.LeftBy, nothing_yet}
+use Rattle.xa_serve.specs.Tracking.{FailedDecisionsAreFound, FailedDonesAreFound, FailedSettlementsAreFound, IsRaisedFrom, StartsFindTheLog}
+use Rattle.xa_standings.specs.Agreement.{MayAllStand}
+use Rattle.xa_standings.specs.Seen.{Seen, Seen.Start}
+use Rattle.xa_standings.specs.Sessions.{AfterSessions, AfterSessions.Between as Ends_between, AfterSessions.NoneYet as No_session, AfterSessions.OneMore as One_session, Finds, FindsLog, IsSession as Is_session, Log, Log.Empty, Log.LeftBy, MayFail, nothing_yet}
+use Rattle.xa_standings.specs.Standings.{Comes}
 use Rattle.xa_tm.specs.Begins.{BeginsWith}
 use Rattle.xa_tm.specs.Book.{Book, book_of}
 use Rattle.xa_tm.specs.BookAndLog.{IsTied}
@@ -99,6 +95,13 @@ empty_found c o none raised = record {
 
 -- ** one session
 
+-- what the next start finds, by the laws of sessions
+pub record Laws (L : Type 0) : Type 0 where
+  pub left : StartsFindTheLog L
+  pub decision : FailedDecisionsAreFound L
+  pub settlement : FailedSettlementsAreFound L
+  pub done : FailedDonesAreFound L
+
 module _ {L : Type 0} (moment : L → Moment) where
   -- the log of a coordinator has what its book says, if there was one
   abbrev pub Holds : Option (Coordinator L) → Type 0
@@ -116,41 +119,78 @@ module _ {L : Type 0} (moment : L → Moment) where
     pub finds : FindsLeft last log
     pub holds : Holds last
 
-  -- how a session is left: the step in which its log failed, if it did, and the history that the next start finds
+  -- a session as it was left, after a line or in a step in which its log failed: the next start finds what it left
   record IsLeftSo (o : Origin) (seen : Seen) (left : Coordinator L) : Type 0 where
     fails : Option Fault
-    session : Is_session o seen fails
+    may_fail : MayFail o seen fails
     finds : FindsLeft (Some left) (LeftBy o seen fails)
 
-  module _ (goes_on : ServedSessionsGoOn moment) (failed : FailedSessionsGoOn moment) where
-    module _ (handed : L) (o : Origin) (seen : Seen) (now : Coordinator L) (is : IsSession moment handed o seen now) (order : (moment handed).is_in_order) where
-      left_so : (left : Coordinator L) → IsLeft moment now left → AreOnBranches o seen → HoldsItsBook moment true left.session.manager
-          → IsLeftSo o seen left
-      left_so _ AfterLine named holds =
-          let goes = goes_on is.threads is.rms is.lines is.replies is.first now is.starts.stands is.replied is.no_fault o is.begins (is.starts.old o is.begins)
-              seen is.told is.keeps in
+  module _ (laws : Laws L) (handed : L) (o : Origin) (seen : Seen) (now : Coordinator L) (is : IsSession moment handed o seen now) where
+    left_so : (left : Coordinator L) → IsLeft moment now left → HoldsItsBook moment true left.session.manager → IsLeftSo o seen left
+    left_so _ AfterLine holds = record {
+      fails = None;
+      may_fail = tt;
+      finds = λ c next left raised. laws.left o seen now.session c next is.tracks (left_tied moment true now.session.manager c holds left) raised;
+    }
+    left_so _ (InRequest request left asks performs) holds =
+        let failed = failed_in_request moment laws.decision laws.settlement laws.done o seen now left is.tracks request asks performs in
+        record {
+          fails = Some failed.fault;
+          may_fail = failed.step.may_fail;
+          finds = λ c next was raised.
+              failed.step.finds c next (subst (λ k. IsTied true k (Some c)) failed.book (left_tied moment true left.session.manager c holds was)) raised;
+        }
+
+    left_keeps : (left : Coordinator L) → IsLeft moment now left → KeepsLog moment now.session.manager left.session.manager
+    left_keeps _ AfterLine = same_keeps moment now now refl
+    left_keeps _ (InRequest request left asks performs) = performs.keeps
+
+    module _ (last : Option (Coordinator L)) (from to : Branch → Standing) (before : AreSessions last from) (handed_on : IsHandedOn moment last handed)
+        (left : Coordinator L) (is_left : IsLeft moment now left) (honest : (moment (log_in left.session.manager)).is_honest) (used : List Line)
+        (may : MayAllStand o seen (λ b. Comes seen b (broken (from b))) used to) where
+      since_start : KeepsLog moment is.first.session.manager left.session.manager
+      since_start =
+          both_keep moment is.first.session.manager now.session.manager left.session.manager
+          (replies_keep moment is.lines is.replies is.first now is.replied) (left_keeps left is_left)
+
+      honest_first : (moment (log_in is.first.session.manager)).is_honest
+      honest_first = since_start.honest honest
+
+      holds : HoldsItsBook moment true left.session.manager
+      holds = since_start.holds true (is.starts.over.order handed_on.order) honest (is.starts.holds handed_on.order honest_first)
+
+      raised : IsRaisedFrom handed_on.left o
+      raised =
+          raised_from moment is.threads is.rms handed is.first is.starts handed_on.order honest_first handed_on.content handed_on.has o is.begins
+          handed_on.left handed_on.same.decisions handed_on.same.heuristics handed_on.raised
+
+      one_more : AreSessions (Some left) to
+      one_more =
+          let so = left_so left is_left holds in
+          let session : Is_session o seen so.fails = record {
+            old = is.starts.old o is.begins;
+            keeps = is.tracks.0;
+            on_branches = calls_on_branches o.threads is.lines is.replies Start seen is.told tt;
+            may_fail = so.may_fail;
+          } in
           record {
-            fails = None;
-            session = record {
-              old = is.starts.old o is.begins;
-              keeps = is.keeps;
-              named = named.named;
-              named_first = named.named_first;
-              may_fail = tt;
-            };
-            finds = λ c next left raised. goes.finds c next (left_tied moment true now.session.manager c holds left) raised;
+            log = LeftBy o seen so.fails;
+            after = One_session before.log from to o seen so.fails used before.after (before.finds handed_on.left o handed_on.was_left raised) session may;
+            finds = so.finds;
+            holds = holds;
           }
-      left_so _ (InRequest request left asks performs) named holds =
-          let goes = failed is.threads is.rms is.lines is.replies request is.first now left is.starts.stands is.replied is.no_fault asks performs o is.begins
-              (is.starts.old o is.begins) seen is.told is.keeps in
-          record {
-            fails = Some (fault_by request now.session);
-            session = record {
-              old = is.starts.old o is.begins;
-              keeps = is.keeps;
-              named = named.named;
-              named_first = named.named_first;
-              may_fail = goes.may_fail;
-            };
-            finds = λ c next was raised. goes.finds c next (left_tied moment true left.session.manager c holds was) raised;
-          }
+
+  -- ** all of them
+
+  pub are_sessions : Laws L → (last : Option (Coordinator L)) (f : Branch → Standing) → AreServed moment last f → AreSessions last f
+  are_sessions laws _ _ NoneYet = record {
+    log = Empty 0;
+    after = No_session 0;
+    finds = λ c o left raised. empty_found c o left raised;
+    holds = tt;
+  }
+  are_sessions laws _ _ (OneMore last from to handed o seen now left used before handed_on is is_left honest may) =
+      one_more laws handed o seen now is last from to (are_sessions laws last from before) handed_on left is_left honest used may
+  are_sessions laws _ _ (Between last from to d how before was final) =
+      let b = are_sessions laws last from before in
+      record { log = b.log; after = Ends_between b.log from to d how b.after was final; finds = b.finds; holds = b.holds }

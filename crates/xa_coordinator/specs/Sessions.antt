@@ -16,20 +16,17 @@ use Rattle.xa_coordinator.specs.Telling.{HaveTold, is_log_fault}
 use Rattle.xa_coordinator.specs.declared.coordinator.Coordinator.{Coordinator}
 use Rattle.xa_log.specs.Content.{Content}
 use Rattle.xa_log.specs.Contract.{Honestly, Moment}
-use Rattle.xa_model.specs.Facts.{next_call}
 use Rattle.xa_model.specs.Promises.Agreement.{IsUndone}
-use Rattle.xa_model.specs.Protocol.{IsRun}
-use Rattle.xa_model.specs.Trace.{Branch, Call, How, Line, Origin, Trace}
+use Rattle.xa_model.specs.Trace.{Branch, How, Line, Origin}
 use Rattle.xa_requests.specs.declared.request.Request.{Request}
 use Rattle.xa_requests.specs.declared.response.Response.{Response}
 use Rattle.xa_requests.specs.declared.response.Response.TheVariants as responses
 use Rattle.xa_serve.specs.Following.{StandsAtStart}
 use Rattle.xa_serve.specs.Logging.{HoldsItsBook, LeavesContent}
 use Rattle.xa_serve.specs.Tracking.{KeepsTrack}
-use Rattle.xa_standings.specs.Agreement.{IsLineOf, MayAllStand, StandAlike}
+use Rattle.xa_standings.specs.Agreement.{MayAllStand, StandAlike}
 use Rattle.xa_standings.specs.Explained.{IsOldLog}
-use Rattle.xa_standings.specs.Named.{AreNamed, IsNamedCall}
-use Rattle.xa_standings.specs.Seen.{IsHistory, Seen, Seen.Start}
+use Rattle.xa_standings.specs.Seen.{Seen, Seen.Start}
 use Rattle.xa_standings.specs.Standings.{Comes}
 use Rattle.xa_tm.specs.Begins.{BeginsWith}
 use Rattle.xa_tm.specs.BookAndLog.{SameRows}
@@ -94,11 +91,6 @@ pub data IsLeft {L : Type 0} (moment : L → Moment) (now : Coordinator L) : Coo
       (request : Request) (left : Coordinator L) → AsksForRows request → Performs moment request now (responses.Refused LogFault) left
       → IsLeft moment now left
 
--- each call that was made, or that waits first, is on a branch that has an identifier
-pub record AreOnBranches (o : Origin) (seen : Seen) : Type 0 where
-  pub named : AreNamed seen
-  pub named_first : (tr : Trace) (l : Line) (c : Call) → IsHistory o seen tr → IsRun tr → IsLineOf o l → next_call tr l ≡ Some c → IsNamedCall c
-
 -- ** all of them
 
 -- Where all branches may stand after sessions one after another, the last of which was left so. Each is over the log that the one before it
@@ -110,7 +102,7 @@ pub data AreServed {L : Type 0} (moment : L → Moment) : Option (Coordinator L)
   OneMore :
       (last : Option (Coordinator L)) (from to : Branch → Standing) (handed : L) (o : Origin) (seen : Seen) (now left : Coordinator L)
       (used : List Line) → AreServed moment last from → IsHandedOn moment last handed → IsSession moment handed o seen now
-      → IsLeft moment now left → (moment (log_in left.session.manager)).is_honest → AreOnBranches o seen
+      → IsLeft moment now left → (moment (log_in left.session.manager)).is_honest
       → MayAllStand o seen (λ b. Comes seen b (broken (from b))) used to → AreServed moment (Some left) to
   Between :
       (last : Option (Coordinator L)) (from to : Branch → Standing) (d : Branch) (how : How) → AreServed moment last from

@@ -35,6 +35,7 @@ use Rattle.xa_standings.specs.Standings.{Comes}
 use Rattle.xa_standings.proofs.Agreeing.{LeavesThere, ended_named, from_known}
 use Rattle.xa_standings.proofs.Books.{AsksIf, SameBooks, finds_same}
 use Rattle.xa_standings.proofs.Choices.{behind_right, same_there, unstarted_still}
+use Rattle.xa_standings.proofs.Names.{done_named, first_named}
 
 -- ** standings
 
@@ -260,7 +261,9 @@ module _ (log : Log) (from to : Branch → Standing) (r : IsReached log from) (o
     stands_so b = same_there past start last r.right resumes last_start last_runs b (known b)
 
     last_named : AllAreNamed last
-    last_named = named_failed fails x.now (x.named session.named (λ l c has e. session.named_first x.told l c told_history x.told_runs has e))
+    last_named = named_failed fails x.now (x.named
+        (done_named o seen x.told told_history x.told_runs session.keeps session.on_branches)
+        (λ l c has e. first_named o seen x.told l c told_history session.keeps session.on_branches e))
 
     -- what a start finds that finds what the session left
     finds_it : (next : Origin) → Finds (LeftBy o seen fails) next → FindsLog (behind (resumed past start) last) next

@@ -13,7 +13,7 @@ use Rattle.xa_model.specs.Protocol.{IsRun, RightFault}
 use Rattle.xa_model.specs.Trace.{Branch, Call, Fault, Fault.InDecide, Fault.InDone, Fault.InResolve, Happening.Failed, How, Line, Origin, Trace, Trace.From, Trace.Then}
 use Rattle.xa_standings.specs.Agreement.{IsLineOf, MayAllStand}
 use Rattle.xa_standings.specs.Explained.{IsOldLog}
-use Rattle.xa_standings.specs.Named.{AreNamed, IsNamedCall}
+use Rattle.xa_standings.specs.Named.{AreOnBranches}
 use Rattle.xa_standings.specs.Seen.{IsHistory, KeepsRules, Seen}
 use Rattle.xa_standings.specs.Standings.{Comes}
 
@@ -67,13 +67,12 @@ Finds (LeftBy o seen fails) next = (tr : Trace) → IsHistory o seen tr → IsRu
 
 -- ** the sessions
 
--- A session: its start has what was found in the log; the manager kept its rules in what was seen, in which each call is on a branch with
+-- A session: its start has what was found in the log; the manager kept its rules in what was seen, in which each call is on a branch that has
 -- an identifier; and where its log failed in a step, or the program was killed in one, that was right.
 pub record IsSession (o : Origin) (seen : Seen) (fails : Option Fault) : Type 0 where
   pub old : IsOldLog o
   pub keeps : KeepsRules o seen
-  pub named : AreNamed seen
-  pub named_first : (tr : Trace) (l : Line) (c : Call) → IsHistory o seen tr → IsRun tr → IsLineOf o l → next_call tr l ≡ Some c → IsNamedCall c
+  pub on_branches : AreOnBranches seen
   pub may_fail : MayFail o seen fails
 
 -- Where all branches may stand after sessions one after another, and what log these leave. Between two sessions what was open is lost, and
