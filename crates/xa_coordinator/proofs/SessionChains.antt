@@ -1,16 +1,20 @@
 -- Sessions of drivers one after another agree.
 use Rattle.std.proofs.Common.{◌≡◌, ◌<◌, ◌≤◌, ◌+◌, ℕ, true, List, [], ◌∷◌, length, Option, Some, None, IsSomeAnd, refl, sym, ap, ◌∙◌, subst, arith}
-use Rattle.std.specs.FinMap.{len}
-use Rattle.std.specs.Prelude.{◌==◌, if◌then◌else◌}
+use Rattle.std.specs.FinMap.{get, len}
+use Rattle.std.specs.Prelude.{◌==◌, if◌then◌else◌, is_some}
+use Rattle.xa_base.specs.HeldBranch.{new_branch}
+use Rattle.xa_base.specs.Scan.{Scan.NotOpen}
 use Rattle.xa_base.specs.StateTable.{broken}
 use Rattle.xa_base.specs.declared.state.Standing.{Standing}
 use Rattle.xa_coordinator.proofs.BranchLemmas.{calls_on_branches}
 use Rattle.xa_coordinator.proofs.Failures.{failed_in_request}
 use Rattle.xa_coordinator.proofs.LogLemmas.{replies_keep, same_keeps}
-use Rattle.xa_coordinator.specs.Sessions.{AreServed, AreServed.Between, AreServed.NoneYet, AreServed.OneMore, IsEmptyLog, IsHandedOn, IsLeft, IsLeft.AfterLine, IsLeft.InRequest, IsSession, StartsOver, WasLeft}
+use Rattle.xa_coordinator.specs.Sessions.{AreServed, AreServed.Between, AreServed.NoneYet, AreServed.OneMore, IsEmptyLog, IsHandedOn, IsLeft, IsLeft.AfterLine, IsLeft.InRequest, IsSession, LogDecides, StartsOver, WasLeft}
 use Rattle.xa_coordinator.specs.declared.coordinator.Coordinator.{Coordinator}
 use Rattle.xa_log.specs.Content.{Content, with_bump}
 use Rattle.xa_log.specs.Contract.{Moment}
+use Rattle.xa_base.specs.declared.branch.Gtrid.{Gtrid}
+use Rattle.xa_model.specs.Facts.{lists_row}
 use Rattle.xa_model.specs.Facts.Distinct.{ApartRows}
 use Rattle.xa_model.specs.Promises.Processes.{SameRecords, SameRows as SameRowLists}
 use Rattle.xa_model.specs.Trace.{Branch, Fault, Line, Origin, Recorded, Row, Trace.From}
@@ -19,13 +23,15 @@ use Rattle.xa_serve.specs.Logging.{HoldsItsBook, KeepsLog, LeavesContent}
 use Rattle.xa_serve.specs.Tracking.{FailedDecisionsAreFound, FailedDonesAreFound, FailedSettlementsAreFound, IsRaisedFrom, StartsFindTheLog}
 use Rattle.xa_standings.specs.Agreement.{MayAllStand}
 use Rattle.xa_standings.specs.Seen.{Seen, Seen.Start}
-use Rattle.xa_standings.specs.Sessions.{AfterSessions, AfterSessions.Between as Ends_between, AfterSessions.NoneYet as No_session, AfterSessions.OneMore as One_session, Finds, FindsLog, IsSession as Is_session, Log, Log.Empty, Log.LeftBy, MayFail, nothing_yet}
+use Rattle.xa_standings.specs.Sessions.{AfterSessions, AfterSessions.Between as Ends_between, AfterSessions.NoneYet as No_session, AfterSessions.OneMore as One_session, Finds, FindsLog, IsSession as Is_session, Log, Log.Empty, Log.LeftBy, MayFail, RowsDecide, nothing_yet}
 use Rattle.xa_standings.specs.Standings.{Comes}
 use Rattle.xa_tm.specs.Begins.{BeginsWith}
 use Rattle.xa_tm.specs.Book.{Book, book_of}
 use Rattle.xa_tm.specs.BookAndLog.{IsTied}
 use Rattle.xa_tm.specs.Calls.{book_in, log_in}
-use Rattle.xa_tm.specs.Starting.{HasContent, book_at_start}
+use Rattle.xa_tm.proofs.History.OneMore.{lists_is}
+use Rattle.xa_tm.specs.Laws.{StartRowsAreApart}
+use Rattle.xa_tm.specs.Starting.{HasContent, StartsHaveContent, book_at_start, records_from, rows_from}
 
 -- ** a start over a log that was handed on
 
@@ -70,22 +76,30 @@ no_items : {X : Type 0} (xs : List X) → length xs ≡ 0 → xs ≡ []
 no_items [] e = refl
 no_items (x ∷ xs) e = absurd (omega (arith, e))
 
--- it finds an empty log
+-- it has no rows and no records
+pub record HasNone (o : Origin) : Type 0 where
+  pub rows : o.rows ≡ []
+  pub records : o.heuristic_rows ≡ []
+
+pub none_there : (c : Content) (o : Origin) → IsEmptyLog c → IsRaisedFrom c o → HasNone o
+none_there c o none raised = record {
+  rows = no_items o.rows (raised.has.row_number ∙ (ap len raised.rows ∙ none.no_rows));
+  records = no_items o.heuristic_rows (raised.has.record_number ∙ (ap len raised.records ∙ none.no_records));
+}
+
+-- so it finds an empty log
 empty_found : (c : Content) (o : Origin) → IsEmptyLog c → IsRaisedFrom c o → FindsLog (nothing_yet 0) o
 empty_found c o none raised = record {
   later =
       let has = raised.has.incarnation in
       let more = raised.raised in
       omega (arith, has, more);
-  rows = subst (λ xs. SameRowLists xs (if length xs == 0 then [] else [])) (sym rows) no_rows;
-  records = subst (λ xs. SameRecords xs (if length xs == 0 then [] else [])) (sym records) no_records;
+  rows = subst (λ xs. SameRowLists xs (if length xs == 0 then [] else [])) (sym has.rows) no_rows;
+  records = subst (λ xs. SameRecords xs (if length xs == 0 then [] else [])) (sym has.records) no_records;
 }
   where
-    rows : o.rows ≡ []
-    rows = no_items o.rows (raised.has.row_number ∙ (ap len raised.rows ∙ none.no_rows))
-
-    records : o.heuristic_rows ≡ []
-    records = no_items o.heuristic_rows (raised.has.record_number ∙ (ap len raised.records ∙ none.no_records))
+    has : HasNone o
+    has = none_there c o none raised
 
     no_rows : SameRowLists [] []
     no_rows = record { number = refl; count = λ g. refl; participants = λ g b. refl }
@@ -194,3 +208,41 @@ module _ {L : Type 0} (moment : L → Moment) where
   are_sessions laws _ _ (Between last from to d how before was final) =
       let b = are_sessions laws last from before in
       record { log = b.log; after = Ends_between b.log from to d how b.after was final; finds = b.finds; holds = b.holds }
+
+-- ** what the log says that is left
+
+-- a start over a content
+abbrev pub start_of : Content → Origin
+start_of c = record {
+  threads = 0;
+  rms = 0;
+  incarnation = c.incarnation + 1;
+  rows = rows_from c;
+  heuristic_rows = records_from c;
+  held = λ r x. new_branch;
+  in_doubt = λ r. [];
+  scans = λ r. NotOpen;
+}
+
+module _ (have_content : StartsHaveContent) (are_apart : StartRowsAreApart) (c : Content) where
+  has_it : HasContent (start_of c) (with_bump c)
+  has_it = have_content (start_of c) (with_bump c) refl refl refl
+
+  pub raised_once : IsRaisedFrom c (start_of c)
+  raised_once = record {
+    found = with_bump c;
+    has = has_it;
+    rows = refl;
+    records = refl;
+    raised = let more : c.incarnation < c.incarnation + 1 = omega arith in more;
+    apart = are_apart c;
+  }
+
+  listed : (g : Gtrid) → lists_row (start_of c).rows g ≡ is_some (get c.decisions g)
+  listed g = lists_is (start_of c).rows g ∙ ap is_some (has_it.rows g)
+
+  pub log_decides : (f : Branch → Standing) → RowsDecide f (start_of c) → LogDecides f c
+  log_decides f rows = record {
+    committed = λ b d same committed prepared. sym (listed b.gtrid) ∙ rows.committed b d same committed prepared;
+    undone = λ b u. sym (listed b.gtrid) ∙ rows.undone b u;
+  }

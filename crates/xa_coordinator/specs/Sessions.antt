@@ -1,8 +1,8 @@
 -- Sessions of drivers one after another, over one log and the same databases, and where all branches then stand at databases that obey the
 -- branch state table. Nothing is supposed of the coordinator: of the log only that it is in order and honest, which is its library's to
 -- prove, and that it is handed on.
-use Rattle.std.specs.Prelude.{◌≡◌, ◌≤◌, ℕ, true, false, if◌then◌else◌, List, Option, Some, None}
-use Rattle.std.specs.FinMap.{contains_key, len}
+use Rattle.std.specs.Prelude.{◌≡◌, ◌≤◌, ℕ, true, false, if◌then◌else◌, List, Option, Some, None, is_some}
+use Rattle.std.specs.FinMap.{get, len}
 use Rattle.std.specs.List.{list_any}
 use Rattle.xa_base.specs.Branch.{branch_eq}
 use Rattle.xa_base.specs.StateTable.{broken}
@@ -114,15 +114,15 @@ ServedSessionsAgree {L} moment = (last : Option (Coordinator L)) (f : Branch →
 
 -- A log decides of what is prepared still: it has the row of each transaction of which a branch stands committed beside one that stands
 -- prepared, and no row of one of which a branch stands rolled back or lost.
-pub record RowsDecide (f : Branch → Standing) (log : Content) : Type 0 where
-  pub committed : (b c : Branch) → b.gtrid ≡ c.gtrid → f b ≡ Committed → f c ≡ Prepared → contains_key log.decisions b.gtrid ≡ true
-  pub undone : (b : Branch) → IsUndone (f b) → contains_key log.decisions b.gtrid ≡ false
+pub record LogDecides (f : Branch → Standing) (log : Content) : Type 0 where
+  pub committed : (b c : Branch) → b.gtrid ≡ c.gtrid → f b ≡ Committed → f c ≡ Prepared → is_some (get log.decisions b.gtrid) ≡ true
+  pub undone : (b : Branch) → IsUndone (f b) → is_some (get log.decisions b.gtrid) ≡ false
 
 -- So does the log that the last session left, and whatever a crash leaves of it.
-abbrev pub ServedRowsDecide : {L : Type 0} → (L → Moment) → Type 0
-ServedRowsDecide {L} moment =
+abbrev pub ServedLogsDecide : {L : Type 0} → (L → Moment) → Type 0
+ServedLogsDecide {L} moment =
     (last : Coordinator L) (f : Branch → Standing) (c : Content) → AreServed moment (Some last) f
-    → LeavesContent moment last.session.manager c → RowsDecide f c
+    → LeavesContent moment last.session.manager c → LogDecides f c
 
 -- What lines and their replies tell is known of each session that starts over a log that it is handed.
 abbrev pub ServedSessionsAreSeen : {L : Type 0} → (L → Moment) → Type 0

@@ -3,7 +3,7 @@
 ghost use Rattle.xa_coordinator.specs.Branches.{CallsAreOnBranches};
 ghost use Rattle.xa_coordinator.specs.Faults.{FaultsLeaveAllOrNone};
 ghost use Rattle.xa_coordinator.specs.Managers.{ManagersAreApart, RepliesTellOwn};
-ghost use Rattle.xa_coordinator.specs.Sessions.{ServedSessionsAgree, ServedSessionsAreSeen};
+ghost use Rattle.xa_coordinator.specs.Sessions.{ServedLogsDecide, ServedSessionsAgree, ServedSessionsAreSeen};
 ghost use Rattle.xa_coordinator.specs.Tracking.{RepliesAreTracked, ServedDatabasesAgree};
 ghost use Rattle.xa_coordinator.specs.Tracking.{ServedSessionsAreExplained, SessionsAreTracked};
 ghost use Rattle.xa_coordinator.specs.Votes.{CommitsAreLogged, VotedCommitsAreLogged};
@@ -16,6 +16,7 @@ use xa_serve::{
     steps_are_tracked,
 };
 use xa_standings::{answers_are_explained, sessions_agree};
+use xa_tm::starts_are_histories;
 
 /// A session that tracks what was seen does so with each request and its reply (`performs` of
 /// [`Coordinator::perform`](crate::Coordinator::perform)), as long as the log doesn't fail: just what both tell is seen
@@ -86,9 +87,11 @@ pub fn served_databases_agree<L: DecisionLog + Drop>()
 /// - `seen`: each session that starts so is one of these.
 pub fn served_sessions_agree<L: DecisionLog + Drop>()
     ensures agree { ServedSessionsAgree L.moment }
+    ensures rows { ServedLogsDecide L.moment }
     ensures seen { ServedSessionsAreSeen L.moment }
 {
     sessions_agree();
+    starts_are_histories();
     starts_find_the_log::<L>();
     starts_are_tracked::<L>();
     sessions_are_tracked::<L>();
