@@ -19,7 +19,7 @@ class Costs:
 
     def quick(self):
         minutes = QUICK / jobs_for(BYTES_A_JOB)
-        return f"the quick part is done, and nothing is proved: about {self.rounded(minutes)} with {self.on()}"
+        return f"the quick part is done, and nothing is proved: about {self.rounded(minutes)}, {self.on()}"
 
     def whole(self):
         """By the lines of the crates that haven't passed here as they are."""
@@ -30,7 +30,7 @@ class Costs:
         parts.append(self.part([it for it in left if edits[it]], [it for it in self.crates if edits_of(it)[0]]) * SEEDS)
         minutes = (QUICK + sum(parts)) / jobs_for(BYTES_A_JOB) + PROGRAMS
         kept = f"of {len(self.crates)} crates {len(self.crates) - len(left)} have passed here as they are"
-        return f"the quick part is done, and then the whole gate: about {self.rounded(minutes)} with {self.on()}; {kept}"
+        return f"the quick part is done, and then the whole gate: about {self.rounded(minutes)}, {self.on()}; {kept}"
 
     @staticmethod
     def part(some, every):
@@ -38,7 +38,8 @@ class Costs:
 
     @staticmethod
     def on():
-        return f"{processors()} processor{'s' * (processors() > 1)} that nothing else uses"
+        """Of a machine that is busy now the free memory alone counts, not how long others make it wait."""
+        return f"{jobs_for(BYTES_A_JOB)} at a time, if nothing else uses the {processors()} processors"
 
     @staticmethod
     def rounded(minutes):

@@ -1,10 +1,12 @@
 """What this machine has, and processes that end with this one."""
 
 import contextlib
+import ctypes
 import os
 import signal
 import subprocess
 import sys
+import time
 
 BYTES_A_JOB = 3 << 30
 
@@ -31,25 +33,45 @@ def on_signals(ends):
         signal.signal(it, stop)
 
 
+def descendants():
+    """All processes that run because this one has started them, or one of them."""
+    parents, ended = {}, set()
+    for it in filter(str.isdigit, os.listdir("/proc")):
+        with contextlib.suppress(OSError), open(f"/proc/{it}/stat", encoding="utf-8", errors="replace") as stat:
+            state, parent = stat.read().rpartition(")")[2].split()[:2]
+            parents[int(it)] = int(parent)
+            if state == "Z":
+                ended.add(int(it))
+    found, last = set(), {os.getpid()}
+    while last:
+        last = {it for it, parent in parents.items() if parent in last}
+        found |= last
+    return found - ended
+
+
 class Running:
-    """Processes, each in a group of its own, all of which stop ends."""
+    """Processes all of which stop ends, with all that they started: some put those into groups of their own."""
+
+    # Of what has lost its parent this process becomes the parent.
+    SET_CHILD_SUBREAPER = 36
 
     def __init__(self):
-        self.groups, self.is_stopped = set(), False
+        self.is_stopped = False
+        ctypes.CDLL(None).prctl(self.SET_CHILD_SUBREAPER, 1, 0, 0, 0)
 
     def start(self, words, **how):
         if self.is_stopped:
             raise InterruptedError
-        started = subprocess.Popen(words, stdin=subprocess.DEVNULL, start_new_session=True, **how)
-        self.groups.add(started.pid)
-        return started
-
-    def ended(self, started):
-        self.groups.discard(started.pid)
+        return subprocess.Popen(words, stdin=subprocess.DEVNULL, start_new_session=True, **how)
 
     def stop(self):
+        """Asks all to end, and then makes them."""
         self.is_stopped = True
-        for number in (signal.SIGTERM, signal.SIGKILL):
-            for it in list(self.groups):
-                with contextlib.suppress(ProcessLookupError):
-                    os.killpg(it, number)
+        for number in (signal.SIGTERM, *[signal.SIGKILL] * 3):
+            for it in descendants():
+                with contextlib.suppress(OSError):
+                    os.kill(it, number)
+            for _ in range(20):
+                if not descendants():
+                    return
+                time.sleep(0.1)

@@ -92,7 +92,6 @@ class Runner:
                 sys.stdout.flush()
                 lines.append(it)
             status = started.wait()
-            self.running.ended(started)
             out.seek(0)
             text = "".join(lines) or out.read()
         count = part.count(status, text)
