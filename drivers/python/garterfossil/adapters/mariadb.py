@@ -59,13 +59,15 @@ class MariaDB(Database):
 
     def connect(self, place: Place = Place()) -> MariaDBConnection:
         connection = MariaDBConnection(self._link(place), self._lock_timeout, place)
-        connection.take_lock()
+        with connection.timed(place.patience):
+            connection.take_lock()
         return connection
 
     def end_connections(self, kept: Collection[int], place: Place = Place()) -> int:
         connection = MariaDBConnection(self._link(place), self._lock_timeout, place)
         try:
-            return connection.end_others(kept)
+            with connection.timed(place.patience):
+                return connection.end_others(kept)
         finally:
             connection.close()
 
@@ -75,7 +77,11 @@ class MariaDB(Database):
         seconds = max(2, math.ceil(place.patience))
         waits = {"connect_timeout": seconds, "read_timeout": seconds, "write_timeout": seconds}
         try:
-            return pymysql.connect(autocommit=True, **{**waits, **self._parameters})
+            link = pymysql.connect(autocommit=True, **{**waits, **self._parameters})
+            for word in ("read_timeout", "write_timeout"):
+                # They were for the greeting, which PyMySQL waits for by them alone. A statement may take longer.
+                setattr(link, f"_{word}", self._parameters.get(word))
+            return link
         except (pymysql.err.MySQLError, OSError) as error:
             if error.args and error.args[0] in REFUSALS:
                 raise SetupError(str(error)) from error
@@ -92,9 +98,13 @@ class MariaDBConnection(Connection):
     def __init__(self, link: Any, lock_timeout: int, place: Place = Place()):
         super().__init__(link, place)
         self.number = link.thread_id()
-        self.run(f"SET innodb_lock_wait_timeout = {int(lock_timeout)}")
+        with self.timed(place.patience):
+            self.run(f"SET innodb_lock_wait_timeout = {int(lock_timeout)}")
 
-    def close(self) -> None:
+    def _descriptor(self) -> Optional[int]:
+        return int(self.link._sock.fileno())
+
+    def _close(self) -> None:
         import pymysql
 
         try:
@@ -174,6 +184,8 @@ class MariaDBConnection(Connection):
         import pymysql
 
         try:
+            if self.options.modes:
+                self.run("SET TRANSACTION " + ", ".join(self.options.modes))
             self._xa("START", xid)
         except pymysql.err.MySQLError as error:
             if error.args[0] == IN_USE:

@@ -65,7 +65,8 @@ class PostgreSQL(Database):
     def end_connections(self, kept: Collection[int], place: Place = Place()) -> int:
         connection = PostgreSQLConnection(self._link(f"{self._label(place)} recovery", place), self._lock_timeout, place)
         try:
-            return connection.end_others(self._label(place), kept)
+            with connection.timed(place.patience):
+                return connection.end_others(self._label(place), kept)
         finally:
             connection.close()
 
@@ -101,15 +102,19 @@ class PostgreSQLConnection(Connection):
         self.number = link.get_backend_pid()
         # Whether psycopg2 takes the connection for one with a transaction of psycopg2's own.
         self._is_begun = False
-        self.run(f"SET lock_timeout = {int(lock_timeout * 1000)}")
-        most = int(self.run("SHOW max_prepared_transactions").rows[0][0])
-        if most < max(1, place.threads):
+        with self.timed(place.patience):
+            self.run(f"SET lock_timeout = {int(lock_timeout * 1000)}")
+            most = int(self.run("SHOW max_prepared_transactions").rows[0][0])
+        if most < place.threads:
             self.close()
             raise SetupError(
-                f"max_prepared_transactions of PostgreSQL is {most}: set it to {max(1, place.threads)} or more, the number of threads"
+                f"max_prepared_transactions of PostgreSQL is {most}: set it to {place.threads} or more, the number of threads"
             )
 
-    def close(self) -> None:
+    def _descriptor(self) -> Optional[int]:
+        return int(self.link.fileno())
+
+    def _close(self) -> None:
         import psycopg2
 
         try:
@@ -176,7 +181,7 @@ class PostgreSQLConnection(Connection):
 
     def _start(self, xid: Xid) -> Code:
         # An identifier that is in use is found as the branch is prepared.
-        self.run("BEGIN")
+        self.run(" ".join(["BEGIN", ", ".join(self.options.modes)]).strip())
         return Code.OK
 
     def _end(self, xid: Xid) -> None:
