@@ -10,6 +10,7 @@ use Rattle.xa_log.specs.Content.{Content}
 use Rattle.xa_model.specs.Promises.Processes.{SameRecords, SameRows}
 use Rattle.xa_model.specs.Trace.{Branch, Origin, Recorded, Row}
 use Rattle.xa_serve.specs.Tracking.{fault_in}
+use Rattle.xa_standings.specs.Seen.{Seen.Start}
 use Rattle.xa_standings.specs.Sessions.{AfterSessions, AfterSessions.Between as Ends_between, AfterSessions.NoneYet as No_session, AfterSessions.OneMore as One_session, Finds, FindsLog, IsSession, Log, nothing_yet}
 
 no_items : {X : Type 0} (xs : List X) → length xs ≡ 0 → xs ≡ []
