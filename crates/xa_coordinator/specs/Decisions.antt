@@ -80,6 +80,8 @@ module _ {L : Type 0} where
   pub record Settles (g : Gtrid) (old new : Session L) (result : Result (Unit {0}) Refusal) : Type 0 where
     pub rules : ObeysRules (refusal_at old (Steps.Settle g)) old new result
     pub asks : AsksLog (refusal_at old (Steps.Settle g)) (FailsBy (Adds (rows_for (book_in old.manager) (g ∷ []))) (InDecide (g ∷ []))) old new result
+    -- it fails by the log only where a row is to be written: of a transaction that some branch voted XA_OK for
+    pub asked : refusal_at old (Steps.Settle g) ≡ None → result ≡ Err Refusals.LogFault → ((book_in old.manager).transaction g).has_yes ≡ true
     pub decided : OnOk result (Happens (Decided g Outcomes.Commit) old new)
 
   pub record Finishes (gs : List Gtrid) (old new : Session L) (result : Result (Unit {0}) Refusal) : Type 0 where

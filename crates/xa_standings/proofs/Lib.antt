@@ -8,3 +8,4 @@ pub mod Names
 pub mod Pages
 pub mod RowLemmas
 pub mod Taken
+mod OneHistory

@@ -1,17 +1,18 @@
 -- Sessions one after another over the same databases and the same log; and where all branches then stand, at databases that obey the
 -- branch state table.
-use Rattle.std.specs.Prelude.{ℕ, ◌≡◌, ◌<◌, if◌then◌else◌, List, [], Option, Some, None}
+use Rattle.std.specs.Prelude.{ℕ, ◌≡◌, ◌⊎◌, ◌<◌, true, false, if◌then◌else◌, List, [], Option, Some, None}
 use Rattle.xa_base.specs.Branch.{branch_eq}
 use Rattle.xa_base.specs.HeldBranch.{new_branch}
 use Rattle.xa_base.specs.Scan.{Scan.NotOpen}
 use Rattle.xa_base.specs.StateTable.{broken}
 use Rattle.xa_base.specs.declared.state.Standing.{Standing}
-use Rattle.xa_base.specs.declared.state.Standing.TheVariants.{Completed, Prepared, Unstarted}
-use Rattle.xa_model.specs.Facts.{heuristic_rows, incarnation, log as rows_of, next_call}
-use Rattle.xa_model.specs.Promises.Processes.{SameRecords, SameRows, resumed}
-use Rattle.xa_model.specs.Protocol.{IsRun, RightFault}
-use Rattle.xa_model.specs.Trace.{Branch, Call, Fault, Fault.InDecide, Fault.InDone, Fault.InResolve, Happening.Failed, How, Line, Origin, Trace, Trace.From, Trace.Then}
-use Rattle.xa_standings.specs.Agreement.{IsLineOf, MayAllStand}
+use Rattle.xa_base.specs.declared.state.Standing.TheVariants.{Committed, Completed, Prepared, Unstarted}
+use Rattle.xa_model.specs.Facts.{ever, handed_over, heuristic_rows, incarnation, lists_row, log as rows_of, standing}
+use Rattle.xa_model.specs.Promises.Agreement.{IsUndone}
+use Rattle.xa_model.specs.Promises.Processes.{SameRecords, SameRows, gone, resumed}
+use Rattle.xa_model.specs.Protocol.{AllRight, IsRun, RightFault}
+use Rattle.xa_model.specs.Trace.{Branch, Fault, Fault.InDecide, Fault.InDone, Fault.InResolve, Happening.Failed, How, Line, Origin, Trace, Trace.From, Trace.Then}
+use Rattle.xa_standings.specs.Agreement.{MayAllStand}
 use Rattle.xa_standings.specs.Explained.{IsOldLog}
 use Rattle.xa_standings.specs.Named.{AreOnBranches}
 use Rattle.xa_standings.specs.Seen.{IsHistory, KeepsRules, Seen}
@@ -86,3 +87,23 @@ pub data AfterSessions : Log → (Branch → Standing) → Type 0 where
   Between :
       (log : Log) (from to : Branch → Standing) (d : Branch) (how : How) → AfterSessions log from → from d ≡ Prepared
       → ((b : Branch) → to b ≡ (if branch_eq d b then Completed how else from b)) → AfterSessions log to
+
+-- ** what follows
+
+-- The log that is left decides of what is prepared still: a start finds the row of each transaction of which a branch stands committed beside
+-- one that stands prepared, and no row of one of which a branch stands rolled back or lost.
+pub record RowsDecide (f : Branch → Standing) (next : Origin) : Type 0 where
+  pub committed : (b c : Branch) → b.gtrid ≡ c.gtrid → f b ≡ Committed → f c ≡ Prepared → lists_row next.rows b.gtrid ≡ true
+  pub undone : (b : Branch) → IsUndone (f b) → lists_row next.rows b.gtrid ≡ false
+
+-- There is one right history of all sessions. Once what was open is lost, it leaves each branch where that then stands; and the next start
+-- finds its rows and records. So all promises of right histories hold of it (`Headline`), and of the branches and the log as well. Of a
+-- branch that stands committed its transaction's row was written, if that wasn't committed in one phase; of one that stands rolled back or
+-- lost it never was.
+pub record HaveOneHistory (log : Log) (f : Branch → Standing) : Type 0 where
+  pub whole : Trace
+  pub right : AllRight whole
+  pub there : (b : Branch) → standing (gone whole) b ≡ broken (f b)
+  pub finds : (next : Origin) → Finds log next → FindsLog whole next
+  pub committed : (b : Branch) → f b ≡ Committed → (ever whole b.gtrid ≡ true) ⊎ (handed_over whole b.gtrid ≡ true)
+  pub undone : (b : Branch) → IsUndone (f b) → ever whole b.gtrid ≡ false

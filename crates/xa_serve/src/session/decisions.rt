@@ -1,6 +1,6 @@
 //! Transactions that begin, are claimed, and are settled or abandoned.
 
-ghost use Rattle.std.specs.Prelude.{◌≡◌, ◌≢◌, ◌+◌, [], ◌∷◌, Some, None, Err, IfErr, IfOk, OnErr, OnOk};
+ghost use Rattle.std.specs.Prelude.{◌≡◌, ◌≢◌, ◌+◌, [], ◌∷◌, Bool, true, Some, None, Err, IfErr, IfOk, OnErr, OnOk};
 ghost use Rattle.xa_base.specs.declared.refusal.Refusal.TheVariants as Refusals;
 ghost use Rattle.xa_base.specs.declared.step.Outcome.TheVariants as Outcomes;
 ghost use Rattle.xa_base.specs.declared.step.Step.TheVariants as Steps;
@@ -103,6 +103,10 @@ impl<L: DecisionLog + Drop> Session<L> {
         ensures err { refusal_at self.old (Steps.Settle gtrid) ≡ None →
             IfErr result (FailsBy (Adds (rows_for (book_in self.old.manager) (gtrid ∷ [])))
             (InDecide (gtrid ∷ [])) (book_in self.old.manager) (book_in self.new.manager)) }
+        // The log is asked only for a row: of a transaction that some branch voted XA_OK for.
+        ensures asked { refusal_at self.old (Steps.Settle gtrid) ≡ None →
+            result ≡ Err Refusals.LogFault →
+            ((book_in self.old.manager).transaction gtrid).has_yes ≡ true }
         ensures follows { OnOk result
             (Follows (Decided gtrid Outcomes.Commit) self.old self.new) }
         ensures stays { IfErr result (λ n. n ≢ Refusals.LogFault →

@@ -38,6 +38,12 @@ returns-clause-err g c =
     (record { manager = c.conclude.ensures.manager; lines = c.conclude.ensures.lines; happenings = c.conclude.ensures.happenings })
     c.conclude.ensures.value c.settle-reply.ensures.err
 
+pub returns-clause-asked : goal.returns-clause-asked
+returns-clause-asked g c = λ none fault.
+    let s = c.args.self.now in
+    c.settle-reply.ensures.asked (sym (refusal_is s (Steps.Settle c.args.gtrid) (sym c.is_over.ensures ∙ c.if-is_over.false)) ∙ none)
+    (sym c.conclude.ensures.value ∙ fault)
+
 pub returns-clause-follows : goal.returns-clause-follows
 returns-clause-follows g c =
     let s = c.args.self.now in
