@@ -1,4 +1,4 @@
-//! One caller of each library, each proved to do what its contract says, and run here. A file is named after its
+//! Callers of the libraries, each proved to do what its contract says, and run here. A file is named after its
 //! library, without the `xa_`; `serve` is a caller of `xa_coordinator`, `own_log`, `processes`, `recovery`, `swaps` and
 //! `crash` are further callers of `xa_system`, and `sql_jobs` of `xa_workers`.
 #![tactic(auto)]
