@@ -16,6 +16,9 @@ from .manager import TransactionManager
 from .transaction import Branch, Outcome, Transaction
 from .xid import Xid
 
+#: That of the program `xatm` that it fits.
+__version__ = "1.0.0"
+
 __all__ = [
     "Branch",
     "Code",
@@ -32,4 +35,5 @@ __all__ = [
     "TransactionManager",
     "XaError",
     "Xid",
+    "__version__",
 ]
