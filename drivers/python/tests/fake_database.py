@@ -15,6 +15,8 @@ class FakeDatabase(Database):
         #: What the next of some calls is answered, by the name of what makes it: a code, or an exception to raise. With
         #: `lost` the call is done, and its answer is lost.
         self.next = {}
+        #: What is called before some calls, by the same names.
+        self.before = {}
         self.calls = []
         self.connections = []
 
@@ -57,6 +59,7 @@ class FakeConnection(Connection):
         if self.is_lost:
             raise ConnectionLost("the connection is gone")
         self.database.calls.append(f"{name} {xid}")
+        self.database.before.get(name, lambda: None)()
         wanted = self.database.next.pop(name, Code.OK)
         if wanted == "lost":
             done()

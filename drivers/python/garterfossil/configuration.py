@@ -1,0 +1,101 @@
+"""A file that says what a transaction manager is made of, for a program and for `python -m garterfossil` alike."""
+
+from __future__ import annotations
+
+import importlib
+import os
+from dataclasses import dataclass, field
+from typing import Any, Dict, List, Mapping
+
+from .adapters.base import Database
+from .errors import SetupError
+from .manager import TransactionManager
+
+#: The kinds of databases, by the modules that reach them, and where their adapters are.
+KINDS = {
+    "postgresql": "garterfossil.adapters.postgresql:PostgreSQL",
+    "psycopg": "garterfossil.adapters.psycopg:PostgreSQL",
+    "mariadb": "garterfossil.adapters.mariadb:MariaDB",
+    "mysqlclient": "garterfossil.adapters.mysqlclient:MariaDB",
+}
+#: The keys of the file, except `database`, and the kinds of their values.
+KEYS: Mapping[str, Any] = {"log": str, "name": str, "threads": int, "patience": (int, float), "program": str}
+
+
+@dataclass(frozen=True)
+class Configuration:
+    """What a transaction manager is made of. `options` are keywords of `TransactionManager`."""
+
+    databases: List[Database]
+    log: str
+    options: Dict[str, Any] = field(default_factory=dict)
+
+    @classmethod
+    def read(cls, path: str) -> Configuration:
+        """What a file of TOML says. Raises SetupError if it can't be read, or says something else."""
+        return cls.of(_toml(path), path)
+
+    @classmethod
+    def of(cls, found: Mapping[str, Any], path: str) -> Configuration:
+        """What the tables of such a file say. A log without a folder is in that of the file."""
+        for key, value in found.items():
+            if key != "database" and not isinstance(value, KEYS.get(key, ())):
+                raise SetupError(f"{path}: {key} = {value!r} isn't right; the keys are {', '.join(KEYS)} and [[database]]")
+        if "log" not in found or not isinstance(found.get("database"), list) or not found["database"]:
+            raise SetupError(f"{path}: it needs the key log, and a table [[database]] for each database")
+        databases = [_database(dict(table), f"{path}: database {rm}") for rm, table in enumerate(found["database"])]
+        log = os.path.join(os.path.dirname(os.path.abspath(path)), found["log"])
+        return cls(databases, log, {key: found[key] for key in KEYS if key in found and key != "log"})
+
+    @property
+    def name(self) -> str:
+        """The manager's name, if it has one."""
+        return str(self.options.get("name", ""))
+
+    @property
+    def program(self) -> str:
+        """The program `xatm`."""
+        return str(self.options.get("program", "xatm"))
+
+    def manager(self) -> TransactionManager:
+        """The transaction manager. Raises what its constructor does."""
+        return TransactionManager(self.databases, self.log, **self.options)
+
+
+def manager_of(path: str) -> TransactionManager:
+    """The transaction manager of a file of TOML. Raises SetupError if the file isn't right, and what `TransactionManager` does."""
+    return Configuration.read(path).manager()
+
+
+def _toml(path: str) -> Dict[str, Any]:
+    try:
+        toml: Any = importlib.import_module("tomllib")
+    except ImportError:
+        try:
+            toml = importlib.import_module("tomli")
+        except ImportError:
+            raise SetupError("before Python 3.11 such a file needs the module tomli: pip install garterfossil[toml]") from None
+    try:
+        with open(path, "rb") as it:
+            found: Dict[str, Any] = toml.load(it)
+    except OSError as error:
+        raise SetupError(f"{path}: {error.strerror}") from error
+    except ValueError as error:
+        raise SetupError(f"{path}: {error}") from error
+    return found
+
+
+def _database(table: Dict[str, Any], where: str) -> Database:
+    """The database of a table: its key `kind` names the adapter, and the others are what the adapter takes."""
+    kind = table.pop("kind", None)
+    path = KINDS.get(kind, kind) if isinstance(kind, str) else ""
+    module, _, name = path.partition(":")
+    if not name:
+        raise SetupError(f"{where}: kind = {kind!r} is none of {', '.join(KINDS)}, nor an adapter as 'module:Class'")
+    try:
+        database = getattr(importlib.import_module(module), name)(**table)
+    except (ImportError, AttributeError, TypeError, ValueError) as error:
+        raise SetupError(f"{where}: {error}") from error
+    if not isinstance(database, Database):
+        raise SetupError(f"{where}: {path} is no adapter of a database")
+    return database

@@ -1,0 +1,87 @@
+"""What is in doubt: the branches that databases list, and what the coordinator's log says of them."""
+
+from __future__ import annotations
+
+import os
+import subprocess
+from dataclasses import dataclass
+from typing import Dict, FrozenSet, List, Optional, Tuple
+
+from .adapters.base import Database, Place
+from .configuration import Configuration
+from .errors import SetupError, XaError
+from .xid import FORMAT, Xid
+
+
+@dataclass(frozen=True)
+class Log:
+    """What `xatm log` prints of a log, or why it prints nothing."""
+
+    #: The transactions that are decided to commit, and of which a branch may not have acknowledged.
+    decided: FrozenSet[str] = frozenset()
+    #: The branches that a database ended by itself, each with how.
+    heuristics: Tuple[str, ...] = ()
+    #: Why it can't be read now.
+    fault: Optional[str] = None
+
+    @classmethod
+    def of(cls, made: Configuration) -> Log:
+        """What is in the log of a configuration. A look changes nothing."""
+        if not os.path.exists(made.log):
+            return cls(fault="there is no such file")
+        words = [made.program, "log", made.log]
+        try:
+            done = subprocess.run(words, stdin=subprocess.DEVNULL, capture_output=True, text=True, check=False)
+        except OSError as error:
+            raise SetupError(f"the program {made.program} can't be run: {error.strerror}") from error
+        if done.returncode != 0:
+            return cls(fault=done.stderr.strip() or f"{' '.join(words)} ended with status {done.returncode}")
+        lines = [line for line in done.stdout.splitlines() if line]
+        heuristics = tuple(line for line in lines if ":" in line)
+        return cls(frozenset(line.split(" ")[0] for line in lines if ":" not in line), heuristics)
+
+    def call_for(self, xid: Xid) -> Optional[str]:
+        """The call that a branch of the manager waits for: the log decides. None if it can't be read."""
+        if self.fault is not None:
+            return None
+        return "xa_commit" if xid.transaction in self.decided else "xa_rollback"
+
+
+@dataclass(frozen=True)
+class Listed:
+    """What a database lists: the manager's branches there, and those of others; or why nobody knows."""
+
+    own: Tuple[Xid, ...] = ()
+    others: Tuple[Xid, ...] = ()
+    fault: Optional[str] = None
+
+    @classmethod
+    def at(cls, database: Database, place: Place) -> Listed:
+        """What a database lists."""
+        try:
+            connection = database.connect(place)
+        except XaError as error:
+            return cls(fault=str(error))
+        try:
+            found = [xid for xid in sorted(connection.all_listed()) if xid.format == FORMAT]
+        except XaError as error:
+            return cls(fault=str(error))
+        finally:
+            connection.close()
+        own = tuple(xid for xid in found if place.owns(xid))
+        return cls(own, tuple(xid for xid in found if place.may_be_of_another_manager(xid)))
+
+
+def places(made: Configuration) -> List[Place]:
+    """The places of the databases."""
+    return [Place(manager=made.name, number=rm) for rm in range(len(made.databases))]
+
+
+def listed(made: Configuration) -> List[Listed]:
+    """What each database lists."""
+    return [Listed.at(database, place) for database, place in zip(made.databases, places(made))]
+
+
+def manager_in(xid: Xid) -> str:
+    """The name of the manager of a branch, as its identifier has it."""
+    return xid.gtrid[:-16].decode("ascii", "replace")
