@@ -118,7 +118,7 @@ class Connection:
     def get_transaction_status(self):
         return TRANSACTION_STATUS_UNKNOWN if self.pointer is None else PQ.PQtransactionStatus(self.pointer)
 
-    def cursor(self):
+    def cursor(self, cursor_factory=None):
         return Cursor(self)
 
     def close(self):
@@ -182,6 +182,7 @@ class Cursor:
 def install():
     """Puts itself in psycopg2's place."""
     extensions = types.ModuleType("psycopg2.extensions")
+    extensions.cursor = Cursor
     extensions.TRANSACTION_STATUS_IDLE = TRANSACTION_STATUS_IDLE
     extensions.TRANSACTION_STATUS_INERROR = TRANSACTION_STATUS_INERROR
     sys.modules["psycopg2"] = sys.modules[__name__]

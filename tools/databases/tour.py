@@ -78,10 +78,10 @@ class Tour:
 
     def lose(self, t, rm):
         """The connection of a branch is ended at the database, and what it had under way with it."""
-        connection = t[rm].line.connection
-        others = [line.connection.number for lines in self.xa._session._lines for line in lines
-                  if line.connection not in (None, connection) and line.rm.number == rm]
-        self.world.servers[rm].database().end_connections(others)
+        line = t._branches[rm].line
+        others = [other.connection.number for other in self.xa._session.lines_to(line.rm)
+                  if other.connection not in (None, line.connection)]
+        self.world.servers[rm].database().end_connections(others, line.rm.place)
 
     # ** stories
 
@@ -215,7 +215,8 @@ class Tour:
         for end, wanted in (("settle", BOTH), ("abandon", NEITHER), ("resolve-open", NEITHER)):
             with self.xa.transaction() as t:
                 self.write(t, 0, 1)
-                for branch in (t[0], t[1]):
+                branches = list(t._branches.values())
+                for branch in branches:
                     branch.issue_prepare()
                     branch.prepare()
                     branch.line.see_heard()
@@ -224,7 +225,7 @@ class Tour:
                 else:
                     session.coordinator.ask(f"claim {t.gtrid}")
                     session.coordinator.ask(f"{end} {t.gtrid}")
-                    for branch in (t[0], t[1]):
+                    for branch in branches:
                         branch.line.call(Call("xa_commit" if end == "settle" else "xa_rollback", branch.xid))
                         branch.line.see_heard()
                 t.outcome = type(t.outcome).COMMITTED if wanted == BOTH else type(t.outcome).ROLLED_BACK
@@ -235,9 +236,9 @@ class Tour:
         session = self.xa._session
         for rm in (0, 1):
             line = session.line(0, rm)
-            if line is not t[rm].line:
+            if line is not t._branches[rm].line:
                 # MariaDB lets no other connection end the branch while its own one lives.
-                t[rm].line.lose()
+                t._branches[rm].line.lose()
             line.make_ready()
             line.call(Call("xa_recover", count=32, flags=("TMSTARTRSCAN", "TMENDRSCAN")))
             line.see_heard()
@@ -249,7 +250,7 @@ class Tour:
         """An administrator rolls a prepared branch back, against the decision. Neither database tells."""
         def by_hand():
             connection = self.world.servers[0].database().connect()
-            connection._roll_back_prepared(t[0].xid)
+            connection._roll_back_prepared(t._branches[0].xid)
             connection.close()
 
         raised = "nothing was raised"

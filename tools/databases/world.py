@@ -104,9 +104,12 @@ class World:
         for path in (self.log, f"{self.log}-wal", f"{self.home}/told"):
             if os.path.exists(path):
                 os.remove(path)
+        from garterfossil.adapters.base import Place
+
         for server in self.servers:
             database = server.database()
-            database.end_connections([])
+            for number in range(2):
+                database.end_connections([], Place(number=number))
             connection = database.connect()
             for xid in connection._listed():
                 connection._roll_back_prepared(xid)

@@ -4,14 +4,17 @@ from __future__ import annotations
 
 import collections
 import time
-from typing import Any, Deque, List, Optional, Sequence
+from typing import Callable, Deque, List, Optional, TypeVar
 
-from .adapters.base import Connection, Result
+from .adapters.base import Connection
 from .calls import Answer, Call
 from .codes import Code
 from .coordinator import Coordinator, Reply
-from .errors import ConnectionLost, Unanswered
+from .errors import ConnectionLost, TransactionOver, Unanswered
 from .resource_manager import ResourceManager
+from .xid import Xid
+
+T = TypeVar("T")
 
 #: How long to wait before a call is made once more.
 PAUSE = 0.05
@@ -107,7 +110,7 @@ class Line:
     def _open(self) -> Connection:
         """The connection. Raises ConnectionLost where there is none."""
         if self.connection is None:
-            raise ConnectionLost(f"there is no connection to database {self.rm.number}")
+            raise ConnectionLost(f"there is no connection to {self.rm.label}")
         return self.connection
 
     def _post(self, call: Call) -> None:
@@ -137,7 +140,7 @@ class Line:
                 if code is not Code.RETRY:
                     return code
                 if time.monotonic() >= until:
-                    raise ConnectionLost(f"database {self.rm.number} puts off: {call}")
+                    raise ConnectionLost(f"{self.rm.label} puts off: {call}")
             except ConnectionLost:
                 if time.monotonic() >= until:
                     raise
@@ -180,14 +183,15 @@ class Line:
 
     # ** work
 
-    def execute(self, statement: str, parameters: Sequence[Any]) -> Result:
-        """Does a statement in the branch that the connection has."""
-        if self.connection is None:
-            raise ConnectionLost(f"the connection to database {self.rm.number} was lost")
+    def work(self, connection: Connection, xid: Xid, step: Callable[[], T]) -> T:
+        """Does a step of the work on the branch that was begun on this connection."""
+        if self.connection is not connection:
+            raise TransactionOver(f"the branch at {self.rm.label} is over: its connection was lost, or closed")
         try:
-            return self.connection.execute(statement, parameters)
+            return connection.work(xid, step)
         except BaseException as error:
-            # Behind an interrupt nobody knows what the connection would say next.
-            if isinstance(error, ConnectionLost) or not isinstance(error, Exception):
+            # After an interrupt nobody knows what the connection would say next.
+            is_unknown = isinstance(error, ConnectionLost) or not isinstance(error, Exception)
+            if is_unknown and connection.is_active(xid) and self.connection is connection:
                 self.lose()
             raise

@@ -4,12 +4,14 @@ from __future__ import annotations
 
 import contextlib
 import logging
+import os
 import threading
 import time
 from types import TracebackType
-from typing import Iterator, Optional, Sequence, Tuple, Type
+from typing import Iterator, Mapping, Optional, Sequence, Tuple, Type, Union
 
 from .adapters.base import Database
+from .databases import NAME, Databases
 from .errors import CoordinatorGone
 from .line import PAUSE
 from .session import Session
@@ -17,12 +19,16 @@ from .transaction import Outcome, Transaction
 
 log = logging.getLogger("garterfossil")
 
+#: The coordinator takes so many threads.
+MOST_THREADS = 256
+
 
 class TransactionManager:
     """Runs transactions over several databases, by the coordinator `xatm serve` (docs/SERVE.md).
 
-    The databases are numbered by their places in the list. They and the log belong together for ever: another log, or the
-    same databases in another order, would end branches wrongly. One program at a time uses the log.
+    The databases are numbered by their places in the list; a dict gives them names as well, and its order is that of the
+    numbers. They and the log belong together for ever: another log, or the same databases in another order, would end branches
+    wrongly. One program at a time uses the log.
 
     Programs that share a database have each a log of its own and a `name` of its own, 1 to 16 letters, digits, _ and -: it
     stands in the identifiers of the branches, and a program leaves those of other names alone. A log keeps its name.
@@ -35,8 +41,8 @@ class TransactionManager:
 
     def __init__(
         self,
-        databases: Sequence[Database],
-        log: str,
+        databases: Union[Sequence[Database], Mapping[str, Database]],
+        log: "Union[str, os.PathLike[str]]",
         *,
         name: str = "",
         threads: int = 8,
@@ -44,14 +50,18 @@ class TransactionManager:
         program: str = "xatm",
         command: Optional[Sequence[str]] = None,
     ):
-        self._databases = list(databases)
+        self._databases = Databases(databases)
+        if not 1 <= threads <= MOST_THREADS:
+            raise ValueError(f"threads: 1 to {MOST_THREADS}, not {threads}")
+        if not patience > 0:
+            raise ValueError(f"patience: more than 0 seconds, not {patience}")
+        if name and not NAME.fullmatch(name):
+            raise ValueError(f"name: 1 to 16 letters, digits, _ and -, not {name!r}")
         self._threads = threads
         self._patience = patience
         self._name = name
         named = ["--name", name] if name else []
-        self._command = command or [program, "serve", *named, "--log", log, str(threads), str(len(self._databases))]
-        for database in self._databases:
-            database.belong_to(name)
+        self._command = command or [program, "serve", *named, "--log", os.fspath(log), str(threads), str(len(self._databases))]
         self._lock = threading.Lock()
         self._session: Optional[Session] = None
         self._is_closed = False

@@ -49,7 +49,7 @@ def scan_until_done(session: Session, line: Line) -> None:
     until = time.monotonic() + session.patience
     while scan(session.coordinator, line) > 0:
         if time.monotonic() >= until:
-            raise ConnectionLost(f"database {line.rm.number} lists the same branches again and again")
+            raise ConnectionLost(f"{line.rm.label} lists the same branches again and again")
         time.sleep(PAUSE)
 
 

@@ -8,10 +8,10 @@ import threading
 import time
 from typing import Iterator, List, Optional, Sequence
 
-from .adapters.base import Database
 from .calls import Call
 from .commits import Commits
 from .coordinator import Coordinator, Reply
+from .databases import Databases
 from .debts import Debts
 from .errors import ConnectionLost, Overdue, Refused, RequestError, XaError
 from .line import Line
@@ -29,15 +29,19 @@ DONE_AT_ONCE = 8
 class Session:
     """A session with the coordinator, which begins with the recovery of each database that can be reached."""
 
-    def __init__(self, command: Sequence[str], databases: Sequence[Database], threads: int, patience: float, name: str = ""):
+    def __init__(self, command: Sequence[str], databases: Databases, threads: int, patience: float, name: str = ""):
         self.patience = patience
+        self.databases = databases
         #: The coordinator's name, which stands in front of the transaction in its identifiers.
         self.name = name.encode("ascii")
         self.coordinator = Coordinator.start(command, patience)
         self.commits = Commits(self.coordinator)
         self.threads = Threads(threads)
         self.debts = Debts()
-        self._rms = [ResourceManager(number, database) for number, database in enumerate(databases)]
+        self._rms = [
+            ResourceManager(database, place, databases.label(place.number))
+            for database, place in databases.placed(name, threads, patience)
+        ]
         self._lines = [[Line(self.coordinator, thread, rm, patience) for rm in self._rms] for thread in range(threads)]
         # By thread, what begins its next transaction, where that was asked for ahead.
         self._begun: List[Optional[Reply]] = [None] * threads
@@ -136,7 +140,7 @@ class Session:
                         if rm.is_recovery_due:
                             recover(self, rm)
                 except (ConnectionLost, Overdue, Refused, RequestError) as error:
-                    log.warning("the recovery of database %d is put off: %s", rm.number, error)
+                    log.warning("the recovery of %s is put off: %s", rm.label, error)
 
     # ** its end
 

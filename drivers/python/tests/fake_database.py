@@ -1,8 +1,9 @@
 """A database in memory, of which a test says what goes wrong."""
 
-from garterfossil.adapters.base import Connection, Database, Result
+from garterfossil.adapters.base import Connection, Database, Place, Result
 from garterfossil.codes import Code
 from garterfossil.errors import ConnectionLost
+from garterfossil.statements import POSTGRESQL
 
 
 class FakeDatabase(Database):
@@ -20,19 +21,21 @@ class FakeDatabase(Database):
         self.calls = []
         self.connections = []
 
-    def connect(self):
+    def connect(self, place=Place()):
         if not self.is_up:
             raise ConnectionLost("the database is down")
-        connection = FakeConnection(self)
+        connection = FakeConnection(self, place)
         self.connections.append(connection)
         connection.number = len(self.connections)
         return connection
 
-    def end_connections(self, kept):
+    def end_connections(self, kept, place=Place()):
         if not self.is_up:
             raise ConnectionLost("the database is down")
-        for connection in self.connections:
-            connection.is_lost = connection.is_lost or connection.number not in kept
+        strays = [it for it in self.connections if not it.is_lost and same(it.place, place) and it.number not in kept]
+        for connection in strays:
+            connection.is_lost = True
+        return len(strays)
 
     def crash(self):
         self.is_up = False
@@ -40,16 +43,57 @@ class FakeDatabase(Database):
             connection.is_lost = True
 
 
+def same(one, other):
+    return (one.manager, one.number) == (other.manager, other.number)
+
+
 class WrongStatement(Exception):
     """What the database's own module would raise."""
 
 
+class FakeLink:
+    """The module's own connection, and its cursors."""
+
+    Error = WrongStatement
+    autocommit = True
+    encoding = "UTF8"
+
+    def __init__(self, connection):
+        self.connection = connection
+        self.description, self.rowcount, self.rows, self.arraysize = None, -1, [], 1
+
+    def cursor(self):
+        return FakeLink(self.connection)
+
+    def execute(self, statement, parameters=()):
+        self.rowcount = self.connection.written(statement).rowcount
+        self.description, self.rows = [("statement",)], [(statement,)]
+
+    def executemany(self, statement, rows):
+        for row in rows:
+            self.execute(statement % row)
+
+    def fetchone(self):
+        return self.rows.pop() if self.rows else None
+
+    def __iter__(self):
+        return iter(self.fetchone, None)
+
+    def commit(self):
+        self.connection.database.calls.append("commit of the module")
+
+    rollback = close = commit
+
+
 class FakeConnection(Connection):
-    def __init__(self, database):
-        super().__init__()
+    TEXTS = POSTGRESQL
+    SHOWN = frozenset(["encoding"])
+
+    def __init__(self, database, place):
+        super().__init__(FakeLink(self), place)
         self.database = database
         self.is_lost = False
-        self.work = []
+        self.statements = []
 
     def close(self):
         self.is_lost = True
@@ -75,25 +119,30 @@ class FakeConnection(Connection):
         raise NotImplementedError
 
     def _work(self, statement, parameters):
+        return self.written(statement)
+
+    def written(self, statement):
         self.told("work", statement)
         if statement == "wrong":
-            self._fault = Code.RBINTEGRITY
             raise WrongStatement(statement)
-        self.work.append(statement)
+        self.statements.append(statement)
         return Result([], 1)
 
+    def _vote_of(self, error):
+        return Code.RBINTEGRITY if isinstance(error, WrongStatement) else None
+
     def _start(self, xid):
-        self.work = []
+        self.statements = []
         return self.told("start", xid)
 
     def _end(self, xid):
         self.told("end", xid)
 
     def _prepare(self, xid):
-        return self.told("prepare", xid, lambda: self.database.prepared.update({xid: self.work}))
+        return self.told("prepare", xid, lambda: self.database.prepared.update({xid: self.statements}))
 
     def _commit_in_one_phase(self, xid):
-        return self.told("commit_in_one_phase", xid, lambda: self.database.written.extend(self.work))
+        return self.told("commit_in_one_phase", xid, lambda: self.database.written.extend(self.statements))
 
     def _roll_back(self, xid):
         self.told("roll_back", xid)

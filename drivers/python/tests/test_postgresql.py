@@ -17,6 +17,8 @@ IDLE, IN_TRANSACTION, IN_FAILED = 0, 2, 3
 psycopg2 = types.ModuleType("psycopg2")
 extensions = types.ModuleType("psycopg2.extensions")
 extensions.TRANSACTION_STATUS_IDLE, extensions.TRANSACTION_STATUS_INERROR = IDLE, IN_FAILED
+psycopg2.extensions = extensions
+extensions.cursor = object
 
 
 class Error(Exception):
@@ -26,7 +28,7 @@ class Error(Exception):
 
 
 psycopg2.Error = Error
-for name in ("OperationalError", "ProgrammingError", "IntegrityError"):
+for name in ("DatabaseError", "OperationalError", "ProgrammingError", "IntegrityError"):
     setattr(psycopg2, name, type(name, (Error,), {}))
 
 
@@ -47,7 +49,7 @@ class Link:
     def close(self):
         self.closed = 1
 
-    def cursor(self):
+    def cursor(self, name=None, cursor_factory=None):
         return Cursor(self)
 
 
@@ -169,7 +171,7 @@ class PostgreSQLs(unittest.TestCase):
         with self.assertRaises(psycopg2.OperationalError):
             self.connection.execute("UPDATE account")
 
-    def test_a_statement_that_ends_the_transaction(self):
+    def test_a_statement_that_ended_the_transaction(self):
         self.do(f"xa_start {XID}")
         with self.assertRaises(ConnectionLost):
             self.connection.execute("COMMIT")

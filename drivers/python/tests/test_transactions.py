@@ -9,6 +9,7 @@ import tempfile
 import unittest
 
 from garterfossil import CoordinatorGone, OutcomeUnknown, Overdue, RolledBack, TransactionManager, XaError
+from garterfossil.adapters.base import Place
 from garterfossil.codes import Code
 from garterfossil.errors import ConnectionLost, Unanswered
 from garterfossil.transaction import Outcome
@@ -173,7 +174,7 @@ class Transactions(unittest.TestCase):
             with xa.transaction() as t:
                 t[0].execute("take")
                 t[1].execute("give")
-                t[1].line.connection._prepare = lambda xid: self.prepare_and_go_down(xid)
+                t[1]._line.connection._prepare = lambda xid: self.prepare_and_go_down(xid)
             self.assertIs(t.outcome, Outcome.COMMITTED)
             self.assertEqual(self.written(), (["take"], []))
             self.right.is_up = True
@@ -253,12 +254,12 @@ class Transactions(unittest.TestCase):
         self.assertEqual(self.in_the_log()["incarnation"], 2)
 
     def test_the_connections_of_an_earlier_driver_are_ended_first(self):
-        stray = self.right.connect()
+        stray = self.right.connect(Place(number=1))
         with self.manager() as xa:
             self.assertTrue(stray.is_lost)
             with xa.transaction() as t:
                 t[1].execute("give")
-                self.assertFalse(t[1].line.connection.is_lost)
+                self.assertFalse(t[1]._line.connection.is_lost)
 
     # ** threads, and the end
 
