@@ -40,6 +40,9 @@ class Databases:
     def __len__(self) -> int:
         return len(self._all)
 
+    def __getitem__(self, number: int) -> Database:
+        return self._all[number]
+
     def number_of(self, key: Union[int, str]) -> int:
         """The number of a database, by that or by its name. Raises IndexError or KeyError if there is none."""
         if isinstance(key, str):

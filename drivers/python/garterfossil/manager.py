@@ -63,6 +63,7 @@ class TransactionManager:
         named = ["--name", name] if name else []
         self._command = command or [program, "serve", *named, "--log", os.fspath(log), str(threads), str(len(self._databases))]
         self._lock = threading.Lock()
+        self._open = threading.local()
         self._session: Optional[Session] = None
         self._is_closed = False
         self._current()
@@ -82,12 +83,23 @@ class TransactionManager:
         with contextlib.ExitStack() as stack:
             session, thread, gtrid = self._begin(stack)
             transaction = Transaction(session, thread, gtrid)
+            self._open.transaction = transaction
             try:
                 with transaction:
                     yield transaction
             finally:
+                self._open.transaction = None
                 if transaction.outcome is Outcome.OPEN:
                     transaction.rollback()
+
+    @property
+    def current(self) -> Optional[Transaction]:
+        """The transaction in whose block the thread is, if it is in one."""
+        return getattr(self._open, "transaction", None)
+
+    def database(self, key: Union[int, str]) -> Database:
+        """A database, by its place or its name."""
+        return self._databases[self._databases.number_of(key)]
 
     def close(self) -> None:
         """Ends the coordinator, once all transactions are over."""

@@ -18,8 +18,10 @@ from typing import Any, Callable, Dict, List, Optional, Type, Union
 import sqlalchemy
 from sqlalchemy.dialects import registry
 from sqlalchemy.engine import make_url
+from sqlalchemy.engine.default import DefaultDialect
 from sqlalchemy.pool import NullPool
 
+from .adapters.base import Connection as DrivenConnection
 from .errors import EndRefused, SetupError, TransactionOver, XaError
 from .manager import TransactionManager
 from .transaction import Branch, Transaction
@@ -39,7 +41,7 @@ def create_engine(manager: TransactionManager, database: Union[int, str] = 0, **
         return _Connection(_Works.of(transaction, database))
 
     return sqlalchemy.create_engine(
-        _url(dialect), creator=connect, poolclass=NullPool, pool_reset_on_return=None, **options
+        _Entry.url_of(dialect), creator=connect, poolclass=NullPool, pool_reset_on_return=None, **options
     )
 
 
@@ -84,8 +86,8 @@ class _Works:
         if not self.branch.is_active:
             raise TransactionOver("the transaction has ended before what is committed here")
         work.is_over = True
-        while self._works and self._works[-1].is_over:
-            self._works.pop()
+        if all(one.is_over for one in self._works):
+            self._works.clear()
 
     def roll_back(self, work: _Work) -> None:
         """The work is taken back. After the end of the branch that is so, or too late."""
@@ -142,9 +144,10 @@ class _Connection:
     def close(self) -> None:
         self.rollback()
 
-    def link(self) -> Any:
-        """The module's own connection, for what SQLAlchemy sets up there."""
-        return self._works.branch._connection.link
+    @property
+    def driven(self) -> DrivenConnection:
+        """The driver's connection, with the module's own in it: SQLAlchemy sets that up."""
+        return self._works.branch._connection
 
     def __getattr__(self, name: str) -> Any:
         return getattr(self._works.branch.connection, name)
@@ -153,19 +156,16 @@ class _Connection:
 class _WithinBranches:
     """What is other in the dialects: a connection is set up once, and the transaction's ends aren't SQLAlchemy's."""
 
-    supports_statement_cache = True
-
     def on_connect(self) -> Optional[Callable[[Any], None]]:
         set_up: Optional[Callable[[Any], None]] = super().on_connect()  # type: ignore[misc]
         if set_up is None:
             return None
-        were_set_up: weakref.WeakSet[Any] = weakref.WeakSet()
+        were_set_up: weakref.WeakSet[DrivenConnection] = weakref.WeakSet()
 
         def once(connection: Any) -> None:
-            link = connection.link()
-            if link not in were_set_up:
-                set_up(link)
-                were_set_up.add(link)
+            if connection.driven not in were_set_up:
+                set_up(connection.driven.link)
+                were_set_up.add(connection.driven)
 
         return once
 
@@ -179,23 +179,23 @@ class _WithinBranches:
         raise EndRefused("the transaction is of two phases already: leave twophase away")
 
 
-class _Entry:
-    """What SQLAlchemy finds under the name of a dialect within branches."""
+class _Entry(DefaultDialect):
+    """What SQLAlchemy finds under the name of a dialect within branches: it leads to that dialect."""
 
     _made: Dict[str, Type[Any]] = {}
 
     @classmethod
     def get_dialect_cls(cls, url: Any) -> Type[Any]:
         """The dialect of a url."""
-        name = url.drivername
-        if name not in cls._made:
-            dialect = make_url(f"{name.partition('+')[2].replace('.', '+')}://").get_dialect()
-            cls._made[name] = type(f"{dialect.__name__}_within_branches", (_WithinBranches, dialect), {})
-        return cls._made[name]
+        return cls._made[url.drivername]
 
+    @classmethod
+    def url_of(cls, name: str) -> str:
+        """The url of SQLAlchemy's own dialect of this name, within branches."""
+        own = f"garterfossil+{name.replace('+', '_')}"
+        if own not in cls._made:
+            dialect = make_url(f"{name}://").get_dialect()
+            cls._made[own] = type(f"{dialect.__name__}_within_branches", (_WithinBranches, dialect), {"supports_statement_cache": True})
+            registry.register(own.replace("+", "."), __name__, "_Entry")
+        return f"{own}://"
 
-def _url(dialect: str) -> str:
-    """The url of a dialect within branches."""
-    name = dialect.replace("+", ".")
-    registry.register(f"garterfossil.{name}", __name__, "_Entry")
-    return f"garterfossil+{name}://"

@@ -48,7 +48,8 @@ class Sqlalchemy(unittest.TestCase):
         databases = [SqliteDatabase(path) for path in self.paths]
         self.xa = TransactionManager(databases, log, threads=2, patience=5.0, command=command)
         self.addCleanup(self.xa.close)
-        self.bank, self.shop = create_engine(self.xa, 0), create_engine(self.xa, 1)
+        # (The interface of SQLAlchemy 2.0, of 1.4 too.)
+        self.bank, self.shop = create_engine(self.xa, 0, future=True), create_engine(self.xa, 1, future=True)
         self.Session = orm.sessionmaker(binds={Account: self.bank, Order: self.shop})
 
     def found(self):
@@ -87,8 +88,7 @@ class Sqlalchemy(unittest.TestCase):
                 connection.execute(sa.update(Account).values(balance=Account.balance - 10))
             with self.shop.connect() as connection:
                 connection.execute(sa.insert(Order), [{"text": "tea"}, {"text": "milk"}])
-                # (SQLAlchemy 1.4 commits by itself here.)
-                getattr(connection, "commit", lambda: None)()
+                connection.commit()
         self.assertEqual(self.found(), [[90], ["tea", "milk"]])
 
     def test_a_rolled_back_session_is_taken_back_alone(self):

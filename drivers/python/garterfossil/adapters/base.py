@@ -67,6 +67,9 @@ class Place:
 class Database(abc.ABC):
     """A database that takes part in transactions: how it is reached. Its methods may be called by any thread."""
 
+    #: How SQLAlchemy names its own dialect for the module that reaches the database, if it has one.
+    SQLALCHEMY: Optional[str] = None
+
     @abc.abstractmethod
     def connect(self, place: Place = Place()) -> Connection:
         """A new connection. Raises ConnectionLost if there is none to be had now, and SetupError if there never will be, as

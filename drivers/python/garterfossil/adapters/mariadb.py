@@ -47,6 +47,8 @@ class MariaDB(Database):
     holds. `lock_timeout` is for how many seconds a statement waits for a lock: no database sees a deadlock that goes over two of
     them."""
 
+    SQLALCHEMY = "mariadb+pymysql"
+
     def __init__(self, *, lock_timeout: int = 10, **parameters: Any):
         if "autocommit" in parameters:
             raise ValueError("autocommit is the driver's own: a branch begins and ends its transaction")

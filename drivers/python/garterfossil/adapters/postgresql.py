@@ -46,6 +46,8 @@ class PostgreSQL(Database):
     which come the manager's name, if it has one, and the database's number: no other program uses that with the same user.
     `lock_timeout` is for how many seconds a statement waits for a lock: no database sees a deadlock that goes over two of them."""
 
+    SQLALCHEMY = "postgresql+psycopg2"
+
     def __init__(self, dsn: str = "", *, name: str = "garterfossil", lock_timeout: float = 10.0, **parameters: Any):
         for word, instead in (("application_name", "name"), ("async", "transaction_async of the manager"), ("async_", "threads")):
             if word in parameters:
