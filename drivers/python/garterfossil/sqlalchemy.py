@@ -156,6 +156,8 @@ class _Connection:
 class _WithinBranches:
     """What is other in the dialects: a connection is set up once, and the transaction's ends aren't SQLAlchemy's."""
 
+    _is_set_up = True
+
     def on_connect(self) -> Optional[Callable[[Any], None]]:
         set_up: Optional[Callable[[Any], None]] = super().on_connect()  # type: ignore[misc]
         if set_up is None:
@@ -168,6 +170,16 @@ class _WithinBranches:
                 were_set_up.add(connection.driven)
 
         return once
+
+    def initialize(self, connection: Any) -> None:
+        """Asks the database for what the dialect has to know of it, which psycopg does on its own connection."""
+        self._is_set_up = False
+        super().initialize(connection)  # type: ignore[misc]
+        self._is_set_up = True
+
+    def get_driver_connection(self, connection: Any) -> Any:
+        """To programs the branch's connection is that of the driver, too: the module's own could be committed."""
+        return connection if self._is_set_up else connection.driven.link
 
     def set_isolation_level(self, *_: Any) -> None:
         raise EndRefused("the isolation level is the transaction's: manager.transaction(isolation=..)")
