@@ -5,7 +5,7 @@ from __future__ import annotations
 import argparse
 import logging
 import sys
-from typing import Callable, Iterator, List, Optional, Sequence, Tuple
+from typing import Iterator, List, Optional, Sequence, Tuple
 
 from . import __version__
 from .calls import Call
@@ -99,7 +99,7 @@ def _lines_of(made: Configuration, log: Log, rm: int, xid: Xid) -> Iterator[str]
 # ** end
 
 
-def _end(made: Configuration, text: str, is_sure: bool, ask: Callable[[str], str] = input) -> int:
+def _end(made: Configuration, text: str, is_sure: bool) -> int:
     """Ends a branch as the log says. The log is held meanwhile, so that no coordinator decides otherwise."""
     log = Log.of(made)
     if log.fault is not None:
@@ -107,8 +107,10 @@ def _end(made: Configuration, text: str, is_sure: bool, ask: Callable[[str], str
     rm, xid = _found(made, text)
     call = Call(log.call_for(xid) or "", xid)
     print(f"database {rm}: {made.databases[rm].by_hand(call)}")
-    with _Held(made):
-        if not is_sure and not _agrees(ask):
+    with _Held(made) as incarnation:
+        if int(xid.transaction[:16], 16) >= incarnation:
+            raise SetupError(f"the log {made.log} is older than the branch {xid}, so nothing is ended: put the right one back")
+        if not is_sure and not _agrees():
             print("nothing was done")
             return 1
         connection = made.databases[rm].connect(places(made)[rm])
@@ -134,9 +136,9 @@ def _found(made: Configuration, text: str) -> Tuple[int, Xid]:
     raise SetupError(f"no database lists a branch {xid} of this manager{faults}")
 
 
-def _agrees(ask: Callable[[str], str]) -> bool:
+def _agrees() -> bool:
     try:
-        return ask("End it so? (yes/no) ").strip().lower() == "yes"
+        return input("End it so? (yes/no) ").strip().lower() == "yes"
     except EOFError:
         return False
 
@@ -149,8 +151,10 @@ class _Held:
         self._command = [made.program, "serve", *named, "--log", made.log, "1", str(len(made.databases))]
         self._coordinator: Optional[Coordinator] = None
 
-    def __enter__(self) -> None:
+    def __enter__(self) -> int:
+        """Holds it: the incarnation, which is later than those of all branches."""
         self._coordinator = Coordinator.start(self._command, 1.0)
+        return int(self._coordinator.greeting.split(" ")[1])
 
     def __exit__(self, *_: object) -> None:
         if self._coordinator is not None:

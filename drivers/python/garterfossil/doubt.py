@@ -5,7 +5,7 @@ from __future__ import annotations
 import os
 import subprocess
 from dataclasses import dataclass
-from typing import Dict, FrozenSet, List, Optional, Tuple
+from typing import FrozenSet, List, Optional, Tuple
 
 from .adapters.base import Database, Place
 from .configuration import Configuration
@@ -63,13 +63,14 @@ class Listed:
         except XaError as error:
             return cls(fault=str(error))
         try:
-            found = [xid for xid in sorted(connection.all_listed()) if xid.format == FORMAT]
+            found = connection.all_listed()
         except XaError as error:
             return cls(fault=str(error))
         finally:
             connection.close()
-        own = tuple(xid for xid in found if place.owns(xid))
-        return cls(own, tuple(xid for xid in found if place.may_be_of_another_manager(xid)))
+        # (A server may list the branches of other databases of the manager, too.)
+        others = [xid for xid in found if _is_a_managers(xid) and manager_in(xid) != place.manager]
+        return cls(tuple(filter(place.owns, found)), tuple(others))
 
 
 def places(made: Configuration) -> List[Place]:
@@ -85,3 +86,8 @@ def listed(made: Configuration) -> List[Listed]:
 def manager_in(xid: Xid) -> str:
     """The name of the manager of a branch, as its identifier has it."""
     return xid.gtrid[:-16].decode("ascii", "replace")
+
+
+def _is_a_managers(xid: Xid) -> bool:
+    """Whether a branch is one of a transaction manager of this kind."""
+    return xid.format == FORMAT and len(xid.gtrid) >= 16 and len(xid.bqual) == 8

@@ -83,6 +83,10 @@ class Database(abc.ABC):
             return False
         return True
 
+    def by_hand(self, call: Call) -> str:
+        """The statement by which an operator makes a call on a prepared branch."""
+        return f"make the call {call}"
+
     @abc.abstractmethod
     def end_connections(self, kept: Collection[int], place: Place = Place()) -> int:
         """Ends all connections of this place except those of these numbers, and waits until they are gone: what they had under
@@ -268,6 +272,10 @@ class Connection(abc.ABC):
     def listed(self) -> List[Xid]:
         """The prepared branches of the connection's own place."""
         return [xid for xid in self._listed() if self.place.owns(xid)]
+
+    def all_listed(self) -> List[Xid]:
+        """The prepared branches of all places and managers."""
+        return sorted(self._listed())
 
     # ** what a kind of database gives
 

@@ -6,6 +6,7 @@ import math
 import time
 from typing import Any, Callable, Collection, List, Optional, Sequence, Set, Tuple
 
+from ..calls import Call
 from ..codes import Code
 from ..errors import ConnectionLost, SetupError, Unanswered
 from ..statements import MARIADB
@@ -63,6 +64,9 @@ class MariaDB(Database):
         connection = self._connection(place)
         connection.take_lock()
         return connection
+
+    def by_hand(self, call: Call) -> str:
+        return f"XA {call.verb} {call.xid and text_in_xa(call.xid)};"
 
     def end_connections(self, kept: Collection[int], place: Place = Place()) -> int:
         connection = self._connection(place)
@@ -255,7 +259,7 @@ class MariaDBConnection(Connection):
     # ** statements
 
     def _xa(self, verb: str, xid: Xid, tail: str = "") -> None:
-        self.run(f"XA {verb} X'{xid.gtrid.hex()}',X'{xid.bqual.hex()}',{xid.format}{tail}")
+        self.run(f"XA {verb} {text_in_xa(xid)}{tail}")
 
     def run(self, statement: str, parameters: Sequence[Any] = ()) -> Result:
         try:
@@ -266,6 +270,11 @@ class MariaDBConnection(Connection):
             if self._is_lost(error):
                 raise ConnectionLost(str(error)) from error
             raise
+
+
+def text_in_xa(xid: Xid) -> str:
+    """An identifier as MariaDB's statements of XA have it, as in X'0a',X'01',7."""
+    return f"X'{xid.gtrid.hex()}',X'{xid.bqual.hex()}',{xid.format}"
 
 
 def text_of(row: Tuple[Any, ...]) -> str:

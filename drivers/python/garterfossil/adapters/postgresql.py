@@ -8,6 +8,7 @@ import time
 from dataclasses import dataclass
 from typing import Any, Collection, List, Optional, Sequence, Set
 
+from ..calls import Call
 from ..codes import Code
 from ..errors import ConnectionLost, SetupError, Unanswered
 from ..statements import POSTGRESQL
@@ -65,6 +66,9 @@ class PostgreSQL(Database):
 
     def connect(self, place: Place = Place()) -> PostgreSQLConnection:
         return self._connection(self._label(place), place)
+
+    def by_hand(self, call: Call) -> str:
+        return f"{call.verb} PREPARED '{call.xid}';"
 
     def end_connections(self, kept: Collection[int], place: Place = Place()) -> int:
         connection = self._connection(f"{self._label(place)} recovery", place)
