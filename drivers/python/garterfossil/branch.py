@@ -3,7 +3,7 @@
 from __future__ import annotations
 
 from types import TracebackType
-from typing import TYPE_CHECKING, Any, Callable, Iterator, Optional, Sequence, Type, TypeVar
+from typing import TYPE_CHECKING, Any, Callable, Generator, Iterator, Optional, Sequence, Type, TypeVar
 
 from .adapters.base import Connection, Result
 from .errors import ConnectionLost, EndRefused, TransactionOver
@@ -107,7 +107,9 @@ class BranchCursor:
             if name in WITH_TEXT and words:
                 self._branch._refuse_ends(words[0])
             given = self._branch._work(lambda: method(*words, **options))
-            return self if given is self._cursor else given
+            if given is self._cursor:
+                return self
+            return BranchPart(self._branch, given) if is_lazy(given) else given
 
         return guarded
 
@@ -132,6 +134,48 @@ class BranchCursor:
         self, kind: Optional[Type[BaseException]], error: Optional[BaseException], trace: Optional[TracebackType]
     ) -> None:
         self.close()
+
+
+class BranchPart:
+    """What a cursor gave that goes on working on the connection, as psycopg's COPY and its streams of rows do: each step of it needs
+    the branch."""
+
+    def __init__(self, branch: Branch, part: Any):
+        self._branch = branch
+        self._part = part
+
+    def __getattr__(self, name: str) -> Any:
+        value = getattr(self._part, name)
+        if not callable(value):
+            return value
+        return lambda *words, **options: self._branch._work(lambda: value(*words, **options))
+
+    def __iter__(self) -> Iterator[Any]:
+        steps = self._branch._work(lambda: iter(self._part))
+        while True:
+            step = self._branch._work(lambda: next(steps, END))
+            if step is END:
+                return
+            yield step
+
+    def __next__(self) -> Any:
+        step = self._branch._work(lambda: next(self._part, END))
+        if step is END:
+            raise StopIteration
+        return step
+
+    def __enter__(self) -> BranchPart:
+        return BranchPart(self._branch, self._branch._work(self._part.__enter__))
+
+    def __exit__(
+        self, kind: Optional[Type[BaseException]], error: Optional[BaseException], trace: Optional[TracebackType]
+    ) -> Optional[bool]:
+        return self._branch._work(lambda: self._part.__exit__(kind, error, trace))
+
+
+def is_lazy(given: Any) -> bool:
+    """Whether what a cursor gave works on the connection after that."""
+    return isinstance(given, Generator) or hasattr(given, "__enter__")
 
 
 class BranchConnection:
