@@ -22,6 +22,7 @@ for name, result, arguments in [
     ("PQerrorMessage", TEXT, [POINTER]),
     ("PQfinish", None, [POINTER]),
     ("PQbackendPID", ctypes.c_int, [POINTER]),
+    ("PQsocket", ctypes.c_int, [POINTER]),
     ("PQtransactionStatus", ctypes.c_int, [POINTER]),
     ("PQexec", POINTER, [POINTER, TEXT]),
     ("PQresultStatus", ctypes.c_int, [POINTER]),
@@ -114,6 +115,9 @@ class Connection:
 
     def get_backend_pid(self):
         return PQ.PQbackendPID(self.pointer)
+
+    def fileno(self):
+        return PQ.PQsocket(self.pointer)
 
     def get_transaction_status(self):
         return TRANSACTION_STATUS_UNKNOWN if self.pointer is None else PQ.PQtransactionStatus(self.pointer)

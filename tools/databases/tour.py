@@ -218,6 +218,7 @@ class Tour:
                 branches = list(t._branches.values())
                 for branch in branches:
                     branch.issue_prepare()
+                    branch.end()
                     branch.prepare()
                     branch.line.see_heard()
                 if end == "resolve-open":

@@ -8,15 +8,19 @@ from .errors import (
     CoordinatorGone,
     EndRefused,
     HeuristicEnd,
+    LogInUse,
+    NestedTransaction,
     OutcomeUnknown,
     Overdue,
     RolledBack,
     SetupError,
+    TimedOut,
     TransactionOver,
     XaError,
 )
 from .manager import TransactionManager
-from .transaction import Outcome, Transaction
+from .outcomes import Outcome
+from .transaction import Transaction
 from .xid import Xid
 
 #: That of the program `xatm` that it fits.
@@ -31,12 +35,15 @@ __all__ = [
     "CoordinatorGone",
     "EndRefused",
     "HeuristicEnd",
+    "LogInUse",
+    "NestedTransaction",
     "Outcome",
     "OutcomeUnknown",
     "Overdue",
     "Result",
     "RolledBack",
     "SetupError",
+    "TimedOut",
     "Transaction",
     "TransactionManager",
     "TransactionOver",

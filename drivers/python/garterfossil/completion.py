@@ -5,6 +5,7 @@ from __future__ import annotations
 import logging
 from typing import Optional
 
+from .adapters.base import Options
 from .branch import Branch
 from .calls import Call
 from .codes import Code
@@ -21,15 +22,18 @@ ROLLBACK_PATIENCE = 2.0
 class Completion:
     """The calls of XA on a branch, from xa_start to its last."""
 
-    def __init__(self, line: Line, xid: Xid):
+    def __init__(self, line: Line, xid: Xid, options: Options, limit: Optional[float]):
         line.make_ready()
         self.line = line
         self.xid = xid
         #: What the program works with.
         self.branch = Branch(line, xid)
         self._connection = line.connection
+        self._connection.options, self._connection.limit = options, limit
         self._is_active = False
         self._was_asked = False
+        # Its vote, if that is a rollback.
+        self._vote: Optional[Code] = None
         #: Whether it voted to commit, and waits to be told.
         self.is_prepared = False
         #: What is odd about how it ended.
@@ -43,7 +47,9 @@ class Completion:
 
     def start(self) -> None:
         """xa_start: work may begin."""
-        if self.line.start(Call("xa_start", self.xid)).code is not Code.OK:
+        call = Call("xa_start", self.xid)
+        self.line.issue(call)
+        if self.line.make_ahead(call).code is not Code.OK:
             self._is_over = True
             raise XaError(f"{self.line.rm.label} has a branch {self.xid} already, of another log")
         self._is_active = True
@@ -60,9 +66,9 @@ class Completion:
 
     @property
     def code(self) -> Optional[Code]:
-        """The code of its fault, if it has one that XA has a code for."""
+        """The code of its vote against the transaction, or of its fault, if it has one."""
         if self._is_over:
-            return None
+            return self._vote
         return Code.RBCOMMFAIL if self._is_lost else self._connection.fault
 
     @property
@@ -81,19 +87,24 @@ class Completion:
         self._was_asked = True
         self.line.issue(self._end, self._prepare)
 
+    def end(self) -> None:
+        """xa_end, which waits."""
+        self._leave()
+        self.line.make_ahead(self._end)
+
     def prepare(self) -> Code:
-        """xa_end and xa_prepare, which wait: the vote. Unless that is OK the branch is over."""
-        self._make_end()
+        """xa_prepare, which waits: the vote. Unless that is OK the branch is over."""
         vote = self.line.make(self._prepare).code
         self.is_prepared = vote is Code.OK
         self._is_over = not self.is_prepared
+        self._vote = vote if vote.is_rollback else None
         return vote
 
     def issue_commit_in_one_phase(self) -> Call:
         """xa_end, and an xa_commit without a vote that is yet to be made (`line.make`): then the database decides."""
         call = Call("xa_commit", self.xid, ("TMONEPHASE",))
         self.line.issue(self._end, call)
-        self._make_end()
+        self.end()
         return call
 
     @property
@@ -103,10 +114,6 @@ class Completion:
     @property
     def _prepare(self) -> Call:
         return Call("xa_prepare", self.xid)
-
-    def _make_end(self) -> None:
-        self._leave()
-        self.line.make(self._end)
 
     def _leave(self) -> None:
         """No work goes on in the branch."""

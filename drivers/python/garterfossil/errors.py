@@ -73,11 +73,23 @@ class Overdue(XaError):
     """No thread of the coordinator came free in time."""
 
 
+class TimedOut(XaError):
+    """The transaction has outlasted its `timeout`, and can only be rolled back."""
+
+
+class NestedTransaction(XaError):
+    """The thread has a transaction already, whose block isn't over. Nothing was begun."""
+
+
 class CoordinatorGone(XaError):
     """The coordinator has ended, or its log failed. A transaction that was not decided is rolled back by the recovery."""
 
     #: The status that its process ended with.
     status: Optional[int] = None
+
+
+class LogInUse(CoordinatorGone):
+    """Another program has the log: one at a time may use it."""
 
 
 class Refused(XaError):

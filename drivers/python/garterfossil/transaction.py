@@ -2,16 +2,29 @@
 
 from __future__ import annotations
 
-import enum
 import logging
+import time
 from types import TracebackType
-from typing import TYPE_CHECKING, Callable, Dict, List, Optional, Type, Union
+from typing import TYPE_CHECKING, Callable, Dict, List, Optional, Set, Type, Union
 
+from .adapters.base import Options
 from .branch import Branch
 from .calls import Call
 from .codes import Code
 from .completion import Completion
-from .errors import CoordinatorGone, HeuristicEnd, OutcomeUnknown, RolledBack, TransactionOver, Unexplained, XaError
+from .errors import (
+    PASSING,
+    ConnectionLost,
+    CoordinatorGone,
+    HeuristicEnd,
+    OutcomeUnknown,
+    RolledBack,
+    TimedOut,
+    TransactionOver,
+    Unexplained,
+    XaError,
+)
+from .outcomes import Outcome
 from .xid import FORMAT, Xid
 
 if TYPE_CHECKING:
@@ -19,17 +32,8 @@ if TYPE_CHECKING:
 
 log = logging.getLogger("garterfossil")
 
-class Outcome(enum.Enum):
-    """How a transaction stands."""
-
-    OPEN = "open"
-    COMMITTED = "committed"
-    ROLLED_BACK = "rolled back"
-    UNKNOWN = "unknown"
-
-
 class _Commits:
-    """What is asked for behind the decision: that the branches commit, and the next transaction of the thread."""
+    """What is asked for with the decision: that the branches commit, and the next transaction of the thread."""
 
     def __init__(self, session: Session, thread: int, branches: List[Completion]):
         self._session = session
@@ -52,16 +56,27 @@ class Transaction:
     `t[0]` is its branch at the first of the databases, and `t["bank"]` at the one of that name. It begins as it is first used.
     In a `with` block the transaction is committed at the end, and rolled back if an exception leaves the block."""
 
-    def __init__(self, session: Session, thread: int, gtrid: str):
+    def __init__(
+        self, session: Session, thread: int, gtrid: str, options: Options = Options(), timeout: Optional[float] = None
+    ):
         #: Its name: 32 hexadecimal digits.
         self.gtrid = gtrid
         self.outcome = Outcome.OPEN
+        #: Whether somebody had ended a branch of it by hand, against the outcome.
+        self.is_heuristic = False
+        #: The moment of the monotonic clock when it began.
+        self.begun = time.monotonic()
+        self._options = options
+        self._timeout = timeout
+        self._limit = None if timeout is None else self.begun + timeout
         self._session = session
         self._thread = thread
         self._branches: Dict[int, Completion] = {}
         self._looks: List[Callable[[], None]] = []
         # Why it can only be rolled back, where that isn't a branch's own matter.
         self._fault: Optional[XaError] = None
+        # Why it was rolled back, as far as that has codes.
+        self._codes: Set[Code] = set()
 
     def __repr__(self) -> str:
         return f"<Transaction {self.gtrid}, {self.outcome.value}, at {len(self._branches)} databases>"
@@ -70,6 +85,7 @@ class Transaction:
         """The branch at a database: by its place among those of the manager, from 0, or by its name. Raises TransactionOver
         after the end, and IndexError or KeyError if there is no such database."""
         self._require_open()
+        self._require_time()
         number = self._session.databases.number_of(key)
         if number not in self._branches:
             self._branches[number] = self._begin_branch(number)
@@ -82,7 +98,7 @@ class Transaction:
     def _begin_branch(self, number: int) -> Completion:
         label = self._session.databases.label(number)
         try:
-            completion = Completion(self._session.line(self._thread, number), self._xid(number))
+            completion = Completion(self._session.line(self._thread, number), self._xid(number), self._options, self._limit)
             # From now on it has to be ended, however far its beginning comes.
             self._branches[number] = completion
             completion.start()
@@ -144,11 +160,27 @@ class Transaction:
         if self.outcome is not Outcome.OPEN:
             raise TransactionOver(f"the transaction is over: {self.outcome.value}")
 
+    @property
+    def _is_late(self) -> bool:
+        return self._limit is not None and time.monotonic() >= self._limit
+
+    def _require_time(self) -> None:
+        if self._is_late:
+            raise TimedOut(f"the transaction has outlasted its {self._timeout} seconds")
+
+    @property
+    def is_worth_trying_again(self) -> bool:
+        """Whether it was rolled back, and for a reason of a moment, as a deadlock or a connection that was lost: then the same work may
+        go well the next time."""
+        return self.outcome is Outcome.ROLLED_BACK and bool(self._codes) and all(code in PASSING for code in self._codes)
+
     # ** the first phase
 
     def _require_no_fault(self, branches: List[Completion]) -> None:
         if self._fault is not None:
             raise self._fault
+        if self._is_late:
+            raise RolledBack(f"the transaction has outlasted its {self._timeout} seconds", code=Code.RBTIMEOUT)
         for branch in branches:
             fault = branch.fault
             if fault is not None:
@@ -166,8 +198,15 @@ class Transaction:
         for branch in branches:
             branch.issue_prepare()
         faults: List[XaError] = []
+        # Also after a no: the calls wait on the lines already.
+        ended = []
         for branch in branches:
-            # Also after a no: the calls wait on the line already.
+            try:
+                branch.end()
+                ended.append(branch)
+            except XaError as error:
+                faults.append(error)
+        for branch in ended:
             try:
                 vote = branch.prepare()
                 if vote not in (Code.OK, Code.RDONLY):
@@ -199,6 +238,7 @@ class Transaction:
         try:
             self._session.commits.decide(self.gtrid, _Commits(self._session, self._thread, prepared))
         except CoordinatorGone as error:
+            self._session.outcomes.ask(self.gtrid)
             raise OutcomeUnknown(f"{self.gtrid}: {error}") from error
         except XaError as error:
             # It was refused, and nothing has changed.
@@ -210,18 +250,30 @@ class Transaction:
             self._session.note_done(self.gtrid)
         odd = [f"{branch.line.rm.label}: {branch.oddity}" for branch in prepared if branch.oddity]
         if odd:
-            raise HeuristicEnd(f"{self.gtrid} is committed, but not everywhere: {'; '.join(odd)}")
+            self.is_heuristic = True
+            text = f"{self.gtrid} is committed, but not everywhere: {'; '.join(odd)}"
+            log.error("%s: look at what each database holds, and do by hand what is missing", text)
+            raise HeuristicEnd(text)
 
     def _roll_back(self) -> None:
         """Ends each branch by a rollback. Nothing of it is in the log."""
         self.outcome = Outcome.ROLLED_BACK
         branches = list(self._branches.values())
+        self._note_codes(branches)
         for branch in branches:
             self._try(branch.give_up)
         self._try(lambda: self._session.roll_back(self.gtrid))
         told = [branch for branch in branches if self._is_done("xa_rollback", branch, branch.roll_back)]
         for branch in told:
             self._is_done("xa_rollback", branch, branch.line.see_heard)
+
+    def _note_codes(self, branches: List[Completion]) -> None:
+        codes = {branch.code for branch in branches}
+        if self._session.coordinator.is_gone or self._fault is not None and isinstance(self._fault.__cause__, ConnectionLost):
+            codes.add(Code.RBCOMMFAIL)
+        if self._is_late:
+            codes.add(Code.RBTIMEOUT)
+        self._codes = {code for code in codes if code is not None}
 
     def _is_done(self, name: str, branch: Completion, step: Callable[[], object]) -> bool:
         """Does a step of the end of a branch, by the call of this name. What can't be done now is left to the next recovery

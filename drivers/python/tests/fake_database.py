@@ -95,7 +95,7 @@ class FakeConnection(Connection):
         self.is_lost = False
         self.statements = []
 
-    def close(self):
+    def _close(self):
         self.is_lost = True
 
     def told(self, name, xid, done=lambda: None):

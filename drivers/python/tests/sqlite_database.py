@@ -29,7 +29,7 @@ class SqliteConnection(Connection):
         super().__init__(link, place)
         self.number = id(link)
 
-    def close(self):
+    def _close(self):
         self.link.close()
 
     def run(self, statement, parameters=()):

@@ -3,6 +3,7 @@ XAER_NOTA for a prepared branch whose connection lives, and it prepares what is 
 
 import os
 import re
+import socket
 import sys
 import tempfile
 import types
@@ -49,6 +50,7 @@ class Server:
     def end(self, link):
         """A connection ends: its prepared branch can be ended from any other one."""
         self.links.pop(link.number, None)
+        link.other_end.close()
         self.locks = {name: holder for name, holder in self.locks.items() if holder is not link}
         for text, (state, owner) in list(self.branches.items()):
             if owner is link:
@@ -61,12 +63,14 @@ class Server:
 class Link:
     def __init__(self, server, number):
         self.server, self.number, self.statements = server, number, []
+        self._sock, self.other_end = socket.socketpair()
 
     def thread_id(self):
         return self.number
 
     def close(self):
         self.server.end(self)
+        self._sock.close()
 
     def cursor(self, kind=None):
         return Cursor(self)

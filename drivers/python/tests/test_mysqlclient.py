@@ -20,6 +20,7 @@ class ByMysqlclient:
     def setUp(self):
         for patch in (
             mock.patch.multiple(by_pymysql, pymysql=MySQLdb, MariaDB=MariaDB),
+            mock.patch.object(by_pymysql.Link, "fileno", lambda link: link._sock.fileno(), create=True),
             mock.patch.dict(sys.modules, {"MySQLdb": MySQLdb, "MySQLdb.cursors": MySQLdb.cursors}),
         ):
             patch.start()

@@ -1,5 +1,6 @@
 """PostgreSQL's adapter, over a stand-in for psycopg2 that says what PostgreSQL says."""
 
+import socket
 import sys
 import types
 import unittest
@@ -39,6 +40,10 @@ class Link:
         self.says = {"SHOW": [("64",)], "SELECT pg_current": [("700",)]}
         self.statements = []
         self.status, self.closed = IDLE, 0
+        self.socket, self.server = socket.socketpair()
+
+    def fileno(self):
+        return self.socket.fileno()
 
     def get_backend_pid(self):
         return 4711
@@ -48,6 +53,8 @@ class Link:
 
     def close(self):
         self.closed = 1
+        self.socket.close()
+        self.server.close()
 
     def cursor(self, name=None, cursor_factory=None):
         return Cursor(self)
@@ -90,6 +97,7 @@ class PostgreSQLs(unittest.TestCase):
         patch.start()
         self.addCleanup(patch.stop)
         self.connection = PostgreSQL("dbname=bank").connect()
+        self.addCleanup(self.connection.close)
         del self.link.statements[:]
 
     def do(self, text):

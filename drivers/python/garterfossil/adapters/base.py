@@ -3,8 +3,10 @@
 from __future__ import annotations
 
 import abc
+import contextlib
 import enum
 import threading
+import time
 from dataclasses import dataclass
 from typing import Any, Callable, Collection, FrozenSet, Iterable, Iterator, List, Optional, Sequence, Tuple, TypeVar
 
@@ -12,6 +14,7 @@ from ..calls import Answer, Call
 from ..codes import Code
 from ..errors import ConnectionLost, TransactionOver, Unanswered, XaError
 from ..statements import Texts
+from ..watch import Wire
 from ..xid import FORMAT, Xid
 
 T = TypeVar("T")
@@ -64,6 +67,30 @@ class Place:
         )
 
 
+#: The levels of isolation that SQL has.
+ISOLATIONS = ("read uncommitted", "read committed", "repeatable read", "serializable")
+
+
+@dataclass(frozen=True)
+class Options:
+    """How the transactions of a branch are to run at the database."""
+
+    #: One of SQL's levels of isolation. None for the database's own.
+    isolation: Optional[str] = None
+    #: Whether the database is to refuse what writes.
+    read_only: bool = False
+
+    def __post_init__(self) -> None:
+        if self.isolation is not None and self.isolation not in ISOLATIONS:
+            raise ValueError(f"isolation: one of {', '.join(ISOLATIONS)}, not {self.isolation!r}")
+
+    @property
+    def modes(self) -> List[str]:
+        """SQL's words for them."""
+        level = [f"ISOLATION LEVEL {self.isolation.upper()}"] if self.isolation else []
+        return [*level, "READ ONLY"] if self.read_only else level
+
+
 class Database(abc.ABC):
     """A database that takes part in transactions: how it is reached. Its methods may be called by any thread."""
 
@@ -110,6 +137,11 @@ class Connection(abc.ABC):
         #: The module's own connection.
         self.link = link
         self.place = place
+        #: For the next branch: how it is to run, and until which moment of the monotonic clock it may.
+        self.options = Options()
+        self.limit: Optional[float] = None
+        descriptor = self._descriptor()
+        self._wire = None if descriptor is None else Wire(descriptor)
         # Held while something is done on the connection: a branch that another thread has kept waits, and then isn't the one.
         self._lock = threading.RLock()
         self._xid: Optional[Xid] = None
@@ -134,19 +166,50 @@ class Connection(abc.ABC):
         with self._lock:
             if not self.is_active(xid):
                 raise TransactionOver("the branch is over, or work on it is")
-            try:
-                done = step()
-            except XaError:
-                raise
-            except Exception as error:
-                if self._is_lost(error):
-                    raise ConnectionLost(str(error).strip()) from error
-                vote = self._vote_of(error)
-                if vote is not None:
-                    self._fault, self.reason = vote, error
-                raise
-            self._see_branch()
-            return done
+            with self.timed(None if self.limit is None else max(0.0, self.limit - time.monotonic())):
+                return self._worked(step)
+
+    def _worked(self, step: Callable[[], T]) -> T:
+        try:
+            done = step()
+        except XaError:
+            raise
+        except Exception as error:
+            if self._is_lost(error):
+                raise ConnectionLost(str(error).strip()) from error
+            vote = self._vote_of(error)
+            if vote is not None:
+                self._fault, self.reason = vote, error
+            raise
+        self._see_branch()
+        return done
+
+    @contextlib.contextmanager
+    def timed(self, seconds: Optional[float]) -> Iterator[None]:
+        """What is done here ends after so many seconds: the connection is cut off then, and ConnectionLost is raised."""
+        wire = self._wire
+        if wire is None or seconds is None or wire.due is not None:
+            yield
+            return
+        wire.due = time.monotonic() + seconds
+        try:
+            yield
+        except ConnectionLost as error:
+            if wire.is_cut:
+                raise ConnectionLost(f"no answer came in {seconds:.1f} seconds, and the connection was given up") from error
+            raise
+        finally:
+            wire.due = None
+
+    def is_there(self) -> bool:
+        """Whether the database hasn't ended the connection, as far as is known without asking it."""
+        return self._wire is None or self._wire.is_there()
+
+    def close(self) -> None:
+        """Closes the connection. Raises nothing."""
+        self._close()
+        if self._wire is not None:
+            self._wire.close()
 
     def is_active(self, xid: Optional[Xid]) -> bool:
         """Whether work on this branch is under way on the connection."""
@@ -174,7 +237,7 @@ class Connection(abc.ABC):
 
     def do(self, call: Call) -> Answer:
         """Does a call of XA."""
-        with self._lock:
+        with self._lock, self.timed(self.place.patience):
             if call.name == "xa_recover":
                 return self._recover(call)
             return Answer(self._on_branch(call, call.xid))
@@ -254,6 +317,7 @@ class Connection(abc.ABC):
 
     def _is_over(self) -> None:
         self._xid, self._state, self._fault = None, State.NONE, None
+        self.options, self.limit = Options(), None
 
     def _recover(self, call: Call) -> Answer:
         """The next page of the scan, in the order of the identifiers. It has the branches of the connection's own place."""
@@ -280,8 +344,13 @@ class Connection(abc.ABC):
     # ** what a kind of database gives
 
     @abc.abstractmethod
-    def close(self) -> None:
-        """Closes the connection. Raises nothing."""
+    def _close(self) -> None:
+        """Closes the module's connection. Raises nothing."""
+
+    def _descriptor(self) -> Optional[int]:
+        """The descriptor of the connection's socket, by which it is cut off if no answer comes in time. None if it isn't known: then
+        the module has to see to that."""
+        return None
 
     @abc.abstractmethod
     def run(self, statement: str, parameters: Sequence[Any] = ()) -> Result:

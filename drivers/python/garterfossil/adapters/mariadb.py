@@ -4,7 +4,7 @@ from __future__ import annotations
 
 import math
 import time
-from typing import Any, Callable, Collection, List, Optional, Sequence, Set, Tuple
+from typing import Any, Collection, Iterable, List, Optional, Sequence, Set, Tuple, Type
 
 from ..calls import Call
 from ..codes import Code
@@ -62,31 +62,36 @@ class MariaDB(Database):
 
     def connect(self, place: Place = Place()) -> MariaDBConnection:
         connection = self._connection(place)
-        connection.take_lock()
+        with connection.timed(place.patience):
+            connection.take_lock()
         return connection
-
-    def by_hand(self, call: Call) -> str:
-        return f"XA {call.verb} {call.xid and text_in_xa(call.xid)};"
 
     def end_connections(self, kept: Collection[int], place: Place = Place()) -> int:
         connection = self._connection(place)
         try:
-            return connection.end_others(kept)
+            with connection.timed(place.patience):
+                return connection.end_others(kept)
         finally:
             connection.close()
+
+    def by_hand(self, call: Call) -> str:
+        return f"XA {call.verb} {call.xid and text_in_xa(call.xid)};"
 
     def _connection(self, place: Place) -> MariaDBConnection:
         import pymysql
 
-        return MariaDBConnection(self._link(pymysql.connect, pymysql.err, place), self._lock_timeout, place)
+        link = self._link(pymysql, pymysql.err.MySQLError, place, ("connect_timeout", "read_timeout", "write_timeout"))
+        for word in ("read_timeout", "write_timeout"):
+            # They were for the greeting, which PyMySQL waits for by them alone. A statement may take longer.
+            setattr(link, f"_{word}", self._parameters.get(word))
+        return MariaDBConnection(link, self._lock_timeout, place)
 
-    def _link(self, connect: Callable[..., Any], errors: Any, place: Place) -> Any:
-        """A connection of the module."""
+    def _link(self, module: Any, kind_of_error: Type[Exception], place: Place, waits: Iterable[str]) -> Any:
+        """A connection of the module, of which these keywords say for how many seconds it waits."""
         seconds = max(2, math.ceil(place.patience))
-        waits = {"connect_timeout": seconds, "read_timeout": seconds, "write_timeout": seconds}
         try:
-            return connect(autocommit=True, **{**waits, **self._parameters})
-        except (errors.MySQLError, OSError) as error:
+            return module.connect(autocommit=True, **{**dict.fromkeys(waits, seconds), **self._parameters})
+        except (kind_of_error, OSError) as error:
             if error.args and error.args[0] in REFUSALS:
                 raise SetupError(str(error)) from error
             raise ConnectionLost(str(error)) from error
@@ -102,7 +107,8 @@ class MariaDBConnection(Connection):
     def __init__(self, link: Any, lock_timeout: int, place: Place = Place()):
         super().__init__(link, place)
         self.number = link.thread_id()
-        self.run(f"SET innodb_lock_wait_timeout = {int(lock_timeout)}")
+        with self.timed(place.patience):
+            self.run(f"SET innodb_lock_wait_timeout = {int(lock_timeout)}")
 
     @property
     def errors(self) -> Any:
@@ -117,7 +123,10 @@ class MariaDBConnection(Connection):
 
         return self.link.cursor(pymysql.cursors.Cursor)
 
-    def close(self) -> None:
+    def _descriptor(self) -> Optional[int]:
+        return int(self.link._sock.fileno())
+
+    def _close(self) -> None:
         try:
             self.link.close()
         except (self.errors.MySQLError, OSError):
@@ -187,6 +196,8 @@ class MariaDBConnection(Connection):
 
     def _start(self, xid: Xid) -> Code:
         try:
+            if self.options.modes:
+                self.run("SET TRANSACTION " + ", ".join(self.options.modes))
             self._xa("START", xid)
         except self.errors.MySQLError as error:
             if error.args[0] == IN_USE:

@@ -2,7 +2,7 @@
 
 from __future__ import annotations
 
-from typing import Any
+from typing import Any, Optional
 
 from . import mariadb
 from .base import Place
@@ -24,7 +24,8 @@ class MariaDB(mariadb.MariaDB):
     def _connection(self, place: Place) -> MysqlclientConnection:
         import MySQLdb
 
-        return MysqlclientConnection(self._link(MySQLdb.connect, MySQLdb, place), self._lock_timeout, place)
+        link = self._link(MySQLdb, MySQLdb.MySQLError, place, ["connect_timeout"])
+        return MysqlclientConnection(link, self._lock_timeout, place)
 
 
 class MysqlclientConnection(mariadb.MariaDBConnection):
@@ -37,6 +38,9 @@ class MysqlclientConnection(mariadb.MariaDBConnection):
         import MySQLdb
 
         return MySQLdb
+
+    def _descriptor(self) -> Optional[int]:
+        return int(self.link.fileno())
 
     def _plain_cursor(self) -> Any:
         import MySQLdb.cursors

@@ -67,19 +67,20 @@ class PostgreSQL(Database):
     def connect(self, place: Place = Place()) -> PostgreSQLConnection:
         return self._connection(self._label(place), place)
 
-    def by_hand(self, call: Call) -> str:
-        return f"{call.verb} PREPARED '{call.xid}';"
-
     def end_connections(self, kept: Collection[int], place: Place = Place()) -> int:
         connection = self._connection(f"{self._label(place)} recovery", place)
         try:
-            return connection.end_others(self._label(place), kept)
+            with connection.timed(place.patience):
+                return connection.end_others(self._label(place), kept)
         finally:
             connection.close()
 
     def _label(self, place: Place) -> str:
         """The application_name of a place's connections."""
         return " ".join(word for word in (self._name, place.manager, str(place.number)) if word)
+
+    def by_hand(self, call: Call) -> str:
+        return f"{call.verb} PREPARED '{call.xid}';"
 
     def _connection(self, label: str, place: Place) -> PostgreSQLConnection:
         import psycopg2
@@ -113,12 +114,13 @@ class PostgreSQLConnection(Connection):
         self.number = self._pid()
         # Whether psycopg2 takes the connection for one with a transaction of psycopg2's own.
         self._is_begun = False
-        self.run(f"SET lock_timeout = {int(lock_timeout * 1000)}")
-        most = int(self.run("SHOW max_prepared_transactions").rows[0][0])
-        if most < max(1, place.threads):
+        with self.timed(place.patience):
+            self.run(f"SET lock_timeout = {int(lock_timeout * 1000)}")
+            most = int(self.run("SHOW max_prepared_transactions").rows[0][0])
+        if most < place.threads:
             self.close()
             raise SetupError(
-                f"max_prepared_transactions of PostgreSQL is {most}: set it to {max(1, place.threads)} or more, the number of threads"
+                f"max_prepared_transactions of PostgreSQL is {most}: set it to {place.threads} or more, the number of threads"
             )
 
     @property
@@ -142,7 +144,10 @@ class PostgreSQLConnection(Connection):
         """How its transaction stands, by libpq's number (`IDLE`, `IN_ERROR`)."""
         return int(self.link.get_transaction_status())
 
-    def close(self) -> None:
+    def _descriptor(self) -> Optional[int]:
+        return int(self.link.fileno())
+
+    def _close(self) -> None:
         try:
             self.link.close()
         except self.errors.Error:
@@ -203,7 +208,7 @@ class PostgreSQLConnection(Connection):
 
     def _start(self, xid: Xid) -> Code:
         # An identifier that is in use is found as the branch is prepared.
-        self.run("BEGIN")
+        self.run(" ".join(["BEGIN", ", ".join(self.options.modes)]).strip())
         return Code.OK
 
     def _end(self, xid: Xid) -> None:
