@@ -18,6 +18,7 @@ from .errors import (
     TransactionOver,
     XaError,
 )
+from .configuration import manager_of
 from .manager import TransactionManager
 from .outcomes import Outcome
 from .transaction import Transaction
@@ -50,4 +51,5 @@ __all__ = [
     "XaError",
     "Xid",
     "__version__",
+    "manager_of",
 ]

@@ -11,7 +11,8 @@ from typing import Any, AsyncIterator, Callable, Optional, Type, TypeVar, Union
 
 from .adapters.base import Result
 from .manager import TransactionManager
-from .transaction import Outcome, Transaction
+from .outcomes import Outcome
+from .transaction import Transaction
 
 T = TypeVar("T")
 

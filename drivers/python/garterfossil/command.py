@@ -24,6 +24,7 @@ FILE is of TOML and says what the manager is made of, as for garterfossil.manage
   log = "/var/lib/bank/decisions.db"   # and, if they are given to TransactionManager: name, threads, patience, program
 
   [[database]]                         # a table for each database, in the order of the manager
+  as = "bank"                          # its name, if the databases have names
   kind = "postgresql"                  # postgresql (psycopg2), psycopg, mariadb (PyMySQL), mysqlclient, or 'module:Class'
   dsn = "dbname=bank user=transfer"    # and whatever else that adapter takes"""
 IN_USE = "a program that has the log ends its branches by itself: stop it before anything is ended by hand"
@@ -67,7 +68,7 @@ def _status(made: Configuration) -> int:
     log, found = Log.of(made), listed(made)
     for line in _lines(made, log, found):
         print(line)
-    return 1 if log.decided or log.fault or any(one.own or one.fault for one in found) else 0
+    return 1 if log.decided or any(one.own or one.fault for one in found) else 0
 
 
 def _lines(made: Configuration, log: Log, found: List[Listed]) -> Iterator[str]:

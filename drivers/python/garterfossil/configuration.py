@@ -5,7 +5,7 @@ from __future__ import annotations
 import importlib
 import os
 from dataclasses import dataclass, field
-from typing import Any, Dict, List, Mapping
+from typing import Any, Dict, List, Mapping, Sequence
 
 from .adapters.base import Database
 from .errors import SetupError
@@ -19,7 +19,8 @@ KINDS = {
     "mysqlclient": "garterfossil.adapters.mysqlclient:MariaDB",
 }
 #: The keys of the file, except `database`, and the kinds of their values.
-KEYS: Mapping[str, Any] = {"log": str, "name": str, "threads": int, "patience": (int, float), "program": str}
+NUMBER = (int, float)
+KEYS: Mapping[str, Any] = {"log": str, "name": str, "threads": int, "patience": NUMBER, "timeout": NUMBER, "program": str}
 
 
 @dataclass(frozen=True)
@@ -28,6 +29,8 @@ class Configuration:
 
     databases: List[Database]
     log: str
+    #: The names of the databases, if they were given any.
+    names: Sequence[str] = ()
     options: Dict[str, Any] = field(default_factory=dict)
 
     @classmethod
@@ -43,9 +46,13 @@ class Configuration:
                 raise SetupError(f"{path}: {key} = {value!r} isn't right; the keys are {', '.join(KEYS)} and [[database]]")
         if "log" not in found or not isinstance(found.get("database"), list) or not found["database"]:
             raise SetupError(f"{path}: it needs the key log, and a table [[database]] for each database")
-        databases = [_database(dict(table), f"{path}: database {rm}") for rm, table in enumerate(found["database"])]
+        tables = [dict(table) for table in found["database"]]
+        names = [table.pop("as") for table in tables if "as" in table]
+        if names and len(set(names)) != len(tables):
+            raise SetupError(f"{path}: either each database has a name of its own (as = ..), or none has")
+        databases = [_database(table, f"{path}: database {rm}") for rm, table in enumerate(tables)]
         log = os.path.join(os.path.dirname(os.path.abspath(path)), found["log"])
-        return cls(databases, log, {key: found[key] for key in KEYS if key in found and key != "log"})
+        return cls(databases, log, names, {key: found[key] for key in KEYS if key in found and key != "log"})
 
     @property
     def name(self) -> str:
@@ -59,7 +66,8 @@ class Configuration:
 
     def manager(self) -> TransactionManager:
         """The transaction manager. Raises what its constructor does."""
-        return TransactionManager(self.databases, self.log, **self.options)
+        named = dict(zip(self.names, self.databases))
+        return TransactionManager(named or self.databases, self.log, **self.options)
 
 
 def manager_of(path: str) -> TransactionManager:

@@ -35,7 +35,8 @@ class Log:
         except OSError as error:
             raise SetupError(f"the program {made.program} can't be run: {error.strerror}") from error
         if done.returncode != 0:
-            return cls(fault=done.stderr.strip() or f"{' '.join(words)} ended with status {done.returncode}")
+            said = done.stderr.strip() or f"status {done.returncode}"
+            return cls(fault=f"{made.program} can't read it now, as while a program runs over it ({said})")
         lines = [line for line in done.stdout.splitlines() if line]
         heuristics = tuple(line for line in lines if ":" in line)
         return cls(frozenset(line.split(" ")[0] for line in lines if ":" not in line), heuristics)

@@ -9,7 +9,7 @@ import random
 import threading
 import time
 from types import TracebackType
-from typing import Callable, Dict, Iterator, Mapping, Optional, Sequence, Set, Tuple, Type, TypeVar, Union
+from typing import TYPE_CHECKING, Any, AsyncContextManager, Callable, Dict, Iterator, Mapping, Optional, Sequence, Set, Tuple, Type, TypeVar, Union
 
 from .adapters.base import Database, Options
 from .counts import Counts
@@ -19,6 +19,9 @@ from .line import PAUSE
 from .outcomes import Outcome, Outcomes
 from .session import Session, Settings
 from .transaction import Transaction
+
+if TYPE_CHECKING:
+    from .aio import AsyncTransaction
 
 log = logging.getLogger("garterfossil")
 
@@ -130,6 +133,13 @@ class TransactionManager:
                 if transaction.outcome is Outcome.OPEN:
                     transaction.rollback()
                 self._note_end(transaction)
+
+    def transaction_async(self, **options: Any) -> AsyncContextManager[AsyncTransaction]:
+        """A transaction for an `async with` block, with the options of `transaction`: each has a thread of its own, so that the loop
+        isn't held up."""
+        from .aio import transaction
+
+        return transaction(self, **options)
 
     def run(self, work: Callable[[Transaction], T], *, tries: int = 5, **options: object) -> T:
         """Does work in a transaction, with the `options` of `transaction`, and returns what it returns. If the transaction is rolled

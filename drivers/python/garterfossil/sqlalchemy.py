@@ -12,6 +12,7 @@ rolled back there is taken back at once, by a savepoint."""
 
 from __future__ import annotations
 
+import functools
 import weakref
 from typing import Any, Callable, Dict, List, Optional, Type, Union
 
@@ -22,9 +23,10 @@ from sqlalchemy.engine.default import DefaultDialect
 from sqlalchemy.pool import NullPool
 
 from .adapters.base import Connection as DrivenConnection
+from .branch import Branch
 from .errors import EndRefused, SetupError, TransactionOver, XaError
 from .manager import TransactionManager
-from .transaction import Branch, Transaction
+from .transaction import Transaction
 
 def create_engine(manager: TransactionManager, database: Union[int, str] = 0, **options: Any) -> sqlalchemy.engine.Engine:
     """An Engine at a database of the manager, by the database's place or name. Its connections are those of the transaction in
@@ -40,9 +42,10 @@ def create_engine(manager: TransactionManager, database: Union[int, str] = 0, **
             raise TransactionOver("SQLAlchemy has a connection within a block of the manager's transaction() alone")
         return _Connection(_Works.of(transaction, database))
 
-    return sqlalchemy.create_engine(
+    engine: sqlalchemy.engine.Engine = sqlalchemy.create_engine(
         _Entry.url_of(dialect), creator=connect, poolclass=NullPool, pool_reset_on_return=None, **options
     )
+    return engine
 
 
 class _Work:
@@ -153,6 +156,13 @@ class _Connection:
         return getattr(self._works.branch.connection, name)
 
 
+def _set_up_once(set_up: Callable[[Any], None], done: weakref.WeakSet[DrivenConnection], connection: _Connection) -> None:
+    """Sets the module's connection up, which serves many transactions, unless that was done."""
+    if connection.driven not in done:
+        set_up(connection.driven.link)
+        done.add(connection.driven)
+
+
 class _WithinBranches:
     """What is other in the dialects: a connection is set up once, and the transaction's ends aren't SQLAlchemy's."""
 
@@ -162,14 +172,7 @@ class _WithinBranches:
         set_up: Optional[Callable[[Any], None]] = super().on_connect()  # type: ignore[misc]
         if set_up is None:
             return None
-        were_set_up: weakref.WeakSet[DrivenConnection] = weakref.WeakSet()
-
-        def once(connection: Any) -> None:
-            if connection.driven not in were_set_up:
-                set_up(connection.driven.link)
-                were_set_up.add(connection.driven)
-
-        return once
+        return functools.partial(_set_up_once, set_up, weakref.WeakSet())
 
     def initialize(self, connection: Any) -> None:
         """Asks the database for what the dialect has to know of it, which psycopg does on its own connection."""

@@ -32,7 +32,7 @@ class AsyncTransactions(unittest.IsolatedAsyncioTestCase):
         return [database.written for database in self.databases]
 
     async def test_a_block_that_ends_is_committed_at_both(self):
-        async with transaction(self.xa) as t:
+        async with self.xa.transaction_async() as t:
             await t[0].execute("take")
             await t[1].execute("give")
         self.assertIs(t.outcome, Outcome.COMMITTED)

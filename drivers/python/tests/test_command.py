@@ -29,7 +29,7 @@ class Commands(unittest.TestCase):
         self.log = os.path.join(folder.name, "decisions.db")
         self.databases = [FakeDatabase(), FakeDatabase()]
         options = {"program": fake_program.made_in(folder.name), "patience": 2.0, "threads": 2}
-        self.made = Configuration(self.databases, self.log, options)
+        self.made = Configuration(self.databases, self.log, options=options)
         patch = mock.patch.object(Configuration, "read", lambda path: self.made)
         patch.start()
         self.addCleanup(patch.stop)

@@ -25,6 +25,13 @@ class Configurations(unittest.TestCase):
     def test_databases_are_in_the_order_of_the_tables(self):
         self.assertEqual([type(one) for one in self.made().databases], [PostgreSQL, MariaDB])
 
+    def test_databases_with_names(self):
+        tables = [{"as": "bank", **RIGHT["database"][0]}, {"as": "shop", **RIGHT["database"][1]}]
+        self.assertEqual(self.made(database=tables).names, ["bank", "shop"])
+        for wrong in ([tables[0], RIGHT["database"][1]], [tables[0], tables[0]]):
+            with self.assertRaisesRegex(SetupError, "name of its own"):
+                self.made(database=wrong)
+
     def test_what_is_given_is_what_the_manager_gets(self):
         made = self.made(name="shop-1", threads=4, patience=2.5)
         self.assertEqual(made.options, {"name": "shop-1", "threads": 4, "patience": 2.5})
