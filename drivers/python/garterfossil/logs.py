@@ -39,12 +39,15 @@ def fault_of_log(path: str) -> Optional[str]:
 
 
 def is_log_in_use(path: str) -> bool:
-    """Whether another process has the log."""
+    """Whether another process has the log. It may be so, too, on a system that doesn't tell."""
+    asked = struct.pack(FLOCK, fcntl.F_WRLCK, os.SEEK_SET, LOCKED, LOCKED_BYTES, 0)
     try:
-        with open(path, "rb") as it:
-            asked = struct.pack(FLOCK, fcntl.F_WRLCK, os.SEEK_SET, LOCKED, LOCKED_BYTES, 0)
+        it = open(path, "rb")
+    except OSError:
+        return False
+    with it:
+        try:
             found = struct.unpack(FLOCK, fcntl.fcntl(it.fileno(), fcntl.F_GETLK, asked))
-    except (OSError, struct.error):
-        # Where that can't be asked, it may be so.
-        return os.path.exists(path)
+        except (OSError, struct.error):
+            return True
     return found[0] != fcntl.F_UNLCK

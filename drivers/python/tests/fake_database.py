@@ -1,5 +1,7 @@
 """A database in memory, of which a test says what goes wrong."""
 
+import socket
+
 from garterfossil.adapters.base import Connection, Database, Place, Result
 from garterfossil.codes import Code
 from garterfossil.errors import ConnectionLost
@@ -20,8 +22,14 @@ class FakeDatabase(Database):
         self.before = {}
         self.calls = []
         self.connections = []
+        #: Why nobody may have a connection.
+        self.refuses = None
+        #: How each branch was to run.
+        self.modes = []
 
     def connect(self, place=Place()):
+        if self.refuses:
+            raise self.refuses
         if not self.is_up:
             raise ConnectionLost("the database is down")
         connection = FakeConnection(self, place)
@@ -36,6 +44,9 @@ class FakeDatabase(Database):
         for connection in strays:
             connection.is_lost = True
         return len(strays)
+
+    def called(self, name):
+        """A test may look on."""
 
     def crash(self):
         self.is_up = False
@@ -90,18 +101,30 @@ class FakeConnection(Connection):
     SHOWN = frozenset(["encoding"])
 
     def __init__(self, database, place):
+        self.socket, self.server = socket.socketpair()
         super().__init__(FakeLink(self), place)
         self.database = database
         self.is_lost = False
         self.statements = []
 
+    def _descriptor(self):
+        return self.socket.fileno()
+
+    def hang_up(self):
+        """The database ends the connection by itself."""
+        self.server.close()
+        self.is_lost = True
+
     def _close(self):
         self.is_lost = True
+        self.socket.close()
+        self.server.close()
 
     def told(self, name, xid, done=lambda: None):
         """Does a call, unless the test has something else for it."""
         if self.is_lost:
             raise ConnectionLost("the connection is gone")
+        self.database.called(name)
         self.database.calls.append(f"{name} {xid}")
         self.database.before.get(name, lambda: None)()
         wanted = self.database.next.pop(name, Code.OK)
@@ -133,6 +156,7 @@ class FakeConnection(Connection):
 
     def _start(self, xid):
         self.statements = []
+        self.database.modes.append(self.options.modes)
         return self.told("start", xid)
 
     def _end(self, xid):

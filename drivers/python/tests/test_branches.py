@@ -1,28 +1,22 @@
 """What a branch gives out: statements, cursors and a connection, which do nothing once it isn't the one that is active."""
 
-import os
-import shutil
 import sys
-import tempfile
 import threading
 import unittest
 
 from garterfossil import EndRefused, RolledBack, TransactionManager, TransactionOver
 from garterfossil.statements import MARIADB, POSTGRESQL
 
+from .case import COORDINATOR, Case
 from .fake_database import FakeDatabase, WrongStatement
 
-COORDINATOR = os.path.join(os.path.dirname(__file__), "fake_coordinator.py")
 
-
-class Branches(unittest.TestCase):
+class Branches(Case):
     def setUp(self):
-        self.folder = tempfile.mkdtemp()
-        self.addCleanup(shutil.rmtree, self.folder)
+        super().setUp()
         self.bank, self.shop = FakeDatabase(), FakeDatabase()
-        log = os.path.join(self.folder, "log")
-        command = [sys.executable, COORDINATOR, log]
-        self.xa = TransactionManager({"bank": self.bank, "shop": self.shop}, log, threads=1, patience=1.0, command=command)
+        command = [sys.executable, COORDINATOR, self.log]
+        self.xa = TransactionManager({"bank": self.bank, "shop": self.shop}, self.log, threads=1, patience=1.0, command=command)
         self.addCleanup(self.xa.close)
 
     # ** kept after the end

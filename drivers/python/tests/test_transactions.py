@@ -1,53 +1,18 @@
 """Transactions over databases in memory, with everything that may go wrong on the way."""
 
-import json
-import logging
-import os
-import shutil
-import sys
-import tempfile
 import unittest
 
-from garterfossil import CoordinatorGone, OutcomeUnknown, Overdue, RolledBack, TransactionManager, XaError
+from garterfossil import CoordinatorGone, OutcomeUnknown, Overdue, RolledBack, XaError
 from garterfossil.adapters.base import Place
 from garterfossil.codes import Code
 from garterfossil.errors import ConnectionLost, Unanswered
 from garterfossil.outcomes import Outcome
 
-from .fake_database import FakeDatabase, WrongStatement
+from .case import Case
+from .fake_database import WrongStatement
 
-COORDINATOR = os.path.join(os.path.dirname(__file__), "fake_coordinator.py")
 
-
-class Transactions(unittest.TestCase):
-    def setUp(self):
-        logging.getLogger("garterfossil").setLevel(logging.CRITICAL)
-        self.folder = tempfile.mkdtemp()
-        self.addCleanup(shutil.rmtree, self.folder)
-        self.log = os.path.join(self.folder, "log")
-        self.left, self.right = FakeDatabase(), FakeDatabase()
-
-    def manager(self, dies_at=None, threads=2, patience=1.0):
-        command = [sys.executable, COORDINATOR, self.log] + ([dies_at] if dies_at else [])
-        return TransactionManager([self.left, self.right], self.log, threads=threads, patience=patience, command=command)
-
-    def written(self):
-        return self.left.written, self.right.written
-
-    def in_the_log(self):
-        with open(self.log) as it:
-            return json.load(it)
-
-    def requests(self, *names):
-        """The requests of these names, as the coordinator got them."""
-        return [line for line in self.in_the_log()["requests"] if line.split(" ")[0] in names]
-
-    def move(self, xa):
-        with xa.transaction() as t:
-            t[0].execute("take")
-            t[1].execute("give")
-        return t
-
+class Transactions(Case):
     # ** what goes well
 
     def test_both_are_committed(self):
