@@ -27,7 +27,7 @@ FILE is of TOML and says what the manager is made of, as for garterfossil.manage
   as = "bank"                          # its name, if the databases have names
   kind = "postgresql"                  # postgresql (psycopg2), psycopg, mariadb (PyMySQL), mysqlclient, or 'module:Class'
   dsn = "dbname=bank user=transfer"    # and whatever else that adapter takes"""
-IN_USE = "a program that has the log ends its branches by itself: stop it before anything is ended by hand"
+IN_USE = "a program that has the log ends its branches by itself, so stop it before anything is ended by hand"
 
 
 def main(words: Sequence[str]) -> int:
@@ -76,7 +76,7 @@ def _lines(made: Configuration, log: Log, found: List[Listed]) -> Iterator[str]:
     yield f"log {made.log}: {log.fault or f'{len(log.decided)} decided, {len(log.heuristics)} ended by a database itself'}"
     yield from (f"  {line}: compare it with the other databases (docs/LOG.md)" for line in log.heuristics)
     for rm, one in enumerate(found):
-        yield f"database {rm}, {made.databases[rm]!r}: {one.fault or f'{len(one.own)} in doubt'}"
+        yield f"database {rm}, {made.label(rm)}: {one.fault or f'{len(one.own)} in doubt'}"
         for xid in one.own:
             yield from _lines_of(made, log, rm, xid)
         for name in sorted({manager_in(xid) for xid in one.others}):
@@ -114,9 +114,11 @@ def _end(made: Configuration, text: str, is_sure: bool) -> int:
         if not is_sure and not _agrees():
             print("nothing was done")
             return 1
-        connection = made.databases[rm].connect(places(made)[rm])
+        place = places(made)[rm]
+        connection = made.databases[rm].connect(place)
         try:
-            code = connection.do(call).code
+            with connection.timed(place.patience):
+                code = connection.do(call).code
         finally:
             connection.close()
     print("it is ended" if code is Code.OK else f"it was over already: {code.name}")

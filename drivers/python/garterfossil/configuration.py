@@ -64,6 +64,10 @@ class Configuration:
         """The program `xatm`."""
         return str(self.options.get("program", "xatm"))
 
+    def label(self, rm: int) -> str:
+        """What messages call a database."""
+        return f"{self.names[rm]}, {self.databases[rm]!r}" if self.names else repr(self.databases[rm])
+
     def manager(self) -> TransactionManager:
         """The transaction manager. Raises what its constructor does."""
         named = dict(zip(self.names, self.databases))

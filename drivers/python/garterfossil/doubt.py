@@ -10,6 +10,7 @@ from typing import FrozenSet, List, Optional, Tuple
 from .adapters.base import Database, Place
 from .configuration import Configuration
 from .errors import SetupError, XaError
+from .logs import is_log_in_use
 from .xid import FORMAT, Xid
 
 
@@ -29,6 +30,8 @@ class Log:
         """What is in the log of a configuration. A look changes nothing."""
         if not os.path.exists(made.log):
             return cls(fault="there is no such file")
+        if is_log_in_use(made.log):
+            return cls(fault="a program has it")
         words = [made.program, "log", made.log]
         try:
             done = subprocess.run(words, stdin=subprocess.DEVNULL, capture_output=True, text=True, check=False)
@@ -36,7 +39,7 @@ class Log:
             raise SetupError(f"the program {made.program} can't be run: {error.strerror}") from error
         if done.returncode != 0:
             said = done.stderr.strip() or f"status {done.returncode}"
-            return cls(fault=f"{made.program} can't read it now, as while a program runs over it ({said})")
+            return cls(fault=f"{made.program} can't read it: {said}")
         lines = [line for line in done.stdout.splitlines() if line]
         heuristics = tuple(line for line in lines if ":" in line)
         return cls(frozenset(line.split(" ")[0] for line in lines if ":" not in line), heuristics)
@@ -64,7 +67,8 @@ class Listed:
         except XaError as error:
             return cls(fault=str(error))
         try:
-            found = connection.all_listed()
+            with connection.timed(place.patience):
+                found = connection.all_listed()
         except XaError as error:
             return cls(fault=str(error))
         finally:
@@ -76,7 +80,8 @@ class Listed:
 
 def places(made: Configuration) -> List[Place]:
     """The places of the databases."""
-    return [Place(manager=made.name, number=rm) for rm in range(len(made.databases))]
+    patience = float(made.options.get("patience", 30.0))
+    return [Place(made.name, rm, patience=patience) for rm in range(len(made.databases))]
 
 
 def listed(made: Configuration) -> List[Listed]:
