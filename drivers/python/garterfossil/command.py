@@ -12,7 +12,7 @@ from .calls import Call
 from .codes import Code
 from .configuration import Configuration
 from .coordinator import Coordinator
-from .doubt import Listed, Log, listed, manager_in, places
+from .doubt import IN_USE, Listed, Log, incarnation_in, listed, manager_in, places
 from .errors import SetupError, XaError
 from .xid import Xid
 
@@ -27,7 +27,6 @@ FILE is of TOML and says what the manager is made of, as for garterfossil.manage
   as = "bank"                          # its name, if the databases have names
   kind = "postgresql"                  # postgresql (psycopg2), psycopg, mariadb (PyMySQL), mysqlclient, or 'module:Class'
   dsn = "dbname=bank user=transfer"    # and whatever else that adapter takes"""
-IN_USE = "a program that has the log ends its branches by itself, so stop it before anything is ended by hand"
 
 
 def main(words: Sequence[str]) -> int:
@@ -68,12 +67,15 @@ def _status(made: Configuration) -> int:
     log, found = Log.of(made), listed(made)
     for line in _lines(made, log, found):
         print(line)
-    return 1 if log.decided or any(one.own or one.fault for one in found) else 0
+    return 1 if any(one.own or one.fault for one in found) else 0
 
 
 def _lines(made: Configuration, log: Log, found: List[Listed]) -> Iterator[str]:
     """What is in doubt, for a reader."""
-    yield f"log {made.log}: {log.fault or f'{len(log.decided)} decided, {len(log.heuristics)} ended by a database itself'}"
+    if log.fault == IN_USE:
+        yield f"log {made.log}: {IN_USE}: it ends its branches by itself, so stop it before anything is ended by hand"
+    else:
+        yield f"log {made.log}: {log.fault or f'{len(log.decided)} decided, {len(log.heuristics)} ended by a database itself'}"
     yield from (f"  {line}: compare it with the other databases (docs/LOG.md)" for line in log.heuristics)
     for rm, one in enumerate(found):
         yield f"database {rm}, {made.label(rm)}: {one.fault or f'{len(one.own)} in doubt'}"
@@ -82,16 +84,19 @@ def _lines(made: Configuration, log: Log, found: List[Listed]) -> Iterator[str]:
         for name in sorted({manager_in(xid) for xid in one.others}):
             count = sum(manager_in(xid) == name for xid in one.others)
             yield f"  {count} of {f'the manager {name}' if name else 'a manager without a name'}, which ends them: leave them alone"
-    shown = {xid.transaction for one in found for xid in one.own}
-    for gtrid in sorted(log.decided - shown):
-        yield f"{gtrid}: decided to commit, and no database lists a branch of it: the next start takes its row away"
+    left = log.decided - {xid.transaction for one in found for xid in one.own}
+    if left and any(one.fault for one in found):
+        yield f"{len(left)} of the decisions have no branch at the databases that answered"
+    elif left:
+        yield f"{len(left)} of the decisions have no branch any more: the next start takes their rows away"
 
 
 def _lines_of(made: Configuration, log: Log, rm: int, xid: Xid) -> Iterator[str]:
-    name = log.call_for(xid)
-    if name is None:
-        yield f"  {xid}: what it waits for isn't known, since the log can't be read; {IN_USE}"
+    objection = log.objection(xid)
+    if objection is not None:
+        yield f"  {xid}: what it waits for isn't known: {objection}"
         return
+    name = log.call_for(xid)
     why = "it is decided to commit" if name == "xa_commit" else "it isn't decided to commit"
     yield f"  {xid}: waits for {name}, since {why}; by hand:"
     yield f"      {made.databases[rm].by_hand(Call(name, xid))}"
@@ -104,12 +109,12 @@ def _end(made: Configuration, text: str, is_sure: bool) -> int:
     """Ends a branch as the log says. The log is held meanwhile, so that no coordinator decides otherwise."""
     log = Log.of(made)
     if log.fault is not None:
-        raise SetupError(f"the log {made.log} can't be read, so nothing is ended: {log.fault}; {IN_USE}")
+        raise SetupError(f"the log {made.log} can't be read, so nothing is ended: {log.fault}")
     rm, xid = _found(made, text)
-    call = Call(log.call_for(xid) or "", xid)
+    call = Call(log.call_for(xid), xid)
     print(f"database {rm}: {made.databases[rm].by_hand(call)}")
     with _Held(made) as incarnation:
-        if int(xid.transaction[:16], 16) >= incarnation:
+        if incarnation_in(xid) >= incarnation:
             raise SetupError(f"the log {made.log} is older than the branch {xid}, so nothing is ended: put the right one back")
         if not is_sure and not _agrees():
             print("nothing was done")

@@ -2,8 +2,11 @@
 
 from __future__ import annotations
 
+import contextlib
 import os
+import sqlite3
 import subprocess
+import urllib.parse
 from dataclasses import dataclass
 from typing import FrozenSet, List, Optional, Tuple
 
@@ -14,6 +17,9 @@ from .logs import is_log_in_use
 from .xid import FORMAT, Xid
 
 
+IN_USE = "a program has it"
+
+
 @dataclass(frozen=True)
 class Log:
     """What `xatm log` prints of a log, or why it prints nothing."""
@@ -22,6 +28,8 @@ class Log:
     decided: FrozenSet[str] = frozenset()
     #: The branches that a database ended by itself, each with how.
     heuristics: Tuple[str, ...] = ()
+    #: That of the last session over it, if it is known: no branch is of a later one.
+    incarnation: Optional[int] = None
     #: Why it can't be read now.
     fault: Optional[str] = None
 
@@ -31,7 +39,7 @@ class Log:
         if not os.path.exists(made.log):
             return cls(fault="there is no such file")
         if is_log_in_use(made.log):
-            return cls(fault="a program has it")
+            return cls(fault=IN_USE)
         words = [made.program, "log", made.log]
         try:
             done = subprocess.run(words, stdin=subprocess.DEVNULL, capture_output=True, text=True, check=False)
@@ -42,13 +50,29 @@ class Log:
             return cls(fault=f"{made.program} can't read it: {said}")
         lines = [line for line in done.stdout.splitlines() if line]
         heuristics = tuple(line for line in lines if ":" in line)
-        return cls(frozenset(line.split(" ")[0] for line in lines if ":" not in line), heuristics)
+        decided = frozenset(line.split(" ")[0] for line in lines if ":" not in line)
+        return cls(decided, heuristics, _incarnation_of(made.log))
 
-    def call_for(self, xid: Xid) -> Optional[str]:
-        """The call that a branch of the manager waits for: the log decides. None if it can't be read."""
+    def objection(self, xid: Xid) -> Optional[str]:
+        """Why the log doesn't say how a branch of the manager ends, if so."""
         if self.fault is not None:
-            return None
+            return "the log can't be read"
+        if self.incarnation is not None and incarnation_in(xid) > self.incarnation:
+            return "the log is older than the branch, so it is another one, or a copy"
+        return None
+
+    def call_for(self, xid: Xid) -> str:
+        """The call that a branch of the manager waits for, unless there is an objection: the log decides."""
         return "xa_commit" if xid.transaction in self.decided else "xa_rollback"
+
+
+def _incarnation_of(path: str) -> Optional[int]:
+    """The incarnation in the log at a path, which nobody has now, and of which `xatm log` has just made one file."""
+    try:
+        with contextlib.closing(sqlite3.connect(f"file:{urllib.parse.quote(path)}?immutable=1", uri=True)) as it:
+            return int(it.execute("SELECT incarnation FROM tm_meta").fetchone()[0])
+    except (sqlite3.Error, TypeError):
+        return None
 
 
 @dataclass(frozen=True)
@@ -92,6 +116,11 @@ def listed(made: Configuration) -> List[Listed]:
 def manager_in(xid: Xid) -> str:
     """The name of the manager of a branch, as its identifier has it."""
     return xid.gtrid[:-16].decode("ascii", "replace")
+
+
+def incarnation_in(xid: Xid) -> int:
+    """The session of a manager that began the transaction of a branch, as its identifier has it."""
+    return int(xid.transaction[:16], 16)
 
 
 def _is_a_managers(xid: Xid) -> bool:

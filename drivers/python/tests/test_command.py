@@ -91,6 +91,14 @@ class Commands(unittest.TestCase):
         self.assertEqual(status, 2)
         self.assertEqual([len(database.prepared) for database in self.databases], [2, 2])
 
+    def test_a_log_that_is_older_than_a_branch_says_nothing_of_it(self):
+        later = branch("0000000000000009" + UNDECIDED[16:], 0)
+        self.databases[0].prepared[later] = []
+        with mock.patch("garterfossil.doubt._incarnation_of", lambda path: 8):
+            self.assertIn(f"{later}: what it waits for isn't known: the log is older", self.does("status")[1])
+        with mock.patch("garterfossil.doubt._incarnation_of", lambda path: 9):
+            self.assertIn(f"{later}: waits for xa_rollback", self.does("status")[1])
+
     def test_a_database_that_is_down_is_said_to_be(self):
         self.databases[1].is_up = False
         status, printed = self.does("status")
@@ -100,8 +108,10 @@ class Commands(unittest.TestCase):
     def test_a_row_of_which_no_branch_is_listed(self):
         self.has_log({DECIDED: []})
         status, printed = self.does("status")
-        self.assertEqual(status, 1)
-        self.assertIn(f"{DECIDED}: decided to commit, and no database lists", printed)
+        self.assertEqual(status, 0)
+        self.assertIn("1 of the decisions have no branch any more", printed)
+        self.databases[1].is_up = False
+        self.assertIn("have no branch at the databases that answered", self.does("status")[1])
 
     def test_recover_does_what_a_start_does(self):
         self.in_doubt()
