@@ -240,7 +240,7 @@ class Connection(abc.ABC):
         with self._lock, self.timed(self.place.patience):
             if call.name == "xa_recover":
                 return self._recover(call)
-            return Answer(self._on_branch(call, call.xid))
+            return Answer(self._on_branch(call, call.branch))
 
     def _on_branch(self, call: Call, xid: Xid) -> Code:
         if call.name == "xa_start":
@@ -323,7 +323,7 @@ class Connection(abc.ABC):
         """The next page of the scan, in the order of the identifiers. It has the branches of the connection's own place."""
         if "TMSTARTRSCAN" in call.flags:
             self._scanned = ()
-        if self._scanned is None or call.count < 0:
+        if self._scanned is None or call.count is None or call.count < 0:
             raise Unanswered("no scan is open")
         rest = sorted(xid for xid in self.listed() if (xid.format, xid.gtrid, xid.bqual) > self._scanned)
         page = tuple(rest[: call.count])
