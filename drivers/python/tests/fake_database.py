@@ -84,6 +84,12 @@ class FakeLink:
         for row in rows:
             self.execute(statement % row)
 
+    def stream(self, statement):
+        """Is done as its rows are asked for, and gives one for each of three."""
+        for _ in range(3):
+            self.execute(statement)
+            yield self.rows[0]
+
     def fetchone(self):
         return self.rows.pop() if self.rows else None
 
