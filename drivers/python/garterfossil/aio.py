@@ -9,7 +9,7 @@ from concurrent.futures import ThreadPoolExecutor
 from types import TracebackType
 from typing import Any, AsyncIterator, Callable, Optional, Type, TypeVar, Union
 
-from .adapters.base import Result
+from .adapters.base import Parameters, Result
 from .manager import TransactionManager
 from .outcomes import Outcome
 from .transaction import Transaction
@@ -24,7 +24,7 @@ class AsyncBranch:
         self._transaction = transaction
         self._database = database
 
-    async def execute(self, statement: str, parameters: Any = ()) -> Result:
+    async def execute(self, statement: str, parameters: Parameters = ()) -> Result:
         """As `Branch.execute`."""
         return await self._transaction.run(lambda t: t[self._database].execute(statement, parameters))
 

@@ -3,9 +3,9 @@
 from __future__ import annotations
 
 from types import TracebackType
-from typing import TYPE_CHECKING, Any, Callable, Generator, Iterator, Optional, Sequence, Type
+from typing import TYPE_CHECKING, Any, Callable, Generator, Iterator, Optional, Type
 
-from .adapters.base import Connection, Result
+from .adapters.base import Connection, Parameters, Result
 from .errors import ConnectionLost, EndRefused, TransactionOver
 from .xid import Xid
 
@@ -45,7 +45,7 @@ class Branch:
         """Whether statements can be done in it."""
         return not self._is_over and self._line.connection is self._connection and self._connection.is_active(self.xid)
 
-    def execute(self, statement: str, parameters: Sequence[Any] = ()) -> Result:
+    def execute(self, statement: str, parameters: Parameters = ()) -> Result:
         """Does a statement: its rows, as tuples, and how many rows it changed or found."""
         self._refuse_ends(statement)
         result: Result = self._work(lambda: self._connection._work(statement, parameters))

@@ -8,7 +8,7 @@ import enum
 import threading
 import time
 from dataclasses import dataclass
-from typing import Any, Callable, Collection, FrozenSet, Iterable, Iterator, List, Optional, Sequence, Tuple, TypeVar
+from typing import Any, Callable, Collection, FrozenSet, Iterable, Iterator, List, Mapping, Optional, Sequence, Tuple, TypeVar, Union
 
 from ..calls import Answer, Call
 from ..codes import Code
@@ -18,6 +18,8 @@ from ..watch import Wire
 from ..xid import FORMAT, Xid
 
 T = TypeVar("T")
+#: What the modules take for the placeholders of a statement.
+Parameters = Union[Sequence[Any], Mapping[str, Any]]
 
 
 @dataclass(frozen=True)
@@ -155,7 +157,7 @@ class Connection(abc.ABC):
 
     # ** work
 
-    def execute(self, statement: str, parameters: Sequence[Any] = ()) -> Result:
+    def execute(self, statement: str, parameters: Parameters = ()) -> Result:
         """Does a statement in the branch that is active. A database's own error is raised as it is; the branch can then only be
         rolled back, also where the database itself would go on."""
         return self.work(self._xid, lambda: self._work(statement, parameters))
@@ -353,12 +355,12 @@ class Connection(abc.ABC):
         return None
 
     @abc.abstractmethod
-    def run(self, statement: str, parameters: Sequence[Any] = ()) -> Result:
+    def run(self, statement: str, parameters: Parameters = ()) -> Result:
         """Does a statement for the program's own ends, outside of any branch. Errors of the database are raised as they are, but
         ConnectionLost where the connection is lost."""
 
     @abc.abstractmethod
-    def _work(self, statement: str, parameters: Sequence[Any]) -> Result:
+    def _work(self, statement: str, parameters: Parameters) -> Result:
         """Does a statement in the branch."""
 
     def _is_lost(self, error: Exception) -> bool:

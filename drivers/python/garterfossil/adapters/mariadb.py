@@ -11,7 +11,7 @@ from ..codes import Code
 from ..errors import ConnectionLost, SetupError, Unanswered
 from ..statements import MARIADB
 from ..xid import Xid
-from .base import Connection, Database, Place, Result, xids_in
+from .base import Connection, Database, Parameters, Place, Result, xids_in
 
 #: Errors of MariaDB by their number.
 NO_SUCH_BRANCH, IN_ANOTHER_STATE, IN_USE = 1397, 1399, 1440
@@ -177,7 +177,7 @@ class MariaDBConnection(Connection):
 
     # ** work
 
-    def _work(self, statement: str, parameters: Sequence[Any]) -> Result:
+    def _work(self, statement: str, parameters: Parameters) -> Result:
         return self.run(statement, parameters)
 
     def _vote_of(self, error: Exception) -> Optional[Code]:
@@ -272,7 +272,7 @@ class MariaDBConnection(Connection):
     def _xa(self, verb: str, xid: Xid, tail: str = "") -> None:
         self.run(f"XA {verb} {text_in_xa(xid)}{tail}")
 
-    def run(self, statement: str, parameters: Sequence[Any] = ()) -> Result:
+    def run(self, statement: str, parameters: Parameters = ()) -> Result:
         try:
             with self._plain_cursor() as cursor:
                 cursor.execute(statement, parameters or None)

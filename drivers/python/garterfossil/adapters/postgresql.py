@@ -6,14 +6,14 @@ import math
 import re
 import time
 from dataclasses import dataclass
-from typing import Any, Collection, List, Optional, Sequence, Set
+from typing import Any, Collection, List, Optional, Set
 
 from ..calls import Call
 from ..codes import Code
 from ..errors import ConnectionLost, SetupError, Unanswered
 from ..statements import POSTGRESQL
 from ..xid import Xid
-from .base import Connection, Database, Place, Result, xids_in
+from .base import Connection, Database, Parameters, Place, Result, xids_in
 
 #: By the state of an error (SQLSTATE) why the branch was rolled back. All of class 23 break a constraint.
 VOTES = {
@@ -194,7 +194,7 @@ class PostgreSQLConnection(Connection):
             return str(statement.as_string(self.link))
         return super().text_of(statement)
 
-    def _work(self, statement: str, parameters: Sequence[Any]) -> Result:
+    def _work(self, statement: str, parameters: Parameters) -> Result:
         return self.run(statement, parameters)
 
     def _vote_of(self, error: Exception) -> Optional[Code]:
@@ -284,7 +284,7 @@ class PostgreSQLConnection(Connection):
 
     # ** statements
 
-    def run(self, statement: str, parameters: Sequence[Any] = ()) -> Tagged:
+    def run(self, statement: str, parameters: Parameters = ()) -> Tagged:
         try:
             with self._plain_cursor() as cursor:
                 cursor.execute(statement, parameters or None)
