@@ -26,12 +26,12 @@ use Rattle.xa_requests.specs.declared.response.Response.{Response}
 use Rattle.xa_requests.specs.declared.response.Response.TheVariants as responses
 use Rattle.xa_serve.proofs.Logging.{later_sessions_are_newer}
 use Rattle.xa_serve.specs.Logging.{HoldsItsBook, KeepsLog}
-use Rattle.xa_standings.specs.Agreement.{MayAllStand}
+use Rattle.xa_standings.specs.Agreement.{MayAllStand, MayAllStand.AsTold}
 use Rattle.xa_standings.specs.Seen.{Seen}
 use Rattle.xa_standings.specs.Standings.{Comes}
 use Rattle.xa_tm.specs.Begins.{BeginsWith, records_begun, rows_begun}
 use Rattle.xa_tm.specs.Calls.{book_in, log_in}
-use Rattle.uses.specs.Sessions.{AreServedTwice, IsReplied, IsServed, IsServedOver, IsServedTwice, LogsCommits}
+use Rattle.uses.specs.Sessions.{AreServedTo, AreServedTwice, IsReplied, IsServed, IsServedOver, IsServedTwice, LogsCommits}
 
 -- a start that has the rows and records of the log, and at whose resource managers nothing is
 abbrev start_of : {L : Type 0} → (threads rms : ℕ) → Coordinator L → Origin
@@ -159,6 +159,43 @@ module _ {L : Type 0} (moment : L → Moment) (agree : ServedSessionsAgree momen
   seen_in handed first last lines replies starts have none =
       seen threads rms lines replies handed first last starts have none (start_of threads rms first) (begins_so threads rms first)
 
+  -- a driver that says nothing
+  none_read : (read unread : List ℕ) → [] ≡ read ++ unread → read ≡ []
+  none_read [] unread e = refl
+  none_read (x ∷ read) unread e = absurd (cc)
+
+  none_told : (replies : List Response) (first last : Coordinator L) → HaveReplies moment [] replies first last → replies ≡ []
+  none_told [] first last have = refl
+  none_told (r ∷ replies) first last have = absurd have
+
+  empty_handed : (handed : L) → (moment handed).is_in_order → IsSomeAnd (moment handed).content IsEmptyLog → IsHandedOn moment None handed
+  empty_handed handed order empty =
+      let found = some_of (moment handed).content IsEmptyLog empty in
+      record {
+        order = order;
+        left = found.0;
+        was_left = found.2;
+        content = found.0;
+        has = found.1;
+        same = record { decisions = refl; heuristics = refl };
+        raised = let least : found.0.incarnation ≤ found.0.incarnation = omega arith in least;
+      }
+
+  pub silent_so : (handed left : L) (written : List ℕ) → IsServedOver moment threads rms handed [] written left → Honestly (moment handed) (moment left)
+      (IsSomeAnd (moment handed).content IsEmptyLog → AreServedTo moment left (λ b. Unstarted))
+  silent_so handed left written is order honest empty =
+      let none = none_read is.serves.read is.unread is.serves.consumed in
+      let have = subst (λ text. HaveReplies moment (lines_of text) is.serves.replies is.first is.last) none is.serves.replied in
+      let silent = none_told is.serves.replies is.first is.last have in
+      let none_have = subst (λ rs. HaveReplies moment [] rs is.first is.last) silent have in
+      let s = seen_in handed is.first is.last [] [] is.starts none_have refl in (
+        is.last,
+        is.log,
+        OneMore None (λ c. Unstarted) (λ c. Unstarted) handed (start_of threads rms is.first) s.0 is.last is.last [] NoneYet (empty_handed handed order empty) s.1
+            AfterLine (subst (λ log. (moment log).is_honest) is.log honest)
+            (AsTold (λ c. Unstarted) (λ c. subst (λ seen. Comes seen c Unstarted Unstarted) (sym s.1.told) refl)),
+      )
+
   module _ (handed : L) (order : (moment handed).is_in_order) (empty : IsSomeAnd (moment handed).content IsEmptyLog) (a b x y : Coordinator L)
       (one_lines two_lines : List (List ℕ)) (one_replies two_replies : List Response) (one : StartsOver moment threads rms handed a)
       (two : StartsOver moment threads rms (log_in b.session.manager) x) (one_have : HaveReplies moment one_lines one_replies a b)
@@ -182,20 +219,6 @@ module _ {L : Type 0} (moment : L → Moment) (agree : ServedSessionsAgree momen
     t : (more : Seen) × IsSession moment (log_in b.session.manager) (start_of threads rms x) more y
     t = seen_in (log_in b.session.manager) x y two_lines two_replies two two_have two_well
 
-    found : (c : Content) × ((moment handed).content ≡ Some c) × IsEmptyLog c
-    found = some_of (moment handed).content IsEmptyLog empty
-
-    first_handed : IsHandedOn moment None handed
-    first_handed = record {
-      order = order;
-      left = found.0;
-      was_left = found.2;
-      content = found.0;
-      has = found.1;
-      same = record { decisions = refl; heuristics = refl };
-      raised = let least : found.0.incarnation ≤ found.0.incarnation = omega arith in least;
-    }
-
     mid : (c : Content) × ((moment (log_in b.session.manager)).content ≡ Some c) × ((moment (log_in x.session.manager)).content ≡ Some (with_bump c))
     mid = some_of (moment (log_in b.session.manager)).content _ (two.over.raised mid_order x_honest)
 
@@ -215,7 +238,7 @@ module _ {L : Type 0} (moment : L → Moment) (agree : ServedSessionsAgree momen
         → MayAllStand (start_of threads rms x) t.0 (λ c. Comes t.0 c (broken (from c))) two_used to → AreServed moment (Some y) to
     all one_used two_used from to one_may two_may =
         OneMore (Some b) from to (log_in b.session.manager) (start_of threads rms x) t.0 y y two_used
-        (OneMore None (λ c. Unstarted) from handed (start_of threads rms a) s.0 b b one_used NoneYet first_handed s.1 AfterLine b_honest one_may)
+        (OneMore None (λ c. Unstarted) from handed (start_of threads rms a) s.0 b b one_used NoneYet (empty_handed handed order empty) s.1 AfterLine b_honest one_may)
         second_handed t.1 AfterLine honest two_may
 
     holds_mid : HoldsItsBook moment true b.session.manager

@@ -11,7 +11,7 @@ use Rattle.xa_coordinator.specs.Lines.{asked_in, lines_of}
 use Rattle.xa_coordinator.specs.Rows.{is_among}
 use Rattle.xa_coordinator.specs.Replies.{greeting_of}
 use Rattle.xa_coordinator.specs.Serving.{EndsBy, Serves, text_of}
-use Rattle.xa_coordinator.specs.Sessions.{LogDecides, StartsOver}
+use Rattle.xa_coordinator.specs.Sessions.{AreServed, LogDecides, StartsOver}
 use Rattle.xa_coordinator.specs.Telling.{HaveTold, is_log_fault}
 use Rattle.xa_coordinator.specs.Votes.{AreVotes, IsLogged}
 use Rattle.xa_coordinator.specs.declared.coordinator.Coordinator.{Coordinator}
@@ -73,6 +73,10 @@ pub record IsServedOver {L : Type 0} (moment : L → Moment) (threads rms : ℕ)
   pub starts : StartsOver moment threads rms handed first
   pub serves : Serves moment (greeting_of first) (Some text) (Some unread) (Some []) (Some written) first last
   pub log : left ≡ log_in last.session.manager
+
+-- sessions that agree left this log, and the branches so
+abbrev pub AreServedTo : {L : Type 0} → (L → Moment) → L → (Branch → Standing) → Type 0
+AreServedTo {L} moment left f = (last : Coordinator L) × (left ≡ log_in last.session.manager) × AreServed moment (Some last) f
 
 -- The driver was told the first line of a session, and a line for each line of what was read of its text: up to `quit`, or all.
 pub record IsReplied (text written : List ℕ) : Type 0 where

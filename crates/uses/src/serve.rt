@@ -2,7 +2,8 @@
 //! recovers what the first one left, and the log has the rows of what is committed.
 
 ghost use Rattle.std.specs.Prelude.{IfOk, IsSomeAnd};
-ghost use Rattle.uses.specs.Sessions.{IsServed, IsServedOver, IsServedTwice, LogsCommits};
+ghost use Rattle.uses.specs.Sessions.{AreServedTo, IsServed, IsServedOver, IsServedTwice, LogsCommits};
+ghost use Rattle.xa_base.specs.declared.state.Standing.TheVariants.{Unstarted};
 ghost use Rattle.xa_coordinator.specs.Sessions.{IsEmptyLog};
 ghost use Rattle.xa_log.specs.Contract.{Honestly};
 
@@ -81,6 +82,22 @@ pub(crate) fn commits<L: DecisionLog + Drop>(
 {
     voted_commits_are_logged::<L>();
     served_over(alloc, 2, 2, log, text)
+}
+
+/// Serves a driver that says nothing, over a log that is empty. That is the least of the sessions that agree: no branch is at any
+/// database before it, and none after it.
+pub(crate) fn silent<L: DecisionLog + Drop>(
+    alloc: Global,
+    threads: u32,
+    rms: u32,
+    log: L,
+) -> Result<(Vec<u8>, L), SessionFault>
+    ensures { IfOk result (λ left. Honestly (L.moment log) (L.moment left.1)
+        (IsSomeAnd (L.moment log).content IsEmptyLog →
+        AreServedTo L.moment left.1 (λ b. Unstarted))) }
+{
+    served_sessions_agree::<L>();
+    served_over(alloc, threads, rms, log, &[])
 }
 
 /// Serves two drivers, one after the other, over a log that is empty at first. The first may be killed anywhere, as after a

@@ -1,10 +1,8 @@
 -- Requests in which the log failed.
-use Rattle.std.proofs.Common.{◌≡◌, ◌∙◌, ◌⊎◌, inl, inr, List, [], ◌∷◌, Bool, true, false, Option, Some, None, ap, refl, subst, sym}
+use Rattle.std.proofs.Common.{◌≡◌, ◌∙◌, inl, inr, [], ◌∷◌, Bool, true, false, Option, Some, None, ap, refl, sym}
 use Rattle.std.specs.Prelude.{if◌then◌else◌, length, IfErr, Result, Ok, Err}
-use Rattle.xa_base.specs.declared.branch.Gtrid.{Gtrid}
 use Rattle.xa_base.specs.declared.refusal.Refusal.{Refusal}
 use Rattle.xa_base.specs.declared.refusal.Refusal.TheVariants.{Limit, LogFault, Memory}
-use Rattle.xa_base.specs.declared.step.Outcome.{Outcome}
 use Rattle.xa_base.specs.declared.step.Step.TheVariants as Steps
 use Rattle.xa_coordinator.specs.Faults.{AsksForRows}
 use Rattle.xa_coordinator.specs.Performing.{Performs}
@@ -24,7 +22,6 @@ use Rattle.xa_standings.specs.Seen.{Seen}
 use Rattle.xa_tm.specs.Book.{Book, Doubt, Doubt.Drops, Doubt.Adds, book_after, rows_for}
 use Rattle.xa_tm.specs.Calls.{FailsBy, book_in, written_by}
 use Rattle.xa_tm.specs.InTurn as turns
-use Rattle.xa_tm.specs.Refusing.{refusal_in}
 
 -- the log failed in a request: in this step of the session, by which the book then is as it was, with this change in doubt
 pub record IsFailed {L : Type 0} (o : Origin) (seen : Seen) (now left : Coordinator L) : Type 0 where

@@ -17,9 +17,9 @@ use Rattle.xa_base.specs.declared.branch.Gtrid.{Gtrid}
 use Rattle.xa_model.specs.Facts.{lists_row}
 use Rattle.xa_model.specs.Facts.Distinct.{ApartRows}
 use Rattle.xa_model.specs.Promises.Processes.{SameRecords, SameRows as SameRowLists}
-use Rattle.xa_model.specs.Trace.{Branch, Fault, Line, Origin, Recorded, Row, Trace.From}
+use Rattle.xa_model.specs.Trace.{Branch, Fault, Line, Origin, Trace.From}
 use Rattle.xa_serve.proofs.Logging.{both_keep, left_tied}
-use Rattle.xa_serve.specs.Logging.{HoldsItsBook, KeepsLog, LeavesContent}
+use Rattle.xa_serve.specs.Logging.{HoldsItsBook, KeepsLog}
 use Rattle.xa_serve.specs.Tracking.{FailedDecisionsAreFound, FailedDonesAreFound, FailedSettlementsAreFound, IsRaisedFrom, StartsFindTheLog}
 use Rattle.xa_standings.specs.Agreement.{MayAllStand}
 use Rattle.xa_standings.specs.Seen.{Seen, Seen.Start}

@@ -1,38 +1,24 @@
 -- A start over the log of a session finds what the session left in it.
-use Rattle.std.proofs.Common.{◌≡◌, ◌≤◌, ◌-◌, ◌⊎◌, List, [], ◌∷◌, inl, inr, Bool, true, false, refl, sym, ap, ◌∙◌, subst, arith}
-use Rattle.std.specs.Prelude.{◌&&◌, ◌||◌, not, cond, filter, if◌then◌else◌, Option, Some, None}
-use Rattle.xa_base.specs.Branch.{gtrid_eq}
+use Rattle.std.proofs.Common.{◌≡◌, ◌≤◌, ◌-◌, ◌⊎◌, inl, inr, Bool, true, false, refl, sym, ap, ◌∙◌, subst, arith}
+use Rattle.std.specs.Prelude.{Some, None}
 use Rattle.xa_base.specs.declared.branch.Gtrid.{Gtrid}
-use Rattle.xa_base.specs.declared.step.Outcome.TheVariants as Outcomes
-use Rattle.xa_base.specs.declared.step.Step.TheVariants as Steps
-use Rattle.xa_base.proofs.BranchKeys.{gtrid_eq-refl, gtrid_eq-true}
 use Rattle.std.specs.FinMap.{get, len}
 use Rattle.xa_log.specs.Content.{Content}
 use Rattle.xa_model.proofs.AgreementLemmas.Distinct.{doubt_is_new_to}
-use Rattle.xa_line.specs.Grid.{Grid}
-use Rattle.xa_model.specs.Facts.{begun, claimed, decided_so, doubt, handed_over, has_gtrid, incarnation}
-use Rattle.xa_model.specs.Facts.Distinct.{EachOnce}
-use Rattle.xa_model.specs.Protocol.{AllHaveVoted, IsRun, RightDecision, RightFault, RightRow}
-use Rattle.xa_model.specs.Trace.{Fault, Fault.InDecide, Fault.InDone, Happening.Decided, Happening.Failed, Origin, Trace, Trace.Then}
+use Rattle.xa_model.specs.Facts.{doubt, incarnation}
+use Rattle.xa_model.specs.Protocol.{IsRun, RightFault}
+use Rattle.xa_model.specs.Trace.{Fault, Happening.Failed, Origin, Trace, Trace.Then}
 use Rattle.xa_standings.specs.Seen.{Seen}
 use Rattle.xa_standings.specs.Sessions.{Finds, FindsLog, Log.LeftBy, MayFail}
-use Rattle.xa_tm.proofs.History.Recovery.{decision_asks}
-use Rattle.xa_tm.proofs.Release.{wholes_follow}
-use Rattle.xa_tm.specs.Book.{Book, Doubt, Doubt.Adds, Doubt.Drops, Doubt.NoDoubt, Waiting, after, book_after, book_of, doubt_of_happening, rows_for, voted_yes}
+use Rattle.xa_tm.specs.Book.{Book, Doubt, book_after, book_of, doubt_of_happening}
 use Rattle.xa_tm.specs.BookAndLog.{IsTied, MayHold, SameRows, TiedBy}
-use Rattle.xa_tm.specs.Calls.{book_in, written_by}
-use Rattle.xa_tm.specs.InTurn as turns
-use Rattle.xa_tm.specs.Refusing.{refusal_in}
+use Rattle.xa_tm.specs.Calls.{book_in}
 use Rattle.xa_tm.specs.Release.{HasReleased}
 use Rattle.xa_serve.specs.Following.{BookStands, StandsIn}
-use Rattle.xa_serve.specs.Tracking.{IsFailedStep, IsRaisedFrom, KeepsTrack}
+use Rattle.xa_serve.specs.Tracking.{IsRaisedFrom, KeepsTrack}
 use Rattle.xa_serve.specs.declared.session.Session.{Session}
 use Rattle.xa_serve.proofs.Books.{book_goes}
-use Rattle.xa_serve.proofs.Following.{StandsWith, stands_with}
-use Rattle.xa_serve.proofs.Lines.{none_first, none_second}
 use Rattle.xa_serve.proofs.NextRows.{MayHoldRows, StartsOver, after_change, may_hold_rows, next_records, next_rows, row_in_is}
-use Rattle.xa_serve.proofs.Refusals.{begun_if_decided}
-use Rattle.xa_serve.proofs.Turns.{decision_goes_on, done_goes_on}
 
 -- ** what a log that is tied to a book has
 

@@ -77,7 +77,8 @@ pub record IsSession (o : Origin) (seen : Seen) (fails : Option Fault) : Type 0 
   pub may_fail : MayFail o seen fails
 
 -- Where all branches may stand after sessions one after another, and what log these leave. Between two sessions what was open is lost, and
--- a database may end a prepared branch by itself.
+-- a database may end a prepared branch by itself. `OfProcesses` of `xa_model` says the same of processes whose resource managers are known,
+-- and whose events are stored.
 pub data AfterSessions : Log → (Branch → Standing) → Type 0 where
   NoneYet : (i : ℕ) → AfterSessions (Empty i) (λ b. Unstarted)
   OneMore :
@@ -97,9 +98,9 @@ pub record RowsDecide (f : Branch → Standing) (next : Origin) : Type 0 where
   pub undone : (b : Branch) → IsUndone (f b) → lists_row next.rows b.gtrid ≡ false
 
 -- There is one right history of all sessions. Once what was open is lost, it leaves each branch where that then stands; and the next start
--- finds its rows and records. So all promises of right histories hold of it (`Headline`), and of the branches and the log as well. Of a
--- branch that stands committed its transaction's row was written, if that wasn't committed in one phase; of one that stands rolled back or
--- lost it never was.
+-- finds its rows and records. So what is promised of right histories (`Promises` of `xa_model`) holds of the branches and the log as well.
+-- Of a branch that stands committed its transaction's row was written, if that wasn't committed in one phase; of one that stands rolled back
+-- or lost it never was.
 pub record HaveOneHistory (log : Log) (f : Branch → Standing) : Type 0 where
   pub whole : Trace
   pub right : AllRight whole

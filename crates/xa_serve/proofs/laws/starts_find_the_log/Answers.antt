@@ -6,6 +6,6 @@ pub returns : goal.returns
 returns g c = record {
   left = λ o seen s content next keeps tied raised. finds_the_log o seen s content next keeps tied raised;
   decision = λ o seen s outcome ts keeps none. decisions_found s outcome ts none o seen keeps;
-  settlement = λ o seen s t keeps none yes. settlement_found s t none yes o seen keeps;
+  settlement = λ o seen s t keeps none voted. settlement_found s t none voted o seen keeps;
   done = λ o seen s ts keeps none. done_found s ts none o seen keeps;
 }
