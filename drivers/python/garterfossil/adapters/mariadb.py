@@ -6,6 +6,7 @@ import math
 import time
 from typing import Any, Collection, List, Optional, Sequence, Set, Tuple
 
+from ..calls import Call
 from ..codes import Code
 from ..errors import ConnectionLost, SetupError, Unanswered
 from ..statements import MARIADB
@@ -94,9 +95,12 @@ class MariaDBConnection(Connection):
 
     TEXTS = MARIADB
     SHOWN = SHOWN
+    SENDS = True
 
     def __init__(self, link: Any, lock_timeout: int, place: Place = Place()):
         super().__init__(link, place)
+        # The statement whose answer is yet to be read.
+        self._sent: Optional[str] = None
         self.number = link.thread_id()
         with self.timed(place.patience):
             self.run(f"SET innodb_lock_wait_timeout = {int(lock_timeout)}")
@@ -267,8 +271,34 @@ class MariaDBConnection(Connection):
 
     # ** statements
 
+    def send(self, call: Call) -> None:
+        import pymysql
+
+        if call.xid is None or call.xid != self._xid or self._fault is not None:
+            return
+        statement = statement_of("PREPARE" if call.name == "xa_prepare" else "COMMIT", call.xid)
+        try:
+            self.link._execute_command(pymysql.constants.COMMAND.COM_QUERY, statement)
+        except (pymysql.err.MySQLError, OSError) as error:
+            raise ConnectionLost(str(error)) from error
+        self._sent = statement
+
     def _xa(self, verb: str, xid: Xid, tail: str = "") -> None:
-        self.run(f"XA {verb} X'{xid.gtrid.hex()}',X'{xid.bqual.hex()}',{xid.format}{tail}")
+        import pymysql
+
+        statement = statement_of(verb, xid, tail)
+        sent, self._sent = self._sent, None
+        try:
+            if sent is None:
+                self.link.query(statement)
+            elif sent == statement:
+                self.link._read_query_result()
+            else:
+                raise ConnectionLost(f"the answer to {sent} was never read")
+        except (pymysql.err.MySQLError, OSError) as error:
+            if self._is_lost(error):
+                raise ConnectionLost(str(error)) from error
+            raise
 
     def run(self, statement: str, parameters: Sequence[Any] = ()) -> Result:
         import pymysql
@@ -282,6 +312,11 @@ class MariaDBConnection(Connection):
             if self._is_lost(error):
                 raise ConnectionLost(str(error)) from error
             raise
+
+
+def statement_of(verb: str, xid: Xid, tail: str = "") -> str:
+    """The statement that does something to a branch."""
+    return f"XA {verb} X'{xid.gtrid.hex()}',X'{xid.bqual.hex()}',{xid.format}{tail}"
 
 
 def text_of(row: Tuple[Any, ...]) -> str:
