@@ -91,6 +91,20 @@ class Completion:
         self._leave()
         self.line.make_ahead(self._end)
 
+    def see_issued(self) -> None:
+        """Sees that xa_prepare is issued."""
+        self.line.see_issued()
+
+    def send_prepare(self) -> None:
+        """Sends xa_prepare, which waits, if that can be sent ahead of `prepare`."""
+        self.line.send(self._prepare)
+
+    def send_commit(self) -> None:
+        """Sends xa_commit, if it waits and can be sent ahead of `commit`."""
+        call = Call("xa_commit", self.xid)
+        if self.line.waits_for(call):
+            self.line.send(call)
+
     def prepare(self) -> Code:
         """xa_prepare, which waits: the vote. Unless that is OK the branch is over."""
         vote = self.line.make(self._prepare).code

@@ -199,14 +199,11 @@ class Transaction:
             branch.issue_prepare()
         faults: List[XaError] = []
         # Also after a no: the calls wait on the lines already.
-        ended = []
-        for branch in branches:
-            try:
-                branch.end()
-                ended.append(branch)
-            except XaError as error:
-                faults.append(error)
-        for branch in ended:
+        left = self._each(branches, Completion.end, faults)
+        # Who waits for the last reply has all of them.
+        left = self._each(left[::-1], Completion.see_issued, faults)[::-1]
+        left = self._each(left, Completion.send_prepare, faults)
+        for branch in left:
             try:
                 vote = branch.prepare()
                 if vote not in (Code.OK, Code.RDONLY):
@@ -215,6 +212,18 @@ class Transaction:
                 faults.append(error)
         if faults:
             raise faults[0]
+
+    @staticmethod
+    def _each(branches: List[Completion], step: Callable[[Completion], None], faults: List[XaError]) -> List[Completion]:
+        """Does a step for each of the branches. Those of which it went well."""
+        done = []
+        for branch in branches:
+            try:
+                step(branch)
+                done.append(branch)
+            except XaError as error:
+                faults.append(error)
+        return done
 
     def _commit_in_one_phase(self, branch: Completion, call: Call) -> None:
         line = branch.line
@@ -245,6 +254,8 @@ class Transaction:
             self._roll_back()
             raise RolledBack(str(error)) from error
         self.outcome = Outcome.COMMITTED
+        # What can't be sent ahead is asked for again.
+        self._each(prepared, Completion.send_commit, [])
         told = [branch for branch in prepared if self._is_done("xa_commit", branch, branch.commit)]
         if prepared and told == prepared:
             self._session.note_done(self.gtrid)

@@ -22,6 +22,7 @@ XID = "7:00000000000000010000000000000001:0000000000000000"
 
 pymysql = types.ModuleType("pymysql")
 pymysql.err = types.ModuleType("pymysql.err")
+pymysql.constants = types.SimpleNamespace(COMMAND=types.SimpleNamespace(COM_QUERY=3))
 pymysql.cursors = types.SimpleNamespace(Cursor=None)
 
 
@@ -74,6 +75,21 @@ class Link:
 
     def cursor(self, kind=None):
         return Cursor(self)
+
+    def query(self, statement):
+        Cursor(self).execute(statement)
+
+    def _execute_command(self, command, statement):
+        """The server does it at once, and says so later."""
+        self.said = None
+        try:
+            self.query(statement)
+        except MySQLError as error:
+            self.said = error
+
+    def _read_query_result(self):
+        if self.said:
+            raise self.said
 
 
 def error(number):

@@ -42,6 +42,12 @@ class MysqlclientConnection(mariadb.MariaDBConnection):
     def _descriptor(self) -> Optional[int]:
         return int(self.link.fileno())
 
+    def _send(self, statement: str) -> None:
+        self.link.send_query(statement.encode("ascii"))
+
+    def _read_answer(self) -> None:
+        self.link.read_query_result()
+
     def _plain_cursor(self) -> Any:
         import MySQLdb.cursors
 
