@@ -161,7 +161,9 @@ class TransactionManager:
                     done = work(transaction)
                 return done
             except Exception as error:
-                if left == 0 or transaction is None or not transaction.is_worth_trying_again:
+                if left == 0 or transaction is None:
+                    raise
+                if not transaction.is_worth_trying_again and not transaction.was_left_for_a_moment(error):
                     raise
                 log.info("%s was rolled back, and is tried again: %s", transaction.gtrid, error)
             time.sleep(pause * random.uniform(0.5, 1.0))

@@ -174,6 +174,17 @@ class Transaction:
         go well the next time."""
         return self.outcome is Outcome.ROLLED_BACK and bool(self._codes) and all(code in PASSING for code in self._codes)
 
+    def was_left_for_a_moment(self, error: Optional[BaseException]) -> bool:
+        """Whether an exception that left the block is a database's own, of a reason that is of a moment, or comes from one. (At
+        PostgreSQL a savepoint may have taken its statement back, so that the branch had no fault.)"""
+        if self.outcome is not Outcome.ROLLED_BACK:
+            return False
+        while error is not None:
+            if any(branch.vote_of(error) in PASSING for branch in self._branches.values()):
+                return True
+            error = error.__cause__
+        return False
+
     # ** the first phase
 
     def _require_no_fault(self, branches: List[Completion]) -> None:

@@ -23,6 +23,7 @@ class SqliteDatabase(Database):
 
 class SqliteConnection(Connection):
     TEXTS = POSTGRESQL
+    TAKES_BACK = True
     SHOWN = frozenset(["create_function", "total_changes", "in_transaction", "isolation_level"])
 
     def __init__(self, link, place):
