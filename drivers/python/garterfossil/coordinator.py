@@ -53,10 +53,11 @@ class Coordinator:
             )
         except OSError as error:
             raise SetupError(f"the program {command[0]} can't be run, which program= may give: {error}") from error
+        self._posting = threading.Lock()
         self._writing = threading.Lock()
         self._reading = threading.Lock()
-        # Requests that are yet to be written, how many there were, and how many of them are written. All under the lock `_writing`. They
-        # are kept here and in no buffer of a file, which a process that is forked off would write once more at its end.
+        # Requests that are yet to be written, and how many there were: under the lock `_posting`. They are kept here and in no buffer of
+        # a file, which a process that is forked off would write once more at its end. How many of them are written: under `_writing`.
         self._unwritten: List[str] = []
         self._posted = self._written = 0
         # The requests whose replies are yet to come, and how many have come. Of those whose reply says only that they were done, the text
@@ -178,14 +179,14 @@ class Coordinator:
 
     def post(self, request: str) -> Reply:
         """Puts a request on its way: it is written with the next one that is waited for."""
-        with self._writing:
+        with self._posting:
             reply = Reply(request, self._posted)
             self._put(request, reply)
         return reply
 
     def tell(self, request: str) -> int:
         """The same for a request whose reply says only that it was done (`see_done`). Its number."""
-        with self._writing:
+        with self._posting:
             number = self._posted
             self._put(request, request)
         return number
@@ -203,7 +204,9 @@ class Coordinator:
         """Sees that a request is written, so that the coordinator will read it whatever ends here."""
         if number >= self._written:
             with self._writing:
-                self._write()
+                # Another thread may have written it meanwhile.
+                if number >= self._written:
+                    self._write()
 
     def wait(self, reply: Reply) -> str:
         """The reply to a request that was posted. Raises Refused, RequestError or CoordinatorGone."""
@@ -257,15 +260,14 @@ class Coordinator:
     def _write(self) -> None:
         """Writes what is unwritten. Requests are written whole, or the session is over: the replies would no longer fit them. Called
         with the lock `_writing`."""
-        if not self._unwritten:
-            return
-        self._unwritten.append("")
-        some = memoryview("\n".join(self._unwritten).encode("ascii"))
-        self._unwritten.clear()
+        with self._posting:
+            requests, self._unwritten = self._unwritten, []
+            posted = self._posted
+        some = memoryview("".join(f"{request}\n" for request in requests).encode("ascii"))
         try:
             while some:
                 some = some[self._process.stdin.write(some) :]
-            self._written = self._posted
+            self._written = posted
         except (OSError, ValueError) as error:
             raise self._gone(str(error)) from None
         except BaseException:

@@ -119,7 +119,7 @@ class Line:
             return
         self._see_due()
         try:
-            self._see_told()
+            self.see_told()
             self.connection.send(call)
         except BaseException:
             self.lose()
@@ -144,7 +144,7 @@ class Line:
 
     def _make(self, call: Call) -> Answer:
         try:
-            self._see_told()
+            self.see_told()
             answer = self._answer_to(call)
             self._tell(call, answer)
         except BaseException:
@@ -152,7 +152,7 @@ class Line:
             raise
         return answer
 
-    def _see_told(self) -> None:
+    def see_told(self) -> None:
         """Sees that the answer to the call before is written, before the next one is made: the coordinator takes for done of a line
         that is lost no more than the call that waits first."""
         self._coordinator.see_written(self._told)
