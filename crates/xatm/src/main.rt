@@ -20,7 +20,7 @@ use crate::stores::{
     close_in_files, list_in_files, run_in_files, run_jobs_in_files, run_jobs_over, run_over,
 };
 use crate::stories::{check, draw, explain};
-use std::io::{Input, Write};
+use std::io::{BufReader, Input, Write};
 use std::process::ExitCode;
 use std::sync::Wait;
 use std::thread::Threads;
@@ -207,7 +207,9 @@ fn serve<W: Write>(
     out: &mut W,
 ) -> Result<(), Failure> {
     let alloc = rt.alloc();
-    let mut input = rt.reader();
+    let mut input = BufReader::new(alloc, rt.reader()).map_err(|error| Failure::Input.caused_by(
+        &error,
+    ))?;
     claim_log(rt, log, name)?;
     let opened = SqlLog::open(rt, log)?;
     let served = serve_in_files(alloc, name, threads, rms, opened, &mut input, out);
