@@ -35,6 +35,7 @@ class Block:
             manager.give_back_python_thread(self._python_thread)
             raise
         self._transaction = Transaction(self._session, self._thread, gtrid, self._options, self._timeout)
+        self._outer = manager.set_current(self._transaction)
         return self._transaction
 
     def __exit__(
@@ -45,6 +46,7 @@ class Block:
         try:
             transaction.__exit__(kind, error, trace)
         finally:
+            self._manager.set_current(self._outer)
             try:
                 if transaction.outcome is Outcome.OPEN:
                     transaction.rollback()

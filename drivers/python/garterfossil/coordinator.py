@@ -53,6 +53,9 @@ class Coordinator:
             )
         except OSError as error:
             raise SetupError(f"the program {command[0]} can't be run, which program= may give: {error}") from error
+        stdin, stdout, stderr = self._process.stdin, self._process.stdout, self._process.stderr
+        assert stdin is not None and stdout is not None and stderr is not None
+        self._requests, self._replies, self._errors = stdin, stdout, stderr
         self._posting = threading.Lock()
         self._writing = threading.Lock()
         self._reading = threading.Lock()
@@ -266,7 +269,7 @@ class Coordinator:
         some = memoryview("".join(f"{request}\n" for request in requests).encode("ascii"))
         try:
             while some:
-                some = some[self._process.stdin.write(some) :]
+                some = some[self._requests.write(some) :]
             self._written = posted
         except (OSError, ValueError) as error:
             raise self._gone(str(error)) from None
@@ -344,7 +347,7 @@ class Coordinator:
     def _read_lines(self) -> List[str]:
         """The lines of which the ends have come, at once; waits for something to come."""
         try:
-            some = self._process.stdout.read(65536)
+            some = self._replies.read(65536)
         except (OSError, ValueError) as error:
             raise self._gone(str(error)) from None
         except BaseException:
@@ -370,7 +373,7 @@ class Coordinator:
                 return
             self._fault = reason
         try:
-            self._process.stdin.close()
+            self._requests.close()
         except OSError:
             pass
         try:
@@ -378,10 +381,10 @@ class Coordinator:
         except subprocess.TimeoutExpired:
             self._process.kill()
             self._process.wait()
-        said = self._process.stderr.read().decode("utf-8", "replace").strip()
+        said = self._errors.read().decode("utf-8", "replace").strip()
         self._fault = f"{reason}; {said}" if said else reason
-        self._process.stderr.close()
+        self._errors.close()
         # Whoever still reads finds its end first.
-        self._process.stdout.close()
+        self._replies.close()
         with self._reading:
             self._wake(list(self._asleep))

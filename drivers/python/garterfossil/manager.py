@@ -8,7 +8,22 @@ import random
 import threading
 import time
 from types import TracebackType
-from typing import Callable, ContextManager, Dict, Mapping, Optional, Sequence, Set, Tuple, Type, TypeVar, Union
+from typing import (
+    TYPE_CHECKING,
+    Any,
+    AsyncContextManager,
+    Callable,
+    ContextManager,
+    Dict,
+    Mapping,
+    Optional,
+    Sequence,
+    Set,
+    Tuple,
+    Type,
+    TypeVar,
+    Union,
+)
 
 from .adapters.base import Database, Options
 from .block import Block
@@ -19,6 +34,9 @@ from .line import PAUSE
 from .outcomes import Outcome, Outcomes
 from .session import Session, Settings
 from .transaction import Transaction
+
+if TYPE_CHECKING:
+    from .aio import AsyncTransaction
 
 log = logging.getLogger("garterfossil")
 
@@ -76,6 +94,7 @@ class TransactionManager:
         self._ended = ended
         self._process = os.getpid()
         self._lock = threading.Lock()
+        self._open = threading.local()
         self._session: Optional[Session] = None
         self._is_closed = False
         self._outcomes = Outcomes()
@@ -116,6 +135,13 @@ class TransactionManager:
         options = Options(isolation, read_only) if isolation or read_only else NO_OPTIONS
         return Block(self, options, self._timeout if isinstance(timeout, str) else timeout, independent)
 
+    def transaction_async(self, **options: Any) -> AsyncContextManager[AsyncTransaction]:
+        """A transaction for an `async with` block, with the options of `transaction`: each has a thread of its own, so that the loop
+        isn't held up."""
+        from .aio import transaction
+
+        return transaction(self, **options)
+
     def run(self, work: Callable[[Transaction], T], *, tries: int = 5, **options: object) -> T:
         """Does work in a transaction, with the `options` of `transaction`, and returns what it returns. If the transaction is rolled
         back for a reason of a moment, as a deadlock or a lost connection, the work is done again in another one, after a pause, with
@@ -150,6 +176,16 @@ class TransactionManager:
         session = self._session
         return {**self._counts.shown(), "owed": 0 if session is None else session.debts.count()}
 
+    @property
+    def current(self) -> Optional[Transaction]:
+        """The transaction in whose block the thread is, if it is in one."""
+        return getattr(self._open, "transaction", None)
+
+    def database(self, key: Union[int, str]) -> Database:
+        """A database, by its place or its name."""
+        databases = self._settings.databases
+        return databases[databases.number_of(key)]
+
     def close(self) -> None:
         """Ends the coordinator, once all transactions are over. Raises Overdue if they aren't within the patience: they are rolled
         back. Raises XaError, and does nothing, in a block of a transaction. In another process than its own does nothing."""
@@ -181,6 +217,11 @@ class TransactionManager:
         """Its transaction is over."""
         if mine is not None:
             self._busy.discard(mine)
+
+    def set_current(self, transaction: Optional[Transaction]) -> Optional[Transaction]:
+        """Makes this the transaction in whose block the thread is. The one before."""
+        before, self._open.transaction = self.current, transaction
+        return before
 
     def begin(self) -> Tuple[Session, int, str]:
         """A transaction that has begun, in the session that is up, or else in the next one: with its thread and its name."""

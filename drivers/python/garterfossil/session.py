@@ -122,8 +122,7 @@ class Session:
 
     def begin(self, thread: int) -> str:
         """A transaction of the thread begins: its name."""
-        self.begin_ahead(thread)
-        reply, self._begun[thread] = self._begun[thread], None
+        reply, self._begun[thread] = self._begun[thread] or self.coordinator.begin(thread), None
         gtrid = self.coordinator.begun_in(reply)
         self._last[thread] = int(gtrid[16:], 16)
         return gtrid
@@ -167,7 +166,7 @@ class Session:
     def pay(self, rm: int, call: Call) -> None:
         """It is now."""
         if self.debts.settle(rm, call) and call.name == "xa_commit":
-            self.note_done(call.xid.transaction)
+            self.note_done(call.branch.transaction)
 
     def _finish(self, gtrids: List[str]) -> None:
         try:
