@@ -1,6 +1,7 @@
 """Stories over two databases: how a transaction ends where everything goes well, and where something goes wrong at each of its
 moments. Each is looked at in the databases."""
 
+import functools
 import logging
 import os
 import threading
@@ -58,14 +59,13 @@ class Tour:
     def before(self, words, do, xa):
         """Has something done before the first request of the session that has these words, one by one."""
         coordinator = xa._session.coordinator
-        post = coordinator.post
+        for name in ("post", "tell"):
+            setattr(coordinator, name, functools.partial(self.posted, getattr(coordinator, name), words, do))
 
-        def posted(request):
-            if all(word in request for word in words) and do:
-                do.pop()()
-            return post(request)
-
-        coordinator.post = posted
+    def posted(self, post, words, do, request):
+        if all(word in request for word in words) and do:
+            do.pop()()
+        return post(request)
 
     def at(self, moment, do, xa=None):
         """Has something done at a moment: before the first request of this name or call, or behind the decision to commit."""

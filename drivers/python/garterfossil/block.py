@@ -46,8 +46,8 @@ class Block:
         try:
             transaction.__exit__(kind, error, trace)
         finally:
+            self._manager.set_current(self._outer)
             try:
-                self._manager.set_current(self._outer)
                 if transaction.outcome is Outcome.OPEN:
                     transaction.rollback()
             finally:

@@ -8,7 +8,7 @@ import os
 import subprocess
 import threading
 import time
-from typing import IO, Deque, Dict, Iterable, List, Optional, Sequence, Tuple, Union
+from typing import Deque, Dict, Iterable, List, Optional, Sequence, Tuple, Union
 
 from .calls import Answer, Call
 from .errors import CoordinatorGone, LogInUse, Refused, RequestError, SetupError, Unexplained, XaError
@@ -40,12 +40,6 @@ class Reply:
         self.line: Optional[str] = None
 
 
-def _opened(pipe: Optional[IO[bytes]]) -> IO[bytes]:
-    """A pipe to or from a process, which was asked for."""
-    assert pipe is not None
-    return pipe
-
-
 class Coordinator:
     """The coordinator's process, and one session with it.
 
@@ -59,12 +53,14 @@ class Coordinator:
             )
         except OSError as error:
             raise SetupError(f"the program {command[0]} can't be run, which program= may give: {error}") from error
-        pipes = self._process.stdin, self._process.stdout, self._process.stderr
-        self._input, self._output, self._errors = map(_opened, pipes)
+        stdin, stdout, stderr = self._process.stdin, self._process.stdout, self._process.stderr
+        assert stdin is not None and stdout is not None and stderr is not None
+        self._requests, self._replies, self._errors = stdin, stdout, stderr
+        self._posting = threading.Lock()
         self._writing = threading.Lock()
         self._reading = threading.Lock()
-        # Requests that are yet to be written, how many there were, and how many of them are written. All under the lock `_writing`. They
-        # are kept here and in no buffer of a file, which a process that is forked off would write once more at its end.
+        # Requests that are yet to be written, and how many there were: under the lock `_posting`. They are kept here and in no buffer of
+        # a file, which a process that is forked off would write once more at its end. How many of them are written: under `_writing`.
         self._unwritten: List[str] = []
         self._posted = self._written = 0
         # The requests whose replies are yet to come, and how many have come. Of those whose reply says only that they were done, the text
@@ -186,14 +182,14 @@ class Coordinator:
 
     def post(self, request: str) -> Reply:
         """Puts a request on its way: it is written with the next one that is waited for."""
-        with self._writing:
+        with self._posting:
             reply = Reply(request, self._posted)
             self._put(request, reply)
         return reply
 
     def tell(self, request: str) -> int:
         """The same for a request whose reply says only that it was done (`see_done`). Its number."""
-        with self._writing:
+        with self._posting:
             number = self._posted
             self._put(request, request)
         return number
@@ -211,7 +207,9 @@ class Coordinator:
         """Sees that a request is written, so that the coordinator will read it whatever ends here."""
         if number >= self._written:
             with self._writing:
-                self._write()
+                # Another thread may have written it meanwhile.
+                if number >= self._written:
+                    self._write()
 
     def wait(self, reply: Reply) -> str:
         """The reply to a request that was posted. Raises Refused, RequestError or CoordinatorGone."""
@@ -265,15 +263,14 @@ class Coordinator:
     def _write(self) -> None:
         """Writes what is unwritten. Requests are written whole, or the session is over: the replies would no longer fit them. Called
         with the lock `_writing`."""
-        if not self._unwritten:
-            return
-        self._unwritten.append("")
-        some = memoryview("\n".join(self._unwritten).encode("ascii"))
-        self._unwritten.clear()
+        with self._posting:
+            requests, self._unwritten = self._unwritten, []
+            posted = self._posted
+        some = memoryview("".join(f"{request}\n" for request in requests).encode("ascii"))
         try:
             while some:
-                some = some[self._input.write(some) :]
-            self._written = self._posted
+                some = some[self._requests.write(some) :]
+            self._written = posted
         except (OSError, ValueError) as error:
             raise self._gone(str(error)) from None
         except BaseException:
@@ -350,7 +347,7 @@ class Coordinator:
     def _read_lines(self) -> List[str]:
         """The lines of which the ends have come, at once; waits for something to come."""
         try:
-            some = self._output.read(65536)
+            some = self._replies.read(65536)
         except (OSError, ValueError) as error:
             raise self._gone(str(error)) from None
         except BaseException:
@@ -376,7 +373,7 @@ class Coordinator:
                 return
             self._fault = reason
         try:
-            self._input.close()
+            self._requests.close()
         except OSError:
             pass
         try:
@@ -388,6 +385,6 @@ class Coordinator:
         self._fault = f"{reason}; {said}" if said else reason
         self._errors.close()
         # Whoever still reads finds its end first.
-        self._output.close()
+        self._replies.close()
         with self._reading:
             self._wake(list(self._asleep))

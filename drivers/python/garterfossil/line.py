@@ -120,7 +120,7 @@ class Line:
             return
         self._see_due()
         try:
-            self._see_told()
+            self.see_told()
             self.connection.send(call)
         except BaseException:
             self.lose()
@@ -145,7 +145,7 @@ class Line:
 
     def _make(self, call: Call) -> Answer:
         try:
-            self._see_told()
+            self.see_told()
             answer = self._answer_to(call)
             self._tell(call, answer)
         except BaseException:
@@ -153,7 +153,7 @@ class Line:
             raise
         return answer
 
-    def _see_told(self) -> None:
+    def see_told(self) -> None:
         """Sees that the answer to the call before is written, before the next one is made: the coordinator takes for done of a line
         that is lost no more than the call that waits first."""
         self._coordinator.see_written(self._told)

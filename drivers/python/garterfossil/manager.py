@@ -221,15 +221,15 @@ class TransactionManager:
             raise NestedTransaction("this thread has a transaction already: independent=True is for one that commits by itself")
         return None
 
-    def set_current(self, transaction: Optional[Transaction]) -> Optional[Transaction]:
-        """This thread is in the block of this transaction from now on: the one in whose block it was until now."""
-        outer, self._open.transaction = self._open.transaction, transaction
-        return outer
-
     def give_back_python_thread(self, mine: Optional[int]) -> None:
         """Its transaction is over."""
         if mine is not None:
             self._busy.discard(mine)
+
+    def set_current(self, transaction: Optional[Transaction]) -> Optional[Transaction]:
+        """Makes this the transaction in whose block the thread is. The one before."""
+        before, self._open.transaction = self.current, transaction
+        return before
 
     def begin(self) -> Tuple[Session, int, str]:
         """A transaction that has begun, in the session that is up, or else in the next one: with its thread and its name."""

@@ -122,8 +122,7 @@ class Session:
 
     def begin(self, thread: int) -> str:
         """A transaction of the thread begins: its name."""
-        reply = self.begin_ahead(thread)
-        self._begun[thread] = None
+        reply, self._begun[thread] = self._begun[thread] or self.coordinator.begin(thread), None
         gtrid = self.coordinator.begun_in(reply)
         self._last[thread] = int(gtrid[16:], 16)
         return gtrid
@@ -142,12 +141,10 @@ class Session:
         incarnation, sequence = int.from_bytes(xid.gtrid[-16:-8], "big"), int.from_bytes(xid.gtrid[-8:], "big")
         return (incarnation, sequence) <= (self.coordinator.incarnation, max(self._last))
 
-    def begin_ahead(self, thread: int) -> Reply:
+    def begin_ahead(self, thread: int) -> None:
         """Asks for the thread's next transaction, unless that was done: the reply comes with others that are waited for."""
-        reply = self._begun[thread]
-        if reply is None:
-            reply = self._begun[thread] = self.coordinator.begin(thread)
-        return reply
+        if self._begun[thread] is None:
+            self._begun[thread] = self.coordinator.begin(thread)
 
     def roll_back(self, gtrid: str) -> None:
         """Decides that the transaction rolls back."""

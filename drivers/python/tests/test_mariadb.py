@@ -22,7 +22,8 @@ XID = "7:00000000000000010000000000000001:0000000000000000"
 
 pymysql = types.ModuleType("pymysql")
 pymysql.err = types.ModuleType("pymysql.err")
-pymysql.constants = types.SimpleNamespace(COMMAND=types.SimpleNamespace(COM_QUERY=3))
+pymysql.constants = types.ModuleType("pymysql.constants")
+pymysql.constants.COMMAND = types.SimpleNamespace(COM_QUERY=3)
 pymysql.cursors = types.SimpleNamespace(Cursor=None)
 
 
@@ -91,6 +92,12 @@ class Link:
         if self.said:
             raise self.said
 
+    def send_query(self, statement):
+        """(mysqlclient's names for the two.)"""
+        self._execute_command(3, statement)
+
+    read_query_result = _read_query_result
+
 
 def error(number):
     return pymysql.err.OperationalError(number, "an error")
@@ -152,7 +159,7 @@ class MariaDBs(unittest.TestCase):
     def setUp(self):
         self.server = Server()
         pymysql.connect = self.server.connect
-        patch = mock.patch.dict(sys.modules, {"pymysql": pymysql, "pymysql.err": pymysql.err})
+        patch = mock.patch.dict(sys.modules, {"pymysql": pymysql, "pymysql.err": pymysql.err, "pymysql.constants": pymysql.constants})
         patch.start()
         self.addCleanup(patch.stop)
         self.database = MariaDB(user="bank", database="bank")
@@ -254,7 +261,7 @@ class Recovery(unittest.TestCase):
     def test_a_decided_branch_whose_connection_still_lives(self):
         server, other = Server(), FakeDatabase()
         pymysql.connect = server.connect
-        with mock.patch.dict(sys.modules, {"pymysql": pymysql}), tempfile.TemporaryDirectory() as folder:
+        with mock.patch.dict(sys.modules, {"pymysql": pymysql, "pymysql.constants": pymysql.constants}), tempfile.TemporaryDirectory() as folder:
             log = os.path.join(folder, "log")
             command = [sys.executable, os.path.join(os.path.dirname(__file__), "fake_coordinator.py"), log, "decided"]
             database = MariaDB(user="bank")

@@ -75,7 +75,7 @@ class MariaDB(Database):
             connection.close()
 
     def by_hand(self, call: Call) -> str:
-        return f"{statement_of(call.verb, call.branch)};"
+        return f"XA {call.verb} {call.xid and text_in_xa(call.xid)};"
 
     def _connection(self, place: Place) -> MariaDBConnection:
         import pymysql
@@ -273,14 +273,23 @@ class MariaDBConnection(Connection):
     # ** statements
 
     def send(self, call: Call) -> None:
-        if call.xid is None or call.xid != self._xid or self._fault is not None:
+        if call.branch != self._xid or self._fault is not None:
             return
-        statement = statement_of("PREPARE" if call.name == "xa_prepare" else "COMMIT", call.xid)
+        statement = statement_of("PREPARE" if call.name == "xa_prepare" else "COMMIT", call.branch)
         try:
             self._send(statement)
         except (self.errors.MySQLError, OSError) as error:
             raise ConnectionLost(str(error)) from error
         self._sent = statement
+
+    def _send(self, statement: str) -> None:
+        """Sends a statement, whose answer `_read` waits for."""
+        from pymysql.constants import COMMAND
+
+        self.link._execute_command(COMMAND.COM_QUERY, statement)
+
+    def _read(self) -> None:
+        self.link._read_query_result()
 
     def _xa(self, verb: str, xid: Xid, tail: str = "") -> None:
         statement = statement_of(verb, xid, tail)
@@ -289,23 +298,13 @@ class MariaDBConnection(Connection):
             if sent is None:
                 self.link.query(statement)
             elif sent == statement:
-                self._read_answer()
+                self._read()
             else:
                 raise ConnectionLost(f"the answer to {sent} was never read")
         except (self.errors.MySQLError, OSError) as error:
             if self._is_lost(error):
                 raise ConnectionLost(str(error)) from error
             raise
-
-    def _send(self, statement: str) -> None:
-        """Sends a statement, whose answer isn't waited for."""
-        import pymysql
-
-        self.link._execute_command(pymysql.constants.COMMAND.COM_QUERY, statement)
-
-    def _read_answer(self) -> None:
-        """Waits for the answer to it."""
-        self.link._read_query_result()
 
     def run(self, statement: str, parameters: Parameters = ()) -> Result:
         try:
@@ -320,7 +319,12 @@ class MariaDBConnection(Connection):
 
 def statement_of(verb: str, xid: Xid, tail: str = "") -> str:
     """The statement that does something to a branch."""
-    return f"XA {verb} X'{xid.gtrid.hex()}',X'{xid.bqual.hex()}',{xid.format}{tail}"
+    return f"XA {verb} {text_in_xa(xid)}{tail}"
+
+
+def text_in_xa(xid: Xid) -> str:
+    """An identifier as MariaDB's statements of XA have it, as in X'0a',X'01',7."""
+    return f"X'{xid.gtrid.hex()}',X'{xid.bqual.hex()}',{xid.format}"
 
 
 def text_of(row: Tuple[Any, ...]) -> str:

@@ -42,13 +42,13 @@ class MysqlclientConnection(mariadb.MariaDBConnection):
     def _descriptor(self) -> Optional[int]:
         return int(self.link.fileno())
 
-    def _send(self, statement: str) -> None:
-        self.link.send_query(statement.encode("ascii"))
-
-    def _read_answer(self) -> None:
-        self.link.read_query_result()
-
     def _plain_cursor(self) -> Any:
         import MySQLdb.cursors
 
         return self.link.cursor(MySQLdb.cursors.Cursor)
+
+    def _send(self, statement: str) -> None:
+        self.link.send_query(statement)
+
+    def _read(self) -> None:
+        self.link.read_query_result()
