@@ -131,10 +131,11 @@ class Transaction:
         """Commits it. Once this returns the decision is in the log, and whatever ends then, each branch is committed. With
         one branch the database decides, and the log has nothing of it. Raises RolledBack, OutcomeUnknown or HeuristicEnd."""
         self._require_open()
-        branches = list(self._branches.values())
         try:
             for look in self._looks:
                 look()
+            # What a look has used is a branch as well.
+            branches = list(self._branches.values())
             self._require_no_fault(branches)
             if len(branches) == 1:
                 call = branches[0].issue_commit_in_one_phase()
