@@ -1,5 +1,6 @@
 """Sessions and Core of SQLAlchemy within transactions, over SQLite as a stand-in. Where SQLAlchemy isn't installed they are left out."""
 
+import asyncio
 import os
 import sys
 import tempfile
@@ -167,6 +168,18 @@ class Sqlalchemy(unittest.TestCase):
             except sa.exc.IntegrityError:
                 pass
             self.assertEqual(len(done), tries)
+        self.assertEqual(self.found(), [[90], ["tea"]])
+
+    def test_a_session_on_the_thread_of_a_transaction_of_asyncio(self):
+        def work(t):
+            with self.Session.begin() as session:
+                self.buy(session)
+
+        async def buys():
+            async with self.xa.transaction_async() as t:
+                await t.run(work)
+
+        asyncio.run(buys())
         self.assertEqual(self.found(), [[90], ["tea"]])
 
     def test_outside_of_a_block_there_is_no_connection(self):
