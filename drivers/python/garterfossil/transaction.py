@@ -304,7 +304,7 @@ class Transaction:
         try:
             step()
         except Unexplained as error:
-            branch.oddity = str(error)
+            branch.oddity = f"{branch.xid} isn't there any more, so somebody has ended it by hand ({error})"
             return False
         except XaError as error:
             log.warning("%s of %s is left to the recovery: %s", name, branch.xid, error)

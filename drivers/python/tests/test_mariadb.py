@@ -11,10 +11,11 @@ import unittest
 from unittest import mock
 
 from garterfossil import OutcomeUnknown, TransactionManager
+from garterfossil.adapters.base import Options, Place
 from garterfossil.adapters.mariadb import MariaDB
 from garterfossil.calls import Call
 from garterfossil.codes import Code
-from garterfossil.errors import ConnectionLost, Unanswered
+from garterfossil.errors import ConnectionLost, SetupError, Unanswered
 
 from .fake_database import FakeDatabase
 
@@ -188,6 +189,47 @@ class MariaDBs(unittest.TestCase):
                 self.do(f"{call} {XID}", other)
         self.database.end_connections([other.number])
         self.assertIs(self.do(f"xa_commit {XID}", other), Code.OK)
+
+    def test_connections_of_others_are_not_ended(self):
+        """Those of the manager's other databases, of managers of other names, and of programs with the same user."""
+        others = [self.database.connect(Place("", 1)), self.database.connect(Place("shop", 0)), self.database.connect(Place("Shop", 0))]
+        plain = self.server.connect()
+        stray = self.database.connect(Place("shop", 1))
+        self.assertEqual(self.database.end_connections([], Place("shop", 1)), 1)
+        self.assertEqual(self.database.end_connections([], Place("shop", 0)), 1)
+        left = {self.connection.number, others[0].number, others[2].number, plain.number}
+        self.assertEqual(set(self.server.links), left)
+        self.assertNotIn(stray.number, left)
+
+    def test_a_connection_that_is_refused_for_good(self):
+        for number, kind in ((1045, SetupError), (1049, SetupError), (1044, SetupError), (2003, ConnectionLost), (1040, ConnectionLost)):
+            with mock.patch.object(pymysql, "connect", mock.Mock(side_effect=error(number))), self.assertRaises(kind):
+                self.database.connect()
+
+    def test_what_is_the_drivers_own_cannot_be_given(self):
+        with self.assertRaisesRegex(ValueError, "autocommit"):
+            MariaDB(autocommit=True)
+
+    def test_how_a_transaction_is_to_run_is_said_before_it_begins(self):
+        self.connection.options = Options("read committed", True)
+        self.do(f"xa_start {XID}")
+        self.assertEqual(self.connection.link.statements[-2], "SET TRANSACTION ISOLATION LEVEL READ COMMITTED, READ ONLY")
+
+    def test_the_databases_error_is_kept_with_the_vote(self):
+        self.server.fails["UPDATE account"] = fault = error(4025)
+        self.do(f"xa_start {XID}")
+        with self.assertRaises(MySQLError):
+            self.connection.execute("UPDATE account")
+        self.do(f"xa_end {XID} TMSUCCESS")
+        self.assertIs(self.do(f"xa_prepare {XID}"), Code.RBINTEGRITY)
+        self.assertIs(self.connection.reason, fault)
+
+    def test_a_call_that_is_sent_ahead_is_answered_once(self):
+        self.worked()
+        for name in ("xa_prepare", "xa_commit"):
+            self.connection.send(Call.parse(f"{name} {XID}"))
+            self.assertIs(self.do(f"{name} {XID}"), Code.OK)
+        self.assertEqual([statement.split(" ")[1] for statement in self.connection.link.statements[-3:]], ["END", "PREPARE", "COMMIT"])
 
     def test_connections_that_are_kept_are_not_ended(self):
         kept, stray = self.database.connect(), self.database.connect()
