@@ -2,13 +2,16 @@
 
 from __future__ import annotations
 
+import math
 import time
-from typing import Any, Collection, List, Sequence, Tuple
+from typing import Any, Collection, Iterable, List, Optional, Sequence, Set, Tuple, Type
 
+from ..calls import Call
 from ..codes import Code
-from ..errors import ConnectionLost, Unanswered
+from ..errors import ConnectionLost, SetupError, Unanswered
+from ..statements import MARIADB
 from ..xid import Xid
-from .base import Connection, Database, Result, xids_in
+from .base import Connection, Database, Parameters, Place, Result, xids_in
 
 #: Errors of MariaDB by their number.
 NO_SUCH_BRANCH, IN_ANOTHER_STATE, IN_USE = 1397, 1399, 1440
@@ -26,141 +29,223 @@ VOTES = {
 LOST = frozenset([0, 1053, 1317, 1927, 2003, 2006, 2013, 2014, 2055])
 
 
+#: How MariaDB refuses a user, a password, a database or a privilege.
+REFUSALS = frozenset([1044, 1045, 1049, 1130, 1142, 1227, 1698])
+#: A place has so many named locks at most: each of its connections holds one.
+LOCKS = 512
+#: What PyMySQL's own connection shows to a program.
+SHOWN = frozenset(
+    "affected_rows character_set_name charset cursorclass db encoding escape escape_string get_autocommit get_host_info"
+    " get_proto_info get_server_info host insert_id literal open port server_status server_version show_warnings thread_id user"
+    .split()
+)
+
+
 class MariaDB(Database):
     """A database of MariaDB, whose tables are InnoDB's.
 
-    `parameters` are those of pymysql.connect. The user is the driver's alone: all other connections of it are taken for
-    those of earlier drivers, and are ended. `lock_timeout` is for how many seconds a statement waits for a lock: no database
-    sees a deadlock that goes over two of them."""
+    `parameters` are those of pymysql.connect. The driver knows its own connections by a named lock (GET_LOCK) that each of them
+    holds. `lock_timeout` is for how many seconds a statement waits for a lock: no database sees a deadlock that goes over two of
+    them."""
+
+    SQLALCHEMY = "mariadb+pymysql"
 
     def __init__(self, *, lock_timeout: int = 10, **parameters: Any):
+        if "autocommit" in parameters:
+            raise ValueError("autocommit is the driver's own: a branch begins and ends its transaction")
         self._parameters = parameters
         self._lock_timeout = lock_timeout
 
-    def connect(self) -> MariaDBConnection:
-        import pymysql
+    def __repr__(self) -> str:
+        shown = {word: value for word, value in self._parameters.items() if word in ("host", "port", "unix_socket", "user", "database", "db")}
+        return f"MariaDB({', '.join(f'{word}={value!r}' for word, value in shown.items())})"
 
-        try:
-            link = pymysql.connect(autocommit=True, **self._parameters)
-        except (pymysql.err.MySQLError, OSError) as error:
-            raise ConnectionLost(str(error)) from error
-        return MariaDBConnection(link, self._lock_timeout)
+    def connect(self, place: Place = Place()) -> MariaDBConnection:
+        connection = self._connection(place)
+        with connection.timed(place.patience):
+            connection.take_lock()
+        return connection
 
-    def end_connections(self, kept: Collection[int]) -> None:
-        connection = self.connect()
+    def end_connections(self, kept: Collection[int], place: Place = Place()) -> int:
+        connection = self._connection(place)
         try:
-            connection.end_others(kept)
+            with connection.timed(place.patience):
+                return connection.end_others(kept)
         finally:
             connection.close()
+
+    def by_hand(self, call: Call) -> str:
+        return f"XA {call.verb} {call.xid and text_in_xa(call.xid)};"
+
+    def _connection(self, place: Place) -> MariaDBConnection:
+        import pymysql
+
+        link = self._link(pymysql, pymysql.err.MySQLError, place, ("connect_timeout", "read_timeout", "write_timeout"))
+        for word in ("read_timeout", "write_timeout"):
+            # They were for the greeting, which PyMySQL waits for by them alone. A statement may take longer.
+            setattr(link, f"_{word}", self._parameters.get(word))
+        return MariaDBConnection(link, self._lock_timeout, place)
+
+    def _link(self, module: Any, kind_of_error: Type[Exception], place: Place, waits: Iterable[str]) -> Any:
+        """A connection of the module, of which these keywords say for how many seconds it waits."""
+        seconds = max(2, math.ceil(place.patience))
+        try:
+            return module.connect(autocommit=True, **{**dict.fromkeys(waits, seconds), **self._parameters})
+        except (kind_of_error, OSError) as error:
+            if error.args and error.args[0] in REFUSALS:
+                raise SetupError(str(error)) from error
+            raise ConnectionLost(str(error)) from error
 
 
 class MariaDBConnection(Connection):
     """A connection to MariaDB. While it lives, no other one can end a branch that it prepared: the answer to that is
     XAER_NOTA, although XA RECOVER lists the branch."""
 
-    def __init__(self, link: Any, lock_timeout: int):
-        super().__init__()
-        self._link = link
-        self.number = link.thread_id()
-        self.run(f"SET innodb_lock_wait_timeout = {int(lock_timeout)}")
+    TEXTS = MARIADB
+    SHOWN = SHOWN
+    SENDS = True
 
-    def close(self) -> None:
+    def __init__(self, link: Any, lock_timeout: int, place: Place = Place()):
+        super().__init__(link, place)
+        # The statement whose answer is yet to be read.
+        self._sent: Optional[str] = None
+        self.number = link.thread_id()
+        with self.timed(place.patience):
+            self.run(f"SET innodb_lock_wait_timeout = {int(lock_timeout)}")
+
+    @property
+    def errors(self) -> Any:
+        """The module's errors (PEP 249)."""
         import pymysql
 
+        return pymysql.err
+
+    def _plain_cursor(self) -> Any:
+        """A cursor whose rows are tuples, whatever kind of cursor the program has asked for."""
+        import pymysql
+
+        return self.link.cursor(pymysql.cursors.Cursor)
+
+    def _descriptor(self) -> Optional[int]:
+        return int(self.link._sock.fileno())
+
+    def _close(self) -> None:
         try:
-            self._link.close()
-        except (pymysql.err.MySQLError, OSError):
+            self.link.close()
+        except (self.errors.MySQLError, OSError):
             pass
 
-    def end_others(self, kept: Collection[int]) -> None:
-        """Ends the connections of the user, but those that are kept, and waits for 20 seconds at most."""
-        import pymysql
+    # ** the connections of a place
 
-        user = self.run("SELECT USER()").rows[0][0].rpartition("@")[0]
-        until = time.monotonic() + 20
-        while time.monotonic() < until:
-            rows = self.run("SELECT id FROM information_schema.processlist WHERE user = %s", [user])
-            numbers = [number for number, in rows if number != self.number and number not in kept]
+    def take_lock(self) -> None:
+        """Takes one of the place's named locks, by which the manager's next run knows the connection."""
+        # Mostly the first is free. Only where it isn't, all are looked at.
+        if self._takes(self.number % LOCKS):
+            return
+        if not any(self._takes(slot) for slot, holder in enumerate(self._holders()) if holder is None):
+            raise ConnectionLost(f"all {LOCKS} locks of the manager's connections are taken at MariaDB")
+
+    def _takes(self, slot: int) -> bool:
+        return self.run(f"SELECT GET_LOCK('{self._lock_name(slot)}', 0)").rows == [(1,)]
+
+    def _lock_name(self, slot: int) -> str:
+        # MariaDB doesn't tell capital letters from others here.
+        return f"garterfossil.{self.place.manager.encode('ascii').hex()}.{self.place.number}.{slot}"
+
+    def _holders(self) -> Sequence[Optional[int]]:
+        """The number of the connection that holds each lock of the place."""
+        return self.run("SELECT " + ", ".join(f"IS_USED_LOCK('{self._lock_name(slot)}')" for slot in range(LOCKS))).rows[0]
+
+    def end_others(self, kept: Collection[int]) -> int:
+        """Ends the connections of the place, except those that are kept, and waits for 20 seconds at most. How many there were."""
+        ended: Set[int] = set()
+        until = time.monotonic() + min(20, self.place.patience)
+        while True:
+            numbers = {number for number in self._holders() if number is not None and number not in kept}
             if not numbers:
-                return
+                return len(ended)
+            if time.monotonic() >= until:
+                raise ConnectionLost("connections of an earlier driver stay at MariaDB")
             for number in numbers:
-                try:
-                    self.run(f"KILL CONNECTION {int(number)}")
-                except pymysql.err.MySQLError as error:
-                    if error.args[0] != NO_SUCH_CONNECTION:
-                        raise
+                self._end_connection(number)
+            ended |= numbers
             time.sleep(0.02)
-        raise ConnectionLost("connections of an earlier driver stay at MariaDB")
+
+    def _end_connection(self, number: int) -> None:
+        try:
+            self.run(f"KILL CONNECTION {int(number)}")
+        except self.errors.MySQLError as error:
+            if error.args[0] != NO_SUCH_CONNECTION:
+                raise SetupError(f"the user may not end connection {number}, which an earlier run of the manager left: {error}") from error
 
     # ** work
 
-    def _work(self, statement: str, parameters: Sequence[Any]) -> Result:
-        import pymysql
+    def _work(self, statement: str, parameters: Parameters) -> Result:
+        return self.run(statement, parameters)
 
-        try:
-            return self.run(statement, parameters)
-        except pymysql.err.MySQLError as error:
-            # MariaDB would prepare what is left of the branch, but after a deadlock.
-            is_broken = isinstance(error, pymysql.err.IntegrityError)
-            self._fault = Code.RBINTEGRITY if is_broken else VOTES.get(error.args[0], Code.RBOTHER)
-            raise
+    def _vote_of(self, error: Exception) -> Optional[Code]:
+        """MariaDB would prepare what is left of the branch, except after a deadlock."""
+        if not isinstance(error, self.errors.MySQLError) or not isinstance(error.args[0], int):
+            # PyMySQL's own: the server knows nothing of it.
+            return None
+        return Code.RBINTEGRITY if isinstance(error, self.errors.IntegrityError) else VOTES.get(error.args[0], Code.RBOTHER)
+
+    def _is_lost(self, error: Exception) -> bool:
+        if isinstance(error, (self.errors.InterfaceError, OSError)):
+            return True
+        return isinstance(error, self.errors.MySQLError) and (not error.args or error.args[0] in LOST)
 
     # ** calls
 
     def _start(self, xid: Xid) -> Code:
-        import pymysql
-
         try:
+            if self.options.modes:
+                self.run("SET TRANSACTION " + ", ".join(self.options.modes))
             self._xa("START", xid)
-        except pymysql.err.MySQLError as error:
+        except self.errors.MySQLError as error:
             if error.args[0] == IN_USE:
                 return Code.DUPID
             raise Unanswered(str(error)) from error
         return Code.OK
 
     def _end(self, xid: Xid) -> None:
-        import pymysql
-
         try:
             self._xa("END", xid)
-        except pymysql.err.MySQLError as error:
+        except self.errors.MySQLError as error:
             # A branch that was in a deadlock can only be rolled back, and says so here already. Its vote will tell.
             self._fault = self._fault or VOTES.get(error.args[0], Code.RBROLLBACK)
+            self.reason = self.reason or error
 
     def _prepare(self, xid: Xid) -> Code:
-        import pymysql
-
         vote = self._fault
         if vote is None:
             try:
                 self._xa("PREPARE", xid)
                 return Code.OK
-            except pymysql.err.MySQLError as error:
+            except self.errors.MySQLError as error:
+                self.reason = error
                 vote = VOTES.get(error.args[0], Code.RBOTHER)
         self._roll_back(xid)
         return vote
 
     def _commit_in_one_phase(self, xid: Xid) -> Code:
-        import pymysql
-
         if self._fault is not None:
             fault = self._fault
             self._roll_back(xid)
             return fault
         try:
             self._xa("COMMIT", xid, " ONE PHASE")
-        except pymysql.err.MySQLError as error:
+        except self.errors.MySQLError as error:
             if error.args[0] in VOTES:
+                self.reason = error
                 return VOTES[error.args[0]]
             raise Unanswered(str(error)) from error
         return Code.OK
 
     def _roll_back(self, xid: Xid) -> None:
-        import pymysql
-
         try:
             self._xa("ROLLBACK", xid)
-        except pymysql.err.MySQLError as error:
+        except self.errors.MySQLError as error:
             # A branch that MariaDB rolled back by itself isn't there any more, or says once more why.
             if error.args[0] != NO_SUCH_BRANCH and error.args[0] not in VOTES:
                 raise Unanswered(str(error)) from error
@@ -174,11 +259,9 @@ class MariaDBConnection(Connection):
     def _is_ended(self, verb: str, xid: Xid) -> bool:
         """Ends a prepared branch. False where there is none, as the list says too: MariaDB says it as well of a branch whose
         connection still lives."""
-        import pymysql
-
         try:
             self._xa(verb, xid)
-        except pymysql.err.MySQLError as error:
+        except self.errors.MySQLError as error:
             if error.args[0] == NO_SUCH_BRANCH and xid not in self._listed():
                 return False
             raise Unanswered(str(error)) from error
@@ -189,22 +272,59 @@ class MariaDBConnection(Connection):
 
     # ** statements
 
-    def _xa(self, verb: str, xid: Xid, tail: str = "") -> None:
-        self.run(f"XA {verb} X'{xid.gtrid.hex()}',X'{xid.bqual.hex()}',{xid.format}{tail}")
-
-    def run(self, statement: str, parameters: Sequence[Any] = ()) -> Result:
-        import pymysql
-
+    def send(self, call: Call) -> None:
+        if call.branch != self._xid or self._fault is not None:
+            return
+        statement = statement_of("PREPARE" if call.name == "xa_prepare" else "COMMIT", call.branch)
         try:
-            with self._link.cursor() as cursor:
-                cursor.execute(statement, parameters or None)
-                return Result(list(cursor.fetchall()), cursor.rowcount)
-        except (pymysql.err.InterfaceError, OSError) as error:
+            self._send(statement)
+        except (self.errors.MySQLError, OSError) as error:
             raise ConnectionLost(str(error)) from error
-        except pymysql.err.MySQLError as error:
-            if not error.args or error.args[0] in LOST:
+        self._sent = statement
+
+    def _send(self, statement: str) -> None:
+        """Sends a statement, whose answer `_read` waits for."""
+        from pymysql.constants import COMMAND
+
+        self.link._execute_command(COMMAND.COM_QUERY, statement)
+
+    def _read(self) -> None:
+        self.link._read_query_result()
+
+    def _xa(self, verb: str, xid: Xid, tail: str = "") -> None:
+        statement = statement_of(verb, xid, tail)
+        sent, self._sent = self._sent, None
+        try:
+            if sent is None:
+                self.link.query(statement)
+            elif sent == statement:
+                self._read()
+            else:
+                raise ConnectionLost(f"the answer to {sent} was never read")
+        except (self.errors.MySQLError, OSError) as error:
+            if self._is_lost(error):
                 raise ConnectionLost(str(error)) from error
             raise
+
+    def run(self, statement: str, parameters: Parameters = ()) -> Result:
+        try:
+            with self._plain_cursor() as cursor:
+                cursor.execute(statement, parameters or None)
+                return Result(list(cursor.fetchall()), cursor.rowcount)
+        except (self.errors.MySQLError, OSError) as error:
+            if self._is_lost(error):
+                raise ConnectionLost(str(error)) from error
+            raise
+
+
+def statement_of(verb: str, xid: Xid, tail: str = "") -> str:
+    """The statement that does something to a branch."""
+    return f"XA {verb} {text_in_xa(xid)}{tail}"
+
+
+def text_in_xa(xid: Xid) -> str:
+    """An identifier as MariaDB's statements of XA have it, as in X'0a',X'01',7."""
+    return f"X'{xid.gtrid.hex()}',X'{xid.bqual.hex()}',{xid.format}"
 
 
 def text_of(row: Tuple[Any, ...]) -> str:

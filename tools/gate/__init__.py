@@ -1,0 +1,1 @@
+"""What ./check and tools/edits are made of."""

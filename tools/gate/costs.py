@@ -1,0 +1,53 @@
+"""About how long ./check takes here, by the number of processors and by what is kept."""
+
+import os
+
+from .crates import CACHE, crates_of, kit_folder
+from .edits import edits_of
+from .machine import BYTES_A_JOB, jobs_for, processors
+
+# Minutes of one processor, from nothing: of the quick part, of all proofs of rt ci with the tests, of the checks that the edits
+# begin with, and of an edit.
+QUICK, PROOFS, SEEDS, EDIT = 10, 130, 85, 8 / 60
+# Minutes that building, the tests and the programs take, whatever is kept.
+PROGRAMS = 5
+
+
+class Costs:
+    def __init__(self, top):
+        self.kit, self.crates = kit_folder(), crates_of(top).values()
+
+    def quick(self):
+        minutes = QUICK / jobs_for(BYTES_A_JOB)
+        return f"the quick part is done, and nothing is proved: about {self.rounded(minutes)}, {self.on()}"
+
+    def whole(self):
+        """By the lines of the crates that haven't passed here as they are."""
+        self.sums = {it: it.sum(self.kit) for it in self.crates}
+        left = [it for it in self.crates if not os.path.isfile(f"{CACHE}/passed/{self.sums[it]}")]
+        edits = {it: len(edits_of(it)[0]) for it in left}
+        parts = [self.part(left, self.crates) * PROOFS, sum(edits.values()) * EDIT]
+        parts.append(self.part([it for it in left if edits[it]], [it for it in self.crates if edits_of(it)[0]]) * SEEDS)
+        minutes = (QUICK + sum(parts)) / jobs_for(BYTES_A_JOB) + PROGRAMS
+        kept = f"of {len(self.crates)} crates {len(self.crates) - len(left)} have passed here as they are"
+        return f"the quick part is done, and then the whole gate: about {self.rounded(minutes)}, {self.on()}; {kept}"
+
+    @staticmethod
+    def part(some, every):
+        return sum(it.lines() for it in some) / max(1, sum(it.lines() for it in every))
+
+    @staticmethod
+    def on():
+        """Of a machine that is busy now the free memory alone counts, not how long others make it wait."""
+        return f"{jobs_for(BYTES_A_JOB)} at a time, if nothing else uses the {processors()} processors"
+
+    @staticmethod
+    def rounded(minutes):
+        return f"{max(1, round(minutes))} minute{'s' * (round(minutes) > 1)}"
+
+    def keep(self):
+        """Notes which crates have passed, for the next estimate alone."""
+        os.makedirs(f"{CACHE}/passed", exist_ok=True)
+        for crate, sum in self.sums.items():
+            if crate.sum(self.kit) == sum:
+                open(f"{CACHE}/passed/{sum}", "w", encoding="utf-8").close()

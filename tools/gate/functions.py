@@ -1,0 +1,114 @@
+"""Where the functions of a file stand."""
+
+import json
+import os
+import re
+import subprocess
+
+PAIRS = {"(": ")", "[": "]", "{": "}"}
+
+
+class Function:
+    """A function with a body, and which bytes and lines of its file it takes."""
+
+    def __init__(self, file, owner, modules, rows, words, places):
+        start, at, opens, close = places
+        self.file, self.name, self.owner = file, words[at + 1], owner
+        self.modules = [*os.path.splitext(file)[0].split("/")[1:], *modules]
+        if self.modules[-1:] in (["lib"], ["main"], ["mod"]):
+            self.modules.pop()
+        self.begins, self.opens, self.ends = rows[at][1], rows[opens][2], rows[close - 1][1]
+        self.lines = range(rows[start][0], rows[close - 1][0] + 1)
+        before = words[start:at]
+        # Others may rest on the body of a const fn, of a function in a cycle of calls, and of a method of a trait's impl, by the
+        # impl's laws.
+        self.of_trait = owner[:1] == ["impl"] and "for" in owner
+        self.is_read_by_others = "const" in before or "cycle" in before or self.of_trait
+
+    def key(self):
+        return self.file, self.begins
+
+    def guess(self):
+        """The end of the name that a check prints for it."""
+        head, rest = self.owner[1:], []
+        if head[:1] == ["<"]:
+            head = head[past_angles(head) :]
+        if "where" in head:
+            head = head[: head.index("where")]
+        if self.of_trait:
+            rest, head = head[: head.index("for")], head[head.index("for") + 1 :]
+        plain = [it for it in head if re.match(r"[A-Za-z_]", it)][:1] + [it for it in rest if re.match(r"[A-Z]", it)]
+        of = "".join(plain) if self.owner else "::".join(self.modules[-1:])
+        return f"{of}::{self.name}".removeprefix("::")
+
+    def symbol(self, symbols):
+        """Its whole name among those that a check printed, or None if that isn't sure."""
+        found = [it for it in symbols if f"::{it}".endswith(f"::{self.guess()}")]
+        if len(found) > 1:
+            path = "::".join([*self.modules, ""])
+            found = [it for it in found if it.partition("::")[2].startswith(path)]
+        return found[0] if len(found) == 1 else None
+
+
+def past_angles(words):
+    depth = 0
+    for at, it in enumerate(words):
+        depth += (it == "<") - (it == ">")
+        if not depth:
+            return at + 1
+    return len(words)
+
+
+def after(words, at):
+    """The place after the token, or after the bracket that it opens."""
+    stack = []
+    while at < len(words):
+        if words[at] in PAIRS:
+            stack.append(PAIRS[words[at]])
+        elif stack and words[at] == stack[-1]:
+            stack.pop()
+        at += 1
+        if not stack:
+            break
+    return at
+
+
+def opening(words, at, end):
+    """The place of the bracket that opens an item's body, or of the semicolon in its place."""
+    while at < end and words[at] not in ("{", ";"):
+        at = after(words, at) if words[at] in "([" else at + 1
+    return at
+
+
+def functions(kit, folder, file):
+    """The functions of a crate's file, from rattle's own tokens: its clauses and ghost items are none of these."""
+    words = [f"{kit}/bin/rattle", "fmt", "--tokens", f"{folder}/{file}"]
+    ran = subprocess.run(words, capture_output=True, text=True, stdin=subprocess.DEVNULL)
+    rows = [it.split(" ", 4) for it in ran.stdout.split("\n")[1:] if it]
+    rows = [(int(line), int(a), int(b), kind, json.loads(it)) for line, a, b, kind, it in rows]
+    rows = [it for it in rows if it[3] in ("Code", "Literal")]
+    tokens = [it[4] if it[3] == "Code" else "" for it in rows]
+    found = []
+
+    def items(at, end, owner, modules):
+        start = at
+        while at < end:
+            word = tokens[at]
+            if word in ("fn", "impl", "trait", "mod"):
+                opens = opening(tokens, at + 1, end)
+                close = after(tokens, opens)
+                if opens < end and tokens[opens] == "{":
+                    if word == "fn":
+                        found.append(Function(file, owner, modules, rows, tokens, (start, at, opens, close)))
+                    else:
+                        is_mod = word == "mod"
+                        inside = owner if is_mod else tokens[at:opens]
+                        items(opens + 1, close - 1, inside, [*modules, tokens[at + 1]] if is_mod else modules)
+                at = start = close
+            elif word in ("{", ";"):
+                at = start = after(tokens, at)
+            else:
+                at = after(tokens, at)
+
+    items(0, len(tokens), [], [])
+    return found

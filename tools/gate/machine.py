@@ -1,0 +1,77 @@
+"""What this machine has, and processes that end with this one."""
+
+import contextlib
+import ctypes
+import os
+import signal
+import subprocess
+import sys
+import time
+
+BYTES_A_JOB = 3 << 30
+
+
+def processors():
+    return len(os.sched_getaffinity(0))
+
+
+def jobs_for(bytes_a_job):
+    """How many jobs there are processors and memory for, where each takes so much."""
+    with open("/proc/meminfo", encoding="utf-8") as it:
+        free = next(int(line.split()[1]) << 10 for line in it if line.startswith("MemAvailable:"))
+    return max(1, min(processors(), free // bytes_a_job))
+
+
+def on_signals(ends):
+    """Where a signal is to end this program, does that, and ends it with the status that a shell would give."""
+
+    def stop(number, _):
+        ends()
+        sys.exit(128 + number)
+
+    for it in (signal.SIGHUP, signal.SIGINT, signal.SIGTERM):
+        signal.signal(it, stop)
+
+
+def descendants():
+    """All processes that run because this one has started them, or one of them."""
+    parents, ended = {}, set()
+    for it in filter(str.isdigit, os.listdir("/proc")):
+        with contextlib.suppress(OSError), open(f"/proc/{it}/stat", encoding="utf-8", errors="replace") as stat:
+            state, parent = stat.read().rpartition(")")[2].split()[:2]
+            parents[int(it)] = int(parent)
+            if state == "Z":
+                ended.add(int(it))
+    found, last = set(), {os.getpid()}
+    while last:
+        last = {it for it, parent in parents.items() if parent in last}
+        found |= last
+    return found - ended
+
+
+class Running:
+    """Processes all of which stop ends, with all that they started: some put those into groups of their own."""
+
+    # Of what has lost its parent this process becomes the parent.
+    SET_CHILD_SUBREAPER = 36
+
+    def __init__(self):
+        self.is_stopped = False
+        ctypes.CDLL(None).prctl(self.SET_CHILD_SUBREAPER, 1, 0, 0, 0)
+
+    def start(self, words, **how):
+        if self.is_stopped:
+            raise InterruptedError
+        return subprocess.Popen(words, stdin=subprocess.DEVNULL, start_new_session=True, **how)
+
+    def stop(self):
+        """Asks all to end, and then makes them."""
+        self.is_stopped = True
+        for number in (signal.SIGTERM, *[signal.SIGKILL] * 3):
+            for it in descendants():
+                with contextlib.suppress(OSError):
+                    os.kill(it, number)
+            for _ in range(20):
+                if not descendants():
+                    return
+                time.sleep(0.1)

@@ -1,0 +1,103 @@
+"""The parts of ./check, and what each comes to."""
+
+import collections
+import os
+import re
+import shutil
+import sys
+import tempfile
+import threading
+import time
+
+# What a part passed and failed.
+Count = collections.namedtuple("Count", "passed failed")
+COUNTS = re.compile(r"(\d+) passed, (\d+) failed")
+
+
+class Part:
+    """A program to run, and what to count of what it prints (count, of its status and its text)."""
+
+    def __init__(self, name, words, folder, count):
+        self.name, self.words, self.folder, self.count = name, words, folder, count
+
+
+def one(status, _):
+    """A program is one thing that passes or fails."""
+    return Count(1, 0) if status == 0 else Count(0, 1)
+
+
+def by_last_line(status, text):
+    """What the last line that says so counts."""
+    found = COUNTS.findall(text)
+    return at_least_one_failed(status, Count(*map(int, found[-1])) if found else Count(0, 0))
+
+
+def tests(status, text):
+    """Of rt try --test: each test."""
+    found = re.search(r"(?m)^test result: .*?(\d+) passed; (\d+) failed", text)
+    is_ended = re.search(r"(?m)^run=ended status=0 ", text)
+    counts = Count(int(found[1]), int(found[2])) if found else Count(0, 0)
+    return at_least_one_failed(status if is_ended and found else 1, counts)
+
+
+def cases(status, text):
+    """Of rt try --cases: each file."""
+    lines = re.findall(r"(?m)^case=.*", text)
+    passed = sum(" run=ended " in it and " output=expected " in it for it in lines)
+    return at_least_one_failed(status if lines else 1, Count(passed, len(lines) - passed))
+
+
+def python_tests(status, text):
+    """Of unittest: each test."""
+    ran = re.search(r"(?m)^Ran (\d+) test", text)
+    wrong = re.search(r"(?m)^FAILED \((.*)\)", text)
+    failed = sum(map(int, re.findall(r"(?:failures|errors|unexpected successes)=(\d+)", wrong[1]))) if wrong else 0
+    return at_least_one_failed(status if ran else 1, Count(int(ran[1]) - failed if ran else 0, failed))
+
+
+def at_least_one_failed(status, count):
+    return count if status == 0 or count.failed else Count(count.passed, 1)
+
+
+class Runner:
+    """Runs parts, and adds up what they come to. What they make, beside rt ci, lies in one folder, which goes with this."""
+
+    def __init__(self, running):
+        self.running, self.passed, self.failed, self.printing = running, 0, 0, threading.Lock()
+        self.folder = tempfile.mkdtemp(prefix="xatm-check-")
+        # rt runs programs as nobody
+        os.chmod(self.folder, 0o755)
+
+    def clean(self):
+        shutil.rmtree(self.folder, ignore_errors=True)
+
+    def say(self, text):
+        with self.printing:
+            print(f"check: {text}", flush=True)
+
+    def shown(self, part):
+        """Runs a part whose lines are shown as they come."""
+        self.say(f"{part.name} begins")
+        self.run(part, shows=True)
+
+    def run(self, part, shows=False):
+        """Runs a part, and shows what it printed once it has failed, or as it comes."""
+        begun, lines = time.time(), []
+        environment = dict(os.environ, TMPDIR=self.folder) if part.words[0] != "rt" or "ci" not in part.words else None
+        with tempfile.TemporaryFile("w+", dir=self.folder, errors="replace", encoding="utf-8") as out:
+            to = {"stdout": -1 if shows else out, "stderr": -2}
+            started = self.running.start(part.words, cwd=part.folder, env=environment, errors="replace", encoding="utf-8", **to)
+            for it in started.stdout or ():
+                sys.stdout.write(it)
+                sys.stdout.flush()
+                lines.append(it)
+            status = started.wait()
+            out.seek(0)
+            text = "".join(lines) or out.read()
+        count = part.count(status, text)
+        with self.printing:
+            self.passed, self.failed = self.passed + count.passed, self.failed + count.failed
+            if count.failed and not shows:
+                sys.stdout.write(text)
+            took = f"{time.time() - begun:.0f} seconds"
+            print(f"check: {part.name}: {count.passed} passed, {count.failed} failed, in {took}", flush=True)

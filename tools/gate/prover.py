@@ -1,0 +1,171 @@
+"""Checks of copies of a crate, and what ends them when this program ends, however it ends."""
+
+import collections
+import contextlib
+import os
+import shutil
+import signal
+import subprocess
+import tempfile
+import threading
+
+from .crates import PARTS, text_of
+from .reports import reports
+
+# What a check printed, its status, its processor seconds and the most memory that it took.
+Said = collections.namedtuple("Said", "status text seconds bytes")
+
+
+class Stopped(Exception):
+    """The program is ending."""
+
+
+class Room:
+    """A folder for all that is made, and a group of processes for all that is started: both are gone once this program has ended,
+    also where it was killed."""
+
+    GUARD = 'trap : TERM; read _; kill -TERM 0; sleep 0.3; rm -rf "$1"; kill -KILL 0'
+
+    def __init__(self):
+        self.folder = tempfile.mkdtemp(prefix="xatm-edits-")
+        self.stops, ends, self.held = threading.Event(), *os.pipe()
+        words = ["sh", "-c", self.GUARD, "sh", self.folder]
+        how = {"stdin": ends, "stdout": subprocess.DEVNULL, "stderr": subprocess.DEVNULL}
+        self.guard = subprocess.Popen(words, preexec_fn=os.setpgrp, **how)
+        os.close(ends)
+
+    def __enter__(self):
+        return self
+
+    def __exit__(self, *_):
+        self.stop()
+        self.guard.wait()
+
+    def stop(self):
+        if not self.stops.is_set():
+            self.stops.set()
+            os.close(self.held)
+
+    def new(self, name):
+        return tempfile.mkdtemp(prefix=f"{name}-", dir=self.folder)
+
+    def run(self, words, folder):
+        """Runs a check, and returns what it said."""
+        if self.stops.is_set():
+            raise Stopped
+        with tempfile.TemporaryFile("w+", errors="replace", encoding="utf-8", dir=self.folder) as out:
+            how = {"cwd": folder, "stdin": subprocess.DEVNULL, "stdout": out, "stderr": subprocess.STDOUT}
+            group = self.guard.pid
+            started = subprocess.Popen(words, preexec_fn=lambda: os.setpgid(0, group), **how)
+            _, status, used = os.wait4(started.pid, 0)
+            started.returncode = os.waitstatus_to_exitcode(status)
+            if self.stops.is_set():
+                raise Stopped
+            out.seek(0)
+            return Said(started.returncode, out.read(), used.ru_utime + used.ru_stime, used.ru_maxrss << 10)
+
+
+class Prover:
+    """Checks of one crate, each begun with what a check of the crate as it stands has proved (the seed)."""
+
+    def __init__(self, kit, crate, room):
+        self.kit, self.crate, self.room, self.work = kit, crate, room, room.new(crate.name)
+        self.seed, self.files, self.symbols = f"{self.work}/seed", {}, []
+        self.seconds, self.bytes, self.checks = 0.0, 0, 0
+
+    def prove(self, edits, whole):
+        """Makes the seed, begun with what is kept in out/. If nothing is kept, the edits' functions and what they call are enough.
+        Returns why the crate isn't proved, if it isn't."""
+        if os.path.isdir(self.crate.kept):
+            linked(self.crate.kept, self.seed)
+        else:
+            os.mkdir(self.seed)
+        paths = {it.path() for it in edits}
+        whole = whole or os.path.isdir(self.crate.kept) or None in paths
+        said = self.check([], [] if whole else asking(paths), self.seed)
+        if said.status:
+            return said
+        self.symbols = [it.name for it in reports(said.text) if it.is_function]
+        self.files = listing(self.seed)
+        return None
+
+    def over_seed(self, edits, paths, left_out=()):
+        """A check of these paths, all if there are none, with the edits made, over a copy of the seed, which no check may change.
+        Of left_out, pairs of a file and an answer in it, nothing is read."""
+        over = tempfile.mkdtemp(prefix="over-", dir=self.work)
+        os.rmdir(over)
+        linked(self.seed, over)
+        try:
+            return self.check(edits, asking(paths), over, left_out)
+        finally:
+            shutil.rmtree(over, ignore_errors=True)
+            if listing(self.seed) != self.files and not self.room.stops.is_set():
+                raise RuntimeError(f"{self.crate.name}: a check changed what an earlier one left")
+
+    def clean(self):
+        shutil.rmtree(self.work, ignore_errors=True)
+
+    def check(self, edits, flags, over, left_out=()):
+        with tempfile.TemporaryDirectory(prefix="try-", dir=self.work) as folder:
+            for part in PARTS:
+                if os.path.isdir(f"{self.crate.folder}/{part}"):
+                    shutil.copytree(f"{self.crate.folder}/{part}", f"{folder}/{part}")
+            make(edits, folder)
+            for file, answer in left_out:
+                leave_out(f"{folder}/{file}", answer)
+            words = [f"{self.kit}/bin/rattle", "check", *self.crate.words(self.kit), "--jobs", "1", *flags]
+            said = self.room.run([*words, "--incremental", over], folder)
+            if said.status == -signal.SIGKILL:
+                # most likely for memory
+                said = self.room.run([*words, "--incremental", over], folder)
+        self.seconds, self.bytes, self.checks = self.seconds + said.seconds, max(self.bytes, said.bytes), self.checks + 1
+        return said
+
+
+def make(edits, folder):
+    """Makes edits of different lines in the files of a folder."""
+    for file in {file for it in edits for file, _ in it.lines}:
+        lines = text_of(f"{folder}/{file}").split("\n")
+        for it in edits:
+            for (where, number), text in it.lines.items():
+                if where == file:
+                    lines[number] = text
+        with open(f"{folder}/{file}", "w", encoding="utf-8") as it:
+            it.write("\n".join(lines))
+
+
+def leave_out(file, answer):
+    """Takes an answer out of a file of them: from its type to the next line that begins something else. A file with no answer goes."""
+    kept, is_left_out = [], False
+    for line in text_of(file).split("\n"):
+        if line[:1].strip():
+            words = line.removeprefix("abbrev ").removeprefix("pub ").split()
+            is_left_out = words[:1] == [answer]
+        if not is_left_out:
+            kept.append(line)
+    os.remove(file)
+    if any(it.startswith(("pub ", "abbrev pub ")) for it in kept):
+        with open(file, "w", encoding="utf-8") as it:
+            it.write("\n".join(kept))
+
+
+def asking(paths):
+    return [word for it in sorted(paths) for word in ("--only", it)]
+
+
+def linked(folder, to):
+    """Copies kept work, what was proved by links: a check replaces such a file, and changes none (over_seed looks)."""
+
+    def copy(one, other):
+        if one.endswith(".oantt"):
+            with contextlib.suppress(OSError):
+                return os.link(one, other)
+        return shutil.copy2(one, other)
+
+    shutil.copytree(folder, to, copy_function=copy)
+
+
+def listing(folder):
+    """What tells whether a file of the folder was changed, lost or added."""
+    files = [f"{at}/{name}" for at, _, names in os.walk(folder) for name in names]
+    return {it: (found.st_ino, found.st_size, found.st_mtime_ns) for it in files for found in [os.stat(it)]}
