@@ -11,7 +11,7 @@ from . import __version__
 from .calls import Call
 from .codes import Code
 from .configuration import Configuration
-from .coordinator import Coordinator
+from .coordinator import Coordinator, serve_command
 from .doubt import IN_USE, Listing, Log, incarnation_in, listings_of, manager_in, places_of
 from .errors import SetupError, XaError
 from .xid import Xid
@@ -155,8 +155,8 @@ class _LogHold:
     """Keeps the log for itself, by a coordinator that is asked for nothing."""
 
     def __init__(self, configuration: Configuration):
-        named = ["--name", configuration.name] if configuration.name else []
-        self._command = [configuration.program, "serve", *named, "--log", configuration.log, "1", str(len(configuration.databases))]
+        known = configuration.program, configuration.log, configuration.name
+        self._command = serve_command(*known, threads=1, databases=len(configuration.databases))
         self._coordinator: Optional[Coordinator] = None
 
     def __enter__(self) -> int:

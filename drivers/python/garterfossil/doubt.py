@@ -48,7 +48,8 @@ class Log:
         if done.returncode != 0:
             said = done.stderr.strip() or f"status {done.returncode}"
             return cls(fault=f"{configuration.program} can't read it: {said}")
-        lines = [line for line in done.stdout.splitlines() if line]
+        # Of a log that keeps names these come first.
+        lines = [line for line in done.stdout.splitlines() if line and not line.startswith(("name ", "rm "))]
         heuristics = tuple(line for line in lines if ":" in line)
         decided = frozenset(line.split(" ")[0] for line in lines if ":" not in line)
         return cls(decided, heuristics, _incarnation_of(configuration.log))
