@@ -13,7 +13,7 @@ import time
 import kills
 from broker import BrokerServer
 from jdbc import compiled, driver_of, paths_of
-from servers import free_port, own
+from servers import Missing, free_port
 from world import SUM
 
 #: What is killed together, and how often.
@@ -26,21 +26,19 @@ class JavaKills(kills.Kills):
     def __init__(self, world, broker, path, threads, rng):
         super().__init__(world, threads, rng)
         self.broker, self.path = broker, path
-        if broker is not None:
-            self.servers[broker.name] = broker
-        self.targets = {what: often for what, often in TARGETS.items() if broker is not None or "broker" not in what}
+        self.servers[broker.name] = broker
 
     def java(self, name, *words):
         return ["java", "-Xmx256m", "-cp", ":".join(self.path), name, *words]
 
     def start_driver(self, seconds=86400):
-        urls = [server.url() for server in [*self.world.servers, *([self.broker] if self.broker else [])]]
+        urls = [server.url() for server in [*self.world.servers, self.broker]]
         with open(f"{self.world.home}/driver.log", "a") as it:
             words = self.java("Bank", self.world.home, self.world.coordinator, str(seconds), str(self.threads), *urls)
             self.driver = subprocess.Popen(words, stdout=subprocess.PIPE, stderr=it)
 
     def kill_one(self):
-        targets = self.rng.choices(list(self.targets), list(self.targets.values()))[0].split()
+        targets = self.rng.choices(list(TARGETS), list(TARGETS.values()))[0].split()
         for what in targets:
             self.done[what] += self.kill(what)
         if "driver" in targets:
@@ -73,7 +71,7 @@ def drained(it):
     return int(out[0]), [line.split()[0] for line in out[1:] if line]
 
 
-def orders(world, it, sent, taken):
+def orders(it, sent, taken):
     """Compares the orders that were sent with those that were taken and those in the queue. A count of each kind."""
     prepared, queue = drained(it)
     missing = sent - set(taken) - set(queue)
@@ -131,11 +129,10 @@ def look(world, it):
         "of the sum missing": SUM - sums - amounts[0] + amounts[1],
     }
     good = {"transfers in both": len(left.keys() & right.keys()), "in one alone": len(alone[0]) + len(alone[1]), "outcomes told": len(told)}
-    if it.broker is not None:
-        found = orders(world, it, set(sent), taken)
-        for name in ("orders lost, or from nowhere", "orders twice", "in doubt at the broker"):
-            bad[name] = found.pop(name)
-        good.update(found)
+    found = orders(it, set(sent), taken)
+    for name in ("orders lost, or from nowhere", "orders twice", "in doubt at the broker"):
+        bad[name] = found.pop(name)
+    good.update(found)
     return good, bad
 
 
@@ -150,18 +147,20 @@ def prepare(world):
         os.remove(path)
 
 
-def run(world, count, threads, seed, with_broker=True):
+def run(world, count, threads, seed):
     """Prints the figures. How much was wrong."""
     folder = tempfile.mkdtemp(dir=world.home)
     os.chmod(folder, 0o755)
-    path = [folder, *compiled(folder, ["Bank", "Drain", "Broker", "Speed"]), *paths_of(dict(driver_of(server) for server in world.servers))]
+    try:
+        path = [folder, *paths_of(dict(driver_of(server) for server in world.servers)), *compiled(folder, ["Bank", "Drain", "Broker", "Speed"])]
+    except Missing as missing:
+        print(f"java: left out: {missing}")
+        return 0
     prepare(world)
     for server in world.servers:
         server.restart(free_port())
-    broker = BrokerServer(world.home, "broker", path) if with_broker else None
-    if broker is not None:
-        own(broker.home)
-        broker.start()
+    broker = BrokerServer(world.home, "broker", path)
+    broker.start()
     begun = time.monotonic()
     it = JavaKills(world, broker, path, threads, random.Random(seed))
     try:
@@ -171,8 +170,7 @@ def run(world, count, threads, seed, with_broker=True):
         if it.driver is not None and it.driver.poll() is None:
             it.driver.kill()
             it.driver.wait()
-        if broker is not None:
-            broker.stop()
+        broker.stop()
         for server in world.servers:
             server.restart(None)
         shutil.rmtree(folder)
