@@ -29,6 +29,7 @@ final class Coordinator {
     static final int LOG_STATUS = 2;
     /** So many requests may be written without a reply that was read: their replies fit into the pipe, so neither side blocks the other. */
     private static final int AHEAD = 400;
+    private static final String PROTOCOL = "1";
     /** So the coordinator gets a process group of its own: Ctrl-C in a terminal is for the program alone. */
     private static final File SETSID = new File("/usr/bin/setsid");
 
@@ -59,6 +60,8 @@ final class Coordinator {
     // Whether a thread reads, and those whose threads it is to wake; under the lock `reading`.
     private final ReentrantLock reading = new ReentrantLock();
     private final ArrayDeque<Reply> asleep = new ArrayDeque<>();
+    // The second line of the start, if it came with the first.
+    private final ArrayDeque<String> early = new ArrayDeque<>();
     private boolean isRead;
     private int replied;
     private byte[] came = new byte[8192];
@@ -75,19 +78,35 @@ final class Coordinator {
         }
         output = process.getOutputStream();
         input = process.getInputStream();
-        Reply first = new Reply("the start");
-        first.isWritten = true;
-        waiting.add(first);
-        ahead = 1;
-        try {
-            readUntil(first);
-        } catch (IOException error) {
-            throw gone(error.getMessage());
+        String line = greeted();
+        // A coordinator with names says first which protocol it speaks.
+        if (line.startsWith("protocol ")) {
+            if (!line.split(" ")[1].equals(PROTOCOL)) {
+                throw gone("it speaks another protocol than this driver, which has version " + PROTOCOL + ": " + line);
+            }
+            line = greeted();
         }
-        greeting = first.line;
+        greeting = line;
         if (!greeting.startsWith("restarted ")) {
             throw gone("it began with the line: " + greeting);
         }
+    }
+
+    /** A line that it begins with. */
+    private String greeted() throws Fault.Gone {
+        if (!early.isEmpty()) {
+            return early.remove();
+        }
+        Reply reply = new Reply("the start");
+        reply.isWritten = true;
+        waiting.add(reply);
+        ahead++;
+        try {
+            readUntil(reply);
+        } catch (IOException error) {
+            throw gone(error.getMessage());
+        }
+        return reply.line;
     }
 
     private static List<String> inOwnGroup(List<String> command) {
@@ -288,7 +307,11 @@ final class Coordinator {
     }
 
     private void give(String line) {
-        Reply first = waiting.remove();
+        Reply first = waiting.poll();
+        if (first == null) {
+            early.add(line);
+            return;
+        }
         replied++;
         first.line = line;
         if (first.arrival != null) {

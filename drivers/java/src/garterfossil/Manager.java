@@ -54,10 +54,10 @@ public final class Manager implements AutoCloseable {
             return this;
         }
 
-        /** How many transactions may run at once, 1 to 255. Others wait. */
+        /** How many transactions may run at once, 1 to 1,023. Others wait. */
         public Builder threads(int count) {
-            if (count < 1 || count > 255) {
-                throw new IllegalArgumentException("threads: 1 to 255, and not " + count);
+            if (count < 1 || count > 1023) {
+                throw new IllegalArgumentException("threads: 1 to 1,023, and not " + count);
             }
             threads = count;
             return this;
@@ -75,8 +75,11 @@ public final class Manager implements AutoCloseable {
             return this;
         }
 
-        /** A resource that takes part. Its name stays as long as the log does. */
+        /** A resource that takes part. Its name has 1 to 64 letters, digits, _ and -, and stays as long as the log does. */
         public Builder resource(Resource resource) {
+            if (!resource.name().matches("[A-Za-z0-9_-]{1,64}")) {
+                throw new IllegalArgumentException("the name of a resource has 1 to 64 letters, digits, _ and -, and so not: " + resource.name());
+            }
             if (resources.stream().anyMatch(it -> it.name().equals(resource.name()))) {
                 throw new IllegalArgumentException("two resources of the name " + resource.name());
             }
@@ -102,6 +105,8 @@ public final class Manager implements AutoCloseable {
     });
     private final ThreadLocal<GlobalTransaction> current = new ThreadLocal<>();
     private final Object starting = new Object();
+    // Of the resources that the log knows, by their numbers.
+    private List<String> names = List.of();
     private volatile Session session;
     private volatile boolean isClosed;
 
@@ -122,7 +127,7 @@ public final class Manager implements AutoCloseable {
             resource.belongTo(made.name);
             rms.add(new ResourceManager(numbers.of(resource.name()), resource));
         }
-        count = numbers.count();
+        names = numbers.names();
         try {
             synchronized (starting) {
                 Coordinator coordinator = coordinator();
@@ -135,8 +140,6 @@ public final class Manager implements AutoCloseable {
         }
         clock.scheduleWithFixedDelay(this::tick, 1, 1, TimeUnit.SECONDS);
     }
-
-    private int count;
 
     // ** sessions
 
@@ -184,14 +187,18 @@ public final class Manager implements AutoCloseable {
             if (!made.name.isEmpty()) {
                 words.addAll(List.of("--name", made.name));
             }
+            names.forEach(name -> words.addAll(List.of("--rm", name)));
             words.addAll(List.of("--log", made.log.toString()));
         }
-        words.addAll(List.of(Integer.toString(made.threads + 1), Integer.toString(count)));
+        words.addAll(List.of(Integer.toString(made.threads + 1), Integer.toString(names.size())));
         long until = System.nanoTime() + made.patience.toNanos();
         while (true) {
             try {
                 return new Coordinator(words);
             } catch (Fault.Gone gone) {
+                if (gone.getMessage().contains("xatm: log: ") || gone.getMessage().contains("another protocol")) {
+                    throw new Fault.Unavailable("the log " + made.log + " isn't this manager's", gone);
+                }
                 if (System.nanoTime() > until) {
                     throw new Fault.Unavailable(gone.getMessage() + ". Does another manager have the log " + made.log
                         + ", and is the program right?", gone);

@@ -13,7 +13,8 @@ import java.util.List;
 
 /**
  * Which number each resource has. It stands in the identifiers of branches, so it stays as long as the log does: in a file beside
- * the log, with a name a line, the first one of number 0. Only new names are added to it.
+ * the log, with a name a line, the first one of number 0. Only new names are added to it. The log itself keeps those that it was made
+ * with, and the coordinator refuses others.
  */
 final class ResourceNumbers {
     private final Path log;
@@ -57,8 +58,9 @@ final class ResourceNumbers {
         return names.indexOf(name);
     }
 
-    int count() {
-        return names.size();
+    /** All names that the log knows, by their numbers. */
+    List<String> names() {
+        return List.copyOf(names);
     }
 
     /** Writes the file, whole or not at all. */

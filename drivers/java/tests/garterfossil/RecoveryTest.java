@@ -132,6 +132,18 @@ public class RecoveryTest {
     }
 
     @Test
+    public void otherVersionsOfTheProtocol() throws Exception {
+        world.manager.close();
+        Files.writeString(world.folder.resolve("protocol"), "1 name shop-1 rms a b");
+        world.manager = world.builder().start();
+        world.overBoth().commit();
+        world.manager.close();
+        Files.writeString(world.folder.resolve("protocol"), "2");
+        Fault.Unavailable error = assertThrows(Fault.Unavailable.class, () -> world.builder().patience(Duration.ofMillis(200)).start());
+        assertTrue(error.getMessage(), error.getMessage().contains("another protocol"));
+    }
+
+    @Test
     public void aProgramThatIsNotThere() {
         Fault.Unavailable error = assertThrows(Fault.Unavailable.class, () -> Manager.over(world.folder.resolve("other"))
             .program("/no/such/program").resource(new StandInResource("c")).start());

@@ -25,7 +25,8 @@ import java.util.stream.Collectors;
  *
  * <p>Usage: StandInCoordinator FOLDER THREADS RMS. It writes each request that it reads to FOLDER/requests. Where the file
  * FOLDER/die-at has a word, it ends at the first request that begins with it, instead of a reply, and removes the file;
- * {@code decided} is a decision to commit that it makes and doesn't tell.
+ * {@code decided} is a decision to commit that it makes and doesn't tell. It begins with the line of the protocol where the file
+ * FOLDER/protocol has its words.
  */
 public final class StandInCoordinator {
     private static final int S0 = 1, S1 = 2, S2 = 4, S3 = 8, S4 = 16, S5 = 32;
@@ -317,6 +318,9 @@ public final class StandInCoordinator {
     public static void main(String[] words) throws IOException {
         StandInCoordinator it = new StandInCoordinator(Path.of(words[0]));
         it.save();
+        if (Files.exists(it.folder.resolve("protocol"))) {
+            System.out.println("protocol " + Files.readString(it.folder.resolve("protocol")).trim());
+        }
         System.out.println("restarted " + it.incarnation + " " + it.rows.size() + " 0");
         BufferedReader input = new BufferedReader(new InputStreamReader(System.in, StandardCharsets.ISO_8859_1));
         for (String line = input.readLine(); line != null; line = input.readLine()) {
