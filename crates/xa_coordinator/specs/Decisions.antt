@@ -39,6 +39,8 @@ module _ {L A : Type 0} where
     pub fails : why ≡ None → IfErr result (Fails (book_in old.manager) (book_in new.manager))
     pub stays : IfErr result (λ n. n ≢ Refusals.LogFault → StaysAs old new)
     pub lines : new.lines ≡ lines_by result old.lines
+    -- a failure of the log is counted as one that happened
+    pub fault_counted : result ≡ Err Refusals.LogFault → new.happenings ≡ old.happenings + 1
 
 -- these happened in turn: they were right to, wherever the session stood, and the book is what they lead to
 pub record HappenInTurn {L : Type 0} (es : List Happening) (old new : Session L) : Type 0 where

@@ -116,6 +116,9 @@ impl<L: DecisionLog + Drop> Session<L> {
             log_in self.new.manager ≡ log_in self.old.manager) }
         ensures keeps { KeepsLog L.moment self.old.manager self.new.manager }
         ensures lines { self.new.lines ≡ lines_by result self.old.lines }
+        // A failure of the log is counted as one that happened.
+        ensures fault_counted { result ≡ Err Refusals.LogFault →
+            self.new.happenings ≡ self.old.happenings + 1 }
     {
         books_have_headroom();
         if self.is_over() {
