@@ -31,6 +31,7 @@ use Rattle.xa_standings.specs.Seen.{Seen}
 use Rattle.xa_standings.specs.Standings.{Comes}
 use Rattle.xa_tm.specs.Begins.{BeginsWith, records_begun, rows_begun}
 use Rattle.xa_tm.specs.Calls.{book_in, log_in}
+use Rattle.uses.proofs.Results.{there_is}
 use Rattle.uses.specs.Sessions.{AreServedTo, AreServedTwice, IsReplied, IsServed, IsServedOver, IsServedTwice, LogsCommits}
 
 -- a start that has the rows and records of the log, and at whose resource managers nothing is
@@ -133,11 +134,6 @@ logs_commits {L} moment threads rms handed left text written is law = subst Leav
 
 -- ** two sessions
 
--- what an option holds
-some_of : (log : Option Content) (P : Content → Type 0) → IsSomeAnd log P → (c : Content) × (log ≡ Some c) × P c
-some_of None P is = absurd is
-some_of (Some c) P is = (c, refl, is)
-
 is_replied : {L : Type 0} (moment : L → Moment) (threads rms : ℕ) (handed left : L) (text written : List ℕ)
     → IsServedOver moment threads rms handed text written left → IsReplied text written
 is_replied moment threads rms handed left text written is = record {
@@ -170,7 +166,7 @@ module _ {L : Type 0} (moment : L → Moment) (agree : ServedSessionsAgree momen
 
   empty_handed : (handed : L) → (moment handed).is_in_order → IsSomeAnd (moment handed).content IsEmptyLog → IsHandedOn moment None handed
   empty_handed handed order empty =
-      let found = some_of (moment handed).content IsEmptyLog empty in
+      let found = there_is (moment handed).content IsEmptyLog empty in
       record {
         order = order;
         left = found.0;
@@ -220,7 +216,7 @@ module _ {L : Type 0} (moment : L → Moment) (agree : ServedSessionsAgree momen
     t = seen_in (log_in b.session.manager) x y two_lines two_replies two two_have two_well
 
     mid : (c : Content) × ((moment (log_in b.session.manager)).content ≡ Some c) × ((moment (log_in x.session.manager)).content ≡ Some (with_bump c))
-    mid = some_of (moment (log_in b.session.manager)).content _ (two.over.raised mid_order x_honest)
+    mid = there_is (moment (log_in b.session.manager)).content _ (two.over.raised mid_order x_honest)
 
     second_handed : IsHandedOn moment (Some b) (log_in b.session.manager)
     second_handed = record {

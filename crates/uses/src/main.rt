@@ -1,4 +1,4 @@
-//! One caller of each library, each proved to do what its contract says, and run here. A file is named after its
+//! Callers of the libraries, each proved to do what its contract says, and run here. A file is named after its
 //! library, without the `xa_`; `serve` is a caller of `xa_coordinator`, `own_log`, `processes`, `recovery`, `swaps` and
 //! `crash` are further callers of `xa_system`, and `sql_jobs` of `xa_workers`.
 #![tactic(auto)]
@@ -377,11 +377,21 @@ fn show_session(rt: &HostRuntime) -> anyhow::Result<()> {
     }
     let log = MemLog::new(rt.alloc());
     if let Ok((written, _log)) = serve::silent(rt.alloc(), 1, 2, log) {
-        println!(rt; "xa_coordinator, a driver that says nothing:\n{}", String::from_utf8(written)?)?;
+        println!(rt;
+            "xa_coordinator, a driver that says nothing:\n{}",
+            String::from_utf8(written)?
+        )?;
     }
     let log = MemLog::new(rt.alloc());
     let (killed, recovers) = (KILLED.as_bytes(), RECOVERS.as_bytes());
-    if let Ok((_first, second, _log)) = serve::served_twice(rt.alloc(), 1, 2, log, killed, recovers) {
+    if let Ok((_first, second, _log)) = serve::served_twice(
+        rt.alloc(),
+        1,
+        2,
+        log,
+        killed,
+        recovers,
+    ) {
         println!(rt; "xa_coordinator, recovery:\n{}", String::from_utf8(second)?)?;
     }
     Ok(())

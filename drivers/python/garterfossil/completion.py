@@ -23,12 +23,11 @@ class Completion:
     """The calls of XA on a branch, from xa_start to its last."""
 
     def __init__(self, line: Line, xid: Xid, options: Options, limit: Optional[float]):
-        line.make_ready()
         self.line = line
         self.xid = xid
+        self._connection = line.make_ready()
         #: What the program works with.
-        self.branch = Branch(line, xid)
-        self._connection = line.connection
+        self.branch = Branch(line, self._connection, xid)
         self._connection.options, self._connection.limit = options, limit
         self._is_active = False
         self._was_asked = False
@@ -44,6 +43,10 @@ class Completion:
     def reason(self) -> Optional[BaseException]:
         """The database's own error because of which it is rolled back."""
         return self._connection.reason
+
+    def vote_of(self, error: BaseException) -> Optional[Code]:
+        """Why the branch would be rolled back if its work failed so, if that is an error of its database."""
+        return self._connection._vote_of(error) if isinstance(error, Exception) else None
 
     def start(self) -> None:
         """xa_start: work may begin."""
@@ -91,6 +94,20 @@ class Completion:
         """xa_end, which waits."""
         self._leave()
         self.line.make_ahead(self._end)
+
+    def see_issued(self) -> None:
+        """Sees that xa_prepare is issued."""
+        self.line.see_issued()
+
+    def send_prepare(self) -> None:
+        """Sends xa_prepare, which waits, if that can be sent ahead of `prepare`."""
+        self.line.send(self._prepare)
+
+    def send_commit(self) -> None:
+        """Sends xa_commit, if it waits and can be sent ahead of `commit`."""
+        call = Call("xa_commit", self.xid)
+        if self.line.waits_for(call):
+            self.line.send(call)
 
     def prepare(self) -> Code:
         """xa_prepare, which waits: the vote. Unless that is OK the branch is over."""

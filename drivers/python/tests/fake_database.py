@@ -18,6 +18,8 @@ class FakeDatabase(Database):
         #: What the next of some calls is answered, by the name of what makes it: a code, or an exception to raise. With
         #: `lost` the call is done, and its answer is lost.
         self.next = {}
+        #: What is called before some calls, by the same names.
+        self.before = {}
         self.calls = []
         self.connections = []
         #: Why nobody may have a connection.
@@ -82,6 +84,12 @@ class FakeLink:
         for row in rows:
             self.execute(statement % row)
 
+    def stream(self, statement):
+        """Is done as its rows are asked for, and gives one for each of three."""
+        for _ in range(3):
+            self.execute(statement)
+            yield self.rows[0]
+
     def fetchone(self):
         return self.rows.pop() if self.rows else None
 
@@ -118,12 +126,18 @@ class FakeConnection(Connection):
         self.socket.close()
         self.server.close()
 
+    def __del__(self):
+        # One that a test has lost is never closed otherwise.
+        self.socket.close()
+        self.server.close()
+
     def told(self, name, xid, done=lambda: None):
         """Does a call, unless the test has something else for it."""
         if self.is_lost:
             raise ConnectionLost("the connection is gone")
         self.database.called(name)
         self.database.calls.append(f"{name} {xid}")
+        self.database.before.get(name, lambda: None)()
         wanted = self.database.next.pop(name, Code.OK)
         if wanted == "lost":
             done()

@@ -3,12 +3,27 @@
 from __future__ import annotations
 
 import abc
-import contextlib
 import enum
 import threading
 import time
 from dataclasses import dataclass
-from typing import Any, Callable, Collection, FrozenSet, Iterable, Iterator, List, Optional, Sequence, Tuple, TypeVar
+from types import TracebackType
+from typing import (
+    Any,
+    Callable,
+    Collection,
+    FrozenSet,
+    Iterable,
+    Iterator,
+    List,
+    Mapping,
+    Optional,
+    Sequence,
+    Tuple,
+    Type,
+    TypeVar,
+    Union,
+)
 
 from ..calls import Answer, Call
 from ..codes import Code
@@ -18,6 +33,8 @@ from ..watch import Wire
 from ..xid import FORMAT, Xid
 
 T = TypeVar("T")
+#: What the modules take for the placeholders of a statement.
+Parameters = Union[Sequence[Any], Mapping[str, Any]]
 
 
 @dataclass(frozen=True)
@@ -94,6 +111,9 @@ class Options:
 class Database(abc.ABC):
     """A database that takes part in transactions: how it is reached. Its methods may be called by any thread."""
 
+    #: How SQLAlchemy names its own dialect for the module that reaches the database, if it has one.
+    SQLALCHEMY: Optional[str] = None
+
     @abc.abstractmethod
     def connect(self, place: Place = Place()) -> Connection:
         """A new connection. Raises ConnectionLost if there is none to be had now, and SetupError if there never will be, as
@@ -107,10 +127,37 @@ class Database(abc.ABC):
             return False
         return True
 
+    def by_hand(self, call: Call) -> str:
+        """The statement by which an operator makes a call on a prepared branch."""
+        return f"make the call {call}"
+
     @abc.abstractmethod
     def end_connections(self, kept: Collection[int], place: Place = Place()) -> int:
         """Ends all connections of this place except those of these numbers, and waits until they are gone: what they had under
         way can't happen any more. How many it ended. Raises ConnectionLost if that can't be done."""
+
+
+class Timed:
+    """A block within which a connection is waited for for so many seconds. One within another counts for nothing."""
+
+    __slots__ = ("_wire", "_seconds")
+
+    def __init__(self, wire: Optional[Wire], seconds: float):
+        self._wire = None if wire is None or wire.due is not None else wire
+        self._seconds = seconds
+
+    def __enter__(self) -> None:
+        if self._wire is not None:
+            self._wire.due = time.monotonic() + self._seconds
+
+    def __exit__(
+        self, kind: Optional[Type[BaseException]], error: Optional[BaseException], trace: Optional[TracebackType]
+    ) -> None:
+        if self._wire is None:
+            return
+        self._wire.due = None
+        if isinstance(error, ConnectionLost) and self._wire.is_cut:
+            raise ConnectionLost(f"no answer came in {self._seconds:.1f} seconds, and the connection was given up") from error
 
 
 class Connection(abc.ABC):
@@ -125,6 +172,10 @@ class Connection(abc.ABC):
     TEXTS: Texts
     #: What a program may read of the module's own connection, or call of it: nothing of it changes a transaction or a session.
     SHOWN: FrozenSet[str] = frozenset()
+    #: Whether `send` does something.
+    SENDS = False
+    #: Whether a rollback to a savepoint takes a statement back that failed, so that the branch may be committed.
+    TAKES_BACK = False
 
     def __init__(self, link: Any = None, place: Place = Place()) -> None:
         #: The module's own connection.
@@ -148,7 +199,7 @@ class Connection(abc.ABC):
 
     # ** work
 
-    def execute(self, statement: str, parameters: Sequence[Any] = ()) -> Result:
+    def execute(self, statement: str, parameters: Parameters = ()) -> Result:
         """Does a statement in the branch that is active. A database's own error is raised as it is; the branch can then only be
         rolled back, also where the database itself would go on."""
         return self.work(self._xid, lambda: self._work(statement, parameters))
@@ -159,7 +210,9 @@ class Connection(abc.ABC):
         with self._lock:
             if not self.is_active(xid):
                 raise TransactionOver("the branch is over, or work on it is")
-            with self.timed(None if self.limit is None else max(0.0, self.limit - time.monotonic())):
+            if self.limit is None:
+                return self._worked(step)
+            with self.timed(max(0.0, self.limit - time.monotonic())):
                 return self._worked(step)
 
     def _worked(self, step: Callable[[], T]) -> T:
@@ -177,22 +230,9 @@ class Connection(abc.ABC):
         self._see_branch()
         return done
 
-    @contextlib.contextmanager
-    def timed(self, seconds: Optional[float]) -> Iterator[None]:
-        """What is done here ends after so many seconds: the connection is cut off then, and ConnectionLost is raised."""
-        wire = self._wire
-        if wire is None or seconds is None or wire.due is not None:
-            yield
-            return
-        wire.due = time.monotonic() + seconds
-        try:
-            yield
-        except ConnectionLost as error:
-            if wire.is_cut:
-                raise ConnectionLost(f"no answer came in {seconds:.1f} seconds, and the connection was given up") from error
-            raise
-        finally:
-            wire.due = None
+    def timed(self, seconds: float) -> Timed:
+        """A block that ends after so many seconds: the connection is cut off then, and ConnectionLost is raised."""
+        return Timed(self._wire, seconds)
 
     def is_there(self) -> bool:
         """Whether the database hasn't ended the connection, as far as is known without asking it."""
@@ -233,7 +273,10 @@ class Connection(abc.ABC):
         with self._lock, self.timed(self.place.patience):
             if call.name == "xa_recover":
                 return self._recover(call)
-            return Answer(self._on_branch(call, call.xid))
+            return Answer(self._on_branch(call, call.branch))
+
+    def send(self, call: Call) -> None:
+        """Sends an xa_prepare or an xa_commit of the connection's own branch, of which `do` then waits for the answer."""
 
     def _on_branch(self, call: Call, xid: Xid) -> Code:
         if call.name == "xa_start":
@@ -316,7 +359,7 @@ class Connection(abc.ABC):
         """The next page of the scan, in the order of the identifiers. It has the branches of the connection's own place."""
         if "TMSTARTRSCAN" in call.flags:
             self._scanned = ()
-        if self._scanned is None or call.count < 0:
+        if self._scanned is None or call.count is None or call.count < 0:
             raise Unanswered("no scan is open")
         rest = sorted(xid for xid in self.listed() if (xid.format, xid.gtrid, xid.bqual) > self._scanned)
         page = tuple(rest[: call.count])
@@ -330,6 +373,10 @@ class Connection(abc.ABC):
         """The prepared branches of the connection's own place."""
         return [xid for xid in self._listed() if self.place.owns(xid)]
 
+    def all_listed(self) -> List[Xid]:
+        """The prepared branches of all places and managers."""
+        return sorted(self._listed())
+
     # ** what a kind of database gives
 
     @abc.abstractmethod
@@ -342,12 +389,12 @@ class Connection(abc.ABC):
         return None
 
     @abc.abstractmethod
-    def run(self, statement: str, parameters: Sequence[Any] = ()) -> Result:
+    def run(self, statement: str, parameters: Parameters = ()) -> Result:
         """Does a statement for the program's own ends, outside of any branch. Errors of the database are raised as they are, but
         ConnectionLost where the connection is lost."""
 
     @abc.abstractmethod
-    def _work(self, statement: str, parameters: Sequence[Any]) -> Result:
+    def _work(self, statement: str, parameters: Parameters) -> Result:
         """Does a statement in the branch."""
 
     def _is_lost(self, error: Exception) -> bool:
