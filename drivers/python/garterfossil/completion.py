@@ -47,6 +47,10 @@ class Completion:
         """The database's own error because of which it is rolled back."""
         return self._connection.reason
 
+    def vote_of(self, error: BaseException) -> Optional[Code]:
+        """Why the branch would be rolled back if its work failed so, if that is an error of its database."""
+        return self._connection._vote_of(error) if isinstance(error, Exception) else None
+
     def start(self) -> None:
         """xa_start: work may begin."""
         call = Call("xa_start", self.xid)

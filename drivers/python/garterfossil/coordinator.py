@@ -78,7 +78,7 @@ class Coordinator:
         self._is_logged = log.isEnabledFor(logging.DEBUG)
         self._ending = threading.Lock()
         self._fault: Optional[str] = None
-        #: The first line of the session: `restarted`, the incarnation, and how many decisions and heuristic ends the log has.
+        #: The greeting of the session: `restarted`, the incarnation, and how many decisions and heuristic ends the log has.
         self.greeting = self._greet()
         if not self.greeting.startswith("restarted "):
             raise self._gone(f"it began with the line: {self.greeting}")
@@ -341,10 +341,12 @@ class Coordinator:
             mine[1].release()
 
     def _greet(self) -> str:
-        """The first line. Nothing comes after it, since nothing was asked for."""
+        """The greeting. Nothing comes after it, since nothing was asked for."""
         while True:
             for line in self._read_lines():
-                return line
+                # A coordinator with a name says before it which protocol this is, and its name.
+                if not line.startswith("protocol "):
+                    return line
 
     def _read_lines(self) -> List[str]:
         """The lines of which the ends have come, at once; waits for something to come."""

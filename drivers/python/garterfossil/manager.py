@@ -49,6 +49,12 @@ NO_OPTIONS = Options()
 FIRST_PAUSE, LAST_PAUSE = 0.02, 1.0
 
 
+class _Open(threading.local):
+    """The transaction in whose block a thread is."""
+
+    transaction: Optional[Transaction] = None
+
+
 class TransactionManager:
     """Runs transactions over several databases, by the coordinator `xatm serve` (docs/SERVE.md).
 
@@ -94,7 +100,7 @@ class TransactionManager:
         self._ended = ended
         self._process = os.getpid()
         self._lock = threading.Lock()
-        self._open = threading.local()
+        self._open = _Open()
         self._session: Optional[Session] = None
         self._is_closed = False
         self._outcomes = Outcomes()
@@ -155,7 +161,9 @@ class TransactionManager:
                     done = work(transaction)
                 return done
             except Exception as error:
-                if left == 0 or transaction is None or not transaction.is_worth_trying_again:
+                if left == 0 or transaction is None:
+                    raise
+                if not transaction.is_worth_trying_again and not transaction.was_left_for_a_moment(error):
                     raise
                 log.info("%s was rolled back, and is tried again: %s", transaction.gtrid, error)
             time.sleep(pause * random.uniform(0.5, 1.0))
@@ -179,7 +187,7 @@ class TransactionManager:
     @property
     def current(self) -> Optional[Transaction]:
         """The transaction in whose block the thread is, if it is in one."""
-        return getattr(self._open, "transaction", None)
+        return self._open.transaction
 
     def database(self, key: Union[int, str]) -> Database:
         """A database, by its place or its name."""

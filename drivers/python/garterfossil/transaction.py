@@ -131,10 +131,11 @@ class Transaction:
         """Commits it. Once this returns the decision is in the log, and whatever ends then, each branch is committed. With
         one branch the database decides, and the log has nothing of it. Raises RolledBack, OutcomeUnknown or HeuristicEnd."""
         self._require_open()
-        branches = list(self._branches.values())
         try:
             for look in self._looks:
                 look()
+            # What a look has used is a branch as well.
+            branches = list(self._branches.values())
             self._require_no_fault(branches)
             if len(branches) == 1:
                 call = branches[0].issue_commit_in_one_phase()
@@ -173,6 +174,17 @@ class Transaction:
         """Whether it was rolled back, and for a reason of a moment, as a deadlock or a connection that was lost: then the same work may
         go well the next time."""
         return self.outcome is Outcome.ROLLED_BACK and bool(self._codes) and all(code in PASSING for code in self._codes)
+
+    def was_left_for_a_moment(self, error: Optional[BaseException]) -> bool:
+        """Whether an exception that left the block is a database's own, of a reason that is of a moment, or comes from one. (At
+        PostgreSQL a savepoint may have taken its statement back, so that the branch had no fault.)"""
+        if self.outcome is not Outcome.ROLLED_BACK:
+            return False
+        while error is not None:
+            if any(branch.vote_of(error) in PASSING for branch in self._branches.values()):
+                return True
+            error = error.__cause__
+        return False
 
     # ** the first phase
 

@@ -174,6 +174,8 @@ class Connection(abc.ABC):
     SHOWN: FrozenSet[str] = frozenset()
     #: Whether `send` does something.
     SENDS = False
+    #: Whether a rollback to a savepoint takes a statement back that failed, so that the branch may be committed.
+    TAKES_BACK = False
 
     def __init__(self, link: Any = None, place: Place = Place()) -> None:
         #: The module's own connection.
