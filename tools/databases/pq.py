@@ -22,6 +22,7 @@ for name, result, arguments in [
     ("PQerrorMessage", TEXT, [POINTER]),
     ("PQfinish", None, [POINTER]),
     ("PQbackendPID", ctypes.c_int, [POINTER]),
+    ("PQsocket", ctypes.c_int, [POINTER]),
     ("PQtransactionStatus", ctypes.c_int, [POINTER]),
     ("PQexec", POINTER, [POINTER, TEXT]),
     ("PQresultStatus", ctypes.c_int, [POINTER]),
@@ -115,10 +116,13 @@ class Connection:
     def get_backend_pid(self):
         return PQ.PQbackendPID(self.pointer)
 
+    def fileno(self):
+        return PQ.PQsocket(self.pointer)
+
     def get_transaction_status(self):
         return TRANSACTION_STATUS_UNKNOWN if self.pointer is None else PQ.PQtransactionStatus(self.pointer)
 
-    def cursor(self):
+    def cursor(self, cursor_factory=None):
         return Cursor(self)
 
     def close(self):
@@ -182,6 +186,7 @@ class Cursor:
 def install():
     """Puts itself in psycopg2's place."""
     extensions = types.ModuleType("psycopg2.extensions")
+    extensions.cursor = Cursor
     extensions.TRANSACTION_STATUS_IDLE = TRANSACTION_STATUS_IDLE
     extensions.TRANSACTION_STATUS_INERROR = TRANSACTION_STATUS_INERROR
     sys.modules["psycopg2"] = sys.modules[__name__]

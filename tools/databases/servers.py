@@ -148,7 +148,30 @@ class PostgreSQLServer(Server):
         """What the driver is given for it."""
         from garterfossil.adapters.postgresql import PostgreSQL
 
-        return PostgreSQL(f"host={self.home} port={self.port or 5432} user=xa dbname=postgres connect_timeout=5", lock_timeout=2)
+        return PostgreSQL(f"host={self.home} port={self.port or 5432} user=xa dbname=postgres", lock_timeout=2)
+
+    def socket(self):
+        """The path of the socket that it listens on."""
+        return f"{self.home}/.s.PGSQL.{self.port or 5432}"
+
+    def database_at(self, port):
+        """The same over a port that passes on to its socket."""
+        from garterfossil.adapters.postgresql import PostgreSQL
+
+        return PostgreSQL(f"host=127.0.0.1 port={port} user=xa dbname=postgres", lock_timeout=2)
+
+    def wrong_databases(self):
+        """What no start accepts."""
+        from garterfossil.adapters.postgresql import PostgreSQL
+
+        there = f"host={self.home} port={self.port or 5432}"
+        return [PostgreSQL(f"{there} user=nobody dbname=postgres"), PostgreSQL(f"{there} user=xa dbname=no_such")]
+
+    def plain(self):
+        """A connection of another program."""
+        import psycopg2
+
+        return psycopg2.connect(f"host={self.home} port={self.port or 5432} user=xa dbname=postgres")
 
     def url(self):
         """What a JDBC driver is given for it, on its port."""
@@ -194,7 +217,30 @@ class MariaDBServer(Server):
         """What the driver is given for it."""
         from garterfossil.adapters.mariadb import MariaDB
 
-        return MariaDB(unix_socket=f"{self.home}/sock", user="bank", database="bank", connect_timeout=5, lock_timeout=2)
+        return MariaDB(unix_socket=self.socket(), user="bank", database="bank", lock_timeout=2)
+
+    def socket(self):
+        """The path of the socket that it listens on."""
+        return f"{self.home}/sock"
+
+    def database_at(self, port):
+        """The same over a port that passes on to its socket."""
+        from garterfossil.adapters.mariadb import MariaDB
+
+        return MariaDB(host="127.0.0.1", port=port, user="bank", database="bank", lock_timeout=2)
+
+    def wrong_databases(self):
+        """What no start accepts."""
+        from garterfossil.adapters.mariadb import MariaDB
+
+        given = [{"user": "bank", "password": "wrong"}, {"user": "bank", "database": "no_such"}, {"user": "nobody"}]
+        return [MariaDB(unix_socket=self.socket(), **each) for each in given]
+
+    def plain(self):
+        """A connection of another program."""
+        import pymysql
+
+        return pymysql.connect(unix_socket=self.socket(), user="bank", database="bank", autocommit=True)
 
     def url(self):
         """What a JDBC driver is given for it, on its port."""

@@ -2,17 +2,22 @@
 moments. Each is looked at in the databases."""
 
 import logging
+import os
 import threading
 import time
 
 import garterfossil.session
-from garterfossil import HeuristicEnd, OutcomeUnknown, RolledBack, XaError
+from garterfossil import HeuristicEnd, OutcomeUnknown, RolledBack, SetupError, XaError
+from garterfossil.adapters.base import Place
 from garterfossil.adapters.postgresql import PostgreSQL
 from garterfossil.calls import Call
+from proxy import Proxy
 
 BOTH, NEITHER = [True, True], [False, False]
 SECOND_ONE = "INSERT INTO once VALUES (1)"
 BEHIND = "behind the decision"
+#: For how many seconds a database that goes silent is waited for.
+PATIENCE = 2.0
 
 
 def when(moment):
@@ -23,6 +28,7 @@ class Tour:
     def __init__(self, world):
         self.world = world
         self.stories = self.wrong = 0
+        self.frozen = []
         world.prepare()
         self.xa = world.manager(2)
 
@@ -49,9 +55,9 @@ class Tour:
         for rm in rms:
             t[rm].execute("INSERT INTO moved VALUES (%s, 1)", [t.gtrid])
 
-    def before(self, words, do):
+    def before(self, words, do, xa):
         """Has something done before the first request of the session that has these words, one by one."""
-        coordinator = self.xa._session.coordinator
+        coordinator = xa._session.coordinator
         post = coordinator.post
 
         def posted(request):
@@ -61,12 +67,13 @@ class Tour:
 
         coordinator.post = posted
 
-    def at(self, moment, do):
+    def at(self, moment, do, xa=None):
         """Has something done at a moment: before the first request of this name or call, or behind the decision to commit."""
+        xa = xa or self.xa
         if moment != BEHIND:
-            self.before([moment], [do])
+            self.before([moment], [do], xa)
             return
-        commits = self.xa._session.commits
+        commits = xa._session.commits
         decide = commits.decide
 
         def decided(*words):
@@ -78,10 +85,10 @@ class Tour:
 
     def lose(self, t, rm):
         """The connection of a branch is ended at the database, and what it had under way with it."""
-        connection = t[rm].line.connection
-        others = [line.connection.number for lines in self.xa._session._lines for line in lines
-                  if line.connection not in (None, connection) and line.rm.number == rm]
-        self.world.servers[rm].database().end_connections(others)
+        line = t._branches[rm].line
+        others = [other.connection.number for other in self.xa._session.lines_to(line.rm)
+                  if other.connection not in (None, line.connection)]
+        self.world.servers[rm].database().end_connections(others, line.rm.place)
 
     # ** stories
 
@@ -185,21 +192,155 @@ class Tour:
             self.goes_on()
             self.told(f"the coordinator is killed {when(moment)}", t, wanted)
 
+    def freeze(self, t, xa):
+        """A driver stops, and keeps its connections."""
+        for line in xa._session._lines[t._thread]:
+            self.frozen.append(line.connection)
+            line.connection = None
+        xa._session.coordinator.kill()
+
     def driver_is_frozen(self):
         """A driver stops behind its decision and keeps its connections. The next one has to end them before it looks."""
-        kept = []
-
-        def freeze():
-            for line in self.xa._session._lines[t._thread]:
-                kept.append(line.connection)
-                line.connection = None
-            self.xa._session.coordinator.kill()
-
         with self.xa.transaction() as t:
             self.write(t, 0, 1)
-            self.at(BEHIND, freeze)
+            self.at(BEHIND, lambda: self.freeze(t, self.xa))
         self.goes_on()
         self.told("a driver is frozen behind its decision, and the next one goes on", t, BOTH)
+
+    # ** what a user may try first
+
+    def one_server_twice(self):
+        """Both databases of a manager are one, which lists the branches of both, and knows one user."""
+        for number, server in enumerate(self.world.servers):
+            for end in ("goes well", "is killed"):
+                with self.world.manager(2, databases=[server.database(), server.database()], name=f"twice-{number}") as xa:
+                    with xa.transaction() as t:
+                        mark = f"{number} {end}"
+                        t[0].execute("INSERT INTO moved VALUES (%s, 1)", [mark])
+                        t[1].execute("INSERT INTO alone VALUES (%s)", [mark])
+                        if end == "is killed":
+                            self.at(BEHIND, lambda: self.freeze(t, xa), xa)
+                    with xa.transaction():
+                        pass
+                self.see(f"database {number} twice in one manager, which {end}", self.in_one(server, mark) == BOTH)
+
+    def in_one(self, server, mark):
+        connection = server.database().connect()
+        found = [bool(connection.run(f"SELECT 1 FROM {table} WHERE gtrid = %s", [mark]).rows) for table in ("moved", "alone")]
+        connection.close()
+        return found
+
+    def others_stay(self):
+        """Other programs with the same user keep their connections."""
+        for rm, server in enumerate(self.world.servers):
+            other = server.database().connect(Place("another", rm))
+            plain = server.plain()
+            self.xa.close()
+            self.xa = self.world.manager(2)
+            self.goes_on()
+            with plain.cursor() as cursor:
+                cursor.execute("SELECT 1")
+            self.see(f"a start leaves other connections of the user of database {rm} alone", other.run("SELECT 1").rows == [(1,)])
+            other.close()
+            plain.close()
+
+    def idle_connections_end(self):
+        for rm, server in enumerate(self.world.servers):
+            self.goes_on()
+            place = self.xa._session._rms[rm].place
+            server.database().end_connections([], place)
+            with self.xa.transaction() as t:
+                self.write(t, 0, 1)
+            self.told(f"the connections to database {rm} are ended while nothing is done", t, BOTH)
+
+    def set_up_wrongly(self):
+        for rm, server in enumerate(self.world.servers):
+            for database in server.wrong_databases():
+                databases = self.world.databases()
+                databases[rm] = database
+                try:
+                    self.world.manager(2, databases=databases, name="wrong").close()
+                    self.see(f"{database} is refused", False)
+                except SetupError as error:
+                    self.see(f"{database} is refused: {error}", True)
+
+    def new_logs(self):
+        """A log that is lost, while a branch that it has decided is prepared."""
+        with self.world.manager(2, name="lost") as xa:
+            with xa.transaction() as t:
+                # A log of its own counts its transactions anew.
+                for rm in (0, 1):
+                    t[rm].execute("INSERT INTO moved VALUES ('lost', 1)")
+                self.at(BEHIND, lambda: self.freeze(t, xa), xa)
+            xa._is_closed = True
+        kept = f"{self.world.home}/lost.db"
+        os.rename(kept, f"{kept}.kept")
+        for _ in range(3):
+            try:
+                self.world.manager(2, name="lost").close()
+                self.see("a new log over branches of a lost one is refused", False)
+            except SetupError as error:
+                self.see(f"a new log over branches of a lost one is refused: {error}", True)
+        os.rename(f"{kept}.kept", kept)
+        self.world.manager(2, name="lost").close()
+        self.see("the log that was lost is put back, and what it decided is committed", self.holds("lost") == BOTH)
+
+    def see(self, name, is_so):
+        self.stories += 1
+        self.wrong += not is_so
+        print(f"{'ok   ' if is_so else 'WRONG'} {name}", flush=True)
+
+    # ** a network that goes silent
+
+    def networks_go_silent(self):
+        """No block outlasts three times the patience, and no start twice."""
+        self.xa.close()
+        proxies = [Proxy(server.socket()) for server in self.world.servers]
+        databases = [server.database_at(proxy.port) for server, proxy in zip(self.world.servers, proxies)]
+        for rm, proxy in enumerate(proxies):
+            for moment, wanted in [("work", NEITHER), ("xa_prepare", NEITHER), ("decide", BOTH), (BEHIND, BOTH)]:
+                self.xa = self.world.manager(2, PATIENCE, databases)
+                seconds, t = self.silent_in(moment, rm, proxy)
+                self.in_time(f"a block whose database {rm} goes silent {when(moment)}", seconds, 3 * PATIENCE)
+                proxy.speak()
+                self.goes_on()
+                self.told(f"database {rm} goes silent {when(moment)}", t, wanted)
+                self.xa.close()
+            self.silent_start(rm, proxy, databases)
+        for proxy in proxies:
+            proxy.close()
+        self.xa = self.world.manager(2)
+
+    def silent_in(self, moment, rm, proxy):
+        begun = time.monotonic()
+        try:
+            with self.xa.transaction(timeout=PATIENCE) as t:
+                self.write(t, 0, 1)
+                if moment == "work":
+                    proxy.silence()
+                    self.write(t, rm)
+                self.at(moment, proxy.silence)
+        except (RolledBack, XaError):
+            pass
+        return time.monotonic() - begun, t
+
+    def silent_start(self, rm, proxy, databases):
+        proxy.silence()
+        begun = time.monotonic()
+        self.xa = self.world.manager(2, PATIENCE, databases)
+        self.in_time(f"a start while database {rm} is silent", time.monotonic() - begun, 2 * PATIENCE)
+        begun = time.monotonic()
+        with self.xa.transaction() as t:
+            self.write(t, 1 - rm)
+        self.in_time(f"a transaction at database {1 - rm} alone meanwhile", time.monotonic() - begun, PATIENCE)
+        proxy.speak()
+        self.goes_on()
+        self.xa.close()
+
+    def in_time(self, name, seconds, most):
+        self.stories += 1
+        self.wrong += seconds > most
+        print(f"{'ok   ' if seconds <= most else 'WRONG'} {name}: {seconds:.1f} seconds, at most {most:.1f}", flush=True)
 
     def goes_on(self):
         """The next transaction of the same program, before which what is due is recovered."""
@@ -215,8 +356,10 @@ class Tour:
         for end, wanted in (("settle", BOTH), ("abandon", NEITHER), ("resolve-open", NEITHER)):
             with self.xa.transaction() as t:
                 self.write(t, 0, 1)
-                for branch in (t[0], t[1]):
+                branches = list(t._branches.values())
+                for branch in branches:
                     branch.issue_prepare()
+                    branch.end()
                     branch.prepare()
                     branch.line.see_heard()
                 if end == "resolve-open":
@@ -224,7 +367,7 @@ class Tour:
                 else:
                     session.coordinator.ask(f"claim {t.gtrid}")
                     session.coordinator.ask(f"{end} {t.gtrid}")
-                    for branch in (t[0], t[1]):
+                    for branch in branches:
                         branch.line.call(Call("xa_commit" if end == "settle" else "xa_rollback", branch.xid))
                         branch.line.see_heard()
                 t.outcome = type(t.outcome).COMMITTED if wanted == BOTH else type(t.outcome).ROLLED_BACK
@@ -235,9 +378,9 @@ class Tour:
         session = self.xa._session
         for rm in (0, 1):
             line = session.line(0, rm)
-            if line is not t[rm].line:
+            if line is not t._branches[rm].line:
                 # MariaDB lets no other connection end the branch while its own one lives.
-                t[rm].line.lose()
+                t._branches[rm].line.lose()
             line.make_ready()
             line.call(Call("xa_recover", count=32, flags=("TMSTARTRSCAN", "TMENDRSCAN")))
             line.see_heard()
@@ -249,7 +392,7 @@ class Tour:
         """An administrator rolls a prepared branch back, against the decision. Neither database tells."""
         def by_hand():
             connection = self.world.servers[0].database().connect()
-            connection._roll_back_prepared(t[0].xid)
+            connection._roll_back_prepared(t._branches[0].xid)
             connection.close()
 
         raised = "nothing was raised"
@@ -279,6 +422,12 @@ def run(world):
     tour.coordinator_ends()
     tour.driver_is_frozen()
     tour.databases_go_down()
+    tour.networks_go_silent()
+    tour.one_server_twice()
+    tour.others_stay()
+    tour.idle_connections_end()
+    tour.set_up_wrongly()
+    tour.new_logs()
     tour.ended_by_hand()
     tour.xa.close()
     found = world.look_at_doubt()

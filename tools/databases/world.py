@@ -92,10 +92,14 @@ class World:
     def command(self, threads, log=None):
         return [self.coordinator, "serve", "--log", log or self.log, str(threads), "2"]
 
-    def manager(self, threads, patience=30.0):
+    def manager(self, threads, patience=30.0, databases=None, name=""):
+        """A transaction manager, over both databases unless it is given others. One with a name has a log of its own."""
         from garterfossil import TransactionManager
 
-        return TransactionManager(self.databases(), self.log, threads=threads, patience=patience, command=self.command(threads))
+        log = f"{self.home}/{name}.db" if name else self.log
+        return TransactionManager(
+            databases or self.databases(), log, name=name, threads=threads, patience=patience, program=self.coordinator
+        )
 
     # ** the bank
 
@@ -104,9 +108,12 @@ class World:
         for path in (self.log, f"{self.log}-wal", f"{self.home}/told"):
             if os.path.exists(path):
                 os.remove(path)
+        from garterfossil.adapters.base import Place
+
         for server in self.servers:
             database = server.database()
-            database.end_connections([])
+            for number in range(2):
+                database.end_connections([], Place(number=number))
             connection = database.connect()
             for xid in connection._listed():
                 connection._roll_back_prepared(xid)

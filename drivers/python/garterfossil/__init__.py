@@ -1,35 +1,49 @@
 """Transactions over several databases, coordinated by `xatm serve`: see docs/SERVE.md of Garterfossil."""
 
 from .adapters.base import Result
+from .branch import Branch, BranchConnection, BranchCursor
 from .codes import Code
 from .errors import (
     ConnectionLost,
     CoordinatorGone,
+    EndRefused,
     HeuristicEnd,
+    LogInUse,
+    NestedTransaction,
     OutcomeUnknown,
     Overdue,
     RolledBack,
     SetupError,
+    TimedOut,
+    TransactionOver,
     XaError,
 )
 from .manager import TransactionManager
-from .transaction import Branch, Outcome, Transaction
+from .outcomes import Outcome
+from .transaction import Transaction
 from .xid import Xid
 
 __all__ = [
     "Branch",
+    "BranchConnection",
+    "BranchCursor",
     "Code",
     "ConnectionLost",
     "CoordinatorGone",
+    "EndRefused",
     "HeuristicEnd",
+    "LogInUse",
+    "NestedTransaction",
     "Outcome",
     "OutcomeUnknown",
     "Overdue",
     "Result",
     "RolledBack",
     "SetupError",
+    "TimedOut",
     "Transaction",
     "TransactionManager",
+    "TransactionOver",
     "XaError",
     "Xid",
 ]

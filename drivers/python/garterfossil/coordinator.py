@@ -3,27 +3,36 @@
 from __future__ import annotations
 
 import collections
+import logging
+import os
 import subprocess
 import threading
 import time
-from typing import Callable, Deque, Iterable, List, Optional, Sequence
+from typing import Deque, Iterable, List, Optional, Sequence
 
 from .calls import Answer, Call
-from .errors import CoordinatorGone, Refused, RequestError, Unexplained
+from .errors import CoordinatorGone, LogInUse, Refused, RequestError, SetupError, Unexplained
+from .logs import fault_of_log, is_log_in_use
 from .xid import Xid
+
+log = logging.getLogger("garterfossil")
 
 #: Refusals by their number (docs/PROTOCOL.md).
 MANAGER_DOWN, UNKNOWN_TRANSACTION, LOG_FAULT = 1, 5, 15
 #: The coordinator ends so where another one has the log, or the log can't be opened.
 LOG_STATUS = 2
+#: What the file doesn't tell.
+OTHER_FAULTS = "it is of another version, or of a manager of another name, or damaged, or the disk is full"
 UNEXPLAINED = "error the branch is in no such state"
 
 
 class Reply:
     """A request that is on its way, and the place of its reply."""
 
-    def __init__(self, request: str):
+    def __init__(self, request: str, number: int):
         self.request = request
+        #: How many requests there were before it.
+        self.number = number
         self.line: Optional[str] = None
         #: What wakes the thread that waits for it, where another one reads.
         self.arrival: Optional[threading.Condition] = None
@@ -36,11 +45,18 @@ class Coordinator:
     thread waits reads what has come: its lines are the replies to the requests that were posted first."""
 
     def __init__(self, command: Sequence[str]):
-        self._process = subprocess.Popen(
-            command, stdin=subprocess.PIPE, stdout=subprocess.PIPE, stderr=subprocess.PIPE, start_new_session=True
-        )
+        try:
+            self._process = subprocess.Popen(
+                command, bufsize=0, stdin=subprocess.PIPE, stdout=subprocess.PIPE, stderr=subprocess.PIPE, start_new_session=True
+            )
+        except OSError as error:
+            raise SetupError(f"the program {command[0]} can't be run, which program= may give: {error}") from error
         self._writing = threading.Lock()
         self._reading = threading.Lock()
+        # Requests that are yet to be written, how many there were, and how many of them are written. All under the lock `_writing`. They
+        # are kept here and in no buffer of a file, which a process that is forked off would write once more at its end.
+        self._unwritten: List[bytes] = []
+        self._posted = self._written = 0
         # Whether a thread reads, and the requests whose threads wait for that one; both under the lock `_reading`.
         self._is_read = False
         self._asleep: List[Reply] = []
@@ -53,17 +69,28 @@ class Coordinator:
         self.greeting = self._greet()
         if not self.greeting.startswith("restarted "):
             raise self._gone(f"it began with the line: {self.greeting}")
+        #: The number of the session, among those of its log.
+        self.incarnation = int(self.greeting.split(" ")[1])
 
     @classmethod
-    def start(cls, command: Sequence[str], patience: float) -> Coordinator:
-        """Starts it. Where an earlier one still has the log, tries again for so many seconds."""
-        until = time.monotonic() + patience
+    def start(cls, command: Sequence[str], patience: float, path: Optional[str] = None) -> Coordinator:
+        """Starts it. While another one still has the log, at this path, tries again for so many seconds, and then raises LogInUse.
+        Raises SetupError if the log can't be had for another reason."""
+        begun = time.monotonic()
         while True:
             try:
                 return cls(command)
             except CoordinatorGone as gone:
-                if gone.status != LOG_STATUS or time.monotonic() >= until:
+                if gone.status != LOG_STATUS:
                     raise
+                waited = time.monotonic() - begun
+                is_used = path is None or is_log_in_use(path)
+                if is_used and waited >= patience:
+                    raise LogInUse(f"the log {path} is in use by another program: {gone}") from gone
+                # One that has just ended has let the log go meanwhile.
+                fault = None if is_used or path is None else fault_of_log(path) or (waited >= 1 and OTHER_FAULTS)
+                if fault:
+                    raise SetupError(f"the log {path}: {fault} ({gone})") from gone
             time.sleep(0.1)
 
     @property
@@ -141,18 +168,26 @@ class Coordinator:
 
     def post(self, request: str) -> Reply:
         """Puts a request on its way: it is written with the next one that is waited for."""
-        reply = Reply(request)
-        line = request.encode("ascii") + b"\n"
+        log.debug("> %s", request)
         with self._writing:
             if self._fault is not None:
                 raise self._gone(self._fault)
+            reply = Reply(request, self._posted)
             self._waiting.append(reply)
-            self._write(self._process.stdin.write, line)
+            self._unwritten.append(request.encode("ascii") + b"\n")
+            self._posted += 1
         return reply
+
+    def see_written(self, reply: Reply) -> None:
+        """Sees that a request is written, so that the coordinator will read it whatever ends here."""
+        if reply.number >= self._written:
+            with self._writing:
+                self._write()
 
     def wait(self, reply: Reply) -> str:
         """The reply to a request that was posted. Raises Refused, RequestError or CoordinatorGone."""
         self.arrive(reply)
+        log.debug("< %s", reply.line)
         kind, _, rest = reply.line.partition(" ")
         if kind == "error":
             error = Unexplained if reply.line == UNEXPLAINED else RequestError
@@ -167,14 +202,18 @@ class Coordinator:
     def arrive(self, reply: Reply) -> None:
         """Waits until a reply has come, whatever it is, and with it those to all requests before. Raises CoordinatorGone."""
         if reply.line is None:
-            with self._writing:
-                self._write(self._process.stdin.flush)
+            self.see_written(reply)
             self._read_until(reply)
 
-    def _write(self, write: Callable[..., object], *line: bytes) -> None:
-        """Requests are written whole, or the session is over: the replies would no longer fit the requests."""
+    def _write(self) -> None:
+        """Writes what is unwritten. Requests are written whole, or the session is over: the replies would no longer fit them. Called
+        with the lock `_writing`."""
+        some = memoryview(b"".join(self._unwritten))
+        self._unwritten.clear()
         try:
-            write(*line)
+            while some:
+                some = some[os.write(self._process.stdin.fileno(), some) :]
+            self._written = self._posted
         except (OSError, ValueError) as error:
             raise self._gone(str(error)) from None
         except BaseException:
@@ -222,7 +261,7 @@ class Coordinator:
                 first.arrival.notify()
 
     def _greet(self) -> str:
-        """The first line. Nothing comes behind it, since nothing was asked for."""
+        """The first line. Nothing comes after it, since nothing was asked for."""
         while True:
             for line in self._read_lines():
                 return line
@@ -230,7 +269,7 @@ class Coordinator:
     def _read_lines(self) -> List[str]:
         """The lines of which the ends have come, at once; waits for something to come."""
         try:
-            some = self._process.stdout.read1(65536)
+            some = os.read(self._process.stdout.fileno(), 65536)
         except (OSError, ValueError) as error:
             raise self._gone(str(error)) from None
         except BaseException:

@@ -26,6 +26,16 @@ class Debts:
         with self._lock:
             return [call for owed in self._owed.values() for number, call in owed if number == rm]
 
+    def transactions(self) -> Set[str]:
+        """The transactions of which something is owed."""
+        with self._lock:
+            return set(self._owed)
+
+    def count(self) -> int:
+        """How many calls are owed."""
+        with self._lock:
+            return sum(map(len, self._owed.values()))
+
     def settle(self, rm: int, call: Call) -> bool:
         """The call was answered. Whether it was the last of its transaction."""
         with self._lock:

@@ -4,14 +4,17 @@ from __future__ import annotations
 
 import collections
 import time
-from typing import Any, Deque, List, Optional, Sequence
+from typing import Callable, Deque, List, Optional, TypeVar
 
-from .adapters.base import Connection, Result
+from .adapters.base import Connection
 from .calls import Answer, Call
 from .codes import Code
 from .coordinator import Coordinator, Reply
-from .errors import ConnectionLost, Unanswered
+from .errors import ConnectionLost, TransactionOver, Unanswered
 from .resource_manager import ResourceManager
+from .xid import Xid
+
+T = TypeVar("T")
 
 #: How long to wait before a call is made once more.
 PAUSE = 0.05
@@ -32,6 +35,8 @@ class Line:
         # call may be made.
         self._replies: List[Reply] = []
         self._due = 0
+        # The answer that was told last.
+        self._told: Optional[Reply] = None
 
     # ** the connection
 
@@ -60,8 +65,8 @@ class Line:
             self._coordinator.crash_line(self._thread, self.rm.number)
 
     def let_go(self) -> None:
-        """A transaction is over on the line. A branch or a call that it left there, as behind an interrupt, is lost, and so is
-        the connection where the session is over."""
+        """A transaction is over on the line. A branch or a call that it left there, as after an interrupt, is lost, and so is
+        the connection if the session is over."""
         if self._coordinator.is_gone:
             self.close()
         elif self.connection is not None and (self.connection.has_branch or self._waiting):
@@ -80,10 +85,9 @@ class Line:
         self.issue(call)
         return self.make(call)
 
-    def start(self, call: Call) -> Answer:
-        """An xa_start, which is made at once: what is begun on a connection ends with it, so it may be begun before the
-        coordinator says that it is issued. If it isn't, the next call loses the line, and what was begun with it."""
-        self.issue(call)
+    def make_ahead(self, call: Call) -> Answer:
+        """Makes an xa_start or an xa_end that waits on the line, before the coordinator says that it is issued: what is done on a
+        connection alone ends with it. If it isn't issued, the next call loses the line, and what was done with it."""
         return self._make(call)
 
     def issue(self, *calls: Call) -> None:
@@ -107,7 +111,7 @@ class Line:
     def _open(self) -> Connection:
         """The connection. Raises ConnectionLost where there is none."""
         if self.connection is None:
-            raise ConnectionLost(f"there is no connection to database {self.rm.number}")
+            raise ConnectionLost(f"there is no connection to {self.rm.label}")
         return self.connection
 
     def _post(self, call: Call) -> None:
@@ -116,7 +120,11 @@ class Line:
         self._due = len(self._replies)
 
     def _make(self, call: Call) -> Answer:
+        """Makes a call, once the answer to the one before it on the line is written: the coordinator takes for done of a line that is
+        lost no more than the call that waits first."""
         try:
+            if self._told is not None:
+                self._coordinator.see_written(self._told)
             answer = self._answer_to(call)
             self._tell(call, answer)
         except BaseException:
@@ -137,7 +145,7 @@ class Line:
                 if code is not Code.RETRY:
                     return code
                 if time.monotonic() >= until:
-                    raise ConnectionLost(f"database {self.rm.number} puts off: {call}")
+                    raise ConnectionLost(f"{self.rm.label} puts off: {call}")
             except ConnectionLost:
                 if time.monotonic() >= until:
                     raise
@@ -165,7 +173,8 @@ class Line:
         """Tells an answer. The reply isn't waited for: it comes before that to the next request."""
         if self._waiting:
             self._waiting.popleft()
-        self._replies.append(self._coordinator.answer(self._thread, self.rm.number, call, answer))
+        self._told = self._coordinator.answer(self._thread, self.rm.number, call, answer)
+        self._replies.append(self._told)
 
     def _answer_to(self, call: Call) -> Answer:
         """The answer of the database. That it has none now isn't one: an end of a prepared branch is made again."""
@@ -180,14 +189,15 @@ class Line:
 
     # ** work
 
-    def execute(self, statement: str, parameters: Sequence[Any]) -> Result:
-        """Does a statement in the branch that the connection has."""
-        if self.connection is None:
-            raise ConnectionLost(f"the connection to database {self.rm.number} was lost")
+    def work(self, connection: Connection, xid: Xid, step: Callable[[], T]) -> T:
+        """Does a step of the work on the branch that was begun on this connection."""
+        if self.connection is not connection:
+            raise TransactionOver(f"the branch at {self.rm.label} is over: its connection was lost, or closed")
         try:
-            return self.connection.execute(statement, parameters)
+            return connection.work(xid, step)
         except BaseException as error:
-            # Behind an interrupt nobody knows what the connection would say next.
-            if isinstance(error, ConnectionLost) or not isinstance(error, Exception):
+            # After an interrupt nobody knows what the connection would say next.
+            is_unknown = isinstance(error, ConnectionLost) or not isinstance(error, Exception)
+            if is_unknown and connection.is_active(xid) and self.connection is connection:
                 self.lose()
             raise

@@ -4,58 +4,89 @@ from __future__ import annotations
 
 import contextlib
 import logging
+import os
+import random
 import threading
 import time
 from types import TracebackType
-from typing import Iterator, Optional, Sequence, Tuple, Type
+from typing import Callable, Dict, Iterator, Mapping, Optional, Sequence, Set, Tuple, Type, TypeVar, Union
 
-from .adapters.base import Database
-from .errors import CoordinatorGone
+from .adapters.base import Database, Options
+from .counts import Counts
+from .databases import NAME, Databases
+from .errors import CoordinatorGone, LogInUse, NestedTransaction, XaError
 from .line import PAUSE
-from .session import Session
-from .transaction import Outcome, Transaction
+from .outcomes import Outcome, Outcomes
+from .session import Session, Settings
+from .transaction import Transaction
 
 log = logging.getLogger("garterfossil")
+
+T = TypeVar("T")
+
+#: The coordinator takes so many threads.
+MOST_THREADS = 256
+#: The first pause before work is tried again, in seconds, and the longest.
+FIRST_PAUSE, LAST_PAUSE = 0.02, 1.0
 
 
 class TransactionManager:
     """Runs transactions over several databases, by the coordinator `xatm serve` (docs/SERVE.md).
 
-    The databases are numbered by their places in the list. They and the log belong together for ever: another log, or the
-    same databases in another order, would end branches wrongly. One program at a time uses the log.
+    The databases are numbered by their places in the list; a dict gives them names as well, and its order is that of the
+    numbers. They and the log belong together for ever: another log, or the same databases in another order, would end branches
+    wrongly. One program at a time uses the log.
 
     Programs that share a database have each a log of its own and a `name` of its own, 1 to 16 letters, digits, _ and -: it
     stands in the identifiers of the branches, and a program leaves those of other names alone. A log keeps its name.
 
     A transaction needs one of the coordinator's `threads` (1 to 256). `patience` says for how many seconds a transaction
-    waits for one, and how long a database that has no answer is asked again before it is left to the recovery.
+    waits for one, how long an answer of a database is waited for, and how long a database that has none is asked again before
+    it is left to the recovery. `timeout` is for how many seconds a transaction may do work, unless it is given its own.
 
-    Any thread may use it, and has one transaction at a time. Where the coordinator ends, the next transaction starts it
-    anew."""
+    Any thread of the process that made it may use it. Where the coordinator ends, the next transaction starts it anew. `ended` is
+    called with each transaction after its end. Raises SetupError if a database or the log can't be used as it is, and ConnectionLost if
+    the log is new and a database isn't there."""
 
     def __init__(
         self,
-        databases: Sequence[Database],
-        log: str,
+        databases: Union[Sequence[Database], Mapping[str, Database]],
+        log: "Union[str, os.PathLike[str]]",
         *,
         name: str = "",
         threads: int = 8,
         patience: float = 30.0,
+        timeout: Optional[float] = 300.0,
         program: str = "xatm",
         command: Optional[Sequence[str]] = None,
+        ended: Optional[Callable[[Transaction], None]] = None,
     ):
-        self._databases = list(databases)
-        self._threads = threads
-        self._patience = patience
-        self._name = name
+        if not 1 <= threads <= MOST_THREADS:
+            raise ValueError(f"threads: 1 to {MOST_THREADS}, not {threads}")
+        if not patience > 0:
+            raise ValueError(f"patience: more than 0 seconds, not {patience}")
+        if name and not NAME.fullmatch(name):
+            raise ValueError(f"name: 1 to 16 letters, digits, _ and -, not {name!r}")
+        all_databases, path = Databases(databases), os.fspath(log)
         named = ["--name", name] if name else []
-        self._command = command or [program, "serve", *named, "--log", log, str(threads), str(len(self._databases))]
-        for database in self._databases:
-            database.belong_to(name)
+        words = command or [program, "serve", *named, "--log", path, str(threads), str(len(all_databases))]
+        self._settings = Settings(words, all_databases, path, name, threads, patience)
+        self._timeout = timeout
+        self._ended = ended
+        self._process = os.getpid()
         self._lock = threading.Lock()
         self._session: Optional[Session] = None
         self._is_closed = False
-        self._current()
+        self._outcomes = Outcomes()
+        self._counts = Counts()
+        # The threads of Python that have a transaction, each once.
+        self._busy: Set[int] = set()
+        self._current(is_first=True)
+
+    def __repr__(self) -> str:
+        state = "closed" if self._is_closed else "open"
+        name = f" {self._settings.name}" if self._settings.name else ""
+        return f"<TransactionManager{name} over {len(self._settings.databases)} databases, log {self._settings.log}, {state}>"
 
     def __enter__(self) -> TransactionManager:
         return self
@@ -65,51 +96,135 @@ class TransactionManager:
     ) -> None:
         self.close()
 
+    # ** transactions
+
     @contextlib.contextmanager
-    def transaction(self) -> Iterator[Transaction]:
-        """A transaction for a `with` block: it is committed at the end of the block, and rolled back where an exception
-        leaves it. Raises RolledBack, OutcomeUnknown or HeuristicEnd at the end of the block."""
+    def transaction(
+        self,
+        *,
+        timeout: Union[float, None, str] = "the manager's",
+        isolation: Optional[str] = None,
+        read_only: bool = False,
+        independent: bool = False,
+    ) -> Iterator[Transaction]:
+        """A transaction for a `with` block: it is committed at the end of the block, and rolled back if an exception
+        leaves it. Raises RolledBack, OutcomeUnknown or HeuristicEnd at the end of the block.
+
+        `timeout` is for how many seconds it may do work (None: for ever); then it can only be rolled back. `isolation` is one of SQL's
+        levels, in lower case, and with `read_only` the databases refuse what writes. A thread that has a transaction already gets
+        NestedTransaction, unless this one is to be `independent`: it commits whatever the other one does."""
+        options = Options(isolation, read_only)
+        seconds = self._timeout if isinstance(timeout, str) else timeout
         with contextlib.ExitStack() as stack:
+            self._take_thread(stack, independent)
             session, thread, gtrid = self._begin(stack)
-            transaction = Transaction(session, thread, gtrid)
+            transaction = Transaction(session, thread, gtrid, options, seconds)
+            self._counts.begin()
             try:
                 with transaction:
                     yield transaction
             finally:
                 if transaction.outcome is Outcome.OPEN:
                     transaction.rollback()
+                self._note_end(transaction)
+
+    def run(self, work: Callable[[Transaction], T], *, tries: int = 5, **options: object) -> T:
+        """Does work in a transaction, with the `options` of `transaction`, and returns what it returns. If the transaction is rolled
+        back for a reason of a moment, as a deadlock or a lost connection, the work is done again in another one, after a pause, with
+        so many tries in all. What the last try raised is raised then, and all else at once: so the work is to change nothing outside of
+        the databases."""
+        pause = FIRST_PAUSE
+        for left in reversed(range(tries)):
+            transaction = None
+            try:
+                with self.transaction(**options) as transaction:  # type: ignore[arg-type]
+                    done = work(transaction)
+                return done
+            except Exception as error:
+                if left == 0 or transaction is None or not transaction.is_worth_trying_again:
+                    raise
+                log.info("%s was rolled back, and is tried again: %s", transaction.gtrid, error)
+            time.sleep(pause * random.uniform(0.5, 1.0))
+            pause = min(LAST_PAUSE, 2 * pause)
+        raise ValueError(f"tries: 1 or more, not {tries}")
+
+    def outcome(self, gtrid: str) -> Outcome:
+        """How the transaction of this `gtrid` ended, after an OutcomeUnknown, as the log says: COMMITTED or ROLLED_BACK. UNKNOWN if it
+        was one in a single database, of which the log has nothing, or if another run of the program had it. Starts the coordinator
+        again if that has ended."""
+        self._current()
+        return self._outcomes.of(gtrid)
+
+    def counts(self) -> Dict[str, float]:
+        """How many transactions have `begun` and are `open`, how many were `committed` and `rolled_back`, or are `unknown`, how many of
+        them ended otherwise in a database (`heuristic`), how many ends of branches are `owed` to databases, and for how many
+        `seconds` transactions were open, all together."""
+        session = self._session
+        return {**self._counts.shown(), "owed": 0 if session is None else session.debts.count()}
 
     def close(self) -> None:
-        """Ends the coordinator, once all transactions are over."""
+        """Ends the coordinator, once all transactions are over. Raises Overdue if they aren't within the patience: they are rolled
+        back. Raises XaError, and does nothing, in a block of a transaction. In another process than its own does nothing."""
+        if os.getpid() != self._process:
+            return
+        if threading.get_ident() in self._busy:
+            raise XaError("close() in the block of a transaction: it is to be left first")
         with self._lock:
             self._is_closed = True
             session, self._session = self._session, None
         if session is not None and not session.coordinator.is_gone:
             session.close()
 
+    # ** how they begin and end
+
+    def _take_thread(self, stack: contextlib.ExitStack, is_independent: bool) -> None:
+        """Notes that this thread of Python has a transaction."""
+        if os.getpid() != self._process:
+            raise XaError(f"the transaction manager was made in process {self._process}: make one after the fork, in each process")
+        mine = threading.get_ident()
+        if mine not in self._busy:
+            self._busy.add(mine)
+            stack.callback(self._busy.discard, mine)
+        elif not is_independent:
+            raise NestedTransaction("this thread has a transaction already: independent=True is for one that commits by itself")
+
     def _begin(self, stack: contextlib.ExitStack) -> Tuple[Session, int, str]:
         """A transaction that has begun, in the session that is up, or else in the next one."""
-        until = time.monotonic() + self._patience
+        until = time.monotonic() + self._settings.patience
         while True:
             try:
                 session = self._current()
                 session.recover_what_is_due()
                 with contextlib.ExitStack() as mine:
                     thread = mine.enter_context(session.thread(until))
+                    if session.lets_go_of_ended(thread):
+                        continue
                     gtrid = session.begin(thread)
                     stack.enter_context(mine.pop_all())
                     return session, thread, gtrid
+            except LogInUse:
+                raise
             except CoordinatorGone as gone:
                 if self._is_closed or time.monotonic() >= until:
                     raise
                 log.warning("%s", gone)
                 time.sleep(PAUSE)
 
-    def _current(self) -> Session:
+    def _note_end(self, transaction: Transaction) -> None:
+        self._counts.end(transaction, time.monotonic() - transaction.begun)
+        if self._ended is not None:
+            try:
+                self._ended(transaction)
+            except Exception:
+                log.exception("what is called at the end of a transaction failed; %s stands", transaction.gtrid)
+
+    def _current(self, is_first: bool = False) -> Session:
         """The session that is up."""
+        if os.getpid() != self._process:
+            raise XaError(f"the transaction manager was made in process {self._process}: make one after the fork, in each process")
         with self._lock:
             if self._is_closed:
                 raise CoordinatorGone("the transaction manager is closed")
             if self._session is None or self._session.coordinator.is_gone:
-                self._session = Session(self._command, self._databases, self._threads, self._patience, self._name)
+                self._session = Session(self._settings, self._outcomes, is_first)
             return self._session

@@ -8,7 +8,7 @@ from typing import TYPE_CHECKING
 
 from .calls import Call
 from .coordinator import UNKNOWN_TRANSACTION, Coordinator
-from .errors import ConnectionLost, CoordinatorGone, Refused, Unexplained
+from .errors import ConnectionLost, CoordinatorGone, Refused, SetupError, Unexplained
 from .line import PAUSE, Line
 from .resource_manager import ResourceManager
 
@@ -29,6 +29,7 @@ def recover(session: Session, rm: ResourceManager) -> None:
             line.lose()
     line = session.line(0, rm.number)
     line.make_ready()
+    see_known(session, line)
     try:
         scan_until_done(session, line)
     except Unexplained as error:
@@ -44,12 +45,25 @@ def recover(session: Session, rm: ResourceManager) -> None:
     rm.is_recovery_due = False
 
 
+def see_known(session: Session, line: Line) -> None:
+    """Sees that the log may know all that the database lists as the manager's: the coordinator would roll back what it doesn't.
+    Raises SetupError."""
+    connection = line.connection
+    with connection.timed(session.patience):
+        unknown = [xid for xid in connection.listed() if not session.knows(xid)]
+    if unknown:
+        raise SetupError(
+            f"{line.rm.label} lists {len(unknown)} branches that this log knows nothing of, as {unknown[0]}: another log is used with"
+            " it, or this one is older than they are"
+        )
+
+
 def scan_until_done(session: Session, line: Line) -> None:
     """Scans, and once more where something was found: a call that was put off is listed again."""
     until = time.monotonic() + session.patience
     while scan(session.coordinator, line) > 0:
         if time.monotonic() >= until:
-            raise ConnectionLost(f"database {line.rm.number} lists the same branches again and again")
+            raise ConnectionLost(f"{line.rm.label} lists the same branches again and again")
         time.sleep(PAUSE)
 
 
@@ -58,6 +72,7 @@ def pay(session: Session, line: Line, call: Call) -> None:
     try:
         code = line.insist(call)
         line.see_heard()
+        log.info("recovery of %s: %s answered %s", line.rm.label, call, code.name)
         if code.is_heuristic:
             line.call(Call("xa_forget", call.xid))
     except Refused as refused:
@@ -74,7 +89,9 @@ def scan(coordinator: Coordinator, line: Line) -> int:
         page = line.call(Call("xa_recover", count=PAGE, flags=flags)).page
         flags = ()
         for _ in range(coordinator.resolve(line.rm.number)):
-            line.make(coordinator.waiting(0, line.rm.number))
+            call = coordinator.waiting(0, line.rm.number)
+            code = line.make(call).code
+            log.info("recovery of %s: %s answered %s", line.rm.label, call, code.name)
             made += 1
         line.see_heard()
         if len(page) < PAGE:

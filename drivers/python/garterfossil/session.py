@@ -6,18 +6,22 @@ import contextlib
 import logging
 import threading
 import time
+from dataclasses import dataclass
 from typing import Iterator, List, Optional, Sequence
 
-from .adapters.base import Database
 from .calls import Call
 from .commits import Commits
 from .coordinator import Coordinator, Reply
+from .databases import Databases
 from .debts import Debts
-from .errors import ConnectionLost, Overdue, Refused, RequestError, XaError
+from .errors import ConnectionLost, Overdue, Refused, RequestError, SetupError, XaError
 from .line import Line
+from .logs import is_new_log
+from .outcomes import Outcomes
 from .recovery import recover
-from .resource_manager import ResourceManager
+from .resource_manager import GLANCE, ResourceManager
 from .threads import Threads
+from .xid import Xid
 
 log = logging.getLogger("garterfossil")
 
@@ -26,31 +30,78 @@ log = logging.getLogger("garterfossil")
 DONE_AT_ONCE = 8
 
 
+@dataclass(frozen=True)
+class Settings:
+    """What the sessions of a transaction manager have in common."""
+
+    #: The command of the coordinator.
+    command: Sequence[str]
+    databases: Databases
+    #: The path of the log.
+    log: str
+    #: The manager's name, or none.
+    name: str
+    threads: int
+    patience: float
+
+
 class Session:
     """A session with the coordinator, which begins with the recovery of each database that can be reached."""
 
-    def __init__(self, command: Sequence[str], databases: Sequence[Database], threads: int, patience: float, name: str = ""):
-        self.patience = patience
+    def __init__(self, settings: Settings, outcomes: Outcomes, is_first: bool = False):
+        self.patience = settings.patience
+        self.databases = settings.databases
+        self.outcomes = outcomes
         #: The coordinator's name, which stands in front of the transaction in its identifiers.
-        self.name = name.encode("ascii")
-        self.coordinator = Coordinator.start(command, patience)
-        self.commits = Commits(self.coordinator)
-        self.threads = Threads(threads)
+        self.name = settings.name.encode("ascii")
+        self.threads = Threads(settings.threads)
         self.debts = Debts()
-        self._rms = [ResourceManager(number, database) for number, database in enumerate(databases)]
-        self._lines = [[Line(self.coordinator, thread, rm, patience) for rm in self._rms] for thread in range(threads)]
+        self._rms = [
+            ResourceManager(database, place, settings.databases.label(place.number))
+            for database, place in settings.databases.placed(settings.name, settings.threads, settings.patience)
+        ]
+        self._look(is_new_log(settings.log), is_first)
+        self.coordinator = Coordinator.start(settings.command, settings.patience, settings.log)
+        self.commits = Commits(self.coordinator)
+        self._lines = [[Line(self.coordinator, thread, rm, self.patience) for rm in self._rms] for thread in range(settings.threads)]
         # By thread, what begins its next transaction, where that was asked for ahead.
-        self._begun: List[Optional[Reply]] = [None] * threads
+        self._begun: List[Optional[Reply]] = [None] * settings.threads
+        # The transactions of a session are numbered. By thread, the last that began.
+        self._last = [0] * settings.threads
         self._done: List[str] = []
         self._done_lock = threading.Lock()
         try:
-            for rm in self._rms:
-                for xid in self.coordinator.owed(rm.number):
-                    self.debts.add(rm.number, Call("xa_commit", xid))
-            self.recover_what_is_due()
+            self._take_over(is_first)
         except BaseException:
             self.coordinator.kill()
             raise
+
+    def _look(self, is_new: bool, is_first: bool) -> None:
+        """Looks at the databases before the coordinator starts, which begins a new incarnation. If the log is new, all of them have to
+        be looked at. How a database is set up is said at the first start."""
+        looks = [threading.Thread(target=rm.look, args=[is_new], daemon=True) for rm in self._rms]
+        for look in looks:
+            look.start()
+        for look in looks:
+            look.join()
+        for rm in self._rms:
+            if rm.objection is None:
+                continue
+            if is_new and isinstance(rm.objection, ConnectionLost):
+                raise ConnectionLost(f"the log is new, so {rm.label} has to be there once: {rm.objection}") from rm.objection
+            if is_new or is_first and not isinstance(rm.objection, ConnectionLost):
+                raise rm.objection
+            log.warning("%s can't be used now: %s", rm.label, rm.objection)
+
+    def _take_over(self, is_first: bool) -> None:
+        """Ends what earlier sessions have left in doubt."""
+        for rm in self._rms:
+            for xid in self.coordinator.owed(rm.number):
+                self.debts.add(rm.number, Call("xa_commit", xid))
+        rows = self.debts.transactions()
+        self.outcomes.note_rows(self.coordinator.incarnation, rows)
+        log.info("session %d began: the log has %d decisions to commit", self.coordinator.incarnation, len(rows))
+        self.recover_what_is_due(is_first)
 
     def line(self, thread: int, rm: int) -> Line:
         """The line of a thread to a resource manager."""
@@ -82,7 +133,23 @@ class Session:
         """A transaction of the thread begins: its name."""
         self.begin_ahead(thread)
         reply, self._begun[thread] = self._begun[thread], None
-        return self.coordinator.begun_in(reply)
+        gtrid = self.coordinator.begun_in(reply)
+        self._last[thread] = int(gtrid[16:], 16)
+        return gtrid
+
+    def lets_go_of_ended(self, thread: int) -> bool:
+        """Gives those connections of a thread up that the databases have ended while nothing was done on them. Whether there were
+        some: then a recovery is due there."""
+        ended = [line for line in self._lines[thread] if line.connection is not None and not line.connection.is_there()]
+        for line in ended:
+            log.info("%s has ended a connection while it was idle", line.rm.label)
+            line.lose()
+        return bool(ended)
+
+    def knows(self, xid: Xid) -> bool:
+        """Whether the branch may be of the log's: it is of an earlier incarnation, or of a transaction that has begun in this one."""
+        incarnation, sequence = int.from_bytes(xid.gtrid[-16:-8], "big"), int.from_bytes(xid.gtrid[-8:], "big")
+        return (incarnation, sequence) <= (self.coordinator.incarnation, max(self._last))
 
     def begin_ahead(self, thread: int) -> None:
         """Asks for the thread's next transaction, unless that was done: the reply comes with others that are waited for."""
@@ -126,27 +193,39 @@ class Session:
 
     # ** recovery
 
-    def recover_what_is_due(self) -> None:
+    def recover_what_is_due(self, is_start: bool = False) -> None:
         """Recovers each database where something may be in doubt, if it can be reached. What can't be done now is done at
-        the next transaction."""
+        the next transaction; but what a database is set up wrongly for is raised at the start."""
         for rm in self._rms:
-            if rm.is_to_be_recovered():
+            if rm.is_recovery_due and rm.is_to_be_recovered(self.patience if is_start else GLANCE):
                 try:
                     with self.threads.all(time.monotonic() + self.patience):
                         if rm.is_recovery_due:
                             recover(self, rm)
+                except SetupError as error:
+                    if is_start:
+                        raise
+                    log.error("the recovery of %s is put off: %s", rm.label, error)
                 except (ConnectionLost, Overdue, Refused, RequestError) as error:
-                    log.warning("the recovery of database %d is put off: %s", rm.number, error)
+                    log.warning("the recovery of %s is put off: %s", rm.label, error)
 
     # ** its end
 
     def close(self) -> None:
-        """Ends the session, once all transactions are over."""
-        with self.threads.all(time.monotonic() + self.patience):
-            with self._done_lock:
-                gtrids, self._done = self._done, []
-            self._finish(gtrids)
+        """Ends the session, once all transactions are over. Where they aren't within the patience, ends it all the same and raises
+        Overdue: the next session rolls them back."""
+        try:
+            with self.threads.all(time.monotonic() + self.patience):
+                self._leave()
+        except Overdue as error:
             self.coordinator.quit()
-            for lines in self._lines:
-                for line in lines:
-                    line.close()
+            raise Overdue(f"transactions were open for {self.patience} seconds after the end: they are rolled back") from error
+
+    def _leave(self) -> None:
+        with self._done_lock:
+            gtrids, self._done = self._done, []
+        self._finish(gtrids)
+        self.coordinator.quit()
+        for lines in self._lines:
+            for line in lines:
+                line.close()

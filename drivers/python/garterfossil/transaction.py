@@ -2,16 +2,29 @@
 
 from __future__ import annotations
 
-import enum
 import logging
+import time
 from types import TracebackType
-from typing import TYPE_CHECKING, Any, Callable, Dict, List, Optional, Sequence, Type
+from typing import TYPE_CHECKING, Callable, Dict, List, Optional, Set, Type, Union
 
-from .adapters.base import Result
+from .adapters.base import Options
+from .branch import Branch
 from .calls import Call
 from .codes import Code
-from .errors import ConnectionLost, CoordinatorGone, HeuristicEnd, OutcomeUnknown, RolledBack, Unexplained, XaError
-from .line import Line
+from .completion import Completion
+from .errors import (
+    PASSING,
+    ConnectionLost,
+    CoordinatorGone,
+    HeuristicEnd,
+    OutcomeUnknown,
+    RolledBack,
+    TimedOut,
+    TransactionOver,
+    Unexplained,
+    XaError,
+)
+from .outcomes import Outcome
 from .xid import FORMAT, Xid
 
 if TYPE_CHECKING:
@@ -19,144 +32,10 @@ if TYPE_CHECKING:
 
 log = logging.getLogger("garterfossil")
 
-#: For so many seconds a rollback is tried, before it is left to the recovery.
-ROLLBACK_PATIENCE = 2.0
-
-
-class Outcome(enum.Enum):
-    """How a transaction stands."""
-
-    OPEN = "open"
-    COMMITTED = "committed"
-    ROLLED_BACK = "rolled back"
-    UNKNOWN = "unknown"
-
-
-class Branch:
-    """The part of a transaction at one database. A transaction gives it out (`t[0]`), and ends it."""
-
-    def __init__(self, line: Line, name: bytes, gtrid: str, thread: int):
-        line.make_ready()
-        self.xid = Xid(FORMAT, name + bytes.fromhex(gtrid), thread.to_bytes(4, "big") + line.rm.number.to_bytes(4, "big"))
-        self.line = line
-        self._connection = line.connection
-        self._is_active = False
-        self._was_asked = False
-        #: Whether it voted to commit, and waits to be told.
-        self.is_prepared = False
-        #: What is odd about how it ended.
-        self.oddity: Optional[str] = None
-        self._is_over = False
-
-    def start(self) -> None:
-        """xa_start: work may begin."""
-        if self.line.start(Call("xa_start", self.xid)).code is not Code.OK:
-            self._is_over = True
-            raise XaError(f"database {self.line.rm.number} has a branch {self.xid} already, of another log")
-        self._is_active = True
-
-    def execute(self, statement: str, parameters: Sequence[Any] = ()) -> Result:
-        """Does a statement. What the database has against it is raised as its module raises it, and then the transaction
-        can only be rolled back. Raises ConnectionLost where the connection is lost: then that, too."""
-        return self.line.execute(statement, parameters)
-
-    @property
-    def fault(self) -> Optional[str]:
-        """Why the branch can only be rolled back, if so."""
-        if self._is_over:
-            return f"there is no branch at database {self.line.rm.number}"
-        if self._is_lost:
-            return f"the connection to database {self.line.rm.number} was lost"
-        fault = self._connection.fault
-        return None if fault is None else f"work at database {self.line.rm.number} failed: {fault.name}"
-
-    @property
-    def _is_lost(self) -> bool:
-        """Whether it was started on a connection that the line has no more."""
-        return self.line.connection is not self._connection
-
-    def give_up(self) -> None:
-        """xa_end of a branch that is to be rolled back, if work may still go on."""
-        if self._is_active and not self._is_lost:
-            self._is_active = False
-            self.line.call(Call("xa_end", self.xid, ("TMFAIL",)))
-
-    def issue_prepare(self) -> None:
-        """Issues xa_end and xa_prepare."""
-        self._was_asked = True
-        self.line.issue(self._end, self._prepare)
-
-    def prepare(self) -> Code:
-        """xa_end and xa_prepare, which wait: the vote. But for OK the branch is over."""
-        self._make_end()
-        vote = self.line.make(self._prepare).code
-        self.is_prepared = vote is Code.OK
-        self._is_over = not self.is_prepared
-        return vote
-
-    def issue_commit_in_one_phase(self) -> Call:
-        """xa_end, and an xa_commit without a vote that is yet to be made (`line.make`): then the database decides."""
-        call = Call("xa_commit", self.xid, ("TMONEPHASE",))
-        self.line.issue(self._end, call)
-        self._make_end()
-        return call
-
-    @property
-    def _end(self) -> Call:
-        return Call("xa_end", self.xid, ("TMSUCCESS",))
-
-    @property
-    def _prepare(self) -> Call:
-        return Call("xa_prepare", self.xid)
-
-    def _make_end(self) -> None:
-        self._is_active = False
-        self.line.make(self._end)
-
-    def issue_commit(self) -> None:
-        """Issues xa_commit of the prepared branch, if it has a connection."""
-        if self.line.connection is not None:
-            self.line.issue(Call("xa_commit", self.xid))
-
-    def take_back_commit(self) -> None:
-        """The xa_commit that was issued was refused, with the decision."""
-        if self.line.connection is not None:
-            self.line.take_back()
-
-    def commit(self) -> None:
-        """xa_commit of the prepared branch. Of any other answer than OK, also that the coordinator heard it."""
-        code = self._told(Call("xa_commit", self.xid), None)
-        if code is not Code.OK:
-            self.line.see_heard()
-        if code.is_heuristic:
-            self.oddity = code.name
-
-    def roll_back(self) -> None:
-        """xa_rollback, unless the branch is over. One that wasn't asked for its vote ended with its connection: that it did is
-        left to the next recovery to tell."""
-        if self._is_over:
-            return
-        self._is_over = True
-        if self._is_lost and not self._was_asked:
-            raise ConnectionLost(f"the connection to database {self.line.rm.number} was lost")
-        code = self._told(Call("xa_rollback", self.xid), ROLLBACK_PATIENCE)
-        if code.is_heuristic:
-            log.error("%s was to be rolled back: %s", self.xid, code.name)
-
-    def _told(self, call: Call, patience: Optional[float]) -> Code:
-        """The answer to a call that ends the branch. One that ended by itself is forgotten, once the coordinator has heard
-        how: its log has a record of it."""
-        code = self.line.insist(call, patience)
-        if code.is_heuristic:
-            self.line.see_heard()
-            self.line.call(Call("xa_forget", self.xid))
-        return code
-
-
 class _Commits:
-    """What is asked for behind the decision: that the branches commit, and the next transaction of the thread."""
+    """What is asked for with the decision: that the branches commit, and the next transaction of the thread."""
 
-    def __init__(self, session: Session, thread: int, branches: List[Branch]):
+    def __init__(self, session: Session, thread: int, branches: List[Completion]):
         self._session = session
         self._thread = thread
         self._branches = branches
@@ -174,31 +53,59 @@ class _Commits:
 class Transaction:
     """A global transaction: either all its branches are committed or all are rolled back.
 
-    `t[0]` is its branch at the first of the databases, which begins as it is first used. In a `with` block it is committed
-    at the end, and rolled back where an exception leaves the block."""
+    `t[0]` is its branch at the first of the databases, and `t["bank"]` at the one of that name. It begins as it is first used.
+    In a `with` block the transaction is committed at the end, and rolled back if an exception leaves the block."""
 
-    def __init__(self, session: Session, thread: int, gtrid: str):
+    def __init__(
+        self, session: Session, thread: int, gtrid: str, options: Options = Options(), timeout: Optional[float] = None
+    ):
         #: Its name: 32 hexadecimal digits.
         self.gtrid = gtrid
         self.outcome = Outcome.OPEN
+        #: Whether somebody had ended a branch of it by hand, against the outcome.
+        self.is_heuristic = False
+        #: The moment of the monotonic clock when it began.
+        self.begun = time.monotonic()
+        self._options = options
+        self._timeout = timeout
+        self._limit = None if timeout is None else self.begun + timeout
         self._session = session
         self._thread = thread
-        self._branches: Dict[int, Branch] = {}
+        self._branches: Dict[int, Completion] = {}
         # Why it can only be rolled back, where that isn't a branch's own matter.
-        self._fault: Optional[str] = None
+        self._fault: Optional[XaError] = None
+        # Why it was rolled back, as far as that has codes.
+        self._codes: Set[Code] = set()
 
-    def __getitem__(self, rm: int) -> Branch:
-        """The branch at a database, by the database's place among those of the manager, from 0."""
-        if rm not in self._branches:
-            self._require_open()
-            try:
-                branch = Branch(self._session.line(self._thread, rm), self._session.name, self.gtrid, self._thread)
-                self._branches[rm] = branch
-                branch.start()
-            except BaseException as error:
-                self._fault = f"no branch at database {rm}: {error}"
-                raise
-        return self._branches[rm]
+    def __repr__(self) -> str:
+        return f"<Transaction {self.gtrid}, {self.outcome.value}, at {len(self._branches)} databases>"
+
+    def __getitem__(self, key: Union[int, str]) -> Branch:
+        """The branch at a database: by its place among those of the manager, from 0, or by its name. Raises TransactionOver
+        after the end, and IndexError or KeyError if there is no such database."""
+        self._require_open()
+        self._require_time()
+        number = self._session.databases.number_of(key)
+        if number not in self._branches:
+            self._branches[number] = self._begin_branch(number)
+        return self._branches[number].branch
+
+    def _begin_branch(self, number: int) -> Completion:
+        label = self._session.databases.label(number)
+        try:
+            completion = Completion(self._session.line(self._thread, number), self._xid(number), self._options, self._limit)
+            # From now on it has to be ended, however far its beginning comes.
+            self._branches[number] = completion
+            completion.start()
+            return completion
+        except BaseException as error:
+            self._fault = XaError(f"no branch at {label}: {error}")
+            self._fault.__cause__ = error
+            raise
+
+    def _xid(self, number: int) -> Xid:
+        bqual = self._thread.to_bytes(4, "big") + number.to_bytes(4, "big")
+        return Xid(FORMAT, self._session.name + bytes.fromhex(self.gtrid), bqual)
 
     def __enter__(self) -> Transaction:
         return self
@@ -226,11 +133,14 @@ class Transaction:
                 call = branches[0].issue_commit_in_one_phase()
             else:
                 self._collect_votes(branches)
+        except RolledBack:
+            self._roll_back()
+            raise
         except XaError as error:
             self._roll_back()
             raise RolledBack(str(error)) from error
         if len(branches) == 1:
-            self._commit_in_one_phase(branches[0].line, call)
+            self._commit_in_one_phase(branches[0], call)
         else:
             self._commit_in_two_phases([branch for branch in branches if branch.is_prepared])
 
@@ -241,31 +151,66 @@ class Transaction:
 
     def _require_open(self) -> None:
         if self.outcome is not Outcome.OPEN:
-            raise XaError(f"the transaction is over: {self.outcome.value}")
+            raise TransactionOver(f"the transaction is over: {self.outcome.value}")
+
+    @property
+    def _is_late(self) -> bool:
+        return self._limit is not None and time.monotonic() >= self._limit
+
+    def _require_time(self) -> None:
+        if self._is_late:
+            raise TimedOut(f"the transaction has outlasted its {self._timeout} seconds")
+
+    @property
+    def is_worth_trying_again(self) -> bool:
+        """Whether it was rolled back, and for a reason of a moment, as a deadlock or a connection that was lost: then the same work may
+        go well the next time."""
+        return self.outcome is Outcome.ROLLED_BACK and bool(self._codes) and all(code in PASSING for code in self._codes)
 
     # ** the first phase
 
-    def _require_no_fault(self, branches: List[Branch]) -> None:
-        for fault in [self._fault, *(branch.fault for branch in branches)]:
+    def _require_no_fault(self, branches: List[Completion]) -> None:
+        if self._fault is not None:
+            raise self._fault
+        if self._is_late:
+            raise RolledBack(f"the transaction has outlasted its {self._timeout} seconds", code=Code.RBTIMEOUT)
+        for branch in branches:
+            fault = branch.fault
             if fault is not None:
-                raise XaError(fault)
+                raise self._refusal(branch, fault, branch.code)
 
-    def _collect_votes(self, branches: List[Branch]) -> None:
+    def _refusal(self, branch: Completion, text: str, code: Optional[Code]) -> RolledBack:
+        """Why the transaction is rolled back: what the database said is its cause."""
+        reason = branch.reason
+        said = "" if reason is None else f": {(str(reason).strip().splitlines() or [type(reason).__name__])[0]}"
+        error = RolledBack(f"{text}{said}", database=branch.line.rm.number, code=code)
+        error.__cause__ = reason
+        return error
+
+    def _collect_votes(self, branches: List[Completion]) -> None:
         for branch in branches:
             branch.issue_prepare()
         faults: List[XaError] = []
+        # Also after a no: the calls wait on the lines already.
+        ended = []
         for branch in branches:
-            # Also behind a no: the calls wait on the line already.
+            try:
+                branch.end()
+                ended.append(branch)
+            except XaError as error:
+                faults.append(error)
+        for branch in ended:
             try:
                 vote = branch.prepare()
                 if vote not in (Code.OK, Code.RDONLY):
-                    faults.append(XaError(f"database {branch.line.rm.number} voted {vote.name}"))
+                    faults.append(self._refusal(branch, f"{branch.line.rm.label} voted {vote.name}", vote))
             except XaError as error:
                 faults.append(error)
         if faults:
             raise faults[0]
 
-    def _commit_in_one_phase(self, line: Line, call: Call) -> None:
+    def _commit_in_one_phase(self, branch: Completion, call: Call) -> None:
+        line = branch.line
         self.outcome = Outcome.UNKNOWN
         try:
             self._session.begin_ahead(self._thread)
@@ -277,15 +222,16 @@ class Transaction:
         self.outcome = Outcome.COMMITTED if code is Code.OK else Outcome.ROLLED_BACK
         self._try(line.see_heard)
         if code is not Code.OK:
-            raise RolledBack(f"database {line.rm.number} answered {code.name}")
+            raise self._refusal(branch, f"{line.rm.label} answered {code.name}", code)
 
     # ** the second phase
 
-    def _commit_in_two_phases(self, prepared: List[Branch]) -> None:
+    def _commit_in_two_phases(self, prepared: List[Completion]) -> None:
         self.outcome = Outcome.UNKNOWN
         try:
             self._session.commits.decide(self.gtrid, _Commits(self._session, self._thread, prepared))
         except CoordinatorGone as error:
+            self._session.outcomes.ask(self.gtrid)
             raise OutcomeUnknown(f"{self.gtrid}: {error}") from error
         except XaError as error:
             # It was refused, and nothing has changed.
@@ -295,14 +241,18 @@ class Transaction:
         told = [branch for branch in prepared if self._is_done("xa_commit", branch, branch.commit)]
         if prepared and told == prepared:
             self._session.note_done(self.gtrid)
-        odd = [f"database {branch.line.rm.number}: {branch.oddity}" for branch in prepared if branch.oddity]
+        odd = [f"{branch.line.rm.label}: {branch.oddity}" for branch in prepared if branch.oddity]
         if odd:
-            raise HeuristicEnd(f"{self.gtrid} is committed, but not everywhere: {'; '.join(odd)}")
+            self.is_heuristic = True
+            text = f"{self.gtrid} is committed, but not everywhere: {'; '.join(odd)}"
+            log.error("%s: look at what each database holds, and do by hand what is missing", text)
+            raise HeuristicEnd(text)
 
     def _roll_back(self) -> None:
         """Ends each branch by a rollback. Nothing of it is in the log."""
         self.outcome = Outcome.ROLLED_BACK
         branches = list(self._branches.values())
+        self._note_codes(branches)
         for branch in branches:
             self._try(branch.give_up)
         self._try(lambda: self._session.roll_back(self.gtrid))
@@ -310,7 +260,15 @@ class Transaction:
         for branch in told:
             self._is_done("xa_rollback", branch, branch.line.see_heard)
 
-    def _is_done(self, name: str, branch: Branch, step: Callable[[], object]) -> bool:
+    def _note_codes(self, branches: List[Completion]) -> None:
+        codes = {branch.code for branch in branches}
+        if self._session.coordinator.is_gone or self._fault is not None and isinstance(self._fault.__cause__, ConnectionLost):
+            codes.add(Code.RBCOMMFAIL)
+        if self._is_late:
+            codes.add(Code.RBTIMEOUT)
+        self._codes = {code for code in codes if code is not None}
+
+    def _is_done(self, name: str, branch: Completion, step: Callable[[], object]) -> bool:
         """Does a step of the end of a branch, by the call of this name. What can't be done now is left to the next recovery
         there."""
         try:

@@ -1,8 +1,11 @@
 """A database in memory, of which a test says what goes wrong."""
 
-from garterfossil.adapters.base import Connection, Database, Result
+import socket
+
+from garterfossil.adapters.base import Connection, Database, Place, Result
 from garterfossil.codes import Code
 from garterfossil.errors import ConnectionLost
+from garterfossil.statements import POSTGRESQL
 
 
 class FakeDatabase(Database):
@@ -17,20 +20,31 @@ class FakeDatabase(Database):
         self.next = {}
         self.calls = []
         self.connections = []
+        #: Why nobody may have a connection.
+        self.refuses = None
+        #: How each branch was to run.
+        self.modes = []
 
-    def connect(self):
+    def connect(self, place=Place()):
+        if self.refuses:
+            raise self.refuses
         if not self.is_up:
             raise ConnectionLost("the database is down")
-        connection = FakeConnection(self)
+        connection = FakeConnection(self, place)
         self.connections.append(connection)
         connection.number = len(self.connections)
         return connection
 
-    def end_connections(self, kept):
+    def end_connections(self, kept, place=Place()):
         if not self.is_up:
             raise ConnectionLost("the database is down")
-        for connection in self.connections:
-            connection.is_lost = connection.is_lost or connection.number not in kept
+        strays = [it for it in self.connections if not it.is_lost and same(it.place, place) and it.number not in kept]
+        for connection in strays:
+            connection.is_lost = True
+        return len(strays)
+
+    def called(self, name):
+        """A test may look on."""
 
     def crash(self):
         self.is_up = False
@@ -38,24 +52,77 @@ class FakeDatabase(Database):
             connection.is_lost = True
 
 
+def same(one, other):
+    return (one.manager, one.number) == (other.manager, other.number)
+
+
 class WrongStatement(Exception):
     """What the database's own module would raise."""
 
 
+class FakeLink:
+    """The module's own connection, and its cursors."""
+
+    Error = WrongStatement
+    autocommit = True
+    encoding = "UTF8"
+
+    def __init__(self, connection):
+        self.connection = connection
+        self.description, self.rowcount, self.rows, self.arraysize = None, -1, [], 1
+
+    def cursor(self):
+        return FakeLink(self.connection)
+
+    def execute(self, statement, parameters=()):
+        self.rowcount = self.connection.written(statement).rowcount
+        self.description, self.rows = [("statement",)], [(statement,)]
+
+    def executemany(self, statement, rows):
+        for row in rows:
+            self.execute(statement % row)
+
+    def fetchone(self):
+        return self.rows.pop() if self.rows else None
+
+    def __iter__(self):
+        return iter(self.fetchone, None)
+
+    def commit(self):
+        self.connection.database.calls.append("commit of the module")
+
+    rollback = close = commit
+
+
 class FakeConnection(Connection):
-    def __init__(self, database):
-        super().__init__()
+    TEXTS = POSTGRESQL
+    SHOWN = frozenset(["encoding"])
+
+    def __init__(self, database, place):
+        self.socket, self.server = socket.socketpair()
+        super().__init__(FakeLink(self), place)
         self.database = database
         self.is_lost = False
-        self.work = []
+        self.statements = []
 
-    def close(self):
+    def _descriptor(self):
+        return self.socket.fileno()
+
+    def hang_up(self):
+        """The database ends the connection by itself."""
+        self.server.close()
         self.is_lost = True
+
+    def _close(self):
+        self.is_lost = True
+        self.socket.close()
+        self.server.close()
 
     def told(self, name, xid, done=lambda: None):
         """Does a call, unless the test has something else for it."""
         if self.is_lost:
             raise ConnectionLost("the connection is gone")
+        self.database.called(name)
         self.database.calls.append(f"{name} {xid}")
         wanted = self.database.next.pop(name, Code.OK)
         if wanted == "lost":
@@ -72,25 +139,31 @@ class FakeConnection(Connection):
         raise NotImplementedError
 
     def _work(self, statement, parameters):
+        return self.written(statement)
+
+    def written(self, statement):
         self.told("work", statement)
         if statement == "wrong":
-            self._fault = Code.RBINTEGRITY
             raise WrongStatement(statement)
-        self.work.append(statement)
+        self.statements.append(statement)
         return Result([], 1)
 
+    def _vote_of(self, error):
+        return Code.RBINTEGRITY if isinstance(error, WrongStatement) else None
+
     def _start(self, xid):
-        self.work = []
+        self.statements = []
+        self.database.modes.append(self.options.modes)
         return self.told("start", xid)
 
     def _end(self, xid):
         self.told("end", xid)
 
     def _prepare(self, xid):
-        return self.told("prepare", xid, lambda: self.database.prepared.update({xid: self.work}))
+        return self.told("prepare", xid, lambda: self.database.prepared.update({xid: self.statements}))
 
     def _commit_in_one_phase(self, xid):
-        return self.told("commit_in_one_phase", xid, lambda: self.database.written.extend(self.work))
+        return self.told("commit_in_one_phase", xid, lambda: self.database.written.extend(self.statements))
 
     def _roll_back(self, xid):
         self.told("roll_back", xid)

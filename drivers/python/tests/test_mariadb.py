@@ -3,6 +3,7 @@ XAER_NOTA for a prepared branch whose connection lives, and it prepares what is 
 
 import os
 import re
+import socket
 import sys
 import tempfile
 import types
@@ -21,6 +22,7 @@ XID = "7:00000000000000010000000000000001:0000000000000000"
 
 pymysql = types.ModuleType("pymysql")
 pymysql.err = types.ModuleType("pymysql.err")
+pymysql.cursors = types.SimpleNamespace(Cursor=None)
 
 
 class MySQLError(Exception):
@@ -37,6 +39,8 @@ class Server:
 
     def __init__(self):
         self.branches, self.links, self.fails, self.done = {}, {}, {}, []
+        #: By its name, the connection that holds a lock.
+        self.locks = {}
 
     def connect(self, **parameters):
         link = Link(self, len(self.links) + 1)
@@ -46,6 +50,8 @@ class Server:
     def end(self, link):
         """A connection ends: its prepared branch can be ended from any other one."""
         self.links.pop(link.number, None)
+        link.other_end.close()
+        self.locks = {name: holder for name, holder in self.locks.items() if holder is not link}
         for text, (state, owner) in list(self.branches.items()):
             if owner is link:
                 if state == "PREPARED":
@@ -57,14 +63,16 @@ class Server:
 class Link:
     def __init__(self, server, number):
         self.server, self.number, self.statements = server, number, []
+        self._sock, self.other_end = socket.socketpair()
 
     def thread_id(self):
         return self.number
 
     def close(self):
         self.server.end(self)
+        self._sock.close()
 
-    def cursor(self):
+    def cursor(self, kind=None):
         return Cursor(self)
 
 
@@ -94,10 +102,12 @@ class Cursor:
         xa = re.fullmatch(r"XA (\w+) (X'.*?',X'.*?',7)( ONE PHASE)?", statement)
         if statement == "XA RECOVER FORMAT='SQL'":
             self.rows = [(7, 16, 8, text) for text, (state, _) in self.server.branches.items() if state == "PREPARED"]
-        elif statement == "SELECT USER()":
-            self.rows = [("bank@localhost",)]
-        elif statement.startswith("SELECT id FROM information_schema.processlist"):
-            self.rows = [(number,) for number in self.server.links]
+        elif statement.startswith("SELECT GET_LOCK("):
+            name = statement.split("'")[1]
+            self.rows = [(int(self.server.locks.setdefault(name, self.link) is self.link),)]
+        elif statement.startswith("SELECT IS_USED_LOCK("):
+            holders = [self.server.locks.get(name) for name in statement.split("'")[1::2]]
+            self.rows = [tuple(holder and holder.number for holder in holders)]
         elif statement.startswith("KILL CONNECTION "):
             self.server.end(self.server.links[int(statement.split(" ")[2])])
         elif xa:
@@ -238,7 +248,7 @@ class Recovery(unittest.TestCase):
                     t[0].execute("UPDATE account")
                     t[1].execute("give")
                     # It would close its connections; a frozen one doesn't.
-                    frozen, t[0].line.close = t[0].line.connection, lambda: None
+                    frozen, t[0]._line.close = t[0]._line.connection, lambda: None
             self.assertEqual([state for state, owner in server.branches.values()], ["PREPARED"])
             self.assertIn(frozen.number, server.links)
             with manager:

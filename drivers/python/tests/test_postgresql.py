@@ -1,5 +1,6 @@
 """PostgreSQL's adapter, over a stand-in for psycopg2 that says what PostgreSQL says."""
 
+import socket
 import sys
 import types
 import unittest
@@ -17,6 +18,8 @@ IDLE, IN_TRANSACTION, IN_FAILED = 0, 2, 3
 psycopg2 = types.ModuleType("psycopg2")
 extensions = types.ModuleType("psycopg2.extensions")
 extensions.TRANSACTION_STATUS_IDLE, extensions.TRANSACTION_STATUS_INERROR = IDLE, IN_FAILED
+psycopg2.extensions = extensions
+extensions.cursor = object
 
 
 class Error(Exception):
@@ -26,7 +29,7 @@ class Error(Exception):
 
 
 psycopg2.Error = Error
-for name in ("OperationalError", "ProgrammingError", "IntegrityError"):
+for name in ("DatabaseError", "OperationalError", "ProgrammingError", "IntegrityError"):
     setattr(psycopg2, name, type(name, (Error,), {}))
 
 
@@ -37,6 +40,10 @@ class Link:
         self.says = {"SHOW": [("64",)], "SELECT pg_current": [("700",)]}
         self.statements = []
         self.status, self.closed = IDLE, 0
+        self.socket, self.server = socket.socketpair()
+
+    def fileno(self):
+        return self.socket.fileno()
 
     def get_backend_pid(self):
         return 4711
@@ -46,8 +53,10 @@ class Link:
 
     def close(self):
         self.closed = 1
+        self.socket.close()
+        self.server.close()
 
-    def cursor(self):
+    def cursor(self, name=None, cursor_factory=None):
         return Cursor(self)
 
 
@@ -88,6 +97,7 @@ class PostgreSQLs(unittest.TestCase):
         patch.start()
         self.addCleanup(patch.stop)
         self.connection = PostgreSQL("dbname=bank").connect()
+        self.addCleanup(self.connection.close)
         del self.link.statements[:]
 
     def do(self, text):
@@ -169,7 +179,7 @@ class PostgreSQLs(unittest.TestCase):
         with self.assertRaises(psycopg2.OperationalError):
             self.connection.execute("UPDATE account")
 
-    def test_a_statement_that_ends_the_transaction(self):
+    def test_a_statement_that_ended_the_transaction(self):
         self.do(f"xa_start {XID}")
         with self.assertRaises(ConnectionLost):
             self.connection.execute("COMMIT")

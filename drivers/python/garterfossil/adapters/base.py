@@ -3,14 +3,21 @@
 from __future__ import annotations
 
 import abc
+import contextlib
 import enum
+import threading
+import time
 from dataclasses import dataclass
-from typing import Any, Collection, Iterable, Iterator, List, Optional, Sequence, Tuple
+from typing import Any, Callable, Collection, FrozenSet, Iterable, Iterator, List, Optional, Sequence, Tuple, TypeVar
 
 from ..calls import Answer, Call
 from ..codes import Code
-from ..errors import ConnectionLost, Unanswered, XaError
-from ..xid import Xid
+from ..errors import ConnectionLost, TransactionOver, Unanswered, XaError
+from ..statements import Texts
+from ..watch import Wire
+from ..xid import FORMAT, Xid
+
+T = TypeVar("T")
 
 
 @dataclass(frozen=True)
@@ -34,28 +41,76 @@ class State(enum.Enum):
     PREPARED = enum.auto()
 
 
+@dataclass(frozen=True)
+class Place:
+    """The place that a database has at a transaction manager: what tells the manager's branches and connections there from
+    those of others."""
+
+    #: The manager's name, if it has one.
+    manager: str = ""
+    #: The database's number, by which the coordinator knows it.
+    number: int = 0
+    #: How many transactions the manager runs at once.
+    threads: int = 1
+    #: For how many seconds the database is waited for.
+    patience: float = 30.0
+
+    def owns(self, xid: Xid) -> bool:
+        """Whether the branch is the manager's, at this database. A server may list those of its other databases, too."""
+        name = self.manager.encode("ascii")
+        return (
+            xid.format == FORMAT
+            and len(xid.gtrid) == len(name) + 16
+            and xid.gtrid.startswith(name)
+            and len(xid.bqual) == 8
+            and xid.bqual[4:] == self.number.to_bytes(4, "big")
+        )
+
+
+#: The levels of isolation that SQL has.
+ISOLATIONS = ("read uncommitted", "read committed", "repeatable read", "serializable")
+
+
+@dataclass(frozen=True)
+class Options:
+    """How the transactions of a branch are to run at the database."""
+
+    #: One of SQL's levels of isolation. None for the database's own.
+    isolation: Optional[str] = None
+    #: Whether the database is to refuse what writes.
+    read_only: bool = False
+
+    def __post_init__(self) -> None:
+        if self.isolation is not None and self.isolation not in ISOLATIONS:
+            raise ValueError(f"isolation: one of {', '.join(ISOLATIONS)}, not {self.isolation!r}")
+
+    @property
+    def modes(self) -> List[str]:
+        """SQL's words for them."""
+        level = [f"ISOLATION LEVEL {self.isolation.upper()}"] if self.isolation else []
+        return [*level, "READ ONLY"] if self.read_only else level
+
+
 class Database(abc.ABC):
     """A database that takes part in transactions: how it is reached. Its methods may be called by any thread."""
 
     @abc.abstractmethod
-    def connect(self) -> Connection:
-        """A new connection. Raises ConnectionLost where there is none to be had."""
+    def connect(self, place: Place = Place()) -> Connection:
+        """A new connection. Raises ConnectionLost if there is none to be had now, and SetupError if there never will be, as
+        with a wrong password."""
 
-    def can_be_reached(self) -> bool:
+    def can_be_reached(self, place: Place = Place()) -> bool:
         """Whether a connection is to be had."""
         try:
-            self.connect().close()
+            self.connect(place).close()
         except ConnectionLost:
             return False
         return True
 
-    def belong_to(self, name: str) -> None:
-        """The driver's coordinator has this name, or none: `end_connections` ends no connections of drivers of another name."""
-
     @abc.abstractmethod
-    def end_connections(self, kept: Collection[int]) -> None:
-        """Ends all connections that drivers have to this database but those of these numbers, and waits until they are gone:
-        what they had under way can't happen any more. Raises ConnectionLost where that can't be done."""
+    def end_connections(self, kept: Collection[int], place: Place = Place()) -> int:
+        """Ends all connections of this place except those of these numbers, and waits until they are gone: what they had under
+        way can't happen any more. How many it ended. Raises ConnectionLost if that can't be done."""
 
 
 class Connection(abc.ABC):
@@ -66,23 +121,100 @@ class Connection(abc.ABC):
 
     #: The number by which the database knows the connection.
     number: int
+    #: How the database reads the text of a statement.
+    TEXTS: Texts
+    #: What a program may read of the module's own connection, or call of it: nothing of it changes a transaction or a session.
+    SHOWN: FrozenSet[str] = frozenset()
 
-    def __init__(self) -> None:
+    def __init__(self, link: Any = None, place: Place = Place()) -> None:
+        #: The module's own connection.
+        self.link = link
+        self.place = place
+        #: For the next branch: how it is to run, and until which moment of the monotonic clock it may.
+        self.options = Options()
+        self.limit: Optional[float] = None
+        descriptor = self._descriptor()
+        self._wire = None if descriptor is None else Wire(descriptor)
+        # Held while something is done on the connection: a branch that another thread has kept waits, and then isn't the one.
+        self._lock = threading.RLock()
         self._xid: Optional[Xid] = None
         self._state = State.NONE
         #: Why the branch can only be rolled back, if its work failed.
         self._fault: Optional[Code] = None
+        #: The database's own error because of which it can, or because of which the last branch was rolled back.
+        self.reason: Optional[BaseException] = None
         #: The identifier behind which the next page of a scan begins. None where no scan is open.
         self._scanned: Optional[Tuple[Any, ...]] = None
 
     # ** work
 
     def execute(self, statement: str, parameters: Sequence[Any] = ()) -> Result:
-        """Does a statement in the branch. A database's own error is raised as it is; the branch can then only be rolled
-        back, also where the database itself would go on."""
-        if self._state is not State.ACTIVE:
-            raise XaError("the connection has no branch that is active")
-        return self._work(statement, parameters)
+        """Does a statement in the branch that is active. A database's own error is raised as it is; the branch can then only be
+        rolled back, also where the database itself would go on."""
+        return self.work(self._xid, lambda: self._work(statement, parameters))
+
+    def work(self, xid: Optional[Xid], step: Callable[[], T]) -> T:
+        """Does a step of the work on a branch. Raises TransactionOver, and does nothing, unless it is this branch that is active
+        on the connection."""
+        with self._lock:
+            if not self.is_active(xid):
+                raise TransactionOver("the branch is over, or work on it is")
+            with self.timed(None if self.limit is None else max(0.0, self.limit - time.monotonic())):
+                return self._worked(step)
+
+    def _worked(self, step: Callable[[], T]) -> T:
+        try:
+            done = step()
+        except XaError:
+            raise
+        except Exception as error:
+            if self._is_lost(error):
+                raise ConnectionLost(str(error).strip()) from error
+            vote = self._vote_of(error)
+            if vote is not None:
+                self._fault, self.reason = vote, error
+            raise
+        self._see_branch()
+        return done
+
+    @contextlib.contextmanager
+    def timed(self, seconds: Optional[float]) -> Iterator[None]:
+        """What is done here ends after so many seconds: the connection is cut off then, and ConnectionLost is raised."""
+        wire = self._wire
+        if wire is None or seconds is None or wire.due is not None:
+            yield
+            return
+        wire.due = time.monotonic() + seconds
+        try:
+            yield
+        except ConnectionLost as error:
+            if wire.is_cut:
+                raise ConnectionLost(f"no answer came in {seconds:.1f} seconds, and the connection was given up") from error
+            raise
+        finally:
+            wire.due = None
+
+    def is_there(self) -> bool:
+        """Whether the database hasn't ended the connection, as far as is known without asking it."""
+        return self._wire is None or self._wire.is_there()
+
+    def close(self) -> None:
+        """Closes the connection. Raises nothing."""
+        self._close()
+        if self._wire is not None:
+            self._wire.close()
+
+    def is_active(self, xid: Optional[Xid]) -> bool:
+        """Whether work on this branch is under way on the connection."""
+        return self._state is State.ACTIVE and xid == self._xid
+
+    def cursor(self, *words: Any, **options: Any) -> Any:
+        """A cursor of the module, for the work of a program."""
+        return self.link.cursor(*words, **options)
+
+    def text_of(self, statement: Any) -> str:
+        """The text of a statement, which the module may take in other forms."""
+        return statement.decode("utf-8", "replace") if isinstance(statement, (bytes, bytearray)) else str(statement)
 
     @property
     def has_branch(self) -> bool:
@@ -98,9 +230,10 @@ class Connection(abc.ABC):
 
     def do(self, call: Call) -> Answer:
         """Does a call of XA."""
-        if call.name == "xa_recover":
-            return self._recover(call)
-        return Answer(self._on_branch(call, call.xid))
+        with self._lock, self.timed(self.place.patience):
+            if call.name == "xa_recover":
+                return self._recover(call)
+            return Answer(self._on_branch(call, call.xid))
 
     def _on_branch(self, call: Call, xid: Xid) -> Code:
         if call.name == "xa_start":
@@ -121,7 +254,7 @@ class Connection(abc.ABC):
             raise Unanswered("the connection has another branch")
         code = self._start(xid)
         if code is Code.OK:
-            self._xid, self._state, self._fault = xid, State.ACTIVE, None
+            self._xid, self._state, self._fault, self.reason = xid, State.ACTIVE, None, None
         return code
 
     def _end_branch(self, xid: Xid, is_failed: bool) -> Code:
@@ -177,26 +310,36 @@ class Connection(abc.ABC):
 
     def _is_over(self) -> None:
         self._xid, self._state, self._fault = None, State.NONE, None
+        self.options, self.limit = Options(), None
 
     def _recover(self, call: Call) -> Answer:
-        """The next page of the scan, in the order of the identifiers."""
+        """The next page of the scan, in the order of the identifiers. It has the branches of the connection's own place."""
         if "TMSTARTRSCAN" in call.flags:
             self._scanned = ()
         if self._scanned is None or call.count < 0:
             raise Unanswered("no scan is open")
-        behind = sorted(xid for xid in self._listed() if (xid.format, xid.gtrid, xid.bqual) > self._scanned)
-        page = tuple(behind[: call.count])
+        rest = sorted(xid for xid in self.listed() if (xid.format, xid.gtrid, xid.bqual) > self._scanned)
+        page = tuple(rest[: call.count])
         if page:
             self._scanned = (page[-1].format, page[-1].gtrid, page[-1].bqual)
         if "TMENDRSCAN" in call.flags:
             self._scanned = None
         return Answer(page=page)
 
+    def listed(self) -> List[Xid]:
+        """The prepared branches of the connection's own place."""
+        return [xid for xid in self._listed() if self.place.owns(xid)]
+
     # ** what a kind of database gives
 
     @abc.abstractmethod
-    def close(self) -> None:
-        """Closes the connection. Raises nothing."""
+    def _close(self) -> None:
+        """Closes the module's connection. Raises nothing."""
+
+    def _descriptor(self) -> Optional[int]:
+        """The descriptor of the connection's socket, by which it is cut off if no answer comes in time. None if it isn't known: then
+        the module has to see to that."""
+        return None
 
     @abc.abstractmethod
     def run(self, statement: str, parameters: Sequence[Any] = ()) -> Result:
@@ -205,7 +348,18 @@ class Connection(abc.ABC):
 
     @abc.abstractmethod
     def _work(self, statement: str, parameters: Sequence[Any]) -> Result:
-        """Does a statement in the branch, and notes in `_fault` that it failed."""
+        """Does a statement in the branch."""
+
+    def _is_lost(self, error: Exception) -> bool:
+        """Whether an error of the module says that the connection is lost."""
+        return False
+
+    def _vote_of(self, error: Exception) -> Optional[Code]:
+        """Why a branch is to be rolled back of which some work failed so. None if the error isn't the database's."""
+        return None
+
+    def _see_branch(self) -> None:
+        """Sees that a step of work has left the branch as it was. Raises ConnectionLost if it hasn't."""
 
     @abc.abstractmethod
     def _start(self, xid: Xid) -> Code:

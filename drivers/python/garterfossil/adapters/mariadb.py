@@ -2,13 +2,15 @@
 
 from __future__ import annotations
 
+import math
 import time
-from typing import Any, Collection, List, Sequence, Tuple
+from typing import Any, Collection, List, Optional, Sequence, Set, Tuple
 
 from ..codes import Code
-from ..errors import ConnectionLost, Unanswered
+from ..errors import ConnectionLost, SetupError, Unanswered
+from ..statements import MARIADB
 from ..xid import Xid
-from .base import Connection, Database, Result, xids_in
+from .base import Connection, Database, Place, Result, xids_in
 
 #: Errors of MariaDB by their number.
 NO_SUCH_BRANCH, IN_ANOTHER_STATE, IN_USE = 1397, 1399, 1440
@@ -26,84 +28,155 @@ VOTES = {
 LOST = frozenset([0, 1053, 1317, 1927, 2003, 2006, 2013, 2014, 2055])
 
 
+#: How MariaDB refuses a user, a password, a database or a privilege.
+REFUSALS = frozenset([1044, 1045, 1049, 1130, 1142, 1227, 1698])
+#: A place has so many named locks at most: each of its connections holds one.
+LOCKS = 512
+#: What PyMySQL's own connection shows to a program.
+SHOWN = frozenset(
+    "affected_rows character_set_name charset cursorclass db encoding escape escape_string get_autocommit get_host_info"
+    " get_proto_info get_server_info host insert_id literal open port server_status server_version show_warnings thread_id user"
+    .split()
+)
+
+
 class MariaDB(Database):
     """A database of MariaDB, whose tables are InnoDB's.
 
-    `parameters` are those of pymysql.connect. The user is the driver's alone: all other connections of it are taken for
-    those of earlier drivers, and are ended. `lock_timeout` is for how many seconds a statement waits for a lock: no database
-    sees a deadlock that goes over two of them."""
+    `parameters` are those of pymysql.connect. The driver knows its own connections by a named lock (GET_LOCK) that each of them
+    holds. `lock_timeout` is for how many seconds a statement waits for a lock: no database sees a deadlock that goes over two of
+    them."""
 
     def __init__(self, *, lock_timeout: int = 10, **parameters: Any):
+        if "autocommit" in parameters:
+            raise ValueError("autocommit is the driver's own: a branch begins and ends its transaction")
         self._parameters = parameters
         self._lock_timeout = lock_timeout
 
-    def connect(self) -> MariaDBConnection:
-        import pymysql
+    def __repr__(self) -> str:
+        shown = {word: value for word, value in self._parameters.items() if word in ("host", "port", "unix_socket", "user", "database", "db")}
+        return f"MariaDB({', '.join(f'{word}={value!r}' for word, value in shown.items())})"
 
-        try:
-            link = pymysql.connect(autocommit=True, **self._parameters)
-        except (pymysql.err.MySQLError, OSError) as error:
-            raise ConnectionLost(str(error)) from error
-        return MariaDBConnection(link, self._lock_timeout)
+    def connect(self, place: Place = Place()) -> MariaDBConnection:
+        connection = MariaDBConnection(self._link(place), self._lock_timeout, place)
+        with connection.timed(place.patience):
+            connection.take_lock()
+        return connection
 
-    def end_connections(self, kept: Collection[int]) -> None:
-        connection = self.connect()
+    def end_connections(self, kept: Collection[int], place: Place = Place()) -> int:
+        connection = MariaDBConnection(self._link(place), self._lock_timeout, place)
         try:
-            connection.end_others(kept)
+            with connection.timed(place.patience):
+                return connection.end_others(kept)
         finally:
             connection.close()
+
+    def _link(self, place: Place) -> Any:
+        import pymysql
+
+        seconds = max(2, math.ceil(place.patience))
+        waits = {"connect_timeout": seconds, "read_timeout": seconds, "write_timeout": seconds}
+        try:
+            link = pymysql.connect(autocommit=True, **{**waits, **self._parameters})
+            for word in ("read_timeout", "write_timeout"):
+                # They were for the greeting, which PyMySQL waits for by them alone. A statement may take longer.
+                setattr(link, f"_{word}", self._parameters.get(word))
+            return link
+        except (pymysql.err.MySQLError, OSError) as error:
+            if error.args and error.args[0] in REFUSALS:
+                raise SetupError(str(error)) from error
+            raise ConnectionLost(str(error)) from error
 
 
 class MariaDBConnection(Connection):
     """A connection to MariaDB. While it lives, no other one can end a branch that it prepared: the answer to that is
     XAER_NOTA, although XA RECOVER lists the branch."""
 
-    def __init__(self, link: Any, lock_timeout: int):
-        super().__init__()
-        self._link = link
-        self.number = link.thread_id()
-        self.run(f"SET innodb_lock_wait_timeout = {int(lock_timeout)}")
+    TEXTS = MARIADB
+    SHOWN = SHOWN
 
-    def close(self) -> None:
+    def __init__(self, link: Any, lock_timeout: int, place: Place = Place()):
+        super().__init__(link, place)
+        self.number = link.thread_id()
+        with self.timed(place.patience):
+            self.run(f"SET innodb_lock_wait_timeout = {int(lock_timeout)}")
+
+    def _descriptor(self) -> Optional[int]:
+        return int(self.link._sock.fileno())
+
+    def _close(self) -> None:
         import pymysql
 
         try:
-            self._link.close()
+            self.link.close()
         except (pymysql.err.MySQLError, OSError):
             pass
 
-    def end_others(self, kept: Collection[int]) -> None:
-        """Ends the connections of the user, but those that are kept, and waits for 20 seconds at most."""
+    # ** the connections of a place
+
+    def take_lock(self) -> None:
+        """Takes one of the place's named locks, by which the manager's next run knows the connection."""
+        # Mostly the first is free. Only where it isn't, all are looked at.
+        if self._takes(self.number % LOCKS):
+            return
+        if not any(self._takes(slot) for slot, holder in enumerate(self._holders()) if holder is None):
+            raise ConnectionLost(f"all {LOCKS} locks of the manager's connections are taken at MariaDB")
+
+    def _takes(self, slot: int) -> bool:
+        return self.run(f"SELECT GET_LOCK('{self._lock_name(slot)}', 0)").rows == [(1,)]
+
+    def _lock_name(self, slot: int) -> str:
+        # MariaDB doesn't tell capital letters from others here.
+        return f"garterfossil.{self.place.manager.encode('ascii').hex()}.{self.place.number}.{slot}"
+
+    def _holders(self) -> Sequence[Optional[int]]:
+        """The number of the connection that holds each lock of the place."""
+        return self.run("SELECT " + ", ".join(f"IS_USED_LOCK('{self._lock_name(slot)}')" for slot in range(LOCKS))).rows[0]
+
+    def end_others(self, kept: Collection[int]) -> int:
+        """Ends the connections of the place, except those that are kept, and waits for 20 seconds at most. How many there were."""
+        ended: Set[int] = set()
+        until = time.monotonic() + min(20, self.place.patience)
+        while True:
+            numbers = {number for number in self._holders() if number is not None and number not in kept}
+            if not numbers:
+                return len(ended)
+            if time.monotonic() >= until:
+                raise ConnectionLost("connections of an earlier driver stay at MariaDB")
+            for number in numbers:
+                self._end_connection(number)
+            ended |= numbers
+            time.sleep(0.02)
+
+    def _end_connection(self, number: int) -> None:
         import pymysql
 
-        user = self.run("SELECT USER()").rows[0][0].rpartition("@")[0]
-        until = time.monotonic() + 20
-        while time.monotonic() < until:
-            rows = self.run("SELECT id FROM information_schema.processlist WHERE user = %s", [user])
-            numbers = [number for number, in rows if number != self.number and number not in kept]
-            if not numbers:
-                return
-            for number in numbers:
-                try:
-                    self.run(f"KILL CONNECTION {int(number)}")
-                except pymysql.err.MySQLError as error:
-                    if error.args[0] != NO_SUCH_CONNECTION:
-                        raise
-            time.sleep(0.02)
-        raise ConnectionLost("connections of an earlier driver stay at MariaDB")
+        try:
+            self.run(f"KILL CONNECTION {int(number)}")
+        except pymysql.err.MySQLError as error:
+            if error.args[0] != NO_SUCH_CONNECTION:
+                raise SetupError(f"the user may not end connection {number}, which an earlier run of the manager left: {error}") from error
 
     # ** work
 
     def _work(self, statement: str, parameters: Sequence[Any]) -> Result:
+        return self.run(statement, parameters)
+
+    def _vote_of(self, error: Exception) -> Optional[Code]:
+        """MariaDB would prepare what is left of the branch, except after a deadlock."""
         import pymysql
 
-        try:
-            return self.run(statement, parameters)
-        except pymysql.err.MySQLError as error:
-            # MariaDB would prepare what is left of the branch, but after a deadlock.
-            is_broken = isinstance(error, pymysql.err.IntegrityError)
-            self._fault = Code.RBINTEGRITY if is_broken else VOTES.get(error.args[0], Code.RBOTHER)
-            raise
+        if not isinstance(error, pymysql.err.MySQLError) or not isinstance(error.args[0], int):
+            # PyMySQL's own: the server knows nothing of it.
+            return None
+        return Code.RBINTEGRITY if isinstance(error, pymysql.err.IntegrityError) else VOTES.get(error.args[0], Code.RBOTHER)
+
+    def _is_lost(self, error: Exception) -> bool:
+        import pymysql
+
+        if isinstance(error, (pymysql.err.InterfaceError, OSError)):
+            return True
+        return isinstance(error, pymysql.err.MySQLError) and (not error.args or error.args[0] in LOST)
 
     # ** calls
 
@@ -111,6 +184,8 @@ class MariaDBConnection(Connection):
         import pymysql
 
         try:
+            if self.options.modes:
+                self.run("SET TRANSACTION " + ", ".join(self.options.modes))
             self._xa("START", xid)
         except pymysql.err.MySQLError as error:
             if error.args[0] == IN_USE:
@@ -126,6 +201,7 @@ class MariaDBConnection(Connection):
         except pymysql.err.MySQLError as error:
             # A branch that was in a deadlock can only be rolled back, and says so here already. Its vote will tell.
             self._fault = self._fault or VOTES.get(error.args[0], Code.RBROLLBACK)
+            self.reason = self.reason or error
 
     def _prepare(self, xid: Xid) -> Code:
         import pymysql
@@ -136,6 +212,7 @@ class MariaDBConnection(Connection):
                 self._xa("PREPARE", xid)
                 return Code.OK
             except pymysql.err.MySQLError as error:
+                self.reason = error
                 vote = VOTES.get(error.args[0], Code.RBOTHER)
         self._roll_back(xid)
         return vote
@@ -151,6 +228,7 @@ class MariaDBConnection(Connection):
             self._xa("COMMIT", xid, " ONE PHASE")
         except pymysql.err.MySQLError as error:
             if error.args[0] in VOTES:
+                self.reason = error
                 return VOTES[error.args[0]]
             raise Unanswered(str(error)) from error
         return Code.OK
@@ -196,13 +274,12 @@ class MariaDBConnection(Connection):
         import pymysql
 
         try:
-            with self._link.cursor() as cursor:
+            # Whatever kind of cursor the program has asked for, its own rows are tuples.
+            with self.link.cursor(pymysql.cursors.Cursor) as cursor:
                 cursor.execute(statement, parameters or None)
                 return Result(list(cursor.fetchall()), cursor.rowcount)
-        except (pymysql.err.InterfaceError, OSError) as error:
-            raise ConnectionLost(str(error)) from error
-        except pymysql.err.MySQLError as error:
-            if not error.args or error.args[0] in LOST:
+        except (pymysql.err.MySQLError, OSError) as error:
+            if self._is_lost(error):
                 raise ConnectionLost(str(error)) from error
             raise
 

@@ -2,14 +2,17 @@
 
 from __future__ import annotations
 
+import math
+import re
 import time
 from dataclasses import dataclass
-from typing import Any, Collection, List, Optional, Sequence
+from typing import Any, Collection, List, Optional, Sequence, Set
 
 from ..codes import Code
 from ..errors import ConnectionLost, SetupError, Unanswered
+from ..statements import POSTGRESQL
 from ..xid import Xid
-from .base import Connection, Database, Result, xids_in
+from .base import Connection, Database, Place, Result, xids_in
 
 #: By the state of an error (SQLSTATE) why the branch was rolled back. All of class 23 break a constraint.
 VOTES = {
@@ -22,81 +25,122 @@ NO_SUCH_BRANCH = "42704"
 OTHER_DATABASE, OTHER_USER = "0A000", "42501"
 
 
+#: What the server says as it refuses a connection that it will go on to refuse. psycopg2 has no SQLSTATE of these.
+REFUSALS = re.compile(
+    r"authentication failed|role .* does not exist|database .* does not exist|no pg_hba\.conf entry|permission denied"
+    r"|is not permitted to log in|no password supplied|invalid (connection option|dsn)",
+    re.IGNORECASE,
+)
+#: What psycopg2's own connection shows to a program.
+SHOWN = frozenset(
+    "closed cursor_factory deferrable dsn encoding get_backend_pid get_dsn_parameters get_parameter_status get_transaction_status"
+    " info isolation_level notices notifies protocol_version readonly server_version status binary_types string_types".split()
+)
+
+
 class PostgreSQL(Database):
     """A database of PostgreSQL. Its setting `max_prepared_transactions` has to be at least the number of threads; the
     default is 0.
 
-    `dsn` and `parameters` are those of psycopg2.connect. `name` is the application_name of the driver's connections, behind
-    which the coordinator's name comes, if it has one: no other program uses that with the same user. `lock_timeout` is for how many seconds a statement waits for a lock: no
-    database sees a deadlock that goes over two of them."""
+    `dsn` and `parameters` are those of psycopg2.connect. `name` begins the application_name of the driver's connections, after
+    which come the manager's name, if it has one, and the database's number: no other program uses that with the same user.
+    `lock_timeout` is for how many seconds a statement waits for a lock: no database sees a deadlock that goes over two of them."""
 
     def __init__(self, dsn: str = "", *, name: str = "garterfossil", lock_timeout: float = 10.0, **parameters: Any):
+        for word, instead in (("application_name", "name"), ("async", "transaction_async of the manager"), ("async_", "threads")):
+            if word in parameters:
+                raise ValueError(f"{word} is the driver's own: give {instead}")
         self._dsn = dsn
         self._parameters = parameters
         self._name = name
         self._lock_timeout = lock_timeout
 
-    def belong_to(self, name: str) -> None:
-        if name:
-            self._name = f"{self._name} {name}"
+    def __repr__(self) -> str:
+        shown = re.sub(r"(password=)(\S+)|(://[^:/@]*:)[^@]*@", r"\1\3...", self._dsn)
+        return f"PostgreSQL({shown!r})"
 
-    def connect(self) -> PostgreSQLConnection:
-        return PostgreSQLConnection(self._link(self._name), self._lock_timeout)
+    def connect(self, place: Place = Place()) -> PostgreSQLConnection:
+        return PostgreSQLConnection(self._link(self._label(place), place), self._lock_timeout, place)
 
-    def end_connections(self, kept: Collection[int]) -> None:
-        connection = PostgreSQLConnection(self._link(f"{self._name} recovery"), self._lock_timeout)
+    def end_connections(self, kept: Collection[int], place: Place = Place()) -> int:
+        connection = PostgreSQLConnection(self._link(f"{self._label(place)} recovery", place), self._lock_timeout, place)
         try:
-            connection.end_others(self._name, kept)
+            with connection.timed(place.patience):
+                return connection.end_others(self._label(place), kept)
         finally:
             connection.close()
 
-    def _link(self, name: str) -> Any:
+    def _label(self, place: Place) -> str:
+        """The application_name of a place's connections."""
+        return " ".join(word for word in (self._name, place.manager, str(place.number)) if word)
+
+    def _link(self, label: str, place: Place) -> Any:
         import psycopg2
 
+        seconds = max(2, math.ceil(place.patience))
+        waits = {"connect_timeout": seconds, "tcp_user_timeout": 1000 * seconds}
+        given = {word: value for word, value in waits.items() if word not in self._dsn}
         try:
-            link = psycopg2.connect(self._dsn, application_name=name, **self._parameters)
+            link = psycopg2.connect(self._dsn, **{**given, **self._parameters}, application_name=label)
             link.autocommit = True
-        except psycopg2.OperationalError as error:
-            raise ConnectionLost(str(error).strip()) from error
+        except (psycopg2.OperationalError, psycopg2.ProgrammingError) as error:
+            said = str(error).strip()
+            if isinstance(error, psycopg2.ProgrammingError) or REFUSALS.search(said):
+                raise SetupError(said) from error
+            raise ConnectionLost(said) from error
         return link
 
 
 class PostgreSQLConnection(Connection):
     """A connection to PostgreSQL. A prepared branch is named by the text of its identifier. PostgreSQL has no xa_end."""
 
-    def __init__(self, link: Any, lock_timeout: float):
-        super().__init__()
-        self._link = link
-        self.number = link.get_backend_pid()
-        self.run(f"SET lock_timeout = {int(lock_timeout * 1000)}")
-        if self.run("SHOW max_prepared_transactions").rows == [("0",)]:
-            self.close()
-            raise SetupError("max_prepared_transactions of PostgreSQL is 0: set it to the number of threads or more")
+    TEXTS = POSTGRESQL
+    SHOWN = SHOWN
 
-    def close(self) -> None:
+    def __init__(self, link: Any, lock_timeout: float, place: Place = Place()):
+        super().__init__(link, place)
+        self.number = link.get_backend_pid()
+        # Whether psycopg2 takes the connection for one with a transaction of psycopg2's own.
+        self._is_begun = False
+        with self.timed(place.patience):
+            self.run(f"SET lock_timeout = {int(lock_timeout * 1000)}")
+            most = int(self.run("SHOW max_prepared_transactions").rows[0][0])
+        if most < place.threads:
+            self.close()
+            raise SetupError(
+                f"max_prepared_transactions of PostgreSQL is {most}: set it to {place.threads} or more, the number of threads"
+            )
+
+    def _descriptor(self) -> Optional[int]:
+        return int(self.link.fileno())
+
+    def _close(self) -> None:
         import psycopg2
 
         try:
-            self._link.close()
+            self.link.close()
         except psycopg2.Error:
             pass
 
-    def end_others(self, name: str, kept: Collection[int]) -> None:
-        """Ends the connections of this name, but those that are kept, and waits for 20 seconds at most."""
-        until = time.monotonic() + 20
-        while time.monotonic() < until:
+    def end_others(self, label: str, kept: Collection[int]) -> int:
+        """Ends the connections of this label, except those that are kept, and waits for 20 seconds at most. How many there were."""
+        ended: Set[int] = set()
+        until = time.monotonic() + min(20, self.place.patience)
+        while True:
             rows = self.run(
                 "SELECT pid FROM pg_stat_activity WHERE application_name = %s"
                 " AND usename = current_user AND datname = current_database()",
-                [name],
+                [label],
             )
             pids = [pid for pid, in rows if pid not in kept]
             if not pids:
-                return
+                return len(ended)
+            if time.monotonic() >= until:
+                raise ConnectionLost("connections of an earlier driver stay at PostgreSQL")
             for pid in pids:
                 self.run("SELECT pg_terminate_backend(%s)", [pid])
+            ended.update(pids)
             time.sleep(0.02)
-        raise ConnectionLost("connections of an earlier driver stay at PostgreSQL")
 
     # ** work
 
@@ -104,27 +148,40 @@ class PostgreSQLConnection(Connection):
     def fault(self) -> Optional[Code]:
         from psycopg2.extensions import TRANSACTION_STATUS_INERROR
 
-        if self._link.get_transaction_status() != TRANSACTION_STATUS_INERROR:
+        if self.link.get_transaction_status() != TRANSACTION_STATUS_INERROR:
             return None
         return self._fault or Code.RBROLLBACK
 
+    def cursor(self, *words: Any, **options: Any) -> Any:
+        if (words and words[0] or options.get("name")) and not self._is_begun:
+            # psycopg2 streams rows only in a transaction that it takes for its own: it would send BEGIN, which the server meets
+            # with a warning.
+            self.link.autocommit = False
+            self._is_begun = True
+        return self.link.cursor(*words, **options)
+
+    def text_of(self, statement: Any) -> str:
+        if hasattr(statement, "as_string"):
+            return str(statement.as_string(self.link))
+        return super().text_of(statement)
+
     def _work(self, statement: str, parameters: Sequence[Any]) -> Result:
+        return self.run(statement, parameters)
+
+    def _vote_of(self, error: Exception) -> Optional[Code]:
         import psycopg2
 
-        try:
-            result = self.run(statement, parameters)
-        except psycopg2.Error as error:
-            self._fault = vote_of(error)
-            raise
+        return vote_of(error) if isinstance(error, psycopg2.Error) else None
+
+    def _see_branch(self) -> None:
         if self._is_idle():
-            raise ConnectionLost(f"the statement ended the branch's transaction, which is for the coordinator: {statement}")
-        return result
+            raise ConnectionLost("a statement ended the branch's transaction, which is for the coordinator")
 
     # ** calls
 
     def _start(self, xid: Xid) -> Code:
         # An identifier that is in use is found as the branch is prepared.
-        self.run("BEGIN")
+        self.run(" ".join(["BEGIN", ", ".join(self.options.modes)]).strip())
         return Code.OK
 
     def _end(self, xid: Xid) -> None:
@@ -139,6 +196,7 @@ class PostgreSQLConnection(Connection):
             # Of a transaction that failed PREPARE TRANSACTION makes a rollback, which only its tag tells.
             tag = self.run("PREPARE TRANSACTION %s", [str(xid)]).tag
         except psycopg2.Error as error:
+            self.reason = error
             self._see_rolled_back()
             return vote_of(error)
         return Code.OK if tag == "PREPARE TRANSACTION" else self._fault or Code.RBROLLBACK
@@ -157,6 +215,7 @@ class PostgreSQLConnection(Connection):
         try:
             tag = self.run("COMMIT").tag
         except psycopg2.Error as error:
+            self.reason = error
             self._see_rolled_back()
             return vote_of(error)
         return Code.OK if tag == "COMMIT" else self._fault or Code.RBROLLBACK
@@ -183,6 +242,23 @@ class PostgreSQLConnection(Connection):
             raise Unanswered(str(error).strip()) from error
         return Code.OK
 
+    def _is_over(self) -> None:
+        super()._is_over()
+        if self._is_begun:
+            self._leave_begun()
+
+    def _leave_begun(self) -> None:
+        """Has psycopg2 know that its transaction is over. To the server, which has none any more, the ROLLBACK does nothing."""
+        import psycopg2
+
+        self._is_begun = False
+        try:
+            self.link.rollback()
+            self.link.autocommit = True
+        except psycopg2.Error:
+            # It is lost, as what uses it next finds.
+            self.close()
+
     def _listed(self) -> List[Xid]:
         rows = self.run("SELECT gid FROM pg_prepared_xacts WHERE database = current_database()")
         return xids_in(gid for gid, in rows)
@@ -193,7 +269,8 @@ class PostgreSQLConnection(Connection):
         import psycopg2
 
         try:
-            with self._link.cursor() as cursor:
+            # Whatever kind of cursor the program has asked for, its own rows are tuples.
+            with self.link.cursor(cursor_factory=psycopg2.extensions.cursor) as cursor:
                 cursor.execute(statement, parameters or None)
                 rows = cursor.fetchall() if cursor.description else []
                 return Tagged(rows, cursor.rowcount, cursor.statusmessage)
@@ -202,22 +279,24 @@ class PostgreSQLConnection(Connection):
                 raise ConnectionLost(str(error).strip()) from error
             raise
 
-    def _is_lost(self, error: Any) -> bool:
-        """Whether the connection is lost: the error has no state, or says that PostgreSQL ends the connection. 57014 is of
-        one statement that was cancelled."""
+    def _is_lost(self, error: Exception) -> bool:
+        """Whether the connection is lost: it is closed, or PostgreSQL says that it ends it. 57014 is of one statement that was
+        cancelled. An error without a state is psycopg2's own; of those an OperationalError or a plain DatabaseError is a loss."""
         import psycopg2
 
+        if not isinstance(error, psycopg2.Error):
+            return False
         state = error.pgcode
-        if self._link.closed:
+        if self.link.closed:
             return True
         if state is None:
-            return not isinstance(error, psycopg2.ProgrammingError)
+            return type(error) in (psycopg2.OperationalError, psycopg2.DatabaseError, psycopg2.Error)
         return state[:2] in ("08", "57") and state != "57014"
 
     def _is_idle(self) -> bool:
         from psycopg2.extensions import TRANSACTION_STATUS_IDLE
 
-        return self._link.get_transaction_status() == TRANSACTION_STATUS_IDLE
+        return self.link.get_transaction_status() == TRANSACTION_STATUS_IDLE
 
 
 @dataclass(frozen=True)

@@ -1,0 +1,182 @@
+"""A branch of a transaction, as a program works with it: statements, cursors, and a connection of the database's own module."""
+
+from __future__ import annotations
+
+from types import TracebackType
+from typing import TYPE_CHECKING, Any, Callable, Iterator, Optional, Sequence, Type, TypeVar
+
+from .adapters.base import Connection, Result
+from .errors import ConnectionLost, EndRefused, TransactionOver
+from .xid import Xid
+
+if TYPE_CHECKING:
+    from .line import Line
+
+T = TypeVar("T")
+
+#: What a connection of a module has that ends a transaction, begins one, or goes round what looks at statements.
+REFUSED = frozenset(
+    "autocommit begin cancel change_user close commit kill ping query reset rollback select_db set_isolation_level set_session"
+    " tpc_begin tpc_commit tpc_prepare tpc_recover tpc_rollback".split()
+)
+#: Methods of a module's cursor whose first argument is the text of a statement.
+WITH_TEXT = frozenset("copy copy_expert execute executemany stream".split())
+END = object()
+
+
+class Branch:
+    """The part of a transaction at one database, as `t[0]` gives it.
+
+    It lives as long as its transaction: kept longer, all that it gave out raises TransactionOver and does nothing. A statement
+    that fails is raised as the database's module raises it, and then the transaction can only be rolled back. ConnectionLost is
+    raised if the connection is lost: then that, too. EndRefused is raised for a statement that would end the transaction; it
+    isn't sent."""
+
+    def __init__(self, line: Line, xid: Xid):
+        #: XA's identifier of the branch.
+        self.xid = xid
+        self._line = line
+        self._connection: Connection = line.connection
+        self._is_over = False
+
+    def __repr__(self) -> str:
+        return f"<Branch {self.xid} at {self._line.rm.label}, {'active' if self.is_active else 'over'}>"
+
+    @property
+    def is_active(self) -> bool:
+        """Whether statements can be done in it."""
+        return not self._is_over and self._line.connection is self._connection and self._connection.is_active(self.xid)
+
+    def execute(self, statement: str, parameters: Sequence[Any] = ()) -> Result:
+        """Does a statement: its rows, as tuples, and how many rows it changed or found."""
+        self._refuse_ends(statement)
+        return self._work(lambda: self._connection._work(statement, parameters))
+
+    def cursor(self, *words: Any, **options: Any) -> BranchCursor:
+        """A cursor of the database's module, made with the arguments that the module takes."""
+        return BranchCursor(self, self._work(lambda: self._connection.cursor(*words, **options)))
+
+    @property
+    def connection(self) -> BranchConnection:
+        """The connection of the database's module, without what would end the transaction."""
+        return BranchConnection(self)
+
+    def _work(self, step: Callable[[], T]) -> T:
+        if self._is_over:
+            raise TransactionOver(f"the branch at {self._line.rm.label} is over")
+        if self._line.connection is not self._connection:
+            raise ConnectionLost(f"the connection to {self._line.rm.label} was lost")
+        return self._line.work(self._connection, self.xid, step)
+
+    def _refuse_ends(self, statement: Any) -> None:
+        self._connection.TEXTS.refuse_ends(self._connection.text_of(statement))
+
+
+class BranchCursor:
+    """A cursor of the database's module in a branch: it has all that the module's has. What it read is its own, and may be looked at
+    at any time; all else needs the branch."""
+
+    def __init__(self, branch: Branch, cursor: Any):
+        object.__setattr__(self, "_branch", branch)
+        object.__setattr__(self, "_cursor", cursor)
+
+    def __repr__(self) -> str:
+        return f"<cursor of {self._branch!r}>"
+
+    @property
+    def connection(self) -> BranchConnection:
+        """The branch's connection."""
+        return self._branch.connection
+
+    def close(self) -> None:
+        """Closes the cursor. After the branch nothing is left to close."""
+        if self._branch.is_active:
+            self._branch._work(self._cursor.close)
+
+    def __getattr__(self, name: str) -> Any:
+        if name.startswith("_"):
+            raise AttributeError(f"{name} of a cursor isn't given out")
+        value = getattr(self._cursor, name)
+        return self._guarded(name, value) if callable(value) else value
+
+    def __setattr__(self, name: str, value: Any) -> None:
+        self._branch._work(lambda: setattr(self._cursor, name, value))
+
+    def _guarded(self, name: str, method: Callable[..., Any]) -> Callable[..., Any]:
+        def guarded(*words: Any, **options: Any) -> Any:
+            if name in WITH_TEXT and words:
+                self._branch._refuse_ends(words[0])
+            given = self._branch._work(lambda: method(*words, **options))
+            return self if given is self._cursor else given
+
+        return guarded
+
+    def __iter__(self) -> Iterator[Any]:
+        rows = self._branch._work(lambda: iter(self._cursor))
+        while True:
+            row = self._branch._work(lambda: next(rows, END))
+            if row is END:
+                return
+            yield row
+
+    def __next__(self) -> Any:
+        row = self.fetchone()
+        if row is None:
+            raise StopIteration
+        return row
+
+    def __enter__(self) -> BranchCursor:
+        return self
+
+    def __exit__(
+        self, kind: Optional[Type[BaseException]], error: Optional[BaseException], trace: Optional[TracebackType]
+    ) -> None:
+        self.close()
+
+
+class BranchConnection:
+    """The connection of a branch, for what wants one of the database's module (PEP 249): it gives cursors, and shows what the
+    module's shows. Its `commit`, `rollback` and `close`, and all else that ends a transaction, raise EndRefused."""
+
+    def __init__(self, branch: Branch):
+        object.__setattr__(self, "_branch", branch)
+
+    def __repr__(self) -> str:
+        return f"<connection of {self._branch!r}>"
+
+    def cursor(self, *words: Any, **options: Any) -> BranchCursor:
+        """A cursor, as `Branch.cursor` gives it."""
+        return self._branch.cursor(*words, **options)
+
+    def __getattr__(self, name: str) -> Any:
+        if name in REFUSED:
+            return self._refused(name)
+        inner = self._branch._connection
+        value = getattr(inner.link, name)
+        is_kind_of_error = isinstance(value, type) and issubclass(value, Exception)
+        if name not in inner.SHOWN and not is_kind_of_error:
+            raise AttributeError(f"{name} of a branch's connection isn't given out")
+        if not callable(value) or isinstance(value, type):
+            return value
+        return lambda *words, **options: self._branch._work(lambda: value(*words, **options))
+
+    def __setattr__(self, name: str, value: Any) -> None:
+        raise EndRefused(f"{name} of a branch's connection can't be set: the connection is the transaction manager's")
+
+    def __enter__(self) -> BranchConnection:
+        raise EndRefused("the block of a module's connection ends a transaction: use that of the transaction manager")
+
+    def __exit__(
+        self, kind: Optional[Type[BaseException]], error: Optional[BaseException], trace: Optional[TracebackType]
+    ) -> None:
+        """There is no block."""
+
+    def _refused(self, name: str) -> Any:
+        value = getattr(self._branch._connection.link, name)
+        if not callable(value):
+            return value
+
+        def refused(*words: Any, **options: Any) -> Any:
+            raise EndRefused(f"{name} would end the branch's transaction or change it: the transaction ends with its block")
+
+        return refused

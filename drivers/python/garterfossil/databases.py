@@ -1,0 +1,67 @@
+"""The databases of a transaction manager, each with its number, and with a name if it was given one."""
+
+from __future__ import annotations
+
+import re
+from typing import Dict, Iterator, List, Mapping, Sequence, Tuple, Union
+
+from .adapters.base import Database, Place
+
+#: The coordinator takes so many resource managers.
+MOST = 32
+#: A manager's name.
+NAME = re.compile(r"[A-Za-z0-9_-]{1,16}")
+
+
+class Databases:
+    """The databases of a transaction manager: a sequence, numbered by the places in it, or a mapping, which gives each a name as
+    well, and numbers them in its order. Raises TypeError or ValueError if they are none of both."""
+
+    def __init__(self, databases: Union[Sequence[Database], Mapping[str, Database]]):
+        if isinstance(databases, Database) or not isinstance(databases, (Sequence, Mapping)):
+            raise TypeError(f"databases: a list of them, or a dict by their names, not {type(databases).__name__}")
+        named = isinstance(databases, Mapping)
+        self._all: List[Database] = list(databases.values()) if isinstance(databases, Mapping) else list(databases)
+        self._names: Dict[str, int] = {name: number for number, name in enumerate(databases)} if named else {}
+        self._require_fit()
+
+    def _require_fit(self) -> None:
+        if not 1 <= len(self._all) <= MOST:
+            raise ValueError(f"databases: 1 to {MOST} of them, not {len(self._all)}")
+        for number, database in enumerate(self._all):
+            if not isinstance(database, Database):
+                raise TypeError(f"databases: {type(database).__name__} at place {number} is no Database")
+            if any(database is other for other in self._all[:number]):
+                raise ValueError(f"databases: the one at place {number} stands in the list twice")
+        for name in self._names:
+            if not isinstance(name, str):
+                raise TypeError(f"databases: the name {name!r} is no text")
+
+    def __len__(self) -> int:
+        return len(self._all)
+
+    def number_of(self, key: Union[int, str]) -> int:
+        """The number of a database, by that or by its name. Raises IndexError or KeyError if there is none."""
+        if isinstance(key, str):
+            if key not in self._names:
+                raise KeyError(f"there is no database {key!r}: {self._known()}")
+            return self._names[key]
+        if not isinstance(key, int) or isinstance(key, bool):
+            raise TypeError(f"a database is known by a number or a name, not by {key!r}")
+        if not 0 <= key < len(self._all):
+            raise IndexError(f"there is no database {key}: {self._known()}")
+        return key
+
+    def label(self, number: int) -> str:
+        """What messages call a database."""
+        name = next((name for name, place in self._names.items() if place == number), None)
+        return f"database {number}" if name is None else f"database {number} ({name})"
+
+    def placed(self, manager: str, threads: int, patience: float) -> Iterator[Tuple[Database, Place]]:
+        """Each database with its place at the manager of this name, in the order of their numbers."""
+        for number, database in enumerate(self._all):
+            yield database, Place(manager, number, threads, patience)
+
+    def _known(self) -> str:
+        numbers = f"their numbers are 0 to {len(self._all) - 1}"
+        return f"{numbers}, and their names {', '.join(self._names)}" if self._names else numbers

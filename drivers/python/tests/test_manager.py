@@ -1,0 +1,351 @@
+"""The transaction manager's life: what it is given, how it starts, what it does for transactions, and its end."""
+
+import logging
+import os
+import subprocess
+import sys
+import threading
+import time
+import unittest
+
+from garterfossil import (
+    Code,
+    ConnectionLost,
+    LogInUse,
+    NestedTransaction,
+    Outcome,
+    OutcomeUnknown,
+    Overdue,
+    RolledBack,
+    SetupError,
+    TimedOut,
+    TransactionManager,
+    XaError,
+    Xid,
+)
+
+from .case import Case
+from .fake_database import WrongStatement
+
+#: Programs that end as the coordinator does where it can't have its log, with or without another one that has it.
+NO_LOG = [sys.executable, "-c", "import sys; print('xatm: log', file=sys.stderr); sys.exit(2)"]
+HELD = "import fcntl, sys; it = open(sys.argv[1], 'r+b'); fcntl.lockf(it, fcntl.LOCK_EX, 512, 0x40000000); print(flush=True); input()"
+
+
+class Given(Case):
+    """What a manager is made with."""
+
+    def test_what_is_not_a_list_of_databases(self):
+        for databases, kind in ((self.left, TypeError), (["left"], TypeError), ([], ValueError), ([self.left, self.left], ValueError)):
+            with self.assertRaisesRegex(kind, "databases"):
+                TransactionManager(databases, self.log)
+
+    def test_counts_that_are_out_of_range(self):
+        for options in ({"threads": 0}, {"threads": 257}, {"patience": 0}, {"name": "a b"}, {"name": "x" * 17}):
+            with self.assertRaisesRegex(ValueError, list(options)[0]):
+                self.manager(**options)
+
+    def test_a_program_that_is_not_there(self):
+        with self.assertRaisesRegex(SetupError, "program="):
+            TransactionManager([self.left], self.log, program="/no/such/xatm")
+
+
+class Logs(Case):
+    """A log that can't be had is said at once, and by name."""
+
+    def refused(self, path, text, patience=20.0, kind=SetupError):
+        begun = time.monotonic()
+        with self.assertRaisesRegex(kind, text):
+            TransactionManager([self.left], path, patience=patience, command=NO_LOG)
+        self.assertLess(time.monotonic() - begun, 5)
+
+    def test_a_folder_that_is_not_there(self):
+        self.refused(os.path.join(self.folder, "no", "log"), "no folder .*no")
+
+    def test_a_folder_in_place_of_a_log(self):
+        self.refused(self.folder, "it is a folder")
+
+    def test_another_kind_of_file(self):
+        with open(self.log, "w") as it:
+            it.write("this is no log")
+        self.refused(self.log, "another kind of file")
+
+    def test_a_log_that_the_coordinator_refuses_for_a_reason_of_its_own(self):
+        self.refused(self.log, "another version")
+
+    def test_a_log_in_use_is_waited_for(self):
+        with open(self.log, "wb") as it:
+            it.write(b"SQLite format 3\0")
+        with subprocess.Popen([sys.executable, "-c", HELD, self.log], stdin=subprocess.PIPE, stdout=subprocess.PIPE) as holder:
+            holder.stdout.readline()
+            begun = time.monotonic()
+            self.refused(self.log, "in use by another program", patience=0.5, kind=LogInUse)
+            self.assertGreater(time.monotonic() - begun, 0.5)
+            holder.communicate(b"\n")
+
+
+class Starts(Case):
+    def left_behind(self, number=0):
+        """A branch that an earlier log's manager has prepared."""
+        xid = Xid(7, (5).to_bytes(8, "big") + (9).to_bytes(8, "big"), number.to_bytes(8, "big"))
+        (self.left, self.right)[number].prepared[xid] = ["take"]
+        return xid
+
+    def test_a_new_log_over_databases_that_list_branches_is_refused_at_every_start(self):
+        xid = self.left_behind()
+        for _ in range(3):
+            with self.assertRaisesRegex(SetupError, "the log is new, and database 0 lists 1 branches"):
+                self.manager()
+        self.assertFalse(os.path.exists(self.log))
+        self.assertEqual(list(self.left.prepared), [xid])
+
+    def test_a_new_log_asks_for_all_databases_once(self):
+        self.right.is_up = False
+        with self.assertRaisesRegex(ConnectionLost, "the log is new"):
+            self.manager(patience=0.2)
+        self.assertFalse(os.path.exists(self.log))
+
+    def test_branches_of_other_names_and_of_other_databases_stay(self):
+        others = [
+            Xid(7, b"shop-2" + bytes(15) + b"\1", bytes(8)),
+            Xid(7, bytes(15) + b"\1", bytes(7) + b"\1"),
+            Xid(1, b"somebody's", b"own"),
+        ]
+        self.left.prepared.update({xid: ["take"] for xid in others})
+        with self.manager() as xa:
+            self.move(xa)
+        self.assertEqual(list(self.left.prepared), others)
+
+    def test_a_log_that_is_older_than_the_branches_is_refused(self):
+        self.manager().close()
+        self.left_behind()
+        with self.assertRaisesRegex(SetupError, "database 0 lists 1 branches that this log knows nothing of"):
+            self.manager()
+        self.assertEqual(len(self.left.prepared), 1)
+
+    def test_a_database_that_is_set_up_wrongly_is_said_at_the_start(self):
+        self.manager().close()
+        self.right.refuses = SetupError("password authentication failed")
+        with self.assertRaisesRegex(SetupError, "password"):
+            self.manager()
+
+    def test_two_databases_of_one_server_are_recovered(self):
+        self.left.prepared = self.right.prepared
+        with self.manager(dies_at="decided") as xa:
+            with self.assertRaises(OutcomeUnknown):
+                self.move(xa)
+        self.assertEqual(len(self.right.prepared), 2)
+        self.manager().close()
+        self.assertEqual(self.written(), (["take"], ["give"]))
+        self.assertEqual(self.right.prepared, {})
+
+    def test_what_a_recovery_did_is_logged(self):
+        with self.manager(dies_at="decided") as xa:
+            with self.assertRaises(OutcomeUnknown):
+                self.move(xa)
+        with self.assertLogs("garterfossil", logging.INFO) as logged:
+            self.manager().close()
+        self.assertEqual(len([line for line in logged.output if "xa_commit" in line and "answered OK" in line]), 2)
+
+
+class Runs(Case):
+    def test_a_transaction_within_another_of_the_same_thread(self):
+        with self.manager() as xa:
+            with xa.transaction() as t:
+                t[0].execute("take")
+                with self.assertRaises(NestedTransaction):
+                    with xa.transaction():
+                        pass
+                with xa.transaction(independent=True) as other:
+                    other[1].execute("give")
+            self.move(xa)
+        self.assertEqual(self.written(), (["take", "take"], ["give", "give"]))
+
+    def test_a_process_that_is_forked_off(self):
+        with self.manager() as xa:
+            with xa.transaction() as t:
+                # Unwritten requests are the parent's to write, and the child is to say so at once.
+                t[0].execute("take")
+                child = os.fork()
+                if child == 0:
+                    self.in_the_child(xa)
+                self.assertEqual(os.waitstatus_to_exitcode(os.waitpid(child, 0)[1]), 7)
+            self.move(xa)
+        self.assertEqual(self.written(), (["take", "take"], ["give"]))
+
+    def in_the_child(self, xa):
+        try:
+            with xa.transaction(independent=True):
+                pass
+        except XaError as error:
+            xa.close()
+            os._exit(7 if f"made in process {os.getppid()}" in str(error) else 1)
+        finally:
+            os._exit(2)
+
+    def test_the_databases_reason_is_the_cause(self):
+        with self.manager() as xa:
+            with self.assertRaises(RolledBack) as raised:
+                with xa.transaction() as t:
+                    t[0].execute("take")
+                    t[1].execute("give")
+                    t._branches[1]._connection.reason = reason = WrongStatement("the reason")
+                    self.right.next["prepare"] = Code.RBDEADLOCK
+            self.assertIs(raised.exception.__cause__, reason)
+            self.assertEqual((raised.exception.database, raised.exception.code), (1, Code.RBDEADLOCK))
+            self.assertIn("the reason", str(raised.exception))
+
+    def test_a_deadlock_can_be_told_from_a_constraint(self):
+        with self.manager() as xa:
+            for code, is_passing in ((Code.RBDEADLOCK, True), (Code.RBTRANSIENT, True), (Code.RBINTEGRITY, False), (Code.RBOTHER, False)):
+                self.right.next["prepare"] = code
+                with self.assertRaises(RolledBack) as raised:
+                    with xa.transaction() as t:
+                        t[0].execute("take")
+                        t[1].execute("give")
+                self.assertEqual((t.is_worth_trying_again, raised.exception.is_worth_trying_again), (is_passing, is_passing))
+
+    def test_work_is_tried_again_after_a_deadlock_and_not_after_a_constraint(self):
+        tried = []
+
+        def work(t):
+            tried.append(t.gtrid)
+            t[0].execute("take")
+            t[1].execute("give")
+            return len(tried)
+
+        with self.manager() as xa:
+            self.right.next["prepare"] = Code.RBDEADLOCK
+            self.assertEqual(xa.run(work), 2)
+            self.right.next["prepare"] = Code.RBINTEGRITY
+            with self.assertRaises(RolledBack):
+                xa.run(work)
+        self.assertEqual(len(tried), 3)
+        self.assertEqual(self.written(), (["take"], ["give"]))
+
+    def test_a_transaction_that_outlasts_its_timeout(self):
+        with self.manager() as xa:
+            with self.assertRaises(RolledBack) as raised:
+                with xa.transaction(timeout=0.05) as t:
+                    t[0].execute("take")
+                    time.sleep(0.06)
+                    with self.assertRaises(TimedOut):
+                        t[1].execute("give")
+            self.assertIs(raised.exception.code, Code.RBTIMEOUT)
+        self.assertEqual(self.written(), ([], []))
+
+    def test_how_a_transaction_is_to_run_is_for_that_one_alone(self):
+        with self.manager(threads=1) as xa:
+            for options in ({"isolation": "serializable", "read_only": True}, {}):
+                with xa.transaction(**options) as t:
+                    t[0].execute("look")
+            with self.assertRaises(ValueError):
+                with xa.transaction(isolation="SNAPSHOT"):
+                    pass
+        self.assertEqual(self.left.modes, [["ISOLATION LEVEL SERIALIZABLE", "READ ONLY"], []])
+
+    def test_the_outcome_is_found_after_the_coordinator_ended(self):
+        for moment, outcome in (("decided", Outcome.COMMITTED), ("decide", Outcome.ROLLED_BACK)):
+            with self.manager(dies_at=moment) as xa:
+                with self.assertRaises(OutcomeUnknown):
+                    with xa.transaction() as t:
+                        t[0].execute("take")
+                        t[1].execute("give")
+                self.assertIs(xa.outcome(t.gtrid), outcome)
+                self.assertIs(xa.outcome("0" * 32), Outcome.UNKNOWN)
+            os.remove(self.log)
+
+    def test_a_connection_that_the_database_ended_while_it_was_idle(self):
+        with self.manager(threads=1) as xa:
+            self.move(xa)
+            self.left.connections[-1].hang_up()
+            xa._session._rms[0]._tried = 0
+            self.move(xa)
+        self.assertEqual(self.written(), (["take", "take"], ["give", "give"]))
+
+    def test_a_branch_that_was_ended_by_hand_is_logged(self):
+        with self.manager() as xa:
+            with self.assertLogs("garterfossil", logging.ERROR) as logged:
+                with self.assertRaises(XaError):
+                    with xa.transaction() as t:
+                        t[0].execute("take")
+                        t[1].execute("give")
+                        self.right.next["commit_prepared"] = Code.HEURRB
+        self.assertIn(t.gtrid, logged.output[-1])
+        self.assertIn("database 1", logged.output[-1])
+
+    def test_counts(self):
+        ended = []
+        with self.manager(ended=ended.append) as xa:
+            self.move(xa)
+            with self.assertRaises(KeyError):
+                with xa.transaction() as t:
+                    self.assertEqual(xa.counts()["open"], 1)
+                    raise KeyError
+            counts = xa.counts()
+        self.assertEqual([counts[name] for name in ("begun", "open", "committed", "rolled_back", "unknown")], [2, 0, 1, 1, 0])
+        self.assertEqual([it.outcome for it in ended], [Outcome.COMMITTED, Outcome.ROLLED_BACK])
+
+    def test_an_answer_is_written_before_the_next_call_on_its_line(self):
+        """What docs/SERVE.md asks for: the coordinator takes for done of a lost line no more than the call that waits first."""
+        events = []
+        with self.manager(threads=1) as xa:
+            coordinator = xa._session.coordinator
+            write = coordinator._write
+
+            def writes():
+                events.extend(line.decode().split(" ")[:4] for line in coordinator._unwritten)
+                write()
+
+            coordinator._write = writes
+            for number, database in enumerate((self.left, self.right)):
+                database.called = lambda name, number=number: events.append(["call", "0", str(number), name])
+            for _ in range(2):
+                self.move(xa)
+            with self.assertRaises(KeyError):
+                with xa.transaction() as t:
+                    t[0].execute("take")
+                    raise KeyError
+        for line in ("0", "1"):
+            mine = [event for event in events if event[0] in ("call", "answer") and event[2] == line and event[3] != "work"]
+            kinds = [event[0] for event in mine]
+            self.assertEqual(kinds, ["call", "answer"] * (len(kinds) // 2) + ["call"] * (len(kinds) % 2), mine)
+
+
+class Ends(Case):
+    def test_close_in_the_block_of_a_transaction(self):
+        xa = self.manager()
+        with xa.transaction() as t:
+            t[0].execute("take")
+            with self.assertRaisesRegex(XaError, "block"):
+                xa.close()
+        xa.close()
+        self.assertEqual(self.left.written, ["take"])
+
+    def test_a_transaction_that_another_thread_leaves_open_does_not_keep_the_coordinator(self):
+        xa = self.manager(patience=0.3)
+        is_open, may_end = threading.Event(), threading.Event()
+
+        def keep():
+            try:
+                with xa.transaction() as t:
+                    t[0].execute("take")
+                    is_open.set()
+                    may_end.wait(10)
+            except XaError:
+                pass
+
+        thread = threading.Thread(target=keep)
+        thread.start()
+        is_open.wait(10)
+        coordinator = xa._session.coordinator
+        with self.assertRaises(Overdue):
+            xa.close()
+        self.assertIsNotNone(coordinator._process.poll())
+        may_end.set()
+        thread.join()
+        self.assertEqual(self.left.written, [])
+
+
+if __name__ == "__main__":
+    unittest.main()
