@@ -1,6 +1,7 @@
 """Servers of databases on sockets in a folder, by an ordinary user: made, started, killed and stopped."""
 
 import glob
+import importlib
 import os
 import pwd
 import shutil
@@ -12,6 +13,8 @@ import time
 
 #: The user of the servers where this is run by root, whom neither server takes.
 SERVER_USER = "postgres"
+#: Where this is in the environment, also in that of a driver that is started, the databases are reached by their other modules.
+OTHER_MODULES = "WITH_OTHER_MODULES"
 
 
 class Missing(Exception):
@@ -67,6 +70,8 @@ class Server:
     """A server, in a folder of its own. It listens on a socket there, and on a port only where it is given one."""
 
     port = None
+    #: The module that reaches it, as its adapter is called, the other one, and the adapter's class.
+    ADAPTERS = ()
 
     def __init__(self, home, name):
         self.name = name
@@ -94,6 +99,12 @@ class Server:
             if self.process.poll() is not None or time.monotonic() > until:
                 sys.exit(f"{self.name} doesn't start; the end of its log:\n{self.last_of_log()}")
             time.sleep(0.05)
+
+    def adapter(self):
+        """The driver's class for it."""
+        usual, other, name = self.ADAPTERS
+        module = other if OTHER_MODULES in os.environ else usual
+        return getattr(importlib.import_module(f"garterfossil.adapters.{module}"), name)
 
     def last_of_log(self):
         """The last 4,000 bytes of what it said, since its folder may be gone when this is read."""
@@ -123,6 +134,7 @@ class Server:
 
 class PostgreSQLServer(Server):
     PROGRAMS = ["initdb", "postgres", "pg_isready"]
+    ADAPTERS = ("postgresql", "psycopg", "PostgreSQL")
     STOP = signal.SIGINT
     #: A table that takes no second 1: it says so as the branch is prepared.
     ONCE = "CREATE TABLE once (i int UNIQUE DEFERRABLE INITIALLY DEFERRED)"
@@ -146,9 +158,11 @@ class PostgreSQLServer(Server):
 
     def database(self):
         """What the driver is given for it."""
-        from garterfossil.adapters.postgresql import PostgreSQL
+        return self.adapter()(f"host={self.home} port={self.port or 5432} user=xa dbname=postgres", lock_timeout=2)
 
-        return PostgreSQL(f"host={self.home} port={self.port or 5432} user=xa dbname=postgres", lock_timeout=2)
+    def in_toml(self):
+        """The same in a file for garterfossil.manager_of."""
+        return f'dsn = "host={self.home} port={self.port or 5432} user=xa dbname=postgres"'
 
     def socket(self):
         """The path of the socket that it listens on."""
@@ -156,16 +170,12 @@ class PostgreSQLServer(Server):
 
     def database_at(self, port):
         """The same over a port that passes on to its socket."""
-        from garterfossil.adapters.postgresql import PostgreSQL
-
-        return PostgreSQL(f"host=127.0.0.1 port={port} user=xa dbname=postgres", lock_timeout=2)
+        return self.adapter()(f"host=127.0.0.1 port={port} user=xa dbname=postgres", lock_timeout=2)
 
     def wrong_databases(self):
         """What no start accepts."""
-        from garterfossil.adapters.postgresql import PostgreSQL
-
         there = f"host={self.home} port={self.port or 5432}"
-        return [PostgreSQL(f"{there} user=nobody dbname=postgres"), PostgreSQL(f"{there} user=xa dbname=no_such")]
+        return [self.adapter()(f"{there} user=nobody dbname=postgres"), self.adapter()(f"{there} user=xa dbname=no_such")]
 
     def plain(self):
         """A connection of another program."""
@@ -180,6 +190,7 @@ class PostgreSQLServer(Server):
 
 class MariaDBServer(Server):
     PROGRAMS = ["mariadb-install-db", "mariadbd"]
+    ADAPTERS = ("mariadb", "mysqlclient", "MariaDB")
     STOP = signal.SIGTERM
     #: A table that takes no second 1: it says so at once.
     ONCE = "CREATE TABLE once (i int UNIQUE)"
@@ -215,9 +226,11 @@ class MariaDBServer(Server):
 
     def database(self):
         """What the driver is given for it."""
-        from garterfossil.adapters.mariadb import MariaDB
+        return self.adapter()(unix_socket=self.socket(), user="bank", database="bank", lock_timeout=2)
 
-        return MariaDB(unix_socket=self.socket(), user="bank", database="bank", lock_timeout=2)
+    def in_toml(self):
+        """The same in a file for garterfossil.manager_of."""
+        return f'unix_socket = "{self.socket()}"\nuser = "bank"\ndatabase = "bank"'
 
     def socket(self):
         """The path of the socket that it listens on."""
@@ -225,16 +238,12 @@ class MariaDBServer(Server):
 
     def database_at(self, port):
         """The same over a port that passes on to its socket."""
-        from garterfossil.adapters.mariadb import MariaDB
-
-        return MariaDB(host="127.0.0.1", port=port, user="bank", database="bank", lock_timeout=2)
+        return self.adapter()(host="127.0.0.1", port=port, user="bank", database="bank", lock_timeout=2)
 
     def wrong_databases(self):
         """What no start accepts."""
-        from garterfossil.adapters.mariadb import MariaDB
-
         given = [{"user": "bank", "password": "wrong"}, {"user": "bank", "database": "no_such"}, {"user": "nobody"}]
-        return [MariaDB(unix_socket=self.socket(), **each) for each in given]
+        return [self.adapter()(unix_socket=self.socket(), **each) for each in given]
 
     def plain(self):
         """A connection of another program."""

@@ -1,12 +1,13 @@
 """What the parts of tools/with-databases work on: two servers, a log, and a coordinator over them, in a folder."""
 
+import importlib
 import json
 import os
 import shutil
 import sys
 import tempfile
 
-from servers import MariaDBServer, Missing, PostgreSQLServer, own
+from servers import OTHER_MODULES, MariaDBServer, Missing, PostgreSQLServer, own
 
 HERE = os.path.dirname(os.path.realpath(__file__))
 TOP = os.path.dirname(os.path.dirname(HERE))
@@ -17,13 +18,20 @@ ACCOUNTS = 50
 SUM = 2 * ACCOUNTS * 1000
 
 
+def see_one(module, package):
+    """Sees that a module is there."""
+    try:
+        importlib.import_module(module)
+    except ImportError:
+        raise Missing(f"the module {module} of {sys.executable} (Debian's package {package} is for /usr/bin/python3)") from None
+
+
 def see_module(kind):
     """Sees that the module for a kind of server is there. Of psycopg2 a stand-in will do: then it says so."""
+    if OTHER_MODULES in os.environ:
+        see_one(*(("MySQLdb", "python3-mysqldb") if kind is MariaDBServer else ("psycopg", "python3-psycopg")))
     if kind is MariaDBServer:
-        try:
-            import pymysql  # noqa: F401
-        except ImportError:
-            raise Missing(f"the module pymysql of {sys.executable} (Debian's package python3-pymysql is for /usr/bin/python3)") from None
+        see_one("pymysql", "python3-pymysql")
         return "module"
     try:
         import psycopg2  # noqa: F401

@@ -18,10 +18,14 @@ from .errors import (
     TransactionOver,
     XaError,
 )
+from .configuration import manager_of
 from .manager import TransactionManager
 from .outcomes import Outcome
 from .transaction import Transaction
 from .xid import Xid
+
+#: That of the program `xatm` that it fits.
+__version__ = "1.0.0"
 
 __all__ = [
     "Branch",
@@ -46,4 +50,6 @@ __all__ = [
     "TransactionOver",
     "XaError",
     "Xid",
+    "__version__",
+    "manager_of",
 ]

@@ -3,16 +3,14 @@
 from __future__ import annotations
 
 from types import TracebackType
-from typing import TYPE_CHECKING, Any, Callable, Iterator, Optional, Sequence, Type, TypeVar
+from typing import TYPE_CHECKING, Any, Callable, Generator, Iterator, Optional, Type
 
-from .adapters.base import Connection, Result
+from .adapters.base import Connection, Parameters, Result
 from .errors import ConnectionLost, EndRefused, TransactionOver
 from .xid import Xid
 
 if TYPE_CHECKING:
     from .line import Line
-
-T = TypeVar("T")
 
 #: What a connection of a module has that ends a transaction, begins one, or goes round what looks at statements.
 REFUSED = frozenset(
@@ -32,11 +30,11 @@ class Branch:
     raised if the connection is lost: then that, too. EndRefused is raised for a statement that would end the transaction; it
     isn't sent."""
 
-    def __init__(self, line: Line, xid: Xid):
+    def __init__(self, line: Line, connection: Connection, xid: Xid):
         #: XA's identifier of the branch.
         self.xid = xid
         self._line = line
-        self._connection: Connection = line.connection
+        self._connection = connection
         self._is_over = False
 
     def __repr__(self) -> str:
@@ -47,10 +45,11 @@ class Branch:
         """Whether statements can be done in it."""
         return not self._is_over and self._line.connection is self._connection and self._connection.is_active(self.xid)
 
-    def execute(self, statement: str, parameters: Sequence[Any] = ()) -> Result:
+    def execute(self, statement: str, parameters: Parameters = ()) -> Result:
         """Does a statement: its rows, as tuples, and how many rows it changed or found."""
         self._refuse_ends(statement)
-        return self._work(lambda: self._connection._work(statement, parameters))
+        result: Result = self._work(lambda: self._connection._work(statement, parameters))
+        return result
 
     def cursor(self, *words: Any, **options: Any) -> BranchCursor:
         """A cursor of the database's module, made with the arguments that the module takes."""
@@ -61,7 +60,7 @@ class Branch:
         """The connection of the database's module, without what would end the transaction."""
         return BranchConnection(self)
 
-    def _work(self, step: Callable[[], T]) -> T:
+    def _work(self, step: Callable[[], Any]) -> Any:
         if self._is_over:
             raise TransactionOver(f"the branch at {self._line.rm.label} is over")
         if self._line.connection is not self._connection:
@@ -75,6 +74,9 @@ class Branch:
 class BranchCursor:
     """A cursor of the database's module in a branch: it has all that the module's has. What it read is its own, and may be looked at
     at any time; all else needs the branch."""
+
+    _branch: Branch
+    _cursor: Any
 
     def __init__(self, branch: Branch, cursor: Any):
         object.__setattr__(self, "_branch", branch)
@@ -107,7 +109,9 @@ class BranchCursor:
             if name in WITH_TEXT and words:
                 self._branch._refuse_ends(words[0])
             given = self._branch._work(lambda: method(*words, **options))
-            return self if given is self._cursor else given
+            if given is self._cursor:
+                return self
+            return BranchPart(self._branch, given) if is_lazy(given) else given
 
         return guarded
 
@@ -134,9 +138,55 @@ class BranchCursor:
         self.close()
 
 
+class BranchPart:
+    """What a cursor gave that goes on working on the connection, as psycopg's COPY and its streams of rows do: each step of it needs
+    the branch."""
+
+    def __init__(self, branch: Branch, part: Any):
+        self._branch = branch
+        self._part = part
+
+    def __getattr__(self, name: str) -> Any:
+        if name.startswith("_") or name in ("connection", "cursor"):
+            raise AttributeError(f"{name} of what a cursor gave isn't given out")
+        value = getattr(self._part, name)
+        if not callable(value):
+            return value
+        return lambda *words, **options: self._branch._work(lambda: value(*words, **options))
+
+    def __iter__(self) -> Iterator[Any]:
+        steps = self._branch._work(lambda: iter(self._part))
+        while True:
+            step = self._branch._work(lambda: next(steps, END))
+            if step is END:
+                return
+            yield step
+
+    def __next__(self) -> Any:
+        step = self._branch._work(lambda: next(self._part, END))
+        if step is END:
+            raise StopIteration
+        return step
+
+    def __enter__(self) -> BranchPart:
+        return BranchPart(self._branch, self._branch._work(self._part.__enter__))
+
+    def __exit__(
+        self, kind: Optional[Type[BaseException]], error: Optional[BaseException], trace: Optional[TracebackType]
+    ) -> bool:
+        return bool(self._branch._work(lambda: self._part.__exit__(kind, error, trace)))
+
+
+def is_lazy(given: Any) -> bool:
+    """Whether what a cursor gave works on the connection after that."""
+    return isinstance(given, Generator) or hasattr(given, "__enter__")
+
+
 class BranchConnection:
     """The connection of a branch, for what wants one of the database's module (PEP 249): it gives cursors, and shows what the
     module's shows. Its `commit`, `rollback` and `close`, and all else that ends a transaction, raise EndRefused."""
+
+    _branch: Branch
 
     def __init__(self, branch: Branch):
         object.__setattr__(self, "_branch", branch)

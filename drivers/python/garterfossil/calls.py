@@ -35,6 +35,17 @@ class Call:
         return " ".join([*words, *self.flags])
 
     @property
+    def branch(self) -> Xid:
+        """The branch that it is on. (Not of xa_open, xa_close and xa_recover, which are on none.)"""
+        assert self.xid is not None
+        return self.xid
+
+    @property
+    def verb(self) -> str:
+        """What databases call it in SQL: COMMIT for xa_commit."""
+        return self.name.partition("_")[2].upper()
+
+    @property
     def ends_a_prepared_branch(self) -> bool:
         """Whether it is made again until it is answered: the other calls are given up with their connection."""
         return self.name == "xa_rollback" or self.name == "xa_commit" and "TMONEPHASE" not in self.flags

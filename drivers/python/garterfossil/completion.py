@@ -23,12 +23,11 @@ class Completion:
     """The calls of XA on a branch, from xa_start to its last."""
 
     def __init__(self, line: Line, xid: Xid, options: Options, limit: Optional[float]):
-        line.make_ready()
         self.line = line
         self.xid = xid
+        self._connection = line.make_ready()
         #: What the program works with.
-        self.branch = Branch(line, xid)
-        self._connection = line.connection
+        self.branch = Branch(line, self._connection, xid)
         self._connection.options, self._connection.limit = options, limit
         self._is_active = False
         self._was_asked = False

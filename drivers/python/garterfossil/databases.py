@@ -20,9 +20,9 @@ class Databases:
     def __init__(self, databases: Union[Sequence[Database], Mapping[str, Database]]):
         if isinstance(databases, Database) or not isinstance(databases, (Sequence, Mapping)):
             raise TypeError(f"databases: a list of them, or a dict by their names, not {type(databases).__name__}")
-        named = isinstance(databases, Mapping)
         self._all: List[Database] = list(databases.values()) if isinstance(databases, Mapping) else list(databases)
-        self._names: Dict[str, int] = {name: number for number, name in enumerate(databases)} if named else {}
+        names = list(databases) if isinstance(databases, Mapping) else []
+        self._names: Dict[str, int] = {name: number for number, name in enumerate(names)}
         self._require_fit()
 
     def _require_fit(self) -> None:
@@ -39,6 +39,9 @@ class Databases:
 
     def __len__(self) -> int:
         return len(self._all)
+
+    def __getitem__(self, number: int) -> Database:
+        return self._all[number]
 
     def number_of(self, key: Union[int, str]) -> int:
         """The number of a database, by that or by its name. Raises IndexError or KeyError if there is none."""

@@ -19,7 +19,7 @@ class Debts:
     def add(self, rm: int, call: Call) -> None:
         """The call is to be answered by the resource manager."""
         with self._lock:
-            self._owed.setdefault(call.xid.transaction, set()).add((rm, call))
+            self._owed.setdefault(call.branch.transaction, set()).add((rm, call))
 
     def at(self, rm: int) -> List[Call]:
         """The calls that a resource manager is to answer."""
@@ -39,8 +39,8 @@ class Debts:
     def settle(self, rm: int, call: Call) -> bool:
         """The call was answered. Whether it was the last of its transaction."""
         with self._lock:
-            left = self._owed.get(call.xid.transaction, set())
+            left: Set[Tuple[int, Call]] = self._owed.get(call.branch.transaction, set())
             left.discard((rm, call))
             if left:
                 return False
-            return self._owed.pop(call.xid.transaction, None) is not None
+            return self._owed.pop(call.branch.transaction, None) is not None

@@ -40,19 +40,20 @@ class Line:
 
     # ** the connection
 
-    def make_ready(self) -> None:
-        """Opens the line, if it isn't open. Raises ConnectionLost where the database can't be reached."""
+    def make_ready(self) -> Connection:
+        """Opens the line, if it isn't open: its connection. Raises ConnectionLost if the database can't be reached."""
         if self.connection is not None:
-            return
+            return self.connection
         call = Call("xa_open")
         self._post(call)
         self._see_due()
         try:
-            self.connection = self.rm.connect()
+            self.connection = connection = self.rm.connect()
             self._tell(call, Answer())
         except BaseException:
             self.lose()
             raise
+        return connection
 
     def lose(self) -> None:
         """Gives the connection up, and tells the coordinator that it is lost, before anything else on the line."""

@@ -50,4 +50,4 @@ def is_log_in_use(path: str) -> bool:
             found = struct.unpack(FLOCK, fcntl.fcntl(it.fileno(), fcntl.F_GETLK, asked))
         except (OSError, struct.error):
             return True
-    return found[0] != fcntl.F_UNLCK
+    return bool(found[0] != fcntl.F_UNLCK)

@@ -9,7 +9,7 @@ import random
 import threading
 import time
 from types import TracebackType
-from typing import Callable, Dict, Iterator, Mapping, Optional, Sequence, Set, Tuple, Type, TypeVar, Union
+from typing import TYPE_CHECKING, Any, AsyncContextManager, Callable, Dict, Iterator, Mapping, Optional, Sequence, Set, Tuple, Type, TypeVar, Union
 
 from .adapters.base import Database, Options
 from .counts import Counts
@@ -19,6 +19,9 @@ from .line import PAUSE
 from .outcomes import Outcome, Outcomes
 from .session import Session, Settings
 from .transaction import Transaction
+
+if TYPE_CHECKING:
+    from .aio import AsyncTransaction
 
 log = logging.getLogger("garterfossil")
 
@@ -75,6 +78,7 @@ class TransactionManager:
         self._ended = ended
         self._process = os.getpid()
         self._lock = threading.Lock()
+        self._open = threading.local()
         self._session: Optional[Session] = None
         self._is_closed = False
         self._outcomes = Outcomes()
@@ -120,13 +124,22 @@ class TransactionManager:
             session, thread, gtrid = self._begin(stack)
             transaction = Transaction(session, thread, gtrid, options, seconds)
             self._counts.begin()
+            outer, self._open.transaction = self.current, transaction
             try:
                 with transaction:
                     yield transaction
             finally:
+                self._open.transaction = outer
                 if transaction.outcome is Outcome.OPEN:
                     transaction.rollback()
                 self._note_end(transaction)
+
+    def transaction_async(self, **options: Any) -> AsyncContextManager[AsyncTransaction]:
+        """A transaction for an `async with` block, with the options of `transaction`: each has a thread of its own, so that the loop
+        isn't held up."""
+        from .aio import transaction
+
+        return transaction(self, **options)
 
     def run(self, work: Callable[[Transaction], T], *, tries: int = 5, **options: object) -> T:
         """Does work in a transaction, with the `options` of `transaction`, and returns what it returns. If the transaction is rolled
@@ -161,6 +174,16 @@ class TransactionManager:
         `seconds` transactions were open, all together."""
         session = self._session
         return {**self._counts.shown(), "owed": 0 if session is None else session.debts.count()}
+
+    @property
+    def current(self) -> Optional[Transaction]:
+        """The transaction in whose block the thread is, if it is in one."""
+        return getattr(self._open, "transaction", None)
+
+    def database(self, key: Union[int, str]) -> Database:
+        """A database, by its place or its name."""
+        databases = self._settings.databases
+        return databases[databases.number_of(key)]
 
     def close(self) -> None:
         """Ends the coordinator, once all transactions are over. Raises Overdue if they aren't within the patience: they are rolled

@@ -48,7 +48,7 @@ def recover(session: Session, rm: ResourceManager) -> None:
 def see_known(session: Session, line: Line) -> None:
     """Sees that the log may know all that the database lists as the manager's: the coordinator would roll back what it doesn't.
     Raises SetupError."""
-    connection = line.connection
+    connection = line.make_ready()
     with connection.timed(session.patience):
         unknown = [xid for xid in connection.listed() if not session.knows(xid)]
     if unknown:
@@ -84,10 +84,10 @@ def pay(session: Session, line: Line, call: Call) -> None:
 
 def scan(coordinator: Coordinator, line: Line) -> int:
     """Scans once, page by page, and makes the calls that end what the pages list. How many calls these were."""
-    made, flags = 0, ("TMSTARTRSCAN",)
+    made, flags = 0, ["TMSTARTRSCAN"]
     while True:
-        page = line.call(Call("xa_recover", count=PAGE, flags=flags)).page
-        flags = ()
+        page = line.call(Call("xa_recover", count=PAGE, flags=tuple(flags))).page or ()
+        flags.clear()
         for _ in range(coordinator.resolve(line.rm.number)):
             call = coordinator.waiting(0, line.rm.number)
             code = line.make(call).code

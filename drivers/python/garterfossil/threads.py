@@ -5,7 +5,7 @@ from __future__ import annotations
 import contextlib
 import threading
 import time
-from typing import Iterator, List
+from typing import Callable, Iterator, List
 
 from .errors import Overdue
 
@@ -53,6 +53,6 @@ class Threads:
         self._whole_is_wanted = False
         self._change.notify_all()
 
-    def _wait(self, is_so, until: float) -> None:
+    def _wait(self, is_so: Callable[[], object], until: float) -> None:
         if not self._change.wait_for(is_so, until - time.monotonic()):
             raise Overdue("all threads of the coordinator are in use")

@@ -72,6 +72,7 @@ class Transaction:
         self._session = session
         self._thread = thread
         self._branches: Dict[int, Completion] = {}
+        self._looks: List[Callable[[], None]] = []
         # Why it can only be rolled back, where that isn't a branch's own matter.
         self._fault: Optional[XaError] = None
         # Why it was rolled back, as far as that has codes.
@@ -89,6 +90,10 @@ class Transaction:
         if number not in self._branches:
             self._branches[number] = self._begin_branch(number)
         return self._branches[number].branch
+
+    def before_commit(self, look: Callable[[], None]) -> None:
+        """Has a function called before the transaction is committed. If it raises an XaError, the transaction is rolled back."""
+        self._looks.append(look)
 
     def _begin_branch(self, number: int) -> Completion:
         label = self._session.databases.label(number)
@@ -128,6 +133,8 @@ class Transaction:
         self._require_open()
         branches = list(self._branches.values())
         try:
+            for look in self._looks:
+                look()
             self._require_no_fault(branches)
             if len(branches) == 1:
                 call = branches[0].issue_commit_in_one_phase()

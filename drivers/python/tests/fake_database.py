@@ -18,6 +18,8 @@ class FakeDatabase(Database):
         #: What the next of some calls is answered, by the name of what makes it: a code, or an exception to raise. With
         #: `lost` the call is done, and its answer is lost.
         self.next = {}
+        #: What is called before some calls, by the same names.
+        self.before = {}
         self.calls = []
         self.connections = []
         #: Why nobody may have a connection.
@@ -82,6 +84,12 @@ class FakeLink:
         for row in rows:
             self.execute(statement % row)
 
+    def stream(self, statement):
+        """Is done as its rows are asked for, and gives one for each of three."""
+        for _ in range(3):
+            self.execute(statement)
+            yield self.rows[0]
+
     def fetchone(self):
         return self.rows.pop() if self.rows else None
 
@@ -124,6 +132,7 @@ class FakeConnection(Connection):
             raise ConnectionLost("the connection is gone")
         self.database.called(name)
         self.database.calls.append(f"{name} {xid}")
+        self.database.before.get(name, lambda: None)()
         wanted = self.database.next.pop(name, Code.OK)
         if wanted == "lost":
             done()

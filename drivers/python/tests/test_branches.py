@@ -47,6 +47,18 @@ class Branches(Case):
                     use()
         self.assertEqual(self.bank.written, ["mine", "the next one's"])
 
+    def test_rows_that_are_streamed_are_not_asked_for_in_the_next_transaction(self):
+        with self.xa.transaction() as t:
+            rows = t[0].cursor().stream("mine")
+            self.assertEqual(next(rows), ("mine",))
+        with self.xa.transaction() as t:
+            t[0].execute("the next one's")
+            with self.assertRaises(TransactionOver):
+                next(rows)
+            with self.assertRaises(EndRefused):
+                t[0].cursor().stream("COMMIT")
+        self.assertEqual(self.bank.written, ["mine", "the next one's"])
+
     def test_a_branch_that_another_thread_keeps_does_nothing_while_its_connection_is_in_use(self):
         branch, _, _ = self.kept()
         raised = []

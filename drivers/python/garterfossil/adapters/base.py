@@ -8,7 +8,7 @@ import enum
 import threading
 import time
 from dataclasses import dataclass
-from typing import Any, Callable, Collection, FrozenSet, Iterable, Iterator, List, Optional, Sequence, Tuple, TypeVar
+from typing import Any, Callable, Collection, FrozenSet, Iterable, Iterator, List, Mapping, Optional, Sequence, Tuple, TypeVar, Union
 
 from ..calls import Answer, Call
 from ..codes import Code
@@ -18,6 +18,8 @@ from ..watch import Wire
 from ..xid import FORMAT, Xid
 
 T = TypeVar("T")
+#: What the modules take for the placeholders of a statement.
+Parameters = Union[Sequence[Any], Mapping[str, Any]]
 
 
 @dataclass(frozen=True)
@@ -94,6 +96,9 @@ class Options:
 class Database(abc.ABC):
     """A database that takes part in transactions: how it is reached. Its methods may be called by any thread."""
 
+    #: How SQLAlchemy names its own dialect for the module that reaches the database, if it has one.
+    SQLALCHEMY: Optional[str] = None
+
     @abc.abstractmethod
     def connect(self, place: Place = Place()) -> Connection:
         """A new connection. Raises ConnectionLost if there is none to be had now, and SetupError if there never will be, as
@@ -106,6 +111,10 @@ class Database(abc.ABC):
         except ConnectionLost:
             return False
         return True
+
+    def by_hand(self, call: Call) -> str:
+        """The statement by which an operator makes a call on a prepared branch."""
+        return f"make the call {call}"
 
     @abc.abstractmethod
     def end_connections(self, kept: Collection[int], place: Place = Place()) -> int:
@@ -148,7 +157,7 @@ class Connection(abc.ABC):
 
     # ** work
 
-    def execute(self, statement: str, parameters: Sequence[Any] = ()) -> Result:
+    def execute(self, statement: str, parameters: Parameters = ()) -> Result:
         """Does a statement in the branch that is active. A database's own error is raised as it is; the branch can then only be
         rolled back, also where the database itself would go on."""
         return self.work(self._xid, lambda: self._work(statement, parameters))
@@ -233,7 +242,7 @@ class Connection(abc.ABC):
         with self._lock, self.timed(self.place.patience):
             if call.name == "xa_recover":
                 return self._recover(call)
-            return Answer(self._on_branch(call, call.xid))
+            return Answer(self._on_branch(call, call.branch))
 
     def _on_branch(self, call: Call, xid: Xid) -> Code:
         if call.name == "xa_start":
@@ -316,7 +325,7 @@ class Connection(abc.ABC):
         """The next page of the scan, in the order of the identifiers. It has the branches of the connection's own place."""
         if "TMSTARTRSCAN" in call.flags:
             self._scanned = ()
-        if self._scanned is None or call.count < 0:
+        if self._scanned is None or call.count is None or call.count < 0:
             raise Unanswered("no scan is open")
         rest = sorted(xid for xid in self.listed() if (xid.format, xid.gtrid, xid.bqual) > self._scanned)
         page = tuple(rest[: call.count])
@@ -330,6 +339,10 @@ class Connection(abc.ABC):
         """The prepared branches of the connection's own place."""
         return [xid for xid in self._listed() if self.place.owns(xid)]
 
+    def all_listed(self) -> List[Xid]:
+        """The prepared branches of all places and managers."""
+        return sorted(self._listed())
+
     # ** what a kind of database gives
 
     @abc.abstractmethod
@@ -342,12 +355,12 @@ class Connection(abc.ABC):
         return None
 
     @abc.abstractmethod
-    def run(self, statement: str, parameters: Sequence[Any] = ()) -> Result:
+    def run(self, statement: str, parameters: Parameters = ()) -> Result:
         """Does a statement for the program's own ends, outside of any branch. Errors of the database are raised as they are, but
         ConnectionLost where the connection is lost."""
 
     @abc.abstractmethod
-    def _work(self, statement: str, parameters: Sequence[Any]) -> Result:
+    def _work(self, statement: str, parameters: Parameters) -> Result:
         """Does a statement in the branch."""
 
     def _is_lost(self, error: Exception) -> bool:

@@ -4,13 +4,14 @@ from __future__ import annotations
 
 import math
 import time
-from typing import Any, Collection, List, Optional, Sequence, Set, Tuple
+from typing import Any, Collection, Iterable, List, Optional, Sequence, Set, Tuple, Type
 
+from ..calls import Call
 from ..codes import Code
 from ..errors import ConnectionLost, SetupError, Unanswered
 from ..statements import MARIADB
 from ..xid import Xid
-from .base import Connection, Database, Place, Result, xids_in
+from .base import Connection, Database, Parameters, Place, Result, xids_in
 
 #: Errors of MariaDB by their number.
 NO_SUCH_BRANCH, IN_ANOTHER_STATE, IN_USE = 1397, 1399, 1440
@@ -47,6 +48,8 @@ class MariaDB(Database):
     holds. `lock_timeout` is for how many seconds a statement waits for a lock: no database sees a deadlock that goes over two of
     them."""
 
+    SQLALCHEMY = "mariadb+pymysql"
+
     def __init__(self, *, lock_timeout: int = 10, **parameters: Any):
         if "autocommit" in parameters:
             raise ValueError("autocommit is the driver's own: a branch begins and ends its transaction")
@@ -58,31 +61,37 @@ class MariaDB(Database):
         return f"MariaDB({', '.join(f'{word}={value!r}' for word, value in shown.items())})"
 
     def connect(self, place: Place = Place()) -> MariaDBConnection:
-        connection = MariaDBConnection(self._link(place), self._lock_timeout, place)
+        connection = self._connection(place)
         with connection.timed(place.patience):
             connection.take_lock()
         return connection
 
     def end_connections(self, kept: Collection[int], place: Place = Place()) -> int:
-        connection = MariaDBConnection(self._link(place), self._lock_timeout, place)
+        connection = self._connection(place)
         try:
             with connection.timed(place.patience):
                 return connection.end_others(kept)
         finally:
             connection.close()
 
-    def _link(self, place: Place) -> Any:
+    def by_hand(self, call: Call) -> str:
+        return f"XA {call.verb} {call.xid and text_in_xa(call.xid)};"
+
+    def _connection(self, place: Place) -> MariaDBConnection:
         import pymysql
 
+        link = self._link(pymysql, pymysql.err.MySQLError, place, ("connect_timeout", "read_timeout", "write_timeout"))
+        for word in ("read_timeout", "write_timeout"):
+            # They were for the greeting, which PyMySQL waits for by them alone. A statement may take longer.
+            setattr(link, f"_{word}", self._parameters.get(word))
+        return MariaDBConnection(link, self._lock_timeout, place)
+
+    def _link(self, module: Any, kind_of_error: Type[Exception], place: Place, waits: Iterable[str]) -> Any:
+        """A connection of the module, of which these keywords say for how many seconds it waits."""
         seconds = max(2, math.ceil(place.patience))
-        waits = {"connect_timeout": seconds, "read_timeout": seconds, "write_timeout": seconds}
         try:
-            link = pymysql.connect(autocommit=True, **{**waits, **self._parameters})
-            for word in ("read_timeout", "write_timeout"):
-                # They were for the greeting, which PyMySQL waits for by them alone. A statement may take longer.
-                setattr(link, f"_{word}", self._parameters.get(word))
-            return link
-        except (pymysql.err.MySQLError, OSError) as error:
+            return module.connect(autocommit=True, **{**dict.fromkeys(waits, seconds), **self._parameters})
+        except (kind_of_error, OSError) as error:
             if error.args and error.args[0] in REFUSALS:
                 raise SetupError(str(error)) from error
             raise ConnectionLost(str(error)) from error
@@ -101,15 +110,26 @@ class MariaDBConnection(Connection):
         with self.timed(place.patience):
             self.run(f"SET innodb_lock_wait_timeout = {int(lock_timeout)}")
 
+    @property
+    def errors(self) -> Any:
+        """The module's errors (PEP 249)."""
+        import pymysql
+
+        return pymysql.err
+
+    def _plain_cursor(self) -> Any:
+        """A cursor whose rows are tuples, whatever kind of cursor the program has asked for."""
+        import pymysql
+
+        return self.link.cursor(pymysql.cursors.Cursor)
+
     def _descriptor(self) -> Optional[int]:
         return int(self.link._sock.fileno())
 
     def _close(self) -> None:
-        import pymysql
-
         try:
             self.link.close()
-        except (pymysql.err.MySQLError, OSError):
+        except (self.errors.MySQLError, OSError):
             pass
 
     # ** the connections of a place
@@ -149,84 +169,70 @@ class MariaDBConnection(Connection):
             time.sleep(0.02)
 
     def _end_connection(self, number: int) -> None:
-        import pymysql
-
         try:
             self.run(f"KILL CONNECTION {int(number)}")
-        except pymysql.err.MySQLError as error:
+        except self.errors.MySQLError as error:
             if error.args[0] != NO_SUCH_CONNECTION:
                 raise SetupError(f"the user may not end connection {number}, which an earlier run of the manager left: {error}") from error
 
     # ** work
 
-    def _work(self, statement: str, parameters: Sequence[Any]) -> Result:
+    def _work(self, statement: str, parameters: Parameters) -> Result:
         return self.run(statement, parameters)
 
     def _vote_of(self, error: Exception) -> Optional[Code]:
         """MariaDB would prepare what is left of the branch, except after a deadlock."""
-        import pymysql
-
-        if not isinstance(error, pymysql.err.MySQLError) or not isinstance(error.args[0], int):
+        if not isinstance(error, self.errors.MySQLError) or not isinstance(error.args[0], int):
             # PyMySQL's own: the server knows nothing of it.
             return None
-        return Code.RBINTEGRITY if isinstance(error, pymysql.err.IntegrityError) else VOTES.get(error.args[0], Code.RBOTHER)
+        return Code.RBINTEGRITY if isinstance(error, self.errors.IntegrityError) else VOTES.get(error.args[0], Code.RBOTHER)
 
     def _is_lost(self, error: Exception) -> bool:
-        import pymysql
-
-        if isinstance(error, (pymysql.err.InterfaceError, OSError)):
+        if isinstance(error, (self.errors.InterfaceError, OSError)):
             return True
-        return isinstance(error, pymysql.err.MySQLError) and (not error.args or error.args[0] in LOST)
+        return isinstance(error, self.errors.MySQLError) and (not error.args or error.args[0] in LOST)
 
     # ** calls
 
     def _start(self, xid: Xid) -> Code:
-        import pymysql
-
         try:
             if self.options.modes:
                 self.run("SET TRANSACTION " + ", ".join(self.options.modes))
             self._xa("START", xid)
-        except pymysql.err.MySQLError as error:
+        except self.errors.MySQLError as error:
             if error.args[0] == IN_USE:
                 return Code.DUPID
             raise Unanswered(str(error)) from error
         return Code.OK
 
     def _end(self, xid: Xid) -> None:
-        import pymysql
-
         try:
             self._xa("END", xid)
-        except pymysql.err.MySQLError as error:
+        except self.errors.MySQLError as error:
             # A branch that was in a deadlock can only be rolled back, and says so here already. Its vote will tell.
             self._fault = self._fault or VOTES.get(error.args[0], Code.RBROLLBACK)
             self.reason = self.reason or error
 
     def _prepare(self, xid: Xid) -> Code:
-        import pymysql
-
         vote = self._fault
         if vote is None:
             try:
                 self._xa("PREPARE", xid)
                 return Code.OK
-            except pymysql.err.MySQLError as error:
+            except self.errors.MySQLError as error:
                 self.reason = error
                 vote = VOTES.get(error.args[0], Code.RBOTHER)
         self._roll_back(xid)
         return vote
 
     def _commit_in_one_phase(self, xid: Xid) -> Code:
-        import pymysql
-
         if self._fault is not None:
             fault = self._fault
             self._roll_back(xid)
             return fault
         try:
             self._xa("COMMIT", xid, " ONE PHASE")
-        except pymysql.err.MySQLError as error:
+        except self.errors.MySQLError as error:
             if error.args[0] in VOTES:
                 self.reason = error
                 return VOTES[error.args[0]]
@@ -234,11 +240,9 @@ class MariaDBConnection(Connection):
         return Code.OK
 
     def _roll_back(self, xid: Xid) -> None:
-        import pymysql
-
         try:
             self._xa("ROLLBACK", xid)
-        except pymysql.err.MySQLError as error:
+        except self.errors.MySQLError as error:
             # A branch that MariaDB rolled back by itself isn't there any more, or says once more why.
             if error.args[0] != NO_SUCH_BRANCH and error.args[0] not in VOTES:
                 raise Unanswered(str(error)) from error
@@ -252,11 +256,9 @@ class MariaDBConnection(Connection):
     def _is_ended(self, verb: str, xid: Xid) -> bool:
         """Ends a prepared branch. False where there is none, as the list says too: MariaDB says it as well of a branch whose
         connection still lives."""
-        import pymysql
-
         try:
             self._xa(verb, xid)
-        except pymysql.err.MySQLError as error:
+        except self.errors.MySQLError as error:
             if error.args[0] == NO_SUCH_BRANCH and xid not in self._listed():
                 return False
             raise Unanswered(str(error)) from error
@@ -268,20 +270,22 @@ class MariaDBConnection(Connection):
     # ** statements
 
     def _xa(self, verb: str, xid: Xid, tail: str = "") -> None:
-        self.run(f"XA {verb} X'{xid.gtrid.hex()}',X'{xid.bqual.hex()}',{xid.format}{tail}")
+        self.run(f"XA {verb} {text_in_xa(xid)}{tail}")
 
-    def run(self, statement: str, parameters: Sequence[Any] = ()) -> Result:
-        import pymysql
-
+    def run(self, statement: str, parameters: Parameters = ()) -> Result:
         try:
-            # Whatever kind of cursor the program has asked for, its own rows are tuples.
-            with self.link.cursor(pymysql.cursors.Cursor) as cursor:
+            with self._plain_cursor() as cursor:
                 cursor.execute(statement, parameters or None)
                 return Result(list(cursor.fetchall()), cursor.rowcount)
-        except (pymysql.err.MySQLError, OSError) as error:
+        except (self.errors.MySQLError, OSError) as error:
             if self._is_lost(error):
                 raise ConnectionLost(str(error)) from error
             raise
+
+
+def text_in_xa(xid: Xid) -> str:
+    """An identifier as MariaDB's statements of XA have it, as in X'0a',X'01',7."""
+    return f"X'{xid.gtrid.hex()}',X'{xid.bqual.hex()}',{xid.format}"
 
 
 def text_of(row: Tuple[Any, ...]) -> str:

@@ -6,13 +6,14 @@ import math
 import re
 import time
 from dataclasses import dataclass
-from typing import Any, Collection, List, Optional, Sequence, Set
+from typing import Any, Collection, List, Optional, Set
 
+from ..calls import Call
 from ..codes import Code
 from ..errors import ConnectionLost, SetupError, Unanswered
 from ..statements import POSTGRESQL
 from ..xid import Xid
-from .base import Connection, Database, Place, Result, xids_in
+from .base import Connection, Database, Parameters, Place, Result, xids_in
 
 #: By the state of an error (SQLSTATE) why the branch was rolled back. All of class 23 break a constraint.
 VOTES = {
@@ -23,6 +24,8 @@ VOTES = {
 }
 NO_SUCH_BRANCH = "42704"
 OTHER_DATABASE, OTHER_USER = "0A000", "42501"
+#: libpq's PQTRANS_IDLE and PQTRANS_INERROR.
+IDLE, IN_ERROR = 0, 3
 
 
 #: What the server says as it refuses a connection that it will go on to refuse. psycopg2 has no SQLSTATE of these.
@@ -46,6 +49,8 @@ class PostgreSQL(Database):
     which come the manager's name, if it has one, and the database's number: no other program uses that with the same user.
     `lock_timeout` is for how many seconds a statement waits for a lock: no database sees a deadlock that goes over two of them."""
 
+    SQLALCHEMY = "postgresql+psycopg2"
+
     def __init__(self, dsn: str = "", *, name: str = "garterfossil", lock_timeout: float = 10.0, **parameters: Any):
         for word, instead in (("application_name", "name"), ("async", "transaction_async of the manager"), ("async_", "threads")):
             if word in parameters:
@@ -60,10 +65,10 @@ class PostgreSQL(Database):
         return f"PostgreSQL({shown!r})"
 
     def connect(self, place: Place = Place()) -> PostgreSQLConnection:
-        return PostgreSQLConnection(self._link(self._label(place), place), self._lock_timeout, place)
+        return self._connection(self._label(place), place)
 
     def end_connections(self, kept: Collection[int], place: Place = Place()) -> int:
-        connection = PostgreSQLConnection(self._link(f"{self._label(place)} recovery", place), self._lock_timeout, place)
+        connection = self._connection(f"{self._label(place)} recovery", place)
         try:
             with connection.timed(place.patience):
                 return connection.end_others(self._label(place), kept)
@@ -74,18 +79,25 @@ class PostgreSQL(Database):
         """The application_name of a place's connections."""
         return " ".join(word for word in (self._name, place.manager, str(place.number)) if word)
 
-    def _link(self, label: str, place: Place) -> Any:
+    def by_hand(self, call: Call) -> str:
+        return f"{call.verb} PREPARED '{call.xid}';"
+
+    def _connection(self, label: str, place: Place) -> PostgreSQLConnection:
         import psycopg2
 
+        return PostgreSQLConnection(self._link(psycopg2, label, place), self._lock_timeout, place)
+
+    def _link(self, module: Any, label: str, place: Place) -> Any:
+        """A connection of the module, of this application_name."""
         seconds = max(2, math.ceil(place.patience))
         waits = {"connect_timeout": seconds, "tcp_user_timeout": 1000 * seconds}
         given = {word: value for word, value in waits.items() if word not in self._dsn}
         try:
-            link = psycopg2.connect(self._dsn, **{**given, **self._parameters}, application_name=label)
+            link = module.connect(self._dsn, **{**given, **self._parameters}, application_name=label)
             link.autocommit = True
-        except (psycopg2.OperationalError, psycopg2.ProgrammingError) as error:
+        except (module.OperationalError, module.ProgrammingError) as error:
             said = str(error).strip()
-            if isinstance(error, psycopg2.ProgrammingError) or REFUSALS.search(said):
+            if isinstance(error, module.ProgrammingError) or REFUSALS.search(said):
                 raise SetupError(said) from error
             raise ConnectionLost(said) from error
         return link
@@ -99,7 +111,7 @@ class PostgreSQLConnection(Connection):
 
     def __init__(self, link: Any, lock_timeout: float, place: Place = Place()):
         super().__init__(link, place)
-        self.number = link.get_backend_pid()
+        self.number = self._pid()
         # Whether psycopg2 takes the connection for one with a transaction of psycopg2's own.
         self._is_begun = False
         with self.timed(place.patience):
@@ -111,15 +123,34 @@ class PostgreSQLConnection(Connection):
                 f"max_prepared_transactions of PostgreSQL is {most}: set it to {place.threads} or more, the number of threads"
             )
 
+    @property
+    def errors(self) -> Any:
+        """The module's errors (PEP 249)."""
+        import psycopg2
+
+        return psycopg2
+
+    def _plain_cursor(self) -> Any:
+        """A cursor whose rows are tuples, whatever kind of cursor the program has asked for."""
+        import psycopg2
+
+        return self.link.cursor(cursor_factory=psycopg2.extensions.cursor)
+
+    def _pid(self) -> int:
+        """The number of the server's process."""
+        return int(self.link.get_backend_pid())
+
+    def _status(self) -> int:
+        """How its transaction stands, by libpq's number (`IDLE`, `IN_ERROR`)."""
+        return int(self.link.get_transaction_status())
+
     def _descriptor(self) -> Optional[int]:
         return int(self.link.fileno())
 
     def _close(self) -> None:
-        import psycopg2
-
         try:
             self.link.close()
-        except psycopg2.Error:
+        except self.errors.Error:
             pass
 
     def end_others(self, label: str, kept: Collection[int]) -> int:
@@ -146,9 +177,7 @@ class PostgreSQLConnection(Connection):
 
     @property
     def fault(self) -> Optional[Code]:
-        from psycopg2.extensions import TRANSACTION_STATUS_INERROR
-
-        if self.link.get_transaction_status() != TRANSACTION_STATUS_INERROR:
+        if self._status() != IN_ERROR:
             return None
         return self._fault or Code.RBROLLBACK
 
@@ -165,13 +194,11 @@ class PostgreSQLConnection(Connection):
             return str(statement.as_string(self.link))
         return super().text_of(statement)
 
-    def _work(self, statement: str, parameters: Sequence[Any]) -> Result:
+    def _work(self, statement: str, parameters: Parameters) -> Result:
         return self.run(statement, parameters)
 
     def _vote_of(self, error: Exception) -> Optional[Code]:
-        import psycopg2
-
-        return vote_of(error) if isinstance(error, psycopg2.Error) else None
+        return vote_of(error) if isinstance(error, self.errors.Error) else None
 
     def _see_branch(self) -> None:
         if self._is_idle():
@@ -188,14 +215,12 @@ class PostgreSQLConnection(Connection):
         """PostgreSQL has no xa_end."""
 
     def _prepare(self, xid: Xid) -> Code:
-        import psycopg2
-
         try:
             if self.fault is None and not self._has_written():
                 return Code.RDONLY if self.run("COMMIT").tag == "COMMIT" else Code.RBROLLBACK
             # Of a transaction that failed PREPARE TRANSACTION makes a rollback, which only its tag tells.
             tag = self.run("PREPARE TRANSACTION %s", [str(xid)]).tag
-        except psycopg2.Error as error:
+        except self.errors.Error as error:
             self.reason = error
             self._see_rolled_back()
             return vote_of(error)
@@ -210,11 +235,9 @@ class PostgreSQLConnection(Connection):
             self.run("ROLLBACK")
 
     def _commit_in_one_phase(self, xid: Xid) -> Code:
-        import psycopg2
-
         try:
             tag = self.run("COMMIT").tag
-        except psycopg2.Error as error:
+        except self.errors.Error as error:
             self.reason = error
             self._see_rolled_back()
             return vote_of(error)
@@ -230,14 +253,12 @@ class PostgreSQLConnection(Connection):
         return self._end_prepared("ROLLBACK PREPARED %s", xid)
 
     def _end_prepared(self, statement: str, xid: Xid) -> Code:
-        import psycopg2
-
         try:
             self.run(statement, [str(xid)])
-        except psycopg2.Error as error:
-            if error.pgcode == NO_SUCH_BRANCH:
+        except self.errors.Error as error:
+            if state_of(error) == NO_SUCH_BRANCH:
                 return Code.NOTA
-            if error.pgcode in (OTHER_DATABASE, OTHER_USER):
+            if state_of(error) in (OTHER_DATABASE, OTHER_USER):
                 raise SetupError(f"{xid} can't be ended here: {error}".strip()) from error
             raise Unanswered(str(error).strip()) from error
         return Code.OK
@@ -249,13 +270,11 @@ class PostgreSQLConnection(Connection):
 
     def _leave_begun(self) -> None:
         """Has psycopg2 know that its transaction is over. To the server, which has none any more, the ROLLBACK does nothing."""
-        import psycopg2
-
         self._is_begun = False
         try:
             self.link.rollback()
             self.link.autocommit = True
-        except psycopg2.Error:
+        except self.errors.Error:
             # It is lost, as what uses it next finds.
             self.close()
 
@@ -265,16 +284,13 @@ class PostgreSQLConnection(Connection):
 
     # ** statements
 
-    def run(self, statement: str, parameters: Sequence[Any] = ()) -> Tagged:
-        import psycopg2
-
+    def run(self, statement: str, parameters: Parameters = ()) -> Tagged:
         try:
-            # Whatever kind of cursor the program has asked for, its own rows are tuples.
-            with self.link.cursor(cursor_factory=psycopg2.extensions.cursor) as cursor:
+            with self._plain_cursor() as cursor:
                 cursor.execute(statement, parameters or None)
                 rows = cursor.fetchall() if cursor.description else []
                 return Tagged(rows, cursor.rowcount, cursor.statusmessage)
-        except psycopg2.Error as error:
+        except self.errors.Error as error:
             if self._is_lost(error):
                 raise ConnectionLost(str(error).strip()) from error
             raise
@@ -282,21 +298,17 @@ class PostgreSQLConnection(Connection):
     def _is_lost(self, error: Exception) -> bool:
         """Whether the connection is lost: it is closed, or PostgreSQL says that it ends it. 57014 is of one statement that was
         cancelled. An error without a state is psycopg2's own; of those an OperationalError or a plain DatabaseError is a loss."""
-        import psycopg2
-
-        if not isinstance(error, psycopg2.Error):
+        if not isinstance(error, self.errors.Error):
             return False
-        state = error.pgcode
+        state = state_of(error)
         if self.link.closed:
             return True
         if state is None:
-            return type(error) in (psycopg2.OperationalError, psycopg2.DatabaseError, psycopg2.Error)
+            return type(error) in (self.errors.OperationalError, self.errors.DatabaseError, self.errors.Error)
         return state[:2] in ("08", "57") and state != "57014"
 
     def _is_idle(self) -> bool:
-        from psycopg2.extensions import TRANSACTION_STATUS_IDLE
-
-        return self.link.get_transaction_status() == TRANSACTION_STATUS_IDLE
+        return self._status() == IDLE
 
 
 @dataclass(frozen=True)
@@ -308,5 +320,10 @@ class Tagged(Result):
 
 def vote_of(error: Any) -> Code:
     """Why a branch is rolled back whose work failed so."""
-    state = error.pgcode or ""
+    state = state_of(error) or ""
     return Code.RBINTEGRITY if state.startswith("23") else VOTES.get(state, Code.RBOTHER)
+
+
+def state_of(error: Any) -> Optional[str]:
+    """The state of an error (SQLSTATE), if the server sent it: psycopg2 and psycopg have it under names of their own."""
+    return getattr(error, "pgcode", None) or getattr(error, "sqlstate", None)

@@ -1,0 +1,346 @@
+package garterfossil;
+
+import static garterfossil.Answers.ACTIVE;
+import static garterfossil.Answers.FOUND;
+import static garterfossil.Answers.IDLE;
+import static garterfossil.Answers.PREPARED;
+import static garterfossil.Answers.ROLLBACK_ONLY;
+import static garterfossil.Answers.S0;
+
+import javax.transaction.xa.XAException;
+import javax.transaction.xa.XAResource;
+
+/** The part of a transaction at one resource, over one connection. Its transaction calls it, one call after the other. */
+final class Branch {
+    private static final String NO_MORE_WORK = "the transaction is over for this connection: get a new one";
+
+    final BranchXid xid;
+    final Line line;
+    final Gate gate = new Gate();
+    private final ResourceManager.Lease lease;
+    private final XAResource resource;
+    private int may = S0;
+    private boolean isFailed, isLost, isOver, isCommitIssued;
+    // Why it can only be rolled back, by a code of XA; 0 if it may still be committed.
+    private int vote;
+
+    Branch(BranchXid xid, Line line, ResourceManager.Lease lease, XAResource resource) {
+        this.xid = xid;
+        this.line = line;
+        this.lease = lease;
+        this.resource = resource;
+    }
+
+    ResourceManager rm() {
+        return line.rm;
+    }
+
+    XAResource resource() {
+        return resource;
+    }
+
+    Link link() {
+        return lease == null ? null : lease.link;
+    }
+
+    int may() {
+        return may;
+    }
+
+    boolean isLost() {
+        return isLost;
+    }
+
+    boolean isOver() {
+        return isOver;
+    }
+
+    boolean isPrepared() {
+        return may == PREPARED && !isOver;
+    }
+
+    private String name() {
+        return xid.transaction();
+    }
+
+    // ** work
+
+    /** xa_start. It is made before the coordinator says that it is issued: what is begun on a connection ends with it. */
+    void start() throws Fault {
+        line.open();
+        line.issue("xa_start " + name());
+        line.flush();
+        try {
+            resource.start(xid, XAResource.TMNOFLAGS);
+        } catch (XAException error) {
+            throw lost(Answers.unanswered("xa_start", error), S0);
+        } catch (RuntimeException error) {
+            throw lost(new Fault.Lost("xa_start", error), S0);
+        }
+        may = ACTIVE;
+        line.report("xa_start " + name(), Code.OK);
+    }
+
+    /** The work failed: the branch will be ended by TMFAIL, and rolled back. */
+    void fail() {
+        isFailed = true;
+    }
+
+    // ** the first phase
+
+    void issueVote() {
+        line.issue("xa_end " + name() + " TMSUCCESS");
+        line.issue("xa_prepare " + name());
+    }
+
+    /** xa_end of a branch that is to be committed. */
+    void end() throws Fault {
+        line.see();
+        if (!gate.shut(NO_MORE_WORK, Manager.WORK_PATIENCE)) {
+            throw lost(new Fault.Lost("work on the connection doesn't end", null), S0);
+        }
+        vote = endResource(XAResource.TMSUCCESS);
+        may = IDLE;
+        line.report("xa_end " + name(), Code.OK);
+    }
+
+    /** Ends the work: 0, or why the branch can only be rolled back. */
+    private int endResource(int flag) throws Fault {
+        try {
+            resource.end(xid, flag);
+            return Code.OK;
+        } catch (XAException error) {
+            if (Code.isRollback(error.errorCode)) {
+                return error.errorCode;
+            }
+            throw lost(Answers.unanswered("xa_end", error), S0);
+        } catch (RuntimeException error) {
+            throw lost(new Fault.Lost("xa_end", error), S0);
+        }
+    }
+
+    /** xa_prepare: the vote. Except after XA_OK the branch is over. */
+    int prepare() throws Fault {
+        line.flush();
+        int code = vote == Code.OK ? prepareResource() : rolledBackAtOnce();
+        line.report("xa_prepare " + name(), code);
+        if (code == Code.OK) {
+            may = PREPARED;
+        } else {
+            isOver = true;
+        }
+        return code;
+    }
+
+    private int prepareResource() throws Fault {
+        try {
+            int code = resource.prepare(xid);
+            if (code == Code.OK || code == Code.RDONLY) {
+                return code;
+            }
+            throw lost(new Fault.Lost("xa_prepare answered " + Code.name(code), null), FOUND);
+        } catch (XAException error) {
+            if (Code.isRollback(error.errorCode)) {
+                return error.errorCode;
+            }
+            throw lost(Answers.unanswered("xa_prepare", error), FOUND);
+        } catch (RuntimeException error) {
+            throw lost(new Fault.Lost("xa_prepare", error), FOUND);
+        }
+    }
+
+    /** Rolls back what the resource doesn't let commit, as xa_end said: that is its vote. */
+    private int rolledBackAtOnce() throws Fault {
+        try {
+            Answers.rollback(resource, xid, may);
+        } catch (Fault.Lost error) {
+            throw lost(error, FOUND);
+        }
+        return vote;
+    }
+
+    /** xa_end, and xa_commit in one phase: XA_OK, or why it was rolled back. */
+    int commitInOnePhase() throws Fault {
+        line.issue("xa_end " + name() + " TMSUCCESS");
+        line.issue("xa_commit " + name() + " TMONEPHASE");
+        end();
+        line.flush();
+        isCommitIssued = true;
+        int code = vote == Code.OK ? commitResource() : rolledBackAtOnce();
+        line.report("xa_commit " + name(), code);
+        isOver = true;
+        return code;
+    }
+
+    /** Whether an xa_commit in one phase may have been made. */
+    boolean isCommitIssued() {
+        return isCommitIssued;
+    }
+
+    private int commitResource() throws Fault {
+        try {
+            resource.commit(xid, true);
+            return Code.OK;
+        } catch (XAException error) {
+            if (Code.isRollback(error.errorCode)) {
+                return error.errorCode;
+            }
+            throw lost(Answers.unanswered("xa_commit in one phase", error), S0);
+        } catch (RuntimeException error) {
+            throw lost(new Fault.Lost("xa_commit in one phase", error), S0);
+        }
+    }
+
+    // ** the second phase
+
+    /** Issues xa_commit of the prepared branch, if it has a connection. */
+    void issueCommit() {
+        if (!isLost) {
+            line.issue("xa_commit " + name());
+        }
+    }
+
+    void takeBackCommit() {
+        if (!isLost) {
+            line.takeBack();
+        }
+    }
+
+    /** xa_commit, which waits on the line. XA_RETRY is for the keeper. */
+    int commit() throws Fault {
+        line.see();
+        int code;
+        try {
+            code = Answers.commit(resource, xid, may);
+        } catch (Fault.Lost error) {
+            throw lost(error, FOUND);
+        }
+        line.report("xa_commit " + name(), code);
+        if (code != Code.OK) {
+            line.see();
+        }
+        isOver = code != Code.RETRY;
+        forgetIf(code);
+        return code;
+    }
+
+    /** Issues xa_end, if it is due; it is seen to with the rollback. */
+    void issueEnd() {
+        if (may == ACTIVE && !isLost) {
+            line.issue("xa_end " + name() + (isFailed ? " TMFAIL" : " TMSUCCESS"));
+        }
+    }
+
+    void issueRollback() {
+        if (!isLost && !isOver) {
+            line.issue("xa_rollback " + name());
+        }
+    }
+
+    /** xa_end, if it waits on the line. */
+    void endToRollBack() throws Fault {
+        if (may != ACTIVE || isLost) {
+            return;
+        }
+        line.see();
+        if (!gate.shut(NO_MORE_WORK, 0)) {
+            throw lost(new Fault.Lost("work on the connection doesn't end", null), S0);
+        }
+        endResource(isFailed ? XAResource.TMFAIL : XAResource.TMSUCCESS);
+        may = isFailed ? ROLLBACK_ONLY : IDLE;
+        line.report("xa_end " + name(), isFailed ? Code.ROLLBACK : Code.OK);
+    }
+
+    /** xa_rollback, which waits on the line. */
+    int rollback() throws Fault {
+        line.see();
+        line.flush();
+        int code;
+        try {
+            code = Answers.rollback(resource, xid, may);
+        } catch (Fault.Lost error) {
+            throw lost(error, may == PREPARED ? FOUND : S0);
+        }
+        line.report("xa_rollback " + name(), code);
+        line.see();
+        isOver = true;
+        forgetIf(code);
+        return code;
+    }
+
+    private void forgetIf(int code) throws Fault {
+        if (Code.isHeuristic(code)) {
+            Keeper.forget(line, xid, resource);
+        }
+    }
+
+    // ** its end
+
+    /** The connection goes back to the pool, if nothing of the branch is on it. */
+    void release() {
+        gate.shut(NO_MORE_WORK, Manager.WORK_PATIENCE);
+        if (lease == null || isLost) {
+            return;
+        }
+        if (isOver) {
+            lease.giveBack();
+        } else {
+            lease.lose();
+        }
+    }
+
+    /** The connection is given up, with what waits on its line. */
+    void giveUp(String why) {
+        if (isLost) {
+            return;
+        }
+        abandon(why, may != PREPARED);
+        may = may == PREPARED ? FOUND : S0;
+        try {
+            line.crash();
+        } catch (Fault error) {
+            Manager.LOG.log(System.Logger.Level.DEBUG, "the line of a branch that is given up", error);
+        }
+    }
+
+    /** The session is over: the work is undone as far as that can be done here, and the connection closed. */
+    void abandon(String why, boolean isUndone) {
+        if (isLost) {
+            return;
+        }
+        boolean isQuiet = gate.shut(why, 0);
+        isLost = true;
+        if (isQuiet && isUndone && (may & (ACTIVE | IDLE | ROLLBACK_ONLY)) != 0 && !isOver) {
+            undo();
+        }
+        if (lease != null) {
+            lease.lose();
+        }
+    }
+
+    /** A resource in this process keeps an active branch although its connection is closed. */
+    private void undo() {
+        try {
+            if (may == ACTIVE) {
+                resource.end(xid, XAResource.TMFAIL);
+            }
+        } catch (XAException | RuntimeException error) {
+            // What follows says whether it is over.
+        }
+        try {
+            resource.rollback(xid);
+        } catch (XAException | RuntimeException error) {
+            Manager.LOG.log(System.Logger.Level.DEBUG, () -> xid + " ends with its connection: " + error);
+        }
+    }
+
+    /** The connection is lost, in a call after which the branch may be in these states. */
+    private Fault lost(Fault.Lost error, int states) throws Fault {
+        // A resource that said no to the end of a prepared branch, and is still there, hasn't done what it refused.
+        boolean isRefused = may == PREPARED && link() != null && link().isUsable();
+        abandon("the connection to " + rm() + " is lost: " + error.getMessage(), states == S0);
+        may = isRefused ? PREPARED : states;
+        line.crash();
+        return error;
+    }
+}

@@ -1,0 +1,362 @@
+package garterfossil;
+
+import java.io.ByteArrayOutputStream;
+import java.io.File;
+import java.io.IOException;
+import java.io.InputStream;
+import java.io.OutputStream;
+import java.nio.charset.StandardCharsets;
+import java.util.ArrayDeque;
+import java.util.ArrayList;
+import java.util.Arrays;
+import java.util.List;
+import java.util.Queue;
+import java.util.concurrent.ConcurrentLinkedQueue;
+import java.util.concurrent.TimeUnit;
+import java.util.concurrent.locks.Condition;
+import java.util.concurrent.locks.ReentrantLock;
+
+/**
+ * The coordinator: {@code xatm serve}, a process that this one starts and asks, one line a request (docs/SERVE.md).
+ *
+ * <p>Any thread may ask. A request that is posted is written with the next one that is waited for, and the replies come in the
+ * order of the requests: whichever thread waits reads what has come, and wakes the threads whose replies are among it.
+ */
+final class Coordinator {
+    /** The rules by which a step is refused because the manager is down, or the transaction is over. */
+    static final int MANAGER_DOWN = 1, UNKNOWN_TRANSACTION = 5, LOG_FAULT = 15;
+    /** The status with which the coordinator ends where its log can't be opened, or another one has it. */
+    static final int LOG_STATUS = 2;
+    /** So many requests may be written without a reply that was read: their replies fit into the pipe, so neither side blocks the other. */
+    private static final int AHEAD = 400;
+    /** So the coordinator gets a process group of its own: Ctrl-C in a terminal is for the program alone. */
+    private static final File SETSID = new File("/usr/bin/setsid");
+
+    /** A request that is on its way, and the place of its reply. */
+    static final class Reply {
+        private final String request;
+        private volatile boolean isWritten;
+        private volatile String line;
+        // What wakes the thread that waits for it, where another one reads.
+        private Condition arrival;
+
+        private Reply(String request) {
+            this.request = request;
+        }
+    }
+
+    /** The first line of the session. */
+    final String greeting;
+    private final Process process;
+    private final OutputStream output;
+    private final InputStream input;
+    // What is to be written, under the lock `writing`; and the requests without a reply, in the same order.
+    private final Object writing = new Object();
+    private final ArrayDeque<Reply> unwritten = new ArrayDeque<>();
+    private final ByteArrayOutputStream block = new ByteArrayOutputStream(8192);
+    private final Queue<Reply> waiting = new ConcurrentLinkedQueue<>();
+    private int ahead;
+    // Whether a thread reads, and those whose threads it is to wake; under the lock `reading`.
+    private final ReentrantLock reading = new ReentrantLock();
+    private final ArrayDeque<Reply> asleep = new ArrayDeque<>();
+    private boolean isRead;
+    private int replied;
+    private byte[] came = new byte[8192];
+    private int begun;
+    private final Object ending = new Object();
+    private volatile String fault;
+
+    /** Starts the process. The session begins with a line of its own. */
+    Coordinator(List<String> command) throws Fault.Gone {
+        try {
+            process = new ProcessBuilder(inOwnGroup(command)).start();
+        } catch (IOException error) {
+            throw new Fault.Gone("it doesn't start: " + error.getMessage());
+        }
+        output = process.getOutputStream();
+        input = process.getInputStream();
+        Reply first = new Reply("the start");
+        first.isWritten = true;
+        waiting.add(first);
+        ahead = 1;
+        try {
+            readUntil(first);
+        } catch (IOException error) {
+            throw gone(error.getMessage());
+        }
+        greeting = first.line;
+        if (!greeting.startsWith("restarted ")) {
+            throw gone("it began with the line: " + greeting);
+        }
+    }
+
+    private static List<String> inOwnGroup(List<String> command) {
+        if (!SETSID.canExecute()) {
+            return command;
+        }
+        List<String> words = new ArrayList<>(List.of(SETSID.getPath()));
+        words.addAll(command);
+        return words;
+    }
+
+    boolean isGone() {
+        return fault != null;
+    }
+
+    /** The status with which the process ended; -1 while it runs. */
+    int status() {
+        return process.isAlive() ? -1 : process.exitValue();
+    }
+
+    long pid() {
+        return process.pid();
+    }
+
+    // ** requests
+
+    /** The reply to a request. */
+    String ask(String request) throws Fault {
+        return await(post(request));
+    }
+
+    /** Puts a request on its way. */
+    Reply post(String request) {
+        Reply reply = new Reply(request);
+        synchronized (writing) {
+            unwritten.add(reply);
+        }
+        return reply;
+    }
+
+    /** Sees that what was posted until this request is written. */
+    void flush(Reply reply) throws Fault.Gone {
+        if (!reply.isWritten) {
+            write();
+        }
+    }
+
+    /** Sees that all that was posted is written. */
+    void flush() throws Fault.Gone {
+        synchronized (writing) {
+            if (unwritten.isEmpty()) {
+                return;
+            }
+        }
+        write();
+    }
+
+    /** The reply to a request that was posted. */
+    String await(Reply reply) throws Fault {
+        if (reply.line == null) {
+            flush(reply);
+            try {
+                readUntil(reply);
+            } catch (IOException error) {
+                throw gone(error.getMessage());
+            }
+        }
+        return judged(reply);
+    }
+
+    private String judged(Reply reply) throws Fault {
+        String line = reply.line;
+        if (line.startsWith("refused ")) {
+            String[] words = line.split(" ");
+            int number = Integer.parseInt(words[1]);
+            if (number == MANAGER_DOWN || number == LOG_FAULT) {
+                throw gone("its log failed: " + line);
+            }
+            throw new Fault.Refused(number, line + ", to the request: " + reply.request);
+        }
+        if (line.equals("error the branch is in no such state")) {
+            throw new Fault.Unexplained(line + ", to the request: " + reply.request);
+        }
+        if (line.startsWith("error ")) {
+            throw new Fault.Refused(0, line + ", to the request: " + reply.request);
+        }
+        return line;
+    }
+
+    private void write() throws Fault.Gone {
+        try {
+            synchronized (writing) {
+                while (!unwritten.isEmpty()) {
+                    writeSome();
+                }
+            }
+        } catch (IOException error) {
+            throw gone(error.getMessage());
+        }
+    }
+
+    private void writeSome() throws IOException {
+        if (fault != null) {
+            throw new IOException(fault);
+        }
+        int count = Math.min(unwritten.size(), AHEAD / 2);
+        if (ahead + count > AHEAD) {
+            seeReplies(count);
+        }
+        block.reset();
+        List<Reply> written = new ArrayList<>(count);
+        for (int at = 0; at < count; at++) {
+            Reply reply = unwritten.remove();
+            waiting.add(reply);
+            written.add(reply);
+            block.writeBytes(reply.request.getBytes(StandardCharsets.ISO_8859_1));
+            block.write('\n');
+        }
+        ahead += count;
+        block.writeTo(output);
+        output.flush();
+        written.forEach(reply -> reply.isWritten = true);
+    }
+
+    /** Waits until so many more requests may be written. */
+    private void seeReplies(int count) throws IOException {
+        while (true) {
+            reading.lock();
+            ahead -= replied;
+            replied = 0;
+            reading.unlock();
+            Reply first = waiting.peek();
+            if (ahead + count <= AHEAD || first == null) {
+                return;
+            }
+            readUntil(first);
+        }
+    }
+
+    /** Waits for a reply: reads, or lets another thread read, which wakes this one. */
+    private void readUntil(Reply reply) throws IOException {
+        reading.lock();
+        try {
+            while (reply.line == null) {
+                if (fault != null) {
+                    throw new IOException(fault);
+                }
+                if (isRead) {
+                    sleepUntil(reply);
+                } else {
+                    read();
+                }
+            }
+        } finally {
+            // Somebody has to read on.
+            if (!isRead && !asleep.isEmpty()) {
+                asleep.peek().arrival.signal();
+            }
+            reading.unlock();
+        }
+    }
+
+    private void sleepUntil(Reply reply) {
+        if (reply.arrival == null) {
+            reply.arrival = reading.newCondition();
+        }
+        asleep.add(reply);
+        reply.arrival.awaitUninterruptibly();
+        asleep.remove(reply);
+    }
+
+    /** Reads what has come, while the lock is free, and gives the replies out. */
+    private void read() throws IOException {
+        isRead = true;
+        reading.unlock();
+        int count = -1;
+        try {
+            if (begun == came.length) {
+                came = Arrays.copyOf(came, 2 * begun);
+            }
+            count = input.read(came, begun, came.length - begun);
+        } finally {
+            reading.lock();
+            isRead = false;
+        }
+        if (count < 0) {
+            throw new IOException("its output ended");
+        }
+        int from = 0, end = begun + count;
+        for (int at = begun; at < end; at++) {
+            if (came[at] == '\n') {
+                give(new String(came, from, at - from, StandardCharsets.ISO_8859_1));
+                from = at + 1;
+            }
+        }
+        begun = end - from;
+        System.arraycopy(came, from, came, 0, begun);
+    }
+
+    private void give(String line) {
+        Reply first = waiting.remove();
+        replied++;
+        first.line = line;
+        if (first.arrival != null) {
+            first.arrival.signalAll();
+        }
+    }
+
+    // ** its end
+
+    /** The oldest request that waits for its reply, or null. */
+    Reply oldest() {
+        return waiting.peek();
+    }
+
+    /** Ends the session, and waits for the end of the process. What is open stays in doubt, as after a crash. */
+    void quit() {
+        try {
+            ask("quit");
+        } catch (Fault error) {
+            // It is over in any case.
+        }
+        end("the session was ended");
+    }
+
+    /** Ends the process at once. */
+    void kill(String reason) {
+        process.destroyForcibly();
+        end(reason);
+    }
+
+    private Fault.Gone gone(String reason) {
+        end(reason);
+        return new Fault.Gone(fault);
+    }
+
+    /** Sees that the process has ended, wakes who waits, and keeps the reason. */
+    private void end(String reason) {
+        synchronized (ending) {
+            if (fault == null) {
+                String said = said();
+                process.destroyForcibly();
+                fault = said.isEmpty() ? reason : reason + "; it said: " + said;
+            }
+        }
+        reading.lock();
+        try {
+            asleep.forEach(reply -> reply.arrival.signalAll());
+        } finally {
+            reading.unlock();
+        }
+    }
+
+    /** What it said as it ended. The end of its input ends it. */
+    private String said() {
+        try {
+            output.close();
+        } catch (IOException error) {
+            // It has ended already.
+        }
+        try {
+            if (process.waitFor(2, TimeUnit.SECONDS)) {
+                return new String(process.getErrorStream().readAllBytes(), StandardCharsets.UTF_8).trim();
+            }
+        } catch (IOException error) {
+            // Nothing is to be had of it.
+        } catch (InterruptedException error) {
+            Thread.currentThread().interrupt();
+        }
+        return "";
+    }
+}

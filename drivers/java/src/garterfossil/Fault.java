@@ -1,0 +1,95 @@
+package garterfossil;
+
+/** What a driver's own work may end in. Its subclasses say what is so then. */
+public abstract class Fault extends Exception {
+    private static final long serialVersionUID = 1;
+
+    Fault(String text, Throwable cause) {
+        super(text, cause);
+    }
+
+    /** The coordinator has ended, or its log failed: the session is over. */
+    public static final class Gone extends Fault {
+        private static final long serialVersionUID = 1;
+
+        Gone(String text) {
+            super("the coordinator is gone: " + text, null);
+        }
+    }
+
+    /** The coordinator refuses a request by a rule of the protocol, and nothing has changed (docs/PROTOCOL.md). */
+    public static final class Refused extends Fault {
+        private static final long serialVersionUID = 1;
+        /** The number of the rule, 1 to 16, or 0 where the request was none. */
+        final int number;
+
+        Refused(int number, String text) {
+            super(text, null);
+            this.number = number;
+        }
+    }
+
+    /** No state of the branch explains what a resource answered, by all that it answered before. Nothing has changed. */
+    public static final class Unexplained extends Fault {
+        private static final long serialVersionUID = 1;
+
+        Unexplained(String text) {
+            super(text, null);
+        }
+    }
+
+    /** A connection is lost, or there is none, or a resource has no answer: nobody knows whether the call that was under way was done. */
+    public static final class Lost extends Fault {
+        private static final long serialVersionUID = 1;
+
+        public Lost(String text, Throwable cause) {
+            super(text + (cause == null ? "" : ": " + cause.getMessage()), cause);
+        }
+    }
+
+    /** What is asked for didn't come free in time, or isn't allowed now. Nothing was begun. */
+    public static final class Unavailable extends Fault {
+        private static final long serialVersionUID = 1;
+
+        public Unavailable(String text) {
+            super(text, null);
+        }
+
+        Unavailable(String text, Throwable cause) {
+            super(text + ": " + cause.getMessage(), cause);
+        }
+    }
+
+    /** The transaction is rolled back at each resource. One that can't be reached now is told so as soon as it can. */
+    public static final class RolledBack extends Fault {
+        private static final long serialVersionUID = 1;
+
+        RolledBack(String text, Throwable cause) {
+            super(text, cause);
+        }
+    }
+
+    /** Nobody could tell how the transaction ended. Over several resources it ends at all of them alike. */
+    public static final class OutcomeUnknown extends Fault {
+        private static final long serialVersionUID = 1;
+
+        OutcomeUnknown(String text, Throwable cause) {
+            super(text, cause);
+        }
+    }
+
+    /** A resource had ended its branch by itself. The coordinator's log has a record of it. */
+    public static final class Heuristic extends Fault {
+        private static final long serialVersionUID = 1;
+        /** Whether all branches are rolled back although it was decided to commit. */
+        public final boolean isAllRolledBack;
+        /** Whether nobody knows how some branch ended (XA_HEURHAZ). */
+        public final boolean isHazard;
+
+        Heuristic(String text, boolean isAllRolledBack, boolean isHazard) {
+            super(text, null);
+            this.isAllRolledBack = isAllRolledBack;
+            this.isHazard = isHazard;
+        }
+    }
+}

@@ -1,0 +1,321 @@
+package garterfossil;
+
+import java.lang.System.Logger.Level;
+import java.time.Duration;
+import java.util.ArrayList;
+import java.util.HashSet;
+import java.util.List;
+import java.util.Set;
+import java.util.concurrent.ConcurrentLinkedQueue;
+import javax.transaction.xa.XAException;
+import javax.transaction.xa.XAResource;
+import javax.transaction.xa.Xid;
+
+/** Keeps a resource whole, on the line of the coordinator's first thread: recovers it, and ends branches that nobody else ends. */
+final class Keeper {
+    /** How many identifiers a page lists. No more than 64 calls wait on a line. */
+    private static final int PAGE = 32;
+    /** Branches are kept away for so long while the last ones end; else it is tried again after so long. */
+    private static final Duration QUIET = Duration.ofSeconds(2), BUSY = Duration.ofSeconds(5);
+    private static final long PAUSE = 300;
+
+    final ResourceManager rm;
+    private final Session session;
+    private final Line line;
+    private final ConcurrentLinkedQueue<Debt> debts = new ConcurrentLinkedQueue<>();
+    private final Thread thread;
+    private Link link;
+    private XAResource resource;
+    private volatile boolean isScanDue = true;
+    private volatile boolean isOver;
+    private long notBefore = System.nanoTime();
+
+    Keeper(Session session, ResourceManager rm) {
+        this.session = session;
+        this.rm = rm;
+        line = new Line(session.coordinator, 0, rm);
+        thread = new Thread(this::keep, "garterfossil keeper of " + rm);
+        thread.setDaemon(true);
+    }
+
+    void start() {
+        thread.start();
+    }
+
+    void stop() {
+        isOver = true;
+        wake();
+    }
+
+    /** The branch is to be ended. */
+    void owe(Debt debt) {
+        debts.add(debt);
+        wake();
+    }
+
+    /** The resource was down: it may list branches that were over. */
+    void scanLater() {
+        isScanDue = true;
+        wake();
+    }
+
+    boolean isRecovered() {
+        return !isScanDue;
+    }
+
+    int debts() {
+        return debts.size();
+    }
+
+    private synchronized void wake() {
+        notifyAll();
+    }
+
+    // ** the thread
+
+    private void keep() {
+        while (!isOver && !session.coordinator.isGone()) {
+            if (!isScanDue && debts.isEmpty()) {
+                disconnect();
+                pause(0);
+            } else if (!work()) {
+                pause(PAUSE);
+            }
+        }
+        disconnect();
+    }
+
+    private synchronized void pause(long millis) {
+        try {
+            if (!isOver && (millis > 0 || !isScanDue && debts.isEmpty())) {
+                wait(millis);
+            }
+        } catch (InterruptedException error) {
+            isOver = true;
+        }
+    }
+
+    /** Does what is due, if the resource can be reached. False if something is left. */
+    boolean work() {
+        try {
+            connect();
+            boolean isWhole = !isScanDue || System.nanoTime() > notBefore && recover();
+            return payAll() && isWhole;
+        } catch (Fault.Unexplained error) {
+            session.unexplained(rm, error);
+        } catch (Fault.Gone error) {
+            isOver = true;
+        } catch (Fault error) {
+            Manager.LOG.log(Level.WARNING, () -> rm + " is recovered later: " + error.getMessage());
+            disconnect();
+        }
+        return false;
+    }
+
+    /** A connection, once those that were lost are known to be gone. */
+    private void connect() throws Fault {
+        if (link != null && !rm.hasStrays()) {
+            return;
+        }
+        disconnect();
+        try {
+            link = rm.connect();
+            resource = link.xaResource();
+        } catch (Fault.Lost error) {
+            isScanDue = true;
+            throw error;
+        }
+        line.open();
+        line.see();
+    }
+
+    private void disconnect() {
+        Link old = link;
+        link = null;
+        if (old != null) {
+            rm.discard(old);
+            if (!session.coordinator.isGone()) {
+                crash();
+            }
+        }
+    }
+
+    private void crash() {
+        try {
+            line.crash();
+        } catch (Fault error) {
+            Manager.LOG.log(Level.DEBUG, "the line of the keeper", error);
+        }
+    }
+
+    // ** recovery
+
+    /** Ends what the resource lists, while no branch of this session is there. False if branches stay too long. */
+    private boolean recover() throws Fault {
+        if (!rm.usage.takeAlone(QUIET)) {
+            notBefore = System.nanoTime() + BUSY.toNanos();
+            return false;
+        }
+        try {
+            scan();
+            isScanDue = false;
+            return true;
+        } finally {
+            rm.usage.letOthersIn();
+        }
+    }
+
+    private void scan() throws Fault {
+        long until = System.nanoTime() + Duration.ofSeconds(30).toNanos();
+        while (scanOnce() > 0) {
+            if (System.nanoTime() > until) {
+                throw new Fault.Lost(rm + " lists the same branches again and again", null);
+            }
+            pause(50);
+        }
+    }
+
+    /** How many calls end what it lists. */
+    private int scanOnce() throws Fault {
+        line.issue("xa_recover " + PAGE + " TMSTARTRSCAN");
+        line.see();
+        List<BranchXid> listed = listed();
+        session.seeListed(rm, listed);
+        int made = reportPage(listed, 0);
+        for (int from = PAGE; from <= listed.size(); from += PAGE) {
+            line.issue("xa_recover " + PAGE);
+            line.see();
+            made += reportPage(listed, from);
+        }
+        return made;
+    }
+
+    private int reportPage(List<BranchXid> listed, int from) throws Fault {
+        line.report(listed.subList(from, Math.min(listed.size(), from + PAGE)));
+        return resolve();
+    }
+
+    private List<BranchXid> listed() throws Fault {
+        Set<BranchXid> found = new HashSet<>();
+        List<BranchXid> own = new ArrayList<>();
+        try {
+            Xid[] xids = resource.recover(XAResource.TMSTARTRSCAN);
+            while (xids != null && xids.length > 0) {
+                boolean isNew = false;
+                for (Xid xid : xids) {
+                    BranchXid branch = BranchXid.ownOf(xid, session.name, rm.number).orElse(null);
+                    if (branch != null && found.add(branch)) {
+                        own.add(branch);
+                        isNew = true;
+                    }
+                }
+                // Some list all of them again without a flag.
+                xids = isNew ? resource.recover(XAResource.TMNOFLAGS) : null;
+            }
+            resource.recover(XAResource.TMENDRSCAN);
+        } catch (XAException error) {
+            throw Answers.unanswered("xa_recover", error);
+        } catch (RuntimeException error) {
+            throw new Fault.Lost("xa_recover", error);
+        }
+        return own;
+    }
+
+    private int resolve() throws Fault {
+        int count = Integer.parseInt(session.coordinator.ask("resolve " + rm.number).split(" ")[1]);
+        for (int at = 0; at < count; at++) {
+            String[] words = session.coordinator.ask("waiting 0 " + rm.number).split(" ");
+            BranchXid xid = BranchXid.parse(words[2]);
+            Manager.LOG.log(Level.INFO, () -> rm + ": " + words[1] + " of " + xid + ", which was in doubt");
+            make(words[1], xid, mayOf(xid));
+        }
+        return count;
+    }
+
+    private int mayOf(BranchXid xid) {
+        return debts.stream().filter(debt -> debt.xid.equals(xid)).mapToInt(debt -> debt.may).findFirst().orElse(Answers.FOUND);
+    }
+
+    /** Makes the call that waits first, and reports its answer. */
+    private int make(String call, BranchXid xid, int may) throws Fault {
+        line.flush();
+        if (call.equals("xa_forget")) {
+            forgetResource(resource, xid);
+            line.report("xa_forget " + xid, Code.OK);
+            line.see();
+            return Code.OK;
+        }
+        int code = call.equals("xa_commit") ? Answers.commit(resource, xid, may) : Answers.rollback(resource, xid, may);
+        line.report(call + " " + xid, code);
+        line.see();
+        if (Code.isHeuristic(code)) {
+            forget(line, xid, resource);
+        }
+        return code;
+    }
+
+    /** xa_forget of a branch that ended by itself, once the log has a record of it. */
+    static void forget(Line line, BranchXid xid, XAResource resource) throws Fault {
+        line.issue("xa_forget " + xid);
+        line.see();
+        forgetResource(resource, xid);
+        line.report("xa_forget " + xid, Code.OK);
+        line.see();
+    }
+
+    private static void forgetResource(XAResource resource, BranchXid xid) throws Fault.Lost {
+        try {
+            resource.forget(xid);
+        } catch (XAException error) {
+            // Those that keep nothing of what ended by itself say that there is none, or that they can't.
+            if (error.errorCode == XAException.XAER_RMFAIL) {
+                throw Answers.unanswered("xa_forget", error);
+            }
+        } catch (RuntimeException error) {
+            throw new Fault.Lost("xa_forget", error);
+        }
+    }
+
+    // ** debts
+
+    /** Ends the branches that are owed. False if some are left. */
+    private boolean payAll() throws Fault {
+        List<Debt> left = new ArrayList<>();
+        for (Debt debt = debts.peek(); debt != null; debt = debts.peek()) {
+            if (pay(debt)) {
+                debts.remove(debt);
+            } else {
+                debts.remove(debt);
+                left.add(debt);
+            }
+        }
+        debts.addAll(left);
+        return left.isEmpty();
+    }
+
+    private boolean pay(Debt debt) throws Fault {
+        connect();
+        int code;
+        try {
+            line.issue(debt.call() + " " + debt.xid);
+            line.see();
+            code = make(debt.call(), debt.xid, debt.may);
+        } catch (Fault.Refused refused) {
+            if (refused.number != Coordinator.UNKNOWN_TRANSACTION) {
+                throw refused;
+            }
+            // All its branches are over, and the coordinator has forgotten it.
+            code = Code.OK;
+        }
+        if (code == Code.RETRY) {
+            return false;
+        }
+        if (Code.isHeuristic(code)) {
+            int odd = code;
+            Manager.LOG.log(Level.ERROR, () -> debt.call() + " of " + debt.xid + " at " + rm + " is answered " + Code.name(odd)
+                + ": the resource ended it by itself. The log has a record");
+        }
+        debt.pay(code);
+        return true;
+    }
+}

@@ -1,0 +1,21 @@
+package garterfossil;
+
+import javax.transaction.xa.XAResource;
+
+/** A connection to a resource. It has one branch at a time. */
+public interface Link {
+    /** What makes XA's calls over it. */
+    XAResource xaResource();
+
+    /** The number by which the resource knows the connection; 0 if it has none. */
+    long number();
+
+    /** Whether it still works, as the resource says. */
+    boolean isUsable();
+
+    /** Makes it as it was when new, before another transaction uses it. False if that can't be done. */
+    boolean reset();
+
+    /** Closes it. What is active on it ends with it, and what is prepared stays so. */
+    void close();
+}

@@ -1,0 +1,328 @@
+package garterfossil;
+
+import java.lang.System.Logger;
+import java.lang.System.Logger.Level;
+import java.nio.file.Path;
+import java.time.Duration;
+import java.util.ArrayList;
+import java.util.List;
+import java.util.concurrent.Future;
+import java.util.concurrent.ScheduledThreadPoolExecutor;
+import java.util.concurrent.TimeUnit;
+import javax.transaction.xa.XAResource;
+
+/**
+ * Runs transactions over several resources, by the coordinator {@code xatm serve}.
+ *
+ * <p>The log belongs to the resources for ever: another one, or a new one, would roll back what was decided. One manager at a time
+ * has it. Where the coordinator ends, it is started again, and what was in doubt is ended first.
+ */
+public final class Manager implements AutoCloseable {
+    static final Logger LOG = System.getLogger("garterfossil");
+    /** So many milliseconds the end of a transaction waits for work that another thread still does in it. */
+    static final long WORK_PATIENCE = 2_000;
+
+    /** What a manager is made of. */
+    public static final class Builder {
+        private final Path log;
+        private final List<Resource> resources = new ArrayList<>();
+        private String program = "xatm";
+        private String name = "";
+        private int threads = 32;
+        private Duration timeout = Duration.ofSeconds(60), patience = Duration.ofSeconds(20);
+        private List<String> command;
+
+        private Builder(Path log) {
+            this.log = log;
+        }
+
+        /** A name, where several managers with a log each share resources: 1 to 16 letters, digits, _ and -. It stays as long as the log does. */
+        public Builder name(String given) {
+            name = given;
+            return this;
+        }
+
+        /** The program; {@code xatm} on the PATH where none is given. */
+        public Builder program(String path) {
+            program = path;
+            return this;
+        }
+
+        /** The words that start the coordinator, without its threads and resource managers. */
+        Builder command(List<String> words) {
+            command = words;
+            return this;
+        }
+
+        /** How many transactions may run at once, 1 to 255. Others wait. */
+        public Builder threads(int count) {
+            if (count < 1 || count > 255) {
+                throw new IllegalArgumentException("threads: 1 to 255, and not " + count);
+            }
+            threads = count;
+            return this;
+        }
+
+        /** How long a transaction may take that sets no time-out of its own: 60 seconds where none is given. */
+        public Builder timeout(Duration duration) {
+            timeout = duration;
+            return this;
+        }
+
+        /** How long a start waits for a log that another manager has, and how long a coordinator may be silent: 20 seconds where none is given. */
+        public Builder patience(Duration duration) {
+            patience = duration;
+            return this;
+        }
+
+        /** A resource that takes part. Its name stays as long as the log does. */
+        public Builder resource(Resource resource) {
+            if (resources.stream().anyMatch(it -> it.name().equals(resource.name()))) {
+                throw new IllegalArgumentException("two resources of the name " + resource.name());
+            }
+            resources.add(resource);
+            return this;
+        }
+
+        /** Starts it: recovers each resource that can be reached. The others are recovered as soon as they can be. */
+        public Manager start() throws Fault {
+            Manager manager = new Manager(this);
+            manager.begin();
+            return manager;
+        }
+    }
+
+    final Decisions decisions = new Decisions();
+    private final Builder made;
+    private final List<ResourceManager> rms = new ArrayList<>();
+    private final ScheduledThreadPoolExecutor clock = new ScheduledThreadPoolExecutor(4, work -> {
+        Thread thread = new Thread(work, "garterfossil clock");
+        thread.setDaemon(true);
+        return thread;
+    });
+    private final ThreadLocal<GlobalTransaction> current = new ThreadLocal<>();
+    private final Object starting = new Object();
+    private volatile Session session;
+    private volatile boolean isClosed;
+
+    private Manager(Builder made) {
+        this.made = made;
+        clock.setRemoveOnCancelPolicy(true);
+    }
+
+    /** A manager over the log in this file, which is made where there was none before. */
+    public static Builder over(Path log) {
+        return new Builder(log);
+    }
+
+    private void begin() throws Fault {
+        ResourceNumbers numbers = ResourceNumbers.of(made.log);
+        numbers.seeLog();
+        for (Resource resource : made.resources) {
+            resource.belongTo(made.name);
+            rms.add(new ResourceManager(numbers.of(resource.name()), resource));
+        }
+        count = numbers.count();
+        try {
+            synchronized (starting) {
+                Coordinator coordinator = coordinator();
+                numbers.save();
+                start(coordinator);
+            }
+        } catch (Fault error) {
+            close();
+            throw error;
+        }
+        clock.scheduleWithFixedDelay(this::tick, 1, 1, TimeUnit.SECONDS);
+    }
+
+    private int count;
+
+    // ** sessions
+
+    /** The session that is up, or the next one. */
+    Session session() throws Fault {
+        Session up = session;
+        if (up != null && !up.coordinator.isGone()) {
+            return up;
+        }
+        synchronized (starting) {
+            if (isClosed) {
+                throw new Fault.Unavailable("the manager is closed");
+            }
+            if (session == null || session.coordinator.isGone()) {
+                Session old = session;
+                if (old != null) {
+                    old.seeWhole();
+                    old.abandon();
+                }
+                start(coordinator());
+            }
+            return session;
+        }
+    }
+
+    private void start(Coordinator coordinator) throws Fault {
+        Session next = new Session(coordinator, made.name, List.copyOf(rms), made.threads);
+        try {
+            decisions.find(next.owed());
+            session = next;
+            next.recover();
+        } catch (Fault error) {
+            coordinator.kill("its start failed: " + error.getMessage());
+            throw error;
+        }
+        LOG.log(Level.INFO, () -> "the coordinator is up: " + coordinator.greeting);
+    }
+
+    private Coordinator coordinator() throws Fault {
+        List<String> words = new ArrayList<>();
+        if (made.command != null) {
+            words.addAll(made.command);
+        } else {
+            words.addAll(List.of(made.program, "serve"));
+            if (!made.name.isEmpty()) {
+                words.addAll(List.of("--name", made.name));
+            }
+            words.addAll(List.of("--log", made.log.toString()));
+        }
+        words.addAll(List.of(Integer.toString(made.threads + 1), Integer.toString(count)));
+        long until = System.nanoTime() + made.patience.toNanos();
+        while (true) {
+            try {
+                return new Coordinator(words);
+            } catch (Fault.Gone gone) {
+                if (System.nanoTime() > until) {
+                    throw new Fault.Unavailable(gone.getMessage() + ". Does another manager have the log " + made.log
+                        + ", and is the program right?", gone);
+                }
+                if (gone.getMessage().contains("doesn't start") || gone.getMessage().contains("failed to execute")) {
+                    throw new Fault.Unavailable("the program " + words.get(0) + " can't be started: give its path to Builder.program", gone);
+                }
+            }
+            pause();
+        }
+    }
+
+    private static void pause() {
+        try {
+            Thread.sleep(100);
+        } catch (InterruptedException error) {
+            Thread.currentThread().interrupt();
+        }
+    }
+
+    private void tick() {
+        try {
+            if (!isClosed) {
+                session().tick(made.patience.toNanos());
+            }
+        } catch (Fault | RuntimeException error) {
+            LOG.log(Level.WARNING, () -> "no coordinator: " + error.getMessage());
+        }
+    }
+
+    /** Whether a transaction of an earlier session was decided to commit; null if nobody can say so now. */
+    Boolean outcomeOf(String gtrid) {
+        try {
+            session();
+        } catch (Fault error) {
+            LOG.log(Level.WARNING, () -> "no coordinator: " + error.getMessage());
+        }
+        return decisions.await(gtrid, made.patience);
+    }
+
+    Future<?> later(Runnable work, Duration delay) {
+        return clock.schedule(work, delay.toMillis(), TimeUnit.MILLISECONDS);
+    }
+
+    ResourceManager resourceManager(Resource resource) throws Fault.Unavailable {
+        for (ResourceManager rm : rms) {
+            if (rm.resource == resource) {
+                return rm;
+            }
+        }
+        throw new Fault.Unavailable(resource.name() + " is no resource of this manager: give it to Builder.resource");
+    }
+
+    /** The resource that an XAResource belongs to, which is one of this manager's. */
+    public Resource ownerOf(XAResource xaResource) throws Fault {
+        if (xaResource instanceof OwnedXaResource) {
+            return ((OwnedXaResource) xaResource).owner();
+        }
+        for (ResourceManager rm : rms) {
+            if (rm.isSame(xaResource)) {
+                return rm.resource;
+            }
+        }
+        throw new Fault.Unavailable("the XAResource " + xaResource.getClass().getName() + " belongs to none of the resources "
+            + rms + ": give its pool the xaDataSource() of one of them, which says so");
+    }
+
+    /** The resources that take part. */
+    public List<Resource> resources() {
+        return List.copyOf(made.resources);
+    }
+
+    /** The time-out of a transaction that sets none of its own. */
+    public Duration timeout() {
+        return made.timeout;
+    }
+
+    // ** transactions of threads
+
+    /** Begins a transaction. It belongs to no thread yet. */
+    public GlobalTransaction begin(Duration timeout) throws Fault {
+        if (isClosed) {
+            throw new Fault.Unavailable("the manager is closed");
+        }
+        GlobalTransaction transaction = new GlobalTransaction(this, timeout);
+        transaction.startClock();
+        return transaction;
+    }
+
+    /** The transaction of this thread, or null. */
+    public GlobalTransaction current() {
+        return current.get();
+    }
+
+    /** Gives this thread a transaction, or none (null). */
+    public void associate(GlobalTransaction transaction) {
+        if (transaction == null) {
+            current.remove();
+        } else {
+            current.set(transaction);
+        }
+    }
+
+    /** How many branches and recoveries wait for a resource that can't be reached. */
+    public int owing() {
+        Session up = session;
+        return up == null ? 0 : up.owing();
+    }
+
+    /** A connection for work outside of any transaction. */
+    public Borrowed borrow(Resource resource, Duration patience) throws Fault {
+        return resourceManager(resource).borrow(patience);
+    }
+
+    /** Ends the coordinator. Transactions that are open are rolled back by the next start. */
+    @Override
+    public void close() {
+        synchronized (starting) {
+            if (isClosed) {
+                return;
+            }
+            isClosed = true;
+        }
+        clock.shutdownNow();
+        Session last = session;
+        if (last != null && !last.coordinator.isGone()) {
+            last.quit();
+        }
+        if (last != null) {
+            last.abandon();
+        }
+        rms.forEach(ResourceManager::close);
+    }
+}

@@ -1,0 +1,24 @@
+package garterfossil;
+
+import java.util.Set;
+
+/** A database or a message broker that takes part in transactions: how it is reached. Its methods may be called by any thread. */
+public interface Resource {
+    /** Its name, by which the log knows it: it stays as long as the log does. */
+    String name();
+
+    /** The manager has this name, or none (""): {@link #endOthers} ends no connections of a manager of another name. */
+    void belongTo(String manager);
+
+    /** A new connection. */
+    Link connect() throws Fault.Lost;
+
+    /**
+     * Ends all connections that this manager ever had to the resource, except those of these numbers, and waits until they are gone:
+     * what they had under way can't happen any more.
+     */
+    void endOthers(Set<Long> kept) throws Fault.Lost;
+
+    /** How many connections it may have at a time. */
+    int maxConnections();
+}

@@ -1,0 +1,209 @@
+package garterfossil;
+
+import java.time.Duration;
+import java.util.ArrayDeque;
+import java.util.Set;
+import java.util.concurrent.ConcurrentHashMap;
+import java.util.concurrent.Semaphore;
+import java.util.concurrent.TimeUnit;
+import javax.transaction.xa.XAException;
+import javax.transaction.xa.XAResource;
+
+/** A resource under its number, with a pool of connections to it. */
+final class ResourceManager {
+    /** A connection that was idle for longer is asked whether it still works before it is used. */
+    private static final long FRESH = TimeUnit.SECONDS.toNanos(20);
+
+    private static final class Idle {
+        final Link link;
+        final long since = System.nanoTime();
+
+        Idle(Link link) {
+            this.link = link;
+        }
+    }
+
+    final int number;
+    final Resource resource;
+    final Usage usage = new Usage();
+    private final Semaphore places;
+    // Under the monitor of this object.
+    private final ArrayDeque<Idle> idle = new ArrayDeque<>();
+    private int session;
+    private boolean isClosed;
+    // One connection is made at a time: those that are no one's are ended first.
+    private final Object connecting = new Object();
+    private final Set<Long> kept = ConcurrentHashMap.newKeySet();
+    // Connections that are no one's any more may be there: those of earlier managers, and later those that were lost.
+    private volatile boolean hasStrays = true;
+
+    ResourceManager(int number, Resource resource) {
+        this.number = number;
+        this.resource = resource;
+        places = new Semaphore(resource.maxConnections(), true);
+    }
+
+    @Override
+    public String toString() {
+        return resource.name();
+    }
+
+    // ** the pool
+
+    /** A connection, of the pool or a new one. Waits for a place. */
+    Lease borrow(Duration patience) throws Fault {
+        try {
+            if (!places.tryAcquire(patience.toNanos(), TimeUnit.NANOSECONDS)) {
+                throw new Fault.Unavailable("all " + resource.maxConnections() + " connections to " + this + " are in use for "
+                    + patience.toSeconds() + " s. Let the pool have more, or end transactions sooner");
+            }
+        } catch (InterruptedException error) {
+            Thread.currentThread().interrupt();
+            throw new Fault.Unavailable("interrupted while a connection to " + this + " was waited for");
+        }
+        try {
+            int lentIn = session();
+            Link link = fromPool();
+            return new Lease(link != null ? link : connect(), lentIn);
+        } catch (Fault | RuntimeException | Error error) {
+            places.release();
+            throw error;
+        }
+    }
+
+    private Link fromPool() {
+        while (true) {
+            Idle found;
+            synchronized (this) {
+                found = idle.pollLast();
+            }
+            if (found == null) {
+                return null;
+            }
+            if (System.nanoTime() - found.since < FRESH || found.link.isUsable()) {
+                return found.link;
+            }
+            discard(found.link);
+        }
+    }
+
+    private synchronized int session() {
+        return session;
+    }
+
+    /** A connection that is lent, in a session. */
+    final class Lease implements Borrowed {
+        final Link link;
+        private final int lentIn;
+        private boolean isOver;
+
+        private Lease(Link link, int lentIn) {
+            this.link = link;
+            this.lentIn = lentIn;
+        }
+
+        ResourceManager owner() {
+            return ResourceManager.this;
+        }
+
+        @Override
+        public Link link() {
+            return link;
+        }
+
+        /** It isn't needed any more, and has no branch. */
+        @Override
+        public void giveBack() {
+            if (isOver) {
+                return;
+            }
+            isOver = true;
+            boolean isGood = link.reset();
+            synchronized (ResourceManager.this) {
+                isGood = isGood && lentIn == session && !isClosed;
+                if (isGood) {
+                    idle.addLast(new Idle(link));
+                }
+            }
+            if (!isGood) {
+                discard(link);
+            }
+            places.release();
+        }
+
+        /** It is lost, or what is on it is. */
+        @Override
+        public void lose() {
+            if (!isOver) {
+                isOver = true;
+                discard(link);
+                places.release();
+            }
+        }
+    }
+
+    /** Whether the XAResource belongs to this resource, as it says itself. */
+    boolean isSame(XAResource xaResource) throws Fault {
+        Lease lease = borrow(Duration.ofSeconds(10));
+        try {
+            return xaResource.isSameRM(lease.link.xaResource());
+        } catch (XAException | RuntimeException error) {
+            return false;
+        } finally {
+            lease.giveBack();
+        }
+    }
+
+    /** A connection that isn't the pool's. */
+    Link connect() throws Fault.Lost {
+        synchronized (connecting) {
+            if (hasStrays) {
+                hasStrays = false;
+                endStrays();
+            }
+            Link link = resource.connect();
+            kept.add(link.number());
+            return link;
+        }
+    }
+
+    boolean hasStrays() {
+        return hasStrays;
+    }
+
+    private void endStrays() throws Fault.Lost {
+        try {
+            resource.endOthers(Set.copyOf(kept));
+        } catch (Fault.Lost | RuntimeException | Error error) {
+            hasStrays = true;
+            throw error;
+        }
+    }
+
+    /** The connection is closed, and before the next one is made it is seen that it is gone. */
+    void discard(Link link) {
+        link.close();
+        kept.remove(link.number());
+        hasStrays = true;
+    }
+
+    /** Gives all connections up: a session begins, and what the last one had under way must not happen any more. */
+    void startAnew() {
+        ArrayDeque<Idle> old;
+        synchronized (this) {
+            session++;
+            old = new ArrayDeque<>(idle);
+            idle.clear();
+        }
+        old.forEach(it -> it.link.close());
+        kept.clear();
+        hasStrays = true;
+    }
+
+    void close() {
+        synchronized (this) {
+            isClosed = true;
+        }
+        startAnew();
+    }
+}

@@ -1,0 +1,303 @@
+package garterfossil;
+
+import java.lang.System.Logger.Level;
+import java.time.Duration;
+import java.util.ArrayList;
+import java.util.HashMap;
+import java.util.HashSet;
+import java.util.List;
+import java.util.Map;
+import java.util.Set;
+import java.util.concurrent.BlockingDeque;
+import java.util.concurrent.ConcurrentHashMap;
+import java.util.concurrent.LinkedBlockingDeque;
+import java.util.concurrent.TimeUnit;
+import java.util.concurrent.atomic.AtomicInteger;
+import java.util.concurrent.atomic.AtomicLong;
+
+/** A session with the coordinator, which begins with the recovery of each resource that can be reached. */
+final class Session {
+    /** So many rows leave the log by one request, which is one write of the log. */
+    private static final int DONE_AT_ONCE = 8;
+
+    /** A thread of the coordinator, for one transaction at a time. */
+    final class Slot {
+        final int number;
+        private final Line[] lines;
+        private Coordinator.Reply next;
+
+        Slot(int number) {
+            this.number = number;
+            lines = new Line[rms.size()];
+        }
+
+        Line line(ResourceManager rm) {
+            int at = rms.indexOf(rm);
+            if (lines[at] == null) {
+                lines[at] = new Line(coordinator, number, rm);
+            }
+            return lines[at];
+        }
+
+        /** Asks for the thread's next transaction, unless that was done: the reply comes with others that are waited for. */
+        void beginAhead() {
+            if (next == null) {
+                next = coordinator.post("begin " + number);
+            }
+        }
+
+        /** A transaction begins: its 32 digits. */
+        String begin() throws Fault {
+            beginAhead();
+            Coordinator.Reply reply = next;
+            next = null;
+            String gtrid = coordinator.await(reply).substring("begun ".length());
+            begun.accumulateAndGet(Long.parseLong(gtrid.substring(16), 16), Math::max);
+            return gtrid;
+        }
+    }
+
+    final Coordinator coordinator;
+    final Commits commits;
+    final String name;
+    final long incarnation;
+    private final AtomicLong begun = new AtomicLong();
+    private final List<ResourceManager> rms;
+    private final List<Keeper> keepers = new ArrayList<>();
+    private final BlockingDeque<Slot> free = new LinkedBlockingDeque<>();
+    private final int threads;
+    private final Set<GlobalTransaction> live = ConcurrentHashMap.newKeySet();
+    // Branches that were prepared and that this session rolled back: a resource may forget that in a crash of its own.
+    private final Set<BranchXid> undone = ConcurrentHashMap.newKeySet();
+    private List<String> done = new ArrayList<>();
+    private volatile String fatal;
+    private Coordinator.Reply oldest;
+    private long oldestSince;
+
+    Session(Coordinator coordinator, String name, List<ResourceManager> rms, int threads) {
+        this.coordinator = coordinator;
+        this.name = name;
+        this.rms = rms;
+        this.threads = threads;
+        commits = new Commits(coordinator);
+        String[] words = coordinator.greeting.split(" ");
+        incarnation = Long.parseLong(words[1]);
+        for (int thread = threads; thread >= 1; thread--) {
+            free.addFirst(new Slot(thread));
+        }
+        rms.forEach(rm -> keepers.add(new Keeper(this, rm)));
+    }
+
+    // ** the start
+
+    /** The transactions of earlier sessions that were decided to commit. */
+    Set<String> owed() throws Fault {
+        Map<String, List<BranchXid>> branches = new HashMap<>();
+        for (ResourceManager rm : rms) {
+            String[] words = coordinator.ask("owed " + rm.number).split(" ");
+            for (int at = 2; at < words.length; at++) {
+                BranchXid xid = BranchXid.parse(words[at]);
+                branches.computeIfAbsent(xid.transaction(), it -> new ArrayList<>()).add(xid);
+            }
+        }
+        branches.forEach((gtrid, xids) -> {
+            Runnable whenPaid = paid(gtrid, xids.size());
+            for (XidAt it : at(xids)) {
+                it.keeper.owe(new Debt(it.xid, true, Answers.FOUND, whenPaid));
+            }
+        });
+        return new HashSet<>(branches.keySet());
+    }
+
+    private static final class XidAt {
+        final BranchXid xid;
+        final Keeper keeper;
+
+        XidAt(BranchXid xid, Keeper keeper) {
+            this.xid = xid;
+            this.keeper = keeper;
+        }
+    }
+
+    private List<XidAt> at(List<BranchXid> xids) {
+        List<XidAt> found = new ArrayList<>();
+        for (BranchXid xid : xids) {
+            keepers.stream().filter(keeper -> BranchXid.ownOf(xid, name, keeper.rm.number).isPresent())
+                .forEach(keeper -> found.add(new XidAt(xid, keeper)));
+        }
+        return found;
+    }
+
+    /** Recovers what can be reached. The keepers go on with the rest. */
+    void recover() throws Fault {
+        for (Keeper keeper : keepers) {
+            keeper.work();
+            seeWhole();
+        }
+        keepers.forEach(Keeper::start);
+    }
+
+    // ** transactions
+
+    void add(GlobalTransaction transaction) {
+        live.add(transaction);
+    }
+
+    void remove(GlobalTransaction transaction) {
+        live.remove(transaction);
+    }
+
+    /** A thread of the coordinator, for one transaction. */
+    Slot take(Duration patience) throws Fault {
+        seeWhole();
+        try {
+            Slot slot = free.pollFirst(patience.toMillis(), TimeUnit.MILLISECONDS);
+            if (slot != null) {
+                return slot;
+            }
+        } catch (InterruptedException error) {
+            Thread.currentThread().interrupt();
+        }
+        throw new Fault.Unavailable("all " + threads + " transactions that may run at once do so, for " + patience.toSeconds()
+            + " s. Give the manager more threads; a REQUIRES_NEW in a transaction needs a second one while the first waits");
+    }
+
+    void giveBack(Slot slot) {
+        free.addFirst(slot);
+    }
+
+    Keeper keeper(ResourceManager rm) {
+        return keepers.get(rms.indexOf(rm));
+    }
+
+    /** What to do once so many branches of a committed transaction have acknowledged: its row leaves the log. */
+    Runnable paid(String gtrid, int count) {
+        AtomicInteger left = new AtomicInteger(count);
+        return () -> {
+            if (left.decrementAndGet() == 0) {
+                noteDone(gtrid);
+            }
+        };
+    }
+
+    /** A prepared branch was rolled back. */
+    void noteUndone(BranchXid xid) {
+        undone.add(xid);
+    }
+
+    /** All branches of the committed transaction have acknowledged: its row may leave the log, with others. */
+    void noteDone(String gtrid) {
+        List<String> gtrids;
+        synchronized (this) {
+            done.add(gtrid);
+            if (done.size() < DONE_AT_ONCE) {
+                return;
+            }
+            gtrids = done;
+            done = new ArrayList<>();
+        }
+        finish(gtrids);
+    }
+
+    private void finish(List<String> gtrids) {
+        if (gtrids.isEmpty()) {
+            return;
+        }
+        try {
+            coordinator.ask("done " + String.join(" ", gtrids));
+        } catch (Fault.Refused refused) {
+            // None of the rows left. The others may, without the one that can't.
+            if (gtrids.size() > 1) {
+                gtrids.forEach(gtrid -> finish(List.of(gtrid)));
+            } else {
+                Manager.LOG.log(Level.WARNING, () -> "a row stays in the log: " + refused.getMessage());
+            }
+        } catch (Fault fault) {
+            Manager.LOG.log(Level.DEBUG, "rows stay in the log until the next session", fault);
+        }
+    }
+
+    private void finishAll() {
+        List<String> gtrids;
+        synchronized (this) {
+            gtrids = done;
+            done = new ArrayList<>();
+        }
+        finish(gtrids);
+    }
+
+    // ** what must not be
+
+    /** Sees that what a resource lists can be this log's. */
+    void seeListed(ResourceManager rm, List<BranchXid> listed) throws Fault {
+        for (BranchXid xid : listed) {
+            if (xid.incarnation() > incarnation || xid.incarnation() == incarnation && xid.sequence() > begun.get()) {
+                fatal = "the log isn't that of " + rm + ", which lists " + xid + " of a later session than any that the log knows. Was its file"
+                    + " lost, or another one put in its place? Start with the right one: this one would roll back what is decided";
+                throw new Fault.Unavailable(fatal);
+            }
+        }
+    }
+
+    /** A page that no state of a branch explains. Only what this session rolled back may be listed again, after a crash of the resource. */
+    void unexplained(ResourceManager rm, Fault.Unexplained error) {
+        if (undone.isEmpty()) {
+            fatal = rm + ": " + error.getMessage() + ". Somebody else ends its branches, or it isn't the resource that it is taken for";
+            Manager.LOG.log(Level.ERROR, fatal);
+        } else {
+            Manager.LOG.log(Level.WARNING, () -> rm + " lists again what was rolled back: the next session sees to it");
+        }
+        coordinator.kill("a page of " + rm + " isn't explained");
+    }
+
+    void seeWhole() throws Fault {
+        if (fatal != null) {
+            throw new Fault.Unavailable(fatal);
+        }
+    }
+
+    String fatal() {
+        return fatal;
+    }
+
+    /** Looks once in a while: what waits is written, and a coordinator that doesn't reply any more is ended. */
+    void tick(long patience) {
+        Coordinator.Reply first = coordinator.oldest();
+        if (first == null || first != oldest) {
+            oldest = first;
+            oldestSince = System.nanoTime();
+        } else if (System.nanoTime() - oldestSince > patience) {
+            coordinator.kill("it didn't reply for " + TimeUnit.NANOSECONDS.toSeconds(patience) + " s");
+        }
+        finishAll();
+        try {
+            coordinator.flush();
+        } catch (Fault.Gone error) {
+            // The next look begins the next session.
+        }
+    }
+
+    int open() {
+        return live.size();
+    }
+
+    int owing() {
+        return keepers.stream().mapToInt(keeper -> keeper.debts() + (keeper.isRecovered() ? 0 : 1)).sum();
+    }
+
+    // ** its end
+
+    /** Ends it, once its transactions are over. */
+    void quit() {
+        keepers.forEach(Keeper::stop);
+        finishAll();
+        coordinator.quit();
+    }
+
+    /** The coordinator is gone: what is open is given up, before the next session looks at the resources. */
+    void abandon() {
+        keepers.forEach(Keeper::stop);
+        live.forEach(GlobalTransaction::abandon);
+        rms.forEach(ResourceManager::startAnew);
+    }
+}

@@ -1,0 +1,99 @@
+package garterfossil.jdbc;
+
+import garterfossil.Link;
+import java.sql.Connection;
+import java.sql.SQLException;
+import java.util.ArrayList;
+import java.util.List;
+import javax.sql.XAConnection;
+import javax.transaction.xa.XAResource;
+
+/** A connection to a database. */
+final class JdbcLink implements Link {
+    /** What takes a setting of the connection back. */
+    interface Undo {
+        void run() throws SQLException;
+    }
+
+    private final XAConnection xa;
+    private final Connection connection;
+    private final List<Undo> undos = new ArrayList<>();
+    private final XAResource resource;
+    private final long number;
+    private boolean isSuspect;
+
+    JdbcLink(XAConnection xa, JdbcResource owner) throws SQLException {
+        this.xa = xa;
+        try {
+            connection = xa.getConnection();
+            Dialect dialect = owner.dialect(connection);
+            resource = new JdbcXaResource(owner, dialect, xa.getXAResource(), connection);
+            number = dialect.number(connection, owner.manager());
+        } catch (SQLException | RuntimeException error) {
+            close();
+            throw error;
+        }
+    }
+
+    Connection connection() {
+        return connection;
+    }
+
+    /** A setting was changed: this takes it back. */
+    void undoLater(Undo undo) {
+        undos.add(undo);
+    }
+
+    /** An error was met on it: it is asked before it is used again. */
+    void suspect() {
+        isSuspect = true;
+    }
+
+    @Override
+    public XAResource xaResource() {
+        return resource;
+    }
+
+    @Override
+    public long number() {
+        return number;
+    }
+
+    @Override
+    public boolean isUsable() {
+        try {
+            return connection.isValid(5);
+        } catch (SQLException | RuntimeException error) {
+            return false;
+        }
+    }
+
+    @Override
+    public boolean reset() {
+        try {
+            for (int at = undos.size() - 1; at >= 0; at--) {
+                undos.get(at).run();
+            }
+            undos.clear();
+            if (!connection.getAutoCommit()) {
+                connection.rollback();
+                connection.setAutoCommit(true);
+            }
+            connection.clearWarnings();
+        } catch (SQLException | RuntimeException error) {
+            return false;
+        }
+        boolean isGood = !isSuspect || isUsable();
+        isSuspect = false;
+        return isGood;
+    }
+
+    @Override
+    public void close() {
+        try {
+            xa.close();
+        } catch (SQLException | RuntimeException error) {
+            System.getLogger("garterfossil").log(System.Logger.Level.DEBUG, "a connection can't be closed", error);
+        }
+    }
+}

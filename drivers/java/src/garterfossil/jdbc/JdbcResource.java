@@ -1,0 +1,101 @@
+package garterfossil.jdbc;
+
+import garterfossil.Fault;
+import garterfossil.Link;
+import garterfossil.Manager;
+import garterfossil.Resource;
+import java.sql.Connection;
+import java.sql.SQLException;
+import java.util.Set;
+import javax.sql.DataSource;
+import javax.sql.XADataSource;
+
+/**
+ * A database, by its driver's XADataSource, with a pool of connections.
+ *
+ * <p>The manager ends connections that an earlier one left: at PostgreSQL those of its own user with its application_name, at
+ * MariaDB all of its user. So it has a user of its own.
+ */
+public final class JdbcResource implements Resource {
+    private final String name;
+    private final XADataSource source;
+    private int maxConnections = 32;
+    private volatile String manager = "";
+    private volatile Dialect dialect;
+
+    private JdbcResource(String name, XADataSource source) {
+        this.name = name;
+        this.source = source;
+    }
+
+    /** A database under a name that stays as long as the log does. */
+    public static JdbcResource of(String name, XADataSource source) {
+        return new JdbcResource(name, source);
+    }
+
+    /** How many connections there may be at a time, beside one for the recovery: 32 where none is given. */
+    public JdbcResource maxConnections(int count) {
+        maxConnections = count;
+        return this;
+    }
+
+    /** Connections for programs: in a transaction of the manager each takes part in it. */
+    public DataSource dataSource(Manager of) {
+        return new PooledDataSource(of, this, source);
+    }
+
+    @Override
+    public String name() {
+        return name;
+    }
+
+    @Override
+    public int maxConnections() {
+        return maxConnections;
+    }
+
+    @Override
+    public void belongTo(String of) {
+        manager = of;
+    }
+
+    @Override
+    public Link connect() throws Fault.Lost {
+        return connection();
+    }
+
+    private JdbcLink connection() throws Fault.Lost {
+        try {
+            return new JdbcLink(source.getXAConnection(), this);
+        } catch (SQLException | RuntimeException error) {
+            throw new Fault.Lost("no connection to " + name, error);
+        }
+    }
+
+    String manager() {
+        return manager;
+    }
+
+    /** What kind of database it is, as it says itself. */
+    Dialect dialect(Connection connection) throws SQLException {
+        if (dialect == null) {
+            dialect = Dialect.of(connection);
+        }
+        return dialect;
+    }
+
+    @Override
+    public void endOthers(Set<Long> kept) throws Fault.Lost {
+        if (dialect == Dialect.OTHER) {
+            return;
+        }
+        JdbcLink link = connection();
+        try {
+            dialect.endOthers(link.connection(), manager, link.number(), kept);
+        } catch (SQLException | RuntimeException error) {
+            throw new Fault.Lost("connections to " + name + " can't be ended", error);
+        } finally {
+            link.close();
+        }
+    }
+}

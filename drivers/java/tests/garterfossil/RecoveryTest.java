@@ -1,0 +1,140 @@
+package garterfossil;
+
+import static org.junit.Assert.assertEquals;
+import static org.junit.Assert.assertThrows;
+import static org.junit.Assert.assertTrue;
+
+import java.nio.file.Files;
+import java.time.Duration;
+import org.junit.Rule;
+import org.junit.Test;
+
+/** What ends, and what comes after. */
+public class RecoveryTest {
+    @Rule
+    public final World world = new World();
+
+    private void nothingIsLeft() throws Exception {
+        World.eventually(() -> world.a.branches.isEmpty() && world.b.branches.isEmpty() && world.manager.owing() == 0);
+    }
+
+    @Test
+    public void theCoordinatorEndsBeforeTheDecision() throws Exception {
+        GlobalTransaction transaction = world.overBoth();
+        world.dieAt("decide");
+        assertThrows(Fault.RolledBack.class, transaction::commit);
+        nothingIsLeft();
+        assertTrue(world.a.committed.isEmpty() && world.b.committed.isEmpty());
+    }
+
+    @Test
+    public void theCoordinatorEndsBeforeItSaysThatItDecided() throws Exception {
+        GlobalTransaction transaction = world.overBoth();
+        world.dieAt("decided");
+        transaction.commit();
+        assertEquals(Outcome.COMMITTED, transaction.outcome());
+        nothingIsLeft();
+        assertEquals(1, world.a.committed.size());
+        assertEquals(1, world.b.committed.size());
+    }
+
+    @Test
+    public void theCoordinatorEndsInTheWork() throws Exception {
+        GlobalTransaction transaction = world.overBoth();
+        world.dieAt("begin");
+        assertThrows(Fault.Gone.class, () -> {
+            for (int count = 0; count < 4; count++) {
+                world.begin().enlist(world.a);
+            }
+        });
+        world.begin().enlist(world.a);
+        assertThrows(Fault.RolledBack.class, transaction::commit);
+        assertTrue(world.a.committed.isEmpty() && world.b.committed.isEmpty());
+    }
+
+    @Test
+    public void theManagerEndsAfterTheDecision() throws Exception {
+        world.b.answer("commit", StandInResource.LOST_BEFORE);
+        GlobalTransaction transaction = world.overBoth();
+        // From the commit on b can't be reached.
+        world.b.before = () -> world.b.isDown = world.b.isDown || world.b.calls.contains("prepare");
+        Thread committing = new Thread(() -> {
+            try {
+                transaction.commit();
+            } catch (Fault error) {
+                throw new AssertionError(error);
+            }
+        });
+        committing.start();
+        World.eventually(() -> world.a.committed.size() == 1);
+        world.manager.close();
+        committing.join();
+        world.b.before = () -> { };
+        world.b.isDown = false;
+        world.manager = world.builder().start();
+        nothingIsLeft();
+        assertEquals(1, world.b.committed.size());
+        world.manager.close();
+    }
+
+    @Test
+    public void aResourceThatIsDownAtTheStart() throws Exception {
+        world.manager.close();
+        world.b.isDown = true;
+        world.manager = world.builder().start();
+        GlobalTransaction transaction = world.manager.begin(Duration.ofSeconds(1));
+        assertThrows(Fault.Lost.class, () -> transaction.enlist(world.b));
+        transaction.enlist(world.a);
+        transaction.commit();
+        world.b.isDown = false;
+        nothingIsLeft();
+        world.overBoth().commit();
+        world.manager.close();
+    }
+
+    @Test
+    public void aLogThatIsMissing() throws Exception {
+        world.manager.close();
+        Files.delete(world.folder.resolve("log"));
+        Fault.Unavailable error = assertThrows(Fault.Unavailable.class, () -> world.builder().start());
+        assertTrue(error.getMessage(), error.getMessage().contains("missing"));
+    }
+
+    @Test
+    public void aNewLogBesideBranchesOfAnOldOne() throws Exception {
+        world.a.branches.put(BranchXid.of("", "0000000000000009" + "0000000000000001", 1, 0), StandInResource.State.PREPARED);
+        world.manager.close();
+        Fault.Unavailable error = assertThrows(Fault.Unavailable.class, () -> world.builder().start());
+        assertTrue(error.getMessage(), error.getMessage().contains("isn't that of a"));
+        assertEquals(1, world.a.branches.size());
+    }
+
+    @Test
+    public void branchesOfOthersStay() throws Exception {
+        BranchXid others = BranchXid.of("other", "0000000000000009" + "0000000000000001", 1, 0);
+        world.a.branches.put(others, StandInResource.State.PREPARED);
+        world.manager.close();
+        world.manager = world.builder().start();
+        assertEquals(1, world.a.branches.size());
+        world.manager.close();
+    }
+
+    @Test
+    public void resourcesKeepTheirNumbers() throws Exception {
+        world.manager.close();
+        assertEquals("a\nb\n", Files.readString(world.folder.resolve("log-resources")));
+        Manager other = Manager.over(world.folder.resolve("log")).command(world.commandWords()).threads(2).resource(world.b).start();
+        GlobalTransaction transaction = other.begin(Duration.ofSeconds(5));
+        transaction.enlist(world.b);
+        assertTrue(world.b.branches.keySet().iterator().next().toString().endsWith("00000001"));
+        transaction.rollback();
+        other.close();
+    }
+
+    @Test
+    public void aProgramThatIsNotThere() {
+        Fault.Unavailable error = assertThrows(Fault.Unavailable.class, () -> Manager.over(world.folder.resolve("other"))
+            .program("/no/such/program").resource(new StandInResource("c")).start());
+        assertTrue(error.getMessage(), error.getMessage().contains("Builder.program"));
+    }
+}

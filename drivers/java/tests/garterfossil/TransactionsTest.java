@@ -1,0 +1,211 @@
+package garterfossil;
+
+import static org.junit.Assert.assertEquals;
+import static org.junit.Assert.assertFalse;
+import static org.junit.Assert.assertThrows;
+import static org.junit.Assert.assertTrue;
+
+import java.util.List;
+import java.util.stream.Collectors;
+import javax.transaction.xa.XAException;
+import javax.transaction.xa.XAResource;
+import org.junit.Rule;
+import org.junit.Test;
+
+/** How transactions end, by what the resources answer. */
+public class TransactionsTest {
+    @Rule
+    public final World world = new World();
+
+    private List<String> callsOf(StandInResource resource) {
+        return resource.calls.stream().filter(call -> !call.equals("recover") && !call.equals("endOthers")).collect(Collectors.toList());
+    }
+
+    @Test
+    public void commitsInTwoPhases() throws Exception {
+        world.overBoth().commit();
+        assertEquals(List.of("start", "end", "prepare", "commit"), callsOf(world.a));
+        assertEquals(List.of("start", "end", "prepare", "commit"), callsOf(world.b));
+    }
+
+    @Test
+    public void commitsOneBranchInOnePhase() throws Exception {
+        GlobalTransaction transaction = world.begin();
+        transaction.enlist(world.a);
+        transaction.commit();
+        assertEquals(List.of("start", "end", "commit TMONEPHASE"), callsOf(world.a));
+    }
+
+    @Test
+    public void commitsWithoutBranchesOrCoordinator() throws Exception {
+        world.begin().commit();
+        assertFalse(world.folder.resolve("requests").toFile().exists() && world.requests().stream().anyMatch(it -> it.startsWith("begin")));
+    }
+
+    @Test
+    public void rollsBackWhereOneVotesNo() throws Exception {
+        GlobalTransaction transaction = world.overBoth();
+        world.b.answer("prepare", XAException.XA_RBDEADLOCK);
+        Fault.RolledBack error = assertThrows(Fault.RolledBack.class, transaction::commit);
+        assertTrue(error.getMessage(), error.getMessage().contains("b voted XA_RBDEADLOCK"));
+        assertEquals(1, world.a.rolledBack.size());
+        assertTrue(world.a.branches.isEmpty() && world.b.branches.isEmpty());
+    }
+
+    @Test
+    public void rollsBackWhereXaEndSaysSo() throws Exception {
+        GlobalTransaction transaction = world.overBoth();
+        world.a.answer("end", XAException.XA_RBTIMEOUT);
+        assertThrows(Fault.RolledBack.class, transaction::commit);
+        assertEquals(1, world.b.rolledBack.size());
+        assertTrue(world.requests().stream().anyMatch(it -> it.contains("xa_prepare") && it.endsWith(" 106")));
+    }
+
+    @Test
+    public void aReadOnlyVoteIsNotCommitted() throws Exception {
+        GlobalTransaction transaction = world.overBoth();
+        world.a.answer("prepare", XAResource.XA_RDONLY);
+        transaction.commit();
+        assertEquals(List.of("start", "end", "prepare"), callsOf(world.a));
+        assertEquals(1, world.b.committed.size());
+    }
+
+    @Test
+    public void rowsLeaveTheLog() throws Exception {
+        for (int count = 0; count < 8; count++) {
+            world.overBoth().commit();
+        }
+        assertEquals(List.of(), world.rows());
+    }
+
+    @Test
+    public void anOkToTmfailIsReportedAsRollbackOnly() throws Exception {
+        GlobalTransaction transaction = world.begin();
+        XAResource brought = world.a.connect().xaResource();
+        transaction.enlist(world.a, brought);
+        assertTrue(transaction.delist(brought, true));
+        transaction.rollback();
+        assertEquals(List.of("start", "end TMFAIL", "rollback"), callsOf(world.a));
+        assertTrue(world.requests().stream().anyMatch(it -> it.contains("answer") && it.contains("xa_end") && it.endsWith(" 100")));
+    }
+
+    @Test
+    public void rollbackTakesXaRollbackCodes() throws Exception {
+        GlobalTransaction transaction = world.overBoth();
+        world.a.answer("rollback", XAException.XA_RBOTHER);
+        transaction.rollback();
+        assertEquals(Outcome.ROLLED_BACK, transaction.outcome());
+        assertEquals(0, world.manager.owing());
+    }
+
+    @Test
+    public void aBranchThatIsGoneIsAHazard() throws Exception {
+        GlobalTransaction transaction = world.overBoth();
+        world.a.answer("commit", XAException.XAER_NOTA);
+        world.a.before = () -> {
+            if (world.a.calls.contains("prepare")) {
+                world.a.branches.clear();
+            }
+        };
+        Fault.Heuristic error = assertThrows(Fault.Heuristic.class, transaction::commit);
+        assertTrue(error.isHazard);
+        assertTrue(callsOf(world.a).contains("forget"));
+    }
+
+    @Test
+    public void allRolledBackByThemselves() throws Exception {
+        GlobalTransaction transaction = world.overBoth();
+        world.a.answer("commit", XAException.XA_HEURRB);
+        world.b.answer("commit", XAException.XA_RBINTEGRITY);
+        assertTrue(assertThrows(Fault.Heuristic.class, transaction::commit).isAllRolledBack);
+    }
+
+    @Test
+    public void aCommitThatIsPutOffIsMadeAgain() throws Exception {
+        GlobalTransaction transaction = world.overBoth();
+        world.a.answer("commit", XAException.XA_RETRY);
+        transaction.commit();
+        assertEquals(1, world.a.committed.size());
+    }
+
+    @Test
+    public void connectionsLostBeforeTheDecision() throws Exception {
+        for (String call : List.of("end", "prepare")) {
+            for (int when : new int[] {StandInResource.LOST_BEFORE, StandInResource.LOST_AFTER}) {
+                GlobalTransaction transaction = world.overBoth();
+                world.b.answer(call, when);
+                assertThrows(call, Fault.RolledBack.class, transaction::commit);
+                World.eventually(() -> world.manager.owing() == 0);
+                assertTrue(call, world.a.branches.isEmpty() && world.b.branches.isEmpty());
+            }
+        }
+        assertTrue(world.a.committed.isEmpty() && world.b.committed.isEmpty());
+    }
+
+    @Test
+    public void connectionsLostInTheCommit() throws Exception {
+        for (int when : new int[] {StandInResource.LOST_BEFORE, StandInResource.LOST_AFTER}) {
+            GlobalTransaction transaction = world.overBoth();
+            world.b.answer("commit", when);
+            transaction.commit();
+            World.eventually(() -> world.manager.owing() == 0);
+        }
+        assertEquals(2, world.a.committed.size());
+        assertEquals(2, world.b.committed.size());
+    }
+
+    @Test
+    public void aConnectionLostInACommitInOnePhase() throws Exception {
+        GlobalTransaction transaction = world.begin();
+        transaction.enlist(world.a);
+        world.a.answer("commit TMONEPHASE", StandInResource.LOST_AFTER);
+        assertThrows(Fault.OutcomeUnknown.class, transaction::commit);
+        assertEquals(Outcome.UNKNOWN, transaction.outcome());
+        assertEquals(1, world.a.committed.size());
+    }
+
+    @Test
+    public void noCallBeforeTheAnswerBeforeIsReported() throws Exception {
+        // The coordinator has read the answer to each call on a line before the resource gets the next one.
+        world.a.before = () -> {
+            String last = world.a.calls.isEmpty() ? "" : world.a.calls.get(world.a.calls.size() - 1);
+            String name = last.equals("start") ? "xa_start" : last.equals("end") ? "xa_end" : last.equals("prepare") ? "xa_prepare" : null;
+            if (name != null) {
+                try {
+                    World.eventually(() -> isRead("answer 1 0 " + name));
+                } catch (InterruptedException error) {
+                    throw new AssertionError(error);
+                }
+            }
+        };
+        world.overBoth().commit();
+        assertEquals(1, world.a.committed.size());
+    }
+
+    private boolean isRead(String beginning) {
+        try {
+            return world.requests().stream().anyMatch(it -> it.startsWith(beginning));
+        } catch (java.io.IOException error) {
+            return false;
+        }
+    }
+
+    @Test
+    public void aTransactionThatTakesTooLong() throws Exception {
+        GlobalTransaction transaction = world.manager.begin(java.time.Duration.ofMillis(200));
+        transaction.enlist(world.a);
+        World.eventually(() -> transaction.outcome() == Outcome.ROLLED_BACK);
+        assertEquals(1, world.a.rolledBack.size());
+        assertTrue(transaction.fault(), transaction.fault().contains("time-out"));
+    }
+
+    @Test
+    public void moreThanMayRunAtOnce() throws Exception {
+        for (int count = 0; count < 4; count++) {
+            world.begin().enlist(world.a);
+        }
+        GlobalTransaction fifth = world.manager.begin(java.time.Duration.ofMillis(300));
+        Fault.Unavailable error = assertThrows(Fault.Unavailable.class, () -> fifth.enlist(world.a));
+        assertTrue(error.getMessage(), error.getMessage().contains("more threads"));
+    }
+}

@@ -1,0 +1,81 @@
+package garterfossil;
+
+import java.io.IOException;
+import java.nio.file.Files;
+import java.nio.file.Path;
+import java.time.Duration;
+import java.util.ArrayList;
+import java.util.List;
+import java.util.concurrent.TimeUnit;
+import java.util.function.BooleanSupplier;
+import org.junit.rules.ExternalResource;
+import org.junit.rules.TemporaryFolder;
+
+/** Two stand-ins for databases, a stand-in for the coordinator, and a manager over them. */
+final class World extends ExternalResource {
+    final StandInResource a = new StandInResource("a"), b = new StandInResource("b");
+    private final TemporaryFolder temporary = new TemporaryFolder();
+    private final List<Manager> managers = new ArrayList<>();
+    Path folder;
+    Manager manager;
+
+    @Override
+    protected void before() throws Throwable {
+        temporary.create();
+        folder = temporary.getRoot().toPath();
+        Files.writeString(folder.resolve("log"), "a log");
+        manager = builder().start();
+        managers.add(manager);
+    }
+
+    List<String> commandWords() {
+        String java = Path.of(System.getProperty("java.home"), "bin", "java").toString();
+        return List.of(java, "-XX:TieredStopAtLevel=1", "-XX:+UseSerialGC", "-cp", System.getProperty("java.class.path"),
+            "garterfossil.StandInCoordinator", folder.toString());
+    }
+
+    Manager.Builder builder() {
+        return Manager.over(folder.resolve("log")).command(commandWords()).threads(4).patience(Duration.ofSeconds(8)).resource(a).resource(b);
+    }
+
+    @Override
+    protected void after() {
+        managers.forEach(Manager::close);
+        temporary.delete();
+    }
+
+    GlobalTransaction begin() throws Fault {
+        return manager.begin(Duration.ofSeconds(20));
+    }
+
+    /** A transaction with a branch at each of them. */
+    GlobalTransaction overBoth() throws Fault {
+        GlobalTransaction transaction = begin();
+        transaction.enlist(a);
+        transaction.enlist(b);
+        return transaction;
+    }
+
+    /** The coordinator ends at this request. */
+    void dieAt(String moment) throws IOException {
+        Files.writeString(folder.resolve("die-at"), moment);
+    }
+
+    List<String> requests() throws IOException {
+        return Files.readAllLines(folder.resolve("requests"));
+    }
+
+    List<String> rows() throws IOException {
+        return Files.readAllLines(folder.resolve("rows"));
+    }
+
+    static void eventually(BooleanSupplier condition) throws InterruptedException {
+        long until = System.nanoTime() + TimeUnit.SECONDS.toNanos(15);
+        while (!condition.getAsBoolean()) {
+            if (System.nanoTime() > until) {
+                throw new AssertionError("it doesn't come");
+            }
+            Thread.sleep(20);
+        }
+    }
+}

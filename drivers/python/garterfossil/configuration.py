@@ -1,0 +1,113 @@
+"""A file that says what a transaction manager is made of, for a program and for `python -m garterfossil` alike."""
+
+from __future__ import annotations
+
+import importlib
+import os
+from dataclasses import dataclass, field
+from typing import Any, Dict, List, Mapping, Sequence
+
+from .adapters.base import Database
+from .errors import SetupError
+from .manager import TransactionManager
+
+#: The kinds of databases, by the modules that reach them, and where their adapters are.
+KINDS = {
+    "postgresql": "garterfossil.adapters.postgresql:PostgreSQL",
+    "psycopg": "garterfossil.adapters.psycopg:PostgreSQL",
+    "mariadb": "garterfossil.adapters.mariadb:MariaDB",
+    "mysqlclient": "garterfossil.adapters.mysqlclient:MariaDB",
+}
+#: The keys of the file, except `database`, and the kinds of their values.
+NUMBER = (int, float)
+KEYS: Mapping[str, Any] = {"log": str, "name": str, "threads": int, "patience": NUMBER, "timeout": NUMBER, "program": str}
+
+
+@dataclass(frozen=True)
+class Configuration:
+    """What a transaction manager is made of. `options` are keywords of `TransactionManager`."""
+
+    databases: List[Database]
+    log: str
+    #: The names of the databases, if they were given any.
+    names: Sequence[str] = ()
+    options: Dict[str, Any] = field(default_factory=dict)
+
+    @classmethod
+    def read(cls, path: str) -> Configuration:
+        """What a file of TOML says. Raises SetupError if it can't be read, or says something else."""
+        return cls.of(_toml(path), path)
+
+    @classmethod
+    def of(cls, found: Mapping[str, Any], path: str) -> Configuration:
+        """What the tables of such a file say. A log without a folder is in that of the file."""
+        for key, value in found.items():
+            if key != "database" and not isinstance(value, KEYS.get(key, ())):
+                raise SetupError(f"{path}: {key} = {value!r} isn't right; the keys are {', '.join(KEYS)} and [[database]]")
+        if "log" not in found or not isinstance(found.get("database"), list) or not found["database"]:
+            raise SetupError(f"{path}: it needs the key log, and a table [[database]] for each database")
+        tables = [dict(table) for table in found["database"]]
+        names = [table.pop("as") for table in tables if "as" in table]
+        if names and len(set(names)) != len(tables):
+            raise SetupError(f"{path}: either each database has a name of its own (as = ..), or none has")
+        databases = [_database(table, f"{path}: database {rm}") for rm, table in enumerate(tables)]
+        log = os.path.join(os.path.dirname(os.path.abspath(path)), found["log"])
+        return cls(databases, log, names, {key: found[key] for key in KEYS if key in found and key != "log"})
+
+    @property
+    def name(self) -> str:
+        """The manager's name, if it has one."""
+        return str(self.options.get("name", ""))
+
+    @property
+    def program(self) -> str:
+        """The program `xatm`."""
+        return str(self.options.get("program", "xatm"))
+
+    def label(self, rm: int) -> str:
+        """What messages call a database."""
+        return f"{self.names[rm]}, {self.databases[rm]!r}" if self.names else repr(self.databases[rm])
+
+    def manager(self) -> TransactionManager:
+        """The transaction manager. Raises what its constructor does."""
+        named = dict(zip(self.names, self.databases))
+        return TransactionManager(named or self.databases, self.log, **self.options)
+
+
+def manager_of(path: str) -> TransactionManager:
+    """The transaction manager of a file of TOML. Raises SetupError if the file isn't right, and what `TransactionManager` does."""
+    return Configuration.read(path).manager()
+
+
+def _toml(path: str) -> Dict[str, Any]:
+    try:
+        toml: Any = importlib.import_module("tomllib")
+    except ImportError:
+        try:
+            toml = importlib.import_module("tomli")
+        except ImportError:
+            raise SetupError("before Python 3.11 such a file needs the module tomli: pip install garterfossil[toml]") from None
+    try:
+        with open(path, "rb") as it:
+            found: Dict[str, Any] = toml.load(it)
+    except OSError as error:
+        raise SetupError(f"{path}: {error.strerror}") from error
+    except ValueError as error:
+        raise SetupError(f"{path}: {error}") from error
+    return found
+
+
+def _database(table: Dict[str, Any], where: str) -> Database:
+    """The database of a table: its key `kind` names the adapter, and the others are what the adapter takes."""
+    kind = table.pop("kind", None)
+    path = KINDS.get(kind, kind) if isinstance(kind, str) else ""
+    module, _, name = path.partition(":")
+    if not name:
+        raise SetupError(f"{where}: kind = {kind!r} is none of {', '.join(KINDS)}, nor an adapter as 'module:Class'")
+    try:
+        database = getattr(importlib.import_module(module), name)(**table)
+    except (ImportError, AttributeError, TypeError, ValueError) as error:
+        raise SetupError(f"{where}: {error}") from error
+    if not isinstance(database, Database):
+        raise SetupError(f"{where}: {path} is no adapter of a database")
+    return database

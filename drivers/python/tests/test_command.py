@@ -1,0 +1,151 @@
+"""The command `python -m garterfossil`, over the stand-ins."""
+
+import contextlib
+import io
+import json
+import os
+import tempfile
+import unittest
+from unittest import mock
+
+from garterfossil import command
+from garterfossil.configuration import Configuration
+from garterfossil.xid import Xid
+
+from . import fake_program
+from .fake_database import FakeDatabase
+
+DECIDED, UNDECIDED = "00000000000000010000000000000001", "00000000000000010000000000000002"
+
+
+def branch(gtrid, rm, name=""):
+    return Xid.parse(f"7:{name.encode().hex()}{gtrid}:00000000{rm:08x}")
+
+
+class Commands(unittest.TestCase):
+    def setUp(self):
+        folder = tempfile.TemporaryDirectory()
+        self.addCleanup(folder.cleanup)
+        self.log = os.path.join(folder.name, "decisions.db")
+        self.databases = [FakeDatabase(), FakeDatabase()]
+        options = {"program": fake_program.made_in(folder.name), "patience": 2.0, "threads": 2}
+        self.made = Configuration(self.databases, self.log, options=options)
+        patch = mock.patch.object(Configuration, "read", lambda path: self.made)
+        patch.start()
+        self.addCleanup(patch.stop)
+        self.has_log({})
+
+    def has_log(self, rows):
+        with open(self.log, "w") as it:
+            json.dump({"incarnation": 1, "rows": {gtrid: [str(xid) for xid in xids] for gtrid, xids in rows.items()}, "requests": []}, it)
+
+    def rows(self):
+        with open(self.log) as it:
+            return sorted(json.load(it)["rows"])
+
+    def in_doubt(self):
+        """One transaction is decided and one isn't, and both databases have a branch of each prepared."""
+        self.has_log({DECIDED: [branch(DECIDED, rm) for rm in (0, 1)]})
+        for rm, database in enumerate(self.databases):
+            for gtrid in (DECIDED, UNDECIDED):
+                database.prepared[branch(gtrid, rm)] = [f"work of {gtrid[-1]}"]
+
+    def does(self, *words, says=None):
+        """The status of the command, and what it prints."""
+        printed = io.StringIO()
+        answer = mock.patch("builtins.input", side_effect=[says] if says else EOFError)
+        with contextlib.redirect_stdout(printed), contextlib.redirect_stderr(printed), answer, mock.patch("logging.basicConfig"):
+            status = command.main([*words, "--config", "bank.toml"])
+        return status, printed.getvalue()
+
+    def test_nothing_is_in_doubt(self):
+        status, printed = self.does("status")
+        self.assertEqual(status, 0, printed)
+        self.assertIn("0 decided", printed)
+
+    def test_what_each_branch_waits_for_is_shown_with_its_statement(self):
+        self.in_doubt()
+        status, printed = self.does("status")
+        self.assertEqual(status, 1)
+        for rm in (0, 1):
+            self.assertIn(f"{branch(DECIDED, rm)}: waits for xa_commit", printed)
+            self.assertIn(f"{branch(UNDECIDED, rm)}: waits for xa_rollback", printed)
+            self.assertIn(self.databases[rm].by_hand(command.Call("xa_commit", branch(DECIDED, rm))), printed)
+        self.assertEqual([len(database.prepared) for database in self.databases], [2, 2])
+
+    def test_branches_of_others_are_counted_and_no_more(self):
+        self.databases[0].prepared[branch(UNDECIDED, 0, "shop-2")] = []
+        status, printed = self.does("status")
+        self.assertEqual(status, 0)
+        self.assertIn("1 of the manager shop-2", printed)
+        self.assertNotIn("by hand", printed)
+
+    def test_without_the_log_nobody_says_how_a_branch_ends(self):
+        self.in_doubt()
+        os.remove(self.log)
+        status, printed = self.does("status")
+        self.assertEqual(status, 1)
+        self.assertIn("no such file", printed)
+        self.assertNotIn("waits for xa_", printed)
+        status, printed = self.does("end", str(branch(UNDECIDED, 0)), "--yes")
+        self.assertEqual(status, 2)
+        self.assertEqual([len(database.prepared) for database in self.databases], [2, 2])
+
+    def test_a_log_that_is_older_than_a_branch_says_nothing_of_it(self):
+        later = branch("0000000000000009" + UNDECIDED[16:], 0)
+        self.databases[0].prepared[later] = []
+        with mock.patch("garterfossil.doubt._incarnation_of", lambda path: 8):
+            self.assertIn(f"{later}: what it waits for isn't known: the log is older", self.does("status")[1])
+        with mock.patch("garterfossil.doubt._incarnation_of", lambda path: 9):
+            self.assertIn(f"{later}: waits for xa_rollback", self.does("status")[1])
+
+    def test_a_database_that_is_down_is_said_to_be(self):
+        self.databases[1].is_up = False
+        status, printed = self.does("status")
+        self.assertEqual(status, 1)
+        self.assertIn("the database is down", printed)
+
+    def test_a_row_of_which_no_branch_is_listed(self):
+        self.has_log({DECIDED: []})
+        status, printed = self.does("status")
+        self.assertEqual(status, 0)
+        self.assertIn("1 of the decisions have no branch any more", printed)
+        self.databases[1].is_up = False
+        self.assertIn("have no branch at the databases that answered", self.does("status")[1])
+
+    def test_recover_does_what_a_start_does(self):
+        self.in_doubt()
+        status, printed = self.does("recover")
+        self.assertEqual(status, 0, printed)
+        self.assertEqual([database.written for database in self.databases], [["work of 1"], ["work of 1"]])
+        self.assertEqual([database.prepared for database in self.databases], [{}, {}])
+        self.assertEqual(self.rows(), [])
+
+    def test_end_asks_first_and_does_what_the_log_says(self):
+        self.in_doubt()
+        for says in ("no", "y", None):
+            self.assertEqual(self.does("end", str(branch(DECIDED, 0)), says=says)[0], 1)
+        self.assertEqual(self.databases[0].written, [])
+        self.assertEqual(self.does("end", str(branch(DECIDED, 0)), says="yes")[0], 0)
+        self.assertEqual(self.does("end", str(branch(UNDECIDED, 1)), "--yes")[0], 0)
+        self.assertEqual([database.written for database in self.databases], [["work of 1"], []])
+        self.assertEqual([len(database.prepared) for database in self.databases], [1, 1])
+
+    def test_end_refuses_what_is_no_branch_of_the_manager(self):
+        self.databases[0].prepared[branch(UNDECIDED, 0, "shop-2")] = []
+        for text in ("7:0", str(branch(UNDECIDED, 0)), str(branch(UNDECIDED, 0, "shop-2"))):
+            status, printed = self.does("end", text, "--yes")
+            self.assertEqual(status, 2, printed)
+        self.assertEqual(len(self.databases[0].prepared), 1)
+
+    def test_end_refuses_a_log_that_is_older_than_the_branch(self):
+        later = branch("0000000000000009" + UNDECIDED[16:], 0)
+        self.databases[0].prepared[later] = []
+        status, printed = self.does("end", str(later), "--yes")
+        self.assertEqual(status, 2, printed)
+        self.assertIn("older", printed)
+        self.assertIn(later, self.databases[0].prepared)
+
+
+if __name__ == "__main__":
+    unittest.main()
