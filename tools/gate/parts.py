@@ -12,6 +12,8 @@ import time
 # What a part passed and failed.
 Count = collections.namedtuple("Count", "passed failed")
 COUNTS = re.compile(r"(\d+) passed, (\d+) failed")
+# What is told of a part beside its counts: what it lacks here.
+LACKS = re.compile(r"(?m)left out: .*|skipped=\d+")
 
 
 class Part:
@@ -48,11 +50,12 @@ def cases(status, text):
 
 
 def python_tests(status, text):
-    """Of unittest: each test."""
+    """Of unittest: each test that wasn't skipped."""
     ran = re.search(r"(?m)^Ran (\d+) test", text)
-    wrong = re.search(r"(?m)^FAILED \((.*)\)", text)
-    failed = sum(map(int, re.findall(r"(?:failures|errors|unexpected successes)=(\d+)", wrong[1]))) if wrong else 0
-    return at_least_one_failed(status if ran else 1, Count(int(ran[1]) - failed if ran else 0, failed))
+    ended = re.search(r"(?m)^(?:OK|FAILED) \((.*)\)$", text)
+    counts = collections.Counter({it: int(n) for it, n in re.findall(r"([a-z ]+)=(\d+)", ended[1] if ended else "")})
+    failed = counts["failures"] + counts["errors"] + counts["unexpected successes"]
+    return at_least_one_failed(status if ran else 1, Count(int(ran[1]) - failed - counts["skipped"] if ran else 0, failed))
 
 
 def at_least_one_failed(status, count):
@@ -99,5 +102,5 @@ class Runner:
             self.passed, self.failed = self.passed + count.passed, self.failed + count.failed
             if count.failed and not shows:
                 sys.stdout.write(text)
-            took = f"{time.time() - begun:.0f} seconds"
-            print(f"check: {part.name}: {count.passed} passed, {count.failed} failed, in {took}", flush=True)
+            words = [f"{count.passed} passed, {count.failed} failed, in {time.time() - begun:.0f} seconds", *LACKS.findall(text)]
+            print(f"check: {part.name}: {'; '.join(words)}", flush=True)
