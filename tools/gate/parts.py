@@ -53,7 +53,7 @@ def python_tests(status, text):
     """Of unittest: each test that wasn't skipped."""
     ran = re.search(r"(?m)^Ran (\d+) test", text)
     ended = re.search(r"(?m)^(?:OK|FAILED) \((.*)\)$", text)
-    counts = collections.Counter({it: int(n) for it, n in re.findall(r"([a-z ]+)=(\d+)", ended[1] if ended else "")})
+    counts = collections.Counter({it.strip(): int(n) for it, n in re.findall(r"([a-z ]+)=(\d+)", ended[1] if ended else "")})
     failed = counts["failures"] + counts["errors"] + counts["unexpected successes"]
     return at_least_one_failed(status if ran else 1, Count(int(ran[1]) - failed - counts["skipped"] if ran else 0, failed))
 
