@@ -19,7 +19,7 @@ class Costs:
 
     def quick(self):
         minutes = QUICK / jobs_for(BYTES_A_JOB)
-        return f"the quick part is done, and nothing is proved: about {self.rounded(minutes)}, {self.on()}"
+        return f"the quick part is done, and nothing is proved: at most about {self.rounded(minutes)}, {self.on()}"
 
     def whole(self):
         """By the lines of the crates that haven't passed here as they are."""
