@@ -177,6 +177,10 @@ class PostgreSQLServer(Server):
         there = f"host={self.home} port={self.port or 5432}"
         return [self.adapter()(f"{there} user=nobody dbname=postgres"), self.adapter()(f"{there} user=xa dbname=no_such")]
 
+    def streaming_cursor(self, branch):
+        """A cursor of the module whose rows stay with the server until they are asked for."""
+        return branch.cursor("streamed")
+
     def plain(self):
         """A connection of another program."""
         import psycopg2
@@ -244,6 +248,11 @@ class MariaDBServer(Server):
         """What no start accepts."""
         given = [{"user": "bank", "password": "wrong"}, {"user": "bank", "database": "no_such"}, {"user": "nobody"}]
         return [self.adapter()(unix_socket=self.socket(), **each) for each in given]
+
+    def streaming_cursor(self, branch):
+        """A cursor of the module whose rows stay with the server until they are asked for."""
+        cursors = importlib.import_module("MySQLdb.cursors" if OTHER_MODULES in os.environ else "pymysql.cursors")
+        return branch.cursor(cursors.SSCursor)
 
     def plain(self):
         """A connection of another program."""

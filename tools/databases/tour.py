@@ -1,17 +1,19 @@
 """Stories over two databases: how a transaction ends where everything goes well, and where something goes wrong at each of its
 moments. Each is looked at in the databases."""
 
+import functools
 import logging
 import os
 import threading
 import time
 
 import garterfossil.session
-from garterfossil import HeuristicEnd, OutcomeUnknown, RolledBack, SetupError, XaError
+from garterfossil import HeuristicEnd, Outcome, OutcomeUnknown, RolledBack, SetupError, XaError
 from garterfossil.adapters.base import Place
 from garterfossil.adapters.postgresql import PostgreSQL
 from garterfossil.calls import Call
 from proxy import Proxy
+from world import ACCOUNTS
 
 BOTH, NEITHER = [True, True], [False, False]
 SECOND_ONE = "INSERT INTO once VALUES (1)"
@@ -58,14 +60,13 @@ class Tour:
     def before(self, words, do, xa):
         """Has something done before the first request of the session that has these words, one by one."""
         coordinator = xa._session.coordinator
-        post = coordinator.post
+        for name in ("post", "tell"):
+            setattr(coordinator, name, functools.partial(self.posted, getattr(coordinator, name), words, do))
 
-        def posted(request):
-            if all(word in request for word in words) and do:
-                do.pop()()
-            return post(request)
-
-        coordinator.post = posted
+    def posted(self, post, words, do, request):
+        if all(word in request for word in words) and do:
+            do.pop()()
+        return post(request)
 
     def at(self, moment, do, xa=None):
         """Has something done at a moment: before the first request of this name or call, or behind the decision to commit."""
@@ -188,9 +189,13 @@ class Tour:
                     self.write(t, 0, 1)
                     self.at(moment, self.xa._session.coordinator.kill)
             except (RolledBack, OutcomeUnknown):
-                pass
+                self.see(f"the outcome is found after the coordinator is killed {when(moment)}", self.is_found(t, wanted))
             self.goes_on()
             self.told(f"the coordinator is killed {when(moment)}", t, wanted)
+
+    def is_found(self, t, wanted):
+        """Whether what nobody could tell is what the log says later."""
+        return t.outcome is not Outcome.UNKNOWN or (self.xa.outcome(t.gtrid) is Outcome.COMMITTED) == (wanted == BOTH)
 
     def freeze(self, t, xa):
         """A driver stops, and keeps its connections."""
@@ -284,6 +289,44 @@ class Tour:
         os.rename(f"{kept}.kept", kept)
         self.world.manager(2, name="lost").close()
         self.see("the log that was lost is put back, and what it decided is committed", self.holds("lost") == BOTH)
+
+    def transactions_have_options(self):
+        for rm in (0, 1):
+            try:
+                with self.xa.transaction(read_only=True, isolation="serializable") as t:
+                    t[rm].execute("SELECT count(*) FROM moved")
+                    self.write(t, rm)
+                self.see(f"database {rm} refuses what writes in a transaction that is read only", False)
+            except XaError:
+                self.see(f"database {rm} refuses what writes in a transaction that is read only", False)
+            except Exception as error:
+                self.see(f"database {rm} refuses what writes in a transaction that is read only: {error}", True)
+            with self.xa.transaction() as t:
+                self.write(t, rm)
+            self.told(f"the next one at database {rm} isn't read only", t, [rm == 0, rm == 1])
+            self.sees_what_commits(rm, "read committed", True)
+            self.sees_what_commits(rm, "repeatable read", False)
+
+    def sees_what_commits(self, rm, isolation, wanted):
+        """Whether a transaction sees what another commits meanwhile."""
+        count = "SELECT count(*) FROM moved"
+        with self.xa.transaction(isolation=isolation) as t:
+            before = t[rm].execute(count).rows
+            with self.xa.transaction(independent=True) as other:
+                self.write(other, rm)
+            after = t[rm].execute(count).rows
+        self.see(f"{isolation} at database {rm}", (before != after) == wanted)
+
+    def streams(self):
+        """A module's cursor of rows that stay with the server, in a transaction that writes."""
+        for rm, server in enumerate(self.world.servers):
+            with self.xa.transaction() as t:
+                self.write(t, 0, 1)
+                with server.streaming_cursor(t[rm]) as cursor:
+                    cursor.execute("SELECT id FROM account ORDER BY id")
+                    found = [number for number, in cursor]
+            self.see(f"rows of database {rm} are streamed", found == list(range(ACCOUNTS)))
+            self.told(f"what streamed rows of database {rm}", t, BOTH)
 
     def see(self, name, is_so):
         self.stories += 1
@@ -424,6 +467,8 @@ def run(world):
     tour.databases_go_down()
     tour.networks_go_silent()
     tour.one_server_twice()
+    tour.transactions_have_options()
+    tour.streams()
     tour.others_stay()
     tour.idle_connections_end()
     tour.set_up_wrongly()

@@ -13,6 +13,8 @@ mod failing;
 #[cfg(test)]
 mod files;
 #[cfg(test)]
+mod labels;
+#[cfg(test)]
 mod lists;
 #[cfg(test)]
 mod memory;

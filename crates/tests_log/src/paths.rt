@@ -47,7 +47,7 @@ fn open_at(rt: &HostRuntime, path: &str) -> Result<(), LogFault> {
 }
 
 /// What a log at a path answers to `bump`.
-fn bump_at(rt: &HostRuntime, path: &str) -> Result<u64, LogFault> {
+pub(crate) fn bump_at(rt: &HostRuntime, path: &str) -> Result<u64, LogFault> {
     bump_in_files(SqlLog::open(rt, path)?)
 }
 
@@ -57,7 +57,7 @@ fn close_in_files<D: Disk + Drop>(log: SqlLog<FileStore<D>>) -> Result<(), LogFa
 }
 
 /// Looks at the log at a path.
-fn look_at(rt: &HostRuntime, path: &str) -> Result<(), LogFault> {
+pub(crate) fn look_at(rt: &HostRuntime, path: &str) -> Result<(), LogFault> {
     close_in_files(SqlLog::look(rt, path)?)
 }
 

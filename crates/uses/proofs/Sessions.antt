@@ -1,47 +1,69 @@
 -- A driver is served.
-use Rattle.std.proofs.Common.{◌≡◌, ℕ, Bool, true, List, [], ◌∷◌, ◌++◌, length, Some, refl, sym, subst, arith}
+use Rattle.std.proofs.Common.{◌≡◌, ◌≤◌, ◌<◌, inl, ℕ, Bool, true, false, List, [], ◌∷◌, ◌++◌, length, Option, Some, None, IsSomeAnd, refl, sym, subst, arith}
+use Rattle.std.specs.FinMap.{len-empty}
+use Rattle.std.specs.List.{list_any}
+use Rattle.xa_base.specs.StateTable.{broken}
+use Rattle.xa_base.specs.declared.state.Standing.{Standing}
+use Rattle.xa_base.specs.declared.state.Standing.TheVariants.{Unstarted}
 use Rattle.xa_base.specs.declared.branch.Gtrid.{Gtrid}
 use Rattle.xa_base.specs.HeldBranch.{new_branch}
 use Rattle.xa_base.specs.Scan.{Scan.NotOpen}
 use Rattle.xa_coordinator.proofs.LogLemmas.{replies_keep}
+use Rattle.xa_coordinator.proofs.SessionChains.{none_there, raised_from}
 use Rattle.xa_coordinator.proofs.VoteLemmas.{split_replies}
 use Rattle.xa_coordinator.specs.Lines.{lines_of}
 use Rattle.xa_coordinator.specs.Replies.{greeting_of}
 use Rattle.xa_coordinator.specs.Serving.{HaveReplies, RepliesTo, Serves, text_of}
+use Rattle.xa_coordinator.specs.Sessions.{AreServed, AreServed.NoneYet, AreServed.OneMore, IsEmptyLog, IsHandedOn, IsLeft.AfterLine, IsSession, ServedLogsDecide, ServedSessionsAgree, ServedSessionsAreSeen, StartsOver}
+use Rattle.xa_coordinator.specs.Telling.{is_log_fault}
 use Rattle.xa_coordinator.specs.Tracking.{ServedDatabasesAgree}
 use Rattle.xa_coordinator.specs.Votes.{AreVotes, VotedCommitsAreLogged}
 use Rattle.xa_coordinator.specs.declared.coordinator.Coordinator.{Coordinator}
+use Rattle.xa_log.specs.Content.{Content, nothing, with_bump}
 use Rattle.xa_log.specs.Contract.{Honestly, Moment}
-use Rattle.xa_model.specs.Trace.{Origin}
+use Rattle.xa_model.specs.Trace.{Branch, Line, Origin}
 use Rattle.xa_requests.specs.declared.response.Response.{Response}
 use Rattle.xa_requests.specs.declared.response.Response.TheVariants as responses
-use Rattle.xa_serve.specs.Following.{StandsAtStart}
-use Rattle.xa_serve.specs.Logging.{HoldsItsBook}
-use Rattle.xa_standings.specs.Explained.{IsOldLog}
+use Rattle.xa_serve.proofs.Logging.{later_sessions_are_newer}
+use Rattle.xa_serve.specs.Logging.{HoldsItsBook, KeepsLog}
+use Rattle.xa_standings.specs.Agreement.{MayAllStand, MayAllStand.AsTold}
+use Rattle.xa_standings.specs.Seen.{Seen}
+use Rattle.xa_standings.specs.Standings.{Comes}
 use Rattle.xa_tm.specs.Begins.{BeginsWith, records_begun, rows_begun}
 use Rattle.xa_tm.specs.Calls.{book_in, log_in}
-use Rattle.xa_tm.specs.Started.{IsStartedOver}
-use Rattle.uses.specs.Sessions.{IsServed, LogsCommits}
+use Rattle.uses.proofs.Results.{there_is}
+use Rattle.uses.specs.Sessions.{AreServedTo, AreServedTwice, IsReplied, IsServed, IsServedOver, IsServedTwice, LogsCommits}
 
-pub is_served : {L : Type 0} (moment : L → Moment) (threads rms : ℕ) (old new : Coordinator L) (text unread before written : List ℕ) → StandsAtStart threads rms old.session
-    → ((o : Origin) → BeginsWith threads rms old.session.manager o → IsOldLog o)
-    → before ≡ [] → Serves moment (greeting_of old) (Some text) (Some unread) (Some before) (Some written) old new
-    → ServedDatabasesAgree moment → IsServed threads rms text written
-is_served moment threads rms old new text unread before written stands is_old none serves agree =
-    let m = old.session.manager in
-    -- a start that has the rows and records of the log, and at whose resource managers nothing is
-    let start : Origin = record {
-      threads = threads;
-      rms = rms;
-      incarnation = (book_in m).incarnation;
-      rows = rows_begun m;
-      heuristic_rows = records_begun m;
-      held = λ r x. new_branch;
-      in_doubt = λ r. [];
-      scans = λ r. NotOpen;
-    } in
-    let begins : BeginsWith threads rms m start = record { threads_are = refl; rms_are = refl; incarnation = refl; rows = refl; records = refl } in
-    let so = agree threads rms (lines_of serves.read) serves.replies old new stands serves.replied start begins (is_old start begins) in
+-- a start that has the rows and records of the log, and at whose resource managers nothing is
+abbrev start_of : {L : Type 0} → (threads rms : ℕ) → Coordinator L → Origin
+start_of threads rms first = record {
+  threads = threads;
+  rms = rms;
+  incarnation = (book_in first.session.manager).incarnation;
+  rows = rows_begun first.session.manager;
+  heuristic_rows = records_begun first.session.manager;
+  held = λ r x. new_branch;
+  in_doubt = λ r. [];
+  scans = λ r. NotOpen;
+}
+
+begins_so : {L : Type 0} (threads rms : ℕ) (first : Coordinator L) → BeginsWith threads rms first.session.manager (start_of threads rms first)
+begins_so threads rms first = record { threads_are = refl; rms_are = refl; incarnation = refl; rows = refl; records = refl }
+
+none_logged : IsEmptyLog nothing
+none_logged = record { no_rows = len-empty; no_records = len-empty }
+
+pub is_served : {L : Type 0} (moment : L → Moment) (threads rms : ℕ) (handed : L) (old new : Coordinator L) (text unread before written : List ℕ)
+    → StartsOver moment threads rms handed old → (moment handed).is_in_order → (moment (log_in old.session.manager)).is_honest
+    → (moment handed).content ≡ Some nothing → before ≡ []
+    → Serves moment (greeting_of old) (Some text) (Some unread) (Some before) (Some written) old new → ServedDatabasesAgree moment
+    → IsServed threads rms text written
+is_served moment threads rms handed old new text unread before written starts order honest empty none serves agree =
+    let start = start_of threads rms old in
+    let begins = begins_so threads rms old in
+    let so = agree threads rms (lines_of serves.read) serves.replies old new starts.stands serves.replied start begins (starts.old start begins) in
+    let there = none_there nothing start none_logged
+    (raised_from moment threads rms handed old starts order honest nothing empty start begins nothing refl refl (omega arith)) in
     record {
       read = serves.read;
       unread = unread;
@@ -52,6 +74,8 @@ is_served moment threads rms old new text unread before written stands is_old no
       seen = so.seen;
       threads_are = refl;
       rms_are = refl;
+      no_rows = there.rows;
+      no_records = there.records;
       whole = serves.consumed;
       replied = subst (λ xs. written ≡ xs ++ text_of (greeting_of old ∷ serves.replies)) none serves.appended;
       ends = serves.ends;
@@ -72,28 +96,191 @@ votes_fit (l ∷ ls) (r ∷ rs) (g ∷ gs) are =
     let all : length (l ∷ ls) ≡ length (r ∷ rs) = omega (arith, rest) in
     all
 
-pub logs_commits : {L : Type 0} (moment : L → Moment) (threads rms : ℕ) (handed : L) (old new : Coordinator L) (text unread before written : List ℕ)
-    → IsStartedOver moment threads rms (moment handed) old.session.manager
-    → ((near : Bool) → Honestly (moment handed) (moment (log_in old.session.manager)) (HoldsItsBook moment near old.session.manager)) → before ≡ []
-    → Serves moment (greeting_of old) (Some text) (Some unread) (Some before) (Some written) old new → VotedCommitsAreLogged moment
-    → Honestly (moment handed) (moment (log_in new.session.manager)) (LogsCommits (moment (log_in new.session.manager)).content text written)
-logs_commits moment threads rms handed old new text unread before written over holds none serves law = λ order honest. record {
-  read = serves.read;
-  unread = unread;
-  greeting = greeting_of old;
-  replies = serves.replies;
-  whole = serves.consumed;
-  replied = subst (λ xs. written ≡ xs ++ text_of (greeting_of old ∷ serves.replies)) none serves.appended;
-  ends = serves.ends;
-  rows = λ earlier votes line first heard gs g lines replies same are asks among.
-      let all : HaveReplies moment (earlier ++ (votes ++ line ∷ [])) (first ++ (heard ++ responses.Decided ∷ [])) old new =
-      subst (λ ls. HaveReplies moment ls (first ++ (heard ++ responses.Decided ∷ [])) old new) lines
-      (subst (λ rs. HaveReplies moment (lines_of serves.read) rs old new) replies serves.replied) in
-      let one = split_replies moment earlier (votes ++ line ∷ []) first (heard ++ responses.Decided ∷ []) old new same all in
-      let two = split_replies moment votes (line ∷ []) heard (responses.Decided ∷ []) one.0 new (votes_fit votes heard gs are) one.2 in
-      let kept = replies_keep moment earlier first old one.0 one.1 in
-      let later = replies_keep moment (votes ++ line ∷ []) (heard ++ responses.Decided ∷ []) one.0 new one.2 in
-      let last : RepliesTo moment line two.0 responses.Decided new = subst (λ c. RepliesTo moment line two.0 responses.Decided c) (sym two.2.2) two.2.1 in
-      law true votes heard line gs one.0 two.0 new g are two.1 asks last among (kept.order (over.order order)) honest
-      (kept.holds true (over.order order) (later.honest honest) (holds true order (serves.keeps.honest honest)));
+pub logs_commits : {L : Type 0} (moment : L → Moment) (threads rms : ℕ) (handed left : L) (text written : List ℕ)
+    → IsServedOver moment threads rms handed text written left → VotedCommitsAreLogged moment
+    → Honestly (moment handed) (moment left) (LogsCommits (moment left).content text written)
+logs_commits {L} moment threads rms handed left text written is law = subst Leaves (sym is.log) so
+  where
+    abbrev old : Coordinator L
+    old = is.first
+
+    abbrev new : Coordinator L
+    new = is.last
+
+    abbrev Leaves : L → Type 0
+    Leaves log = Honestly (moment handed) (moment log) (LogsCommits (moment log).content text written)
+
+    so : Leaves (log_in new.session.manager)
+    so order honest = record {
+      read = is.serves.read;
+      unread = is.unread;
+      greeting = greeting_of old;
+      replies = is.serves.replies;
+      whole = is.serves.consumed;
+      replied = is.serves.appended;
+      ends = is.serves.ends;
+      rows = λ earlier votes line first heard gs g lines replies same are asks among.
+          let all : HaveReplies moment (earlier ++ (votes ++ line ∷ [])) (first ++ (heard ++ responses.Decided ∷ [])) old new =
+          subst (λ ls. HaveReplies moment ls (first ++ (heard ++ responses.Decided ∷ [])) old new) lines
+          (subst (λ rs. HaveReplies moment (lines_of is.serves.read) rs old new) replies is.serves.replied) in
+          let one = split_replies moment earlier (votes ++ line ∷ []) first (heard ++ responses.Decided ∷ []) old new same all in
+          let two = split_replies moment votes (line ∷ []) heard (responses.Decided ∷ []) one.0 new (votes_fit votes heard gs are) one.2 in
+          let kept = replies_keep moment earlier first old one.0 one.1 in
+          let later = replies_keep moment (votes ++ line ∷ []) (heard ++ responses.Decided ∷ []) one.0 new one.2 in
+          let last : RepliesTo moment line two.0 responses.Decided new = subst (λ c. RepliesTo moment line two.0 responses.Decided c) (sym two.2.2) two.2.1 in
+          law true votes heard line gs one.0 two.0 new g are two.1 asks last among (kept.order (is.starts.over.order order)) honest
+          (kept.holds true (is.starts.over.order order) (later.honest honest) (is.starts.holds order (is.serves.keeps.honest honest)));
+    }
+
+-- ** two sessions
+
+is_replied : {L : Type 0} (moment : L → Moment) (threads rms : ℕ) (handed left : L) (text written : List ℕ)
+    → IsServedOver moment threads rms handed text written left → IsReplied text written
+is_replied moment threads rms handed left text written is = record {
+  read = is.serves.read;
+  unread = is.unread;
+  greeting = greeting_of is.first;
+  replies = is.serves.replies;
+  whole = is.serves.consumed;
+  replied = is.serves.appended;
+  ends = is.serves.ends;
 }
+
+module _ {L : Type 0} (moment : L → Moment) (agree : ServedSessionsAgree moment) (decide : ServedLogsDecide moment) (seen : ServedSessionsAreSeen moment)
+    (threads rms : ℕ) where
+  -- what lines and replies tell of a session over a log
+  seen_in : (handed : L) (first last : Coordinator L) (lines : List (List ℕ)) (replies : List Response) → StartsOver moment threads rms handed first
+      → HaveReplies moment lines replies first last → list_any is_log_fault replies ≡ false
+      → (more : Seen) × IsSession moment handed (start_of threads rms first) more last
+  seen_in handed first last lines replies starts have none =
+      seen threads rms lines replies handed first last starts have none (start_of threads rms first) (begins_so threads rms first)
+
+  -- a driver that says nothing
+  none_read : (read unread : List ℕ) → [] ≡ read ++ unread → read ≡ []
+  none_read [] unread e = refl
+  none_read (x ∷ read) unread e = absurd (cc)
+
+  none_told : (replies : List Response) (first last : Coordinator L) → HaveReplies moment [] replies first last → replies ≡ []
+  none_told [] first last have = refl
+  none_told (r ∷ replies) first last have = absurd have
+
+  empty_handed : (handed : L) → (moment handed).is_in_order → IsSomeAnd (moment handed).content IsEmptyLog → IsHandedOn moment None handed
+  empty_handed handed order empty =
+      let found = there_is (moment handed).content IsEmptyLog empty in
+      record {
+        order = order;
+        left = found.0;
+        was_left = found.2;
+        content = found.0;
+        has = found.1;
+        same = record { decisions = refl; heuristics = refl };
+        raised = let least : found.0.incarnation ≤ found.0.incarnation = omega arith in least;
+      }
+
+  pub silent_so : (handed left : L) (written : List ℕ) → IsServedOver moment threads rms handed [] written left → Honestly (moment handed) (moment left)
+      (IsSomeAnd (moment handed).content IsEmptyLog → AreServedTo moment left (λ b. Unstarted))
+  silent_so handed left written is order honest empty =
+      let none = none_read is.serves.read is.unread is.serves.consumed in
+      let have = subst (λ text. HaveReplies moment (lines_of text) is.serves.replies is.first is.last) none is.serves.replied in
+      let silent = none_told is.serves.replies is.first is.last have in
+      let none_have = subst (λ rs. HaveReplies moment [] rs is.first is.last) silent have in
+      let s = seen_in handed is.first is.last [] [] is.starts none_have refl in (
+        is.last,
+        is.log,
+        OneMore None (λ c. Unstarted) (λ c. Unstarted) handed (start_of threads rms is.first) s.0 is.last is.last [] NoneYet (empty_handed handed order empty) s.1
+            AfterLine (subst (λ log. (moment log).is_honest) is.log honest)
+            (AsTold (λ c. Unstarted) (λ c. subst (λ seen. Comes seen c Unstarted Unstarted) (sym s.1.told) refl)),
+      )
+
+  module _ (handed : L) (order : (moment handed).is_in_order) (empty : IsSomeAnd (moment handed).content IsEmptyLog) (a b x y : Coordinator L)
+      (one_lines two_lines : List (List ℕ)) (one_replies two_replies : List Response) (one : StartsOver moment threads rms handed a)
+      (two : StartsOver moment threads rms (log_in b.session.manager) x) (one_have : HaveReplies moment one_lines one_replies a b)
+      (two_have : HaveReplies moment two_lines two_replies x y) (one_well : list_any is_log_fault one_replies ≡ false)
+      (two_well : list_any is_log_fault two_replies ≡ false) (honest : (moment (log_in y.session.manager)).is_honest) where
+    x_honest : (moment (log_in x.session.manager)).is_honest
+    x_honest = (replies_keep moment two_lines two_replies x y two_have).honest honest
+
+    b_honest : (moment (log_in b.session.manager)).is_honest
+    b_honest = two.over.honest x_honest
+
+    one_keeps : KeepsLog moment a.session.manager b.session.manager
+    one_keeps = replies_keep moment one_lines one_replies a b one_have
+
+    mid_order : (moment (log_in b.session.manager)).is_in_order
+    mid_order = one_keeps.order (one.over.order order)
+
+    s : (more : Seen) × IsSession moment handed (start_of threads rms a) more b
+    s = seen_in handed a b one_lines one_replies one one_have one_well
+
+    t : (more : Seen) × IsSession moment (log_in b.session.manager) (start_of threads rms x) more y
+    t = seen_in (log_in b.session.manager) x y two_lines two_replies two two_have two_well
+
+    mid : (c : Content) × ((moment (log_in b.session.manager)).content ≡ Some c) × ((moment (log_in x.session.manager)).content ≡ Some (with_bump c))
+    mid = there_is (moment (log_in b.session.manager)).content _ (two.over.raised mid_order x_honest)
+
+    second_handed : IsHandedOn moment (Some b) (log_in b.session.manager)
+    second_handed = record {
+      order = mid_order;
+      left = mid.0;
+      was_left = inl mid.1;
+      content = mid.0;
+      has = mid.1;
+      same = record { decisions = refl; heuristics = refl };
+      raised = let least : mid.0.incarnation ≤ mid.0.incarnation = omega arith in least;
+    }
+
+    all : (one_used two_used : List Line) (from to : Branch → Standing)
+        → MayAllStand (start_of threads rms a) s.0 (λ c. Comes s.0 c Unstarted) one_used from
+        → MayAllStand (start_of threads rms x) t.0 (λ c. Comes t.0 c (broken (from c))) two_used to → AreServed moment (Some y) to
+    all one_used two_used from to one_may two_may =
+        OneMore (Some b) from to (log_in b.session.manager) (start_of threads rms x) t.0 y y two_used
+        (OneMore None (λ c. Unstarted) from handed (start_of threads rms a) s.0 b b one_used NoneYet (empty_handed handed order empty) s.1 AfterLine b_honest one_may)
+        second_handed t.1 AfterLine honest two_may
+
+    holds_mid : HoldsItsBook moment true b.session.manager
+    holds_mid = one_keeps.holds true (one.over.order order) b_honest (one.holds order (one_keeps.honest b_honest))
+
+    later : (book_in a.session.manager).incarnation < (book_in x.session.manager).incarnation
+    later =
+        let from = one_keeps.incarnation in
+        let newer = later_sessions_are_newer moment b.session.manager x.session.manager (log_in b.session.manager) mid.0 holds_mid (record {
+          threads = threads;
+          rms = rms;
+          left = inl mid.1;
+          content = mid.1;
+          over = two.over;
+        }) mid_order x_honest in
+        omega (arith, from, newer)
+
+    pub are_served : AreServedTwice (moment (log_in y.session.manager)).content one_lines two_lines one_replies two_replies
+    are_served = record {
+      one = start_of threads rms a;
+      two = start_of threads rms x;
+      one_seen = s.0;
+      two_seen = t.0;
+      later = later;
+      one_told = s.1.told;
+      two_told = t.1.told;
+      agree = λ one_used two_used from to one_may two_may.
+          let served = all one_used two_used from to one_may two_may in
+          (agree (Some y) to served, λ c is. decide y to c served (inl is));
+    }
+
+  pub served_so : (handed mid left : L) (first second first_written second_written : List ℕ) → IsServedOver moment threads rms handed first first_written mid
+      → IsServedOver moment threads rms mid second second_written left → Honestly (moment handed) (moment left)
+      (IsSomeAnd (moment handed).content IsEmptyLog → IsServedTwice (moment left).content first second first_written second_written)
+  served_so handed mid left first second first_written second_written one two = subst Leaves (sym two.log) so
+    where
+      abbrev Leaves : L → Type 0
+      Leaves log = Honestly (moment handed) (moment log)
+          (IsSomeAnd (moment handed).content IsEmptyLog → IsServedTwice (moment log).content first second first_written second_written)
+
+      so : Leaves (log_in two.last.session.manager)
+      so order honest empty = record {
+        one = is_replied moment threads rms handed mid first first_written one;
+        two = is_replied moment threads rms mid left second second_written two;
+        served = λ one_well two_well.
+            are_served handed order empty one.first one.last two.first two.last (lines_of one.serves.read) (lines_of two.serves.read) one.serves.replies
+            two.serves.replies one.starts (subst (λ log. StartsOver moment threads rms log two.first) one.log two.starts) one.serves.replied
+            two.serves.replied one_well two_well honest;
+      }

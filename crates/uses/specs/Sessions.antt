@@ -1,25 +1,35 @@
--- What a driver writes is served, databases that obey the branch state table agree, and the log has the rows of what is committed.
-use Rattle.std.specs.Prelude.{◌≡◌, ℕ, true, List, [], ◌∷◌, ◌++◌, length, Option, Some}
+-- What a driver writes is served, and what a second one writes after it; databases that obey the branch state table agree, and the log has the rows of
+-- what is committed.
+use Rattle.std.specs.Prelude.{◌≡◌, ◌<◌, ℕ, true, false, List, [], ◌∷◌, ◌++◌, length, Option, Some}
+use Rattle.std.specs.List.{list_any}
+use Rattle.xa_base.specs.StateTable.{broken}
 use Rattle.xa_base.specs.declared.branch.Gtrid.{Gtrid}
 use Rattle.xa_base.specs.declared.state.Standing.{Standing}
+use Rattle.xa_base.specs.declared.state.Standing.TheVariants.{Unstarted}
 use Rattle.xa_base.specs.declared.step.Outcome.TheVariants as Outcomes
 use Rattle.xa_coordinator.specs.Lines.{asked_in, lines_of}
 use Rattle.xa_coordinator.specs.Rows.{is_among}
-use Rattle.xa_coordinator.specs.Serving.{EndsBy, text_of}
-use Rattle.xa_coordinator.specs.Telling.{HaveTold}
+use Rattle.xa_coordinator.specs.Replies.{greeting_of}
+use Rattle.xa_coordinator.specs.Serving.{EndsBy, Serves, text_of}
+use Rattle.xa_coordinator.specs.Sessions.{AreServed, LogDecides, StartsOver}
+use Rattle.xa_coordinator.specs.Telling.{HaveTold, is_log_fault}
 use Rattle.xa_coordinator.specs.Votes.{AreVotes, IsLogged}
+use Rattle.xa_coordinator.specs.declared.coordinator.Coordinator.{Coordinator}
 use Rattle.xa_log.specs.Content.{Content}
-use Rattle.xa_model.specs.Trace.{Branch, Origin}
+use Rattle.xa_log.specs.Contract.{Moment}
+use Rattle.xa_model.specs.Trace.{Branch, Line, Origin}
 use Rattle.xa_requests.specs.declared.request.Request.TheVariants as requests
 use Rattle.xa_requests.specs.declared.response.Response.{Response}
 use Rattle.xa_requests.specs.declared.response.Response.TheVariants as responses
-use Rattle.xa_standings.specs.Agreement.{OwnStandAlike, StandSo}
+use Rattle.xa_standings.specs.Agreement.{MayAllStand, OwnStandAlike, StandAlike, StandSo}
 use Rattle.xa_standings.specs.Explained.{IsExplained}
 use Rattle.xa_standings.specs.Seen.{Seen, Seen.Start}
+use Rattle.xa_standings.specs.Standings.{Comes}
+use Rattle.xa_tm.specs.Calls.{log_in}
 
 -- The driver was told the first line of a session, and a line for each line of what was read of its text: up to `quit`, or all. What
--- these tell, up to where the log failed, has a right history; and wherever the branches then stand at databases that obey the table,
--- those of a transaction of this session are alike.
+-- these tell, from a start with no rows and no records up to where the log failed, has a right history; and wherever the branches then
+-- stand at databases that obey the table, those of a transaction of this session are alike.
 pub record IsServed (threads rms : ℕ) (text written : List ℕ) : Type 0 where
   pub read : List ℕ
   pub unread : List ℕ
@@ -30,6 +40,8 @@ pub record IsServed (threads rms : ℕ) (text written : List ℕ) : Type 0 where
   pub seen : Seen
   pub threads_are : start.threads ≡ threads
   pub rms_are : start.rms ≡ rms
+  pub no_rows : start.rows ≡ []
+  pub no_records : start.heuristic_rows ≡ []
   pub whole : text ≡ read ++ unread
   pub replied : written ≡ text_of (responses.Restarted start.incarnation decisions heuristics ∷ replies)
   pub ends : EndsBy replies (unread ≡ [])
@@ -51,3 +63,50 @@ pub record LogsCommits (log : Option Content) (text written : List ℕ) : Type 0
       (before votes : List (List ℕ)) (line : List ℕ) (first heard : List Response) (gs : List Gtrid) (g : Gtrid)
       → lines_of read ≡ before ++ (votes ++ line ∷ []) → replies ≡ first ++ (heard ++ responses.Decided ∷ []) → length before ≡ length first
       → AreVotes votes heard gs → asked_in line ≡ Some (requests.Decide gs Outcomes.Commit) → is_among gs g ≡ true → IsLogged log g
+
+-- A driver of so many threads and resource managers that writes this text was served by a coordinator that started over a log, and this was
+-- written; this log is left.
+pub record IsServedOver {L : Type 0} (moment : L → Moment) (threads rms : ℕ) (handed : L) (text written : List ℕ) (left : L) : Type 0 where
+  pub first : Coordinator L
+  pub last : Coordinator L
+  pub unread : List ℕ
+  pub starts : StartsOver moment threads rms handed first
+  pub serves : Serves moment (greeting_of first) (Some text) (Some unread) (Some []) (Some written) first last
+  pub log : left ≡ log_in last.session.manager
+
+-- sessions that agree left this log, and the branches so
+abbrev pub AreServedTo : {L : Type 0} → (L → Moment) → L → (Branch → Standing) → Type 0
+AreServedTo {L} moment left f = (last : Coordinator L) × (left ≡ log_in last.session.manager) × AreServed moment (Some last) f
+
+-- The driver was told the first line of a session, and a line for each line of what was read of its text: up to `quit`, or all.
+pub record IsReplied (text written : List ℕ) : Type 0 where
+  pub read : List ℕ
+  pub unread : List ℕ
+  pub greeting : Response
+  pub replies : List Response
+  pub whole : text ≡ read ++ unread
+  pub replied : written ≡ text_of (greeting ∷ replies)
+  pub ends : EndsBy replies (unread ≡ [])
+
+-- Two drivers were replied so, one after the other, over one log. From their starts, these lines and their replies tell what is seen.
+-- Wherever the branches may then stand at databases that obey the table, where no branch was at first: those of any transaction are alike,
+-- and the log decides of what is prepared still.
+pub record AreServedTwice (log : Option Content) (one_lines two_lines : List (List ℕ)) (one_replies two_replies : List Response) : Type 0 where
+  pub one : Origin
+  pub two : Origin
+  pub one_seen : Seen
+  pub two_seen : Seen
+  pub later : one.incarnation < two.incarnation
+  pub one_told : HaveTold one.threads one_lines one_replies Start one_seen
+  pub two_told : HaveTold two.threads two_lines two_replies Start two_seen
+  pub agree :
+      (one_used two_used : List Line) (from to : Branch → Standing) → MayAllStand one one_seen (λ b. Comes one_seen b Unstarted) one_used from
+      → MayAllStand two two_seen (λ b. Comes two_seen b (broken (from b))) two_used to → StandAlike to × ((c : Content) → log ≡ Some c → LogDecides to c)
+
+-- The same where the log failed in neither session.
+pub record IsServedTwice (log : Option Content) (first second first_written second_written : List ℕ) : Type 0 where
+  pub one : IsReplied first first_written
+  pub two : IsReplied second second_written
+  pub served :
+      list_any is_log_fault one.replies ≡ false → list_any is_log_fault two.replies ≡ false
+      → AreServedTwice log (lines_of one.read) (lines_of two.read) one.replies two.replies

@@ -1,4 +1,4 @@
-//! One caller of each library, each proved to do what its contract says, and run here. A file is named after its
+//! Callers of the libraries, each proved to do what its contract says, and run here. A file is named after its
 //! library, without the `xa_`; `serve` is a caller of `xa_coordinator`, `own_log`, `processes`, `recovery`, `swaps` and
 //! `crash` are further callers of `xa_system`, and `sql_jobs` of `xa_workers`.
 #![tactic(auto)]
@@ -113,6 +113,46 @@ issue 1 1 xa_prepare 00000000000000010000000000000002
 answer 0 0 xa_prepare 00000000000000010000000000000001 0
 answer 1 1 xa_prepare 00000000000000010000000000000002 0
 decide 00000000000000010000000000000001 00000000000000010000000000000002 commit
+";
+
+/// A third driver is killed once its transaction is decided, before it issues an xa_commit.
+const KILLED: &str = "issue 0 0 xa_open
+answer 0 0 xa_open 0
+issue 0 1 xa_open
+answer 0 1 xa_open 0
+begin 0
+issue 0 0 xa_start 00000000000000010000000000000001
+answer 0 0 xa_start 00000000000000010000000000000001 0
+issue 0 1 xa_start 00000000000000010000000000000001
+answer 0 1 xa_start 00000000000000010000000000000001 0
+issue 0 0 xa_end 00000000000000010000000000000001 TMSUCCESS
+answer 0 0 xa_end 00000000000000010000000000000001 0
+issue 0 1 xa_end 00000000000000010000000000000001 TMSUCCESS
+answer 0 1 xa_end 00000000000000010000000000000001 0
+issue 0 0 xa_prepare 00000000000000010000000000000001
+answer 0 0 xa_prepare 00000000000000010000000000000001 0
+issue 0 1 xa_prepare 00000000000000010000000000000001
+answer 0 1 xa_prepare 00000000000000010000000000000001 0
+decide 00000000000000010000000000000001 commit
+";
+
+/// The next one recovers what that left: each database lists its branch, which the coordinator commits.
+const RECOVERS: &str = "issue 0 0 xa_open
+answer 0 0 xa_open 0
+issue 0 0 xa_recover 32 TMSTARTRSCAN
+answer 0 0 xa_recover 1 7:00000000000000010000000000000001:0000000000000000
+resolve 0
+waiting 0 0
+answer 0 0 xa_commit 7:00000000000000010000000000000001:0000000000000000 0
+issue 0 1 xa_open
+answer 0 1 xa_open 0
+issue 0 1 xa_recover 32 TMSTARTRSCAN
+answer 0 1 xa_recover 1 7:00000000000000010000000000000001:0000000000000001
+resolve 1
+waiting 0 1
+answer 0 1 xa_commit 7:00000000000000010000000000000001:0000000000000001 0
+done 00000000000000010000000000000001
+quit
 ";
 
 const JOBS: &str = "threads = 1\nrms = 1\njob = [{ votes = ['ok'] }, { votes = ['102'] }]\n";
@@ -325,7 +365,7 @@ fn show_scenario(rt: &HostRuntime) -> anyhow::Result<()> {
     Ok(())
 }
 
-/// What a driver of one thread and two databases is told in a session.
+/// What a driver of one thread and two databases is told in a session; the log that one leaves; what one that recovers is told.
 fn show_session(rt: &HostRuntime) -> anyhow::Result<()> {
     if let Ok(written) = serve::served(rt.alloc(), 1, 2, SESSION.as_bytes()) {
         println!(rt; "xa_coordinator:\n{}", String::from_utf8(written)?)?;
@@ -334,6 +374,15 @@ fn show_session(rt: &HostRuntime) -> anyhow::Result<()> {
     if let Ok((_written, mut log)) = serve::commits(rt.alloc(), log, COMMITS.as_bytes()) {
         let listed = listing::listed(&mut log, rt.alloc())?;
         println!(rt; "xa_coordinator, its log: {}", String::from_utf8(listed)?)?;
+    }
+    let log = MemLog::new(rt.alloc());
+    if let Ok((written, _log)) = serve::silent(rt.alloc(), 1, 2, log) {
+        println!(rt; "xa_coordinator, a driver that says nothing:\n{}", String::from_utf8(written)?)?;
+    }
+    let log = MemLog::new(rt.alloc());
+    let (killed, recovers) = (KILLED.as_bytes(), RECOVERS.as_bytes());
+    if let Ok((_first, second, _log)) = serve::served_twice(rt.alloc(), 1, 2, log, killed, recovers) {
+        println!(rt; "xa_coordinator, recovery:\n{}", String::from_utf8(second)?)?;
     }
     Ok(())
 }

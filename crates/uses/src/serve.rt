@@ -1,12 +1,16 @@
-//! `xa_coordinator`: a driver is served, databases that obey the branch state table agree, and the log has the rows of what it
-//! commits.
+//! `xa_coordinator`: a driver is served, databases that obey the branch state table agree, also after a second driver that
+//! recovers what the first one left, and the log has the rows of what is committed.
 
-ghost use Rattle.std.specs.Prelude.{IfOk};
-ghost use Rattle.uses.specs.Sessions.{IsServed, LogsCommits};
+ghost use Rattle.std.specs.Prelude.{IfOk, IsSomeAnd};
+ghost use Rattle.uses.specs.Sessions.{AreServedTo, IsServed, IsServedOver, IsServedTwice, LogsCommits};
+ghost use Rattle.xa_base.specs.declared.state.Standing.TheVariants.{Unstarted};
+ghost use Rattle.xa_coordinator.specs.Sessions.{IsEmptyLog};
 ghost use Rattle.xa_log.specs.Contract.{Honestly};
 
 use std::alloc::Global;
-use xa_coordinator::{Coordinator, ServeFault, served_databases_agree, voted_commits_are_logged};
+use xa_coordinator::{
+    Coordinator, ServeFault, served_databases_agree, served_sessions_agree, voted_commits_are_logged,
+};
 use xa_log::{DecisionLog, MemLog};
 use xa_tm::StartFault;
 
@@ -34,9 +38,32 @@ pub(crate) fn served(
     served_databases_agree::<MemLog>();
     let mut written = Vec::new(alloc);
     let mut unread = text;
-    match Coordinator::new(alloc, threads, rms, MemLog::new(alloc)) {
+    let log = MemLog::new(alloc);
+    match Coordinator::new(alloc, threads, rms, log) {
         Ok(mut coordinator) => match coordinator.serve(&mut unread, &mut written) {
             Ok(()) => Ok(written),
+            Err(fault) => Err(SessionFault::Serve(fault)),
+        },
+        Err(fault) => Err(SessionFault::Start(fault)),
+    }
+}
+
+/// Serves a driver that writes this text, over a log, and gives what was written for it and the log.
+fn served_over<L: DecisionLog + Drop>(
+    alloc: Global,
+    threads: u32,
+    rms: u32,
+    log: L,
+    text: &[u8],
+) -> Result<(Vec<u8>, L), SessionFault>
+    ensures { IfOk result (λ left.
+        IsServedOver L.moment threads rms log text.now left.0.items left.1) }
+{
+    let mut written = Vec::new(alloc);
+    let mut unread = text;
+    match Coordinator::new(alloc, threads, rms, log) {
+        Ok(mut coordinator) => match coordinator.serve(&mut unread, &mut written) {
+            Ok(()) => Ok((written, coordinator.into_log())),
             Err(fault) => Err(SessionFault::Serve(fault)),
         },
         Err(fault) => Err(SessionFault::Start(fault)),
@@ -54,13 +81,45 @@ pub(crate) fn commits<L: DecisionLog + Drop>(
         (LogsCommits (L.moment left.1).content text.now left.0.items)) }
 {
     voted_commits_are_logged::<L>();
-    let mut written = Vec::new(alloc);
-    let mut unread = text;
-    match Coordinator::new(alloc, 2, 2, log) {
-        Ok(mut coordinator) => match coordinator.serve(&mut unread, &mut written) {
-            Ok(()) => Ok((written, coordinator.into_log())),
-            Err(fault) => Err(SessionFault::Serve(fault)),
-        },
-        Err(fault) => Err(SessionFault::Start(fault)),
-    }
+    served_over(alloc, 2, 2, log, text)
+}
+
+/// Serves a driver that says nothing, over a log that is empty. That is the least of the sessions that agree: no branch is at any
+/// database before it, and none after it.
+pub(crate) fn silent<L: DecisionLog + Drop>(
+    alloc: Global,
+    threads: u32,
+    rms: u32,
+    log: L,
+) -> Result<(Vec<u8>, L), SessionFault>
+    ensures { IfOk result (λ left. Honestly (L.moment log) (L.moment left.1)
+        (IsSomeAnd (L.moment log).content IsEmptyLog →
+        AreServedTo L.moment left.1 (λ b. Unstarted))) }
+{
+    served_sessions_agree::<L>();
+    served_over(alloc, threads, rms, log, &[])
+}
+
+/// Serves two drivers, one after the other, over a log that is empty at first. The first may be killed anywhere, as after a
+/// decision and before its xa_commits; the second recovers what it finds. Whatever their texts say, and wherever the branches
+/// then stand at databases that obey the branch state table: no branch of a transaction is committed beside one that is
+/// rolled back or lost. And the log has the row of each transaction with a branch that is committed and one that is prepared
+/// still, so that recovery commits that one too.
+pub(crate) fn served_twice<L: DecisionLog + Drop>(
+    alloc: Global,
+    threads: u32,
+    rms: u32,
+    log: L,
+    first: &[u8],
+    second: &[u8],
+) -> Result<(Vec<u8>, Vec<u8>, L), SessionFault>
+    ensures { IfOk result (λ left. Honestly (L.moment log) (L.moment left.2)
+        (IsSomeAnd (L.moment log).content IsEmptyLog →
+        IsServedTwice (L.moment left.2).content first.now second.now
+        left.0.items left.1.items)) }
+{
+    served_sessions_agree::<L>();
+    let one = served_over(alloc, threads, rms, log, first)?;
+    let two = served_over(alloc, threads, rms, one.1, second)?;
+    Ok((one.0, two.0, two.1))
 }

@@ -1,4 +1,5 @@
 pub mod AnswerLemmas
+pub mod BranchLemmas
 pub mod Failures
 pub mod FaultLemmas
 pub mod KnownCalls

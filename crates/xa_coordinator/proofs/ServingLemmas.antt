@@ -1,5 +1,5 @@
 -- Lines and their replies, in turn.
-use Rattle.std.proofs.Common.{◌≡◌, ◌≢◌, ◌∙◌, ◌==◌, ℕ, Bool, true, false, cond, List, [], ◌∷◌, ◌++◌, map, Option, refl, sym, ap, subst, append_assoc, arith, ◌||◌, ◌&&◌, not}
+use Rattle.std.proofs.Common.{◌≡◌, ◌≢◌, ◌∙◌, ◌⊎◌, inl, inr, ◌==◌, ℕ, Bool, true, false, cond, List, [], ◌∷◌, ◌++◌, map, Option, Some, None, flat_map, refl, sym, ap, subst, append_assoc, arith, ◌||◌, ◌&&◌, not}
 use Rattle.std.specs.Prelude.{MatchBool, Result, Ok, Err, OnErr, OnOk}
 use Rattle.std.proofs.lemmas.List.{append-nil, map-append}
 use Rattle.std.specs.Io.KnownBytes.{Appends, Consumes, IsAtEnd}
@@ -8,11 +8,11 @@ use Rattle.xa_files.specs.Outputs.{AppendsBeginning}
 use Rattle.xa_log.specs.Contract.{Moment}
 use Rattle.xa_serve.proofs.Logging.{both_keep, kept}
 use Rattle.xa_coordinator.proofs.LogLemmas.{replies_keep}
-use Rattle.xa_coordinator.proofs.LineLemmas.{appends_none, asked_of_kept_by, kept_none, begins_with_all, begins_with_none, both_consumed, both_written, consumed_none, keeps_all, written_then_begun}
-use Rattle.xa_coordinator.specs.Lines.{IsKeptOf, IsPlain, ReadsLine, is_nothing, line_of, lines_of, with_first}
+use Rattle.xa_coordinator.proofs.LineLemmas.{appends_none, asked_of_kept_by, kept_none, begins_with_all, both_consumed, both_written, consumed_none, keeps_all}
+use Rattle.xa_coordinator.specs.Lines.{IsKeptOf, IsPlain, IsWholeLines, ReadsLine, ReadsWholeLines, is_nothing, line_of, lines_of, with_end, with_first}
 use Rattle.xa_coordinator.specs.NamedLines.{BreaksSessionUnder, ServesUnder, line_read, line_written, lines_read, text_written}
-use Rattle.xa_coordinator.specs.Serving.{BreaksSession, EndsBy, HaveReplies, RepliesBy, RepliesTo, Serves, is_bye, text_of}
-use Rattle.xa_coordinator.specs.ServingLines.{BreaksOff, IsWholeLines, ServesLine}
+use Rattle.xa_coordinator.specs.Serving.{BreaksSession, EndsBy, HaveReplies, RepliesBy, RepliesTo, Serves, WritesUpToLast, is_bye, text_of}
+use Rattle.xa_coordinator.specs.ServingLines.{BreaksOff, LosesReply, ServesLine}
 use Rattle.xa_coordinator.specs.declared.coordinator.Coordinator.{Coordinator}
 use Rattle.xa_names.specs.Laws.{LinesStay}
 use Rattle.xa_names.specs.Lines.{line_renamed}
@@ -115,6 +115,38 @@ texts name greeting written mid all rs ss first second =
     subst (Appends written all) (sym (text_of_both name (greeting ∷ rs) ss))
     (both_written written mid all (text_written name (greeting ∷ rs)) (text_written name ss) first second)
 
+-- what was written whole, in two parts
+written_in_two : (written all : Option (List ℕ)) (bs cs : List ℕ) → Appends written all (bs ++ cs)
+    → (between : Option (List ℕ)) × Appends written between bs × Appends between all cs
+written_in_two None all bs cs appended = (None, tt, tt)
+written_in_two (Some xs) None bs cs appended = absurd appended
+written_in_two (Some xs) (Some ys) bs cs appended = (Some (xs ++ bs), refl, appended ∙ sym (append_assoc xs bs cs))
+
+with_last : (r : Response) (rs : List Response) → (others : List Response) × (last : Response) × (r ∷ rs ≡ others ++ last ∷ [])
+with_last r [] = ([], r, refl)
+with_last r (s ∷ rs) = let rest = with_last s rs in (r ∷ rest.0, rest.1, ap (λ xs. r ∷ xs) rest.2)
+
+pub all_written : (name : List ℕ) (written all : Option (List ℕ)) (r : Response) (rs : List Response)
+    → Appends written all (text_written name (r ∷ rs)) → WritesUpToLast (line_written name) written all (r ∷ rs)
+all_written name written all r rs appended =
+    let parts = with_last r rs in
+    let last = parts.1 ∷ [] in
+    let two = written_in_two written all (text_written name parts.0) (text_written name last)
+        (subst (Appends written all) (ap (text_written name) parts.2 ∙ text_of_both name parts.0 last) appended) in
+    record {
+      others = parts.0;
+      last = parts.1;
+      are = parts.2;
+      between = two.0;
+      appended = two.1;
+      begun = begins_with_all two.0 all (line_written name parts.1) (subst (Appends two.0 all) (append-nil (line_written name parts.1)) two.2);
+    }
+
+whole_or_end : (read more : List ℕ) (left : Option (List ℕ)) → IsWholeLines read → IsWholeLines more ⊎ IsAtEnd left
+    → IsWholeLines (read ++ more) ⊎ IsAtEnd left
+whole_or_end read more left first (inl second) = inl (whole_both read more first second)
+whole_or_end read more left first (inr end) = inr end
+
 -- Some lines were served behind the first line of the session, and it goes on.
 module _ {L : Type 0} (moment : L → Moment) where
   pub record ServesSome (name : List ℕ) (greeting : Response) (unread left : Option (List ℕ)) (written all : Option (List ℕ)) (old new : Coordinator L) : Type 0 where
@@ -167,40 +199,67 @@ module _ {L : Type 0} (moment : L → Moment) (name : List ℕ) (greeting : Resp
         (replies_keep moment (lines_read name (lines_of next.read)) next.replies b c next.replied);
   }
 
-  pub broken_off : (unread part written mid all : Option (List ℕ)) (a b c : Coordinator L) → ServesSome moment name greeting unread part written mid a b
-      → BreaksOff moment name mid all b c → BreaksSessionUnder moment name greeting written all a c
-  broken_off unread part written mid all a b c some broken = record {
-    lines = lines_read name (lines_of some.read) ++ broken.lines;
-    replies = some.replies ++ broken.replies;
-    replied = both_replied moment (lines_read name (lines_of some.read)) some.replies broken.lines broken.replies a b c some.replied broken.replied;
-    begun = subst (AppendsBeginning written all) (sym (text_of_both name (greeting ∷ some.replies) broken.replies))
-        (written_then_begun written mid all (text_written name (greeting ∷ some.replies)) (text_written name broken.replies) some.appended broken.begun);
-    keeps = both_keep moment a.session.manager b.session.manager c.session.manager
-        (replies_keep moment (lines_read name (lines_of some.read)) some.replies a b some.replied)
-        (replies_keep moment broken.lines broken.replies b c broken.replied);
-  }
-
   -- the first line couldn't be written
-  pub not_greeted : (written all : Option (List ℕ)) (c : Coordinator L) → AppendsBeginning written all (line_written name greeting)
-      → BreaksSessionUnder moment name greeting written all c c
-  not_greeted written all c begun = record {
-    lines = [];
+  pub not_greeted : (unread written all : Option (List ℕ)) (c : Coordinator L) → AppendsBeginning written all (line_written name greeting)
+      → BreaksSessionUnder moment name greeting unread written all c c
+  not_greeted unread written all c begun = record {
+    read = [];
+    left = unread;
     replies = [];
+    reads = record { consumed = consumed_none unread unread (keeps_all unread); whole = inl whole_none };
     replied = refl;
-    begun = subst (AppendsBeginning written all) (sym (append-nil (line_written name greeting))) begun;
+    writes = record { others = []; last = greeting; are = refl; between = written; appended = appends_none written; begun = begun };
     keeps = kept moment c.session.manager;
   }
 
-  -- it was broken off behind some lines
+  -- it was broken off after some lines
   pub no_more : (unread part written all : Option (List ℕ)) (a b : Coordinator L) → ServesSome moment name greeting unread part written all a b
-      → BreaksSessionUnder moment name greeting written all a b
+      → BreaksSessionUnder moment name greeting unread written all a b
   no_more unread part written all a b some = record {
-    lines = lines_read name (lines_of some.read);
+    read = some.read;
+    left = part;
     replies = some.replies;
+    reads = record { consumed = some.consumed; whole = inl some.whole };
     replied = some.replied;
-    begun = begins_with_all written all (text_written name (greeting ∷ some.replies)) some.appended;
+    writes = all_written name written all greeting some.replies some.appended;
     keeps = replies_keep moment (lines_read name (lines_of some.read)) some.replies a b some.replied;
   }
+
+  -- the reply to one line more wasn't written whole
+  reply_lost : (unread part written mid all : Option (List ℕ)) (a b c : Coordinator L) → ServesSome moment name greeting unread part written mid a b
+      → LosesReply moment name part mid all b c → BreaksSessionUnder moment name greeting unread written all a c
+  reply_lost unread part written mid all a b c some loses =
+      let all_replies = some.replies ++ loses.reply ∷ [] in
+      record {
+        read = some.read ++ loses.read;
+        left = loses.left;
+        replies = all_replies;
+        reads = record {
+          consumed = both_consumed unread part loses.left some.read loses.read some.consumed loses.reads.consumed;
+          whole = whole_or_end some.read loses.read loses.left some.whole loses.reads.whole;
+        };
+        replied = subst (λ ls. HaveReplies moment ls all_replies a c) (sym (lines_both name some.read loses.read some.whole))
+            (both_replied moment (lines_read name (lines_of some.read)) some.replies (lines_read name (lines_of loses.read)) (loses.reply ∷ []) a b c
+            some.replied loses.replied);
+        writes = record {
+          others = greeting ∷ some.replies;
+          last = loses.reply;
+          are = refl;
+          between = mid;
+          appended = some.appended;
+          begun = loses.begun;
+        };
+        keeps = both_keep moment a.session.manager b.session.manager c.session.manager
+            (replies_keep moment (lines_read name (lines_of some.read)) some.replies a b some.replied)
+            (replies_keep moment (lines_read name (lines_of loses.read)) (loses.reply ∷ []) b c loses.replied);
+      }
+
+  pub broken_off : (unread part written mid all : Option (List ℕ)) (a b c : Coordinator L) → ServesSome moment name greeting unread part written mid a b
+      → BreaksOff moment name part mid all b c → BreaksSessionUnder moment name greeting unread written all a c
+  broken_off unread part written mid all a b c some (inl none) =
+      subst (λ x. BreaksSessionUnder moment name greeting unread written all a x) (sym none.1)
+      (subst (λ x. BreaksSessionUnder moment name greeting unread written x a b) (sym none.0) (no_more unread part written mid a b some))
+  broken_off unread part written mid all a b c some (inr loses) = reply_lost unread part written mid all a b c some loses
 
 -- ** one line
 
@@ -218,18 +277,39 @@ kept_of_none (b ∷ bs) kept keeps none = absurd (cons_is_not_nil b bs none)
 
 module _ {L : Type 0} (moment : L → Moment) (name : List ℕ) where
   -- nothing was written, and nothing done
-  pub off_at_once : (all : Option (List ℕ)) (c : Coordinator L) → BreaksOff moment name all all c c
-  off_at_once all c = record { lines = []; replies = []; replied = refl; begun = begins_with_none all [] }
+  pub off_at_once : (unread all : Option (List ℕ)) (c : Coordinator L) → BreaksOff moment name unread all all c c
+  off_at_once unread all c = inl (refl, refl)
 
-  -- the reply couldn't be written
-  pub off_behind : (written all : Option (List ℕ)) (line : List ℕ) (reply : Response) (a b : Coordinator L) → RepliesTo moment line a reply b
-      → AppendsBeginning written all (line_written name reply) → BreaksOff moment name written all a b
-  off_behind written all line reply a b replied begun = record {
-    lines = line ∷ [];
-    replies = reply ∷ [];
-    replied = (b, replied, refl);
-    begun = subst (AppendsBeginning written all) (sym (append-nil (line_written name reply))) begun;
-  }
+  -- the line that was read was replied
+  line_replied : (unread left : Option (List ℕ)) (kept : List ℕ) (is_ended : Bool) (reply : Response) (a b : Coordinator L)
+      → (was : ReadsLine unread left kept is_ended) → is_nothing kept is_ended ≡ false → RepliesTo moment (line_read name kept) a reply b
+      → HaveReplies moment (lines_read name (lines_of (with_end was.line is_ended))) (reply ∷ []) a b
+  line_replied unread left kept true reply a b was some replied =
+      subst (λ ls. HaveReplies moment ls (reply ∷ []) a b) (sym (ap (lines_read name) (first_line was.line [] was.plain)))
+      (b, subst (λ q. RepliesBy moment q a reply b) (asked_of_kept_by name was.line kept was.keeps) replied, refl)
+  line_replied unread left kept false reply a b was some replied =
+      subst (λ ls. HaveReplies moment ls (reply ∷ []) a b)
+      (sym (ap (lines_read name) (last_line was.line was.plain (λ none. true_is_not_false
+      (subst (λ xs. is_nothing xs false ≡ false) (kept_of_none was.line kept was.keeps none) some)))))
+      (b, subst (λ q. RepliesBy moment q a reply b) (asked_of_kept_by name was.line kept was.keeps) replied, refl)
+
+  line_is_whole : (unread left : Option (List ℕ)) (kept : List ℕ) (is_ended : Bool) (was : ReadsLine unread left kept is_ended)
+      → IsWholeLines (with_end was.line is_ended) ⊎ IsAtEnd left
+  line_is_whole unread left kept true was = inl (whole_line was.line was.plain)
+  line_is_whole unread left kept false was = inr (was.end refl)
+
+  -- the reply couldn't be written whole
+  pub off_behind : (unread left written all : Option (List ℕ)) (kept : List ℕ) (is_ended : Bool) (reply : Response) (a b : Coordinator L)
+      → ReadsLine unread left kept is_ended → is_nothing kept is_ended ≡ false → RepliesTo moment (line_read name kept) a reply b
+      → AppendsBeginning written all (line_written name reply) → BreaksOff moment name unread written all a b
+  off_behind unread left written all kept is_ended reply a b was some replied begun = inr (record {
+    read = with_end was.line is_ended;
+    left = left;
+    reply = reply;
+    reads = record { consumed = was.consumed; whole = line_is_whole unread left kept is_ended was };
+    replied = line_replied unread left kept is_ended reply a b was some replied;
+    begun = begun;
+  })
 
   -- nothing is left
   pub at_end : (unread left all : Option (List ℕ)) (kept : List ℕ) (is_ended : Bool) (c : Coordinator L) → ReadsLine unread left kept is_ended
@@ -256,8 +336,7 @@ module _ {L : Type 0} (moment : L → Moment) (name : List ℕ) where
     read = was.line ++ 10 ∷ [];
     replies = reply ∷ [];
     consumed = was.consumed;
-    replied = subst (λ ls. HaveReplies moment ls (reply ∷ []) a b) (sym (ap (lines_read name) (first_line was.line [] was.plain)))
-        (b, subst (λ q. RepliesBy moment q a reply b) (asked_of_kept_by name was.line kept was.keeps) replied, refl);
+    replied = line_replied unread left kept true reply a b was some replied;
     appended = subst (Appends written all) (sym (append-nil (line_written name reply))) appended;
     whole = λ h. whole_line was.line was.plain;
     silent = λ h. not_bye (is_bye reply) h;
@@ -267,10 +346,7 @@ module _ {L : Type 0} (moment : L → Moment) (name : List ℕ) where
     read = was.line;
     replies = reply ∷ [];
     consumed = was.consumed;
-    replied = subst (λ ls. HaveReplies moment ls (reply ∷ []) a b)
-        (sym (ap (lines_read name) (last_line was.line was.plain (λ none. true_is_not_false
-        (subst (λ xs. is_nothing xs false ≡ false) (kept_of_none was.line kept was.keeps none) some)))))
-        (b, subst (λ q. RepliesBy moment q a reply b) (asked_of_kept_by name was.line kept was.keeps) replied, refl);
+    replied = line_replied unread left kept false reply a b was some replied;
     appended = subst (Appends written all) (sym (append-nil (line_written name reply))) appended;
     whole = λ h. absurd (true_is_not_false (sym h));
     silent = λ h. absurd (true_is_not_false (sym h));
@@ -298,6 +374,17 @@ module _ (law : LinesStay) where
   text_as_is [] = refl
   text_as_is (r ∷ rs) = ap (λ t. t ++ text_written [] rs) (written_as_is r) ∙ ap (λ t. line_of r ++ t) (text_as_is rs)
 
+  writes_as_is : (written all : Option (List ℕ)) (replies : List Response) → WritesUpToLast (line_written []) written all replies
+      → WritesUpToLast line_of written all replies
+  writes_as_is written all replies writes = record {
+    others = writes.others;
+    last = writes.last;
+    are = writes.are;
+    between = writes.between;
+    appended = subst (Appends written writes.between) (text_as_is writes.others) writes.appended;
+    begun = subst (AppendsBeginning writes.between all) (written_as_is writes.last) writes.begun;
+  }
+
   module _ {L : Type 0} (moment : L → Moment) where
     pub serves_as_is : (greeting : Response) (unread left written all : Option (List ℕ)) (a b : Coordinator L)
         → ServesUnder moment [] greeting unread left written all a b → Serves moment greeting unread left written all a b
@@ -311,13 +398,15 @@ module _ (law : LinesStay) where
       keeps = serves.keeps;
     }
 
-    pub breaks_as_is : (greeting : Response) (written all : Option (List ℕ)) (a b : Coordinator L)
-        → BreaksSessionUnder moment [] greeting written all a b → BreaksSession moment greeting written all a b
-    breaks_as_is greeting written all a b breaks = record {
-      lines = breaks.lines;
+    pub breaks_as_is : (greeting : Response) (unread written all : Option (List ℕ)) (a b : Coordinator L)
+        → BreaksSessionUnder moment [] greeting unread written all a b → BreaksSession moment greeting unread written all a b
+    breaks_as_is greeting unread written all a b breaks = record {
+      read = breaks.read;
+      left = breaks.left;
       replies = breaks.replies;
-      replied = breaks.replied;
-      begun = subst (AppendsBeginning written all) (text_as_is (greeting ∷ breaks.replies)) breaks.begun;
+      reads = breaks.reads;
+      replied = subst (λ ls. HaveReplies moment ls breaks.replies a b) (lines_as_are (lines_of breaks.read)) breaks.replied;
+      writes = writes_as_is written all (greeting ∷ breaks.replies) breaks.writes;
       keeps = breaks.keeps;
     }
 

@@ -78,11 +78,12 @@ pub finishes_by : {L : Type 0} (gs : List Gtrid) (old new : Session L) (result :
     → ((n : Refusal) → done_refusal old gs ≡ Some n → (result ≡ Err n) × (new ≡ old)) → OnOk result (done_refusal old gs ≡ None)
     → (done_refusal old gs ≡ None → IfErr result (FailsBy (Drops gs) (InDone gs) (book_in old.manager) (book_in new.manager)))
     → IfErr result (λ n. n ≢ LogFault → StaysAs old new) → new.lines ≡ lines_by result old.lines
+    → (result ≡ Err LogFault → new.happenings ≡ old.happenings + 1)
     → OnOk result (book_in new.manager ≡ after_all (book_in old.manager) (map (λ g. Done g) gs))
     → OnOk result (FollowsAll (map (λ g. Done g) gs) old new) → Finishes gs old new result
-finishes_by gs old new result refused allowed err stays lines ok follows = record {
+finishes_by gs old new result refused allowed err stays lines fault_counted ok follows = record {
   rules = record { refused = refused; allowed = allowed };
-  asks = record { fails = err; stays = stays; lines = lines };
+  asks = record { fails = err; stays = stays; lines = lines; fault_counted = fault_counted };
   done = happen_on_ok (map (λ g. Done g) gs) old new result ok follows;
 }
 

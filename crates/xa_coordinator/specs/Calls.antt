@@ -1,5 +1,5 @@
 -- Requests to make calls, and what was answered to them.
-use Rattle.std.specs.Prelude.{◌≡◌, ◌≢◌, ◌⊎◌, ℕ, Bool, true, false, not, ◌&&◌, MatchBool, Option, Some, None, Result, Ok, Err, IfErr, OnErr, OnOk}
+use Rattle.std.specs.Prelude.{◌≡◌, ◌≢◌, ◌+◌, ◌⊎◌, ℕ, Bool, true, false, not, ◌&&◌, MatchBool, Option, Some, None, Result, Ok, Err, IfErr, OnErr, OnOk}
 use Rattle.xa_base.specs.Answer.{answer_number, map_answer}
 use Rattle.xa_base.specs.Call.{are_alike, kind_of, map_call, xid_in}
 use Rattle.xa_base.specs.Xid.{Xid, xid_eq}
@@ -57,6 +57,7 @@ module _ {L : Type 0} where
         → FailsToHear thread rm c (map_answer name_of answer) old new n
     pub stays : IfErr result (λ u. u ≢ Unfits.Refused Refusals.LogFault → StaysAs old new)
     pub broken : result ≡ Err (Unfits.Refused Refusals.LogFault) → new.lines ≡ new_grid old.lines.threads old.lines.rms
+    pub fault_counted : result ≡ Err (Unfits.Refused Refusals.LogFault) → new.happenings ≡ old.happenings + 1
 
 -- ** which call an answer is to
 

@@ -39,6 +39,8 @@ module _ {L A : Type 0} where
     pub fails : why ≡ None → IfErr result (Fails (book_in old.manager) (book_in new.manager))
     pub stays : IfErr result (λ n. n ≢ Refusals.LogFault → StaysAs old new)
     pub lines : new.lines ≡ lines_by result old.lines
+    -- a failure of the log is counted as one that happened
+    pub fault_counted : result ≡ Err Refusals.LogFault → new.happenings ≡ old.happenings + 1
 
 -- these happened in turn: they were right to, wherever the session stood, and the book is what they lead to
 pub record HappenInTurn {L : Type 0} (es : List Happening) (old new : Session L) : Type 0 where
@@ -80,6 +82,8 @@ module _ {L : Type 0} where
   pub record Settles (g : Gtrid) (old new : Session L) (result : Result (Unit {0}) Refusal) : Type 0 where
     pub rules : ObeysRules (refusal_at old (Steps.Settle g)) old new result
     pub asks : AsksLog (refusal_at old (Steps.Settle g)) (FailsBy (Adds (rows_for (book_in old.manager) (g ∷ []))) (InDecide (g ∷ []))) old new result
+    -- it fails by the log only where a row is to be written: of a transaction that some branch voted XA_OK for
+    pub asked : refusal_at old (Steps.Settle g) ≡ None → result ≡ Err Refusals.LogFault → ((book_in old.manager).transaction g).has_yes ≡ true
     pub decided : OnOk result (Happens (Decided g Outcomes.Commit) old new)
 
   pub record Finishes (gs : List Gtrid) (old new : Session L) (result : Result (Unit {0}) Refusal) : Type 0 where

@@ -1,3 +1,4 @@
+pub mod Branches
 pub mod Calls
 pub mod Crashes
 pub mod Decisions

@@ -1,5 +1,5 @@
 -- Lines that are read and written.
-use Rattle.std.specs.Prelude.{◌≡◌, ◌≤◌, ◌<◌, ◌==◌, ◌&&◌, ℕ, Bool, true, false, not, if◌then◌else◌, nat_le, List, [], ◌∷◌, ◌++◌, codes, length, Option, Some, None}
+use Rattle.std.specs.Prelude.{◌≡◌, ◌⊎◌, ◌≤◌, ◌<◌, ◌==◌, ◌&&◌, ℕ, Bool, true, false, not, if◌then◌else◌, nat_le, List, [], ◌∷◌, ◌++◌, codes, length, Option, Some, None}
 use Rattle.std.specs.Io.KnownBytes.{Consumes, IsAtEnd, Keeps}
 use Rattle.std.specs.List.{list_any}
 use Rattle.std.specs.Str.{is_utf8}
@@ -59,6 +59,15 @@ with_first b (line ∷ lines) = (b ∷ line) ∷ lines
 abbrev pub lines_of : List ℕ → List (List ℕ)
 lines_of [] = []
 lines_of (b ∷ bs) = if b == 10 then [] ∷ lines_of bs else with_first b (lines_of bs)
+
+-- another line begins after what was read
+abbrev pub IsWholeLines : List ℕ → Type 0
+IsWholeLines read = (more : List ℕ) → lines_of (read ++ more) ≡ lines_of read ++ lines_of more
+
+-- whole lines were read: another one begins after them, or nothing is left
+pub record ReadsWholeLines (unread left : Option (List ℕ)) (read : List ℕ) : Type 0 where
+  pub consumed : Consumes unread left read
+  pub whole : IsWholeLines read ⊎ IsAtEnd left
 
 -- ** writing
 

@@ -3,11 +3,10 @@ use Rattle.std.specs.Prelude.{ℕ, ◌&&◌, if◌then◌else◌, nat_le, List, 
 use Rattle.std.specs.Io.KnownBytes.{Appends, Consumes, IsAtEnd}
 use Rattle.std.specs.List.{flat_map}
 use Rattle.std.specs.Str.{is_utf8}
-use Rattle.xa_coordinator.specs.Lines.{lines_of}
-use Rattle.xa_coordinator.specs.Serving.{EndsBy, HaveReplies}
+use Rattle.xa_coordinator.specs.Lines.{ReadsWholeLines, lines_of}
+use Rattle.xa_coordinator.specs.Serving.{EndsBy, HaveReplies, WritesUpToLast}
 use Rattle.xa_coordinator.specs.declared.coordinator.Coordinator.{Coordinator}
 use Rattle.xa_coordinator.specs.declared.lines.TheConstants.{LINE_LIMIT}
-use Rattle.xa_files.specs.Outputs.{AppendsBeginning}
 use Rattle.xa_log.specs.Contract.{Moment}
 use Rattle.xa_names.specs.Lines.{line_renamed}
 use Rattle.xa_requests.specs.Responses.{response_text}
@@ -42,10 +41,13 @@ module _ {L : Type 0} (moment : L → Moment) where
     -- the log has what the book says at the end, if it had at the start
     pub keeps : KeepsLog moment old.session.manager new.session.manager
 
-  -- A session that was broken off: what was written is a beginning of that. The lines are as they are meant.
-  pub record BreaksSessionUnder (name : List ℕ) (greeting : Response) (written all : Option (List ℕ)) (old new : Coordinator L) : Type 0 where
-    pub lines : List (List ℕ)
+  -- A session that was broken off: what was done is what whole lines that were read ask for, as they are meant, and the reply to the last of
+  -- them, or the first line of the session, may not be written whole. More may have been read, of which nothing was done.
+  pub record BreaksSessionUnder (name : List ℕ) (greeting : Response) (unread written all : Option (List ℕ)) (old new : Coordinator L) : Type 0 where
+    pub read : List ℕ
+    pub left : Option (List ℕ)
     pub replies : List Response
-    pub replied : HaveReplies moment lines replies old new
-    pub begun : AppendsBeginning written all (text_written name (greeting ∷ replies))
+    pub reads : ReadsWholeLines unread left read
+    pub replied : HaveReplies moment (lines_read name (lines_of read)) replies old new
+    pub writes : WritesUpToLast (line_written name) written all (greeting ∷ replies)
     pub keeps : KeepsLog moment old.session.manager new.session.manager

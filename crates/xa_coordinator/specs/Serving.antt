@@ -1,8 +1,8 @@
 -- What is written to the lines that are read.
-use Rattle.std.specs.Prelude.{◌≡◌, ℕ, Bool, true, false, MatchBool, List, [], ◌∷◌, Option, Some, None}
+use Rattle.std.specs.Prelude.{◌≡◌, ℕ, Bool, true, false, MatchBool, List, [], ◌∷◌, ◌++◌, Option, Some, None}
 use Rattle.std.specs.Io.KnownBytes.{Appends, Consumes, IsAtEnd}
 use Rattle.std.specs.List.{flat_map}
-use Rattle.xa_coordinator.specs.Lines.{asked_in, line_of, lines_of}
+use Rattle.xa_coordinator.specs.Lines.{ReadsWholeLines, asked_in, line_of, lines_of}
 use Rattle.xa_coordinator.specs.Performing.{Performs}
 use Rattle.xa_coordinator.specs.Standing.{OnlyTells}
 use Rattle.xa_coordinator.specs.declared.coordinator.Coordinator.{Coordinator}
@@ -44,6 +44,15 @@ abbrev pub EndsBy : List Response → Type 0 → Type 0
 EndsBy [] P = P
 EndsBy (reply ∷ replies) P = MatchBool (is_bye reply) (replies ≡ []) (EndsBy replies P)
 
+-- of these replies each but the last was written, and of the last a beginning
+pub record WritesUpToLast (line_for : Response → List ℕ) (written all : Option (List ℕ)) (replies : List Response) : Type 0 where
+  pub others : List Response
+  pub last : Response
+  pub are : replies ≡ others ++ last ∷ []
+  pub between : Option (List ℕ)
+  pub appended : Appends written between (flat_map line_for others)
+  pub begun : AppendsBeginning between all (line_for last)
+
 module _ {L : Type 0} (moment : L → Moment) where
   -- A session: what was written is its first line and a line for each line of what was read. It ends behind `quit`, or at the end of
   -- the input.
@@ -57,10 +66,13 @@ module _ {L : Type 0} (moment : L → Moment) where
     -- the log has what the book says at the end, if it had at the start
     pub keeps : KeepsLog moment old.session.manager new.session.manager
 
-  -- A session that was broken off: what was written is a beginning of that.
-  pub record BreaksSession (greeting : Response) (written all : Option (List ℕ)) (old new : Coordinator L) : Type 0 where
-    pub lines : List (List ℕ)
+  -- A session that was broken off: what was done is what whole lines that were read ask for, and the reply to the last of them, or the first
+  -- line of the session, may not be written whole. More may have been read, of which nothing was done.
+  pub record BreaksSession (greeting : Response) (unread written all : Option (List ℕ)) (old new : Coordinator L) : Type 0 where
+    pub read : List ℕ
+    pub left : Option (List ℕ)
     pub replies : List Response
-    pub replied : HaveReplies moment lines replies old new
-    pub begun : AppendsBeginning written all (text_of (greeting ∷ replies))
+    pub reads : ReadsWholeLines unread left read
+    pub replied : HaveReplies moment (lines_of read) replies old new
+    pub writes : WritesUpToLast line_of written all (greeting ∷ replies)
     pub keeps : KeepsLog moment old.session.manager new.session.manager

@@ -1,69 +1,132 @@
--- Sessions of drivers one after another, each over what the one before it left of its log, and where all branches then stand at databases
--- that obey the branch state table.
-use Rattle.std.specs.Prelude.{ℕ, ◌≡◌, ◌≤◌, if◌then◌else◌, List, Option, Some, None, true}
-use Rattle.std.specs.FinMap.{len}
+-- Sessions of drivers one after another, over one log and the same databases, and where all branches then stand at databases that obey the
+-- branch state table. Nothing is supposed of the coordinator: of the log only that it is in order and honest, which is its library's to
+-- prove, and that it is handed on.
+use Rattle.std.specs.Prelude.{◌≡◌, ◌≤◌, ℕ, true, false, if◌then◌else◌, List, Option, Some, None, is_some}
+use Rattle.std.specs.FinMap.{get, len}
+use Rattle.std.specs.List.{list_any}
 use Rattle.xa_base.specs.Branch.{branch_eq}
 use Rattle.xa_base.specs.StateTable.{broken}
-use Rattle.xa_base.specs.declared.branch.Gtrid.{Gtrid}
+use Rattle.xa_base.specs.declared.refusal.Refusal.TheVariants.{LogFault}
 use Rattle.xa_base.specs.declared.state.Standing.{Standing}
-use Rattle.xa_base.specs.declared.state.Standing.TheVariants.{Completed, Prepared, Unstarted}
-use Rattle.xa_coordinator.specs.Tracking.{GoesOn, GoesOnFailed}
+use Rattle.xa_base.specs.declared.state.Standing.TheVariants.{Committed, Completed, Prepared, Unstarted}
+use Rattle.xa_coordinator.specs.Faults.{AsksForRows}
+use Rattle.xa_coordinator.specs.Performing.{Performs}
+use Rattle.xa_coordinator.specs.Serving.{HaveReplies}
+use Rattle.xa_coordinator.specs.Telling.{HaveTold, is_log_fault}
 use Rattle.xa_coordinator.specs.declared.coordinator.Coordinator.{Coordinator}
 use Rattle.xa_log.specs.Content.{Content}
-use Rattle.xa_model.specs.Facts.{next_call}
-use Rattle.xa_model.specs.Protocol.{IsRun}
-use Rattle.xa_model.specs.Trace.{Branch, Call, How, Line, Origin, Trace}
+use Rattle.xa_log.specs.Contract.{Honestly, Moment}
+use Rattle.xa_model.specs.Promises.Agreement.{IsUndone}
+use Rattle.xa_model.specs.Trace.{Branch, How, Line, Origin}
+use Rattle.xa_requests.specs.declared.request.Request.{Request}
 use Rattle.xa_requests.specs.declared.response.Response.{Response}
-use Rattle.xa_serve.specs.Tracking.{IsRaisedFrom, fault_in}
-use Rattle.xa_standings.specs.Agreement.{IsLineOf, MayAllStand, StandAlike}
+use Rattle.xa_requests.specs.declared.response.Response.TheVariants as responses
+use Rattle.xa_serve.specs.Following.{StandsAtStart}
+use Rattle.xa_serve.specs.Logging.{HoldsItsBook, LeavesContent}
+use Rattle.xa_serve.specs.Tracking.{KeepsTrack}
+use Rattle.xa_standings.specs.Agreement.{MayAllStand, StandAlike}
 use Rattle.xa_standings.specs.Explained.{IsOldLog}
-use Rattle.xa_standings.specs.Named.{AreNamed, IsNamedCall}
-use Rattle.xa_standings.specs.Seen.{IsHistory, Seen}
-use Rattle.xa_standings.specs.Sessions.{Log, Log.Empty, Log.LeftBy}
+use Rattle.xa_standings.specs.Seen.{Seen, Seen.Start}
 use Rattle.xa_standings.specs.Standings.{Comes}
-use Rattle.xa_tm.specs.BookAndLog.{IsTied}
-use Rattle.xa_tm.specs.Calls.{book_in}
+use Rattle.xa_tm.specs.Begins.{BeginsWith}
+use Rattle.xa_tm.specs.BookAndLog.{SameRows}
+use Rattle.xa_tm.specs.Calls.{log_in}
+use Rattle.xa_tm.specs.Started.{IsStarted, IsStartedOver}
 
--- a log that has no row and no record yet
-pub record IsEmptyLog (i : ℕ) (c : Content) : Type 0 where
-  pub least : i ≤ c.incarnation
+-- ** the log, from session to session
+
+-- it has no row and no record yet
+pub record IsEmptyLog (c : Content) : Type 0 where
   pub no_rows : len c.decisions ≡ 0
   pub no_records : len c.heuristics ≡ 0
 
--- what the last session left of its log, or a crash left of that: what the manager's book says; or an empty log, before any
-abbrev pub HasLeft : {L : Type 0} → Option (Coordinator L) → (incarnation : ℕ) → Content → Type 0
-HasLeft None i c = IsEmptyLog i c
-HasLeft (Some last) i c = IsTied true (book_in last.session.manager) (Some c)
+module _ {L : Type 0} (moment : L → Moment) where
+  -- what the last session left of its log: what the log has, or what a crash of its store left; an empty log, before any session
+  abbrev pub WasLeft : Option (Coordinator L) → Content → Type 0
+  WasLeft None c = IsEmptyLog c
+  WasLeft (Some last) c = LeavesContent moment last.session.manager c
 
--- a start over it; another one may have raised it before, and come to no session
-pub record IsStartOver (c : Content) (o : Origin) : Type 0 where
-  pub raised : IsRaisedFrom c o
-  pub old : IsOldLog o
+  -- A log in order is handed on: it has the rows and the records that were left. Starts that came to no session may have raised its
+  -- incarnation.
+  pub record IsHandedOn (last : Option (Coordinator L)) (handed : L) : Type 0 where
+    pub order : (moment handed).is_in_order
+    pub left : Content
+    pub was_left : WasLeft last left
+    pub content : Content
+    pub has : (moment handed).content ≡ Some content
+    pub same : SameRows content left
+    pub raised : left.incarnation ≤ content.incarnation
 
--- each call that was made, or that waits first, is on a branch that has an identifier
-pub record AreOnBranches (o : Origin) (seen : Seen) : Type 0 where
-  pub named : AreNamed seen
-  pub named_first : (tr : Trace) (l : Line) (c : Call) → IsHistory o seen tr → IsRun tr → IsLineOf o l → next_call tr l ≡ Some c → IsNamedCall c
+  -- ** one session
 
--- Where all branches may stand behind the last of them. A session may be left behind any line, with all its lines cut off and calls under
--- way; or in a decision to commit in which its log failed, or in which the program was killed.
-pub data AreServed {L : Type 0} (i : ℕ) : Option (Coordinator L) → Log → (Branch → Standing) → Type 0 where
-  NoneYet : AreServed i None (Empty i) (λ b. Unstarted)
+  -- a coordinator starts over a log that it is handed: what `Coordinator::new` ensures
+  pub record StartsOver (threads rms : ℕ) (handed : L) (first : Coordinator L) : Type 0 where
+    pub stands : StandsAtStart threads rms first.session
+    pub old : (o : Origin) → BeginsWith threads rms first.session.manager o → IsOldLog o
+    pub started : IsStarted threads rms first.session.manager
+    pub over : IsStartedOver moment threads rms (moment handed) first.session.manager
+    pub holds : Honestly (moment handed) (moment (log_in first.session.manager)) (HoldsItsBook moment true first.session.manager)
+
+  -- A session over a log that was handed to it: a coordinator started over it, and lines were replied, none by a failure of the log. `o` is
+  -- what it started with, and `seen` what the lines and their replies tell, as the session keeps track of it: of each there is such
+  -- (`ServedSessionsAreSeen`).
+  pub record IsSession (handed : L) (o : Origin) (seen : Seen) (now : Coordinator L) : Type 0 where
+    pub threads : ℕ
+    pub rms : ℕ
+    pub first : Coordinator L
+    pub lines : List (List ℕ)
+    pub replies : List Response
+    pub starts : StartsOver threads rms handed first
+    pub begins : BeginsWith threads rms first.session.manager o
+    pub replied : HaveReplies moment lines replies first now
+    pub no_fault : list_any is_log_fault replies ≡ false
+    pub told : HaveTold o.threads lines replies Start seen
+    pub tracks : KeepsTrack o seen now.session
+
+-- A session is left: after a line, as where its driver ends or the program is killed; or in a request in which its log failed, as it does
+-- where the program is killed there.
+pub data IsLeft {L : Type 0} (moment : L → Moment) (now : Coordinator L) : Coordinator L → Type 0 where
+  AfterLine : IsLeft moment now now
+  InRequest :
+      (request : Request) (left : Coordinator L) → AsksForRows request → Performs moment request now (responses.Refused LogFault) left
+      → IsLeft moment now left
+
+-- ** all of them
+
+-- Where all branches may stand after sessions one after another, the last of which was left so. Each is over the log that the one before it
+-- left, or that a crash left of it, the first over an empty one; each log was honest to the end. Databases obey the table: before the first
+-- session no branch is there; in each the branches come to where they may by what was told and by what is under way (`MayAllStand`); between
+-- two what was open is lost, and a database may end a prepared branch by itself.
+pub data AreServed {L : Type 0} (moment : L → Moment) : Option (Coordinator L) → (Branch → Standing) → Type 0 where
+  NoneYet : AreServed moment None (λ b. Unstarted)
   OneMore :
-      (last : Option (Coordinator L)) (log : Log) (from to : Branch → Standing) (c : Content) (o : Origin) (lines : List (List ℕ))
-      (replies : List Response) (new : Coordinator L) (goes : GoesOn o lines replies new) (used : List Line) → AreServed i last log from
-      → HasLeft last i c → IsStartOver c o → AreOnBranches o goes.seen → MayAllStand o goes.seen (λ b. Comes goes.seen b (broken (from b))) used to
-      → AreServed i (Some new) (LeftBy o goes.seen None) to
-  OneFailed :
-      (last : Option (Coordinator L)) (log : Log) (from to : Branch → Standing) (c : Content) (o : Origin) (lines : List (List ℕ))
-      (replies : List Response) (gs : List Gtrid) (mid new : Coordinator L) (goes : GoesOnFailed o lines replies gs mid new) (used : List Line)
-      → AreServed i last log from → HasLeft last i c → IsStartOver c o → AreOnBranches o goes.seen
-      → MayAllStand o goes.seen (λ b. Comes goes.seen b (broken (from b))) used to
-      → AreServed i (Some new) (LeftBy o goes.seen (Some (fault_in mid.session gs))) to
+      (last : Option (Coordinator L)) (from to : Branch → Standing) (handed : L) (o : Origin) (seen : Seen) (now left : Coordinator L)
+      (used : List Line) → AreServed moment last from → IsHandedOn moment last handed → IsSession moment handed o seen now
+      → IsLeft moment now left → (moment (log_in left.session.manager)).is_honest
+      → MayAllStand o seen (λ b. Comes seen b (broken (from b))) used to → AreServed moment (Some left) to
   Between :
-      (last : Option (Coordinator L)) (log : Log) (from to : Branch → Standing) (d : Branch) (how : How) → AreServed i last log from
-      → from d ≡ Prepared → ((b : Branch) → to b ≡ (if branch_eq d b then Completed how else from b)) → AreServed i last log to
+      (last : Option (Coordinator L)) (from to : Branch → Standing) (d : Branch) (how : How) → AreServed moment last from
+      → from d ≡ Prepared → ((b : Branch) → to b ≡ (if branch_eq d b then Completed how else from b)) → AreServed moment last to
 
 -- No branch of any transaction then stands committed beside one that stands rolled back or lost.
-abbrev pub ServedSessionsAgree : Type 0 → Type 0
-ServedSessionsAgree L = (i : ℕ) (last : Option (Coordinator L)) (log : Log) (f : Branch → Standing) → AreServed i last log f → StandAlike f
+abbrev pub ServedSessionsAgree : {L : Type 0} → (L → Moment) → Type 0
+ServedSessionsAgree {L} moment = (last : Option (Coordinator L)) (f : Branch → Standing) → AreServed moment last f → StandAlike f
+
+-- A log decides of what is prepared still: it has the row of each transaction of which a branch stands committed beside one that stands
+-- prepared, and no row of one of which a branch stands rolled back or lost.
+pub record LogDecides (f : Branch → Standing) (log : Content) : Type 0 where
+  pub committed : (b c : Branch) → b.gtrid ≡ c.gtrid → f b ≡ Committed → f c ≡ Prepared → is_some (get log.decisions b.gtrid) ≡ true
+  pub undone : (b : Branch) → IsUndone (f b) → is_some (get log.decisions b.gtrid) ≡ false
+
+-- So does the log that the last session left, and whatever a crash leaves of it.
+abbrev pub ServedLogsDecide : {L : Type 0} → (L → Moment) → Type 0
+ServedLogsDecide {L} moment =
+    (last : Coordinator L) (f : Branch → Standing) (c : Content) → AreServed moment (Some last) f
+    → LeavesContent moment last.session.manager c → LogDecides f c
+
+-- What lines and their replies tell is known of each session that starts over a log that it is handed.
+abbrev pub ServedSessionsAreSeen : {L : Type 0} → (L → Moment) → Type 0
+ServedSessionsAreSeen {L} moment =
+    (threads rms : ℕ) (lines : List (List ℕ)) (replies : List Response) (handed : L) (first now : Coordinator L)
+    → StartsOver moment threads rms handed first → HaveReplies moment lines replies first now → list_any is_log_fault replies ≡ false
+    → (o : Origin) → BeginsWith threads rms first.session.manager o → (seen : Seen) × IsSession moment handed o seen now

@@ -1,31 +1,22 @@
 -- How a session tracks what a driver tells.
-use Rattle.std.specs.Prelude.{◌≡◌, ◌<◌, ℕ, true, false, List, Some, None}
+use Rattle.std.specs.Prelude.{◌≡◌, ◌<◌, ℕ, false, List}
 use Rattle.std.specs.List.{list_any}
 use Rattle.xa_coordinator.specs.Performing.{Performs}
 use Rattle.xa_coordinator.specs.Serving.{HaveReplies}
 use Rattle.xa_coordinator.specs.Telling.{HaveTold, Tells, is_log_fault}
 use Rattle.xa_coordinator.specs.declared.coordinator.Coordinator.{Coordinator}
-use Rattle.xa_base.specs.declared.branch.Gtrid.{Gtrid}
-use Rattle.xa_base.specs.declared.refusal.Refusal.TheVariants.{LogFault}
 use Rattle.xa_base.specs.declared.state.Standing.{Standing}
-use Rattle.xa_base.specs.declared.step.Outcome.TheVariants as Outcomes
-use Rattle.xa_log.specs.Content.{Content}
 use Rattle.xa_log.specs.Contract.{Moment}
 use Rattle.xa_model.specs.Trace.{Branch, Origin, line}
 use Rattle.xa_requests.specs.declared.request.Request.{Request}
-use Rattle.xa_requests.specs.declared.request.Request.TheVariants as requests
 use Rattle.xa_requests.specs.declared.response.Response.{Response}
-use Rattle.xa_requests.specs.declared.response.Response.TheVariants as responses
 use Rattle.xa_serve.specs.Following.{StandsAtStart}
-use Rattle.xa_serve.specs.Session.{decide_refusal, known_waiting}
-use Rattle.xa_serve.specs.Tracking.{IsRaisedFrom, KeepsTrack, fault_in}
+use Rattle.xa_serve.specs.Session.{known_waiting}
+use Rattle.xa_serve.specs.Tracking.{KeepsTrack}
 use Rattle.xa_standings.specs.Agreement.{OwnStandAlike, StandSo, WaitsFirst}
 use Rattle.xa_standings.specs.Explained.{IsExplained, IsOldLog}
-use Rattle.xa_standings.specs.Seen.{KeepsRules, Seen, Seen.Start}
-use Rattle.xa_standings.specs.Sessions.{Finds, Log.LeftBy, MayFail}
+use Rattle.xa_standings.specs.Seen.{Seen, Seen.Start}
 use Rattle.xa_tm.specs.Begins.{BeginsWith}
-use Rattle.xa_tm.specs.BookAndLog.{IsTied}
-use Rattle.xa_tm.specs.Calls.{book_in}
 
 -- the session keeps track of what a request and its reply tell
 pub record TracksReply {L : Type 0} (o : Origin) (request : Request) (reply : Response) (seen : Seen) (old new : Coordinator L) : Type 0 where
@@ -86,38 +77,3 @@ ServedDatabasesAgree {L} moment =
     (threads rms : ℕ) (lines : List (List ℕ)) (replies : List Response) (old new : Coordinator L) → StandsAtStart threads rms old.session
     → HaveReplies moment lines replies old new → (o : Origin) → BeginsWith threads rms old.session.manager o → IsOldLog o
     → DatabasesAgree o lines replies new
-
--- A session that a driver told so, in which the log didn't fail, is one of several one after another (`AfterSessions`): its manager kept the
--- rules in what was told, and the next start finds what the session left in its log, if that has what the session's book says.
-pub record GoesOn {L : Type 0} (o : Origin) (lines : List (List ℕ)) (replies : List Response) (new : Coordinator L) : Type 0 where
-  pub seen : Seen
-  pub told : HaveTold o.threads lines replies Start seen
-  pub keeps : KeepsRules o seen
-  pub first : (t r : ℕ) → t < o.threads → r < o.rms → WaitsFirst o seen (line t r) (known_waiting new.session.lines t r)
-  pub finds :
-      (c : Content) (next : Origin) → IsTied true (book_in new.session.manager) (Some c) → IsRaisedFrom c next → Finds (LeftBy o seen None) next
-
-abbrev pub ServedSessionsGoOn : {L : Type 0} → (L → Moment) → Type 0
-ServedSessionsGoOn {L} moment =
-    (threads rms : ℕ) (lines : List (List ℕ)) (replies : List Response) (old new : Coordinator L) → StandsAtStart threads rms old.session
-    → HaveReplies moment lines replies old new → list_any is_log_fault replies ≡ false → (o : Origin) → BeginsWith threads rms old.session.manager o
-    → IsOldLog o → GoesOn o lines replies new
-
--- The same where the log failed behind these lines, in a decision to commit these transactions, or where the program was killed in that: the
--- next start finds their rows, or none of them.
-pub record GoesOnFailed {L : Type 0} (o : Origin) (lines : List (List ℕ)) (replies : List Response) (gs : List Gtrid) (mid new : Coordinator L) : Type 0 where
-  pub seen : Seen
-  pub told : HaveTold o.threads lines replies Start seen
-  pub keeps : KeepsRules o seen
-  pub may_fail : MayFail o seen (Some (fault_in mid.session gs))
-  pub finds :
-      (c : Content) (next : Origin) → IsTied true (book_in new.session.manager) (Some c) → IsRaisedFrom c next
-      → Finds (LeftBy o seen (Some (fault_in mid.session gs))) next
-
-abbrev pub FailedSessionsGoOn : {L : Type 0} → (L → Moment) → Type 0
-FailedSessionsGoOn {L} moment =
-    (threads rms : ℕ) (lines : List (List ℕ)) (replies : List Response) (gs : List Gtrid) (old mid new : Coordinator L)
-    → StandsAtStart threads rms old.session → HaveReplies moment lines replies old mid → list_any is_log_fault replies ≡ false
-    → decide_refusal mid.session Outcomes.Commit gs ≡ None
-    → Performs moment (requests.Decide gs Outcomes.Commit) mid (responses.Refused LogFault) new
-    → (o : Origin) → BeginsWith threads rms old.session.manager o → IsOldLog o → GoesOnFailed o lines replies gs mid new

@@ -57,6 +57,7 @@ impl<L: DecisionLog + Drop> Coordinator<L> {
         ensures stands { IfOk result (λ c. StandsAtStart threads rms c.session) }
         ensures old { IfOk result (λ c. (o : Origin) →
             BeginsWith threads rms c.session.manager o → IsOldLog o) }
+        ensures count { IfOk result (λ c. c.session.happenings ≡ 0) }
         // What the log had.
         ensures owed { IfOk result (λ c.
             Honestly (L.moment log) (L.moment (log_in c.session.manager))

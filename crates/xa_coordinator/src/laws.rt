@@ -1,11 +1,11 @@
 //! How a session tracks what a driver tells. These functions do nothing: each contract is a theorem.
 
+ghost use Rattle.xa_coordinator.specs.Branches.{CallsAreOnBranches};
 ghost use Rattle.xa_coordinator.specs.Faults.{FaultsLeaveAllOrNone};
 ghost use Rattle.xa_coordinator.specs.Managers.{ManagersAreApart, RepliesTellOwn};
-ghost use Rattle.xa_coordinator.specs.Sessions.{ServedSessionsAgree};
-ghost use Rattle.xa_coordinator.specs.Tracking.{FailedSessionsGoOn, RepliesAreTracked, ServedDatabasesAgree};
-ghost use Rattle.xa_coordinator.specs.Tracking.{ServedSessionsAreExplained};
-ghost use Rattle.xa_coordinator.specs.Tracking.{ServedSessionsGoOn, SessionsAreTracked};
+ghost use Rattle.xa_coordinator.specs.Sessions.{ServedLogsDecide, ServedSessionsAgree, ServedSessionsAreSeen};
+ghost use Rattle.xa_coordinator.specs.Tracking.{RepliesAreTracked, ServedDatabasesAgree};
+ghost use Rattle.xa_coordinator.specs.Tracking.{ServedSessionsAreExplained, SessionsAreTracked};
 ghost use Rattle.xa_coordinator.specs.Votes.{CommitsAreLogged, VotedCommitsAreLogged};
 
 use xa_log::DecisionLog;
@@ -16,6 +16,7 @@ use xa_serve::{
     steps_are_tracked,
 };
 use xa_standings::{answers_are_explained, sessions_agree};
+use xa_tm::starts_are_histories;
 
 /// A session that tracks what was seen does so with each request and its reply (`performs` of
 /// [`Coordinator::perform`](crate::Coordinator::perform)), as long as the log doesn't fail: just what both tell is seen
@@ -74,32 +75,33 @@ pub fn served_databases_agree<L: DecisionLog + Drop>()
     answers_are_explained();
 }
 
-/// And a session goes on: what a driver told a new coordinator, while the log didn't fail, is a session of several one
-/// after another, which agree (`sessions_agree` of `xa_standings`). The next one is to start over a log that has what this
-/// one's book says: the log itself, or what a crash leaves of it.
-///
-/// So does one whose log failed in a decision to commit, or that was killed in it (`failed`): the next start finds all of
-/// the rows in doubt, or none.
-pub fn served_sessions_go_on<L: DecisionLog + Drop>()
-    ensures goes_on { ServedSessionsGoOn L.moment }
-    ensures failed { FailedSessionsGoOn L.moment }
-{
-    starts_are_tracked::<L>();
-    sessions_are_tracked::<L>();
-    first_calls_are_tracked::<L>();
-    starts_find_the_log::<L>();
-}
-
 /// So sessions of drivers agree, one after another over one log and the same databases, of which each obeys the branch
-/// state table: no branch of any transaction is committed beside one that is rolled back or lost, whichever session began,
-/// decided or recovered it, and wherever a session was left.
+/// state table (`AreServed`). Each session starts over the log that the one before it left, or that a crash of its store
+/// left, the first over an empty one. A session may be left after any line, or in a request in which its log failed, or
+/// in which the program was killed; calls may be under way then, and in between what was open is lost.
 ///
-/// Each session is one of [`served_sessions_go_on`], and starts over what the one before it left of its log (`HasLeft`).
+/// - `agree`: no branch of any transaction is committed beside one that is rolled back or lost, whichever session began,
+///   decided or recovered it;
+/// - `rows`: the log that is left decides of what is prepared still. It has the row of each transaction of which a branch
+///   is committed, and no row of one of which a branch is rolled back or lost;
+/// - `seen`: each session that starts so is one of these.
 pub fn served_sessions_agree<L: DecisionLog + Drop>()
-    ensures agree { ServedSessionsAgree L }
+    ensures agree { ServedSessionsAgree L.moment }
+    ensures rows { ServedLogsDecide L.moment }
+    ensures seen { ServedSessionsAreSeen L.moment }
 {
     sessions_agree();
+    starts_are_histories();
+    starts_find_the_log::<L>();
+    starts_are_tracked::<L>();
+    sessions_are_tracked::<L>();
 }
+
+/// What lines and their replies tell is of branches that have identifiers (XA, section 4.2): each call that was let wait is on
+/// one, and each branch of this manager that a page listed has one.
+pub fn calls_are_on_branches()
+    ensures { CallsAreOnBranches }
+{}
 
 /// Where a `decide` of commits, a `settle` or a `done` is replied that the log failed (reply 15 of a manager that was up), the log
 /// has either all of the change that was asked for or nothing of it, unless it is shut; and so has whatever a crash of its

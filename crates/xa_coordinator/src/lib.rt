@@ -2,8 +2,8 @@
 //!
 //! [`Coordinator`] does what each request asks for ([`Coordinator::perform`]), over a session of `xa_serve`.
 //! [`Coordinator::serve`] reads requests, a line each, and writes a line for each. [`replies_are_tracked`],
-//! [`sessions_are_tracked`], [`served_sessions_are_explained`], [`served_databases_agree`], [`served_sessions_go_on`],
-//! [`served_sessions_agree`] and [`managers_stay_apart`] do nothing: their contracts are theorems.
+//! [`sessions_are_tracked`], [`served_sessions_are_explained`], [`served_databases_agree`], [`served_sessions_agree`],
+//! [`calls_are_on_branches`] and [`managers_stay_apart`] do nothing: their contracts are theorems.
 //!
 //! "XA" in these pages is X/Open CAE Specification C193, "Distributed Transaction Processing: The XA Specification"
 //! (1991).
@@ -16,8 +16,8 @@ mod serving;
 
 pub use coordinator::Coordinator;
 pub use laws::{
-    commits_are_logged, faults_leave_all_or_none, managers_stay_apart, replies_are_tracked,
+    calls_are_on_branches, commits_are_logged, faults_leave_all_or_none, managers_stay_apart, replies_are_tracked,
     served_databases_agree, served_sessions_agree, served_sessions_are_explained,
-    served_sessions_go_on, sessions_are_tracked, voted_commits_are_logged,
+    sessions_are_tracked, voted_commits_are_logged,
 };
 pub use serving::ServeFault;

@@ -76,7 +76,7 @@ impl<L: DecisionLog + Drop> Coordinator<L> {
         ensures ok { IfOk result (ServesLine L.moment name.now
             (R.remaining input.old) (R.remaining input.new)
             (W.contents output.old) (W.contents output.new) self.old self.new) }
-        ensures err { OnErr result (BreaksOff L.moment name.now
+        ensures err { OnErr result (BreaksOff L.moment name.now (R.remaining input.old)
             (W.contents output.old) (W.contents output.new) self.old self.new) }
     {
         let line = read_line(self.alloc, input)?;
@@ -92,8 +92,9 @@ impl<L: DecisionLog + Drop> Coordinator<L> {
     /// their order, until `quit` or the end of the input. Each is written and flushed before the next is read. A line is
     /// ended by a line feed, which the last one may lack.
     ///
-    /// Input comes where the requests can't be read, Output where a reply can't be written, and Memory where a request
-    /// for memory was refused outside of a step. What was written then is a beginning of what would have been.
+    /// Input comes if the requests can't be read, Output if a reply can't be written, and Memory if a request for memory
+    /// was refused outside of a step. What was done then is what whole lines that were read ask for, in their order, and
+    /// each reply was written but the last, of which a beginning was.
     pub fn serve<R: Read, W: Write>(
         &mut self,
         input: &mut R,
@@ -105,7 +106,7 @@ impl<L: DecisionLog + Drop> Coordinator<L> {
             (R.remaining input.old) (R.remaining input.new)
             (W.contents output.old) (W.contents output.new) self.old self.new) }
         ensures broken { OnErr result (BreaksSession L.moment (greeting_of self.old)
-            (W.contents output.old) (W.contents output.new) self.old self.new) }
+            (R.remaining input.old) (W.contents output.old) (W.contents output.new) self.old self.new) }
     {
         without_a_name_nothing_changes();
         self.serve_under(&ManagerName::none(), input, output)
@@ -126,7 +127,7 @@ impl<L: DecisionLog + Drop> Coordinator<L> {
             (R.remaining input.old) (R.remaining input.new)
             (W.contents output.old) (W.contents output.new) self.old self.new) }
         ensures broken { OnErr result (BreaksSessionUnder L.moment name.now (greeting_of self.old)
-            (W.contents output.old) (W.contents output.new) self.old self.new) }
+            (R.remaining input.old) (W.contents output.old) (W.contents output.new) self.old self.new) }
     {
         let greeting = self.greeting();
         write_reply(self.alloc, name, &greeting, output)?;

@@ -1,3 +1,4 @@
+pub mod KeptNames
 pub mod Laws
 pub mod Lines
 pub mod Names

@@ -6,10 +6,12 @@
 //! (1991).
 #![tactic(auto)]
 
+mod kept_names;
 mod laws;
 mod lines;
 mod manager_name;
 
+pub use kept_names::{NameFault, check_names};
 pub use laws::{
     calls_are_written_renamed, names_part_identifiers, renaming_goes_back,
     without_a_name_nothing_changes,

@@ -79,6 +79,13 @@ impl ManagerName {
         Some(ManagerName { bytes })
     }
 
+    /// Whether a text, however long, has only what may stand in a name: letters, digits, `_` and `-`.
+    pub fn has_letters(text: &str) -> bool
+        ensures { result ≡ list_all is_name_byte text.now }
+    {
+        are_name_bytes(text.as_bytes())
+    }
+
     /// The bytes of the name.
     pub fn as_slice(&self) -> &[u8]
         ensures value { result.now ≡ self.now }

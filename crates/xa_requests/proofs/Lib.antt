@@ -1,6 +1,7 @@
 mod Choices
 mod DecisionLemmas
 mod EachLemmas
+pub mod Identifiers
 mod NumberLemmas
 mod Pieces
 mod ReadBackLemmas

@@ -51,11 +51,11 @@ small_byte : (k n : ℕ) → byte_at k n < 256
 small_byte zero n = omega arith
 small_byte (suc k) n = omega arith
 
-number_bytes : (k n : ℕ) → IsBytes (bytes_high_first k n)
+pub number_bytes : (k n : ℕ) → IsBytes (bytes_high_first k n)
 number_bytes zero n = λ i. omega arith
 number_bytes (suc k) n = bytes_cons (byte_at k n) (bytes_high_first k n) (small_byte k n) (number_bytes k n)
 
-append_bytes : (xs ys : List ℕ) → IsBytes xs → IsBytes ys → IsBytes (xs ++ ys)
+pub append_bytes : (xs ys : List ℕ) → IsBytes xs → IsBytes ys → IsBytes (xs ++ ys)
 append_bytes [] ys hx hy = hy
 append_bytes (x ∷ xs) ys hx hy = bytes_cons x (xs ++ ys) (hx 0) (append_bytes xs ys (λ i. hx (suc i)) hy)
 

@@ -1,6 +1,7 @@
 pub mod Answers
 pub mod Calls
 pub mod Decisions
+pub mod Identifiers
 pub mod Names
 pub mod Numbers
 pub mod ReadBack

@@ -1,6 +1,6 @@
 -- Steps of a session in histories.
-use Rattle.std.proofs.Common.{◌≡◌, ℕ, List, [], ◌∷◌, true, false, Option, None, refl, sym, ap, ◌∙◌, subst}
-use Rattle.std.specs.Prelude.{Result, Ok, Err, OnOk}
+use Rattle.std.proofs.Common.{◌≡◌, ◌+◌, ℕ, List, [], ◌∷◌, true, false, Option, None, refl, sym, ap, ◌∙◌, subst}
+use Rattle.std.specs.Prelude.{Result, Ok, Err, OnOk, length}
 use Rattle.std.proofs.lemmas.List.{append-nil}
 use Rattle.xa_base.specs.declared.branch.Gtrid.{Gtrid}
 use Rattle.xa_base.specs.declared.refusal.Refusal.{Refusal}
@@ -30,7 +30,7 @@ use Rattle.xa_tm.specs.declared.manager.Manager.{Manager}
 use Rattle.xa_serve.proofs.Books.{book_goes, next_alike, next_of, refuses_no_more, up_alike}
 use Rattle.xa_serve.proofs.Refusals.{begun_if_abandoned, begun_if_settled, up_if_begins}
 use Rattle.xa_serve.specs.Following.{BookStands, FollowsAll, LeadsTo, StandsIn}
-use Rattle.xa_serve.specs.Session.{lines_by}
+use Rattle.xa_serve.specs.Session.{happenings_by, lines_by}
 use Rattle.xa_serve.specs.declared.session.Session.{Session}
 
 -- ** lines
@@ -176,12 +176,17 @@ module _ {L : Type 0} (old new : Session L) where
       (begun_if_abandoned (book_in old.manager) g none) book lines
 
   -- where the log may have been asked, and didn't fail
-  pub follows_if_ok : (why : Option Refusal) (es : List Happening) (m : Manager L) (reply result : Result (Unit {0}) Refusal) → result ≡ reply
+  pub follows_if_ok : (why : Option Refusal) (es : List Happening) (m : Manager L) (reply result : Result (Unit {0}) Refusal) (counted : ℕ)
+      → counted ≡ length es → new.happenings ≡ happenings_by reply counted old.happenings → result ≡ reply
       → new.manager ≡ m → new.lines ≡ lines_by reply old.lines → OnOk reply (why ≡ None)
       → OnOk reply (book_in m ≡ after_all (book_in old.manager) es) → new.monitor ≡ old.monitor
       → (why ≡ None → book_in new.manager ≡ after_all (book_in old.manager) es → new.lines ≡ old.lines → LeadsTo es old new)
       → OnOk result (FollowsAll es old new)
-  follows_if_ok why es m (Ok u) result same managers lines none book monitor go =
+  follows_if_ok why es m (Ok u) result counted are count same managers lines none book monitor go =
       subst (λ r. OnOk r (FollowsAll es old new)) (sym same)
-      (record { leads = go none (ap book_in managers ∙ book) lines; states = λ b. ap (λ n. states_of n b) monitor })
-  follows_if_ok why es m (Err n) result same managers lines none book monitor go = subst (λ r. OnOk r (FollowsAll es old new)) (sym same) tt
+      (record {
+        leads = go none (ap book_in managers ∙ book) lines;
+        counted = count ∙ ap (λ n. old.happenings + n) are;
+        states = λ b. ap (λ n. states_of n b) monitor;
+      })
+  follows_if_ok why es m (Err n) result counted are count same managers lines none book monitor go = subst (λ r. OnOk r (FollowsAll es old new)) (sym same) tt

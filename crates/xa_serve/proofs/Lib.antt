@@ -5,6 +5,7 @@ mod Lines
 pub mod Logging
 mod NextRows
 mod NextStarts
+mod FailedSteps
 mod Recoveries
 mod Hearings
 mod Refusals

@@ -1,5 +1,5 @@
 -- How a session follows a history.
-use Rattle.std.specs.Prelude.{ℕ, ◌≡◌, Bool, true, List, [], ◌∷◌, Option, Some}
+use Rattle.std.specs.Prelude.{ℕ, ◌≡◌, ◌+◌, length, Bool, true, List, [], ◌∷◌, Option, Some}
 use Rattle.xa_base.specs.declared.branch.Gtrid.{Gtrid}
 use Rattle.xa_line.specs.Grid.{HasLine, IsWhole, line_at}
 use Rattle.xa_line.specs.Histories.{LineStands}
@@ -68,23 +68,26 @@ LeadsByLoss l c old new =
 
 -- ** and with the monitor
 
--- the session follows what its manager does in turn: no branch is in other states
+-- the session follows what its manager does in turn, and counts it: no branch is in other states
 pub record FollowsAll {L : Type 0} (es : List Happening) (old new : Session L) : Type 0 where
   pub leads : LeadsTo es old new
+  pub counted : new.happenings ≡ old.happenings + length es
   pub states : SaysTheSame old.monitor new.monitor
 
 -- and so where it does one thing
 abbrev pub Follows : {L : Type 0} → Happening → (old new : Session L) → Type 0
 Follows e old new = FollowsAll (e ∷ []) old new
 
--- it follows an answer, and so does its monitor
+-- it follows an answer, and counts it, and its monitor follows it
 pub record FollowsAnswer {L : Type 0} (l : Line) (c : Call) (a : Answer) (old new : Session L) : Type 0 where
   pub leads : LeadsByAnswer l c a old new
+  pub counted : new.happenings ≡ old.happenings + 1
   pub states : Hears l c a old.monitor new.monitor
 
--- it follows the loss of a line, and so does its monitor
+-- it follows the loss of a line, and counts it, and its monitor follows it
 pub record FollowsLoss {L : Type 0} (l : Line) (c : Option Call) (old new : Session L) : Type 0 where
   pub leads : LeadsByLoss l c old new
+  pub counted : new.happenings ≡ old.happenings + 1
   pub states : Loses l c old.monitor new.monitor
 
 -- nothing happened, and all is as it was, but for room that was made

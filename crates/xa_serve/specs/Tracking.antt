@@ -1,7 +1,7 @@
 -- How a session tracks what is seen.
 use Rattle.std.specs.Prelude.{ℕ, ◌≡◌, ◌<◌, All, true, List, [], ◌∷◌, Option, Some, None}
 use Rattle.xa_base.specs.declared.branch.Gtrid.{Gtrid}
-use Rattle.xa_base.specs.declared.step.Outcome.TheVariants as Outcomes
+use Rattle.xa_base.specs.declared.step.Outcome.{Outcome}
 use Rattle.xa_base.specs.declared.step.Step.TheVariants as Steps
 use Rattle.xa_log.specs.Content.{Content}
 use Rattle.xa_model.specs.Facts.Distinct.{ApartRows}
@@ -13,7 +13,7 @@ use Rattle.xa_standings.specs.Monitor.{Monitors}
 use Rattle.xa_standings.specs.Seen.{HasAnswer, IsHistory, IsManagers, KeepsRules, Seen, Seen.Answered, Seen.Did, Seen.Lost, Seen.Start}
 use Rattle.xa_standings.specs.Sessions.{Finds, Log.LeftBy, MayFail}
 use Rattle.xa_tm.specs.Begins.{BeginsWith}
-use Rattle.xa_tm.specs.Book.{Doubt, Doubt.Drops, book_after}
+use Rattle.xa_tm.specs.Book.{Doubt, Doubt.Adds, Doubt.Drops, book_after, rows_for}
 use Rattle.xa_tm.specs.BookAndLog.{IsTied}
 use Rattle.xa_tm.specs.Calls.{book_in, written_by}
 use Rattle.xa_tm.specs.InTurn as turns
@@ -75,10 +75,6 @@ FirstCallsAreTracked L =
     (o : Origin) (seen : Seen) (s : Session L) (t r : ℕ) → KeepsTrack o seen s → t < o.threads → r < o.rms
     → WaitsFirst o seen (line t r) (known_waiting s.lines t r)
 
--- the log fails in a decision to commit these: for the rows of those that some branch voted XA_OK for
-abbrev pub fault_in : {L : Type 0} → Session L → List Gtrid → Fault
-fault_in s gs = InDecide (written_by Outcomes.Commit (book_in s.manager) gs)
-
 -- a start over a log: it has the rows and records of that, in an incarnation that was raised since, once or more
 pub record IsRaisedFrom (c : Content) (next : Origin) : Type 0 where
   pub found : Content
@@ -101,18 +97,25 @@ pub record IsFailedStep {L : Type 0} (o : Origin) (seen : Seen) (s : Session L) 
       (c : Content) (next : Origin) → IsTied true (book_after (book_in s.manager) asked (Failed f)) (Some c) → IsRaisedFrom c next
       → Finds (LeftBy o seen (Some f)) next
 
--- it was a decision to commit these that no rule refuses
+-- it was a decision of these that no rule refuses: rows were to be written of those that are committed and that some branch voted XA_OK for
 abbrev pub FailedDecisionsAreFound : Type 0 → Type 0
 FailedDecisionsAreFound L =
-    (o : Origin) (seen : Seen) (s : Session L) (gs : List Gtrid) → KeepsTrack o seen s
-    → turns.decide_refusal Outcomes.Commit (book_in s.manager) gs ≡ None
-    → IsFailedStep o seen s (turns.rows_added Outcomes.Commit (book_in s.manager) gs) (fault_in s gs)
+    (o : Origin) (seen : Seen) (s : Session L) (outcome : Outcome) (gs : List Gtrid) → KeepsTrack o seen s
+    → turns.decide_refusal outcome (book_in s.manager) gs ≡ None
+    → IsFailedStep o seen s (turns.rows_added outcome (book_in s.manager) gs) (InDecide (written_by outcome (book_in s.manager) gs))
 
--- or a row was to be taken away
+-- or a claimed transaction was to be committed, that some branch voted XA_OK for
+abbrev pub FailedSettlementsAreFound : Type 0 → Type 0
+FailedSettlementsAreFound L =
+    (o : Origin) (seen : Seen) (s : Session L) (g : Gtrid) → KeepsTrack o seen s → refusal_in (book_in s.manager) (Steps.Settle g) ≡ None
+    → ((book_in s.manager).transaction g).has_yes ≡ true
+    → IsFailedStep o seen s (Adds (rows_for (book_in s.manager) (g ∷ []))) (InDecide (g ∷ []))
+
+-- or rows were to be taken away
 abbrev pub FailedDonesAreFound : Type 0 → Type 0
 FailedDonesAreFound L =
-    (o : Origin) (seen : Seen) (s : Session L) (g : Gtrid) → KeepsTrack o seen s → refusal_in (book_in s.manager) (Steps.Done g) ≡ None
-    → IsFailedStep o seen s (Drops (g ∷ [])) (InDone (g ∷ []))
+    (o : Origin) (seen : Seen) (s : Session L) (gs : List Gtrid) → KeepsTrack o seen s → turns.done_refusal (book_in s.manager) gs ≡ None
+    → IsFailedStep o seen s (Drops gs) (InDone gs)
 
 -- What a session keeps track of, from an old log, has a right history.
 abbrev pub SessionsAreExplained : Type 0 → Type 0

@@ -6,7 +6,7 @@ ghost use Rattle.xa_serve.specs.Headroom.{ReleasesKeepHeadroom, StartsHaveHeadro
 ghost use Rattle.xa_serve.specs.Logging.{LaterSessionsAreNewer, LogsHaveAllOrNone, RowsAreHandedOn};
 ghost use Rattle.xa_serve.specs.Tracking.{AnswersAreTracked, FirstCallsAreTracked, LossesAreTracked};
 ghost use Rattle.xa_serve.specs.Tracking.{RefusalsAreTracked, ReleasesAreTracked};
-ghost use Rattle.xa_serve.specs.Tracking.{FailedDecisionsAreFound, FailedDonesAreFound};
+ghost use Rattle.xa_serve.specs.Tracking.{FailedDecisionsAreFound, FailedDonesAreFound, FailedSettlementsAreFound};
 ghost use Rattle.xa_serve.specs.Tracking.{SessionsAreExplained, StartsAreTracked, StartsFindTheLog, StepsAreTracked};
 
 use xa_log::DecisionLog;
@@ -70,11 +70,12 @@ pub fn first_calls_are_tracked<L: DecisionLog + Drop>()
 /// of the session says. So sessions one after another agree (`sessions_agree` of `xa_standings`).
 ///
 /// - `left`: of a session whose log didn't fail;
-/// - `decision`, `done`: of one whose log failed in a decision to commit or as a row was to be taken away, or that was
-///   killed in it. The change is in doubt then, and the step was right.
+/// - `decision`, `settlement`, `done`: of one whose log failed as rows were to be written or taken away, or that was killed
+///   in that. The change is in doubt then, and the step was right.
 pub fn starts_find_the_log<L: DecisionLog + Drop>()
     ensures left { StartsFindTheLog L }
     ensures decision { FailedDecisionsAreFound L }
+    ensures settlement { FailedSettlementsAreFound L }
     ensures done { FailedDonesAreFound L }
 {}
 

@@ -41,7 +41,7 @@ pub struct Session<L: DecisionLog + Drop> {
     pub(crate) lines: Lines,
     /// The states of the branches, by all that was answered.
     pub(crate) monitor: Monitor,
-    /// How much has happened since the start.
+    /// How many steps have happened since the start, a failure of the log among them.
     pub(crate) happenings: u64,
 }
 
@@ -57,6 +57,7 @@ impl<L: DecisionLog + Drop> Session<L> {
     ) -> Result<(Session<L>, LogRows), StartFault>
         ensures ready { IfOk result (λ s. IsReady s.0) }
         ensures lines { IfOk result (λ s. s.0.lines ≡ new_grid threads rms) }
+        ensures count { IfOk result (λ s. s.0.happenings ≡ 0) }
         ensures stands { IfOk result (λ s. StandsAtStart threads rms s.0) }
         ensures old { IfOk result (λ s. (o : Origin) → BeginsWith threads rms s.0.manager o →
             IsOldLog o) }
@@ -117,7 +118,7 @@ impl<L: DecisionLog + Drop> Session<L> {
         self.manager.incarnation()
     }
 
-    /// How much has happened since the start.
+    /// How many steps have happened since the start: those that succeeded, and one in which the log failed.
     pub fn happenings(&self) -> u64
         ensures { result ≡ self.now.happenings }
     {

@@ -14,6 +14,7 @@ pub mod HeuristicRows
 pub mod Inserts
 pub mod Inside
 pub mod SameEntries
+pub mod LabelLemmas
 pub mod Lasting
 pub mod Layouts
 pub mod ListedParticipants

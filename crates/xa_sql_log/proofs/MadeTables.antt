@@ -22,13 +22,14 @@ use Rattle.sqlite_schema.specs.declared.schema.Keys.TheVariants.{Enforced}
 use Rattle.sqlite_rules.specs.Action.{works}
 use Rattle.sqlite.proofs.Callers.{IsPlain, command_of, statement_of, runs_as, one_step}
 use Rattle.sqlite_tied.specs.Compute.{everything}
-use Rattle.xa_sql_log.specs.Tables.{meta_text, decision_text, heuristic_text, participant_text, meta, decision, heuristic, no_tables, old_schema, log_schema}
+use Rattle.xa_sql_log.specs.Tables.{meta_text, decision_text, heuristic_text, meta, decision, heuristic, no_tables, old_schema, log_schema}
 use Rattle.xa_log.specs.Content.{nothing}
 use Rattle.xa_sql_log.specs.Rows.{IsDecisionRow, AreHeuristicRows, IsParticipantRow, HasDecision, participants_of_rows, meta_row, content_of}
 use Rattle.xa_sql_log.specs.Sql.{IsNewLog}
 use Rattle.xa_sql_log.proofs.Inserts.{at_once}
 use Rattle.xa_sql_log.proofs.Maps.{booked}
-use Rattle.xa_sql_log.proofs.Migrates.{adds, makes_participant, makes_plain}
+use Rattle.xa_sql_log.proofs.Migrates.{adds}
+use Rattle.xa_sql_log.specs.Labels.{MakesParticipants}
 use Rattle.xa_log.proofs.Parts.{went, same_value}
 use Rattle.xa_sql_log.proofs.Values.{cast_int, cast_null}
 use Rattle.xa_log.proofs.Alike.{same_content}
@@ -155,17 +156,15 @@ empty_log db schema meta decisions heuristics participants = (
       (ap (λ t. (content_of (λ _. t)).incarnation) meta),
 )
 
-pub made : (a b c d e f : State) (k l m n o : ℕ) → a.now.schema ≡ no_tables → Executes meta_text [] a b (Ok k)
+pub made : (participants : List ℕ) → MakesParticipants participants → (a b c d e f : State) (k l m n o : ℕ) → a.now.schema ≡ no_tables → Executes meta_text [] a b (Ok k)
     → Executes decision_text [] b c (Ok l) → Executes heuristic_text [] c d (Ok m)
-    → Executes participant_text [] d e (Ok n) → Executes first_meta [] e f (Ok o) → IsNewLog nothing f.now
-made a b c d e f k l m n o has one two three four five =
+    → Executes participants [] d e (Ok n) → Executes first_meta [] e f (Ok o) → IsNewLog nothing f.now
+made participants makes a b c d e f k l m n o has one two three four five =
     let made_1 = creates no_tables meta_text meta makes_meta a b k has one in
     let made_2 = creates schema_1 decision_text (record decision { tree = 0 }) makes_decision b c l made_1.schema_is two in
     let made_3 = creates schema_2 heuristic_text (record heuristic { tree = 0 }) makes_heuristic c d m made_2.schema_is three in
     let old = made_3.schema_is ∙ first_three in
-    let made_4 =
-    adds d e n old (subst (λ t. Writes d e None CreateTable t [] n) makes_participant.1
-    (runs_as participant_text [] d e old_schema old CreateTable makes_participant.0 makes_plain n four)) in
+    let made_4 = adds participants makes d e n old four in
     let w = runs_as first_meta [] e f log_schema made_4.schema (Insert 0 (Values first_terms 4)) first_meta_is first_meta_plain o five in
     let put = puts_meta e.step_limit e.now f.now (statement_of first_meta (understood log_schema first_meta)) w.tally made_4.schema w.changed in
     let none_0 : e.now.trees 0 ≡ [] = made_4.meta ∙ made_3.others.0 ∙ made_2.others.0 ∙ made_1.empty in

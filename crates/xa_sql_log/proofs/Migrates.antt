@@ -7,7 +7,6 @@ use Rattle.sqlite.specs.Order.{Row}
 use Rattle.sqlite.specs.Tree.{Trees, IsTable}
 use Rattle.sqlite.specs.Schema.{Schema}
 use Rattle.sqlite.specs.Change.{created, next_tree, KeepsRows}
-use Rattle.sqlite.specs.Compile.{table_defined_by}
 use Rattle.sqlite.specs.Edit.{edit_of, edited, taken_by}
 use Rattle.sqlite.specs.Rowids.TheVariants.{Given}
 use Rattle.sqlite.specs.Effect.{Database}
@@ -30,17 +29,19 @@ use Rattle.xa_sql_log.proofs.Values.{cast_int, cast_null, same_id}
 use Rattle.xa_sql_log.proofs.Inserts.{at_once}
 use Rattle.xa_sql_log.proofs.Maps.{booked}
 use Rattle.sqlite_schema.specs.Rules.{is_key_of}
+use Rattle.xa_sql_log.specs.Labels.{MakesParticipants}
 use Rattle.xa_sql_log.specs.Tables.{old_schema, log_schema, participant_text, participant, meta, of_decision}
 use Rattle.xa_sql_log.specs.Rows.{IsOldLog, IsDecisionRow, AreHeuristicRows, IsParticipantRow, HasDecision, participants_of_rows, meta_row, old_meta_row, content_of, old_content_of}
 use Rattle.xa_sql_log.specs.Sql.{IsNewLog}
 use Rattle.xa_log.proofs.Alike.{same_content}
 
-pub makes_participant : (command_of (understood old_schema participant_text) ≡ CreateTable)
-    × (statement_of participant_text (understood old_schema participant_text) ≡ participant_text)
-    × (table_defined_by participant_text ≡ Ok (record participant { tree = 0 }))
-    × (lacks_sequence (created old_schema (record participant { tree = 0 })) ≡ false)
+pub makes_participant : MakesParticipants participant_text
 unfolding understood everything
-makes_participant = (refl, refl, refl, refl)
+makes_participant = record { command = refl; plain = (refl, refl); whole = refl; table = refl }
+
+uncounted : lacks_sequence (created old_schema (record participant { tree = 0 })) ≡ false
+unfolding everything
+uncounted = refl
 
 pub migrated_schema : created old_schema (record participant { tree = 0 }) ≡ log_schema
 unfolding everything
@@ -60,10 +61,6 @@ set_version_plain = (refl, refl)
 
 -- ---- CREATE TABLE
 
-pub makes_plain : IsPlain (understood old_schema participant_text)
-unfolding understood everything
-makes_plain = (refl, refl)
-
 next_is : next_tree old_schema ≡ 5
 unfolding everything
 next_is = refl
@@ -76,17 +73,20 @@ pub record Adds (db after : Database) : Type 0 where
   pub decisions : after.trees 1 ≡ db.trees 1
   pub heuristics : after.trees 3 ≡ db.trees 3
 
-pub adds : (old new : State) (count : ℕ) → old.now.schema ≡ old_schema → Writes old new None CreateTable participant_text [] count → Adds old.now new.now
-adds old new count has w =
+pub adds : (text : List ℕ) → MakesParticipants text → (old new : State) (count : ℕ) → old.now.schema ≡ old_schema
+    → Executes text [] old new (Ok count) → Adds old.now new.now
+adds text makes old new count has ran =
     let table = record participant { tree = 0 } in
+    let w : Writes old new None CreateTable text [] count =
+    subst (λ t. Writes old new None CreateTable t [] count) makes.whole (runs_as text [] old new old_schema has CreateTable makes.command makes.plain count ran) in
     let all = went w.changed in
     let first = went all.1 in
     let made = first.1 in
-    let both : Ok made.table ≡ Ok table = sym made.defined ∙ makes_participant.2 in
+    let both : Ok made.table ≡ Ok table = sym made.defined ∙ makes.table in
     let same : made.table ≡ table = cc in
     let is : first.0.schema ≡ created old_schema table = made.is ∙ ap (λ s. created s made.table) has ∙ ap (created old_schema) same in
     let now : new.now ≡ first.0 =
-    ap (λ (p : Tally × Database). p.1) (same_value all.2) ∙ same_value (rw (ap lacks_sequence is ∙ makes_participant.3) at first.2) in
+    ap (λ (p : Tally × Database). p.1) (same_value all.2) ∙ same_value (rw (ap lacks_sequence is ∙ uncounted) at first.2) in
     let others = subst (λ (s : Schema). KeepsRows s.tables old.now.trees first.0.trees) has made.others in
     let as_now = λ (at : ℕ). ap (λ (d : Database). d.trees at) now in
     record {
@@ -173,8 +173,7 @@ new_log db mid after is added set =
 pub migrates : (old mid new : State) (a b : ℕ) → IsOldLog old.now → Executes participant_text [] old mid (Ok a)
     → Executes set_version [] mid new (Ok b) → IsNewLog (old_content_of old.now.trees) new.now
 migrates old mid new a b is first second =
-    let made = runs_as participant_text [] old mid old_schema is.schema CreateTable makes_participant.0 makes_plain a first in
-    let added = adds old mid a is.schema (subst (λ t. Writes old mid None CreateTable t [] a) makes_participant.1 made) in
+    let added = adds participant_text makes_participant old mid a is.schema first in
     let w =
     runs_as set_version [] mid new log_schema added.schema
     (Update 0 (record { lets = []; body = over 0 [] project })) set_version_is set_version_plain b second in

@@ -1,5 +1,7 @@
 pub mod ClosedFiles
 pub mod Faults
+pub mod Halves
+pub mod Labels
 pub mod OpenedDatabase
 pub mod PreparedDatabase
 pub mod Rows

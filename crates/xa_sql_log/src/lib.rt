@@ -6,6 +6,7 @@ mod decisions;
 mod fields;
 mod groups;
 mod heuristics;
+mod label;
 mod meta;
 mod participants;
 mod removals;
@@ -15,4 +16,5 @@ mod statements;
 mod tables;
 mod version;
 
+pub use label::is_label;
 pub use sql_log::{SqlLog, memory_is_honest};

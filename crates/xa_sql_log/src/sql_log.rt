@@ -6,6 +6,8 @@ ghost use Rattle.xa_sql_log.specs.OpenedDatabase.{IsFoundLog, IsKnownDatabase};
 ghost use Rattle.xa_sql_log.specs.PreparedDatabase.{Prepares};
 
 mod closing;
+mod halves;
+mod labels;
 mod looking;
 mod opening;
 

@@ -8,6 +8,7 @@ ghost use Rattle.xa_sql_log.specs.Rows.{old_content_of, IsOldLog};
 ghost use Rattle.xa_sql_log.specs.Tables.{old_schema, log_schema};
 ghost use Rattle.xa_sql_log.specs.Sql.{IsNewLog, AreNewTrees, IsOldReady, Rests};
 ghost use Rattle.xa_sql_log.specs.OpenedDatabase.{IsBlank, HasTables, NamesVersion, NamesKnown, RunsInside};
+ghost use Rattle.xa_sql_log.specs.Labels.{MakesParticipants};
 ghost use Rattle.xa_sql_log.specs.PreparedDatabase.{LeavesSame, MakesLog, Prepares};
 
 use crate::statements::of_store;
@@ -60,12 +61,15 @@ fn execute<S: Alter>(tx: &mut Transaction<'_, S>, sql: &str) -> Result<(), LogFa
     Ok(())
 }
 
-/// The tables of an empty log.
-fn create_tables<S: Alter>(tx: &mut Transaction<'_, S>) -> Result<(), LogFault>
+/// The tables of an empty log, of which this statement makes that of the participants.
+fn create_tables<S: Alter>(
+    tx: &mut Transaction<'_, S>,
+    participants: &str,
+) -> Result<(), LogFault>
     ensures same_reference { tx.new.conn.ghost_name ≡ tx.old.conn.ghost_name }
     ensures written { HasCleanDisk (state S.Store tx.new.conn.now) →
         IsTrue (state S.Store tx.old.conn.now).in_transaction →
-        IsBlank (state S.Store tx.old.conn.now) →
+        IsBlank (state S.Store tx.old.conn.now) → MakesParticipants participants.now →
         OnOk result (IsTrue (state S.Store tx.new.conn.now).in_transaction ×
         IsNewLog nothing (state S.Store tx.new.conn.now).now) }
     ensures kept { HasCleanDisk (state S.Store tx.new.conn.now) →
@@ -77,23 +81,27 @@ fn create_tables<S: Alter>(tx: &mut Transaction<'_, S>) -> Result<(), LogFault>
     execute(tx, CREATE_META)?;
     execute(tx, CREATE_DECISION)?;
     execute(tx, CREATE_HEURISTIC)?;
-    execute(tx, CREATE_PARTICIPANT)?;
+    execute(tx, participants)?;
     execute(tx, FIRST_META)?;
     Ok(())
 }
 
-/// Makes the tables of an empty log, in one transaction.
-fn make_tables<S: Alter>(conn: &mut Connection<S>) -> Result<(), LogFault>
+/// Makes the tables of an empty log, that of the participants by this statement, in one transaction.
+pub(crate) fn make_tables<S: Alter>(
+    conn: &mut Connection<S>,
+    participants: &str,
+) -> Result<(), LogFault>
     requires { conn.old.in_transaction ≡ false }
     ensures honest { HasCleanDisk (state S.Store conn.new) → HasCleanDisk (state S.Store conn.old) }
     ensures makes { HasCleanDisk (state S.Store conn.new) → IsBlank (state S.Store conn.old) →
+        MakesParticipants participants.now →
         MakesLog nothing (state S.Store conn.old) (state S.Store conn.new) result }
-    ensures crash { IsBlank (state S.Store conn.old) →
+    ensures crash { IsBlank (state S.Store conn.old) → MakesParticipants participants.now →
         Survives (state S.Store conn.old) (state S.Store conn.new) (AreNewTrees nothing) }
     ensures cause { IfErr result IsStoreFault }
 {
     let mut tx = conn.transaction();
-    create_tables(&mut tx)?;
+    create_tables(&mut tx, participants)?;
     of_store(tx.commit())?;
     Ok(())
 }
@@ -196,7 +204,7 @@ pub(crate) fn prepare<S: Alter>(conn: &mut Connection<S>) -> Result<(), LogFault
         return Err(LogFault::Store);
     }
     match layout_of(conn) {
-        Layout::Missing => make_tables(conn),
+        Layout::Missing => make_tables(conn, CREATE_PARTICIPANT),
         Layout::Version1 => upgrade(conn),
         Layout::Version2 => check_version(conn, 2),
     }

@@ -19,11 +19,12 @@ use Rattle.xa_model.specs.Trace.{Answer, Branch, Call, Code, Happening, Happenin
 use Rattle.xa_standings.specs.Across.{IsKnownAsLeft, behind}
 use Rattle.xa_standings.specs.Agreement.{HaveCome, MayAllStand, MayAllStand.AsTold, MayAllStand.CutOff, MayAllStand.EndedAlone, MayAllStand.UnderWay, IsLineOf, OwnStandAlike, StandAlike, StandSo, WaitsFirst, is_one_of}
 use Rattle.xa_standings.specs.Explained.{IsOldLog}
-use Rattle.xa_standings.specs.Named.{AreNamed, IsNamedCall}
+use Rattle.xa_standings.specs.Named.{IsNamedCall}
 use Rattle.xa_standings.specs.Seen.{Alone.Ends, Alone.NoMore, IsHistory, IsHistory.Does, IsHistory.Hears, IsHistory.Loses, IsHistory.LosesAnswer, IsHistory.Starts, IsManagers, KeepsRules, Seen, break_of}
 use Rattle.xa_standings.specs.Standings.{Comes, Explains, ExplainsIf, MayBeDone, MayStand, Takes}
 use Rattle.xa_standings.proofs.Books.{SameBooks, same_alone, same_books, same_step}
 use Rattle.xa_standings.proofs.Choices.{behind_right, broken_named, from_some, from_start, same_there, taken_named}
+use Rattle.xa_standings.proofs.Names.{AreNamed}
 use Rattle.xa_standings.proofs.Taken.{TakenThere, alone_runs, first_still, same_lines, taken_there}
 
 -- ** histories

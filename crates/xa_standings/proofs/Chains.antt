@@ -35,6 +35,7 @@ use Rattle.xa_standings.specs.Standings.{Comes}
 use Rattle.xa_standings.proofs.Agreeing.{LeavesThere, ended_named, from_known}
 use Rattle.xa_standings.proofs.Books.{AsksIf, SameBooks, finds_same}
 use Rattle.xa_standings.proofs.Choices.{behind_right, same_there, unstarted_still}
+use Rattle.xa_standings.proofs.Names.{done_named, first_named}
 
 -- ** standings
 
@@ -133,13 +134,13 @@ broken_failed (Some f) tr b = by (up tr)
 
 -- there is one right history of all that happened. It leaves each branch where it stands, but that what was open may be lost already; and
 -- the next start finds the rows and records of it
-record IsReached (log : Log) (f : Branch → Standing) : Type 0 where
-  whole : Trace
-  right : AllRight whole
-  there : (b : Branch) → broken (standing whole b) ≡ broken (f b)
-  named : AllAreNamed whole
-  finds : (next : Origin) → Finds log next → FindsLog whole next
-  alike : StandAlike f
+pub record IsReached (log : Log) (f : Branch → Standing) : Type 0 where
+  pub whole : Trace
+  pub right : AllRight whole
+  pub there : (b : Branch) → broken (standing whole b) ≡ broken (f b)
+  pub named : AllAreNamed whole
+  pub finds : (next : Origin) → Finds log next → FindsLog whole next
+  pub alike : StandAlike f
 
 -- ** none yet
 
@@ -260,7 +261,9 @@ module _ (log : Log) (from to : Branch → Standing) (r : IsReached log from) (o
     stands_so b = same_there past start last r.right resumes last_start last_runs b (known b)
 
     last_named : AllAreNamed last
-    last_named = named_failed fails x.now (x.named session.named (λ l c has e. session.named_first x.told l c told_history x.told_runs has e))
+    last_named = named_failed fails x.now (x.named
+        (done_named o seen x.told told_history x.told_runs session.keeps session.on_branches)
+        (λ l c has e. first_named o seen x.told l c told_history session.keeps session.on_branches e))
 
     -- what a start finds that finds what the session left
     finds_it : (next : Origin) → Finds (LeftBy o seen fails) next → FindsLog (behind (resumed past start) last) next
@@ -345,11 +348,8 @@ module _ (log : Log) (from to : Branch → Standing) (r : IsReached log from) (d
 
 -- ** all of them
 
-reached : (log : Log) (f : Branch → Standing) → AfterSessions log f → IsReached log f
+pub reached : (log : Log) (f : Branch → Standing) → AfterSessions log f → IsReached log f
 reached _ _ (NoneYet i) = none_reached i
 reached _ _ (OneMore log from to o seen fails used before found session may) =
     one_more log from to (reached log from before) o found seen fails session used may
 reached _ _ (Between log from to d how before was final) = between log from to (reached log from before) d how was final
-
-pub sessions_alike : (log : Log) (f : Branch → Standing) → AfterSessions log f → StandAlike f
-sessions_alike log f after = (reached log f after).alike

@@ -28,9 +28,10 @@ use Rattle.xa_model.specs.Protocol.{AllRight, IsRun, Lists, OldOrigin, SoundAnsw
 use Rattle.xa_model.specs.Trace.{Answer, Branch, Call, Code, Happening, Happening.Begun, Happening.Claimed, Happening.CompletedAlone, Happening.Decided, Happening.Done, Happening.Heard, Happening.Issued, Happening.Nothing, Happening.Resolved, Happening.ResolvedOpen, Happening.Took, Line, Name, Name.Foreign, Name.Ours, Origin, Trace, Trace.From, Trace.Then, line_eq, line_of}
 use Rattle.xa_standings.specs.Across.{GoesOn, IsKnownAsLeft, behind}
 use Rattle.xa_standings.specs.Explained.{IsExplained, IsOldLog, IsRunOf}
-use Rattle.xa_standings.specs.Named.{AreNamed, IsNamedCall}
+use Rattle.xa_standings.specs.Named.{IsNamedCall}
 use Rattle.xa_standings.specs.Seen.{Alone, Alone.NoMore, HasAnswer, IsHistory.Does, IsHistory.Hears, IsHistory.Loses, IsHistory.LosesAnswer, IsHistory.Starts, IsManagers, KeepsRules, Seen, Seen.Answered, Seen.Did, Seen.Lost, Seen.Start, Waits, break_of, start_with}
 use Rattle.xa_standings.specs.Standings.{Comes, Explained, Explains, ExplainsIf, MayBeDone, MayBeFound, MayStand, Takes}
+use Rattle.xa_standings.proofs.Names.{AreNamed}
 use Rattle.xa_standings.proofs.Taken.{IsKept, IsOtherThan, TakenThere, alone_runs, first_still, heard_next, retries_kept, same_lines, taken_there}
 
 -- ** the start

@@ -1,21 +1,29 @@
 -- Calls on branches that have an identifier.
-use Rattle.std.specs.Prelude.{◌≡◌, true, Option, Some, None}
+use Rattle.std.specs.Prelude.{ℕ, ◌≡◌, true, Some}
 use Rattle.xa_base.specs.StateTable.{Kind, asks_of}
+use Rattle.xa_base.specs.declared.answer.Answer.TheVariants.{Page, Ret}
 use Rattle.xa_model.specs.Facts.{fits}
-use Rattle.xa_model.specs.Trace.{Branch, Call}
+use Rattle.xa_model.specs.Protocol.{Lists}
+use Rattle.xa_model.specs.Trace.{Answer, Branch, Call, Happening, Happening.Issued, Name.Ours}
 use Rattle.xa_standings.specs.Seen.{Seen, Seen.Answered, Seen.Did, Seen.Lost, Seen.Start}
 
 -- a call on a branch is on one that has an identifier
 abbrev pub IsNamedCall : Call → Type 0
 IsNamedCall c = (k : Kind) (b : Branch) → asks_of c ≡ Some (k, b) → fits b ≡ true
 
-abbrev pub IsNamedIf : Option Call → Type 0
-IsNamedIf None = Unit
-IsNamedIf (Some c) = IsNamedCall c
+-- each branch of this manager that a page lists has one
+abbrev pub IsNamedPage : Answer → Type 0
+IsNamedPage (Page names) = (b : Branch) → Lists names (Ours b) → fits b ≡ true
+IsNamedPage (Ret code) = Unit
 
--- so is each call of which it was seen that it was or may have been done
-abbrev pub AreNamed : Seen → Type 0
-AreNamed Start = Unit
-AreNamed (Did seen e) = AreNamed seen
-AreNamed (Answered seen l c a) = AreNamed seen × IsNamedCall c
-AreNamed (Lost seen l c) = AreNamed seen × IsNamedIf c
+-- if what happens is that a call is made, it is on such a branch
+abbrev pub MakesNamedCall : Happening → Type 0
+MakesNamedCall (Issued l c) = IsNamedCall c
+MakesNamedCall e = Unit
+
+-- Each call that was made is on a branch that has an identifier, and so is each branch of this manager that a page listed.
+abbrev pub AreOnBranches : Seen → Type 0
+AreOnBranches Start = Unit
+AreOnBranches (Did seen e) = AreOnBranches seen × MakesNamedCall e
+AreOnBranches (Answered seen l c a) = AreOnBranches seen × IsNamedPage a
+AreOnBranches (Lost seen l c) = AreOnBranches seen

@@ -1,19 +1,20 @@
 -- Sessions one after another over the same databases and the same log; and where all branches then stand, at databases that obey the
 -- branch state table.
-use Rattle.std.specs.Prelude.{ℕ, ◌≡◌, ◌<◌, if◌then◌else◌, List, [], Option, Some, None}
+use Rattle.std.specs.Prelude.{ℕ, ◌≡◌, ◌⊎◌, ◌<◌, true, false, if◌then◌else◌, List, [], Option, Some, None}
 use Rattle.xa_base.specs.Branch.{branch_eq}
 use Rattle.xa_base.specs.HeldBranch.{new_branch}
 use Rattle.xa_base.specs.Scan.{Scan.NotOpen}
 use Rattle.xa_base.specs.StateTable.{broken}
 use Rattle.xa_base.specs.declared.state.Standing.{Standing}
-use Rattle.xa_base.specs.declared.state.Standing.TheVariants.{Completed, Prepared, Unstarted}
-use Rattle.xa_model.specs.Facts.{heuristic_rows, incarnation, log as rows_of, next_call}
-use Rattle.xa_model.specs.Promises.Processes.{SameRecords, SameRows, resumed}
-use Rattle.xa_model.specs.Protocol.{IsRun, RightFault}
-use Rattle.xa_model.specs.Trace.{Branch, Call, Fault, Fault.InDecide, Fault.InDone, Fault.InResolve, Happening.Failed, How, Line, Origin, Trace, Trace.From, Trace.Then}
-use Rattle.xa_standings.specs.Agreement.{IsLineOf, MayAllStand}
+use Rattle.xa_base.specs.declared.state.Standing.TheVariants.{Committed, Completed, Prepared, Unstarted}
+use Rattle.xa_model.specs.Facts.{ever, handed_over, heuristic_rows, incarnation, lists_row, log as rows_of, standing}
+use Rattle.xa_model.specs.Promises.Agreement.{IsUndone}
+use Rattle.xa_model.specs.Promises.Processes.{SameRecords, SameRows, gone, resumed}
+use Rattle.xa_model.specs.Protocol.{AllRight, IsRun, RightFault}
+use Rattle.xa_model.specs.Trace.{Branch, Fault, Fault.InDecide, Fault.InDone, Fault.InResolve, Happening.Failed, How, Line, Origin, Trace, Trace.From, Trace.Then}
+use Rattle.xa_standings.specs.Agreement.{MayAllStand}
 use Rattle.xa_standings.specs.Explained.{IsOldLog}
-use Rattle.xa_standings.specs.Named.{AreNamed, IsNamedCall}
+use Rattle.xa_standings.specs.Named.{AreOnBranches}
 use Rattle.xa_standings.specs.Seen.{IsHistory, KeepsRules, Seen}
 use Rattle.xa_standings.specs.Standings.{Comes}
 
@@ -67,17 +68,17 @@ Finds (LeftBy o seen fails) next = (tr : Trace) → IsHistory o seen tr → IsRu
 
 -- ** the sessions
 
--- A session: its start has what was found in the log; the manager kept its rules in what was seen, in which each call is on a branch with
+-- A session: its start has what was found in the log; the manager kept its rules in what was seen, in which each call is on a branch that has
 -- an identifier; and where its log failed in a step, or the program was killed in one, that was right.
 pub record IsSession (o : Origin) (seen : Seen) (fails : Option Fault) : Type 0 where
   pub old : IsOldLog o
   pub keeps : KeepsRules o seen
-  pub named : AreNamed seen
-  pub named_first : (tr : Trace) (l : Line) (c : Call) → IsHistory o seen tr → IsRun tr → IsLineOf o l → next_call tr l ≡ Some c → IsNamedCall c
+  pub on_branches : AreOnBranches seen
   pub may_fail : MayFail o seen fails
 
 -- Where all branches may stand after sessions one after another, and what log these leave. Between two sessions what was open is lost, and
--- a database may end a prepared branch by itself.
+-- a database may end a prepared branch by itself. `OfProcesses` of `xa_model` says the same of processes whose resource managers are known,
+-- and whose events are stored.
 pub data AfterSessions : Log → (Branch → Standing) → Type 0 where
   NoneYet : (i : ℕ) → AfterSessions (Empty i) (λ b. Unstarted)
   OneMore :
@@ -87,3 +88,23 @@ pub data AfterSessions : Log → (Branch → Standing) → Type 0 where
   Between :
       (log : Log) (from to : Branch → Standing) (d : Branch) (how : How) → AfterSessions log from → from d ≡ Prepared
       → ((b : Branch) → to b ≡ (if branch_eq d b then Completed how else from b)) → AfterSessions log to
+
+-- ** what follows
+
+-- The log that is left decides of what is prepared still: a start finds the row of each transaction of which a branch stands committed beside
+-- one that stands prepared, and no row of one of which a branch stands rolled back or lost.
+pub record RowsDecide (f : Branch → Standing) (next : Origin) : Type 0 where
+  pub committed : (b c : Branch) → b.gtrid ≡ c.gtrid → f b ≡ Committed → f c ≡ Prepared → lists_row next.rows b.gtrid ≡ true
+  pub undone : (b : Branch) → IsUndone (f b) → lists_row next.rows b.gtrid ≡ false
+
+-- There is one right history of all sessions. Once what was open is lost, it leaves each branch where that then stands; and the next start
+-- finds its rows and records. So what is promised of right histories (`Promises` of `xa_model`) holds of the branches and the log as well.
+-- Of a branch that stands committed its transaction's row was written, if that wasn't committed in one phase; of one that stands rolled back
+-- or lost it never was.
+pub record HaveOneHistory (log : Log) (f : Branch → Standing) : Type 0 where
+  pub whole : Trace
+  pub right : AllRight whole
+  pub there : (b : Branch) → standing (gone whole) b ≡ broken (f b)
+  pub finds : (next : Origin) → Finds log next → FindsLog whole next
+  pub committed : (b : Branch) → f b ≡ Committed → (ever whole b.gtrid ≡ true) ⊎ (handed_over whole b.gtrid ≡ true)
+  pub undone : (b : Branch) → IsUndone (f b) → ever whole b.gtrid ≡ false

@@ -9,7 +9,7 @@ ghost use Rattle.xa_standings.specs.Standings.{Comes, MayStand};
 ghost use Rattle.xa_standings.specs.Across.{GoesOn, IsKnownAsLeft};
 ghost use Rattle.xa_standings.specs.Agreement.{HaveCome, OwnStandAlike, StandAlike, StandSo};
 ghost use Rattle.xa_standings.specs.Explained.{IsExplained, IsOldLog, IsRunOf};
-ghost use Rattle.xa_standings.specs.Sessions.{AfterSessions, Log};
+ghost use Rattle.xa_standings.specs.Sessions.{AfterSessions, Finds, HaveOneHistory, Log, RowsDecide};
 
 /// A manager that keeps its own rules, over resource managers of which only the answers are known: if each branch may
 /// stand somewhere, by the branch state table and all that was answered, then what was seen has a right history.
@@ -47,8 +47,16 @@ pub fn answers_are_explained()
 /// incarnation; the first over an empty log, before any branch. In between what was open is lost. A session may end at any
 /// moment, also where calls are under way, and where its log fails in a step that asks it for rows.
 ///
-/// Then, whichever session began, decided or recovered it, no branch of a transaction stands committed beside one that
-/// stands rolled back or lost.
+/// - `agree`: no branch of a transaction stands committed beside one that stands rolled back or lost, whichever session
+///   began, decided or recovered it;
+/// - `rows`: the log that is left decides of what stands prepared still. It has the row of each transaction of which a
+///   branch stands committed, and no row of one of which a branch stands rolled back or lost;
+/// - `history`: there is one right history of all sessions, so that whatever is proved of right histories (`agreement`,
+///   `agreement_invariant` and `headline_holds` of `xa_model`) holds of the branches and of the log.
 pub fn sessions_agree()
-    ensures { (log : Log) (f : Branch → Standing) → AfterSessions log f → StandAlike f }
+    ensures agree { (log : Log) (f : Branch → Standing) → AfterSessions log f → StandAlike f }
+    ensures rows { (log : Log) (f : Branch → Standing) (next : Origin) → AfterSessions log f →
+        Finds log next → RowsDecide f next }
+    ensures history { (log : Log) (f : Branch → Standing) → AfterSessions log f →
+        HaveOneHistory log f }
 {}

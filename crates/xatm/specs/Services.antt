@@ -31,10 +31,10 @@ module _ {L : Type 0} (moment : L → Moment) (name : List ℕ) (threads rms : �
     pub starts : Starts first
     pub serves : ServesUnder moment name (greeting_of first) unread left written all first last
 
-  -- Such a session that was broken off: what was written is a beginning of that.
-  pub record IsBrokenOff (written all : Option (List ℕ)) (first last : Coordinator L) : Type 0 where
+  -- Such a session that was broken off: what was done is what whole lines that were read ask for, and of the replies all but the last were written.
+  pub record IsBrokenOff (unread written all : Option (List ℕ)) (first last : Coordinator L) : Type 0 where
     pub starts : Starts first
-    pub breaks : BreaksSessionUnder moment name (greeting_of first) written all first last
+    pub breaks : BreaksSessionUnder moment name (greeting_of first) unread written all first last
 
 -- No coordinator started over the log that was handed in: the log is to blame, or memory was refused, and it was only read. Nothing was
 -- written.

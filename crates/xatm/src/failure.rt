@@ -7,6 +7,7 @@ ghost use Rattle.xatm.specs.declared.failure.Failure.TheVariants.{Run};
 use std::alloc::{AllocError, AllocFailed};
 use std::io;
 use std::io::ErrorKind;
+use xa_base::Memory;
 use xa_coordinator::ServeFault;
 use xa_display::ChartFault;
 use xa_files::RunFault;
@@ -35,8 +36,10 @@ pub enum Failure {
     Input,
     /// The name of the manager is none.
     Name,
-    /// The log is that of a manager of another name, or of one without.
-    OtherName,
+    /// The names of the resource managers are none, or not one for each.
+    RmNames,
+    /// The log is another's, or only a part of it is there, as this text says.
+    Refused(String),
 }
 
 impl Failure {
@@ -72,10 +75,10 @@ impl Failure {
         ensures { result ≡ failure_status self.now }
     {
         match self {
-            Failure::CommandLine(_) | Failure::Words | Failure::Name => 3,
+            Failure::CommandLine(_) | Failure::Words | Failure::Name | Failure::RmNames => 3,
             Failure::NotReadable => 1,
             Failure::NotReadableAt(_) => 1,
-            Failure::TooLong | Failure::Input | Failure::OtherName => 2,
+            Failure::TooLong | Failure::Input | Failure::Refused(_) => 2,
             Failure::Run(fault) | Failure::RunAt(fault, _) => fault.status(),
         }
     }
@@ -92,7 +95,10 @@ impl Failure {
             Failure::TooLong => eprintln!(rt; "xatm: chart: more than 200 events"),
             Failure::Input => eprintln!(rt; "xatm: input"),
             Failure::Name => eprintln!(rt; "xatm: name: 1 to 16 letters, digits, _ and -"),
-            Failure::OtherName => eprintln!(rt; "xatm: log: of another name"),
+            Failure::RmNames => eprintln!(rt;
+                "xatm: rm: a name for each resource manager, and for each another one: 1 to 64 letters, digits, _ and -"
+            ),
+            Failure::Refused(text) => eprintln!(rt; "xatm: log: {text}"),
         }
     }
 }
@@ -164,6 +170,14 @@ impl From<LogFault> for Failure {
 
     fn from(fault: LogFault) -> Failure {
         Failure::Run(run_fault(fault))
+    }
+}
+
+impl From<Memory> for Failure {
+    ghost from_gives = { λ _ failure. failure ≡ Run Faults.Memory };
+
+    fn from(_error: Memory) -> Failure {
+        Failure::Run(RunFault::Memory)
     }
 }
 

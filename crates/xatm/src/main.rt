@@ -7,14 +7,16 @@
 
 mod command;
 mod failure;
-mod log_name;
+mod log_names;
 mod service;
 mod stores;
 mod stories;
 
 use crate::command::{Command, command_of, parser};
 use crate::failure::Failure;
-use crate::log_name::claim_log;
+use crate::log_names::{
+    check_rm_names, claim_log, introduce, manager_named, print_named, refuse_half,
+};
 use crate::service::serve_in_files;
 use crate::stores::{
     close_in_files, list_in_files, run_in_files, run_jobs_in_files, run_jobs_over, run_over,
@@ -87,10 +89,17 @@ fn perform<T: Threads + Wait + Clock + Sync>(
         ),
         Command::Serve {
             name,
+            rm_names,
             log,
             threads,
             rms,
-        } => serve(rt, &name_of(name)?, log, threads, rms, &mut out),
+        } => {
+            check_rm_names(rm_names, rms)?;
+            let name = manager_named(name)?;
+            claim_log(rt, log, &name, rm_names)?;
+            introduce(rt.alloc(), &name, rm_names, &mut out)?;
+            serve(rt, &name, log, threads, rms, &mut out)
+        }
         Command::Log { path, explains } => list(rt, path, explains, &mut out),
     }
 }
@@ -134,6 +143,7 @@ fn run<W: Write>(
     let texts = texts_of(rt, files)?;
     let ran = match log {
         Some(path) => {
+            claim_log(rt, path, &ManagerName::none(), &[])?;
             let ran = run_in_files(alloc, &texts, SqlLog::open(rt, path)?, with_trace, out);
             let gathered = gather(rt, path);
             if ran.is_ok() {
@@ -173,6 +183,7 @@ fn run_threads<T: Threads + Wait + Clock + Sync, W: Write>(
     let alloc = rt.alloc();
     match log {
         Some(path) => {
+            claim_log(rt, path, &ManagerName::none(), &[])?;
             match run_jobs_in_files(threads, alloc, text, SqlLog::open(rt, path)?, out) {
                 Ok(log) => close_in_files(log)?,
                 Err(fault) => {
@@ -189,14 +200,6 @@ fn run_threads<T: Threads + Wait + Clock + Sync, W: Write>(
     Ok(())
 }
 
-/// The name that a manager is given.
-fn name_of(text: Option<&str>) -> Result<ManagerName, Failure> {
-    match text {
-        Some(text) => ManagerName::of_text(text).ok_or(Failure::Name),
-        None => Ok(ManagerName::none()),
-    }
-}
-
 /// Serves the driver behind standard input and output over the log at a path, as the manager of this name.
 fn serve<W: Write>(
     rt: &HostRuntime,
@@ -210,7 +213,6 @@ fn serve<W: Write>(
     let mut input = BufReader::new(alloc, rt.reader()).map_err(|error| Failure::Input.caused_by(
         &error,
     ))?;
-    claim_log(rt, log, name)?;
     let opened = SqlLog::open(rt, log)?;
     let served = serve_in_files(alloc, name, threads, rms, opened, &mut input, out);
     let gathered = gather(rt, log);
@@ -226,7 +228,14 @@ fn list<W: Write>(
     explains: bool,
     out: &mut W,
 ) -> Result<(), Failure> {
-    list_in_files(SqlLog::look(rt, path)?, explains, out)
+    refuse_half(rt, path)?;
+    let alloc = rt.alloc();
+    let label = SqlLog::label(rt, path)?;
+    let mut text = Vec::new(alloc);
+    list_in_files(SqlLog::look(rt, path)?, explains, &mut text)?;
+    let text = String::from_utf8_lossy(alloc, text.as_slice())?;
+    let label = label.as_ref().map_or("", |label| label.as_str());
+    print_named(alloc, label, text.as_str(), out)
 }
 
 /// Copies the journal of the log at a path into its file, once a run has ended.

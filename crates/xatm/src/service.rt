@@ -34,7 +34,7 @@ pub(crate) fn serve_over<L: DecisionLog + Drop, R: Read, W: Write>(
         StartsNot L.DecisionLog log (W.contents out.old) (W.contents out.new) failure
         ⊎ ((first : Coordinator L) × (last : Coordinator L)
         × IsBrokenOff L.moment name.now threads rms (L.moment log)
-        (W.contents out.old) (W.contents out.new) first last)) }
+        (R.remaining input.old) (W.contents out.old) (W.contents out.new) first last)) }
     ensures status { IfErr result (λ failure. failure_status failure ≡ 2) }
 {
     let mut coordinator = Coordinator::new(alloc, threads, rms, log)?;

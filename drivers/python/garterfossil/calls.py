@@ -2,22 +2,20 @@
 
 from __future__ import annotations
 
-from dataclasses import dataclass
-from typing import Optional, Tuple
+from typing import NamedTuple, Optional, Tuple
 
 from .codes import Code
 from .xid import Xid
 
 
-@dataclass(frozen=True)
-class Call:
+class Call(NamedTuple):
     """A call of XA: its name, the branch that it is on, or how many identifiers an xa_recover may list, and its flags. As text it
     is as requests and replies of the coordinator have it, as in `xa_commit 7:..:.. TMONEPHASE`."""
 
     name: str
     xid: Optional[Xid] = None
     flags: Tuple[str, ...] = ()
-    count: Optional[int] = None
+    count: Optional[int] = None  # type: ignore[assignment]  # not the method of a tuple
 
     @classmethod
     def parse(cls, text: str) -> Call:
@@ -30,9 +28,11 @@ class Call:
         return cls(name, Xid.parse(words[0]), tuple(words[1:]))
 
     def __str__(self) -> str:
-        subject = self.count if self.xid is None else self.xid
-        words = [self.name] if subject is None else [self.name, str(subject)]
-        return " ".join([*words, *self.flags])
+        if self.xid is not None:
+            text = f"{self.name} {self.xid}"
+        else:
+            text = self.name if self.count is None else f"{self.name} {self.count}"
+        return " ".join([text, *self.flags]) if self.flags else text
 
     @property
     def branch(self) -> Xid:
@@ -51,8 +51,7 @@ class Call:
         return self.name == "xa_rollback" or self.name == "xa_commit" and "TMONEPHASE" not in self.flags
 
 
-@dataclass(frozen=True)
-class Answer:
+class Answer(NamedTuple):
     """What a resource manager answered: a code; to an xa_recover the identifiers that it lists."""
 
     code: Code = Code.OK
@@ -60,7 +59,6 @@ class Answer:
 
     def words_to(self, call: Call) -> str:
         """The answer as an `answer` request tells it, behind the thread and the resource manager."""
-        subject = "" if call.xid is None else f" {call.xid}"
         if self.page is None:
-            return f"{call.name}{subject} {int(self.code)}"
+            return f"{call.name} {self.code:d}" if call.xid is None else f"{call.name} {call.xid} {self.code:d}"
         return " ".join([f"{call.name} {len(self.page)}", *map(str, self.page)])

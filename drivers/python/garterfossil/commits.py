@@ -27,15 +27,19 @@ class _Commit:
         self.behind = behind
         self.is_over = False
         self.error: Optional[XaError] = None
+        #: Those that its thread is to decide, its own among them: once another thread has said so.
+        self.group: List[_Commit] = []
+        #: Held until its thread is to go on.
+        self.sleep = threading.Lock()
 
 
 class Commits:
     """Decides to commit. The coordinator writes the rows of one request by one write of its log, which takes a while: what other
-    threads ask for meanwhile is then decided together, by whichever of them is first."""
+    threads ask for meanwhile is then decided together, by the first of them. No thread is woken before its turn."""
 
     def __init__(self, coordinator: Coordinator):
         self._coordinator = coordinator
-        self._change = threading.Condition()
+        self._change = threading.Lock()
         self._asked: List[_Commit] = []
         self._is_deciding = False
 
@@ -43,17 +47,33 @@ class Commits:
         """Decides that the transaction commits. Once this returns, the decision is in the log."""
         mine = _Commit(gtrid, behind)
         with self._change:
-            self._asked.append(mine)
-            self._change.wait_for(lambda: mine.is_over or not self._is_deciding)
-            group, self._asked = ([], self._asked) if mine.is_over else (self._asked, [])
-            self._is_deciding = self._is_deciding or not mine.is_over
-        if group:
-            self._decide_all(group)
+            if self._is_deciding:
+                mine.sleep.acquire()
+                self._asked.append(mine)
+            else:
+                self._is_deciding = True
+                mine.group = [mine]
+        if not mine.group:
+            self._sleep(mine)
+        if not mine.is_over:
+            self._decide_all(mine.group)
         if mine.error is not None:
             raise mine.error
 
+    def _sleep(self, mine: _Commit) -> None:
+        """Waits until it is decided, or its thread is to decide. One that is interrupted leaves that to others."""
+        try:
+            mine.sleep.acquire()
+        except BaseException:
+            with self._change:
+                if mine in self._asked:
+                    self._asked.remove(mine)
+                if mine.group and not mine.is_over:
+                    self._hand_on(mine.group[1:])
+            raise
+
     def _decide_all(self, group: List[_Commit]) -> None:
-        """Decides these. Behind an interrupt nobody knows whether they are decided, and the session is over."""
+        """Decides these. After an interrupt nobody knows whether they are decided, and the session is over."""
         try:
             self._ask(group)
         except BaseException:
@@ -65,8 +85,17 @@ class Commits:
             with self._change:
                 for commit in group:
                     commit.is_over = True
-                self._is_deciding = False
-                self._change.notify_all()
+                self._hand_on([])
+            for commit in group[1:]:
+                commit.sleep.release()
+
+    def _hand_on(self, left: List[_Commit]) -> None:
+        """Has the thread of the first of those that are left, or were asked for meanwhile, decide them all. Called with the lock."""
+        group, self._asked = left + self._asked, []
+        self._is_deciding = bool(group)
+        if group:
+            group[0].group = group
+            group[0].sleep.release()
 
     def _ask(self, group: List[_Commit]) -> None:
         """Asks for these by one request. Where one of them is refused, none is decided: then each is asked for alone."""
@@ -74,6 +103,8 @@ class Commits:
             reply = self._coordinator.decide([commit.gtrid for commit in group], "commit")
             for commit in group:
                 commit.behind.post()
+            # What was asked for with the decision has come as well then: nobody waits for it one by one.
+            self._coordinator.see_arrived()
             self._coordinator.wait(reply)
         except Refused as refused:
             for commit in group:

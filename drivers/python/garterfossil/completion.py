@@ -44,6 +44,10 @@ class Completion:
         """The database's own error because of which it is rolled back."""
         return self._connection.reason
 
+    def vote_of(self, error: BaseException) -> Optional[Code]:
+        """Why the branch would be rolled back if its work failed so, if that is an error of its database."""
+        return self._connection._vote_of(error) if isinstance(error, Exception) else None
+
     def start(self) -> None:
         """xa_start: work may begin."""
         call = Call("xa_start", self.xid)
@@ -90,6 +94,20 @@ class Completion:
         """xa_end, which waits."""
         self._leave()
         self.line.make_ahead(self._end)
+
+    def see_issued(self) -> None:
+        """Sees that xa_prepare is issued."""
+        self.line.see_issued()
+
+    def send_prepare(self) -> None:
+        """Sends xa_prepare, which waits, if that can be sent ahead of `prepare`."""
+        self.line.send(self._prepare)
+
+    def send_commit(self) -> None:
+        """Sends xa_commit, if it waits and can be sent ahead of `commit`."""
+        call = Call("xa_commit", self.xid)
+        if self.line.waits_for(call):
+            self.line.send(call)
 
     def prepare(self) -> Code:
         """xa_prepare, which waits: the vote. Unless that is OK the branch is over."""

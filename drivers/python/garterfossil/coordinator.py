@@ -8,10 +8,10 @@ import os
 import subprocess
 import threading
 import time
-from typing import Deque, Iterable, List, Optional, Sequence
+from typing import Deque, Dict, Iterable, List, Optional, Sequence, Tuple, Union
 
 from .calls import Answer, Call
-from .errors import CoordinatorGone, LogInUse, Refused, RequestError, SetupError, Unexplained
+from .errors import CoordinatorGone, LogInUse, Refused, RequestError, SetupError, Unexplained, XaError
 from .logs import fault_of_log, is_log_in_use
 from .xid import Xid
 
@@ -23,19 +23,21 @@ MANAGER_DOWN, UNKNOWN_TRANSACTION, LOG_FAULT = 1, 5, 15
 LOG_STATUS = 2
 #: What the file doesn't tell.
 OTHER_FAULTS = "it is of another version, or of a manager of another name, or damaged, or the disk is full"
+#: How the reply to a request begins that wasn't done.
+UNDONE = ("refused ", "error ")
 UNEXPLAINED = "error the branch is in no such state"
 
 
 class Reply:
     """A request that is on its way, and the place of its reply."""
 
+    __slots__ = ("request", "number", "line")
+
     def __init__(self, request: str, number: int):
         self.request = request
         #: How many requests there were before it.
         self.number = number
         self.line: Optional[str] = None
-        #: What wakes the thread that waits for it, where another one reads.
-        self.arrival: Optional[threading.Condition] = None
 
 
 class Coordinator:
@@ -51,21 +53,32 @@ class Coordinator:
             )
         except OSError as error:
             raise SetupError(f"the program {command[0]} can't be run, which program= may give: {error}") from error
+        stdin, stdout, stderr = self._process.stdin, self._process.stdout, self._process.stderr
+        assert stdin is not None and stdout is not None and stderr is not None
+        self._requests, self._replies, self._errors = stdin, stdout, stderr
+        self._posting = threading.Lock()
         self._writing = threading.Lock()
         self._reading = threading.Lock()
-        # Requests that are yet to be written, how many there were, and how many of them are written. All under the lock `_writing`. They
-        # are kept here and in no buffer of a file, which a process that is forked off would write once more at its end.
-        self._unwritten: List[bytes] = []
+        # Requests that are yet to be written, and how many there were: under the lock `_posting`. They are kept here and in no buffer of
+        # a file, which a process that is forked off would write once more at its end. How many of them are written: under `_writing`.
+        self._unwritten: List[str] = []
         self._posted = self._written = 0
-        # Whether a thread reads, and the requests whose threads wait for that one; both under the lock `_reading`.
+        # The requests whose replies are yet to come, and how many have come. Of those whose reply says only that they were done, the text
+        # is kept, and behind it, by its number, the reply of one that wasn't.
+        self._waiting: Deque[Union[Reply, str]] = collections.deque()
+        self._arrived = 0
+        self._undone: Dict[int, Reply] = {}
+        # Whether a thread reads; and what wakes those that wait for the reply to a request, by the number of that. Both under the lock
+        # `_reading`.
         self._is_read = False
-        self._asleep: List[Reply] = []
-        self._waiting: Deque[Reply] = collections.deque()
+        self._asleep: List[Tuple[int, threading.Lock]] = []
         # The beginning of a line whose end has yet to come.
         self._begun = b""
+        # Whether what is asked and replied is logged: that is seen as a transaction begins.
+        self._is_logged = log.isEnabledFor(logging.DEBUG)
         self._ending = threading.Lock()
         self._fault: Optional[str] = None
-        #: The first line of the session: `restarted`, the incarnation, and how many decisions and heuristic ends the log has.
+        #: The greeting of the session: `restarted`, the incarnation, and how many decisions and heuristic ends the log has.
         self.greeting = self._greet()
         if not self.greeting.startswith("restarted "):
             raise self._gone(f"it began with the line: {self.greeting}")
@@ -107,19 +120,20 @@ class Coordinator:
 
     def begin(self, thread: int) -> Reply:
         """A transaction of the thread begins (`begun_in`)."""
+        self._is_logged = log.isEnabledFor(logging.DEBUG)
         return self.post(f"begin {thread}")
 
     def begun_in(self, reply: Reply) -> str:
         """The name of the transaction that began."""
         return self.wait(reply).split(" ")[1]
 
-    def issue(self, thread: int, rm: int, call: Call) -> Reply:
-        """Lets a call wait on the line of the thread to the resource manager. The reply says that the call may be made."""
-        return self.post(f"issue {thread} {rm} {call}")
+    def issue(self, thread: int, rm: int, call: Call) -> int:
+        """Lets a call wait on the line of the thread to the resource manager. Once it is done, the call may be made."""
+        return self.tell(f"issue {thread} {rm} {call}")
 
-    def answer(self, thread: int, rm: int, call: Call, answer: Answer) -> Reply:
+    def answer(self, thread: int, rm: int, call: Call, answer: Answer) -> int:
         """Tells how the call that waits first on the line was answered."""
-        return self.post(f"answer {thread} {rm} {answer.words_to(call)}")
+        return self.tell(f"answer {thread} {rm} {answer.words_to(call)}")
 
     def waiting(self, thread: int, rm: int) -> Optional[Call]:
         """The call that waits first on the line."""
@@ -168,81 +182,129 @@ class Coordinator:
 
     def post(self, request: str) -> Reply:
         """Puts a request on its way: it is written with the next one that is waited for."""
-        log.debug("> %s", request)
-        with self._writing:
-            if self._fault is not None:
-                raise self._gone(self._fault)
+        with self._posting:
             reply = Reply(request, self._posted)
-            self._waiting.append(reply)
-            self._unwritten.append(request.encode("ascii") + b"\n")
-            self._posted += 1
+            self._put(request, reply)
         return reply
 
-    def see_written(self, reply: Reply) -> None:
+    def tell(self, request: str) -> int:
+        """The same for a request whose reply says only that it was done (`see_done`). Its number."""
+        with self._posting:
+            number = self._posted
+            self._put(request, request)
+        return number
+
+    def _put(self, request: str, place: Union[Reply, str]) -> None:
+        if self._is_logged:
+            log.debug("> %s", request)
+        if self._fault is not None:
+            raise self._gone(self._fault)
+        self._posted += 1
+        self._waiting.append(place)
+        self._unwritten.append(request)
+
+    def see_written(self, number: int) -> None:
         """Sees that a request is written, so that the coordinator will read it whatever ends here."""
-        if reply.number >= self._written:
+        if number >= self._written:
             with self._writing:
-                self._write()
+                # Another thread may have written it meanwhile.
+                if number >= self._written:
+                    self._write()
 
     def wait(self, reply: Reply) -> str:
         """The reply to a request that was posted. Raises Refused, RequestError or CoordinatorGone."""
-        self.arrive(reply)
-        log.debug("< %s", reply.line)
-        kind, _, rest = reply.line.partition(" ")
-        if kind == "error":
-            error = Unexplained if reply.line == UNEXPLAINED else RequestError
-            raise error(f"{rest}, to the request: {reply.request}")
-        if kind == "refused":
-            number, name = rest.split(" ")
-            if int(number) in (MANAGER_DOWN, LOG_FAULT):
-                raise self._gone(f"its log failed: refused {rest}")
-            raise Refused(int(number), name, reply.request)
+        self._arrive(reply.number)
+        assert reply.line is not None
+        if reply.line.startswith(UNDONE):
+            raise self._refusal(reply)
         return reply.line
 
-    def arrive(self, reply: Reply) -> None:
-        """Waits until a reply has come, whatever it is, and with it those to all requests before. Raises CoordinatorGone."""
-        if reply.line is None:
-            self.see_written(reply)
-            self._read_until(reply)
+    def see_done(self, numbers: Sequence[int]) -> None:
+        """Sees that these requests were done. Raises for the first that wasn't what `wait` would."""
+        self._arrive(numbers[-1])
+        if self._undone:
+            undone = [self._undone.pop(number) for number in numbers if number in self._undone]
+            if undone:
+                raise self._refusal(undone[0])
+
+    def see_arrived(self) -> None:
+        """Waits until the replies to all requests have come that were put on their way until now, or the coordinator is gone."""
+        try:
+            self._arrive(self._posted - 1)
+        except CoordinatorGone:
+            # Those that have come stand.
+            pass
+
+    def forget(self, numbers: Sequence[int]) -> None:
+        """It doesn't matter whether these requests were done."""
+        try:
+            self.see_done(numbers)
+        except XaError:
+            pass
+
+    def _refusal(self, reply: Reply) -> XaError:
+        line = reply.line or ""
+        kind, _, rest = line.partition(" ")
+        if kind == "error":
+            error = Unexplained if line == UNEXPLAINED else RequestError
+            return error(f"{rest}, to the request: {reply.request}")
+        number, name = rest.split(" ")
+        if int(number) in (MANAGER_DOWN, LOG_FAULT):
+            return self._gone(f"its log failed: refused {rest}")
+        return Refused(int(number), name, reply.request)
+
+    def _arrive(self, number: int) -> None:
+        """Waits until the reply to a request has come, whatever it is, and with it those to all requests before. Raises
+        CoordinatorGone."""
+        if number >= self._arrived:
+            self.see_written(number)
+            self._read_until(number)
 
     def _write(self) -> None:
         """Writes what is unwritten. Requests are written whole, or the session is over: the replies would no longer fit them. Called
         with the lock `_writing`."""
-        some = memoryview(b"".join(self._unwritten))
-        self._unwritten.clear()
+        with self._posting:
+            requests, self._unwritten = self._unwritten, []
+            posted = self._posted
+        some = memoryview("".join(f"{request}\n" for request in requests).encode("ascii"))
         try:
             while some:
-                some = some[os.write(self._process.stdin.fileno(), some) :]
-            self._written = self._posted
+                some = some[self._requests.write(some) :]
+            self._written = posted
         except (OSError, ValueError) as error:
             raise self._gone(str(error)) from None
         except BaseException:
             self.kill()
             raise
 
-    def _read_until(self, reply: Reply) -> None:
+    def _read_until(self, number: int) -> None:
         """Waits for a reply: reads, or lets another thread read, which wakes this one."""
         with self._reading:
             try:
-                while reply.line is None:
+                while number >= self._arrived:
                     if self._fault is not None:
                         raise self._gone(self._fault)
                     if self._is_read:
-                        self._sleep_until(reply)
+                        self._sleep_until(number)
                     else:
                         self._read()
             finally:
                 if self._asleep and not self._is_read:
                     # Somebody has to read on.
-                    self._asleep[0].arrival.notify()
+                    self._asleep.pop()[1].release()
 
-    def _sleep_until(self, reply: Reply) -> None:
-        reply.arrival = threading.Condition(self._reading)
-        self._asleep.append(reply)
+    def _sleep_until(self, number: int) -> None:
+        """Sleeps until another thread wakes this one. Called with the lock `_reading`, which is free meanwhile."""
+        mine = number, threading.Lock()
+        mine[1].acquire()
+        self._asleep.append(mine)
+        self._reading.release()
         try:
-            reply.arrival.wait()
+            mine[1].acquire()
         finally:
-            self._asleep.remove(reply)
+            self._reading.acquire()
+            if mine in self._asleep:
+                self._asleep.remove(mine)
 
     def _read(self) -> None:
         """Reads what has come: the replies to the requests that were posted first. Called with the lock `_reading`, which is free
@@ -255,21 +317,39 @@ class Coordinator:
             self._reading.acquire()
             self._is_read = False
         for line in lines:
-            first = self._waiting.popleft()
-            first.line = line
-            if first.arrival is not None:
-                first.arrival.notify()
+            self._take(line)
+        if self._asleep:
+            self._wake([mine for mine in self._asleep if mine[0] < self._arrived])
+
+    def _take(self, line: str) -> None:
+        """Takes the reply to the request that was posted first."""
+        if self._is_logged:
+            log.debug("< %s", line)
+        place = self._waiting.popleft()
+        if isinstance(place, Reply):
+            place.line = line
+        elif line.startswith(UNDONE):
+            undone = self._undone[self._arrived] = Reply(place, self._arrived)
+            undone.line = line
+        self._arrived += 1
+
+    def _wake(self, some: List[Tuple[int, threading.Lock]]) -> None:
+        for mine in some:
+            self._asleep.remove(mine)
+            mine[1].release()
 
     def _greet(self) -> str:
-        """The first line. Nothing comes after it, since nothing was asked for."""
+        """The greeting. Nothing comes after it, since nothing was asked for."""
         while True:
             for line in self._read_lines():
-                return line
+                # A coordinator with a name says before it which protocol this is, and its name.
+                if not line.startswith("protocol "):
+                    return line
 
     def _read_lines(self) -> List[str]:
         """The lines of which the ends have come, at once; waits for something to come."""
         try:
-            some = os.read(self._process.stdout.fileno(), 65536)
+            some = self._replies.read(65536)
         except (OSError, ValueError) as error:
             raise self._gone(str(error)) from None
         except BaseException:
@@ -277,8 +357,8 @@ class Coordinator:
             raise
         if not some:
             raise self._gone("its output ended")
-        *lines, self._begun = (self._begun + some).split(b"\n")
-        return [line.decode("ascii") for line in lines]
+        whole, end, self._begun = (self._begun + some).rpartition(b"\n")
+        return whole.decode("ascii").split("\n") if end else []
 
     # ** its end
 
@@ -295,7 +375,7 @@ class Coordinator:
                 return
             self._fault = reason
         try:
-            self._process.stdin.close()
+            self._requests.close()
         except OSError:
             pass
         try:
@@ -303,11 +383,10 @@ class Coordinator:
         except subprocess.TimeoutExpired:
             self._process.kill()
             self._process.wait()
-        said = self._process.stderr.read().decode("utf-8", "replace").strip()
+        said = self._errors.read().decode("utf-8", "replace").strip()
         self._fault = f"{reason}; {said}" if said else reason
-        self._process.stderr.close()
+        self._errors.close()
         # Whoever still reads finds its end first.
-        self._process.stdout.close()
+        self._replies.close()
         with self._reading:
-            for reply in self._asleep:
-                reply.arrival.notify()
+            self._wake(list(self._asleep))

@@ -9,7 +9,7 @@ from typing import Callable, Deque, List, Optional, TypeVar
 from .adapters.base import Connection
 from .calls import Answer, Call
 from .codes import Code
-from .coordinator import Coordinator, Reply
+from .coordinator import Coordinator
 from .errors import ConnectionLost, TransactionOver, Unanswered
 from .resource_manager import ResourceManager
 from .xid import Xid
@@ -31,12 +31,12 @@ class Line:
         self._patience = patience
         # The calls that wait on the line: they were issued, and are yet to be made.
         self._waiting: Deque[Call] = collections.deque()
-        # The replies of the coordinator that weren't looked at yet, in the order of their requests. So many of them come before a
-        # call may be made.
-        self._replies: List[Reply] = []
+        # The requests of the line of which nobody has seen yet that they were done, by their numbers. So many of them have to be, before
+        # a call may be made.
+        self._unseen: List[int] = []
         self._due = 0
-        # The answer that was told last.
-        self._told: Optional[Reply] = None
+        # The request that told the last answer.
+        self._told = -1
 
     # ** the connection
 
@@ -59,11 +59,13 @@ class Line:
         """Gives the connection up, and tells the coordinator that it is lost, before anything else on the line."""
         connection, self.connection = self.connection, None
         self._waiting.clear()
-        self._replies, self._due = [], 0
+        unseen, self._unseen, self._due = self._unseen, [], 0
         if connection is not None:
             self.rm.drop(connection)
         if not self._coordinator.is_gone:
             self._coordinator.crash_line(self._thread, self.rm.number)
+            if unseen:
+                self._coordinator.forget(unseen)
 
     def let_go(self) -> None:
         """A transaction is over on the line. A branch or a call that it left there, as after an interrupt, is lost, and so is
@@ -97,11 +99,32 @@ class Line:
         for call in calls:
             self._post(call)
 
+    def waits_for(self, call: Call) -> bool:
+        """Whether it is the call that waits first on the line."""
+        return bool(self._waiting) and self._waiting[0] == call
+
     def take_back(self) -> None:
         """The call that was issued last was refused, as is known by another reply: it doesn't wait."""
         self._waiting.pop()
-        self._replies.pop()
-        self._due = min(self._due, len(self._replies))
+        self._coordinator.forget([self._unseen.pop()])
+        self._due = min(self._due, len(self._unseen))
+
+    def see_issued(self) -> None:
+        """Sees that the coordinator says that the calls are issued that wait on the line."""
+        self._see_due()
+
+    def send(self, call: Call) -> None:
+        """Sends the call that waits first on the line, once the coordinator says that it is issued, if the database's module can send
+        without waiting for the answer: `make` then waits for that, and others are made meanwhile."""
+        if self.connection is None or not self.connection.SENDS:
+            return
+        self._see_due()
+        try:
+            self.see_told()
+            self.connection.send(call)
+        except BaseException:
+            self.lose()
+            raise
 
     def make(self, call: Call) -> Answer:
         """Makes the call that waits first on the line, once the coordinator says that it is issued, and tells what was answered.
@@ -117,21 +140,23 @@ class Line:
 
     def _post(self, call: Call) -> None:
         self._waiting.append(call)
-        self._replies.append(self._coordinator.issue(self._thread, self.rm.number, call))
-        self._due = len(self._replies)
+        self._unseen.append(self._coordinator.issue(self._thread, self.rm.number, call))
+        self._due = len(self._unseen)
 
     def _make(self, call: Call) -> Answer:
-        """Makes a call, once the answer to the one before it on the line is written: the coordinator takes for done of a line that is
-        lost no more than the call that waits first."""
         try:
-            if self._told is not None:
-                self._coordinator.see_written(self._told)
+            self.see_told()
             answer = self._answer_to(call)
             self._tell(call, answer)
         except BaseException:
             self.lose()
             raise
         return answer
+
+    def see_told(self) -> None:
+        """Sees that the answer to the call before is written, before the next one is made: the coordinator takes for done of a line
+        that is lost no more than the call that waits first."""
+        self._coordinator.see_written(self._told)
 
     def insist(self, call: Call, patience: Optional[float] = None) -> Code:
         """A call on a prepared branch, issued unless it waits already, and made again until it is answered by something else
@@ -154,18 +179,17 @@ class Line:
 
     def see_heard(self) -> None:
         """Sees that the coordinator heard all that was told. Raises Unexplained where it can't be so; the line is lost then."""
-        self._due = len(self._replies)
+        self._due = len(self._unseen)
         self._see_due()
 
     def _see_due(self) -> None:
         """Sees that nothing that was asked for until the last call was issued is refused."""
-        due, self._replies = self._replies[: self._due], self._replies[self._due :]
+        if not self._due:
+            return
+        due, self._unseen = self._unseen[: self._due], self._unseen[self._due :]
         self._due = 0
         try:
-            if due:
-                self._coordinator.arrive(due[-1])
-            for reply in due:
-                self._coordinator.wait(reply)
+            self._coordinator.see_done(due)
         except BaseException:
             self.lose()
             raise
@@ -175,7 +199,7 @@ class Line:
         if self._waiting:
             self._waiting.popleft()
         self._told = self._coordinator.answer(self._thread, self.rm.number, call, answer)
-        self._replies.append(self._told)
+        self._unseen.append(self._told)
 
     def _answer_to(self, call: Call) -> Answer:
         """The answer of the database. That it has none now isn't one: an end of a prepared branch is made again."""

@@ -2,16 +2,31 @@
 
 from __future__ import annotations
 
-import contextlib
 import logging
 import os
 import random
 import threading
 import time
 from types import TracebackType
-from typing import TYPE_CHECKING, Any, AsyncContextManager, Callable, Dict, Iterator, Mapping, Optional, Sequence, Set, Tuple, Type, TypeVar, Union
+from typing import (
+    TYPE_CHECKING,
+    Any,
+    AsyncContextManager,
+    Callable,
+    ContextManager,
+    Dict,
+    Mapping,
+    Optional,
+    Sequence,
+    Set,
+    Tuple,
+    Type,
+    TypeVar,
+    Union,
+)
 
 from .adapters.base import Database, Options
+from .block import Block
 from .counts import Counts
 from .databases import NAME, Databases
 from .errors import CoordinatorGone, LogInUse, NestedTransaction, XaError
@@ -29,8 +44,15 @@ T = TypeVar("T")
 
 #: The coordinator takes so many threads.
 MOST_THREADS = 256
+NO_OPTIONS = Options()
 #: The first pause before work is tried again, in seconds, and the longest.
 FIRST_PAUSE, LAST_PAUSE = 0.02, 1.0
+
+
+class _Open(threading.local):
+    """The transaction in whose block a thread is."""
+
+    transaction: Optional[Transaction] = None
 
 
 class TransactionManager:
@@ -78,7 +100,7 @@ class TransactionManager:
         self._ended = ended
         self._process = os.getpid()
         self._lock = threading.Lock()
-        self._open = threading.local()
+        self._open = _Open()
         self._session: Optional[Session] = None
         self._is_closed = False
         self._outcomes = Outcomes()
@@ -102,7 +124,6 @@ class TransactionManager:
 
     # ** transactions
 
-    @contextlib.contextmanager
     def transaction(
         self,
         *,
@@ -110,29 +131,15 @@ class TransactionManager:
         isolation: Optional[str] = None,
         read_only: bool = False,
         independent: bool = False,
-    ) -> Iterator[Transaction]:
+    ) -> ContextManager[Transaction]:
         """A transaction for a `with` block: it is committed at the end of the block, and rolled back if an exception
         leaves it. Raises RolledBack, OutcomeUnknown or HeuristicEnd at the end of the block.
 
         `timeout` is for how many seconds it may do work (None: for ever); then it can only be rolled back. `isolation` is one of SQL's
         levels, in lower case, and with `read_only` the databases refuse what writes. A thread that has a transaction already gets
         NestedTransaction, unless this one is to be `independent`: it commits whatever the other one does."""
-        options = Options(isolation, read_only)
-        seconds = self._timeout if isinstance(timeout, str) else timeout
-        with contextlib.ExitStack() as stack:
-            self._take_thread(stack, independent)
-            session, thread, gtrid = self._begin(stack)
-            transaction = Transaction(session, thread, gtrid, options, seconds)
-            self._counts.begin()
-            outer, self._open.transaction = self.current, transaction
-            try:
-                with transaction:
-                    yield transaction
-            finally:
-                self._open.transaction = outer
-                if transaction.outcome is Outcome.OPEN:
-                    transaction.rollback()
-                self._note_end(transaction)
+        options = Options(isolation, read_only) if isolation or read_only else NO_OPTIONS
+        return Block(self, options, self._timeout if isinstance(timeout, str) else timeout, independent)
 
     def transaction_async(self, **options: Any) -> AsyncContextManager[AsyncTransaction]:
         """A transaction for an `async with` block, with the options of `transaction`: each has a thread of its own, so that the loop
@@ -154,7 +161,9 @@ class TransactionManager:
                     done = work(transaction)
                 return done
             except Exception as error:
-                if left == 0 or transaction is None or not transaction.is_worth_trying_again:
+                if left == 0 or transaction is None:
+                    raise
+                if not transaction.is_worth_trying_again and not transaction.was_left_for_a_moment(error):
                     raise
                 log.info("%s was rolled back, and is tried again: %s", transaction.gtrid, error)
             time.sleep(pause * random.uniform(0.5, 1.0))
@@ -178,7 +187,7 @@ class TransactionManager:
     @property
     def current(self) -> Optional[Transaction]:
         """The transaction in whose block the thread is, if it is in one."""
-        return getattr(self._open, "transaction", None)
+        return self._open.transaction
 
     def database(self, key: Union[int, str]) -> Database:
         """A database, by its place or its name."""
@@ -198,32 +207,43 @@ class TransactionManager:
         if session is not None and not session.coordinator.is_gone:
             session.close()
 
-    # ** how they begin and end
+    # ** for the blocks of transactions
 
-    def _take_thread(self, stack: contextlib.ExitStack, is_independent: bool) -> None:
-        """Notes that this thread of Python has a transaction."""
+    def take_python_thread(self, is_independent: bool) -> Optional[int]:
+        """Notes that this thread of Python has a transaction. Its number, unless it had one before."""
         if os.getpid() != self._process:
-            raise XaError(f"the transaction manager was made in process {self._process}: make one after the fork, in each process")
+            raise self._forked()
         mine = threading.get_ident()
         if mine not in self._busy:
             self._busy.add(mine)
-            stack.callback(self._busy.discard, mine)
-        elif not is_independent:
+            return mine
+        if not is_independent:
             raise NestedTransaction("this thread has a transaction already: independent=True is for one that commits by itself")
+        return None
 
-    def _begin(self, stack: contextlib.ExitStack) -> Tuple[Session, int, str]:
-        """A transaction that has begun, in the session that is up, or else in the next one."""
+    def give_back_python_thread(self, mine: Optional[int]) -> None:
+        """Its transaction is over."""
+        if mine is not None:
+            self._busy.discard(mine)
+
+    def set_current(self, transaction: Optional[Transaction]) -> Optional[Transaction]:
+        """Makes this the transaction in whose block the thread is. The one before."""
+        before, self._open.transaction = self.current, transaction
+        return before
+
+    def begin(self) -> Tuple[Session, int, str]:
+        """A transaction that has begun, in the session that is up, or else in the next one: with its thread and its name."""
         until = time.monotonic() + self._settings.patience
         while True:
             try:
-                session = self._current()
+                session = self._session
+                if session is None or session.coordinator.is_gone:
+                    session = self._current()
                 session.recover_what_is_due()
-                with contextlib.ExitStack() as mine:
-                    thread = mine.enter_context(session.thread(until))
-                    if session.lets_go_of_ended(thread):
-                        continue
-                    gtrid = session.begin(thread)
-                    stack.enter_context(mine.pop_all())
+                thread = session.threads.take(until)
+                gtrid = self._begin_on(session, thread)
+                if gtrid is not None:
+                    self._counts.begin()
                     return session, thread, gtrid
             except LogInUse:
                 raise
@@ -233,7 +253,19 @@ class TransactionManager:
                 log.warning("%s", gone)
                 time.sleep(PAUSE)
 
-    def _note_end(self, transaction: Transaction) -> None:
+    def _begin_on(self, session: Session, thread: int) -> Optional[str]:
+        """A transaction on a thread. None if its connections are to be recovered first."""
+        gtrid = None
+        try:
+            if not session.lets_go_of_ended(thread):
+                gtrid = session.begin(thread)
+        finally:
+            if gtrid is None:
+                session.let_go(thread)
+        return gtrid
+
+    def note_end(self, transaction: Transaction) -> None:
+        """A transaction has ended."""
         self._counts.end(transaction, time.monotonic() - transaction.begun)
         if self._ended is not None:
             try:
@@ -241,10 +273,15 @@ class TransactionManager:
             except Exception:
                 log.exception("what is called at the end of a transaction failed; %s stands", transaction.gtrid)
 
+    # ** the session
+
+    def _forked(self) -> XaError:
+        return XaError(f"the transaction manager was made in process {self._process}: make one after the fork, in each process")
+
     def _current(self, is_first: bool = False) -> Session:
         """The session that is up."""
         if os.getpid() != self._process:
-            raise XaError(f"the transaction manager was made in process {self._process}: make one after the fork, in each process")
+            raise self._forked()
         with self._lock:
             if self._is_closed:
                 raise CoordinatorGone("the transaction manager is closed")

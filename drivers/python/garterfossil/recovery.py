@@ -90,6 +90,7 @@ def scan(coordinator: Coordinator, line: Line) -> int:
         flags.clear()
         for _ in range(coordinator.resolve(line.rm.number)):
             call = coordinator.waiting(0, line.rm.number)
+            assert call is not None
             code = line.make(call).code
             log.info("recovery of %s: %s answered %s", line.rm.label, call, code.name)
             made += 1

@@ -2,12 +2,11 @@
 
 from __future__ import annotations
 
-import contextlib
 import logging
 import threading
 import time
 from dataclasses import dataclass
-from typing import Iterator, List, Optional, Sequence
+from typing import List, Optional, Sequence
 
 from .calls import Call
 from .commits import Commits
@@ -27,7 +26,7 @@ log = logging.getLogger("garterfossil")
 
 #: So many rows leave the log by one request, which is one write of the log. A row that stays until the next session costs that one
 #: some calls, and no more.
-DONE_AT_ONCE = 8
+DONE_AT_ONCE = 32
 
 
 @dataclass(frozen=True)
@@ -113,16 +112,8 @@ class Session:
 
     # ** transactions
 
-    @contextlib.contextmanager
-    def thread(self, until: float) -> Iterator[int]:
-        """A thread, for one transaction."""
-        thread = self.threads.take(until)
-        try:
-            yield thread
-        finally:
-            self._let_go(thread)
-
-    def _let_go(self, thread: int) -> None:
+    def let_go(self, thread: int) -> None:
+        """The transaction of a thread is over, or none was begun: another one may have it."""
         try:
             for line in self._lines[thread]:
                 line.let_go()
@@ -131,8 +122,7 @@ class Session:
 
     def begin(self, thread: int) -> str:
         """A transaction of the thread begins: its name."""
-        self.begin_ahead(thread)
-        reply, self._begun[thread] = self._begun[thread], None
+        reply, self._begun[thread] = self._begun[thread] or self.coordinator.begin(thread), None
         gtrid = self.coordinator.begun_in(reply)
         self._last[thread] = int(gtrid[16:], 16)
         return gtrid
@@ -176,7 +166,7 @@ class Session:
     def pay(self, rm: int, call: Call) -> None:
         """It is now."""
         if self.debts.settle(rm, call) and call.name == "xa_commit":
-            self.note_done(call.xid.transaction)
+            self.note_done(call.branch.transaction)
 
     def _finish(self, gtrids: List[str]) -> None:
         try:

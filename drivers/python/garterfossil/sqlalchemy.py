@@ -101,7 +101,11 @@ class _Works:
             self._fault = f"{self._where}: what was rolled back began before other work, so that it can't be taken back alone"
             return
         self._works.pop()
-        self._do(f"ROLLBACK TO SAVEPOINT {work.name}")
+        connection = self.branch._connection
+        # Where a failed statement can't be taken back, the whole transaction will be rolled back; and after a deadlock MariaDB has no
+        # savepoint any more.
+        if connection.fault is None or connection.TAKES_BACK:
+            self._do(f"ROLLBACK TO SAVEPOINT {work.name}")
 
     @property
     def _where(self) -> str:

@@ -3,7 +3,7 @@
 from __future__ import annotations
 
 import re
-from typing import Iterator, Optional, Pattern
+from typing import Iterator, Optional, Pattern, Set
 
 from .errors import EndRefused
 
@@ -19,15 +19,30 @@ ENDS = re.compile(
 BEFORE = re.compile(r"[\s(;]+")
 
 
+#: A text of more letters isn't kept, and no more texts than so many are.
+LONG, MOST_SEEN = 2000, 1000
+
+
 class Texts:
     """The texts of statements, as a kind of database reads them: `quoted` matches all of a text in quotes or of a comment."""
 
     def __init__(self, quoted: str, comment: str):
         self._comment: Pattern[str] = re.compile(comment, re.DOTALL)
+        # Texts of which it was seen that they end nothing: programs say the same again and again.
+        self._seen: Set[str] = set()
         self._parts: Pattern[str] = re.compile(f"(?P<skipped>{quoted}|{comment})|;", re.DOTALL)
 
     def refuse_ends(self, text: str) -> None:
         """Raises EndRefused if one of the statements in the text ends a transaction or begins one."""
+        if len(text) > LONG:
+            self._look_at(text)
+        elif text not in self._seen:
+            self._look_at(text)
+            if len(self._seen) >= MOST_SEEN:
+                self._seen.clear()
+            self._seen.add(text)
+
+    def _look_at(self, text: str) -> None:
         for statement in self._statements(text):
             if ENDS.match(statement):
                 first = statement.split("\n", 1)[0]

@@ -131,10 +131,11 @@ class Transaction:
         """Commits it. Once this returns the decision is in the log, and whatever ends then, each branch is committed. With
         one branch the database decides, and the log has nothing of it. Raises RolledBack, OutcomeUnknown or HeuristicEnd."""
         self._require_open()
-        branches = list(self._branches.values())
         try:
             for look in self._looks:
                 look()
+            # What a look has used is a branch as well.
+            branches = list(self._branches.values())
             self._require_no_fault(branches)
             if len(branches) == 1:
                 call = branches[0].issue_commit_in_one_phase()
@@ -174,6 +175,17 @@ class Transaction:
         go well the next time."""
         return self.outcome is Outcome.ROLLED_BACK and bool(self._codes) and all(code in PASSING for code in self._codes)
 
+    def was_left_for_a_moment(self, error: Optional[BaseException]) -> bool:
+        """Whether an exception that left the block is a database's own, of a reason that is of a moment, or comes from one. (At
+        PostgreSQL a savepoint may have taken its statement back, so that the branch had no fault.)"""
+        if self.outcome is not Outcome.ROLLED_BACK:
+            return False
+        while error is not None:
+            if any(branch.vote_of(error) in PASSING for branch in self._branches.values()):
+                return True
+            error = error.__cause__
+        return False
+
     # ** the first phase
 
     def _require_no_fault(self, branches: List[Completion]) -> None:
@@ -199,14 +211,11 @@ class Transaction:
             branch.issue_prepare()
         faults: List[XaError] = []
         # Also after a no: the calls wait on the lines already.
-        ended = []
-        for branch in branches:
-            try:
-                branch.end()
-                ended.append(branch)
-            except XaError as error:
-                faults.append(error)
-        for branch in ended:
+        left = self._each(branches, Completion.end, faults)
+        # Who waits for the last reply has all of them.
+        left = self._each(left[::-1], Completion.see_issued, faults)[::-1]
+        left = self._each(left, Completion.send_prepare, faults)
+        for branch in left:
             try:
                 vote = branch.prepare()
                 if vote not in (Code.OK, Code.RDONLY):
@@ -215,6 +224,18 @@ class Transaction:
                 faults.append(error)
         if faults:
             raise faults[0]
+
+    @staticmethod
+    def _each(branches: List[Completion], step: Callable[[Completion], None], faults: List[XaError]) -> List[Completion]:
+        """Does a step for each of the branches. Those of which it went well."""
+        done = []
+        for branch in branches:
+            try:
+                step(branch)
+                done.append(branch)
+            except XaError as error:
+                faults.append(error)
+        return done
 
     def _commit_in_one_phase(self, branch: Completion, call: Call) -> None:
         line = branch.line
@@ -245,6 +266,8 @@ class Transaction:
             self._roll_back()
             raise RolledBack(str(error)) from error
         self.outcome = Outcome.COMMITTED
+        # What can't be sent ahead is asked for again.
+        self._each(prepared, Completion.send_commit, [])
         told = [branch for branch in prepared if self._is_done("xa_commit", branch, branch.commit)]
         if prepared and told == prepared:
             self._session.note_done(self.gtrid)
@@ -281,7 +304,7 @@ class Transaction:
         try:
             step()
         except Unexplained as error:
-            branch.oddity = str(error)
+            branch.oddity = f"{branch.xid} isn't there any more, so somebody has ended it by hand ({error})"
             return False
         except XaError as error:
             log.warning("%s of %s is left to the recovery: %s", name, branch.xid, error)

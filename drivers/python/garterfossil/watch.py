@@ -20,6 +20,8 @@ class Wire:
 
     def __init__(self, descriptor: int):
         self._socket: Optional[socket.socket] = socket.socket(fileno=os.dup(descriptor))
+        self._poll = select.poll()
+        self._poll.register(self._socket, select.POLLIN)
         self._lock = threading.Lock()
         #: The moment of the monotonic clock when what is under way has had its time. None if nothing is.
         self.due: Optional[float] = None
@@ -30,11 +32,7 @@ class Wire:
     def is_there(self) -> bool:
         """Whether the other side has said nothing while it wasn't asked: an end is what it would say."""
         with self._lock:
-            if self._socket is None or self.is_cut:
-                return False
-            poll = select.poll()
-            poll.register(self._socket, select.POLLIN)
-            return not poll.poll(0)
+            return self._socket is not None and not self.is_cut and not self._poll.poll(0)
 
     def cut(self) -> None:
         """Ends the way at once: whoever waits for an answer on it is told that it is lost."""

@@ -21,6 +21,13 @@ class Xid:
         if self.format < 0 or not 1 <= len(self.gtrid) <= 64 or not 1 <= len(self.bqual) <= 64:
             raise ValueError(f"no identifier of a branch: {self}")
 
+    def __eq__(self, other: object) -> bool:
+        if self is other:
+            return True
+        if not isinstance(other, Xid):
+            return NotImplemented
+        return (self.format, self.gtrid, self.bqual) == (other.format, other.gtrid, other.bqual)
+
     @classmethod
     def parse(cls, text: str) -> Xid:
         """The identifier that a text spells. Raises ValueError where it spells none, or not as `str` does."""

@@ -126,6 +126,11 @@ class FakeConnection(Connection):
         self.socket.close()
         self.server.close()
 
+    def __del__(self):
+        # One that a test has lost is never closed otherwise.
+        self.socket.close()
+        self.server.close()
+
     def told(self, name, xid, done=lambda: None):
         """Does a call, unless the test has something else for it."""
         if self.is_lost:

@@ -23,6 +23,7 @@ class SqliteDatabase(Database):
 
 class SqliteConnection(Connection):
     TEXTS = POSTGRESQL
+    TAKES_BACK = True
     SHOWN = frozenset(["create_function", "total_changes", "in_transaction", "isolation_level"])
 
     def __init__(self, link, place):
@@ -40,7 +41,10 @@ class SqliteConnection(Connection):
         return self.run(statement, parameters)
 
     def _vote_of(self, error):
-        return Code.RBINTEGRITY if isinstance(error, sqlite3.IntegrityError) else None
+        """(What is no broken constraint stands for a deadlock.)"""
+        if not isinstance(error, sqlite3.Error):
+            return None
+        return Code.RBINTEGRITY if isinstance(error, sqlite3.IntegrityError) else Code.RBDEADLOCK
 
     @property
     def fault(self):

@@ -29,6 +29,9 @@ class Decider:
             if gtrid in self.refused:
                 raise Refused(10, "Votes", " ".join(["decide", *gtrids, "commit"]))
 
+    def see_arrived(self):
+        pass
+
     def kill(self):
         self.is_killed = True
 

@@ -294,7 +294,7 @@ class Runs(Case):
             write = coordinator._write
 
             def writes():
-                events.extend(line.decode().split(" ")[:4] for line in coordinator._unwritten)
+                events.extend(line.split(" ")[:4] for line in coordinator._unwritten)
                 write()
 
             coordinator._write = writes

@@ -11,10 +11,11 @@ import unittest
 from unittest import mock
 
 from garterfossil import OutcomeUnknown, TransactionManager
+from garterfossil.adapters.base import Options, Place
 from garterfossil.adapters.mariadb import MariaDB
 from garterfossil.calls import Call
 from garterfossil.codes import Code
-from garterfossil.errors import ConnectionLost, Unanswered
+from garterfossil.errors import ConnectionLost, SetupError, Unanswered
 
 from .fake_database import FakeDatabase
 
@@ -22,6 +23,8 @@ XID = "7:00000000000000010000000000000001:0000000000000000"
 
 pymysql = types.ModuleType("pymysql")
 pymysql.err = types.ModuleType("pymysql.err")
+pymysql.constants = types.ModuleType("pymysql.constants")
+pymysql.constants.COMMAND = types.SimpleNamespace(COM_QUERY=3)
 pymysql.cursors = types.SimpleNamespace(Cursor=None)
 
 
@@ -74,6 +77,27 @@ class Link:
 
     def cursor(self, kind=None):
         return Cursor(self)
+
+    def query(self, statement):
+        Cursor(self).execute(statement)
+
+    def _execute_command(self, command, statement):
+        """The server does it at once, and says so later."""
+        self.said = None
+        try:
+            self.query(statement)
+        except MySQLError as error:
+            self.said = error
+
+    def _read_query_result(self):
+        if self.said:
+            raise self.said
+
+    def send_query(self, statement):
+        """(mysqlclient's names for the two.)"""
+        self._execute_command(3, statement)
+
+    read_query_result = _read_query_result
 
 
 def error(number):
@@ -136,7 +160,7 @@ class MariaDBs(unittest.TestCase):
     def setUp(self):
         self.server = Server()
         pymysql.connect = self.server.connect
-        patch = mock.patch.dict(sys.modules, {"pymysql": pymysql, "pymysql.err": pymysql.err})
+        patch = mock.patch.dict(sys.modules, {"pymysql": pymysql, "pymysql.err": pymysql.err, "pymysql.constants": pymysql.constants})
         patch.start()
         self.addCleanup(patch.stop)
         self.database = MariaDB(user="bank", database="bank")
@@ -165,6 +189,47 @@ class MariaDBs(unittest.TestCase):
                 self.do(f"{call} {XID}", other)
         self.database.end_connections([other.number])
         self.assertIs(self.do(f"xa_commit {XID}", other), Code.OK)
+
+    def test_connections_of_others_are_not_ended(self):
+        """Those of the manager's other databases, of managers of other names, and of programs with the same user."""
+        others = [self.database.connect(Place("", 1)), self.database.connect(Place("shop", 0)), self.database.connect(Place("Shop", 0))]
+        plain = self.server.connect()
+        stray = self.database.connect(Place("shop", 1))
+        self.assertEqual(self.database.end_connections([], Place("shop", 1)), 1)
+        self.assertEqual(self.database.end_connections([], Place("shop", 0)), 1)
+        left = {self.connection.number, others[0].number, others[2].number, plain.number}
+        self.assertEqual(set(self.server.links), left)
+        self.assertNotIn(stray.number, left)
+
+    def test_a_connection_that_is_refused_for_good(self):
+        for number, kind in ((1045, SetupError), (1049, SetupError), (1044, SetupError), (2003, ConnectionLost), (1040, ConnectionLost)):
+            with mock.patch.object(pymysql, "connect", mock.Mock(side_effect=error(number))), self.assertRaises(kind):
+                self.database.connect()
+
+    def test_what_is_the_drivers_own_cannot_be_given(self):
+        with self.assertRaisesRegex(ValueError, "autocommit"):
+            MariaDB(autocommit=True)
+
+    def test_how_a_transaction_is_to_run_is_said_before_it_begins(self):
+        self.connection.options = Options("read committed", True)
+        self.do(f"xa_start {XID}")
+        self.assertEqual(self.connection.link.statements[-2], "SET TRANSACTION ISOLATION LEVEL READ COMMITTED, READ ONLY")
+
+    def test_the_databases_error_is_kept_with_the_vote(self):
+        self.server.fails["UPDATE account"] = fault = error(4025)
+        self.do(f"xa_start {XID}")
+        with self.assertRaises(MySQLError):
+            self.connection.execute("UPDATE account")
+        self.do(f"xa_end {XID} TMSUCCESS")
+        self.assertIs(self.do(f"xa_prepare {XID}"), Code.RBINTEGRITY)
+        self.assertIs(self.connection.reason, fault)
+
+    def test_a_call_that_is_sent_ahead_is_answered_once(self):
+        self.worked()
+        for name in ("xa_prepare", "xa_commit"):
+            self.connection.send(Call.parse(f"{name} {XID}"))
+            self.assertIs(self.do(f"{name} {XID}"), Code.OK)
+        self.assertEqual([statement.split(" ")[1] for statement in self.connection.link.statements[-3:]], ["END", "PREPARE", "COMMIT"])
 
     def test_connections_that_are_kept_are_not_ended(self):
         kept, stray = self.database.connect(), self.database.connect()
@@ -238,7 +303,7 @@ class Recovery(unittest.TestCase):
     def test_a_decided_branch_whose_connection_still_lives(self):
         server, other = Server(), FakeDatabase()
         pymysql.connect = server.connect
-        with mock.patch.dict(sys.modules, {"pymysql": pymysql}), tempfile.TemporaryDirectory() as folder:
+        with mock.patch.dict(sys.modules, {"pymysql": pymysql, "pymysql.constants": pymysql.constants}), tempfile.TemporaryDirectory() as folder:
             log = os.path.join(folder, "log")
             command = [sys.executable, os.path.join(os.path.dirname(__file__), "fake_coordinator.py"), log, "decided"]
             database = MariaDB(user="bank")

@@ -12,6 +12,7 @@ from . import test_mariadb as by_pymysql
 MySQLdb = types.ModuleType("MySQLdb")
 MySQLdb.cursors = types.ModuleType("MySQLdb.cursors")
 MySQLdb.cursors.Cursor = None
+MySQLdb.constants = by_pymysql.pymysql.constants
 for name in ("MySQLError", "InterfaceError", "OperationalError", "IntegrityError"):
     setattr(MySQLdb, name, getattr(by_pymysql.pymysql.err, name))
 
@@ -20,7 +21,13 @@ class ByMysqlclient:
     def setUp(self):
         for patch in (
             mock.patch.multiple(by_pymysql, pymysql=MySQLdb, MariaDB=MariaDB),
-            mock.patch.object(by_pymysql.Link, "fileno", lambda link: link._sock.fileno(), create=True),
+            mock.patch.multiple(
+                by_pymysql.Link,
+                create=True,
+                fileno=lambda link: link._sock.fileno(),
+                send_query=lambda link, statement: link._execute_command(None, statement),
+                read_query_result=lambda link: link._read_query_result(),
+            ),
             mock.patch.dict(sys.modules, {"MySQLdb": MySQLdb, "MySQLdb.cursors": MySQLdb.cursors}),
         ):
             patch.start()

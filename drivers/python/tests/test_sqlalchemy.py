@@ -1,5 +1,6 @@
 """Sessions and Core of SQLAlchemy within transactions, over SQLite as a stand-in. Where SQLAlchemy isn't installed they are left out."""
 
+import asyncio
 import os
 import sys
 import tempfile
@@ -150,6 +151,36 @@ class Sqlalchemy(unittest.TestCase):
                     inner.add(Order(text="milk"))
                 outer.rollback()
         self.assertEqual(self.found(), [[100], []])
+
+    def test_work_is_done_again_after_a_deadlock_that_a_savepoint_took_back(self):
+        for statement, tries in (("SELECT * FROM nothing", 2), ("INSERT INTO account VALUES (1, 0)", 1)):
+            done = []
+
+            def work(t):
+                with self.Session.begin() as session:
+                    self.buy(session)
+                    done.append(1)
+                    if len(done) == 1:
+                        session.execute(sa.text(statement), bind_arguments={"mapper": Account})
+
+            try:
+                self.xa.run(work)
+            except sa.exc.IntegrityError:
+                pass
+            self.assertEqual(len(done), tries)
+        self.assertEqual(self.found(), [[90], ["tea"]])
+
+    def test_a_session_on_the_thread_of_a_transaction_of_asyncio(self):
+        def work(t):
+            with self.Session.begin() as session:
+                self.buy(session)
+
+        async def buys():
+            async with self.xa.transaction_async() as t:
+                await t.run(work)
+
+        asyncio.run(buys())
+        self.assertEqual(self.found(), [[90], ["tea"]])
 
     def test_outside_of_a_block_there_is_no_connection(self):
         with self.assertRaises(TransactionOver):

@@ -1,6 +1,6 @@
 //! Answers that the driver tells.
 
-ghost use Rattle.std.specs.Prelude.{◌≡◌, ◌≢◌, [], Some, None, Err, IfErr, OnOk};
+ghost use Rattle.std.specs.Prelude.{◌≡◌, ◌≢◌, ◌+◌, [], Some, None, Err, IfErr, OnOk};
 ghost use Rattle.xa_base.specs.Answer.{map_answer};
 ghost use Rattle.xa_base.specs.declared.refusal.Refusal.{Refusal as Refused};
 ghost use Rattle.xa_base.specs.declared.refusal.Refusal.TheVariants as Refusals;
@@ -67,6 +67,8 @@ impl<L: DecisionLog + Drop> Session<L> {
             StaysAs self.old self.new) }
         ensures broken { result ≡ Err (Unfits.Refused Refusals.LogFault) →
             self.new.lines ≡ new_grid self.old.lines.threads self.old.lines.rms }
+        ensures fault_counted { result ≡ Err (Unfits.Refused Refusals.LogFault) →
+            self.new.happenings ≡ self.old.happenings + 1 }
         ensures keeps { KeepsLog L.moment self.old.manager self.new.manager }
     {
         books_have_headroom();

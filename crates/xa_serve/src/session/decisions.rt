@@ -1,6 +1,6 @@
 //! Transactions that begin, are claimed, and are settled or abandoned.
 
-ghost use Rattle.std.specs.Prelude.{◌≡◌, ◌≢◌, ◌+◌, [], ◌∷◌, Some, None, Err, IfErr, IfOk, OnErr, OnOk};
+ghost use Rattle.std.specs.Prelude.{◌≡◌, ◌≢◌, ◌+◌, [], ◌∷◌, Bool, true, Some, None, Err, IfErr, IfOk, OnErr, OnOk};
 ghost use Rattle.xa_base.specs.declared.refusal.Refusal.TheVariants as Refusals;
 ghost use Rattle.xa_base.specs.declared.step.Outcome.TheVariants as Outcomes;
 ghost use Rattle.xa_base.specs.declared.step.Step.TheVariants as Steps;
@@ -103,6 +103,10 @@ impl<L: DecisionLog + Drop> Session<L> {
         ensures err { refusal_at self.old (Steps.Settle gtrid) ≡ None →
             IfErr result (FailsBy (Adds (rows_for (book_in self.old.manager) (gtrid ∷ [])))
             (InDecide (gtrid ∷ [])) (book_in self.old.manager) (book_in self.new.manager)) }
+        // The log is asked only for a row: of a transaction that some branch voted XA_OK for.
+        ensures asked { refusal_at self.old (Steps.Settle gtrid) ≡ None →
+            result ≡ Err Refusals.LogFault →
+            ((book_in self.old.manager).transaction gtrid).has_yes ≡ true }
         ensures follows { OnOk result
             (Follows (Decided gtrid Outcomes.Commit) self.old self.new) }
         ensures stays { IfErr result (λ n. n ≢ Refusals.LogFault →
@@ -112,6 +116,9 @@ impl<L: DecisionLog + Drop> Session<L> {
             log_in self.new.manager ≡ log_in self.old.manager) }
         ensures keeps { KeepsLog L.moment self.old.manager self.new.manager }
         ensures lines { self.new.lines ≡ lines_by result self.old.lines }
+        // A failure of the log is counted as one that happened.
+        ensures fault_counted { result ≡ Err Refusals.LogFault →
+            self.new.happenings ≡ self.old.happenings + 1 }
     {
         books_have_headroom();
         if self.is_over() {

@@ -75,6 +75,7 @@ impl<L: DecisionLog + Drop> Session<L> {
         match self.manager.resolve(rm) {
             Ok(calls) => {
                 issue_all(self.lines.line_mut(0, rm), calls);
+                self.happenings += 1;
                 Ok(count)
             }
             Err(refusal) => Err(refusal),

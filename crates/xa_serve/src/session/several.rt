@@ -1,6 +1,6 @@
 //! Transactions that are decided, or done, by one write of the log.
 
-ghost use Rattle.std.specs.Prelude.{◌≡◌, ◌≢◌, map, Some, None, Err, IfErr, OnOk};
+ghost use Rattle.std.specs.Prelude.{◌≡◌, ◌≢◌, ◌+◌, map, Some, None, Err, IfErr, OnOk};
 ghost use Rattle.xa_base.specs.declared.refusal.Refusal.TheVariants as Refusals;
 ghost use Rattle.xa_model.specs.Trace.{Fault.InDecide, Fault.InDone, Happening.Decided, Happening.Done};
 ghost use Rattle.xa_tm.specs.Book.{Doubt.Drops, after_all};
@@ -47,6 +47,9 @@ impl<L: DecisionLog + Drop> Session<L> {
             log_in self.new.manager ≡ log_in self.old.manager) }
         ensures keeps { KeepsLog L.moment self.old.manager self.new.manager }
         ensures lines { self.new.lines ≡ lines_by result self.old.lines }
+        // A failure of the log is counted as one that happened.
+        ensures fault_counted { result ≡ Err Refusals.LogFault →
+            self.new.happenings ≡ self.old.happenings + 1 }
     {
         books_have_headroom();
         if !self.has_room_for(gtrids.len()) {
@@ -80,6 +83,9 @@ impl<L: DecisionLog + Drop> Session<L> {
             log_in self.new.manager ≡ log_in self.old.manager) }
         ensures keeps { KeepsLog L.moment self.old.manager self.new.manager }
         ensures lines { self.new.lines ≡ lines_by result self.old.lines }
+        // A failure of the log is counted as one that happened.
+        ensures fault_counted { result ≡ Err Refusals.LogFault →
+            self.new.happenings ≡ self.old.happenings + 1 }
     {
         books_have_headroom();
         if !self.has_room_for(gtrids.len()) {

@@ -44,7 +44,7 @@ fn try_files<D: Disk + Drop>(alloc: Global, files: Files<D>) -> Result<(), LogFa
 }
 
 /// The fault of a file that wasn't read.
-fn read_fault(error: io::Error) -> LogFault
+pub(super) fn read_fault(error: io::Error) -> LogFault
     ensures { IsStoreFault result }
 {
     if error.kind() == ErrorKind::OutOfMemory {
@@ -55,7 +55,7 @@ fn read_fault(error: io::Error) -> LogFault
 }
 
 /// What the file at a path holds: nothing where there is none.
-fn bytes_at(rt: &HostRuntime, path: &str) -> Result<Vec<u8>, LogFault>
+pub(super) fn bytes_at(rt: &HostRuntime, path: &str) -> Result<Vec<u8>, LogFault>
     ensures { IfErr result IsStoreFault }
 {
     match fs::read(rt, path) {
@@ -79,7 +79,7 @@ fn copy_of(rt: &HostRuntime, path: &str) -> Result<Memory, LogFault>
 }
 
 /// Copies of the database file at a path and of its journal. As in SQLite, that lies where a link leads.
-fn copies_of(rt: &HostRuntime, path: &str) -> Result<Files<Memory>, LogFault>
+pub(super) fn copies_of(rt: &HostRuntime, path: &str) -> Result<Files<Memory>, LogFault>
     ensures log { IfOk result (λ files. IsTrue (⟦<Memory as Disk>⟧.is_usable files.log)) }
     ensures db { IfOk result (λ files. IsTrue (⟦<Memory as Disk>⟧.is_usable files.db)) }
     ensures cause { IfErr result IsStoreFault }

@@ -1,5 +1,5 @@
 //! A log that is opened: in memory, and in the file at a path.
-ghost use Rattle.std.specs.Prelude.{◌≡◌, false, codes, Ok, Err, IfOk, IsErrAnd};
+ghost use Rattle.std.specs.Prelude.{◌≡◌, false, codes, Ok, Err, IfErr, IfOk, IsErrAnd};
 ghost use Rattle.sqlite.specs.State.{HasCleanDisk};
 ghost use Rattle.sqlite.specs.Held.{state};
 ghost use Rattle.sqlite.specs.Steps.{over_memory};
@@ -75,12 +75,13 @@ impl<D: Disk + Drop> SqlLog<FileStore<D>> {
 }
 
 /// Opens the file at a path with a journal beside it.
-fn connection_to<S: Start>(
+pub(super) fn connection_to<S: Start>(
     rt: &HostRuntime,
     path: &str,
     start: S,
 ) -> Result<Connection<FileStore<FileFrom<S>>>, LogFault>
     ensures memory { path.now ≡ codes ":memory:" → IsErrAnd result IsStoreFault }
+    ensures cause { IfErr result IsStoreFault }
     ensures opened { IfOk result (λ conn. HasCleanDisk (file_state conn) → IsOpened conn) }
     ensures found { IfOk result (λ conn. HasCleanDisk (file_state conn) →
         FindsIn (image_at S.Start) (file_state conn)) }

@@ -3,12 +3,27 @@
 from __future__ import annotations
 
 import abc
-import contextlib
 import enum
 import threading
 import time
 from dataclasses import dataclass
-from typing import Any, Callable, Collection, FrozenSet, Iterable, Iterator, List, Mapping, Optional, Sequence, Tuple, TypeVar, Union
+from types import TracebackType
+from typing import (
+    Any,
+    Callable,
+    Collection,
+    FrozenSet,
+    Iterable,
+    Iterator,
+    List,
+    Mapping,
+    Optional,
+    Sequence,
+    Tuple,
+    Type,
+    TypeVar,
+    Union,
+)
 
 from ..calls import Answer, Call
 from ..codes import Code
@@ -122,6 +137,29 @@ class Database(abc.ABC):
         way can't happen any more. How many it ended. Raises ConnectionLost if that can't be done."""
 
 
+class Timed:
+    """A block within which a connection is waited for for so many seconds. One within another counts for nothing."""
+
+    __slots__ = ("_wire", "_seconds")
+
+    def __init__(self, wire: Optional[Wire], seconds: float):
+        self._wire = None if wire is None or wire.due is not None else wire
+        self._seconds = seconds
+
+    def __enter__(self) -> None:
+        if self._wire is not None:
+            self._wire.due = time.monotonic() + self._seconds
+
+    def __exit__(
+        self, kind: Optional[Type[BaseException]], error: Optional[BaseException], trace: Optional[TracebackType]
+    ) -> None:
+        if self._wire is None:
+            return
+        self._wire.due = None
+        if isinstance(error, ConnectionLost) and self._wire.is_cut:
+            raise ConnectionLost(f"no answer came in {self._seconds:.1f} seconds, and the connection was given up") from error
+
+
 class Connection(abc.ABC):
     """A connection to a database, as a resource manager of XA. It has one branch at a time, and one thread uses it.
 
@@ -134,6 +172,10 @@ class Connection(abc.ABC):
     TEXTS: Texts
     #: What a program may read of the module's own connection, or call of it: nothing of it changes a transaction or a session.
     SHOWN: FrozenSet[str] = frozenset()
+    #: Whether `send` does something.
+    SENDS = False
+    #: Whether a rollback to a savepoint takes a statement back that failed, so that the branch may be committed.
+    TAKES_BACK = False
 
     def __init__(self, link: Any = None, place: Place = Place()) -> None:
         #: The module's own connection.
@@ -168,7 +210,9 @@ class Connection(abc.ABC):
         with self._lock:
             if not self.is_active(xid):
                 raise TransactionOver("the branch is over, or work on it is")
-            with self.timed(None if self.limit is None else max(0.0, self.limit - time.monotonic())):
+            if self.limit is None:
+                return self._worked(step)
+            with self.timed(max(0.0, self.limit - time.monotonic())):
                 return self._worked(step)
 
     def _worked(self, step: Callable[[], T]) -> T:
@@ -186,22 +230,9 @@ class Connection(abc.ABC):
         self._see_branch()
         return done
 
-    @contextlib.contextmanager
-    def timed(self, seconds: Optional[float]) -> Iterator[None]:
-        """What is done here ends after so many seconds: the connection is cut off then, and ConnectionLost is raised."""
-        wire = self._wire
-        if wire is None or seconds is None or wire.due is not None:
-            yield
-            return
-        wire.due = time.monotonic() + seconds
-        try:
-            yield
-        except ConnectionLost as error:
-            if wire.is_cut:
-                raise ConnectionLost(f"no answer came in {seconds:.1f} seconds, and the connection was given up") from error
-            raise
-        finally:
-            wire.due = None
+    def timed(self, seconds: float) -> Timed:
+        """A block that ends after so many seconds: the connection is cut off then, and ConnectionLost is raised."""
+        return Timed(self._wire, seconds)
 
     def is_there(self) -> bool:
         """Whether the database hasn't ended the connection, as far as is known without asking it."""
@@ -243,6 +274,9 @@ class Connection(abc.ABC):
             if call.name == "xa_recover":
                 return self._recover(call)
             return Answer(self._on_branch(call, call.branch))
+
+    def send(self, call: Call) -> None:
+        """Sends an xa_prepare or an xa_commit of the connection's own branch, of which `do` then waits for the answer."""
 
     def _on_branch(self, call: Call, xid: Xid) -> Code:
         if call.name == "xa_start":

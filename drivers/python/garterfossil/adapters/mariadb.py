@@ -103,9 +103,12 @@ class MariaDBConnection(Connection):
 
     TEXTS = MARIADB
     SHOWN = SHOWN
+    SENDS = True
 
     def __init__(self, link: Any, lock_timeout: int, place: Place = Place()):
         super().__init__(link, place)
+        # The statement whose answer is yet to be read.
+        self._sent: Optional[str] = None
         self.number = link.thread_id()
         with self.timed(place.patience):
             self.run(f"SET innodb_lock_wait_timeout = {int(lock_timeout)}")
@@ -269,8 +272,39 @@ class MariaDBConnection(Connection):
 
     # ** statements
 
+    def send(self, call: Call) -> None:
+        if call.branch != self._xid or self._fault is not None:
+            return
+        statement = statement_of("PREPARE" if call.name == "xa_prepare" else "COMMIT", call.branch)
+        try:
+            self._send(statement)
+        except (self.errors.MySQLError, OSError) as error:
+            raise ConnectionLost(str(error)) from error
+        self._sent = statement
+
+    def _send(self, statement: str) -> None:
+        """Sends a statement, whose answer `_read` waits for."""
+        from pymysql.constants import COMMAND
+
+        self.link._execute_command(COMMAND.COM_QUERY, statement)
+
+    def _read(self) -> None:
+        self.link._read_query_result()
+
     def _xa(self, verb: str, xid: Xid, tail: str = "") -> None:
-        self.run(f"XA {verb} {text_in_xa(xid)}{tail}")
+        statement = statement_of(verb, xid, tail)
+        sent, self._sent = self._sent, None
+        try:
+            if sent is None:
+                self.link.query(statement)
+            elif sent == statement:
+                self._read()
+            else:
+                raise ConnectionLost(f"the answer to {sent} was never read")
+        except (self.errors.MySQLError, OSError) as error:
+            if self._is_lost(error):
+                raise ConnectionLost(str(error)) from error
+            raise
 
     def run(self, statement: str, parameters: Parameters = ()) -> Result:
         try:
@@ -281,6 +315,11 @@ class MariaDBConnection(Connection):
             if self._is_lost(error):
                 raise ConnectionLost(str(error)) from error
             raise
+
+
+def statement_of(verb: str, xid: Xid, tail: str = "") -> str:
+    """The statement that does something to a branch."""
+    return f"XA {verb} {text_in_xa(xid)}{tail}"
 
 
 def text_in_xa(xid: Xid) -> str:

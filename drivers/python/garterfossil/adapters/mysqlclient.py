@@ -46,3 +46,9 @@ class MysqlclientConnection(mariadb.MariaDBConnection):
         import MySQLdb.cursors
 
         return self.link.cursor(MySQLdb.cursors.Cursor)
+
+    def _send(self, statement: str) -> None:
+        self.link.send_query(statement)
+
+    def _read(self) -> None:
+        self.link.read_query_result()

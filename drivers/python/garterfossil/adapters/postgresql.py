@@ -107,6 +107,7 @@ class PostgreSQLConnection(Connection):
     """A connection to PostgreSQL. A prepared branch is named by the text of its identifier. PostgreSQL has no xa_end."""
 
     TEXTS = POSTGRESQL
+    TAKES_BACK = True
     SHOWN = SHOWN
 
     def __init__(self, link: Any, lock_timeout: float, place: Place = Place()):

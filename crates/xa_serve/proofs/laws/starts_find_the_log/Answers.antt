@@ -1,9 +1,11 @@
-use Rattle.xa_serve.proofs.NextStarts.{decision_found, done_found, finds_the_log}
+use Rattle.xa_serve.proofs.FailedSteps.{decisions_found, done_found, settlement_found}
+use Rattle.xa_serve.proofs.NextStarts.{finds_the_log}
 use Rattle.xa_serve.proofs.laws.starts_find_the_log.Goals as goal
 
 pub returns : goal.returns
 returns g c = record {
   left = λ o seen s content next keeps tied raised. finds_the_log o seen s content next keeps tied raised;
-  decision = λ o seen s ts keeps none. decision_found s ts none o seen keeps;
-  done = λ o seen s t keeps none. done_found s t none o seen keeps;
+  decision = λ o seen s outcome ts keeps none. decisions_found s outcome ts none o seen keeps;
+  settlement = λ o seen s t keeps none voted. settlement_found s t none voted o seen keeps;
+  done = λ o seen s ts keeps none. done_found s ts none o seen keeps;
 }

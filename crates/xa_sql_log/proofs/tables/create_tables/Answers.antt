@@ -5,7 +5,7 @@ use Rattle.xa_sql_log.proofs.MadeTables.{made}
 use Rattle.xa_sql_log.proofs.tables.create_tables.Goals as goal
 
 pub returns-clause-written : goal.returns-clause-written
-returns-clause-written g c clean inside has =
+returns-clause-written g c clean inside has makes =
     let a = state g.S.Store c.args.tx.now.conn.now in
     let b = state g.S.Store c.execute.new.tx.conn.now in
     let d = state g.S.Store c.execute-2.new.tx.conn.now in
@@ -21,4 +21,4 @@ returns-clause-written g c clean inside has =
     let three = c.in_ok-execute-3.ensures.ran clean_3 two.0 in
     let four = c.in_ok-execute-4.ensures.ran clean_4 three.0 in
     let five = c.in_ok-execute-5.ensures.ran clean four.0 in
-    (five.0, made a b d e f new one.1 two.1 three.1 four.1 five.1 has one.2 two.2 three.2 four.2 five.2)
+    (five.0, made c.args.participants.now makes a b d e f new one.1 two.1 three.1 four.1 five.1 has one.2 two.2 three.2 four.2 five.2)

@@ -1,5 +1,9 @@
-use Rattle.xa_standings.proofs.Chains.{sessions_alike}
+use Rattle.xa_standings.proofs.OneHistory.{one_history, rows_decide, sessions_alike}
 use Rattle.xa_standings.proofs.explained.sessions_agree.Goals as goal
 
 pub returns : goal.returns
-returns c log f after = sessions_alike log f after
+returns c = record {
+  agree = λ log f after. sessions_alike log f after;
+  rows = λ log f next after finds. rows_decide log f after next finds;
+  history = λ log f after. one_history log f after;
+}

@@ -22,6 +22,7 @@ returns-clause-performs g c =
             fails = call.ensures.err;
             stays = call.ensures.stays;
             broken = call.ensures.broken;
+            fault_counted = call.ensures.fault_counted;
           });
       told = c.answer_reply.ensures ∙ ap (λ r. answer_reply r call.result) c.heard_of-reply.ensures;
       rest = refl;

@@ -15,7 +15,7 @@ returns-clause-performs g c =
       result = call.result;
       does = record {
         rules = record { refused = call.ensures.refused; allowed = call.ensures.allowed };
-        asks = record { fails = call.ensures.err; stays = call.ensures.stays; lines = call.ensures.lines };
+        asks = record { fails = call.ensures.err; stays = call.ensures.stays; lines = call.ensures.lines; fault_counted = call.ensures.fault_counted };
         decided =
             happen_on_ok (map (λ g. Decided g c.args.outcome) c.args.gtrids.now) old call.new.self call.result call.ensures.ok call.ensures.follows;
       };

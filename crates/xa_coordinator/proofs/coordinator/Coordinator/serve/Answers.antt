@@ -24,9 +24,9 @@ returns g c =
           (ServesUnder g.L.DecisionLog.moment n greeting (left c.args.input.now) (left new.input) (contents c.args.output.now) (contents new.output) s new.self))
           c.none.ensures c.serve_under.ensures.served);
       broken = on_err_as result
-          (BreaksSessionUnder g.L.DecisionLog.moment [] greeting (contents c.args.output.now) (contents new.output) s new.self)
-          (BreaksSession g.L.DecisionLog.moment greeting (contents c.args.output.now) (contents new.output) s new.self)
-          (breaks_as_is law g.L.DecisionLog.moment greeting (contents c.args.output.now) (contents new.output) s new.self)
-          (subst (λ n. OnErr result (BreaksSessionUnder g.L.DecisionLog.moment n greeting (contents c.args.output.now) (contents new.output) s new.self))
+          (BreaksSessionUnder g.L.DecisionLog.moment [] greeting (left c.args.input.now) (contents c.args.output.now) (contents new.output) s new.self)
+          (BreaksSession g.L.DecisionLog.moment greeting (left c.args.input.now) (contents c.args.output.now) (contents new.output) s new.self)
+          (breaks_as_is law g.L.DecisionLog.moment greeting (left c.args.input.now) (contents c.args.output.now) (contents new.output) s new.self)
+          (subst (λ n. OnErr result (BreaksSessionUnder g.L.DecisionLog.moment n greeting (left c.args.input.now) (contents c.args.output.now) (contents new.output) s new.self))
           c.none.ensures c.serve_under.ensures.broken);
     }

@@ -8,22 +8,26 @@ use Rattle.xa_coordinator.proofs.coordinator.Coordinator.serve_line.Goals as goa
 pub returns-in_err-line-clause-err : goal.returns-in_err-line-clause-err
 returns-in_err-line-clause-err g c =
     let contents = g.W.Write.contents in
-    on_err c.from_residual.result (BreaksOff g.L.DecisionLog.moment c.args.name.now (contents c.args.output.now) (contents c.args.output.now) c.args.self.now c.args.self.now)
-    (off_at_once g.L.DecisionLog.moment c.args.name.now (contents c.args.output.now) c.args.self.now)
+    on_err c.from_residual.result (BreaksOff g.L.DecisionLog.moment c.args.name.now (g.R.Read.remaining c.args.input.now) (contents c.args.output.now) (contents c.args.output.now) c.args.self.now c.args.self.now)
+    (off_at_once g.L.DecisionLog.moment c.args.name.now (g.R.Read.remaining c.args.input.now) (contents c.args.output.now) c.args.self.now)
 
 pub returns-in_err-reply-clause-err : goal.returns-in_err-reply-clause-err
 returns-in_err-reply-clause-err g c =
     let all = g.W.Write.contents c.args.output.now in
-    on_err c.from_residual-in_err-reply.result (BreaksOff g.L.DecisionLog.moment c.args.name.now all all c.args.self.now c.reply_to.new.self)
-    (subst (λ s. BreaksOff g.L.DecisionLog.moment c.args.name.now all all c.args.self.now s) (sym c.in_err-reply.ensures.err) (off_at_once g.L.DecisionLog.moment c.args.name.now all c.args.self.now))
+    let unread = g.R.Read.remaining c.args.input.now in
+    on_err c.from_residual-in_err-reply.result (BreaksOff g.L.DecisionLog.moment c.args.name.now unread all all c.args.self.now c.reply_to.new.self)
+    (subst (λ s. BreaksOff g.L.DecisionLog.moment c.args.name.now unread all all c.args.self.now s) (sym c.in_err-reply.ensures.err)
+    (off_at_once g.L.DecisionLog.moment c.args.name.now unread all c.args.self.now))
 
 pub returns-in_err-write_reply-clause-err : goal.returns-in_err-write_reply-clause-err
 returns-in_err-write_reply-clause-err g c =
+    let left = g.R.Read.remaining in
     let contents = g.W.Write.contents in
     on_err c.from_residual-in_err-write_reply.result
-    (BreaksOff g.L.DecisionLog.moment c.args.name.now (contents c.args.output.now) (contents c.write_reply.new.output) c.args.self.now c.reply_to.new.self)
-    (off_behind g.L.DecisionLog.moment c.args.name.now (contents c.args.output.now) (contents c.write_reply.new.output) (line_read c.args.name.now c.in_ok-line.line.bytes.items) c.in_ok-reply.reply c.args.self.now
-    c.reply_to.new.self
+    (BreaksOff g.L.DecisionLog.moment c.args.name.now (left c.args.input.now) (contents c.args.output.now) (contents c.write_reply.new.output) c.args.self.now c.reply_to.new.self)
+    (off_behind g.L.DecisionLog.moment c.args.name.now (left c.args.input.now) (left c.read_line.new.input) (contents c.args.output.now) (contents c.write_reply.new.output)
+    c.in_ok-line.line.bytes.items c.in_ok-line.line.is_ended c.in_ok-reply.reply c.args.self.now c.reply_to.new.self
+    c.in_ok-line.ensures (sym c.is_nothing.ensures ∙ c.if-is_nothing.false)
     (subst (λ l. RepliesTo g.L.DecisionLog.moment (line_read c.args.name.now l) c.args.self.now c.in_ok-reply.reply c.reply_to.new.self) c.deref.ensures.value c.in_ok-reply.ensures.ok)
     c.in_err-write_reply.ensures.err)
 

@@ -11,8 +11,8 @@ pub returns-in_err-write_reply-clause-broken : goal.returns-in_err-write_reply-c
 returns-in_err-write_reply-clause-broken g c =
     let contents = g.W.Write.contents in
     let s = c.args.self.now in
-    on_err c.from_residual.result (BreaksSessionUnder g.L.DecisionLog.moment c.args.name.now (greeting_of s) (contents c.args.output.now) (contents c.write_reply.new.output) s s)
-    (not_greeted g.L.DecisionLog.moment c.args.name.now (greeting_of s) (contents c.args.output.now) (contents c.write_reply.new.output) s
+    on_err c.from_residual.result (BreaksSessionUnder g.L.DecisionLog.moment c.args.name.now (greeting_of s) (g.R.Read.remaining c.args.input.now) (contents c.args.output.now) (contents c.write_reply.new.output) s s)
+    (not_greeted g.L.DecisionLog.moment c.args.name.now (greeting_of s) (g.R.Read.remaining c.args.input.now) (contents c.args.output.now) (contents c.write_reply.new.output) s
     (subst (λ r. AppendsBeginning (contents c.args.output.now) (contents c.write_reply.new.output) (line_written c.args.name.now r)) c.greeting-greeting.ensures
     c.in_err-write_reply.ensures.err))
 
@@ -33,7 +33,7 @@ returns-in_err-serve_line-clause-broken g c =
     let left = g.R.Read.remaining in
     let s = c.args.self.now in
     on_err c.from_residual-in_err-serve_line.result
-    (BreaksSessionUnder g.L.DecisionLog.moment c.args.name.now (greeting_of s) (contents c.args.output.now) (contents c.serve_line.new.output) s c.serve_line.new.self)
+    (BreaksSessionUnder g.L.DecisionLog.moment c.args.name.now (greeting_of s) (left c.args.input.now) (contents c.args.output.now) (contents c.serve_line.new.output) s c.serve_line.new.self)
     (broken_off g.L.DecisionLog.moment c.args.name.now (greeting_of s) (left c.args.input.now) (left c.loop.input) (contents c.args.output.now) (contents c.loop.output)
     (contents c.serve_line.new.output)
     s c.loop.self c.serve_line.new.self c.loop.invariant.some c.in_err-serve_line.ensures.err)

@@ -13,7 +13,8 @@ returns-clause-performs g c =
       result = call.result;
       does = record {
         rules = record { refused = call.ensures.refused; allowed = call.ensures.allowed };
-        asks = record { fails = call.ensures.err; stays = call.ensures.stays; lines = call.ensures.lines };
+        asks = record { fails = call.ensures.err; stays = call.ensures.stays; lines = call.ensures.lines; fault_counted = call.ensures.fault_counted };
+        asked = call.ensures.asked;
         decided = happens_on_ok (Decided c.args.gtrid Outcomes.Commit) old call.new.self call.result call.ensures.ok call.ensures.follows;
       };
       told = c.reply_of.ensures;

@@ -101,6 +101,7 @@ returns-in-Ok-hear-clause-heard g c = λ d front.
         leads =
             answered_follows s _ t r call d c.args.answer may first is (c.requires.heard t r may.has) (c.in-Ok-hear.ensures.ok d knows)
             (ap (with_line s.lines t r) (c.answer_first.ensures ∙ ap (λ (l : Traffic). with_answer l c.args.answer) c.line_mut.ensures.value));
+        counted = refl;
         states =
             heard_in_room (states_of s.monitor) (states_of c.make_room.new.self) (states_of c.follow.new.self) c.make_room.ensures.same (line t r) d
             (map_answer name_of c.args.answer) (c.unexplained.ensures.none c.in_default-unexplained.is t d knows) (c.follow.ensures (line t r) d knows);

@@ -25,6 +25,7 @@ pub returns-in-Ok-clause-follows : goal.returns-in-Ok-clause-follows
 returns-in-Ok-clause-follows g c = record {
   leads =
       begun_follows c.args.self.now _ c.args.thread c.in-Ok.gtrid c.in-Ok.ensures.allowed c.in-Ok.ensures.value c.in-Ok.ensures.ok refl;
+  counted = refl;
   states = λ b. refl;
 }
 

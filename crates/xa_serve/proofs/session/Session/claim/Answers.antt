@@ -26,6 +26,7 @@ pub returns-in-Ok-clause-follows : goal.returns-in-Ok-clause-follows
 returns-in-Ok-clause-follows g c = record {
   leads =
       claimed_follows c.args.self.now _ c.args.gtrid c.in-Ok.ensures.allowed c.in-Ok.ensures.ok refl;
+  counted = refl;
   states = λ b. refl;
 }
 

@@ -50,6 +50,7 @@ returns-in-Ok-clause-follows g c = λ d is.
           (ap (with_line s.lines t r)
           (line_took (line_at s.lines t r) c.line_mut.result.now c.args.call.now c.copy.result c.issue.result c.issue.new.self c.line_mut.ensures.value
           c.copy.ensures c.issue.ensures.reason c.issue.ensures.accepted may.bar may.room));
+      counted = refl;
       states = λ b. refl;
     }
 

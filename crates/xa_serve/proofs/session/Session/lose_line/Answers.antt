@@ -31,6 +31,7 @@ returns-clause-follows g c =
     let may = may_tell s t r (sym c.line_refusal.ensures ∙ c.in_default.is) in
     record {
       leads = lost_follows s _ t r may c.crash.ensures.book (ap (with_line s.lines t r) c.renew.ensures);
+      counted = refl;
       states =
           subst (λ k. Loses (line t r) k s.monitor c.lose_line.new.self)
           (waiting_if s.lines t r (option_copied c.front-call.result) may.there

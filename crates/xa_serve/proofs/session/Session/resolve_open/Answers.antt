@@ -46,6 +46,7 @@ returns-in-Ok-clause-follows g c =
             lines = ap (with_line s.lines 0 r) (c.issue_all.ensures ∙ ap (λ
                 (t : Traffic). record t { calls = with_more t.calls c.in-Ok.calls.items }) c.line_mut.ensures.value);
           });
+      counted = refl;
       states = λ b. refl;
     }
 

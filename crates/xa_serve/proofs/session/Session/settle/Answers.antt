@@ -38,12 +38,18 @@ returns-clause-err g c =
     (record { manager = c.conclude.ensures.manager; lines = c.conclude.ensures.lines; happenings = c.conclude.ensures.happenings })
     c.conclude.ensures.value c.settle-reply.ensures.err
 
+pub returns-clause-asked : goal.returns-clause-asked
+returns-clause-asked g c = λ none fault.
+    let s = c.args.self.now in
+    c.settle-reply.ensures.asked (sym (refusal_is s (Steps.Settle c.args.gtrid) (sym c.is_over.ensures ∙ c.if-is_over.false)) ∙ none)
+    (sym c.conclude.ensures.value ∙ fault)
+
 pub returns-clause-follows : goal.returns-clause-follows
 returns-clause-follows g c =
     let s = c.args.self.now in
     follows_if_ok s c.conclude.new.self (refusal_in (book_in s.manager) (Steps.Settle c.args.gtrid))
-    (Decided c.args.gtrid Outcomes.Commit ∷ []) c.settle-reply.new.self c.settle-reply.result _ c.conclude.ensures.value c.conclude.ensures.manager
-    c.conclude.ensures.lines c.settle-reply.ensures.allowed c.settle-reply.ensures.ok c.conclude.ensures.monitor
+    (Decided c.args.gtrid Outcomes.Commit ∷ []) c.settle-reply.new.self c.settle-reply.result _ 1 refl
+    c.conclude.ensures.happenings c.conclude.ensures.value c.conclude.ensures.manager c.conclude.ensures.lines c.settle-reply.ensures.allowed c.settle-reply.ensures.ok c.conclude.ensures.monitor
     (settled_follows s c.conclude.new.self c.args.gtrid)
 
 pub returns-clause-stays : goal.returns-clause-stays

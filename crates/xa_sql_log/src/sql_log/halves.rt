@@ -1,0 +1,69 @@
+//! Half of a log: a journal whose database file is lost. An open would make a new log over it, and lose what is decided.
+ghost use Rattle.std.specs.Prelude.{◌≡◌, IfErr};
+ghost use Rattle.xa_log.specs.Contract.{IsStoreFault};
+ghost use Rattle.xa_sql_log.specs.Halves.{is_rest};
+
+use super::SqlLog;
+use super::looking::{bytes_at, read_fault};
+use sqlite::{FileFrom, FileStore, Unknown};
+use std::fs;
+use std::io::ErrorKind;
+use xa_log::LogFault;
+
+/// The most bytes of a journal beside a database file that is being made: its header, and a byte behind it that is set last.
+const NEW_JOURNAL_LEN: usize = 41;
+
+/// Where the header of a journal has the number of its checkpoints, and the number in one that is being made.
+const CHECKPOINTS: usize = 12;
+
+const NO_CHECKPOINTS: [u8; 4] = [0xff; 4];
+
+/// Whether a journal beside a database file that is missing or empty was that of a database: it is longer than one that is
+/// being made, or counts its checkpoints. The first byte of one that is being made is set last.
+fn is_rest(journal: &[u8]) -> bool
+    ensures { result ≡ is_rest journal.now }
+{
+    journal.len() > NEW_JOURNAL_LEN
+        || (journal.len() == NEW_JOURNAL_LEN
+            && journal[0] != 0
+            && &journal[CHECKPOINTS..CHECKPOINTS + 4] != NO_CHECKPOINTS.as_slice())
+}
+
+/// Whether the file at a path is missing or empty. While a database is made in it, it may have one byte, a zero.
+fn is_lost(rt: &HostRuntime, path: &str) -> Result<bool, LogFault>
+    ensures cause { IfErr result IsStoreFault }
+{
+    match fs::metadata(rt, path) {
+        Ok(found) => Ok(found.len() <= 1),
+        Err(error) if error.kind() == ErrorKind::NotFound => Ok(true),
+        Err(error) => Err(read_fault(error)),
+    }
+}
+
+/// The path of the journal of the database file at a path. As in SQLite, it lies where a link leads.
+fn journal_of(rt: &HostRuntime, path: &str) -> Result<String, LogFault>
+    ensures cause { IfErr result IsStoreFault }
+{
+    match fs::canonicalize(rt, path) {
+        Ok(real) => Ok(format!(in rt.alloc(); "{}-wal", real.as_str())?),
+        Err(error) if error.kind() == ErrorKind::NotFound => {
+            Ok(format!(in rt.alloc(); "{path}-wal")?)
+        }
+        Err(error) => Err(read_fault(error)),
+    }
+}
+
+impl SqlLog<FileStore<FileFrom<Unknown>>> {
+    /// Whether what lies at a path is half of a log: the file is missing or empty, and its journal PATH-wal holds what is left.
+    /// Then the log's decisions are in the journal, or were in the file, and a log that is made anew there would roll back
+    /// what is decided. A kill while a log is made leaves no half: what it leaves is a log that has yet to be made.
+    pub fn is_half(rt: &HostRuntime, path: &str) -> Result<bool, LogFault>
+        ensures cause { IfErr result IsStoreFault }
+    {
+        if !is_lost(rt, path)? {
+            return Ok(false);
+        }
+        let journal = journal_of(rt, path)?;
+        Ok(is_rest(bytes_at(rt, journal.as_str())?.as_slice()))
+    }
+}

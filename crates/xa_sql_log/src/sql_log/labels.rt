@@ -1,0 +1,77 @@
+//! The label of a log in files: read without a look at its rows, and given to a log when it is made.
+ghost use Rattle.std.specs.Prelude.{IsTrue, IfErr};
+ghost use Rattle.xa_log.specs.Contract.{IsStoreFault};
+
+use super::SqlLog;
+use super::looking::copies_of;
+use super::opening::connection_to;
+use crate::label::{find_label, is_label, labelled_text};
+use crate::statements::{of_store, store_fault};
+use crate::tables::make_tables;
+use sqlite::{Connection, FileFrom, FileStore, Files, Options, Unknown};
+use sqlite_disk::Disk;
+use std::alloc::Global;
+use std::fs;
+use xa_log::LogFault;
+
+/// The label of the log in these files.
+fn label_in_files<D: Disk + Drop>(
+    alloc: Global,
+    files: Files<D>,
+) -> Result<Option<String>, LogFault>
+    requires log { IsTrue (D.Disk.is_usable files.log) }
+    requires db { IsTrue (D.Disk.is_usable files.db) }
+    ensures cause { IfErr result IsStoreFault }
+{
+    match Connection::open_files(alloc, files, Options::new(0)) {
+        Ok(mut conn) => find_label(alloc, &mut conn),
+        Err((error, _files)) => Err(store_fault(error)),
+    }
+}
+
+/// Makes the tables of a log over files, that of the participants by this statement, and closes it into one file.
+fn make_in_files<D: Disk + Drop>(
+    mut conn: Connection<FileStore<D>>,
+    participants: &str,
+) -> Result<(), LogFault>
+    ensures cause { IfErr result IsStoreFault }
+{
+    if !conn.is_autocommit() {
+        return Err(LogFault::Store);
+    }
+    make_tables(&mut conn, participants)?;
+    of_store(conn.close())
+}
+
+impl SqlLog<FileStore<FileFrom<Unknown>>> {
+    /// The label of the log in the file at a path: empty where the log has none, and nothing where no log is there. The
+    /// files are read into memory, and written neither.
+    pub fn label(rt: &HostRuntime, path: &str) -> Result<Option<String>, LogFault>
+        ensures cause { IfErr result IsStoreFault }
+    {
+        match fs::exists(rt, path) {
+            Ok(true) => label_in_files(rt.alloc(), copies_of(rt, path)?),
+            Ok(false) => Ok(None),
+            Err(_) => Err(LogFault::Store),
+        }
+    }
+
+    /// Makes an empty log with this label in the file at a path, and closes it into that file. It is one transaction of the
+    /// database: after a crash either no log is there, or one with its label.
+    ///
+    /// - [`LogFault::Store`]: the text is no label ([`is_label`](crate::is_label)), a table of a log is there, or the store
+    ///   failed.
+    /// - [`LogFault::Memory`]: a request for memory was refused.
+    pub fn make(rt: &HostRuntime, path: &str, label: &str) -> Result<(), LogFault>
+        ensures cause { IfErr result IsStoreFault }
+    {
+        if !is_label(label) {
+            return Err(LogFault::Store);
+        }
+        let participants = labelled_text(rt.alloc(), label)?;
+        make_in_files(
+            connection_to(rt, path, Unknown)?,
+            participants.as_str(),
+        )
+    }
+}

@@ -1,0 +1,127 @@
+-- What the one right history of all sessions says of the log that is left.
+use Rattle.std.proofs.Common.{◌≡◌, ◌⊎◌, inl, inr, Bool, true, false, refl, sym, ap, ◌∙◌, subst}
+use Rattle.std.proofs.lemmas.Bool.{or_right, true≢false}
+use Rattle.xa_base.specs.StateTable.{broken}
+use Rattle.xa_base.specs.declared.state.Standing.{Standing}
+use Rattle.xa_base.specs.declared.state.Standing.TheVariants.{Committed, Prepared}
+use Rattle.xa_model.proofs.AgreementLemmas.Alike.{undone_no_row}
+use Rattle.xa_model.proofs.Invariant.{HasBegun, Inv, IsAtRest, IsOlder}
+use Rattle.xa_model.proofs.Invariant.Now.{older_not_started, settled_at_rest}
+use Rattle.xa_model.proofs.Invariant.Preservation.{always, begun_is_started}
+use Rattle.xa_model.proofs.ProcessLemmas.Joining.{gone_right}
+use Rattle.xa_model.proofs.ProcessLemmas.SameLogs.{same_listed}
+use Rattle.xa_model.specs.Facts.{adds_row, doubt, ever, had_row, handed_over, has_row, lists_row, log as rows_of, standing, started}
+use Rattle.xa_model.specs.Promises.Agreement.{IsUndone}
+use Rattle.xa_model.specs.Promises.Processes.{gone, resumed}
+use Rattle.xa_model.specs.Protocol.{AllRight}
+use Rattle.xa_model.specs.Trace.{Branch, Gtrid, Origin, Trace}
+use Rattle.xa_standings.proofs.Chains.{IsReached, reached}
+use Rattle.xa_standings.specs.Agreement.{StandAlike}
+use Rattle.xa_standings.specs.Sessions.{AfterSessions, Finds, FindsLog, HaveOneHistory, Log, RowsDecide}
+
+-- ** standings
+
+broken_committed : (s : Standing) → s ≡ Committed → broken s ≡ Committed
+broken_committed s e = ap broken e
+
+broken_prepared : (s : Standing) → s ≡ Prepared → broken s ≡ Prepared
+broken_prepared s e = ap broken e
+
+broken_undone : (s : Standing) → IsUndone s → IsUndone (broken s)
+broken_undone s (inl e) = inl (ap broken e)
+broken_undone s (inr e) = inr (ap broken e)
+
+not_at_rest : (s : Standing) → s ≡ Prepared → IsAtRest s → ⊥
+not_at_rest s e h = subst IsAtRest e h
+
+-- ** a right history
+
+module _ (tr : Trace) (right : AllRight tr) where
+  inv : Inv tr
+  inv = always tr right
+
+  -- a branch is committed by its row, or in one phase
+  committed_by : (b : Branch) → standing tr b ≡ Committed → (had_row tr b.gtrid ≡ true) ⊎ (handed_over tr b.gtrid ≡ true)
+  committed_by b e = by (inv.committed b e)
+    where
+      by : ((had_row tr b.gtrid ≡ true) ⊎ (handed_over tr b.gtrid ≡ true)) ⊎ IsOlder tr b
+          → (had_row tr b.gtrid ≡ true) ⊎ (handed_over tr b.gtrid ≡ true)
+      by (inl one) = one
+      by (inr older) = absurd (older_not_started tr b inv older (begun_is_started tr b right (subst HasBegun (sym e) tt)))
+
+  -- its row is there as long as another branch is prepared
+  row_stays : (b c : Branch) → b.gtrid ≡ c.gtrid → standing tr b ≡ Committed → standing tr c ≡ Prepared → has_row tr b.gtrid ≡ true
+  row_stays b c same committed prepared = by (committed_by b committed)
+    where
+      b_started : started tr b ≡ true
+      b_started = begun_is_started tr b right (subst HasBegun (sym committed) tt)
+
+      c_started : started tr c ≡ true
+      c_started = begun_is_started tr c right (subst HasBegun (sym prepared) tt)
+
+      there : had_row tr b.gtrid ≡ true → (t : Bool) → has_row tr b.gtrid ≡ t → t ≡ true
+      there had true e = refl
+      there had false e =
+          absurd (not_at_rest (standing tr c) prepared (settled_at_rest tr c inv c_started (inv.row_left b.gtrid had e c (sym same) c_started)))
+
+      by : (had_row tr b.gtrid ≡ true) ⊎ (handed_over tr b.gtrid ≡ true) → has_row tr b.gtrid ≡ true
+      by (inl had) = there had (has_row tr b.gtrid) refl
+      by (inr handed) =
+          absurd (let one : Committed ≡ Prepared = sym committed ∙ (ap (standing tr) (inv.handed_one b c handed (sym same) b_started c_started) ∙ prepared) in cc)
+
+  -- no row is there of a transaction that was undone
+  none_undone : (b : Branch) → IsUndone (standing tr b) → has_row tr b.gtrid ≡ false
+  none_undone b undone = by (has_row tr b.gtrid) refl
+    where
+      none : had_row tr b.gtrid ≡ true → ⊥
+      none had = true≢false (sym (or_right (adds_row (doubt tr) b.gtrid) (had_row tr b.gtrid) had) ∙ undone_no_row tr b right undone)
+
+      by : (t : Bool) → has_row tr b.gtrid ≡ t → t ≡ false
+      by true has = absurd (none (inv.row_rowed b.gtrid has))
+      by false has = refl
+
+-- ** the sessions
+
+module _ (log : Log) (f : Branch → Standing) (after : AfterSessions log f) where
+  r : IsReached log f
+  r = reached log f after
+
+  abbrev whole : Trace
+  whole = r.whole
+
+  last_right : AllRight (gone whole)
+  last_right = gone_right whole r.right
+
+  pub sessions_alike : StandAlike f
+  sessions_alike = r.alike
+
+  pub one_history : HaveOneHistory log f
+  one_history = record {
+    whole = whole;
+    right = r.right;
+    there = r.there;
+    finds = r.finds;
+    committed = λ b e. by b (committed_by (gone whole) last_right b (r.there b ∙ broken_committed (f b) e));
+    undone = λ b u. undone_no_row (gone whole) b last_right (subst IsUndone (sym (r.there b)) (broken_undone (f b) u));
+  }
+    where
+      by : (b : Branch) → (had_row whole b.gtrid ≡ true) ⊎ (handed_over whole b.gtrid ≡ true) → (ever whole b.gtrid ≡ true) ⊎ (handed_over whole b.gtrid ≡ true)
+      by b (inl had) = inl (or_right (adds_row (doubt whole) b.gtrid) (had_row whole b.gtrid) had)
+      by b (inr handed) = inr handed
+
+  module _ (next : Origin) (finds : Finds log next) where
+    found : FindsLog whole next
+    found = r.finds next finds
+
+    next_right : AllRight (resumed whole next)
+    next_right = (last_right, (refl, found.later, found.rows.number, found.records.number))
+
+    listed : (g : Gtrid) → lists_row next.rows g ≡ has_row (resumed whole next) g
+    listed g = same_listed next.rows (rows_of (resumed whole next)) found.rows g
+
+    pub rows_decide : RowsDecide f next
+    rows_decide = record {
+      committed = λ b c same committed prepared. listed b.gtrid ∙ row_stays (resumed whole next) next_right b c same
+          (r.there b ∙ broken_committed (f b) committed) (r.there c ∙ broken_prepared (f c) prepared);
+      undone = λ b u. listed b.gtrid ∙ none_undone (resumed whole next) next_right b (subst IsUndone (sym (r.there b)) (broken_undone (f b) u));
+    }
