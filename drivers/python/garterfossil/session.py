@@ -13,7 +13,7 @@ from .commits import Commits
 from .coordinator import Coordinator, Reply
 from .databases import Databases
 from .debts import Debts
-from .errors import ConnectionLost, Overdue, Refused, RequestError, SetupError
+from .errors import ConnectionLost, Overdue, Refused, RequestError, SetupError, XaError
 from .line import Line
 from .logs import is_new_log
 from .outcomes import Outcomes
