@@ -68,7 +68,8 @@ class Branch:
         return self._line.work(self._connection, self.xid, step)
 
     def _refuse_ends(self, statement: Any) -> None:
-        self._connection.TEXTS.refuse_ends(self._connection.text_of(statement))
+        text = statement if type(statement) is str else self._connection.text_of(statement)
+        self._connection.TEXTS.refuse_ends(text)
 
 
 class BranchCursor:
