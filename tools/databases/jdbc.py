@@ -10,14 +10,23 @@ import subprocess
 import tempfile
 
 from servers import Missing, PostgreSQLServer, free_port
-from world import HERE
+from world import HERE, TOP
 
 JARS = "/usr/share/java"
-#: The files of Bitronix and of what it needs, and their packages of Debian.
-BITRONIX = {
-    "btm.jar": "libbtm-java",
+#: The files of what drivers/java, Bitronix and ActiveMQ need, and their packages of Debian.
+INTERFACES = {
     "geronimo-jta-1.2-spec.jar": "libgeronimo-jta-1.2-spec-java",
     "geronimo-jms_1.1_spec.jar": "libgeronimo-jms-1.1-spec-java",
+}
+BITRONIX = {"btm.jar": "libbtm-java", "slf4j-api.jar": "libslf4j-java", "slf4j-nop.jar": "libslf4j-java"}
+ACTIVEMQ = {
+    "activemq-broker.jar": "libactivemq-java",
+    "activemq-client.jar": "libactivemq-java",
+    "activemq-kahadb-store.jar": "libactivemq-java",
+    "activemq-openwire-legacy.jar": "libactivemq-java",
+    "activemq-protobuf.jar": "libactivemq-protobuf-java",
+    "hawtbuf.jar": "libhawtbuf-java",
+    "geronimo-j2ee-management-1.1-spec.jar": "libgeronimo-j2ee-management-1.1-spec-java",
     "slf4j-api.jar": "libslf4j-java",
     "slf4j-nop.jar": "libslf4j-java",
 }
@@ -39,30 +48,44 @@ def paths_of(packages):
     return [f"{JARS}/{name}" for name in packages]
 
 
+def compiled(folder, names):
+    """Compiles programs of java/ into a folder, over the jar of drivers/java. What they are run with beside that folder. Raises
+    Missing."""
+    for name in ("java", "javac", "jar"):
+        if shutil.which(name) is None:
+            raise Missing(f"{name} (of Debian the package default-jdk-headless)")
+    path = paths_of(INTERFACES)
+    if "Bitronix" in names:
+        path += paths_of(BITRONIX)
+    if {"Bank", "Drain", "Broker"} & set(names):
+        path += paths_of(ACTIVEMQ)
+    subprocess.run([f"{TOP}/drivers/java/build", folder], check=True, stdout=subprocess.DEVNULL)
+    path.append(f"{folder}/garterfossil-javax.jar")
+    sources = [f"{HERE}/java/{name}.java" for name in names]
+    subprocess.run(["javac", "-cp", ":".join([folder, *path]), "-d", folder, *sources], check=True)
+    return path
+
+
 class Java:
     """The program, compiled in a folder."""
 
     def __init__(self, world):
-        for name in ("java", "javac"):
-            if shutil.which(name) is None:
-                raise Missing(f"{name} (of Debian the package default-jdk-headless)")
         self.world = world
         self.folder = tempfile.mkdtemp(dir=world.home)
-        self.path = [self.folder, *paths_of(dict(driver_of(server) for server in world.servers))]
-        sources = [f"{HERE}/java/{name}.java" for name in ("Coordinator", "Commits", "Speed")]
+        names = ["Speed"]
         try:
-            self.path += paths_of(BITRONIX)
-            sources.append(f"{HERE}/java/Bitronix.java")
+            paths_of(BITRONIX)
+            names.append("Bitronix")
         except Missing as missing:
             print(f"speed: without Bitronix: {missing}")
-        subprocess.run(["javac", "-cp", ":".join(self.path), "-d", self.folder, *sources], check=True)
+        self.path = [self.folder, *paths_of(dict(driver_of(server) for server in world.servers)), *compiled(self.folder, names)]
 
     def rates(self, threads, seconds, rounds):
         """Transfers a second, by the way."""
         self.world.prepare()
         urls = [server.url() for server in self.world.servers]
         words = ["java", "-cp", ":".join(self.path), "Speed", *urls, self.folder, str(seconds), str(rounds), str(threads)]
-        it = subprocess.run([*words, *self.world.command(threads)], stdout=subprocess.PIPE, text=True, check=True)
+        it = subprocess.run([*words, self.world.coordinator, self.world.log], stdout=subprocess.PIPE, text=True, check=True)
         for path in glob.glob(f"{self.folder}/*.tlog"):
             os.remove(path)
         rates = collections.defaultdict(list)

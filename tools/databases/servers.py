@@ -138,6 +138,8 @@ class PostgreSQLServer(Server):
     STOP = signal.SIGINT
     #: A table that takes no second 1: it says so as the branch is prepared.
     ONCE = "CREATE TABLE once (i int UNIQUE DEFERRABLE INITIALLY DEFERRED)"
+    #: What lists all prepared branches, whoever named them.
+    DOUBT = "SELECT gid FROM pg_prepared_xacts"
 
     def make(self):
         run([binary("initdb"), "-D", f"{self.home}/data", "-A", "trust", "-U", "xa", "--no-sync", "-E", "UTF8", "--locale=C"], cwd=self.home)
@@ -198,6 +200,8 @@ class MariaDBServer(Server):
     STOP = signal.SIGTERM
     #: A table that takes no second 1: it says so at once.
     ONCE = "CREATE TABLE once (i int UNIQUE)"
+    #: What lists all prepared branches, whoever named them.
+    DOUBT = "XA RECOVER"
 
     def make(self):
         os.mkdir(f"{self.home}/tmp")

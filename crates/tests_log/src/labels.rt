@@ -24,9 +24,15 @@ fn a_log_keeps_its_label(rt: HostRuntime) -> Result<(), Fail> {
             ..EMPTY
         }
     );
-    assert_eq!(rt; SqlLog::label(&rt, path)?.as_deref(), Some("shop-1 bank stock"));
+    assert_eq!(rt;
+        SqlLog::label(&rt, path)?.as_deref(),
+        Some("shop-1 bank stock")
+    );
     assert_eq!(rt; SqlLog::make(&rt, path, "shop-2"), Err(LogFault::Store));
-    assert_eq!(rt; SqlLog::label(&rt, path)?.as_deref(), Some("shop-1 bank stock"));
+    assert_eq!(rt;
+        SqlLog::label(&rt, path)?.as_deref(),
+        Some("shop-1 bank stock")
+    );
     fs::remove_dir_all(&rt, "labelled")?;
     Ok(())
 }

@@ -377,11 +377,21 @@ fn show_session(rt: &HostRuntime) -> anyhow::Result<()> {
     }
     let log = MemLog::new(rt.alloc());
     if let Ok((written, _log)) = serve::silent(rt.alloc(), 1, 2, log) {
-        println!(rt; "xa_coordinator, a driver that says nothing:\n{}", String::from_utf8(written)?)?;
+        println!(rt;
+            "xa_coordinator, a driver that says nothing:\n{}",
+            String::from_utf8(written)?
+        )?;
     }
     let log = MemLog::new(rt.alloc());
     let (killed, recovers) = (KILLED.as_bytes(), RECOVERS.as_bytes());
-    if let Ok((_first, second, _log)) = serve::served_twice(rt.alloc(), 1, 2, log, killed, recovers) {
+    if let Ok((_first, second, _log)) = serve::served_twice(
+        rt.alloc(),
+        1,
+        2,
+        log,
+        killed,
+        recovers,
+    ) {
         println!(rt; "xa_coordinator, recovery:\n{}", String::from_utf8(second)?)?;
     }
     Ok(())

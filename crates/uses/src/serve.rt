@@ -9,7 +9,8 @@ ghost use Rattle.xa_log.specs.Contract.{Honestly};
 
 use std::alloc::Global;
 use xa_coordinator::{
-    Coordinator, ServeFault, served_databases_agree, served_sessions_agree, voted_commits_are_logged,
+    Coordinator, ServeFault, served_databases_agree, served_sessions_agree,
+    voted_commits_are_logged,
 };
 use xa_log::{DecisionLog, MemLog};
 use xa_tm::StartFault;

@@ -57,31 +57,31 @@ call_on : (f : Branch → KnownCall) (k : Kind) (x : Xid) (c : KnownCall) → ((
 call_on f k x c asks is e = by (name_of x) refl e
   where
     by : (name : Name) → name_of x ≡ name → option_map f (ours_of name) ≡ Some c → IsNamedCall c
-    by (Ours b) own h j d asked =
+    by (Ours b) own h = λ j d asked.
         let same : f b ≡ c = cc h in
         subst (λ (y : Branch). fits y ≡ true) (ap (branch_or b) (sym (asks b) ∙ (ap asks_of same ∙ asked))) (own_fits x b is own)
     by _ own h = absurd (cc h)
 
 call_named : (call : Call Xid) (c : KnownCall) → IfSome (xid_in call) IsXid → known call ≡ Some c → IsNamedCall c
-call_named Calls.OpenRm c is e k b asked = let same : Calls.OpenRm ≡ c = cc e in absurd (cc (same, asked))
-call_named Calls.CloseRm c is e k b asked = let same : Calls.CloseRm ≡ c = cc e in absurd (cc (same, asked))
+call_named Calls.OpenRm c is e = λ k b asked. let same : Calls.OpenRm ≡ c = cc e in absurd (cc (same, asked))
+call_named Calls.CloseRm c is e = λ k b asked. let same : Calls.CloseRm ≡ c = cc e in absurd (cc (same, asked))
 call_named (Calls.Start x join) c is e = call_on (λ b. Calls.Start b join) (start_kind join) x c (λ b. refl) is e
 call_named (Calls.End x fail) c is e = call_on (λ b. Calls.End b fail) (End fail) x c (λ b. refl) is e
 call_named (Calls.Prepare x) c is e = call_on Calls.Prepare Prepare x c (λ b. refl) is e
 call_named (Calls.Commit x one_phase) c is e = call_on (λ b. Calls.Commit b one_phase) (commit_kind one_phase) x c (λ b. refl) is e
 call_named (Calls.Rollback x) c is e = call_on Calls.Rollback Rollback x c (λ b. refl) is e
 call_named (Calls.Forget x) c is e = call_on Calls.Forget Forget x c (λ b. refl) is e
-call_named (Calls.Recover n s end) c is e k b asked = let same : Calls.Recover n s end ≡ c = cc e in absurd (cc (same, asked))
+call_named (Calls.Recover n s end) c is e = λ k b asked. let same : Calls.Recover n s end ≡ c = cc e in absurd (cc (same, asked))
 
 -- ** pages
 
 page_named : (answer : Answer Xid) → ListsXids answer → IsNamedPage (map_answer name_of answer)
 page_named (Ret code) are = tt
-page_named (Page xids) are b (i, has) = by (slice_get xids i) refl (sym (slice_get-map name_of xids i) ∙ has)
+page_named (Page xids) are = λ b at. by b at.0 (slice_get xids at.0) refl (sym (slice_get-map name_of xids at.0) ∙ at.1)
   where
-    by : (o : Option Xid) → slice_get xids i ≡ o → option_map name_of o ≡ Some (Ours b) → fits b ≡ true
-    by None at h = absurd (cc h)
-    by (Some x) at h =
+    by : (b : Branch) (i : ℕ) (o : Option Xid) → slice_get xids i ≡ o → option_map name_of o ≡ Some (Ours b) → fits b ≡ true
+    by b i None at h = absurd (cc h)
+    by b i (Some x) at h =
         let own : name_of x ≡ Ours b = cc h in
         own_fits x b (subst IsXid (get_or_from_slice_get xids i x x at) (All-get_or IsXid xids i x (slice_get_within xids i x at) are)) own
 

@@ -132,7 +132,7 @@ all_written name written all r rs appended =
     let parts = with_last r rs in
     let last = parts.1 ∷ [] in
     let two = written_in_two written all (text_written name parts.0) (text_written name last)
-        (subst (Appends written all) (ap (text_written name) parts.2 ∙ text_of_both name parts.0 last) appended) in
+    (subst (Appends written all) (ap (text_written name) parts.2 ∙ text_of_both name parts.0 last) appended) in
     record {
       others = parts.0;
       last = parts.1;

@@ -16,8 +16,8 @@ mod serving;
 
 pub use coordinator::Coordinator;
 pub use laws::{
-    calls_are_on_branches, commits_are_logged, faults_leave_all_or_none, managers_stay_apart, replies_are_tracked,
-    served_databases_agree, served_sessions_agree, served_sessions_are_explained,
-    sessions_are_tracked, voted_commits_are_logged,
+    calls_are_on_branches, commits_are_logged, faults_leave_all_or_none, managers_stay_apart,
+    replies_are_tracked, served_databases_agree, served_sessions_agree,
+    served_sessions_are_explained, sessions_are_tracked, voted_commits_are_logged,
 };
 pub use serving::ServeFault;

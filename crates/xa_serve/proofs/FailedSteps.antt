@@ -262,8 +262,7 @@ each_done : (gs : List Gtrid) (tr : Trace) (k : Book) (grid : Grid) → StandsWi
 each_done [] tr k grid stands none = tt
 each_done (g ∷ gs) tr k grid stands none =
     let now = done_goes_on tr k grid g stands (none_first _ _ none) in
-    let rest = each_done gs (Then tr (Done g)) (after k (Done g)) grid now.1 (none_second _ _ none) in
-    (
+    let rest = each_done gs (Then tr (Done g)) (after k (Done g)) grid now.1 (none_second _ _ none) in (
       now.0,
       none_same g gs (each_so _ (λ h. gtrid_eq h g ≡ false) (λ h x. (done_back tr g h x).1) gs rest),
       each_so _ (RightDone tr) (λ h x. (done_back tr g h x).0) gs rest,

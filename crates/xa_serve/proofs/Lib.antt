@@ -8,7 +8,7 @@ mod NextStarts
 mod FailedSteps
 mod Recoveries
 mod Hearings
-mod Refusals
+pub mod Refusals
 mod Sessions
 mod Telling
 mod Tracking

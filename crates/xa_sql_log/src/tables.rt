@@ -62,10 +62,7 @@ fn execute<S: Alter>(tx: &mut Transaction<'_, S>, sql: &str) -> Result<(), LogFa
 }
 
 /// The tables of an empty log, of which this statement makes that of the participants.
-fn create_tables<S: Alter>(
-    tx: &mut Transaction<'_, S>,
-    participants: &str,
-) -> Result<(), LogFault>
+fn create_tables<S: Alter>(tx: &mut Transaction<'_, S>, participants: &str) -> Result<(), LogFault>
     ensures same_reference { tx.new.conn.ghost_name ≡ tx.old.conn.ghost_name }
     ensures written { HasCleanDisk (state S.Store tx.new.conn.now) →
         IsTrue (state S.Store tx.old.conn.now).in_transaction →

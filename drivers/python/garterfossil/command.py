@@ -11,8 +11,8 @@ from . import __version__
 from .calls import Call
 from .codes import Code
 from .configuration import Configuration
-from .coordinator import Coordinator
-from .doubt import IN_USE, Listed, Log, incarnation_in, listed, manager_in, places
+from .coordinator import Coordinator, serve_command
+from .doubt import IN_USE, Listing, Log, incarnation_in, listings_of, manager_in, places_of
 from .errors import SetupError, XaError
 from .xid import Xid
 
@@ -34,12 +34,12 @@ def main(words: Sequence[str]) -> int:
     given = _parser().parse_args(words)
     logging.basicConfig(level=logging.INFO, format="%(levelname)s: %(message)s")
     try:
-        made = Configuration.read(given.config)
+        configuration = Configuration.read(given.config)
         if given.does == "end":
-            return _end(made, given.branch, given.yes)
+            return _end(configuration, given.branch, given.yes)
         if given.does == "recover":
-            made.manager().close()
-        return _status(made)
+            configuration.manager().close()
+        return _status(configuration)
     except XaError as error:
         print(f"garterfossil: {error}", file=sys.stderr)
         return 2
@@ -63,24 +63,24 @@ def _parser() -> argparse.ArgumentParser:
 # ** status
 
 
-def _status(made: Configuration) -> int:
-    log, found = Log.of(made), listed(made)
-    for line in _lines(made, log, found):
+def _status(configuration: Configuration) -> int:
+    log, found = Log.of(configuration), listings_of(configuration)
+    for line in _lines(configuration, log, found):
         print(line)
     return 1 if any(one.own or one.fault for one in found) else 0
 
 
-def _lines(made: Configuration, log: Log, found: List[Listed]) -> Iterator[str]:
+def _lines(configuration: Configuration, log: Log, found: List[Listing]) -> Iterator[str]:
     """What is in doubt, for a reader."""
     if log.fault == IN_USE:
-        yield f"log {made.log}: {IN_USE}: it ends its branches by itself, so stop it before anything is ended by hand"
+        yield f"log {configuration.log}: {IN_USE}: it ends its branches by itself, so stop it before anything is ended by hand"
     else:
-        yield f"log {made.log}: {log.fault or f'{len(log.decided)} decided, {len(log.heuristics)} ended by a database itself'}"
+        yield f"log {configuration.log}: {log.fault or f'{len(log.decided)} decided, {len(log.heuristics)} ended by a database itself'}"
     yield from (f"  {line}: compare it with the other databases (docs/LOG.md)" for line in log.heuristics)
     for rm, one in enumerate(found):
-        yield f"database {rm}, {made.label(rm)}: {one.fault or f'{len(one.own)} in doubt'}"
+        yield f"database {rm}, {configuration.label(rm)}: {one.fault or f'{len(one.own)} in doubt'}"
         for xid in one.own:
-            yield from _lines_of(made, log, rm, xid)
+            yield from _lines_of(configuration, log, rm, xid)
         for name in sorted({manager_in(xid) for xid in one.others}):
             count = sum(manager_in(xid) == name for xid in one.others)
             yield f"  {count} of {f'the manager {name}' if name else 'a manager without a name'}, which ends them: leave them alone"
@@ -91,7 +91,7 @@ def _lines(made: Configuration, log: Log, found: List[Listed]) -> Iterator[str]:
         yield f"{len(left)} of the decisions have no branch any more: the next start takes their rows away"
 
 
-def _lines_of(made: Configuration, log: Log, rm: int, xid: Xid) -> Iterator[str]:
+def _lines_of(configuration: Configuration, log: Log, rm: int, xid: Xid) -> Iterator[str]:
     objection = log.objection(xid)
     if objection is not None:
         yield f"  {xid}: what it waits for isn't known: {objection}"
@@ -99,28 +99,28 @@ def _lines_of(made: Configuration, log: Log, rm: int, xid: Xid) -> Iterator[str]
     name = log.call_for(xid)
     why = "it is decided to commit" if name == "xa_commit" else "it isn't decided to commit"
     yield f"  {xid}: waits for {name}, since {why}; by hand:"
-    yield f"      {made.databases[rm].by_hand(Call(name, xid))}"
+    yield f"      {configuration.databases[rm].by_hand(Call(name, xid))}"
 
 
 # ** end
 
 
-def _end(made: Configuration, text: str, is_sure: bool) -> int:
+def _end(configuration: Configuration, text: str, is_sure: bool) -> int:
     """Ends a branch as the log says. The log is held meanwhile, so that no coordinator decides otherwise."""
-    log = Log.of(made)
+    log = Log.of(configuration)
     if log.fault is not None:
-        raise SetupError(f"the log {made.log} can't be read, so nothing is ended: {log.fault}")
-    rm, xid = _found(made, text)
+        raise SetupError(f"the log {configuration.log} can't be read, so nothing is ended: {log.fault}")
+    rm, xid = _database_and_branch(configuration, text)
     call = Call(log.call_for(xid), xid)
-    print(f"database {rm}: {made.databases[rm].by_hand(call)}")
-    with _Held(made) as incarnation:
+    print(f"database {rm}: {configuration.databases[rm].by_hand(call)}")
+    with _LogHold(configuration) as incarnation:
         if incarnation_in(xid) >= incarnation:
-            raise SetupError(f"the log {made.log} is older than the branch {xid}, so nothing is ended: put the right one back")
+            raise SetupError(f"the log {configuration.log} is older than the branch {xid}, so nothing is ended: put the right one back")
         if not is_sure and not _agrees():
             print("nothing was done")
             return 1
-        place = places(made)[rm]
-        connection = made.databases[rm].connect(place)
+        place = places_of(configuration)[rm]
+        connection = configuration.databases[rm].connect(place)
         try:
             with connection.timed(place.patience):
                 code = connection.do(call).code
@@ -130,13 +130,13 @@ def _end(made: Configuration, text: str, is_sure: bool) -> int:
     return 0
 
 
-def _found(made: Configuration, text: str) -> Tuple[int, Xid]:
+def _database_and_branch(configuration: Configuration, text: str) -> Tuple[int, Xid]:
     """The branch of this identifier, and the database that lists it."""
     try:
         xid = Xid.parse(text)
     except ValueError as error:
         raise SetupError(str(error)) from error
-    found = listed(made)
+    found = listings_of(configuration)
     for rm, one in enumerate(found):
         if xid in one.own:
             return rm, xid
@@ -151,12 +151,12 @@ def _agrees() -> bool:
         return False
 
 
-class _Held:
+class _LogHold:
     """Keeps the log for itself, by a coordinator that is asked for nothing."""
 
-    def __init__(self, made: Configuration):
-        named = ["--name", made.name] if made.name else []
-        self._command = [made.program, "serve", *named, "--log", made.log, "1", str(len(made.databases))]
+    def __init__(self, configuration: Configuration):
+        known = configuration.program, configuration.log, configuration.name
+        self._command = serve_command(*known, threads=1, databases=len(configuration.databases))
         self._coordinator: Optional[Coordinator] = None
 
     def __enter__(self) -> int:

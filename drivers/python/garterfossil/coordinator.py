@@ -28,6 +28,11 @@ UNDONE = ("refused ", "error ")
 UNEXPLAINED = "error the branch is in no such state"
 
 
+def serve_command(program: str, log: str, name: str, threads: int, databases: int) -> List[str]:
+    """The words that start a coordinator over a log, as the manager of this name, if it has one."""
+    return [program, "serve", *(["--name", name] if name else []), "--log", log, str(threads), str(databases)]
+
+
 class Reply:
     """A request that is on its way, and the place of its reply."""
 

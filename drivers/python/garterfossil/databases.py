@@ -8,7 +8,7 @@ from typing import Dict, Iterator, List, Mapping, Sequence, Tuple, Union
 from .adapters.base import Database, Place
 
 #: The coordinator takes so many resource managers.
-MOST = 32
+MOST = 64
 #: A manager's name.
 NAME = re.compile(r"[A-Za-z0-9_-]{1,16}")
 

@@ -34,24 +34,25 @@ class Log:
     fault: Optional[str] = None
 
     @classmethod
-    def of(cls, made: Configuration) -> Log:
+    def of(cls, configuration: Configuration) -> Log:
         """What is in the log of a configuration. A look changes nothing."""
-        if not os.path.exists(made.log):
+        if not os.path.exists(configuration.log):
             return cls(fault="there is no such file")
-        if is_log_in_use(made.log):
+        if is_log_in_use(configuration.log):
             return cls(fault=IN_USE)
-        words = [made.program, "log", made.log]
+        words = [configuration.program, "log", configuration.log]
         try:
             done = subprocess.run(words, stdin=subprocess.DEVNULL, capture_output=True, text=True, check=False)
         except OSError as error:
-            raise SetupError(f"the program {made.program} can't be run: {error.strerror}") from error
+            raise SetupError(f"the program {configuration.program} can't be run: {error.strerror}") from error
         if done.returncode != 0:
             said = done.stderr.strip() or f"status {done.returncode}"
-            return cls(fault=f"{made.program} can't read it: {said}")
-        lines = [line for line in done.stdout.splitlines() if line]
+            return cls(fault=f"{configuration.program} can't read it: {said}")
+        # Of a log that keeps names these come first.
+        lines = [line for line in done.stdout.splitlines() if line and not line.startswith(("name ", "rm "))]
         heuristics = tuple(line for line in lines if ":" in line)
         decided = frozenset(line.split(" ")[0] for line in lines if ":" not in line)
-        return cls(decided, heuristics, _incarnation_of(made.log))
+        return cls(decided, heuristics, _incarnation_of(configuration.log))
 
     def objection(self, xid: Xid) -> Optional[str]:
         """Why the log doesn't say how a branch of the manager ends, if so."""
@@ -76,7 +77,7 @@ def _incarnation_of(path: str) -> Optional[int]:
 
 
 @dataclass(frozen=True)
-class Listed:
+class Listing:
     """What a database lists: the manager's branches there, and those of others; or why nobody knows."""
 
     own: Tuple[Xid, ...] = ()
@@ -84,7 +85,7 @@ class Listed:
     fault: Optional[str] = None
 
     @classmethod
-    def at(cls, database: Database, place: Place) -> Listed:
+    def at(cls, database: Database, place: Place) -> Listing:
         """What a database lists."""
         try:
             connection = database.connect(place)
@@ -102,15 +103,15 @@ class Listed:
         return cls(tuple(filter(place.owns, found)), tuple(others))
 
 
-def places(made: Configuration) -> List[Place]:
+def places_of(configuration: Configuration) -> List[Place]:
     """The places of the databases."""
-    patience = float(made.options.get("patience", 30.0))
-    return [Place(made.name, rm, patience=patience) for rm in range(len(made.databases))]
+    patience = float(configuration.options.get("patience", 30.0))
+    return [Place(configuration.name, rm, patience=patience) for rm in range(len(configuration.databases))]
 
 
-def listed(made: Configuration) -> List[Listed]:
+def listings_of(configuration: Configuration) -> List[Listing]:
     """What each database lists."""
-    return [Listed.at(database, place) for database, place in zip(made.databases, places(made))]
+    return [Listing.at(database, place) for database, place in zip(configuration.databases, places_of(configuration))]
 
 
 def manager_in(xid: Xid) -> str:

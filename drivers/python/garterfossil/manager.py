@@ -30,6 +30,7 @@ from .block import Block
 from .counts import Counts
 from .databases import NAME, Databases
 from .errors import CoordinatorGone, LogInUse, NestedTransaction, XaError
+from .coordinator import serve_command
 from .line import PAUSE
 from .outcomes import Outcome, Outcomes
 from .session import Session, Settings
@@ -43,7 +44,7 @@ log = logging.getLogger("garterfossil")
 T = TypeVar("T")
 
 #: The coordinator takes so many threads.
-MOST_THREADS = 256
+MOST_THREADS = 1024
 NO_OPTIONS = Options()
 #: The first pause before work is tried again, in seconds, and the longest.
 FIRST_PAUSE, LAST_PAUSE = 0.02, 1.0
@@ -65,7 +66,7 @@ class TransactionManager:
     Programs that share a database have each a log of its own and a `name` of its own, 1 to 16 letters, digits, _ and -: it
     stands in the identifiers of the branches, and a program leaves those of other names alone. A log keeps its name.
 
-    A transaction needs one of the coordinator's `threads` (1 to 256). `patience` says for how many seconds a transaction
+    A transaction needs one of the coordinator's `threads` (1 to 1,024). `patience` says for how many seconds a transaction
     waits for one, how long an answer of a database is waited for, and how long a database that has none is asked again before
     it is left to the recovery. `timeout` is for how many seconds a transaction may do work, unless it is given its own.
 
@@ -93,8 +94,7 @@ class TransactionManager:
         if name and not NAME.fullmatch(name):
             raise ValueError(f"name: 1 to 16 letters, digits, _ and -, not {name!r}")
         all_databases, path = Databases(databases), os.fspath(log)
-        named = ["--name", name] if name else []
-        words = command or [program, "serve", *named, "--log", path, str(threads), str(len(all_databases))]
+        words = command or serve_command(program, path, name, threads, len(all_databases))
         self._settings = Settings(words, all_databases, path, name, threads, patience)
         self._timeout = timeout
         self._ended = ended

@@ -22,7 +22,7 @@ from sqlalchemy.engine import make_url
 from sqlalchemy.engine.default import DefaultDialect
 from sqlalchemy.pool import NullPool
 
-from .adapters.base import Connection as DrivenConnection
+from .adapters.base import Connection as DriverConnection
 from .branch import Branch
 from .errors import EndRefused, SetupError, TransactionOver, XaError
 from .manager import TransactionManager
@@ -152,7 +152,7 @@ class _Connection:
         self.rollback()
 
     @property
-    def driven(self) -> DrivenConnection:
+    def inner(self) -> DriverConnection:
         """The driver's connection, with the module's own in it: SQLAlchemy sets that up."""
         return self._works.branch._connection
 
@@ -160,11 +160,11 @@ class _Connection:
         return getattr(self._works.branch.connection, name)
 
 
-def _set_up_once(set_up: Callable[[Any], None], done: weakref.WeakSet[DrivenConnection], connection: _Connection) -> None:
+def _set_up_once(set_up: Callable[[Any], None], done: weakref.WeakSet[DriverConnection], connection: _Connection) -> None:
     """Sets the module's connection up, which serves many transactions, unless that was done."""
-    if connection.driven not in done:
-        set_up(connection.driven.link)
-        done.add(connection.driven)
+    if connection.inner not in done:
+        set_up(connection.inner.link)
+        done.add(connection.inner)
 
 
 class _WithinBranches:
@@ -186,7 +186,7 @@ class _WithinBranches:
 
     def get_driver_connection(self, connection: Any) -> Any:
         """To programs the branch's connection is that of the driver, too: the module's own could be committed."""
-        return connection if self._is_set_up else connection.driven.link
+        return connection if self._is_set_up else connection.inner.link
 
     def set_isolation_level(self, *_: Any) -> None:
         raise EndRefused("the isolation level is the transaction's: manager.transaction(isolation=..)")
@@ -201,20 +201,20 @@ class _WithinBranches:
 class _Entry(DefaultDialect):
     """What SQLAlchemy finds under the name of a dialect within branches: it leads to that dialect."""
 
-    _made: Dict[str, Type[Any]] = {}
+    _dialects: Dict[str, Type[Any]] = {}
 
     @classmethod
     def get_dialect_cls(cls, url: Any) -> Type[Any]:
         """The dialect of a url."""
-        return cls._made[url.drivername]
+        return cls._dialects[url.drivername]
 
     @classmethod
     def url_of(cls, name: str) -> str:
         """The url of SQLAlchemy's own dialect of this name, within branches."""
         own = f"garterfossil+{name.replace('+', '_')}"
-        if own not in cls._made:
+        if own not in cls._dialects:
             dialect = make_url(f"{name}://").get_dialect()
-            cls._made[own] = type(f"{dialect.__name__}_within_branches", (_WithinBranches, dialect), {"supports_statement_cache": True})
+            cls._dialects[own] = type(f"{dialect.__name__}_within_branches", (_WithinBranches, dialect), {"supports_statement_cache": True})
             registry.register(own.replace("+", "."), __name__, "_Entry")
         return f"{own}://"
 

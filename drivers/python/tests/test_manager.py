@@ -41,7 +41,7 @@ class Given(Case):
                 TransactionManager(databases, self.log)
 
     def test_counts_that_are_out_of_range(self):
-        for options in ({"threads": 0}, {"threads": 257}, {"patience": 0}, {"name": "a b"}, {"name": "x" * 17}):
+        for options in ({"threads": 0}, {"threads": 1025}, {"patience": 0}, {"name": "a b"}, {"name": "x" * 17}):
             with self.assertRaisesRegex(ValueError, list(options)[0]):
                 self.manager(**options)
 

@@ -1,3 +1,7 @@
+import garterfossil.Manager;
+import garterfossil.jdbc.JdbcResource;
+import garterfossil.jta.JtaTransactionManager;
+import java.nio.file.Path;
 import java.sql.Connection;
 import java.sql.PreparedStatement;
 import java.sql.SQLException;
@@ -9,6 +13,7 @@ import java.util.concurrent.Executors;
 import java.util.concurrent.Future;
 import java.util.concurrent.ThreadLocalRandom;
 import java.util.concurrent.atomic.AtomicLong;
+import javax.sql.DataSource;
 import javax.sql.XAConnection;
 import javax.sql.XADataSource;
 import javax.transaction.xa.XAResource;
@@ -18,8 +23,8 @@ import javax.transaction.xa.Xid;
  * How many transfers a second are committed in two phases over two databases, from threads without an interpreter's lock: by
  * hand, through the coordinator {@code xatm serve}, and, where its class is on the path, through Bitronix.
  *
- * <p>Usage: Speed URL URL FOLDER SECONDS ROUNDS THREADS COMMAND. Prints a line for each way and round: the way, and how many.
- * The COMMAND starts the coordinator. It's a benchmark, and no driver: it recovers nothing, and ends where a call fails.
+ * <p>Usage: Speed URL URL FOLDER SECONDS ROUNDS THREADS PROGRAM LOG. Prints a line for each way and round: the way, and how many.
+ * The PROGRAM is the coordinator.
  */
 public class Speed {
     static final int ACCOUNTS = 50, RMS = 2;
@@ -150,125 +155,47 @@ public class Speed {
         }
     }
 
-    /** By the coordinator, with the round trips of the driver in drivers/python: two for a transfer. */
+    /** By the driver of drivers/java, as a program of JTA uses it. */
     static final class Through implements Way {
-        private static final int DONE_AT_ONCE = 8;
+        private final Manager manager;
+        private final JtaTransactionManager transactions;
+        private final DataSource[] databases = new DataSource[RMS];
+        private final AtomicLong numbers = new AtomicLong(System.nanoTime());
 
-        private final XADataSource[] sources;
-        private final Coordinator coordinator;
-        private final Commits commits;
-        private List<String> done = new ArrayList<>();
-
-        Through(XADataSource[] sources, List<String> command) throws Exception {
-            this.sources = sources;
-            coordinator = new Coordinator(command);
-            commits = new Commits(coordinator);
-        }
-
-        public Work work(int thread) throws Exception {
-            return new Transfers(thread);
-        }
-
-        public void close() throws Exception {
-            finish(done);
-            coordinator.quit();
-        }
-
-        /** All branches have acknowledged: the row may leave the log, with others. */
-        private void noteDone(String gtrid) throws Coordinator.Fault {
-            List<String> gtrids;
-            synchronized (this) {
-                done.add(gtrid);
-                if (done.size() < DONE_AT_ONCE) {
-                    return;
-                }
-                gtrids = done;
-                done = new ArrayList<>();
+        Through(XADataSource[] sources, String program, String log, int threads) throws Exception {
+            JdbcResource[] resources = new JdbcResource[RMS];
+            Manager.Builder builder = Manager.over(Path.of(log)).program(program).threads(threads);
+            for (int rm = 0; rm < RMS; rm++) {
+                resources[rm] = JdbcResource.of("db" + rm, sources[rm]).maxConnections(threads);
+                builder.resource(resources[rm]);
             }
-            finish(gtrids);
-        }
-
-        private void finish(List<String> gtrids) throws Coordinator.Fault {
-            if (!gtrids.isEmpty()) {
-                coordinator.ask("done " + String.join(" ", gtrids));
+            manager = builder.start();
+            transactions = new JtaTransactionManager(manager);
+            for (int rm = 0; rm < RMS; rm++) {
+                databases[rm] = resources[rm].dataSource(manager);
             }
         }
 
-        private final class Transfers implements Work {
-            private final int thread;
-            private final Lines lines;
-            private final List<Coordinator.Reply> due = new ArrayList<>();
-            private Coordinator.Reply begun;
-
-            Transfers(int thread) throws Exception {
-                this.thread = thread;
-                lines = new Lines(sources);
-                for (int rm = 0; rm < RMS; rm++) {
-                    issue(rm, "xa_open");
-                    answer(rm, "xa_open");
-                }
-                begun = coordinator.post("begin " + thread);
-            }
-
-            public void transfer(int[] accounts, int amount) throws Exception {
-                String gtrid = coordinator.await(begun).substring("begun ".length());
-                Branch[] branches = {Branch.of(gtrid, thread, 0), Branch.of(gtrid, thread, 1)};
-                for (int rm = 0; rm < RMS; rm++) {
-                    issue(rm, "xa_start " + gtrid);
-                    lines.resources[rm].start(branches[rm], XAResource.TMNOFLAGS);
-                    answer(rm, "xa_start " + gtrid);
-                }
-                lines.move(accounts, amount, gtrid);
-                prepare(gtrid, branches);
-                commits.decide(gtrid, () -> {
+        public Work work(int thread) {
+            return new Work() {
+                public void transfer(int[] accounts, int amount) throws Exception {
+                    String name = String.format("c%031x", numbers.getAndIncrement());
+                    transactions.begin();
                     for (int rm = 0; rm < RMS; rm++) {
-                        issue(rm, "xa_commit " + gtrid);
+                        try (Connection connection = databases[rm].getConnection()) {
+                            Statements.over(connection).move(accounts[rm], rm == 0 ? -amount : amount, name);
+                        }
                     }
-                    begun = coordinator.post("begin " + thread);
-                });
-                see();
-                for (int rm = 0; rm < RMS; rm++) {
-                    lines.resources[rm].commit(branches[rm], false);
-                    answer(rm, "xa_commit " + gtrid);
+                    transactions.commit();
                 }
-                noteDone(gtrid);
-            }
 
-            private void prepare(String gtrid, Branch[] branches) throws Exception {
-                for (int rm = 0; rm < RMS; rm++) {
-                    issue(rm, "xa_end " + gtrid + " TMSUCCESS");
-                    issue(rm, "xa_prepare " + gtrid);
+                public void close() {
                 }
-                see();
-                for (int rm = 0; rm < RMS; rm++) {
-                    lines.resources[rm].end(branches[rm], XAResource.TMSUCCESS);
-                    answer(rm, "xa_end " + gtrid);
-                    lines.resources[rm].prepare(branches[rm]);
-                    answer(rm, "xa_prepare " + gtrid);
-                }
-            }
+            };
+        }
 
-            private void issue(int rm, String call) throws Coordinator.Fault {
-                due.add(coordinator.post("issue " + thread + " " + rm + " " + call));
-            }
-
-            /** Tells that the call was answered by XA_OK. */
-            private void answer(int rm, String call) throws Coordinator.Fault {
-                due.add(coordinator.post("answer " + thread + " " + rm + " " + call + " 0"));
-            }
-
-            /** Sees that nothing is refused. The last reply is the one to wait for. */
-            private void see() throws Coordinator.Fault {
-                for (int at = due.size() - 1; at >= 0; at--) {
-                    coordinator.await(due.get(at));
-                }
-                due.clear();
-            }
-
-            public void close() throws Exception {
-                see();
-                lines.close();
-            }
+        public void close() {
+            manager.close();
         }
     }
 
@@ -336,7 +263,7 @@ public class Speed {
             int rounds = Integer.parseInt(words[4]), threads = Integer.parseInt(words[5]);
             XADataSource[] sources = {source(words[0]), source(words[1])};
             List<String> names = new ArrayList<>(List.of("hand", "coordinator"));
-            List<Way> ways = new ArrayList<>(List.of(new ByHand(sources), new Through(sources, List.of(words).subList(6, words.length))));
+            List<Way> ways = new ArrayList<>(List.of(new ByHand(sources), new Through(sources, words[6], words[7], threads)));
             try {
                 Class<?> way = Class.forName("Bitronix");
                 ways.add((Way) way.getConstructor(String[].class, String.class).newInstance(new String[] {words[0], words[1]}, words[2]));

@@ -69,9 +69,6 @@ impl SqlLog<FileStore<FileFrom<Unknown>>> {
             return Err(LogFault::Store);
         }
         let participants = labelled_text(rt.alloc(), label)?;
-        make_in_files(
-            connection_to(rt, path, Unknown)?,
-            participants.as_str(),
-        )
+        make_in_files(connection_to(rt, path, Unknown)?, participants.as_str())
     }
 }

@@ -31,6 +31,11 @@ final class Debt {
         paid.countDown();
     }
 
+    /** The session is over: the next one pays it. */
+    void leave() {
+        paid.countDown();
+    }
+
     /** How its resource ended the branch by itself; 0 if it didn't, as far as is known. */
     int heuristic() {
         return Code.isHeuristic(code) ? code : 0;

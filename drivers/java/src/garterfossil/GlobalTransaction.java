@@ -164,7 +164,7 @@ public final class GlobalTransaction {
             Optional<Branch> found = branchAt(rm);
             if (found.isEmpty()) {
                 join();
-                rm.usage.enter(left());
+                session.keeper(rm).usage.enter(left());
                 return new Enlisted(begun(rm, lease(rm), null));
             }
             if (found.get().isLost()) {
@@ -193,7 +193,7 @@ public final class GlobalTransaction {
                 return;
             }
             join();
-            rm.usage.enter(left());
+            session.keeper(rm).usage.enter(left());
             begun(rm, null, xaResource);
         } finally {
             lock.unlock();
@@ -251,7 +251,7 @@ public final class GlobalTransaction {
         try {
             return rm.borrow(left());
         } catch (Fault | RuntimeException error) {
-            rm.usage.leave();
+            session.keeper(rm).usage.leave();
             if (error instanceof Fault.Lost) {
                 session.keeper(rm).scanLater();
             }
@@ -619,7 +619,7 @@ public final class GlobalTransaction {
             } else {
                 branch.release();
             }
-            branch.rm().usage.leave();
+            session.keeper(branch.rm()).usage.leave();
         }
         session.remove(this);
         session.giveBack(slot);

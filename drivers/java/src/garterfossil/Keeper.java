@@ -20,6 +20,7 @@ final class Keeper {
     private static final long PAUSE = 300;
 
     final ResourceManager rm;
+    final Usage usage = new Usage();
     private final Session session;
     private final Line line;
     private final ConcurrentLinkedQueue<Debt> debts = new ConcurrentLinkedQueue<>();
@@ -45,12 +46,16 @@ final class Keeper {
     void stop() {
         isOver = true;
         wake();
+        debts.forEach(Debt::leave);
     }
 
     /** The branch is to be ended. */
     void owe(Debt debt) {
         debts.add(debt);
         wake();
+        if (isOver) {
+            debt.leave();
+        }
     }
 
     /** The resource was down: it may list branches that were over. */
@@ -152,7 +157,7 @@ final class Keeper {
 
     /** Ends what the resource lists, while no branch of this session is there. False if branches stay too long. */
     private boolean recover() throws Fault {
-        if (!rm.usage.takeAlone(QUIET)) {
+        if (!usage.takeAlone(QUIET)) {
             notBefore = System.nanoTime() + BUSY.toNanos();
             return false;
         }
@@ -161,7 +166,7 @@ final class Keeper {
             isScanDue = false;
             return true;
         } finally {
-            rm.usage.letOthersIn();
+            usage.letOthersIn();
         }
     }
 

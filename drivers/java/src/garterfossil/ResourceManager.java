@@ -25,7 +25,6 @@ final class ResourceManager {
 
     final int number;
     final Resource resource;
-    final Usage usage = new Usage();
     private final Semaphore places;
     // Under the monitor of this object.
     private final ArrayDeque<Idle> idle = new ArrayDeque<>();

@@ -24,7 +24,7 @@ returns g c =
           (all.finds content (start_of content) left (raised_once content_law apart_law content)));
       seen = λ threads rms lines replies handed first now starts have no_fault o begins.
           let tracks = since_start moment c.starts_are_tracked.ensures c.sessions_are_tracked.ensures threads rms lines replies first now starts.stands have o
-              begins (starts.old o begins) in (
+          begins (starts.old o begins) in (
             tracks.more,
             record {
               threads = threads;

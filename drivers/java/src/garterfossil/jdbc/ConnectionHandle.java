@@ -13,6 +13,8 @@ import java.sql.PreparedStatement;
 import java.sql.ResultSet;
 import java.sql.SQLException;
 import java.sql.Statement;
+import java.util.ArrayList;
+import java.util.List;
 
 /** A connection as a program has it. All its work goes through a gate, which is shut as the transaction ends. */
 final class ConnectionHandle implements InvocationHandler {
@@ -23,6 +25,8 @@ final class ConnectionHandle implements InvocationHandler {
     // The transaction, or null outside of any.
     private final String transaction;
     private final Runnable whenClosed;
+    // Those that were made on it: they are closed with it.
+    private final List<Statement> statements = new ArrayList<>();
     private boolean isClosed;
 
     private ConnectionHandle(JdbcLink link, Gate gate, String transaction, Runnable whenClosed) {
@@ -60,10 +64,16 @@ final class ConnectionHandle implements InvocationHandler {
         }
     }
 
-    private Object close() {
+    private Object close() throws SQLException {
         if (!isClosed) {
             isClosed = true;
-            whenClosed.run();
+            try {
+                for (Statement statement : statements) {
+                    statement.close();
+                }
+            } finally {
+                whenClosed.run();
+            }
         }
         return null;
     }
@@ -149,6 +159,7 @@ final class ConnectionHandle implements InvocationHandler {
 
     private Object wrapped(Object proxy, Object made) throws SQLException {
         if (made instanceof Statement) {
+            statements.add((Statement) made);
             Class<?> face = made instanceof CallableStatement ? CallableStatement.class
                 : made instanceof PreparedStatement ? PreparedStatement.class : Statement.class;
             return child(proxy, face, made, ((Statement) made)::cancel);

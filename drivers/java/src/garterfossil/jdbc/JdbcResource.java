@@ -6,6 +6,7 @@ import garterfossil.Manager;
 import garterfossil.Resource;
 import java.sql.Connection;
 import java.sql.SQLException;
+import java.util.HashSet;
 import java.util.Set;
 import javax.sql.DataSource;
 import javax.sql.XADataSource;
@@ -19,6 +20,7 @@ import javax.sql.XADataSource;
 public final class JdbcResource implements Resource {
     private final String name;
     private final XADataSource source;
+    private final OwnedXaDataSource owned;
     private int maxConnections = 32;
     private volatile String manager = "";
     private volatile Dialect dialect;
@@ -26,6 +28,7 @@ public final class JdbcResource implements Resource {
     private JdbcResource(String name, XADataSource source) {
         this.name = name;
         this.source = source;
+        owned = new OwnedXaDataSource(this, source);
     }
 
     /** A database under a name that stays as long as the log does. */
@@ -42,6 +45,11 @@ public final class JdbcResource implements Resource {
     /** Connections for programs: in a transaction of the manager each takes part in it. */
     public DataSource dataSource(Manager of) {
         return new PooledDataSource(of, this, source);
+    }
+
+    /** XAConnections for a pool that isn't the manager's: their XAResources may be enlisted, since they say whose they are. */
+    public XADataSource xaDataSource() {
+        return owned.proxy();
     }
 
     @Override
@@ -90,8 +98,13 @@ public final class JdbcResource implements Resource {
             return;
         }
         JdbcLink link = connection();
+        // With none to keep, a session begins: then what another pool has is ended, too.
+        Set<Long> all = new HashSet<>(kept);
+        if (!kept.isEmpty()) {
+            all.addAll(owned.open());
+        }
         try {
-            dialect.endOthers(link.connection(), manager, link.number(), kept);
+            dialect.endOthers(link.connection(), manager, link.number(), all);
         } catch (SQLException | RuntimeException error) {
             throw new Fault.Lost("connections to " + name + " can't be ended", error);
         } finally {

@@ -1,0 +1,63 @@
+package garterfossil.jdbc;
+
+import java.lang.reflect.InvocationTargetException;
+import java.lang.reflect.Method;
+import java.lang.reflect.Proxy;
+import java.sql.Connection;
+import java.sql.SQLException;
+import java.util.Set;
+import java.util.concurrent.ConcurrentHashMap;
+import javax.sql.XAConnection;
+import javax.sql.XADataSource;
+import javax.transaction.xa.XAResource;
+
+/** Connections for a pool that isn't the manager's: their XAResources say to which resource they belong. */
+final class OwnedXaDataSource {
+    private final JdbcResource owner;
+    private final XADataSource source;
+    // Those that are open, by the numbers that the database gives them.
+    private final Set<Long> open = ConcurrentHashMap.newKeySet();
+
+    OwnedXaDataSource(JdbcResource owner, XADataSource source) {
+        this.owner = owner;
+        this.source = source;
+    }
+
+    Set<Long> open() {
+        return open;
+    }
+
+    XADataSource proxy() {
+        return (XADataSource) Proxy.newProxyInstance(getClass().getClassLoader(), new Class<?>[] {XADataSource.class}, (proxy, method, words) -> {
+            Object made = direct(source, method, words);
+            return made instanceof XAConnection ? owned((XAConnection) made) : made;
+        });
+    }
+
+    private XAConnection owned(XAConnection xa) throws SQLException {
+        Connection first = xa.getConnection();
+        Dialect dialect = owner.dialect(first);
+        long number = dialect.number(first, owner.manager());
+        XAResource resource = new JdbcXaResource(owner, dialect, xa.getXAResource(), first);
+        open.add(number);
+        return (XAConnection) Proxy.newProxyInstance(getClass().getClassLoader(), new Class<?>[] {XAConnection.class}, (proxy, method, words) -> {
+            switch (method.getName()) {
+                case "getXAResource": return resource;
+                // A new one would shut the first.
+                case "getConnection": return first;
+                case "close": open.remove(number); return direct(xa, method, words);
+                case "equals": return proxy == words[0];
+                case "hashCode": return System.identityHashCode(proxy);
+                default: return direct(xa, method, words);
+            }
+        });
+    }
+
+    private static Object direct(Object target, Method method, Object[] words) throws Throwable {
+        try {
+            return method.invoke(target, words);
+        } catch (InvocationTargetException error) {
+            throw error.getCause();
+        }
+    }
+}

@@ -1,0 +1,126 @@
+package garterfossil.jms;
+
+import garterfossil.Fault;
+import garterfossil.GlobalTransaction;
+import garterfossil.Manager;
+import java.lang.reflect.InvocationTargetException;
+import java.lang.reflect.Method;
+import java.lang.reflect.Proxy;
+import javax.jms.Connection;
+import javax.jms.ConnectionFactory;
+import javax.jms.ExceptionListener;
+import javax.jms.IllegalStateException;
+import javax.jms.JMSException;
+
+/**
+ * Connections to a broker. A session that is made in a transaction takes part in it; outside of any it is an ordinary one, of another
+ * factory.
+ */
+final class PooledConnectionFactory implements ConnectionFactory {
+    private final Manager manager;
+    private final JmsResource resource;
+    private final ConnectionFactory outside;
+
+    PooledConnectionFactory(Manager manager, JmsResource resource, ConnectionFactory outside) {
+        this.manager = manager;
+        this.resource = resource;
+        this.outside = outside;
+    }
+
+    @Override
+    public Connection createConnection() {
+        ConnectionHandle handle = new ConnectionHandle();
+        return (Connection) Proxy.newProxyInstance(getClass().getClassLoader(), new Class<?>[] {Connection.class}, handle::invoke);
+    }
+
+    @Override
+    public Connection createConnection(String user, String password) throws JMSException {
+        throw new JMSException("the user is that of the XAConnectionFactory");
+    }
+
+    @Override
+    public String toString() {
+        return "connections to " + resource.name();
+    }
+
+    /** A connection as a program has it. */
+    private final class ConnectionHandle {
+        // That of sessions outside of any transaction, once there is one.
+        private Connection alone;
+        private boolean isClosed, isStarted;
+
+        Object invoke(Object proxy, Method method, Object[] words) throws Throwable {
+            switch (method.getName()) {
+                case "equals": return proxy == words[0];
+                case "hashCode": return System.identityHashCode(proxy);
+                case "toString": return "a connection to " + resource.name();
+                case "close": return close();
+                default:
+            }
+            if (isClosed) {
+                throw new IllegalStateException("the connection is closed");
+            }
+            switch (method.getName()) {
+                case "start": isStarted = true; return alone == null ? null : direct(alone, method, words);
+                case "stop": isStarted = false; return alone == null ? null : direct(alone, method, words);
+                case "createSession": return session(method, words);
+                case "setClientID": throw new IllegalStateException("the connections of a pool have identifiers of their own");
+                case "getClientID": return null;
+                case "getExceptionListener": return alone == null ? null : alone.getExceptionListener();
+                case "setExceptionListener": return listen((ExceptionListener) words[0]);
+                default: return direct(alone(), method, words);
+            }
+        }
+
+        private Object listen(ExceptionListener listener) throws JMSException {
+            if (alone != null) {
+                alone.setExceptionListener(listener);
+            }
+            return null;
+        }
+
+        private Object session(Method method, Object[] words) throws Throwable {
+            GlobalTransaction transaction = manager.current();
+            if (transaction == null) {
+                return direct(alone(), method, words);
+            }
+            try {
+                GlobalTransaction.Enlisted branch = transaction.enlist(resource);
+                return SessionHandle.of((JmsLink) branch.link(), branch.gate(), transaction.toString());
+            } catch (Fault fault) {
+                JMSException error = new JMSException(fault.getMessage());
+                error.initCause(fault);
+                throw error;
+            }
+        }
+
+        private Connection alone() throws JMSException {
+            if (alone == null) {
+                if (outside == null) {
+                    throw new IllegalStateException("no transaction: begin one, or give JmsResource.outside a ConnectionFactory for other sessions");
+                }
+                alone = outside.createConnection();
+                if (isStarted) {
+                    alone.start();
+                }
+            }
+            return alone;
+        }
+
+        private Object close() throws JMSException {
+            isClosed = true;
+            if (alone != null) {
+                alone.close();
+            }
+            return null;
+        }
+    }
+
+    static Object direct(Object target, Method method, Object[] words) throws Throwable {
+        try {
+            return method.invoke(target, words);
+        } catch (InvocationTargetException error) {
+            throw error.getCause();
+        }
+    }
+}

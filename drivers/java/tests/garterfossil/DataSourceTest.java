@@ -1,0 +1,139 @@
+package garterfossil;
+
+import static org.junit.Assert.assertEquals;
+import static org.junit.Assert.assertFalse;
+import static org.junit.Assert.assertThrows;
+import static org.junit.Assert.assertTrue;
+
+import garterfossil.jdbc.JdbcResource;
+import java.sql.Connection;
+import java.sql.SQLException;
+import java.sql.Statement;
+import java.time.Duration;
+import javax.sql.DataSource;
+import org.junit.After;
+import org.junit.Before;
+import org.junit.Rule;
+import org.junit.Test;
+
+/** Connections of the pool, in transactions and outside. */
+public class DataSourceTest {
+    @Rule
+    public final World world = new World();
+    private final StandInDatabase database = new StandInDatabase();
+    private Manager manager;
+    private DataSource source;
+    private GlobalTransaction transaction;
+
+    @Before
+    public void start() throws Exception {
+        world.manager.close();
+        JdbcResource resource = JdbcResource.of("database", database.source()).maxConnections(2);
+        manager = world.builder().resource(resource).start();
+        source = resource.dataSource(manager);
+    }
+
+    @After
+    public void stop() {
+        manager.associate(null);
+        manager.close();
+    }
+
+    private void begin() throws Exception {
+        transaction = manager.begin(Duration.ofSeconds(20));
+        manager.associate(transaction);
+    }
+
+    @Test
+    public void oneConnectionForATransaction() throws Exception {
+        begin();
+        for (int count = 0; count < 3; count++) {
+            try (Connection connection = source.getConnection(); Statement statement = connection.createStatement()) {
+                statement.executeUpdate("work");
+            }
+        }
+        transaction.commit();
+        assertEquals(1, database.done.stream().distinct().count());
+        assertEquals(1, database.resource.committed.size());
+    }
+
+    @Test
+    public void aStatementAfterTheEndIsRefused() throws Exception {
+        begin();
+        Connection connection = source.getConnection();
+        Statement statement = connection.createStatement();
+        transaction.rollback();
+        assertThrows(SQLException.class, () -> statement.executeUpdate("too late"));
+        assertThrows(SQLException.class, connection::createStatement);
+        assertTrue(connection.isClosed());
+        assertTrue(database.done.isEmpty());
+    }
+
+    @Test
+    public void aStatementAfterTheCoordinatorEndedIsRefused() throws Exception {
+        begin();
+        Statement statement = source.getConnection().createStatement();
+        manager.session().coordinator.kill("a test");
+        World.eventually(() -> {
+            try {
+                return manager.session().open() == 0;
+            } catch (Fault fault) {
+                return false;
+            }
+        });
+        assertThrows(SQLException.class, () -> statement.executeUpdate("too late"));
+        assertThrows(Fault.RolledBack.class, transaction::commit);
+        assertTrue(database.done.isEmpty() && database.resource.committed.isEmpty());
+    }
+
+    @Test
+    public void theTransactionIsNotTheConnections() throws Exception {
+        begin();
+        try (Connection connection = source.getConnection()) {
+            assertFalse(connection.getAutoCommit());
+            connection.setAutoCommit(false);
+            SQLException error = assertThrows(SQLException.class, connection::commit);
+            assertTrue(error.getMessage(), error.getMessage().contains("UserTransaction"));
+            assertThrows(SQLException.class, connection::rollback);
+            assertThrows(SQLException.class, () -> connection.setAutoCommit(true));
+        }
+        transaction.rollback();
+    }
+
+    @Test
+    public void settingsAreTakenBack() throws Exception {
+        begin();
+        try (Connection connection = source.getConnection()) {
+            connection.setTransactionIsolation(Connection.TRANSACTION_SERIALIZABLE);
+        }
+        transaction.commit();
+        begin();
+        try (Connection connection = source.getConnection()) {
+            assertEquals(Connection.TRANSACTION_READ_COMMITTED, connection.getTransactionIsolation());
+        }
+        transaction.commit();
+    }
+
+    @Test
+    public void outsideOfTransactions() throws Exception {
+        for (int count = 0; count < 5; count++) {
+            try (Connection connection = source.getConnection()) {
+                assertTrue(connection.getAutoCommit());
+                connection.createStatement().executeUpdate("alone");
+            }
+        }
+        assertEquals(1, database.done.stream().distinct().count());
+        assertFalse(database.resource.calls.contains("start"));
+    }
+
+    @Test
+    public void noConnectionIsLeft() throws Exception {
+        source.getConnection();
+        source.getConnection();
+        transaction = manager.begin(Duration.ofMillis(300));
+        manager.associate(transaction);
+        SQLException error = assertThrows(SQLException.class, source::getConnection);
+        assertTrue(error.getMessage(), error.getMessage().contains("2 connections to database are in use"));
+        transaction.rollback();
+    }
+}

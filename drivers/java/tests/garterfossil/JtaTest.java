@@ -1,0 +1,270 @@
+package garterfossil;
+
+import static org.junit.Assert.assertEquals;
+import static org.junit.Assert.assertNull;
+import static org.junit.Assert.assertSame;
+import static org.junit.Assert.assertThrows;
+import static org.junit.Assert.assertTrue;
+
+import garterfossil.jta.JtaRegistry;
+import garterfossil.jta.JtaTransaction;
+import garterfossil.jta.JtaTransactionManager;
+import java.util.ArrayList;
+import java.util.List;
+import javax.transaction.HeuristicMixedException;
+import javax.transaction.HeuristicRollbackException;
+import javax.transaction.InvalidTransactionException;
+import javax.transaction.NotSupportedException;
+import javax.transaction.RollbackException;
+import javax.transaction.Status;
+import javax.transaction.Synchronization;
+import javax.transaction.SystemException;
+import javax.transaction.Transaction;
+import javax.transaction.xa.XAException;
+import javax.transaction.xa.XAResource;
+import org.junit.Before;
+import org.junit.Rule;
+import org.junit.Test;
+
+/** The interfaces of JTA 1.2, by its chapter 3. */
+public class JtaTest {
+    @Rule
+    public final World world = new World();
+    private JtaTransactionManager jta;
+    private JtaRegistry registry;
+    private final List<String> seen = new ArrayList<>();
+
+    @Before
+    public void make() {
+        jta = new JtaTransactionManager(world.manager);
+        registry = new JtaRegistry(world.manager);
+    }
+
+    private Synchronization noting(String name) {
+        return new Synchronization() {
+            @Override
+            public void beforeCompletion() {
+                seen.add(name + " before, " + jta.getStatus());
+            }
+
+            @Override
+            public void afterCompletion(int status) {
+                seen.add(name + " after, " + status);
+            }
+        };
+    }
+
+    private void enlistBoth() throws Exception {
+        world.manager.current().enlist(world.a);
+        world.manager.current().enlist(world.b);
+    }
+
+    @Test
+    public void aThreadHasOneTransaction() throws Exception {
+        assertEquals(Status.STATUS_NO_TRANSACTION, jta.getStatus());
+        assertThrows(IllegalStateException.class, jta::commit);
+        assertThrows(IllegalStateException.class, jta::rollback);
+        assertThrows(IllegalStateException.class, jta::setRollbackOnly);
+        jta.begin();
+        assertEquals(Status.STATUS_ACTIVE, jta.getStatus());
+        NotSupportedException error = assertThrows(NotSupportedException.class, jta::begin);
+        assertTrue(error.getMessage(), error.getMessage().contains("finally"));
+        jta.commit();
+        assertEquals(Status.STATUS_NO_TRANSACTION, jta.getStatus());
+    }
+
+    @Test
+    public void rollbackOnly() throws Exception {
+        jta.begin();
+        enlistBoth();
+        jta.setRollbackOnly();
+        assertEquals(Status.STATUS_MARKED_ROLLBACK, jta.getStatus());
+        JtaTransaction transaction = jta.getTransaction();
+        assertThrows(RollbackException.class, () -> transaction.registerSynchronization(noting("late")));
+        assertThrows(RollbackException.class, () -> transaction.enlistResource(world.a.connect().xaResource()));
+        assertThrows(RollbackException.class, jta::commit);
+        assertEquals(Status.STATUS_NO_TRANSACTION, jta.getStatus());
+        assertEquals(Status.STATUS_ROLLEDBACK, transaction.getStatus());
+        assertThrows(IllegalStateException.class, transaction::setRollbackOnly);
+    }
+
+    @Test
+    public void synchronizationsAreCalledInOrder() throws Exception {
+        jta.begin();
+        enlistBoth();
+        registry.registerInterposedSynchronization(noting("interposed"));
+        jta.getTransaction().registerSynchronization(noting("ordinary"));
+        jta.commit();
+        assertEquals(List.of("ordinary before, 0", "interposed before, 0", "interposed after, 3", "ordinary after, 3"), seen);
+    }
+
+    @Test
+    public void synchronizationsOfARollback() throws Exception {
+        jta.begin();
+        jta.getTransaction().registerSynchronization(noting("it"));
+        jta.rollback();
+        assertEquals(List.of("it after, 4"), seen);
+    }
+
+    @Test
+    public void aSynchronizationThatFails() throws Exception {
+        jta.begin();
+        enlistBoth();
+        jta.getTransaction().registerSynchronization(new Synchronization() {
+            @Override
+            public void beforeCompletion() {
+                throw new IllegalArgumentException("no");
+            }
+
+            @Override
+            public void afterCompletion(int status) {
+                seen.add("after, " + status);
+            }
+        });
+        assertThrows(RollbackException.class, jta::commit);
+        assertEquals(List.of("after, 4"), seen);
+        assertEquals(1, world.a.rolledBack.size());
+    }
+
+    @Test
+    public void suspendAndResume() throws Exception {
+        jta.begin();
+        enlistBoth();
+        Transaction outer = jta.suspend();
+        assertNull(jta.getTransaction());
+        jta.begin();
+        enlistBoth();
+        assertThrows(IllegalStateException.class, () -> jta.resume(outer));
+        jta.commit();
+        jta.resume(outer);
+        assertSame(outer, jta.getTransaction());
+        jta.rollback();
+        assertEquals(1, world.a.committed.size());
+        assertEquals(1, world.a.rolledBack.size());
+        assertThrows(InvalidTransactionException.class, () -> jta.resume(null));
+    }
+
+    @Test
+    public void aTimeOut() throws Exception {
+        assertThrows(SystemException.class, () -> jta.setTransactionTimeout(-1));
+        jta.setTransactionTimeout(1);
+        jta.begin();
+        enlistBoth();
+        JtaTransaction transaction = jta.getTransaction();
+        World.eventually(() -> transaction.getStatus() == Status.STATUS_ROLLEDBACK);
+        assertThrows(NotSupportedException.class, jta::begin);
+        assertThrows(RollbackException.class, jta::commit);
+        jta.setTransactionTimeout(0);
+        jta.begin();
+        jta.commit();
+    }
+
+    @Test
+    public void heuristicEnds() throws Exception {
+        jta.begin();
+        enlistBoth();
+        world.a.answer("commit", XAException.XA_HEURMIX);
+        assertThrows(HeuristicMixedException.class, jta::commit);
+        jta.begin();
+        enlistBoth();
+        world.a.answer("commit", XAException.XA_HEURRB);
+        world.b.answer("commit", XAException.XA_HEURRB);
+        assertThrows(HeuristicRollbackException.class, jta::commit);
+        jta.begin();
+        enlistBoth();
+        world.a.answer("commit", XAException.XA_HEURCOM);
+        jta.commit();
+    }
+
+    @Test
+    public void resourcesOfOtherPools() throws Exception {
+        XAResource own = new Owned(world.a.connect().xaResource());
+        jta.begin();
+        assertTrue(jta.getTransaction().enlistResource(own));
+        assertTrue(jta.getTransaction().delistResource(own, XAResource.TMSUCCESS));
+        assertTrue(jta.getTransaction().enlistResource(own));
+        SystemException error = assertThrows(SystemException.class, () -> jta.getTransaction().delistResource(own, XAResource.TMSUSPEND));
+        assertEquals(XAException.XAER_INVAL, error.errorCode);
+        SystemException unknown = assertThrows(SystemException.class, () -> jta.getTransaction().enlistResource(world.b.connect().xaResource()));
+        assertTrue(unknown.getMessage(), unknown.getMessage().contains("belongs to none of the resources"));
+        jta.commit();
+        assertEquals(1, world.a.committed.size());
+    }
+
+    /** An XAResource of a pool that isn't the manager's, which says whose it is. */
+    private final class Owned implements OwnedXaResource {
+        private final XAResource inner;
+
+        Owned(XAResource inner) {
+            this.inner = inner;
+        }
+
+        @Override
+        public Resource owner() {
+            return world.a;
+        }
+
+        @Override
+        public void start(javax.transaction.xa.Xid xid, int flags) throws XAException {
+            inner.start(xid, flags);
+        }
+
+        @Override
+        public void end(javax.transaction.xa.Xid xid, int flags) throws XAException {
+            inner.end(xid, flags);
+        }
+
+        @Override
+        public int prepare(javax.transaction.xa.Xid xid) throws XAException {
+            return inner.prepare(xid);
+        }
+
+        @Override
+        public void commit(javax.transaction.xa.Xid xid, boolean isOnePhase) throws XAException {
+            inner.commit(xid, isOnePhase);
+        }
+
+        @Override
+        public void rollback(javax.transaction.xa.Xid xid) throws XAException {
+            inner.rollback(xid);
+        }
+
+        @Override
+        public void forget(javax.transaction.xa.Xid xid) throws XAException {
+            inner.forget(xid);
+        }
+
+        @Override
+        public javax.transaction.xa.Xid[] recover(int flags) throws XAException {
+            return inner.recover(flags);
+        }
+
+        @Override
+        public boolean isSameRM(XAResource other) {
+            return false;
+        }
+
+        @Override
+        public int getTransactionTimeout() {
+            return 0;
+        }
+
+        @Override
+        public boolean setTransactionTimeout(int seconds) {
+            return false;
+        }
+    }
+
+    @Test
+    public void theRegistry() throws Exception {
+        assertNull(registry.getTransactionKey());
+        assertEquals(Status.STATUS_NO_TRANSACTION, registry.getTransactionStatus());
+        assertThrows(IllegalStateException.class, () -> registry.getResource("key"));
+        jta.begin();
+        registry.putResource("key", "value");
+        assertEquals("value", registry.getResource("key"));
+        registry.setRollbackOnly();
+        assertTrue(registry.getRollbackOnly());
+        jta.rollback();
+    }
+}
