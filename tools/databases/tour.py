@@ -7,7 +7,7 @@ import os
 import threading
 import time
 
-import garterfossil.session
+import garterfossil.rows
 from garterfossil import HeuristicEnd, Outcome, OutcomeUnknown, RolledBack, SetupError, XaError
 from garterfossil.adapters.base import Place
 from garterfossil.adapters.postgresql import PostgreSQL
@@ -453,7 +453,7 @@ def run(world):
     """Prints each story. How many were wrong."""
     logging.getLogger("garterfossil").setLevel(logging.CRITICAL)
     # A row leaves the log at once, so that its moment can be met.
-    garterfossil.session.DONE_AT_ONCE = 1
+    garterfossil.rows.AT_ONCE = 1
     tour = Tour(world)
     tour.goes_well()
     tour.only_reads()

@@ -2,7 +2,7 @@
 
 import os
 
-from .crates import CACHE, crates_of, kit_folder
+from .crates import CACHE, crates_of
 from .edits import edits_of
 from .machine import BYTES_A_JOB, jobs_for, processors
 
@@ -15,15 +15,15 @@ PROGRAMS = 5
 
 class Costs:
     def __init__(self, top):
-        self.kit, self.crates = kit_folder(), crates_of(top).values()
+        self.crates = crates_of(top).values()
 
     def quick(self):
         minutes = QUICK / jobs_for(BYTES_A_JOB)
-        return f"the quick part is done, and nothing is proved: about {self.rounded(minutes)}, {self.on()}"
+        return f"the quick part is done, and nothing is proved: at most about {self.rounded(minutes)}, {self.on()}"
 
     def whole(self):
         """By the lines of the crates that haven't passed here as they are."""
-        self.sums = {it: it.sum(self.kit) for it in self.crates}
+        self.sums = {it: it.sum() for it in self.crates}
         left = [it for it in self.crates if not os.path.isfile(f"{CACHE}/passed/{self.sums[it]}")]
         edits = {it: len(edits_of(it)[0]) for it in left}
         parts = [self.part(left, self.crates) * PROOFS, sum(edits.values()) * EDIT]
@@ -49,5 +49,5 @@ class Costs:
         """Notes which crates have passed, for the next estimate alone."""
         os.makedirs(f"{CACHE}/passed", exist_ok=True)
         for crate, sum in self.sums.items():
-            if crate.sum(self.kit) == sum:
+            if crate.sum() == sum:
                 open(f"{CACHE}/passed/{sum}", "w", encoding="utf-8").close()

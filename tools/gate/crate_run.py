@@ -21,7 +21,7 @@ class Kept:
     """What edits came to that were refused, under a sum of all that it was made from."""
 
     def __init__(self, kit, crate):
-        self.kit, self.crate, self.sum = kit, crate, crate.sum(kit)
+        self.kit, self.crate, self.sum = kit, crate, crate.sum_of_check(kit)
 
     def file(self, edit):
         return f"{REFUSALS}/{hashlib.sha256(repr((self.sum, edit.name, edit.text)).encode()).hexdigest()}"
@@ -33,7 +33,7 @@ class Kept:
 
     def keep(self, edits):
         """Keeps those that were refused, unless a file that they rest on has changed meanwhile."""
-        if self.crate.sum(self.kit) != self.sum:
+        if self.crate.sum_of_check(self.kit) != self.sum:
             return
         os.makedirs(REFUSALS, exist_ok=True)
         for it in edits:

@@ -1,11 +1,16 @@
 """The toolchain's kit, and the crates that crates.txt lists."""
 
+import functools
 import hashlib
 import os
 import shutil
 import sys
 
 PARTS = ("src", "specs", "proofs")
+# What of this tool settles what an edit comes to.
+JUDGES = ("crates", "edits", "functions", "prover", "reports", "verdicts")
+# The folders of a library, as built, in which its statements are, and the files that have sums of its code besides.
+STATED, SUMS = ("interface", "below", "lang"), ("made.json", "format")
 HERE = os.path.dirname(os.path.realpath(__file__))
 CACHE = f"{os.environ.get('XDG_CACHE_HOME') or os.path.expanduser('~/.cache')}/garterfossil"
 
@@ -72,13 +77,38 @@ class Crate:
         words += ["--antt-project", f"{kit}/rattle/logic/antt-project.json", "--logic-built", f"{kit}/logic_built"]
         return words + ["--links", f"{self.name}="]
 
-    def sum(self, kit):
-        """A sum of all that a check of it reads, of the prover and of this tool."""
+    def sum(self):
+        """A sum of its files and of those of the crates below it."""
+        return summed([it.own_files() for it in [*self.below(), self]])
+
+    def sum_of_check(self, kit):
+        """A sum of all that a check of it with an edit reads, of the prover and of what judges that here. Of a library below it a check
+        reads what it states, and not how its functions are written: a function is proved by the contracts of those that it calls."""
         prover = os.stat(f"{kit}/bin/rattle")
-        parts = [text_of(f"{kit}/KIT-ID"), prover.st_size, prover.st_mtime_ns]
-        parts += [text_of(f"{HERE}/{it}") for it in sorted(os.listdir(HERE)) if it.endswith(".py")]
-        for crate in [*self.below(), self]:
-            parts += [crate.line]
-            for file in crate.files():
-                parts += [crate.name, os.path.relpath(file, crate.folder), text_of(file)]
-        return hashlib.sha256(repr(parts).encode()).hexdigest()
+        judges = [text_of(f"{HERE}/{it}.py") for it in JUDGES]
+        libraries = [(it.name, it.stated()) for it in self.below()]
+        return summed([text_of(f"{kit}/KIT-ID"), prover.st_size, prover.st_mtime_ns, judges, self.own_files(), libraries])
+
+    def own_files(self):
+        return [self.line, *((os.path.relpath(it, self.folder), text_of(it)) for it in self.files())]
+
+    def stated(self):
+        """A sum of what its library, as built, says to those above; None if it isn't built."""
+        if not os.path.isfile(f"{self.rlib}/format"):
+            return None
+        # Each build of a library makes all its files anew.
+        built = os.stat(f"{self.rlib}/format")
+        return stated_by(self.rlib, (built.st_ino, built.st_mtime_ns))
+
+
+@functools.lru_cache(maxsize=None)
+def stated_by(rlib, _built):
+    found = []
+    for at, folders, names in os.walk(rlib):
+        folders[:] = sorted(it for it in folders if at != rlib or it in STATED)
+        found += [(os.path.relpath(f"{at}/{it}", rlib), text_of(f"{at}/{it}")) for it in sorted(names) if it not in SUMS]
+    return summed(found)
+
+
+def summed(parts):
+    return hashlib.sha256(repr(parts).encode()).hexdigest()

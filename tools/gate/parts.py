@@ -9,16 +9,35 @@ import tempfile
 import threading
 import time
 
+from .crates import CACHE, summed, text_of
+
 # What a part passed and failed.
 Count = collections.namedtuple("Count", "passed failed")
 COUNTS = re.compile(r"(\d+) passed, (\d+) failed")
+# What is told of a part beside its counts: what it lacks here.
+LACKS = re.compile(r"(?m)left out: .*|skipped=\d+")
 
 
 class Part:
-    """A program to run, and what to count of what it prints (count, of its status and its text)."""
+    """A program to run, and what to count of what it prints (count, of its status and its text). Where there is a sum of all that it
+    rests on, it is run once, if all of it passes."""
 
-    def __init__(self, name, words, folder, count):
+    def __init__(self, name, words, folder, count, rests_on=None):
         self.name, self.words, self.folder, self.count = name, words, folder, count
+        self.kept = rests_on and f"{CACHE}/tried/{summed([name, rests_on])}"
+
+    def known(self):
+        """How much of it passed, if it is known that all did."""
+        if not self.kept or not os.path.isfile(self.kept):
+            return None
+        return int(text_of(self.kept))
+
+    def keep(self, count):
+        if self.kept and count.failed == 0:
+            os.makedirs(os.path.dirname(self.kept), exist_ok=True)
+            with open(f"{self.kept}-{os.getpid()}", "w", encoding="utf-8") as it:
+                it.write(str(count.passed))
+            os.replace(it.name, self.kept)
 
 
 def one(status, _):
@@ -48,11 +67,12 @@ def cases(status, text):
 
 
 def python_tests(status, text):
-    """Of unittest: each test."""
+    """Of unittest: each test that wasn't skipped."""
     ran = re.search(r"(?m)^Ran (\d+) test", text)
-    wrong = re.search(r"(?m)^FAILED \((.*)\)", text)
-    failed = sum(map(int, re.findall(r"(?:failures|errors|unexpected successes)=(\d+)", wrong[1]))) if wrong else 0
-    return at_least_one_failed(status if ran else 1, Count(int(ran[1]) - failed if ran else 0, failed))
+    ended = re.search(r"(?m)^(?:OK|FAILED) \((.*)\)$", text)
+    counts = collections.Counter({it.strip(): int(n) for it, n in re.findall(r"([a-z ]+)=(\d+)", ended[1] if ended else "")})
+    failed = counts["failures"] + counts["errors"] + counts["unexpected successes"]
+    return at_least_one_failed(status if ran else 1, Count(int(ran[1]) - failed - counts["skipped"] if ran else 0, failed))
 
 
 def at_least_one_failed(status, count):
@@ -82,6 +102,10 @@ class Runner:
 
     def run(self, part, shows=False):
         """Runs a part, and shows what it printed once it has failed, or as it comes."""
+        known = part.known()
+        if known is not None:
+            self.add(part, Count(known, 0), "as earlier")
+            return
         begun, lines = time.time(), []
         environment = dict(os.environ, TMPDIR=self.folder) if part.words[0] != "rt" or "ci" not in part.words else None
         with tempfile.TemporaryFile("w+", dir=self.folder, errors="replace", encoding="utf-8") as out:
@@ -95,9 +119,12 @@ class Runner:
             out.seek(0)
             text = "".join(lines) or out.read()
         count = part.count(status, text)
+        part.keep(count)
+        took = "; ".join([f"in {time.time() - begun:.0f} seconds", *LACKS.findall(text)])
+        self.add(part, count, took, text if count.failed and not shows else "")
+
+    def add(self, part, count, how, text=""):
         with self.printing:
             self.passed, self.failed = self.passed + count.passed, self.failed + count.failed
-            if count.failed and not shows:
-                sys.stdout.write(text)
-            took = f"{time.time() - begun:.0f} seconds"
-            print(f"check: {part.name}: {count.passed} passed, {count.failed} failed, in {took}", flush=True)
+            sys.stdout.write(text)
+            print(f"check: {part.name}: {count.passed} passed, {count.failed} failed, {how}", flush=True)

@@ -76,12 +76,16 @@ class Prover:
     def prove(self, edits, whole):
         """Makes the seed, begun with what is kept in out/. If nothing is kept, the edits' functions and what they call are enough.
         Returns why the crate isn't proved, if it isn't."""
-        if os.path.isdir(self.crate.kept):
+        is_begun = True
+        try:
             linked(self.crate.kept, self.seed)
-        else:
+        except (OSError, shutil.Error):
+            # none, or another command writes it just now
+            shutil.rmtree(self.seed, ignore_errors=True)
             os.mkdir(self.seed)
+            is_begun = False
         paths = {it.path() for it in edits}
-        whole = whole or os.path.isdir(self.crate.kept) or None in paths
+        whole = whole or is_begun or None in paths
         said = self.check([], [] if whole else asking(paths), self.seed)
         if said.status:
             return said

@@ -5,7 +5,7 @@ import re
 
 PLACE = r"(?:\./)?(?P<file>[^\s:]+):(?P<line>\d+):\d+: "
 FUNCTION = re.compile(r"(?P<what>fn|impl|struct|enum|cycle) (?P<name>\S+): (?P<words>.*)")
-GOAL = re.compile(rf"note: {PLACE}(?P<what>.*?) \(`(?P<goal>\S+)`\)")
+GOAL = re.compile(rf"note: {PLACE}.*? \(`(?P<goal>\S+)`\)")
 ERROR = re.compile(rf"{PLACE}error\b(?P<code>\[[\w-]+\])?: (?:`(?P<answer>[^`\s]+)`: )?(?P<words>.*)")
 OPEN = re.compile(r"did not prove ((?:`[^`]*`(?:, | and )?)+)")
 # A proof that names what is no longer there.
@@ -17,20 +17,23 @@ LIMIT = re.compile(
     r"|(?:outgrew the memory limit|stopped at the step limit) \("
 )
 
-# A goal that is open, the place of what it is about if one was printed, and what it says in words.
-Goal = collections.namedtuple("Goal", "name file line words")
+# A goal that is open, and the place of what it is about, if one was printed.
+Goal = collections.namedtuple("Goal", "name file line")
 
 
 class Report:
     """What was said of a function, or of another item: its line, and the open goals that stand before it."""
 
-    def __init__(self, found, goals):
+    def __init__(self, found, noted):
         self.name, self.words, self.is_function = found["name"], found["words"], found["what"] == "fn"
-        names = re.findall(r"`([^`]*)`", OPEN.search(self.words)[1]) if OPEN.search(self.words) else []
-        self.goals = [] if self.words == "proved" else goals
-        self.goals += [Goal(it, "", 0, "search did not prove it") for it in names if it not in {one.name for one in goals}]
         self.is_proved = self.words == "proved"
         self.is_held_up = self.words.startswith("no proof: it calls ")
+        self.noted = [] if self.is_proved else noted
+        opened = OPEN.search(self.words)
+        names = re.findall(r"`([^`]*)`", opened[1]) if opened else []
+        # Those that its line names, where they weren't noted, have no place.
+        self.named = [Goal(it, "", 0) for it in names]
+        self.goals = self.noted + [it for it in self.named if it.name not in {one.name for one in self.noted}]
 
     def path(self):
         return self.name.partition("::")[2]
@@ -64,7 +67,7 @@ def reports(text):
             found.append(Report(of, goals))
             goals = []
         elif goal:
-            goals.append(Goal(goal["goal"], goal["file"], int(goal["line"]), goal["what"]))
+            goals.append(Goal(goal["goal"], goal["file"], int(goal["line"])))
     return found
 
 

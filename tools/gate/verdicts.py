@@ -23,9 +23,9 @@ def own_goals(edit, symbol, found):
     what it is about, or by the function's line."""
     for it in found:
         function = edit.function
-        here = [goal for goal in it.goals if goal.file == function.file and goal.line in function.lines]
-        if here or it.name == symbol and it.goals:
-            return told(it, here or it.goals)
+        here = [goal for goal in it.noted if goal.file == function.file and goal.line in function.lines]
+        if here or it.name == symbol and it.named:
+            return told(it, here or it.named)
     return ""
 
 

@@ -1,4 +1,4 @@
-//! A run of a scenario as a picture: a sequence diagram of its calls and answers, with the log and the branches.
+//! The events of a run as a picture: a sequence diagram of the calls and answers, with the log and the branches.
 //!
 //! "XA" in these pages is X/Open CAE Specification C193, "Distributed Transaction Processing: The XA Specification"
 //! (1991).
@@ -9,7 +9,6 @@ mod bars;
 mod canvas;
 mod chart;
 mod lanes;
-mod picture;
 mod rows;
 
-pub use picture::{ChartFault, draw_scenario};
+pub use chart::chart_text;

@@ -1,5 +1,4 @@
-//! A run of a scenario as a story: a line for each event that a person reads, and then what became of the branches and
-//! why.
+//! The events of a run as a story: a line for each that a person reads, and then what became of the branches and why.
 //!
 //! "XA" in these pages is X/Open CAE Specification C193, "Distributed Transaction Processing: The XA Specification"
 //! (1991).
@@ -11,7 +10,6 @@ mod crashes;
 mod decisions;
 mod effect;
 mod ends;
-mod explain;
 mod ledger;
 mod line;
 mod names;
@@ -23,12 +21,11 @@ mod story;
 mod waits;
 mod words;
 
-pub use explain::explain_scenario;
 pub use line::{Line, LogChange};
 pub use names::Names;
 pub use party::{Party, Sides, party_text};
 pub use scene::Scene;
 pub use standings::Move;
-pub use story::lines_of;
+pub use story::{lines_of, story_text};
 pub use waits::Waiting;
 pub use words::standing_text;

@@ -3,11 +3,10 @@
 use crate::failure::Failure;
 use std::alloc::Global;
 use std::io::Write;
-use xa_chart::draw_scenario;
 use xa_diagnostics::explain_check;
+use xa_display::{draw_scenario, explain_scenario};
 use xa_log::MemLog;
 use xa_scenario::check_scenario;
-use xa_story::explain_scenario;
 
 /// Reads the scenario in a text only, and tells what is wrong with it, where that is asked for.
 pub(crate) fn check<W: Write>(

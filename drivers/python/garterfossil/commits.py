@@ -103,8 +103,9 @@ class Commits:
             reply = self._coordinator.decide([commit.gtrid for commit in group], "commit")
             for commit in group:
                 commit.behind.post()
-            # What was asked for with the decision has come as well then: nobody waits for it one by one.
-            self._coordinator.see_arrived()
+            if len(group) > 1:
+                # What was asked for with the decision has come as well then: no thread waits for its own.
+                self._coordinator.see_arrived()
             self._coordinator.wait(reply)
         except Refused as refused:
             for commit in group:

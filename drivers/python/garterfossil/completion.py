@@ -29,6 +29,9 @@ class Completion:
         #: What the program works with.
         self.branch = Branch(line, self._connection, xid)
         self._connection.options, self._connection.limit = options, limit
+        self._end = Call("xa_end", xid, ("TMSUCCESS",))
+        self._prepare = Call("xa_prepare", xid)
+        self._commit = Call("xa_commit", xid)
         self._is_active = False
         self._was_asked = False
         # Its vote, if that is a rollback.
@@ -105,9 +108,8 @@ class Completion:
 
     def send_commit(self) -> None:
         """Sends xa_commit, if it waits and can be sent ahead of `commit`."""
-        call = Call("xa_commit", self.xid)
-        if self.line.waits_for(call):
-            self.line.send(call)
+        if self.line.waits_for(self._commit):
+            self.line.send(self._commit)
 
     def prepare(self) -> Code:
         """xa_prepare, which waits: the vote. Unless that is OK the branch is over."""
@@ -124,14 +126,6 @@ class Completion:
         self.end()
         return call
 
-    @property
-    def _end(self) -> Call:
-        return Call("xa_end", self.xid, ("TMSUCCESS",))
-
-    @property
-    def _prepare(self) -> Call:
-        return Call("xa_prepare", self.xid)
-
     def _leave(self) -> None:
         """No work goes on in the branch."""
         self._is_active = False
@@ -140,7 +134,7 @@ class Completion:
     def issue_commit(self) -> None:
         """Issues xa_commit of the prepared branch, if it has a connection."""
         if self.line.connection is not None:
-            self.line.issue(Call("xa_commit", self.xid))
+            self.line.issue(self._commit)
 
     def take_back_commit(self) -> None:
         """The xa_commit that was issued was refused, with the decision."""
@@ -149,7 +143,7 @@ class Completion:
 
     def commit(self) -> None:
         """xa_commit of the prepared branch. Of any other answer than OK, also that the coordinator heard it."""
-        code = self._told(Call("xa_commit", self.xid), None)
+        code = self._told(self._commit, None)
         if code is not Code.OK:
             self.line.see_heard()
         if code.is_heuristic:

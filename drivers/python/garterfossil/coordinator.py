@@ -4,7 +4,6 @@ from __future__ import annotations
 
 import collections
 import logging
-import os
 import subprocess
 import threading
 import time
@@ -132,13 +131,14 @@ class Coordinator:
         """The name of the transaction that began."""
         return self.wait(reply).split(" ")[1]
 
-    def issue(self, thread: int, rm: int, call: Call) -> int:
-        """Lets a call wait on the line of the thread to the resource manager. Once it is done, the call may be made."""
-        return self.tell(f"issue {thread} {rm} {call}")
+    def issue(self, line: str, call: Call) -> int:
+        """Lets a call wait on a line, which is named by its thread and its resource manager, as `0 1`. Once it is done, the call may be
+        made."""
+        return self.tell(f"issue {line} {call}")
 
-    def answer(self, thread: int, rm: int, call: Call, answer: Answer) -> int:
-        """Tells how the call that waits first on the line was answered."""
-        return self.tell(f"answer {thread} {rm} {answer.words_to(call)}")
+    def answer(self, line: str, call: Call, answer: Answer) -> int:
+        """Tells how the call that waits first on a line was answered."""
+        return self.tell(f"answer {line} {answer.words_to(call)}")
 
     def waiting(self, thread: int, rm: int) -> Optional[Call]:
         """The call that waits first on the line."""
@@ -150,9 +150,10 @@ class Coordinator:
         Where one of them is refused, none is decided."""
         return self.post(" ".join(["decide", *gtrids, outcome]))
 
-    def done(self, gtrids: Iterable[str]) -> None:
-        """The rows of committed transactions, of which each branch has acknowledged, leave the log."""
-        self.ask(" ".join(["done", *gtrids]))
+    def done(self, gtrids: Iterable[str]) -> Reply:
+        """The rows of committed transactions, of which each branch has acknowledged, leave the log. If one of them is refused, none
+        does."""
+        return self.post(" ".join(["done", *gtrids]))
 
     def resolve(self, rm: int) -> int:
         """Lets the calls wait on line `0 rm` that end what the last page of the resource manager lists. How many."""
@@ -162,9 +163,9 @@ class Coordinator:
         """The branches at the resource manager that rows of earlier incarnations wait for."""
         return [Xid.parse(word) for word in self.ask(f"owed {rm}").split(" ")[2:]]
 
-    def crash_line(self, thread: int, rm: int) -> None:
-        """The connection of the thread to the resource manager is lost, and what waits on the line with it."""
-        self.ask(f"crash line {thread} {rm}")
+    def crash_line(self, line: str) -> None:
+        """The connection of a line is lost, and what waits on the line with it."""
+        self.ask(f"crash line {line}")
 
     def quit(self) -> None:
         """Ends the session and the process. What is open stays in doubt, as after a crash."""
@@ -302,12 +303,14 @@ class Coordinator:
         """Sleeps until another thread wakes this one. Called with the lock `_reading`, which is free meanwhile."""
         mine = number, threading.Lock()
         mine[1].acquire()
-        self._asleep.append(mine)
-        self._reading.release()
         try:
-            mine[1].acquire()
+            self._asleep.append(mine)
+            self._reading.release()
+            try:
+                mine[1].acquire()
+            finally:
+                self._reading.acquire()
         finally:
-            self._reading.acquire()
             if mine in self._asleep:
                 self._asleep.remove(mine)
 

@@ -27,7 +27,8 @@ class Line:
         self.rm = rm
         self.connection: Optional[Connection] = None
         self._coordinator = coordinator
-        self._thread = thread
+        # How requests name the line.
+        self._route = f"{thread} {rm.number}"
         self._patience = patience
         # The calls that wait on the line: they were issued, and are yet to be made.
         self._waiting: Deque[Call] = collections.deque()
@@ -63,7 +64,7 @@ class Line:
         if connection is not None:
             self.rm.drop(connection)
         if not self._coordinator.is_gone:
-            self._coordinator.crash_line(self._thread, self.rm.number)
+            self._coordinator.crash_line(self._route)
             if unseen:
                 self._coordinator.forget(unseen)
 
@@ -120,7 +121,7 @@ class Line:
             return
         self._see_due()
         try:
-            self.see_told()
+            self._see_told()
             self.connection.send(call)
         except BaseException:
             self.lose()
@@ -140,12 +141,12 @@ class Line:
 
     def _post(self, call: Call) -> None:
         self._waiting.append(call)
-        self._unseen.append(self._coordinator.issue(self._thread, self.rm.number, call))
+        self._unseen.append(self._coordinator.issue(self._route, call))
         self._due = len(self._unseen)
 
     def _make(self, call: Call) -> Answer:
         try:
-            self.see_told()
+            self._see_told()
             answer = self._answer_to(call)
             self._tell(call, answer)
         except BaseException:
@@ -153,7 +154,7 @@ class Line:
             raise
         return answer
 
-    def see_told(self) -> None:
+    def _see_told(self) -> None:
         """Sees that the answer to the call before is written, before the next one is made: the coordinator takes for done of a line
         that is lost no more than the call that waits first."""
         self._coordinator.see_written(self._told)
@@ -198,7 +199,7 @@ class Line:
         """Tells an answer. The reply isn't waited for: it comes before that to the next request."""
         if self._waiting:
             self._waiting.popleft()
-        self._told = self._coordinator.answer(self._thread, self.rm.number, call, answer)
+        self._told = self._coordinator.answer(self._route, call, answer)
         self._unseen.append(self._told)
 
     def _answer_to(self, call: Call) -> Answer:

@@ -19,14 +19,11 @@ from .logs import is_new_log
 from .outcomes import Outcomes
 from .recovery import recover
 from .resource_manager import GLANCE, ResourceManager
+from .rows import Rows
 from .threads import Threads
 from .xid import Xid
 
 log = logging.getLogger("garterfossil")
-
-#: So many rows leave the log by one request, which is one write of the log. A row that stays until the next session costs that one
-#: some calls, and no more.
-DONE_AT_ONCE = 32
 
 
 @dataclass(frozen=True)
@@ -67,8 +64,8 @@ class Session:
         self._begun: List[Optional[Reply]] = [None] * settings.threads
         # The transactions of a session are numbered. By thread, the last that began.
         self._last = [0] * settings.threads
-        self._done: List[str] = []
-        self._done_lock = threading.Lock()
+        #: Where a committed transaction goes of which all branches have acknowledged.
+        self.rows = Rows(self.coordinator)
         try:
             self._take_over(is_first)
         except BaseException:
@@ -116,7 +113,11 @@ class Session:
         """The transaction of a thread is over, or none was begun: another one may have it."""
         try:
             for line in self._lines[thread]:
-                line.let_go()
+                try:
+                    line.let_go()
+                except XaError as error:
+                    # What the transaction left there is over with the session.
+                    log.warning("%s: %s", line.rm.label, error)
         finally:
             self.threads.give_back(thread)
 
@@ -150,15 +151,6 @@ class Session:
         """Decides that the transaction rolls back."""
         self.coordinator.wait(self.coordinator.decide([gtrid], "rollback"))
 
-    def note_done(self, gtrid: str) -> None:
-        """All branches of the committed transaction have acknowledged: its row may leave the log."""
-        with self._done_lock:
-            self._done.append(gtrid)
-            if len(self._done) < DONE_AT_ONCE:
-                return
-            gtrids, self._done = self._done, []
-        self._finish(gtrids)
-
     def owe(self, rm: int, call: Call) -> None:
         """The end of a branch couldn't be told, or wasn't acknowledged: the next recovery there sees to it."""
         self.debts.add(rm, call)
@@ -166,20 +158,7 @@ class Session:
     def pay(self, rm: int, call: Call) -> None:
         """It is now."""
         if self.debts.settle(rm, call) and call.name == "xa_commit":
-            self.note_done(call.branch.transaction)
-
-    def _finish(self, gtrids: List[str]) -> None:
-        try:
-            if gtrids:
-                self.coordinator.done(gtrids)
-        except Refused as refused:
-            # None of the rows left. The others may, without the one that can't.
-            log.warning("a row stays in the log: %s", refused)
-            if len(gtrids) > 1:
-                for gtrid in gtrids:
-                    self._finish([gtrid])
-        except XaError as error:
-            log.warning("rows stay in the log until the next session: %s", error)
+            self.rows.add(call.branch.transaction)
 
     # ** recovery
 
@@ -212,9 +191,7 @@ class Session:
             raise Overdue(f"transactions were open for {self.patience} seconds after the end: they are rolled back") from error
 
     def _leave(self) -> None:
-        with self._done_lock:
-            gtrids, self._done = self._done, []
-        self._finish(gtrids)
+        self.rows.finish()
         self.coordinator.quit()
         for lines in self._lines:
             for line in lines:

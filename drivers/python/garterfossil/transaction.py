@@ -270,7 +270,7 @@ class Transaction:
         self._each(prepared, Completion.send_commit, [])
         told = [branch for branch in prepared if self._is_done("xa_commit", branch, branch.commit)]
         if prepared and told == prepared:
-            self._session.note_done(self.gtrid)
+            self._session.rows.add(self.gtrid)
         odd = [f"{branch.line.rm.label}: {branch.oddity}" for branch in prepared if branch.oddity]
         if odd:
             self.is_heuristic = True

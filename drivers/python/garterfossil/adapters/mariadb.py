@@ -31,6 +31,8 @@ LOST = frozenset([0, 1053, 1317, 1927, 2003, 2006, 2013, 2014, 2055])
 
 #: How MariaDB refuses a user, a password, a database or a privilege.
 REFUSALS = frozenset([1044, 1045, 1049, 1130, 1142, 1227, 1698])
+#: The calls that can be sent ahead of their answer.
+VERBS = {"xa_prepare": "PREPARE", "xa_commit": "COMMIT"}
 #: A place has so many named locks at most: each of its connections holds one.
 LOCKS = 512
 #: What PyMySQL's own connection shows to a program.
@@ -275,7 +277,7 @@ class MariaDBConnection(Connection):
     def send(self, call: Call) -> None:
         if call.branch != self._xid or self._fault is not None:
             return
-        statement = statement_of("PREPARE" if call.name == "xa_prepare" else "COMMIT", call.branch)
+        statement = statement_of(VERBS[call.name], call.branch)
         try:
             self._send(statement)
         except (self.errors.MySQLError, OSError) as error:

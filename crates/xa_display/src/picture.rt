@@ -2,17 +2,17 @@
 
 ghost use Rattle.std.specs.Prelude.{◌≡◌, Err, IsErr};
 ghost use Rattle.std.specs.Io.KnownBytes.{Keeps};
-ghost use Rattle.xa_chart.specs.declared.picture.ChartFault.TheVariants.{Run, TooLong};
+ghost use Rattle.xa_display.specs.declared.picture.ChartFault.TheVariants.{Run, TooLong};
 ghost use Rattle.xa_files.specs.declared.fault.RunFault.TheVariants as Faults;
 ghost use Rattle.xa_scenario.specs.Scenarios.{scenario_of};
 
-use crate::chart::chart_text;
 use std::alloc::Global;
 use std::io::Write;
-use xa_base::Memory;
+use xa_base::{Event, Memory};
+use xa_chart::chart_text;
 use xa_files::{RunFault, write_text};
 use xa_log::DecisionLog;
-use xa_scenario::{read_named_scenario, system_after};
+use xa_scenario::{NamedScenario, read_named_scenario, system_after};
 use xa_story::{Scene, lines_of};
 
 /// The most events of a picture.
@@ -64,10 +64,20 @@ pub fn draw_scenario<L: DecisionLog + Drop, W: Write>(
     if events.len() > MAX_EVENTS {
         return Err(ChartFault::TooLong);
     }
+    let picture = picture_of(alloc, &named, events)?;
+    write_text(picture.as_bytes(), out)?;
+    Ok(())
+}
+
+/// The picture of the events of a scenario.
+fn picture_of(
+    alloc: Global,
+    named: &NamedScenario,
+    events: &[Event],
+) -> Result<String, ChartFault> {
     let mut scene = Scene::new(alloc, &named.names);
     let lines = lines_of(alloc, &mut scene, events)?;
     let (threads, rms) = (named.scenario.threads, named.scenario.rms);
     let picture = chart_text(alloc, threads, rms, &scene, &lines, events)?;
-    write_text(picture.as_bytes(), out)?;
-    Ok(())
+    Ok(picture)
 }

@@ -2,7 +2,7 @@ use Rattle.std.proofs.lemmas.Result.{err_from_is_err_and}
 use Rattle.xa_scenario.specs.Scenarios.{scenario_of}
 use Rattle.xa_files.proofs.ReadingLemmas.{ends_with}
 use Rattle.xa_scenario.proofs.RunLemmas.{explains, not_of_work}
-use Rattle.xa_story.proofs.explain.explain_scenario.Goals as goal
+use Rattle.xa_display.proofs.explain.explain_scenario.Goals as goal
 
 pub returns-in_err-named-clause-fault : goal.returns-in_err-named-clause-fault
 returns-in_err-named-clause-fault g c =
