@@ -142,9 +142,6 @@ def prepare(world):
         database = world.databases()[rm]
         rows(database, f"DROP TABLE IF EXISTS {table}")
         rows(database, f"CREATE TABLE {table} (gtrid char(32) PRIMARY KEY, amount bigint)")
-    path = f"{world.log}-resources"
-    if os.path.exists(path):
-        os.remove(path)
 
 
 def run(world, count, threads, seed):

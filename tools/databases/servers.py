@@ -145,8 +145,8 @@ class PostgreSQLServer(Server):
         run([binary("initdb"), "-D", f"{self.home}/data", "-A", "trust", "-U", "xa", "--no-sync", "-E", "UTF8", "--locale=C"], cwd=self.home)
         with open(f"{self.home}/data/postgresql.conf", "a") as it:
             it.write(
-                f"unix_socket_directories = '{self.home}'\nmax_connections = 40\n"
-                "max_prepared_transactions = 64\nshared_buffers = 32MB\nmax_wal_size = 256MB\nautovacuum = off\n"
+                f"unix_socket_directories = '{self.home}'\nmax_connections = 250\n"
+                "max_prepared_transactions = 200\nshared_buffers = 32MB\nmax_wal_size = 256MB\nautovacuum = off\n"
                 "max_parallel_workers = 0\njit = off\n"
             )
 
@@ -214,7 +214,7 @@ class MariaDBServer(Server):
         network = ["--skip-networking"] if self.port is None else ["--bind-address=127.0.0.1", f"--port={self.port}"]
         return [binary("mariadbd"), "--no-defaults", f"--datadir={self.home}/data", f"--tmpdir={self.home}/tmp",
                 f"--socket={self.home}/sock", f"--pid-file={self.home}/pid", *network, "--innodb-log-file-size=16M",
-                "--innodb-buffer-pool-size=32M", "--performance-schema=OFF", "--max-connections=40", "--skip-log-bin"]
+                "--innodb-buffer-pool-size=32M", "--performance-schema=OFF", "--max-connections=250", "--skip-log-bin"]
 
     def answers(self):
         import pymysql

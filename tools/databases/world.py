@@ -13,7 +13,7 @@ HERE = os.path.dirname(os.path.realpath(__file__))
 TOP = os.path.dirname(os.path.dirname(HERE))
 sys.path.insert(0, os.path.join(TOP, "drivers", "python"))
 
-ACCOUNTS = 50
+ACCOUNTS = 128
 #: What all accounts of both databases hold together.
 SUM = 2 * ACCOUNTS * 1000
 
@@ -113,7 +113,7 @@ class World:
 
     def prepare(self):
         """Makes the tables anew, with 1,000 on each account, and a new log."""
-        for path in (self.log, f"{self.log}-wal", f"{self.home}/told"):
+        for path in (self.log, f"{self.log}-wal", f"{self.log}-resources", f"{self.home}/told"):
             if os.path.exists(path):
                 os.remove(path)
         from garterfossil.adapters.base import Place

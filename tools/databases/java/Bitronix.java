@@ -20,7 +20,7 @@ public class Bitronix implements Speed.Way {
             source.setUniqueName("db" + rm);
             source.setClassName(Speed.source(urls[rm]).getClass().getName());
             source.getDriverProperties().setProperty("url", urls[rm]);
-            source.setMaxPoolSize(8);
+            source.setMaxPoolSize(64);
             source.setPreparedStatementCacheSize(4);
             source.init();
             sources[rm] = source;

@@ -27,7 +27,7 @@ import javax.transaction.xa.Xid;
  * The PROGRAM is the coordinator.
  */
 public class Speed {
-    static final int ACCOUNTS = 50, RMS = 2;
+    static final int ACCOUNTS = 128, RMS = 2;
 
     /** A way to make transfers. */
     interface Way {

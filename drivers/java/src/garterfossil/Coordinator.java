@@ -69,10 +69,15 @@ final class Coordinator {
     private final Object ending = new Object();
     private volatile String fault;
 
+    /** What starts the process. */
+    interface Starter {
+        Process start(List<String> words) throws IOException;
+    }
+
     /** Starts the process. The session begins with a line of its own. */
-    Coordinator(List<String> command) throws Fault.Gone {
+    Coordinator(Starter starter, List<String> words) throws Fault.Gone {
         try {
-            process = new ProcessBuilder(inOwnGroup(command)).start();
+            process = starter.start(words);
         } catch (IOException error) {
             throw new Fault.Gone("it doesn't start: " + error.getMessage());
         }
@@ -109,13 +114,11 @@ final class Coordinator {
         return reply.line;
     }
 
-    private static List<String> inOwnGroup(List<String> command) {
-        if (!SETSID.canExecute()) {
-            return command;
-        }
-        List<String> words = new ArrayList<>(List.of(SETSID.getPath()));
-        words.addAll(command);
-        return words;
+    /** Starts a program, in a process group of its own if there is what makes one. */
+    static Process start(List<String> words) throws IOException {
+        List<String> all = new ArrayList<>(SETSID.canExecute() ? List.of(SETSID.getPath()) : List.of());
+        all.addAll(words);
+        return new ProcessBuilder(all).start();
     }
 
     boolean isGone() {

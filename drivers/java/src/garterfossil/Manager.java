@@ -30,7 +30,7 @@ public final class Manager implements AutoCloseable {
         private String name = "";
         private int threads = 32;
         private Duration timeout = Duration.ofSeconds(60), patience = Duration.ofSeconds(20);
-        private List<String> command;
+        private Coordinator.Starter starter = Coordinator::start;
 
         private Builder(Path log) {
             this.log = log;
@@ -48,9 +48,9 @@ public final class Manager implements AutoCloseable {
             return this;
         }
 
-        /** The words that start the coordinator, without its threads and resource managers. */
-        Builder command(List<String> words) {
-            command = words;
+        /** What starts the coordinator. */
+        Builder starter(Coordinator.Starter given) {
+            starter = given;
             return this;
         }
 
@@ -179,22 +179,16 @@ public final class Manager implements AutoCloseable {
     }
 
     private Coordinator coordinator() throws Fault {
-        List<String> words = new ArrayList<>();
-        if (made.command != null) {
-            words.addAll(made.command);
-        } else {
-            words.addAll(List.of(made.program, "serve"));
-            if (!made.name.isEmpty()) {
-                words.addAll(List.of("--name", made.name));
-            }
-            names.forEach(name -> words.addAll(List.of("--rm", name)));
-            words.addAll(List.of("--log", made.log.toString()));
+        List<String> words = new ArrayList<>(List.of(made.program, "serve"));
+        if (!made.name.isEmpty()) {
+            words.addAll(List.of("--name", made.name));
         }
-        words.addAll(List.of(Integer.toString(made.threads + 1), Integer.toString(names.size())));
+        names.forEach(name -> words.addAll(List.of("--rm", name)));
+        words.addAll(List.of("--log", made.log.toString(), Integer.toString(made.threads + 1), Integer.toString(names.size())));
         long until = System.nanoTime() + made.patience.toNanos();
         while (true) {
             try {
-                return new Coordinator(words);
+                return new Coordinator(made.starter, words);
             } catch (Fault.Gone gone) {
                 if (gone.getMessage().contains("xatm: log: ") || gone.getMessage().contains("another protocol")) {
                     throw new Fault.Unavailable("the log " + made.log + " isn't this manager's", gone);

@@ -123,7 +123,7 @@ public class RecoveryTest {
     public void resourcesKeepTheirNumbers() throws Exception {
         world.manager.close();
         assertEquals("a\nb\n", Files.readString(world.folder.resolve("log-resources")));
-        Manager other = Manager.over(world.folder.resolve("log")).command(world.commandWords()).threads(2).resource(world.b).start();
+        Manager other = Manager.over(world.folder.resolve("log")).starter(words -> new StandInCoordinator(world.folder)).threads(2).resource(world.b).start();
         GlobalTransaction transaction = other.begin(Duration.ofSeconds(5));
         transaction.enlist(world.b);
         assertTrue(world.b.branches.keySet().iterator().next().toString().endsWith("00000001"));

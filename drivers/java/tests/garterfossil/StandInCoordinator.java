@@ -2,7 +2,13 @@ package garterfossil;
 
 import java.io.BufferedReader;
 import java.io.IOException;
+import java.io.InputStream;
 import java.io.InputStreamReader;
+import java.io.OutputStream;
+import java.io.PipedInputStream;
+import java.io.PipedOutputStream;
+import java.io.PrintStream;
+import java.io.UncheckedIOException;
 import java.nio.charset.StandardCharsets;
 import java.nio.file.Files;
 import java.nio.file.Path;
@@ -17,20 +23,28 @@ import java.util.List;
 import java.util.Map;
 import java.util.Set;
 import java.util.TreeMap;
+import java.util.concurrent.CountDownLatch;
+import java.util.concurrent.TimeUnit;
 import java.util.stream.Collectors;
 
 /**
  * A stand-in for {@code xatm serve}: it replies as docs/SERVE.md says, keeps its rows in files of a folder, and takes an answer only
  * where XA's branch state table (C193, chapter 6) has a state that explains it.
  *
- * <p>Usage: StandInCoordinator FOLDER THREADS RMS. It writes each request that it reads to FOLDER/requests. Where the file
- * FOLDER/die-at has a word, it ends at the first request that begins with it, instead of a reply, and removes the file;
+ * <p>It writes each request that it reads to the file `requests` of its folder. Where the file `die-at` has a word, it ends at the
+ * first request that begins with it, instead of a reply, and removes the file;
  * {@code decided} is a decision to commit that it makes and doesn't tell. It begins with the line of the protocol where the file
- * FOLDER/protocol has its words.
+ * `protocol` has its words.
  */
-public final class StandInCoordinator {
+final class StandInCoordinator extends Process {
     private static final int S0 = 1, S1 = 2, S2 = 4, S3 = 8, S4 = 16, S5 = 32;
 
+    private final PipedOutputStream input = new PipedOutputStream();
+    private final PipedInputStream output = new PipedInputStream(65536);
+    private final PipedInputStream fromDriver;
+    private final PipedOutputStream toDriver;
+    private final CountDownLatch ended = new CountDownLatch(1);
+    private final Thread thread;
     private final Path folder;
     private final long incarnation;
     private final Map<String, List<String>> rows = new TreeMap<>();
@@ -44,8 +58,10 @@ public final class StandInCoordinator {
     private final Set<String> recorded = new HashSet<>();
     private long sequence;
 
-    private StandInCoordinator(Path folder) throws IOException {
+    StandInCoordinator(Path folder) throws IOException {
         this.folder = folder;
+        fromDriver = new PipedInputStream(input, 65536);
+        toDriver = new PipedOutputStream(output);
         Path counter = folder.resolve("incarnation");
         incarnation = Files.exists(counter) ? Long.parseLong(Files.readString(counter)) + 1 : 1;
         Files.writeString(counter, Long.toString(incarnation));
@@ -57,6 +73,10 @@ public final class StandInCoordinator {
             }
         }
         found = new TreeMap<>(rows);
+        save();
+        thread = new Thread(this::serve, "a stand-in for the coordinator");
+        thread.setDaemon(true);
+        thread.start();
     }
 
     private void save() throws IOException {
@@ -68,7 +88,7 @@ public final class StandInCoordinator {
         Path file = folder.resolve("die-at");
         if (Files.exists(file) && moment.startsWith(Files.readString(file).trim())) {
             Files.delete(file);
-            Runtime.getRuntime().halt(9);
+            throw new IOException("it ends");
         }
     }
 
@@ -315,20 +335,84 @@ public final class StandInCoordinator {
         }
     }
 
-    public static void main(String[] words) throws IOException {
-        StandInCoordinator it = new StandInCoordinator(Path.of(words[0]));
-        it.save();
-        if (Files.exists(it.folder.resolve("protocol"))) {
-            System.out.println("protocol " + Files.readString(it.folder.resolve("protocol")).trim());
-        }
-        System.out.println("restarted " + it.incarnation + " " + it.rows.size() + " 0");
-        BufferedReader input = new BufferedReader(new InputStreamReader(System.in, StandardCharsets.ISO_8859_1));
-        for (String line = input.readLine(); line != null; line = input.readLine()) {
-            System.out.print(it.reply(line) + "\n");
-            System.out.flush();
-            if (line.equals("quit")) {
-                return;
+    /** Replies to requests until it is told to end. */
+    private void serve() {
+        try (PrintStream replies = new PrintStream(toDriver, true, StandardCharsets.ISO_8859_1)) {
+            if (Files.exists(folder.resolve("protocol"))) {
+                replies.print("protocol " + Files.readString(folder.resolve("protocol")).trim() + "\n");
             }
+            replies.print("restarted " + incarnation + " " + rows.size() + " 0\n");
+            replies.flush();
+            BufferedReader requests = new BufferedReader(new InputStreamReader(fromDriver, StandardCharsets.ISO_8859_1));
+            for (String line = requests.readLine(); line != null; line = requests.readLine()) {
+                replies.print(reply(line) + "\n");
+                replies.flush();
+                if (line.equals("quit")) {
+                    return;
+                }
+            }
+        } catch (IOException error) {
+            // It is killed, or the driver is gone.
+        } finally {
+            ended.countDown();
         }
+    }
+
+    // ** as a process
+
+    @Override
+    public OutputStream getOutputStream() {
+        return input;
+    }
+
+    @Override
+    public InputStream getInputStream() {
+        return output;
+    }
+
+    @Override
+    public InputStream getErrorStream() {
+        return InputStream.nullInputStream();
+    }
+
+    @Override
+    public int waitFor() throws InterruptedException {
+        ended.await();
+        return 0;
+    }
+
+    @Override
+    public boolean waitFor(long count, TimeUnit unit) throws InterruptedException {
+        return ended.await(count, unit);
+    }
+
+    @Override
+    public int exitValue() {
+        if (ended.getCount() > 0) {
+            throw new IllegalThreadStateException("it runs");
+        }
+        return 0;
+    }
+
+    @Override
+    public boolean isAlive() {
+        return ended.getCount() > 0;
+    }
+
+    @Override
+    public void destroy() {
+        try {
+            toDriver.close();
+            fromDriver.close();
+        } catch (IOException error) {
+            throw new UncheckedIOException(error);
+        }
+        thread.interrupt();
+    }
+
+    @Override
+    public Process destroyForcibly() {
+        destroy();
+        return this;
     }
 }

@@ -28,14 +28,8 @@ final class World extends ExternalResource {
         managers.add(manager);
     }
 
-    List<String> commandWords() {
-        String java = Path.of(System.getProperty("java.home"), "bin", "java").toString();
-        return List.of(java, "-XX:TieredStopAtLevel=1", "-XX:+UseSerialGC", "-cp", System.getProperty("java.class.path"),
-            "garterfossil.StandInCoordinator", folder.toString());
-    }
-
     Manager.Builder builder() {
-        return Manager.over(folder.resolve("log")).command(commandWords()).threads(4).patience(Duration.ofSeconds(8)).resource(a).resource(b);
+        return Manager.over(folder.resolve("log")).starter(words -> new StandInCoordinator(folder)).threads(4).patience(Duration.ofSeconds(8)).resource(a).resource(b);
     }
 
     @Override

@@ -1,22 +1,26 @@
 package garterfossil.jdbc;
 
 import garterfossil.Fault;
+import java.nio.charset.StandardCharsets;
 import java.sql.Connection;
 import java.sql.PreparedStatement;
 import java.sql.ResultSet;
 import java.sql.SQLException;
 import java.sql.Statement;
 import java.util.ArrayList;
+import java.util.HexFormat;
 import java.util.List;
 import java.util.Set;
+import java.util.stream.Collectors;
+import java.util.stream.IntStream;
 
 /** How a kind of database knows its connections, and how they are ended from outside. */
 enum Dialect {
     POSTGRESQL {
         @Override
-        long number(Connection connection, String manager) throws SQLException {
+        long number(Connection connection, String label) throws SQLException {
             try (PreparedStatement statement = connection.prepareStatement("SELECT set_config('application_name', ?, false), pg_backend_pid()")) {
-                statement.setString(1, application(manager));
+                statement.setString(1, application(label));
                 try (ResultSet rows = statement.executeQuery()) {
                     rows.next();
                     return rows.getLong(2);
@@ -25,9 +29,14 @@ enum Dialect {
         }
 
         @Override
-        List<Long> others(Connection connection, String manager) throws SQLException {
-            return numbers(connection, "SELECT pid FROM pg_stat_activity WHERE application_name = '" + application(manager)
+        List<Long> all(Connection connection, String label) throws SQLException {
+            return numbers(connection, "SELECT pid FROM pg_stat_activity WHERE application_name = '" + application(label)
                 + "' AND datname = current_database() AND usename = current_user");
+        }
+
+        /** PostgreSQL keeps 63 bytes of it. */
+        private String application(String label) {
+            return label.length() < 64 ? label : String.format("%s~%08x", label.substring(0, 54), label.hashCode());
         }
 
         @Override
@@ -60,14 +69,50 @@ enum Dialect {
         }
     },
     MARIADB {
+        // Each connection holds a named lock, by which the next run of the manager knows it.
+        private static final int LOCKS = 512;
+
         @Override
-        long number(Connection connection, String manager) throws SQLException {
-            return numbers(connection, "SELECT CONNECTION_ID()").get(0);
+        long number(Connection connection, String label) throws SQLException {
+            long number = numbers(connection, "SELECT CONNECTION_ID()").get(0);
+            // Mostly the first is free. Only where it isn't, all are looked at.
+            if (!takes(connection, label, (int) (number % LOCKS))) {
+                takeAny(connection, label);
+            }
+            return number;
+        }
+
+        private void takeAny(Connection connection, String label) throws SQLException {
+            List<Long> holders = holders(connection, label);
+            for (int slot = 0; slot < LOCKS; slot++) {
+                if (holders.get(slot) == 0 && takes(connection, label, slot)) {
+                    return;
+                }
+            }
+            throw new SQLException("all " + LOCKS + " named locks of the manager's connections are taken");
+        }
+
+        private boolean takes(Connection connection, String label, int slot) throws SQLException {
+            return numbers(connection, "SELECT GET_LOCK('" + lock(label, slot) + "', 0)").get(0) == 1;
+        }
+
+        /** MariaDB doesn't know capital letters from others in it. */
+        private String lock(String label, int slot) {
+            return "garterfossil." + HexFormat.of().formatHex(label.getBytes(StandardCharsets.US_ASCII)) + "." + slot;
+        }
+
+        /** The number of the connection that holds each lock, or 0. */
+        private List<Long> holders(Connection connection, String label) throws SQLException {
+            String asked = IntStream.range(0, LOCKS).mapToObj(slot -> "SELECT IS_USED_LOCK('" + lock(label, slot) + "')")
+                .collect(Collectors.joining(" UNION ALL "));
+            return numbers(connection, asked);
         }
 
         @Override
-        List<Long> others(Connection connection, String manager) throws SQLException {
-            return numbers(connection, "SELECT id FROM information_schema.processlist WHERE user = SUBSTRING_INDEX(USER(), '@', 1)");
+        List<Long> all(Connection connection, String label) throws SQLException {
+            List<Long> found = holders(connection, label);
+            found.removeIf(number -> number == 0);
+            return found;
         }
 
         @Override
@@ -84,12 +129,12 @@ enum Dialect {
     /** A database in this process, or one whose connections nothing here can end: they end as the process does. */
     OTHER {
         @Override
-        long number(Connection connection, String manager) {
+        long number(Connection connection, String label) {
             return 0;
         }
 
         @Override
-        List<Long> others(Connection connection, String manager) {
+        List<Long> all(Connection connection, String label) {
             return List.of();
         }
 
@@ -103,15 +148,11 @@ enum Dialect {
         return product.contains("postgresql") ? POSTGRESQL : product.contains("mariadb") || product.contains("mysql") ? MARIADB : OTHER;
     }
 
-    private static String application(String manager) {
-        return manager.isEmpty() ? "garterfossil" : "garterfossil " + manager;
-    }
+    /** The number by which the database knows the connection, which has this label from now on. */
+    abstract long number(Connection connection, String label) throws SQLException;
 
-    /** The number by which the database knows the connection, which belongs to the manager of this name from now on. */
-    abstract long number(Connection connection, String manager) throws SQLException;
-
-    /** The numbers of all connections of this manager, of this one too. */
-    abstract List<Long> others(Connection connection, String manager) throws SQLException;
+    /** The numbers of all connections of this label, of this one too. */
+    abstract List<Long> all(Connection connection, String label) throws SQLException;
 
     abstract void end(Connection connection, long number) throws SQLException;
 
@@ -120,11 +161,11 @@ enum Dialect {
         return false;
     }
 
-    /** Ends the connections of the manager, except those that are kept, and waits until they are gone. */
-    void endOthers(Connection connection, String manager, long own, Set<Long> kept) throws SQLException, Fault.Lost {
+    /** Ends the connections of this label, except those that are kept, and waits until they are gone. */
+    void endOthers(Connection connection, String label, long own, Set<Long> kept) throws SQLException, Fault.Lost {
         long until = System.nanoTime() + 20_000_000_000L;
         while (true) {
-            List<Long> numbers = new ArrayList<>(others(connection, manager));
+            List<Long> numbers = new ArrayList<>(all(connection, label));
             numbers.removeIf(number -> number == own || kept.contains(number));
             if (numbers.isEmpty()) {
                 return;

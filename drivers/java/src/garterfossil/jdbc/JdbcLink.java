@@ -28,7 +28,7 @@ final class JdbcLink implements Link {
             connection = xa.getConnection();
             Dialect dialect = owner.dialect(connection);
             resource = new JdbcXaResource(owner, dialect, xa.getXAResource(), connection);
-            number = dialect.number(connection, owner.manager());
+            number = dialect.number(connection, owner.label());
         } catch (SQLException | RuntimeException error) {
             close();
             throw error;

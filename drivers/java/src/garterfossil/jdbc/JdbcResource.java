@@ -14,8 +14,8 @@ import javax.sql.XADataSource;
 /**
  * A database, by its driver's XADataSource, with a pool of connections.
  *
- * <p>The manager ends connections that an earlier one left: at PostgreSQL those of its own user with its application_name, at
- * MariaDB all of its user. So it has a user of its own.
+ * <p>The manager ends connections that an earlier session left, and knows them by its own name and the resource's: at PostgreSQL they
+ * are in the application_name, and at MariaDB in a named lock (GET_LOCK) that each connection holds.
  */
 public final class JdbcResource implements Resource {
     private final String name;
@@ -80,8 +80,9 @@ public final class JdbcResource implements Resource {
         }
     }
 
-    String manager() {
-        return manager;
+    /** What the database knows the connections by. */
+    String label() {
+        return "garterfossil " + (manager.isEmpty() ? "" : manager + " ") + name;
     }
 
     /** What kind of database it is, as it says itself. */
@@ -104,7 +105,7 @@ public final class JdbcResource implements Resource {
             all.addAll(owned.open());
         }
         try {
-            dialect.endOthers(link.connection(), manager, link.number(), all);
+            dialect.endOthers(link.connection(), label(), link.number(), all);
         } catch (SQLException | RuntimeException error) {
             throw new Fault.Lost("connections to " + name + " can't be ended", error);
         } finally {

@@ -37,7 +37,7 @@ final class OwnedXaDataSource {
     private XAConnection owned(XAConnection xa) throws SQLException {
         Connection first = xa.getConnection();
         Dialect dialect = owner.dialect(first);
-        long number = dialect.number(first, owner.manager());
+        long number = dialect.number(first, owner.label());
         XAResource resource = new JdbcXaResource(owner, dialect, xa.getXAResource(), first);
         open.add(number);
         return (XAConnection) Proxy.newProxyInstance(getClass().getClassLoader(), new Class<?>[] {XAConnection.class}, (proxy, method, words) -> {
