@@ -96,41 +96,41 @@ votes_fit (l ∷ ls) (r ∷ rs) (g ∷ gs) are =
     let all : length (l ∷ ls) ≡ length (r ∷ rs) = omega (arith, rest) in
     all
 
+-- what is said of a log that a session leaves
+abbrev CommitsLeft : {L : Type 0} → (L → Moment) → L → (text written : List ℕ) → L → Type 0
+CommitsLeft {L} moment handed text written log = Honestly (moment handed) (moment log) (LogsCommits (moment log).content text written)
+
+commits_left : {L : Type 0} (moment : L → Moment) (threads rms : ℕ) (handed left : L) (text written : List ℕ)
+    (is : IsServedOver moment threads rms handed text written left) → VotedCommitsAreLogged moment
+    → CommitsLeft moment handed text written (log_in is.last.session.manager)
+commits_left {L} moment threads rms handed left text written is law order honest = record {
+  read = is.serves.read;
+  unread = is.unread;
+  greeting = greeting_of is.first;
+  replies = is.serves.replies;
+  whole = is.serves.consumed;
+  replied = is.serves.appended;
+  ends = is.serves.ends;
+  rows = λ earlier votes line first heard gs g lines replies same are asks among.
+      let old : Coordinator L = is.first in
+      let new : Coordinator L = is.last in
+      let all : HaveReplies moment (earlier ++ (votes ++ line ∷ [])) (first ++ (heard ++ responses.Decided ∷ [])) old new =
+      subst (λ ls. HaveReplies moment ls (first ++ (heard ++ responses.Decided ∷ [])) old new) lines
+      (subst (λ rs. HaveReplies moment (lines_of is.serves.read) rs old new) replies is.serves.replied) in
+      let one = split_replies moment earlier (votes ++ line ∷ []) first (heard ++ responses.Decided ∷ []) old new same all in
+      let two = split_replies moment votes (line ∷ []) heard (responses.Decided ∷ []) one.0 new (votes_fit votes heard gs are) one.2 in
+      let kept = replies_keep moment earlier first old one.0 one.1 in
+      let later = replies_keep moment (votes ++ line ∷ []) (heard ++ responses.Decided ∷ []) one.0 new one.2 in
+      let last : RepliesTo moment line two.0 responses.Decided new = subst (λ c. RepliesTo moment line two.0 responses.Decided c) (sym two.2.2) two.2.1 in
+      law true votes heard line gs one.0 two.0 new g are two.1 asks last among (kept.order (is.starts.over.order order)) honest
+      (kept.holds true (is.starts.over.order order) (later.honest honest) (is.starts.holds order (is.serves.keeps.honest honest)));
+}
+
 pub logs_commits : {L : Type 0} (moment : L → Moment) (threads rms : ℕ) (handed left : L) (text written : List ℕ)
     → IsServedOver moment threads rms handed text written left → VotedCommitsAreLogged moment
     → Honestly (moment handed) (moment left) (LogsCommits (moment left).content text written)
-logs_commits {L} moment threads rms handed left text written is law = subst Leaves (sym is.log) so
-  where
-    abbrev old : Coordinator L
-    old = is.first
-
-    abbrev new : Coordinator L
-    new = is.last
-
-    abbrev Leaves : L → Type 0
-    Leaves log = Honestly (moment handed) (moment log) (LogsCommits (moment log).content text written)
-
-    so : Leaves (log_in new.session.manager)
-    so order honest = record {
-      read = is.serves.read;
-      unread = is.unread;
-      greeting = greeting_of old;
-      replies = is.serves.replies;
-      whole = is.serves.consumed;
-      replied = is.serves.appended;
-      ends = is.serves.ends;
-      rows = λ earlier votes line first heard gs g lines replies same are asks among.
-          let all : HaveReplies moment (earlier ++ (votes ++ line ∷ [])) (first ++ (heard ++ responses.Decided ∷ [])) old new =
-          subst (λ ls. HaveReplies moment ls (first ++ (heard ++ responses.Decided ∷ [])) old new) lines
-          (subst (λ rs. HaveReplies moment (lines_of is.serves.read) rs old new) replies is.serves.replied) in
-          let one = split_replies moment earlier (votes ++ line ∷ []) first (heard ++ responses.Decided ∷ []) old new same all in
-          let two = split_replies moment votes (line ∷ []) heard (responses.Decided ∷ []) one.0 new (votes_fit votes heard gs are) one.2 in
-          let kept = replies_keep moment earlier first old one.0 one.1 in
-          let later = replies_keep moment (votes ++ line ∷ []) (heard ++ responses.Decided ∷ []) one.0 new one.2 in
-          let last : RepliesTo moment line two.0 responses.Decided new = subst (λ c. RepliesTo moment line two.0 responses.Decided c) (sym two.2.2) two.2.1 in
-          law true votes heard line gs one.0 two.0 new g are two.1 asks last among (kept.order (is.starts.over.order order)) honest
-          (kept.holds true (is.starts.over.order order) (later.honest honest) (is.starts.holds order (is.serves.keeps.honest honest)));
-    }
+logs_commits moment threads rms handed left text written is law =
+    subst (CommitsLeft moment handed text written) (sym is.log) (commits_left moment threads rms handed left text written is law)
 
 -- ** two sessions
 
@@ -266,21 +266,26 @@ module _ {L : Type 0} (moment : L → Moment) (agree : ServedSessionsAgree momen
           (agree (Some y) to served, λ c is. decide y to c served (inl is));
     }
 
+  -- what is said of a log that two sessions leave
+  abbrev ServesLeft : L → (first second first_written second_written : List ℕ) → L → Type 0
+  ServesLeft handed first second first_written second_written log = Honestly (moment handed) (moment log)
+      (IsSomeAnd (moment handed).content IsEmptyLog → IsServedTwice (moment log).content first second first_written second_written)
+
+  serves_left : (handed mid left : L) (first second first_written second_written : List ℕ) → IsServedOver moment threads rms handed first first_written mid
+      → (two : IsServedOver moment threads rms mid second second_written left)
+      → ServesLeft handed first second first_written second_written (log_in two.last.session.manager)
+  serves_left handed mid left first second first_written second_written one two order honest empty = record {
+    one = is_replied moment threads rms handed mid first first_written one;
+    two = is_replied moment threads rms mid left second second_written two;
+    served = λ one_well two_well.
+        are_served handed order empty one.first one.last two.first two.last (lines_of one.serves.read) (lines_of two.serves.read) one.serves.replies
+        two.serves.replies one.starts (subst (λ log. StartsOver moment threads rms log two.first) one.log two.starts) one.serves.replied
+        two.serves.replied one_well two_well honest;
+  }
+
   pub served_so : (handed mid left : L) (first second first_written second_written : List ℕ) → IsServedOver moment threads rms handed first first_written mid
       → IsServedOver moment threads rms mid second second_written left → Honestly (moment handed) (moment left)
       (IsSomeAnd (moment handed).content IsEmptyLog → IsServedTwice (moment left).content first second first_written second_written)
-  served_so handed mid left first second first_written second_written one two = subst Leaves (sym two.log) so
-    where
-      abbrev Leaves : L → Type 0
-      Leaves log = Honestly (moment handed) (moment log)
-          (IsSomeAnd (moment handed).content IsEmptyLog → IsServedTwice (moment log).content first second first_written second_written)
-
-      so : Leaves (log_in two.last.session.manager)
-      so order honest empty = record {
-        one = is_replied moment threads rms handed mid first first_written one;
-        two = is_replied moment threads rms mid left second second_written two;
-        served = λ one_well two_well.
-            are_served handed order empty one.first one.last two.first two.last (lines_of one.serves.read) (lines_of two.serves.read) one.serves.replies
-            two.serves.replies one.starts (subst (λ log. StartsOver moment threads rms log two.first) one.log two.starts) one.serves.replied
-            two.serves.replied one_well two_well honest;
-      }
+  served_so handed mid left first second first_written second_written one two =
+      subst (ServesLeft handed first second first_written second_written) (sym two.log)
+      (serves_left handed mid left first second first_written second_written one two)
