@@ -52,5 +52,7 @@ class Block:
                     transaction.rollback()
             finally:
                 self._manager.give_back_python_thread(self._python_thread)
-                session.let_go(self._thread)
-                self._manager.note_end(transaction)
+                try:
+                    session.let_go(self._thread)
+                finally:
+                    self._manager.note_end(transaction)

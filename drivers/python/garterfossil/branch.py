@@ -2,11 +2,12 @@
 
 from __future__ import annotations
 
+import time
 from types import TracebackType
 from typing import TYPE_CHECKING, Any, Callable, Generator, Iterator, Optional, Type
 
 from .adapters.base import Connection, Parameters, Result
-from .errors import ConnectionLost, EndRefused, TransactionOver
+from .errors import ConnectionLost, EndRefused, TimedOut, TransactionOver
 from .xid import Xid
 
 if TYPE_CHECKING:
@@ -65,7 +66,19 @@ class Branch:
             raise TransactionOver(f"the branch at {self._line.rm.label} is over")
         if self._line.connection is not self._connection:
             raise ConnectionLost(f"the connection to {self._line.rm.label} was lost")
-        return self._line.work(self._connection, self.xid, step)
+        if self._is_late:
+            raise TimedOut("the transaction has outlasted its timeout")
+        try:
+            return self._line.work(self._connection, self.xid, step)
+        except ConnectionLost as error:
+            if self._is_late:
+                raise TimedOut(f"the transaction has outlasted its timeout in a statement: {error}") from error
+            raise
+
+    @property
+    def _is_late(self) -> bool:
+        limit = self._connection.limit
+        return limit is not None and time.monotonic() >= limit
 
     def _refuse_ends(self, statement: Any) -> None:
         text = statement if type(statement) is str else self._connection.text_of(statement)

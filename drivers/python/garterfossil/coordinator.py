@@ -4,7 +4,6 @@ from __future__ import annotations
 
 import collections
 import logging
-import os
 import subprocess
 import threading
 import time
@@ -304,12 +303,14 @@ class Coordinator:
         """Sleeps until another thread wakes this one. Called with the lock `_reading`, which is free meanwhile."""
         mine = number, threading.Lock()
         mine[1].acquire()
-        self._asleep.append(mine)
-        self._reading.release()
         try:
-            mine[1].acquire()
+            self._asleep.append(mine)
+            self._reading.release()
+            try:
+                mine[1].acquire()
+            finally:
+                self._reading.acquire()
         finally:
-            self._reading.acquire()
             if mine in self._asleep:
                 self._asleep.remove(mine)
 

@@ -113,7 +113,11 @@ class Session:
         """The transaction of a thread is over, or none was begun: another one may have it."""
         try:
             for line in self._lines[thread]:
-                line.let_go()
+                try:
+                    line.let_go()
+                except XaError as error:
+                    # What the transaction left there is over with the session.
+                    log.warning("%s: %s", line.rm.label, error)
         finally:
             self.threads.give_back(thread)
 

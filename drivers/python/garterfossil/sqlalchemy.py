@@ -28,6 +28,7 @@ from .errors import EndRefused, SetupError, TransactionOver, XaError
 from .manager import TransactionManager
 from .transaction import Transaction
 
+
 def create_engine(manager: TransactionManager, database: Union[int, str] = 0, **options: Any) -> sqlalchemy.engine.Engine:
     """An Engine at a database of the manager, by the database's place or name. Its connections are those of the transaction in
     whose block the thread is, so it gives none outside of a block (TransactionOver). `options` are those of

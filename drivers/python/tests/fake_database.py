@@ -110,7 +110,7 @@ class FakeConnection(Connection):
         self.socket, self.server = socket.socketpair()
         super().__init__(FakeLink(self), place)
         self.database = database
-        self.is_lost = False
+        self.is_lost = self.is_silent = False
         self.statements = []
 
     def _descriptor(self):
@@ -133,6 +133,10 @@ class FakeConnection(Connection):
 
     def told(self, name, xid, done=lambda: None):
         """Does a call, unless the test has something else for it."""
+        if self.is_silent:
+            # Until somebody ends the connection from beside.
+            self.socket.recv(1)
+            self.is_lost = True
         if self.is_lost:
             raise ConnectionLost("the connection is gone")
         self.database.called(name)

@@ -234,6 +234,20 @@ class Runs(Case):
             self.assertIs(raised.exception.code, Code.RBTIMEOUT)
         self.assertEqual(self.written(), ([], []))
 
+    def test_a_statement_that_outlasts_the_timeout(self):
+        with self.manager() as xa:
+            begun = time.monotonic()
+            with self.assertRaises(RolledBack) as raised:
+                with xa.transaction(timeout=0.2) as t:
+                    t[0].execute("take")
+                    branch = t[1]
+                    self.right.connections[-1].is_silent = True
+                    with self.assertRaises(TimedOut):
+                        branch.execute("give")
+            self.assertLess(time.monotonic() - begun, 5)
+            self.assertIs(raised.exception.code, Code.RBTIMEOUT)
+        self.assertEqual(self.written(), ([], []))
+
     def test_how_a_transaction_is_to_run_is_for_that_one_alone(self):
         with self.manager(threads=1) as xa:
             for options in ({"isolation": "serializable", "read_only": True}, {}):
