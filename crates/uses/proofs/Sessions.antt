@@ -10,13 +10,14 @@ use Rattle.xa_base.specs.HeldBranch.{new_branch}
 use Rattle.xa_base.specs.Scan.{Scan.NotOpen}
 use Rattle.xa_coordinator.proofs.LogLemmas.{replies_keep}
 use Rattle.xa_coordinator.proofs.SessionChains.{none_there, raised_from}
+use Rattle.xa_coordinator.proofs.SinceStart.{since_start}
 use Rattle.xa_coordinator.proofs.VoteLemmas.{split_replies}
 use Rattle.xa_coordinator.specs.Lines.{lines_of}
 use Rattle.xa_coordinator.specs.Replies.{greeting_of}
 use Rattle.xa_coordinator.specs.Serving.{HaveReplies, RepliesTo, Serves, text_of}
-use Rattle.xa_coordinator.specs.Sessions.{AreServed, AreServed.NoneYet, AreServed.OneMore, IsEmptyLog, IsHandedOn, IsLeft.AfterLine, IsSession, ServedLogsDecide, ServedSessionsAgree, ServedSessionsAreSeen, StartsOver}
-use Rattle.xa_coordinator.specs.Telling.{is_log_fault}
-use Rattle.xa_coordinator.specs.Tracking.{ServedDatabasesAgree}
+use Rattle.xa_coordinator.specs.Sessions.{AreServed, AreServed.NoneYet, AreServed.OneMore, IsEmptyLog, IsHandedOn, IsLeft.AfterLine, IsSession, ServedLogsDecide, ServedSessionsAgree, StartsOver}
+use Rattle.xa_coordinator.specs.Telling.{HaveTold, is_log_fault}
+use Rattle.xa_coordinator.specs.Tracking.{ServedDatabasesAgree, SessionsAreTracked}
 use Rattle.xa_coordinator.specs.Votes.{AreVotes, VotedCommitsAreLogged}
 use Rattle.xa_coordinator.specs.declared.coordinator.Coordinator.{Coordinator}
 use Rattle.xa_log.specs.Content.{Content, nothing, with_bump}
@@ -26,8 +27,9 @@ use Rattle.xa_requests.specs.declared.response.Response.{Response}
 use Rattle.xa_requests.specs.declared.response.Response.TheVariants as responses
 use Rattle.xa_serve.proofs.Logging.{later_sessions_are_newer}
 use Rattle.xa_serve.specs.Logging.{HoldsItsBook, KeepsLog}
+use Rattle.xa_serve.specs.Tracking.{KeepsTrack, StartsAreTracked}
 use Rattle.xa_standings.specs.Agreement.{MayAllStand, MayAllStand.AsTold}
-use Rattle.xa_standings.specs.Seen.{Seen}
+use Rattle.xa_standings.specs.Seen.{Seen, Seen.Start}
 use Rattle.xa_standings.specs.Standings.{Comes}
 use Rattle.xa_tm.specs.Begins.{BeginsWith, records_begun, rows_begun}
 use Rattle.xa_tm.specs.Calls.{book_in, log_in}
@@ -51,7 +53,7 @@ begins_so : {L : Type 0} (threads rms : ℕ) (first : Coordinator L) → BeginsW
 begins_so threads rms first = record { threads_are = refl; rms_are = refl; incarnation = refl; rows = refl; records = refl }
 
 none_logged : IsEmptyLog nothing
-none_logged = record { no_rows = len-empty; no_records = len-empty }
+none_logged = record { no_rows = len-empty _ _; no_records = len-empty _ _ }
 
 pub is_served : {L : Type 0} (moment : L → Moment) (threads rms : ℕ) (handed : L) (old new : Coordinator L) (text unread before written : List ℕ)
     → StartsOver moment threads rms handed old → (moment handed).is_in_order → (moment (log_in old.session.manager)).is_honest
@@ -96,41 +98,41 @@ votes_fit (l ∷ ls) (r ∷ rs) (g ∷ gs) are =
     let all : length (l ∷ ls) ≡ length (r ∷ rs) = omega (arith, rest) in
     all
 
+-- what is said of a log that a session leaves
+abbrev CommitsLeft : {L : Type 0} → (L → Moment) → L → (text written : List ℕ) → L → Type 0
+CommitsLeft {L} moment handed text written log = Honestly (moment handed) (moment log) (LogsCommits (moment log).content text written)
+
+commits_left : {L : Type 0} (moment : L → Moment) (threads rms : ℕ) (handed left : L) (text written : List ℕ)
+    (is : IsServedOver moment threads rms handed text written left) → VotedCommitsAreLogged moment
+    → CommitsLeft moment handed text written (log_in is.last.session.manager)
+commits_left {L} moment threads rms handed left text written is law order honest = record {
+  read = is.serves.read;
+  unread = is.unread;
+  greeting = greeting_of is.first;
+  replies = is.serves.replies;
+  whole = is.serves.consumed;
+  replied = is.serves.appended;
+  ends = is.serves.ends;
+  rows = λ earlier votes line first heard gs g lines replies same are asks among.
+      let old : Coordinator L = is.first in
+      let new : Coordinator L = is.last in
+      let all : HaveReplies moment (earlier ++ (votes ++ line ∷ [])) (first ++ (heard ++ responses.Decided ∷ [])) old new =
+      subst (λ ls. HaveReplies moment ls (first ++ (heard ++ responses.Decided ∷ [])) old new) lines
+      (subst (λ rs. HaveReplies moment (lines_of is.serves.read) rs old new) replies is.serves.replied) in
+      let one = split_replies moment earlier (votes ++ line ∷ []) first (heard ++ responses.Decided ∷ []) old new same all in
+      let two = split_replies moment votes (line ∷ []) heard (responses.Decided ∷ []) one.0 new (votes_fit votes heard gs are) one.2 in
+      let kept = replies_keep moment earlier first old one.0 one.1 in
+      let later = replies_keep moment (votes ++ line ∷ []) (heard ++ responses.Decided ∷ []) one.0 new one.2 in
+      let last : RepliesTo moment line two.0 responses.Decided new = subst (λ c. RepliesTo moment line two.0 responses.Decided c) (sym two.2.2) two.2.1 in
+      law true votes heard line gs one.0 two.0 new g are two.1 asks last among (kept.order (is.starts.over.order order)) honest
+      (kept.holds true (is.starts.over.order order) (later.honest honest) (is.starts.holds order (is.serves.keeps.honest honest)));
+}
+
 pub logs_commits : {L : Type 0} (moment : L → Moment) (threads rms : ℕ) (handed left : L) (text written : List ℕ)
     → IsServedOver moment threads rms handed text written left → VotedCommitsAreLogged moment
     → Honestly (moment handed) (moment left) (LogsCommits (moment left).content text written)
-logs_commits {L} moment threads rms handed left text written is law = subst Leaves (sym is.log) so
-  where
-    abbrev old : Coordinator L
-    old = is.first
-
-    abbrev new : Coordinator L
-    new = is.last
-
-    abbrev Leaves : L → Type 0
-    Leaves log = Honestly (moment handed) (moment log) (LogsCommits (moment log).content text written)
-
-    so : Leaves (log_in new.session.manager)
-    so order honest = record {
-      read = is.serves.read;
-      unread = is.unread;
-      greeting = greeting_of old;
-      replies = is.serves.replies;
-      whole = is.serves.consumed;
-      replied = is.serves.appended;
-      ends = is.serves.ends;
-      rows = λ earlier votes line first heard gs g lines replies same are asks among.
-          let all : HaveReplies moment (earlier ++ (votes ++ line ∷ [])) (first ++ (heard ++ responses.Decided ∷ [])) old new =
-          subst (λ ls. HaveReplies moment ls (first ++ (heard ++ responses.Decided ∷ [])) old new) lines
-          (subst (λ rs. HaveReplies moment (lines_of is.serves.read) rs old new) replies is.serves.replied) in
-          let one = split_replies moment earlier (votes ++ line ∷ []) first (heard ++ responses.Decided ∷ []) old new same all in
-          let two = split_replies moment votes (line ∷ []) heard (responses.Decided ∷ []) one.0 new (votes_fit votes heard gs are) one.2 in
-          let kept = replies_keep moment earlier first old one.0 one.1 in
-          let later = replies_keep moment (votes ++ line ∷ []) (heard ++ responses.Decided ∷ []) one.0 new one.2 in
-          let last : RepliesTo moment line two.0 responses.Decided new = subst (λ c. RepliesTo moment line two.0 responses.Decided c) (sym two.2.2) two.2.1 in
-          law true votes heard line gs one.0 two.0 new g are two.1 asks last among (kept.order (is.starts.over.order order)) honest
-          (kept.holds true (is.starts.over.order order) (later.honest honest) (is.starts.holds order (is.serves.keeps.honest honest)));
-    }
+logs_commits moment threads rms handed left text written is law =
+    subst (CommitsLeft moment handed text written) (sym is.log) (commits_left moment threads rms handed left text written is law)
 
 -- ** two sessions
 
@@ -146,14 +148,32 @@ is_replied moment threads rms handed left text written is = record {
   ends = is.serves.ends;
 }
 
-module _ {L : Type 0} (moment : L → Moment) (agree : ServedSessionsAgree moment) (decide : ServedLogsDecide moment) (seen : ServedSessionsAreSeen moment)
-    (threads rms : ℕ) where
+module _ {L : Type 0} (moment : L → Moment) (agree : ServedSessionsAgree moment) (decide : ServedLogsDecide moment) (tracked_first : StartsAreTracked L)
+    (tracked : SessionsAreTracked moment) (threads rms : ℕ) where
   -- what lines and replies tell of a session over a log
   seen_in : (handed : L) (first last : Coordinator L) (lines : List (List ℕ)) (replies : List Response) → StartsOver moment threads rms handed first
       → HaveReplies moment lines replies first last → list_any is_log_fault replies ≡ false
-      → (more : Seen) × IsSession moment handed (start_of threads rms first) more last
+      → (more : Seen) × HaveTold threads lines replies Start more × IsSession moment handed (start_of threads rms first) more last
   seen_in handed first last lines replies starts have none =
-      seen threads rms lines replies handed first last starts have none (start_of threads rms first) (begins_so threads rms first)
+      let o = start_of threads rms first in
+      let begins = begins_so threads rms first in
+      let tracks = since_start moment tracked_first tracked threads rms lines replies first last starts.stands have o begins (starts.old o begins) in (
+        tracks.more,
+        tracks.told,
+        record {
+          threads = threads;
+          rms = rms;
+          first = first;
+          lines = lines;
+          replies = replies;
+          starts = starts;
+          begins = begins;
+          replied = have;
+          no_fault = none;
+          told = tracks.told;
+          tracks = subst (λ c. KeepsTrack o tracks.more c.session) (tracks.to_end none) tracks.keeps;
+        },
+      )
 
   -- a driver that says nothing
   none_read : (read unread : List ℕ) → [] ≡ read ++ unread → read ≡ []
@@ -187,9 +207,9 @@ module _ {L : Type 0} (moment : L → Moment) (agree : ServedSessionsAgree momen
       let s = seen_in handed is.first is.last [] [] is.starts none_have refl in (
         is.last,
         is.log,
-        OneMore None (λ c. Unstarted) (λ c. Unstarted) handed (start_of threads rms is.first) s.0 is.last is.last [] NoneYet (empty_handed handed order empty) s.1
+        OneMore None (λ c. Unstarted) (λ c. Unstarted) handed (start_of threads rms is.first) s.0 is.last is.last [] NoneYet (empty_handed handed order empty) s.2
             AfterLine (subst (λ log. (moment log).is_honest) is.log honest)
-            (AsTold (λ c. Unstarted) (λ c. subst (λ seen. Comes seen c Unstarted Unstarted) (sym s.1.told) refl)),
+            (AsTold (λ c. Unstarted) (λ c. subst (λ seen. Comes seen c Unstarted Unstarted) (sym s.1) refl)),
       )
 
   module _ (handed : L) (order : (moment handed).is_in_order) (empty : IsSomeAnd (moment handed).content IsEmptyLog) (a b x y : Coordinator L)
@@ -209,24 +229,24 @@ module _ {L : Type 0} (moment : L → Moment) (agree : ServedSessionsAgree momen
     mid_order : (moment (log_in b.session.manager)).is_in_order
     mid_order = one_keeps.order (one.over.order order)
 
-    s : (more : Seen) × IsSession moment handed (start_of threads rms a) more b
+    s : (more : Seen) × HaveTold threads one_lines one_replies Start more × IsSession moment handed (start_of threads rms a) more b
     s = seen_in handed a b one_lines one_replies one one_have one_well
 
-    t : (more : Seen) × IsSession moment (log_in b.session.manager) (start_of threads rms x) more y
+    t : (more : Seen) × HaveTold threads two_lines two_replies Start more × IsSession moment (log_in b.session.manager) (start_of threads rms x) more y
     t = seen_in (log_in b.session.manager) x y two_lines two_replies two two_have two_well
 
-    mid : (c : Content) × ((moment (log_in b.session.manager)).content ≡ Some c) × ((moment (log_in x.session.manager)).content ≡ Some (with_bump c))
-    mid = there_is (moment (log_in b.session.manager)).content _ (two.over.raised mid_order x_honest)
+    mid_content : (c : Content) × ((moment (log_in b.session.manager)).content ≡ Some c) × ((moment (log_in x.session.manager)).content ≡ Some (with_bump c))
+    mid_content = there_is (moment (log_in b.session.manager)).content _ (two.over.raised mid_order x_honest)
 
     second_handed : IsHandedOn moment (Some b) (log_in b.session.manager)
     second_handed = record {
       order = mid_order;
-      left = mid.0;
-      was_left = inl mid.1;
-      content = mid.0;
-      has = mid.1;
+      left = mid_content.0;
+      was_left = inl mid_content.1;
+      content = mid_content.0;
+      has = mid_content.1;
       same = record { decisions = refl; heuristics = refl };
-      raised = let least : mid.0.incarnation ≤ mid.0.incarnation = omega arith in least;
+      raised = let least : mid_content.0.incarnation ≤ mid_content.0.incarnation = omega arith in least;
     }
 
     all : (one_used two_used : List Line) (from to : Branch → Standing)
@@ -234,8 +254,8 @@ module _ {L : Type 0} (moment : L → Moment) (agree : ServedSessionsAgree momen
         → MayAllStand (start_of threads rms x) t.0 (λ c. Comes t.0 c (broken (from c))) two_used to → AreServed moment (Some y) to
     all one_used two_used from to one_may two_may =
         OneMore (Some b) from to (log_in b.session.manager) (start_of threads rms x) t.0 y y two_used
-        (OneMore None (λ c. Unstarted) from handed (start_of threads rms a) s.0 b b one_used NoneYet (empty_handed handed order empty) s.1 AfterLine b_honest one_may)
-        second_handed t.1 AfterLine honest two_may
+        (OneMore None (λ c. Unstarted) from handed (start_of threads rms a) s.0 b b one_used NoneYet (empty_handed handed order empty) s.2 AfterLine b_honest one_may)
+        second_handed t.2 AfterLine honest two_may
 
     holds_mid : HoldsItsBook moment true b.session.manager
     holds_mid = one_keeps.holds true (one.over.order order) b_honest (one.holds order (one_keeps.honest b_honest))
@@ -243,11 +263,11 @@ module _ {L : Type 0} (moment : L → Moment) (agree : ServedSessionsAgree momen
     later : (book_in a.session.manager).incarnation < (book_in x.session.manager).incarnation
     later =
         let from = one_keeps.incarnation in
-        let newer = later_sessions_are_newer moment b.session.manager x.session.manager (log_in b.session.manager) mid.0 holds_mid (record {
+        let newer = later_sessions_are_newer moment b.session.manager x.session.manager (log_in b.session.manager) mid_content.0 holds_mid (record {
           threads = threads;
           rms = rms;
-          left = inl mid.1;
-          content = mid.1;
+          left = inl mid_content.1;
+          content = mid_content.1;
           over = two.over;
         }) mid_order x_honest in
         omega (arith, from, newer)
@@ -259,28 +279,34 @@ module _ {L : Type 0} (moment : L → Moment) (agree : ServedSessionsAgree momen
       one_seen = s.0;
       two_seen = t.0;
       later = later;
-      one_told = s.1.told;
-      two_told = t.1.told;
+      one_told = s.1;
+      two_told = t.1;
       agree = λ one_used two_used from to one_may two_may.
           let served = all one_used two_used from to one_may two_may in
           (agree (Some y) to served, λ c is. decide y to c served (inl is));
     }
 
+  -- what is said of a log that two sessions leave
+  abbrev ServesLeft : L → (first second first_written second_written : List ℕ) → L → Type 0
+  ServesLeft handed first second first_written second_written log = Honestly (moment handed) (moment log)
+      (IsSomeAnd (moment handed).content IsEmptyLog → IsServedTwice (moment log).content first second first_written second_written)
+
+  serves_left : (handed mid left : L) (first second first_written second_written : List ℕ) → IsServedOver moment threads rms handed first first_written mid
+      → (two : IsServedOver moment threads rms mid second second_written left)
+      → ServesLeft handed first second first_written second_written (log_in two.last.session.manager)
+  unfolding is_replied
+  serves_left handed mid left first second first_written second_written one two order honest empty = record {
+    one = is_replied moment threads rms handed mid first first_written one;
+    two = is_replied moment threads rms mid left second second_written two;
+    served = λ one_well two_well.
+        are_served handed order empty one.first one.last two.first two.last (lines_of one.serves.read) (lines_of two.serves.read) one.serves.replies
+        two.serves.replies one.starts (subst (λ log. StartsOver moment threads rms log two.first) one.log two.starts) one.serves.replied
+        two.serves.replied one_well two_well honest;
+  }
+
   pub served_so : (handed mid left : L) (first second first_written second_written : List ℕ) → IsServedOver moment threads rms handed first first_written mid
       → IsServedOver moment threads rms mid second second_written left → Honestly (moment handed) (moment left)
       (IsSomeAnd (moment handed).content IsEmptyLog → IsServedTwice (moment left).content first second first_written second_written)
-  served_so handed mid left first second first_written second_written one two = subst Leaves (sym two.log) so
-    where
-      abbrev Leaves : L → Type 0
-      Leaves log = Honestly (moment handed) (moment log)
-          (IsSomeAnd (moment handed).content IsEmptyLog → IsServedTwice (moment log).content first second first_written second_written)
-
-      so : Leaves (log_in two.last.session.manager)
-      so order honest empty = record {
-        one = is_replied moment threads rms handed mid first first_written one;
-        two = is_replied moment threads rms mid left second second_written two;
-        served = λ one_well two_well.
-            are_served handed order empty one.first one.last two.first two.last (lines_of one.serves.read) (lines_of two.serves.read) one.serves.replies
-            two.serves.replies one.starts (subst (λ log. StartsOver moment threads rms log two.first) one.log two.starts) one.serves.replied
-            two.serves.replied one_well two_well honest;
-      }
+  served_so handed mid left first second first_written second_written one two =
+      subst (ServesLeft handed first second first_written second_written) (sym two.log)
+      (serves_left handed mid left first second first_written second_written one two)

@@ -9,10 +9,11 @@ ghost use Rattle.xa_log.specs.Contract.{Honestly};
 
 use std::alloc::Global;
 use xa_coordinator::{
-    Coordinator, ServeFault, served_databases_agree, served_sessions_agree,
+    Coordinator, ServeFault, served_databases_agree, served_sessions_agree, sessions_are_tracked,
     voted_commits_are_logged,
 };
 use xa_log::{DecisionLog, MemLog};
+use xa_serve::starts_are_tracked;
 use xa_tm::StartFault;
 
 /// Why a driver isn't served.
@@ -98,6 +99,8 @@ pub(crate) fn silent<L: DecisionLog + Drop>(
         AreServedTo L.moment left.1 (λ b. Unstarted))) }
 {
     served_sessions_agree::<L>();
+    starts_are_tracked::<L>();
+    sessions_are_tracked::<L>();
     served_over(alloc, threads, rms, log, &[])
 }
 
@@ -120,6 +123,8 @@ pub(crate) fn served_twice<L: DecisionLog + Drop>(
         left.0.items left.1.items)) }
 {
     served_sessions_agree::<L>();
+    starts_are_tracked::<L>();
+    sessions_are_tracked::<L>();
     let one = served_over(alloc, threads, rms, log, first)?;
     let two = served_over(alloc, threads, rms, one.1, second)?;
     Ok((one.0, two.0, two.1))

@@ -103,6 +103,18 @@ pub(crate) fn make_tables<S: Alter>(
     Ok(())
 }
 
+/// Makes the tables of an empty log without a label, in one transaction.
+fn make_plain_tables<S: Alter>(conn: &mut Connection<S>) -> Result<(), LogFault>
+    requires { conn.old.in_transaction ≡ false }
+    ensures honest { HasCleanDisk (state S.Store conn.new) → HasCleanDisk (state S.Store conn.old) }
+    ensures makes { HasCleanDisk (state S.Store conn.new) → IsBlank (state S.Store conn.old) →
+        MakesLog nothing (state S.Store conn.old) (state S.Store conn.new) result }
+    ensures crash { IsBlank (state S.Store conn.old) →
+        Survives (state S.Store conn.old) (state S.Store conn.new) (AreNewTrees nothing) }
+{
+    make_tables(conn, CREATE_PARTICIPANT)
+}
+
 /// The tables and the version of version 2, from those of version 1.
 fn make_version_2<S: Alter>(tx: &mut Transaction<'_, S>) -> Result<(), LogFault>
     ensures same_reference { tx.new.conn.ghost_name ≡ tx.old.conn.ghost_name }
@@ -201,7 +213,7 @@ pub(crate) fn prepare<S: Alter>(conn: &mut Connection<S>) -> Result<(), LogFault
         return Err(LogFault::Store);
     }
     match layout_of(conn) {
-        Layout::Missing => make_tables(conn, CREATE_PARTICIPANT),
+        Layout::Missing => make_plain_tables(conn),
         Layout::Version1 => upgrade(conn),
         Layout::Version2 => check_version(conn, 2),
     }

@@ -1,3 +1,4 @@
+use Rattle.std.proofs.Common.{true}
 use Rattle.uses.proofs.Sessions.{is_served}
 use Rattle.uses.proofs.serve.served.Goals as goal
 

@@ -9,7 +9,7 @@ pub returns-in-Missing-clause-prepares : goal.returns-in-Missing-clause-prepares
 returns-in-Missing-clause-prepares g c clean =
     let old = state g.S.Store c.args.conn.now in
     record {
-      honest = c.make_tables.ensures.honest clean;
+      honest = c.make_plain_tables.ensures.honest clean;
       made = search rules;
       migrated = search rules;
       kept = search rules;
