@@ -93,9 +93,9 @@ final class Branch {
         line.issue("xa_prepare " + name());
     }
 
-    /** xa_end of a branch that is to be committed. */
+    /** xa_end of a branch that is to be committed. It is made before the coordinator says that it is issued, as xa_start is. */
     void end() throws Fault {
-        line.see();
+        line.flushAll();
         if (!gate.shut(NO_MORE_WORK, Manager.WORK_PATIENCE)) {
             throw lost(new Fault.Lost("work on the connection doesn't end", null), S0);
         }
@@ -121,7 +121,7 @@ final class Branch {
 
     /** xa_prepare: the vote. Except after XA_OK the branch is over. */
     int prepare() throws Fault {
-        line.flush();
+        line.see();
         int code = vote == Code.OK ? prepareResource() : rolledBackAtOnce();
         line.report("xa_prepare " + name(), code);
         if (code == Code.OK) {
@@ -164,7 +164,7 @@ final class Branch {
         line.issue("xa_end " + name() + " TMSUCCESS");
         line.issue("xa_commit " + name() + " TMONEPHASE");
         end();
-        line.flush();
+        line.see();
         isCommitIssued = true;
         int code = vote == Code.OK ? commitResource() : rolledBackAtOnce();
         line.report("xa_commit " + name(), code);
