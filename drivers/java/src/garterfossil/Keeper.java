@@ -30,6 +30,7 @@ final class Keeper {
     private volatile boolean isScanDue = true;
     private volatile boolean isOver;
     private long notBefore = System.nanoTime();
+    private String noted;
 
     Keeper(Session session, ResourceManager rm) {
         this.session = session;
@@ -90,10 +91,12 @@ final class Keeper {
         disconnect();
     }
 
+    /** Waits so many milliseconds, or with 0 until something is due. */
     private synchronized void pause(long millis) {
+        long until = System.nanoTime() + millis * 1_000_000;
         try {
-            if (!isOver && (millis > 0 || !isScanDue && debts.isEmpty())) {
-                wait(millis);
+            while (!isOver && (millis > 0 ? System.nanoTime() < until : !isScanDue && debts.isEmpty())) {
+                wait(millis > 0 ? Math.max(1, (until - System.nanoTime()) / 1_000_000) : 0);
             }
         } catch (InterruptedException error) {
             isOver = true;
@@ -106,15 +109,19 @@ final class Keeper {
             connect();
             boolean isWhole = !isScanDue || System.nanoTime() > notBefore && recover();
             return payAll() && isWhole;
-        } catch (Fault.Unexplained error) {
-            session.unexplained(rm, error);
         } catch (Fault.Gone error) {
             isOver = true;
         } catch (Fault error) {
-            Manager.LOG.log(Level.WARNING, () -> rm + " is recovered later: " + error.getMessage());
+            note(rm + " is recovered later: " + error.getMessage());
             disconnect();
         }
         return false;
+    }
+
+    /** The same is said once. */
+    private void note(String text) {
+        Manager.LOG.log(text.equals(noted) ? Level.DEBUG : Level.WARNING, text);
+        noted = text;
     }
 
     /** A connection, once those that were lost are known to be gone. */
@@ -196,7 +203,12 @@ final class Keeper {
     }
 
     private int reportPage(List<BranchXid> listed, int from) throws Fault {
-        line.report(listed.subList(from, Math.min(listed.size(), from + PAGE)));
+        List<BranchXid> page = listed.subList(from, Math.min(listed.size(), from + PAGE));
+        try {
+            line.report(page);
+        } catch (Fault.Unexplained error) {
+            session.unexplained(rm, page, error);
+        }
         return resolve();
     }
 
@@ -253,6 +265,9 @@ final class Keeper {
         int code = call.equals("xa_commit") ? Answers.commit(resource, xid, may) : Answers.rollback(resource, xid, may);
         line.report(call + " " + xid, code);
         line.see();
+        if (call.equals("xa_rollback")) {
+            session.noteUndone(xid);
+        }
         if (Code.isHeuristic(code)) {
             forget(line, xid, resource);
         }

@@ -240,14 +240,15 @@ final class Session {
     }
 
     /** A page that no state of a branch explains. Only what this session rolled back may be listed again, after a crash of the resource. */
-    void unexplained(ResourceManager rm, Fault.Unexplained error) {
-        if (undone.isEmpty()) {
+    void unexplained(ResourceManager rm, List<BranchXid> page, Fault.Unexplained error) throws Fault.Gone {
+        if (page.stream().anyMatch(undone::contains)) {
+            Manager.LOG.log(Level.WARNING, () -> rm + " lists again what was rolled back: the next session sees to it");
+        } else {
             fatal = rm + ": " + error.getMessage() + ". Somebody else ends its branches, or it isn't the resource that it is taken for";
             Manager.LOG.log(Level.ERROR, fatal);
-        } else {
-            Manager.LOG.log(Level.WARNING, () -> rm + " lists again what was rolled back: the next session sees to it");
         }
         coordinator.kill("a page of " + rm + " isn't explained");
+        throw new Fault.Gone("a page of " + rm + " isn't explained");
     }
 
     void seeWhole() throws Fault {

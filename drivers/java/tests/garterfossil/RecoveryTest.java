@@ -93,6 +93,27 @@ public class RecoveryTest {
     }
 
     @Test
+    public void aRollbackThatTheResourceForgot() throws Exception {
+        BranchXid old = BranchXid.of("", "0000000000000001" + "0000000000000001", 1, 0);
+        GlobalTransaction transaction = world.overBoth();
+        world.a.answer("prepare", StandInResource.LOST_AFTER);
+        assertThrows(Fault.RolledBack.class, transaction::commit);
+        nothingIsLeft();
+        // It comes back after a crash, as MariaDB's do.
+        world.a.branches.put(old, StandInResource.State.PREPARED);
+        world.manager.session().keeper(world.manager.resourceManager(world.a)).scanLater();
+        nothingIsLeft();
+        world.overBoth().commit();
+        // Another is nothing that anybody rolled back: then nothing goes on.
+        world.a.branches.put(BranchXid.of("", "0000000000000002" + "0000000000000001", 1, 0), StandInResource.State.PREPARED);
+        world.manager.session().keeper(world.manager.resourceManager(world.a)).scanLater();
+        Session session = world.manager.session();
+        World.eventually(() -> session.fatal() != null);
+        assertThrows(Fault.Unavailable.class, () -> world.begin().enlist(world.a));
+        assertEquals(1, world.a.branches.size());
+    }
+
+    @Test
     public void aLogThatIsMissing() throws Exception {
         world.manager.close();
         Files.delete(world.folder.resolve("log"));
