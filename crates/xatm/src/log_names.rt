@@ -30,12 +30,10 @@ pub(crate) fn check_rm_names(names: &[&str], rms: u32) -> Result<(), Failure> {
     if names.is_empty() {
         return Ok(());
     }
-    let mut at = 0;
-    for name in names {
-        if !is_rm_name(name) || names[..at].contains(name) {
+    for (at, name) in names.iter().enumerate() {
+        if !is_rm_name(name) || names.iter().take(at).any(|earlier| earlier == name) {
             return Err(Failure::RmNames);
         }
-        at += 1;
     }
     if names.len() == rms as usize {
         Ok(())

@@ -94,6 +94,7 @@ fn perform<T: Threads + Wait + Clock + Sync>(
             threads,
             rms,
         } => {
+            let rm_names = rm_names.unwrap_or(&[]);
             check_rm_names(rm_names, rms)?;
             let name = manager_named(name)?;
             claim_log(rt, log, &name, rm_names)?;
