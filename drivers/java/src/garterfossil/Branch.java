@@ -95,7 +95,7 @@ final class Branch {
 
     /** xa_end of a branch that is to be committed. It is made before the coordinator says that it is issued, as xa_start is. */
     void end() throws Fault {
-        line.flushAll();
+        line.flush();
         if (!gate.shut(NO_MORE_WORK, Manager.WORK_PATIENCE)) {
             throw lost(new Fault.Lost("work on the connection doesn't end", null), S0);
         }

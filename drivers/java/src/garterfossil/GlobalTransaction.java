@@ -354,7 +354,6 @@ public final class GlobalTransaction {
         List<Fault> faults = new ArrayList<>();
         branches.forEach(Branch::issueVote);
         for (Branch branch : branches) {
-            // The coordinator goes through them while the branches end.
             attempt(faults, branch, branch::end);
         }
         for (Branch branch : branches) {

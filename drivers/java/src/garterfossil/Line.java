@@ -45,11 +45,6 @@ final class Line {
         }
     }
 
-    /** Sees that all that was posted is written, so that the coordinator goes through it meanwhile. */
-    void flushAll() throws Fault.Gone {
-        coordinator.flush();
-    }
-
     /** Sees that nothing that was posted is refused: then the calls that were issued may be made. */
     void see() throws Fault {
         try {

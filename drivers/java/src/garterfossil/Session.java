@@ -162,8 +162,9 @@ final class Session {
             + " s. Give the manager more threads; a REQUIRES_NEW in a transaction needs a second one while the first waits");
     }
 
+    /** The thread that was used last is used last: until then its answers are written with those of others. */
     void giveBack(Slot slot) {
-        free.addFirst(slot);
+        free.addLast(slot);
     }
 
     Keeper keeper(ResourceManager rm) {
