@@ -375,7 +375,7 @@ final class Coordinator {
             // It has ended already.
         }
         try {
-            if (process.waitFor(2, TimeUnit.SECONDS)) {
+            if (process.waitFor(10, TimeUnit.SECONDS)) {
                 return new String(process.getErrorStream().readAllBytes(), StandardCharsets.UTF_8).trim();
             }
         } catch (IOException error) {

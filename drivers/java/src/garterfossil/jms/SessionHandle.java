@@ -12,6 +12,7 @@ import javax.jms.MessageConsumer;
 import javax.jms.MessageProducer;
 import javax.jms.QueueBrowser;
 import javax.jms.Session;
+import javax.jms.TransactionInProgressException;
 
 /** A session as a program has it in a transaction. All its work goes through a gate, which is shut as the transaction ends. */
 final class SessionHandle {
@@ -42,9 +43,12 @@ final class SessionHandle {
             case "close": return close();
             case "getTransacted": return true;
             case "getAcknowledgeMode": return Session.SESSION_TRANSACTED;
-            case "commit": case "rollback": case "recover": case "run": case "setMessageListener":
-                throw new IllegalStateException(method.getName() + " isn't for a session that takes part in " + transaction
+            // JMS has this exception for both (JMS 1.1, section 8.5), and Spring passes over it.
+            case "commit": case "rollback":
+                throw new TransactionInProgressException(method.getName() + " isn't for a session that takes part in " + transaction
                     + ": end that by the UserTransaction or TransactionManager");
+            case "recover": case "run": case "setMessageListener":
+                throw new IllegalStateException(method.getName() + " isn't for a session that takes part in " + transaction);
             default:
         }
         if (isClosed) {
