@@ -69,9 +69,9 @@ fn half_a_log_is_told_from_a_new_one(rt: HostRuntime) -> Result<(), Fail> {
     fs::remove_file(&rt, path)?;
     assert!(rt; SqlLog::is_half(&rt, path)?);
     // A kill while the file is made: a header that counts no checkpoints, and its first byte.
-    let mut begun = fs::read(&rt, journal)?;
-    for at in 12..16 {
-        begun[at] = 0xff;
+    let mut begun = Vec::new(rt.alloc());
+    for (at, byte) in fs::read(&rt, journal)?.iter().enumerate() {
+        begun.push(if at >= 12 && at < 16 { 0xff } else { *byte })?;
     }
     fs::write(&rt, path, b"\0")?;
     fs::write(&rt, journal, begun.as_slice())?;
