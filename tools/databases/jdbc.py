@@ -95,7 +95,11 @@ class Java:
         return {way: statistics.median(found) for way, found in rates.items()}
 
 
-def run(world, all_threads, seconds, rounds):
+#: At so many threads.
+THREADS = [1, 8, 32]
+
+
+def run(world, seconds, rounds):
     """Prints the figures. The servers listen on TCP meanwhile, which is all that the drivers know."""
     try:
         java = Java(world)
@@ -105,7 +109,7 @@ def run(world, all_threads, seconds, rounds):
     for server in world.servers:
         server.restart(free_port())
     try:
-        for threads in all_threads:
+        for threads in THREADS:
             rates = java.rates(threads, seconds, rounds)
             mine = rates["coordinator"]
             beside = [f"{rates[way]:.0f} {WAYS[way]}: {mine / rates[way]:.2f} of that" for way in WAYS if way in rates and way != "coordinator"]

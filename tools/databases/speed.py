@@ -88,5 +88,5 @@ def run(world, seconds):
                 rates_by_hand.append(per_second(functools.partial(by_hand, world.databases(), numbers), threads, seconds))
         rate, hand = statistics.median(rates), statistics.median(rates_by_hand)
         print(f"speed: Python, {threads} threads: {rate:.0f} transfers a second; {hand:.0f} by hand: {rate / hand:.2f} of that", flush=True)
-    jdbc.run(world, THREADS, seconds, ROUNDS)
+    jdbc.run(world, seconds, ROUNDS)
     return 0

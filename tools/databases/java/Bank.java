@@ -52,10 +52,7 @@ public class Bank {
         while (System.nanoTime() < until) {
             String token = UUID.randomUUID().toString().replace("-", "");
             int dice = ThreadLocalRandom.current().nextInt(20);
-            String kind = dice < 11 ? "both" : dice < 13 ? Integer.toString(dice - 11) : dice < 17 || broker == null ? "send" : "take";
-            if (broker == null && kind.equals("send")) {
-                kind = "both";
-            }
+            String kind = dice < 11 ? "both" : dice < 13 ? Integer.toString(dice - 11) : dice < 17 ? "send" : "take";
             String end = transact(kind, token);
             counts.computeIfAbsent(end, it -> new AtomicInteger()).incrementAndGet();
             if (end.equals("committed") || end.equals("rolled-back")) {
@@ -199,14 +196,11 @@ public class Bank {
             databases[number] = JdbcResource.of("db" + number, Speed.source(words[4 + number])).maxConnections(threads + 2);
             builder.resource(databases[number]);
         }
-        JmsResource broker = null;
-        if (words.length > 6) {
-            broker = JmsResource.of("broker", new ActiveMQXAConnectionFactory(words[6])).maxConnections(threads + 2);
-            builder.resource(broker);
-        }
+        JmsResource broker = JmsResource.of("broker", new ActiveMQXAConnectionFactory(words[6])).maxConnections(threads + 2);
+        builder.resource(broker);
         try (Manager manager = start(builder)) {
             DataSource[] sources = {databases[0].dataSource(manager), databases[1].dataSource(manager)};
-            Bank bank = new Bank(manager, sources, broker == null ? null : broker.connectionFactory(manager), words[0]);
+            Bank bank = new Bank(manager, sources, broker.connectionFactory(manager), words[0]);
             long until = System.nanoTime() + (long) (Double.parseDouble(words[2]) * 1e9);
             Thread[] workers = new Thread[threads];
             for (int number = 0; number < threads; number++) {

@@ -25,8 +25,6 @@ import java.util.concurrent.locks.ReentrantLock;
 final class Coordinator {
     /** The rules by which a step is refused because the manager is down, or the transaction is over. */
     static final int MANAGER_DOWN = 1, UNKNOWN_TRANSACTION = 5, LOG_FAULT = 15;
-    /** The status with which the coordinator ends where its log can't be opened, or another one has it. */
-    static final int LOG_STATUS = 2;
     /** So many requests may be written without a reply that was read: their replies fit into the pipe, so neither side blocks the other. */
     private static final int AHEAD = 400;
     private static final String PROTOCOL = "1";
@@ -123,15 +121,6 @@ final class Coordinator {
 
     boolean isGone() {
         return fault != null;
-    }
-
-    /** The status with which the process ended; -1 while it runs. */
-    int status() {
-        return process.isAlive() ? -1 : process.exitValue();
-    }
-
-    long pid() {
-        return process.pid();
     }
 
     // ** requests

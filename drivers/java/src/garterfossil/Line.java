@@ -71,11 +71,6 @@ final class Line {
         see();
     }
 
-    /** Whether something may wait on it, or wasn't looked at. */
-    boolean isClean() {
-        return due.isEmpty();
-    }
-
     /** The connection is lost, and what waits on the line with it. */
     void crash() throws Fault {
         due.clear();
