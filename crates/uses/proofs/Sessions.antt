@@ -1,5 +1,5 @@
 -- A driver is served.
-use Rattle.std.proofs.Common.{◌≡◌, ◌≤◌, ◌<◌, inl, ℕ, true, false, List, [], ◌∷◌, ◌++◌, length, Some, None, IsSomeAnd, refl, sym, subst, arith}
+use Rattle.std.proofs.Common.{◌≡◌, ◌≤◌, ◌<◌, inl, ℕ, true, false, List, [], ◌∷◌, ◌++◌, length, Option, Some, None, IsSomeAnd, refl, sym, subst, arith}
 use Rattle.std.specs.FinMap.{len-empty}
 use Rattle.std.specs.List.{list_any}
 use Rattle.xa_base.specs.StateTable.{broken}
@@ -51,6 +51,13 @@ start_of threads rms first = record {
 
 begins_so : {L : Type 0} (threads rms : ℕ) (first : Coordinator L) → BeginsWith threads rms first.session.manager (start_of threads rms first)
 begins_so threads rms first = record { threads_are = refl; rms_are = refl; incarnation = refl; rows = refl; records = refl }
+
+-- what is left of a text that was known is known
+pub known_left : {L : Type 0} (text : List ℕ) (left : Option (List ℕ)) (moment : L → Moment) (greeting : Response) (written all : Option (List ℕ))
+    (old new : Coordinator L) → Serves moment greeting (Some text) left written all old new
+    → (unread : List ℕ) × Serves moment greeting (Some text) (Some unread) written all old new
+known_left text None moment greeting written all old new serves = absurd serves.consumed
+known_left text (Some unread) moment greeting written all old new serves = (unread, serves)
 
 none_logged : IsEmptyLog nothing
 none_logged = record { no_rows = len-empty _ _; no_records = len-empty _ _ }
