@@ -1,4 +1,4 @@
-use Rattle.std.proofs.Common.{◌∙◌, subst, sym}
+use Rattle.std.proofs.Common.{◌∙◌, false, subst, sym}
 use Rattle.std.specs.Io.Buffered.{reader_remaining}
 use Rattle.xa_coordinator.proofs.ServingLemmas.{at_end, off_at_once, off_behind, on_err, one_line, served_behind_flush}
 use Rattle.xa_coordinator.specs.NamedLines.{line_read}
