@@ -93,6 +93,18 @@ is_served moment threads rms handed old new text unread before written starts or
       agree = so.agree;
     }
 
+-- the same of a reader that had the whole text
+pub is_served_whole : {L : Type 0} (moment : L → Moment) (threads rms : ℕ) (handed : L) (old new : Coordinator L) (text : List ℕ)
+    (whole left : Option (List ℕ)) (before written : List ℕ)
+    → StartsOver moment threads rms handed old → (moment handed).is_in_order → (moment (log_in old.session.manager)).is_honest
+    → (moment handed).content ≡ Some nothing → before ≡ [] → whole ≡ Some text
+    → Serves moment (greeting_of old) whole left (Some before) (Some written) old new → ServedDatabasesAgree moment
+    → IsServed threads rms text written
+is_served_whole moment threads rms handed old new text whole left before written starts order honest empty none is serves agree =
+    let known = known_left text left moment (greeting_of old) (Some before) (Some written) old new
+    (subst (λ w. Serves moment (greeting_of old) w left (Some before) (Some written) old new) is serves) in
+    is_served moment threads rms handed old new text known.0 before written starts order honest empty none known.1 agree
+
 -- each vote has its reply
 votes_fit : (votes : List (List ℕ)) (heard : List Response) (gs : List Gtrid) → AreVotes votes heard gs → length votes ≡ length heard
 votes_fit [] [] [] are = refl
