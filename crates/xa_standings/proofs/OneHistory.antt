@@ -1,5 +1,5 @@
 -- What the one right history of all sessions says of the log that is left.
-use Rattle.std.proofs.Common.{◌≡◌, ◌⊎◌, inl, inr, Bool, true, false, refl, sym, ap, ◌∙◌, subst}
+use Rattle.std.proofs.Common.{◌≡◌, ◌⊎◌, inl, inr, length, Bool, true, false, refl, sym, ap, ◌∙◌, subst}
 use Rattle.std.proofs.lemmas.Bool.{or_right, true≢false}
 use Rattle.xa_base.specs.StateTable.{broken}
 use Rattle.xa_base.specs.declared.state.Standing.{Standing}
@@ -8,16 +8,18 @@ use Rattle.xa_model.proofs.AgreementLemmas.Alike.{undone_no_row}
 use Rattle.xa_model.proofs.Invariant.{HasBegun, Inv, IsAtRest, IsOlder}
 use Rattle.xa_model.proofs.Invariant.Now.{older_not_started, settled_at_rest}
 use Rattle.xa_model.proofs.Invariant.Preservation.{always, begun_is_started}
+use Rattle.xa_model.proofs.Invariant.Rows.{rowed_kept}
 use Rattle.xa_model.proofs.ProcessLemmas.Joining.{gone_right}
 use Rattle.xa_model.proofs.ProcessLemmas.SameLogs.{same_listed}
 use Rattle.xa_model.specs.Facts.{adds_row, doubt, ever, had_row, handed_over, has_row, lists_row, log as rows_of, standing, started}
 use Rattle.xa_model.specs.Promises.Agreement.{IsUndone}
 use Rattle.xa_model.specs.Promises.Processes.{gone, resumed}
 use Rattle.xa_model.specs.Protocol.{AllRight}
-use Rattle.xa_model.specs.Trace.{Branch, Gtrid, Origin, Trace}
+use Rattle.xa_model.specs.Trace.{Branch, Gtrid, Happening.Restarted, Origin, Trace}
 use Rattle.xa_standings.proofs.Chains.{IsReached, reached}
 use Rattle.xa_standings.specs.Agreement.{StandAlike}
-use Rattle.xa_standings.specs.Sessions.{AfterSessions, Finds, FindsLog, HaveOneHistory, Log, RowsDecide}
+use Rattle.xa_standings.proofs.Commits.{broken_commits, whole_commits}
+use Rattle.xa_standings.specs.Sessions.{AfterSessions, CommitStands, Finds, FindsLog, HaveOneHistory, IsCommitting, Log, RowsDecide, WasFoundDecided}
 
 -- ** standings
 
@@ -69,6 +71,17 @@ module _ (tr : Trace) (right : AllRight tr) where
       by (inr handed) =
           absurd (let one : Committed ≡ Prepared = sym committed ∙ (ap (standing tr) (inv.handed_one b c handed (sym same) b_started c_started) ∙ prepared) in cc)
 
+  -- and so it is as long as the branch itself is prepared
+  own_row_stays : (b : Branch) → had_row tr b.gtrid ≡ true → standing tr b ≡ Prepared → has_row tr b.gtrid ≡ true
+  own_row_stays b had prepared = by (has_row tr b.gtrid) refl
+    where
+      b_started : started tr b ≡ true
+      b_started = begun_is_started tr b right (subst HasBegun (sym prepared) tt)
+
+      by : (t : Bool) → has_row tr b.gtrid ≡ t → t ≡ true
+      by true e = refl
+      by false e = absurd (not_at_rest (standing tr b) prepared (settled_at_rest tr b inv b_started (inv.row_left b.gtrid had e b refl b_started)))
+
   -- no row is there of a transaction that was undone
   none_undone : (b : Branch) → IsUndone (standing tr b) → has_row tr b.gtrid ≡ false
   none_undone b undone = by (has_row tr b.gtrid) refl
@@ -83,7 +96,7 @@ module _ (tr : Trace) (right : AllRight tr) where
 -- ** the sessions
 
 module _ (log : Log) (f : Branch → Standing) (after : AfterSessions log f) where
-  r : IsReached log f
+  r : IsReached log f (λ b. WasFoundDecided b log f after)
   r = reached log f after
 
   abbrev whole : Trace
@@ -124,4 +137,12 @@ module _ (log : Log) (f : Branch → Standing) (after : AfterSessions log f) whe
       committed = λ b c same committed prepared. listed b.gtrid ∙ row_stays (resumed whole next) next_right b c same
           (r.there b ∙ broken_committed (f b) committed) (r.there c ∙ broken_prepared (f c) prepared);
       undone = λ b u. listed b.gtrid ∙ none_undone (resumed whole next) next_right b (subst IsUndone (sym (r.there b)) (broken_undone (f b) u));
+    }
+
+    pub commit_stands : (b : Branch) → WasFoundDecided b log f after → CommitStands f next b
+    commit_stands b was = record {
+      commits = whole_commits (f b) (subst IsCommitting (r.there b) (broken_commits (standing whole b) (r.decided b was).commits));
+      row_stays = λ prepared. listed b.gtrid ∙ own_row_stays (resumed whole next) next_right b
+          (rowed_kept (gone whole) (Restarted next.incarnation (length next.rows) (length next.heuristic_rows)) b.gtrid (r.decided b was).had)
+          (r.there b ∙ broken_prepared (f b) prepared);
     }
