@@ -66,3 +66,12 @@ pub fn sessions_agree()
     ensures history { (log : Log) (f : Branch → Standing) → AfterSessions log f →
         HaveOneHistory log f }
 {}
+
+/// What is promised of right histories is promised of sessions: that their branches stand alike (`agree`), and that the log
+/// decides of what is prepared still (`rows`), follows from the one right history of all of them alone (`history` of
+/// [`sessions_agree`]), by what `agreement` of `xa_model` says of that.
+pub fn one_history_agrees()
+    ensures agree { (log : Log) (f : Branch → Standing) → HaveOneHistory log f → StandAlike f }
+    ensures rows { (log : Log) (f : Branch → Standing) (next : Origin) →
+        HaveOneHistory log f → Finds log next → RowsDecide f next }
+{}
