@@ -37,7 +37,7 @@ use Rattle.uses.proofs.Results.{there_is}
 use Rattle.uses.specs.Sessions.{AreServedTo, AreServedTwice, IsReplied, IsServed, IsServedOver, IsServedTwice, LogsCommits}
 
 -- a start that has the rows and records of the log, and at whose resource managers nothing is
-abbrev start_of : {L : Type 0} → (threads rms : ℕ) → Coordinator L → Origin
+abbrev pub start_of : {L : Type 0} → (threads rms : ℕ) → Coordinator L → Origin
 start_of threads rms first = record {
   threads = threads;
   rms = rms;
@@ -49,7 +49,7 @@ start_of threads rms first = record {
   scans = λ r. NotOpen;
 }
 
-begins_so : {L : Type 0} (threads rms : ℕ) (first : Coordinator L) → BeginsWith threads rms first.session.manager (start_of threads rms first)
+pub begins_so : {L : Type 0} (threads rms : ℕ) (first : Coordinator L) → BeginsWith threads rms first.session.manager (start_of threads rms first)
 begins_so threads rms first = record { threads_are = refl; rms_are = refl; incarnation = refl; rows = refl; records = refl }
 
 none_logged : IsEmptyLog nothing
