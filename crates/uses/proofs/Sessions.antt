@@ -40,7 +40,7 @@ use Rattle.uses.proofs.Results.{there_is}
 use Rattle.uses.specs.Sessions.{AreServedTo, AreServedTwice, EndDecided, EndedAlone, EndsCommitted, IsReplied, IsServed, IsServedOver, IsServedTwice, LogsCommits}
 
 -- a start that has the rows and records of the log, and at whose resource managers nothing is
-abbrev start_of : {L : Type 0} → (threads rms : ℕ) → Coordinator L → Origin
+abbrev pub start_of : {L : Type 0} → (threads rms : ℕ) → Coordinator L → Origin
 start_of threads rms first = record {
   threads = threads;
   rms = rms;
@@ -52,7 +52,7 @@ start_of threads rms first = record {
   scans = λ r. NotOpen;
 }
 
-begins_so : {L : Type 0} (threads rms : ℕ) (first : Coordinator L) → BeginsWith threads rms first.session.manager (start_of threads rms first)
+pub begins_so : {L : Type 0} (threads rms : ℕ) (first : Coordinator L) → BeginsWith threads rms first.session.manager (start_of threads rms first)
 begins_so threads rms first = record { threads_are = refl; rms_are = refl; incarnation = refl; rows = refl; records = refl }
 
 -- what is left of a text that was known is known
