@@ -5,9 +5,9 @@ mod Decisions
 mod JobRows
 mod LaterProcesses
 mod LogSwaps
-mod Managers
 mod OwnLogs
 mod Recoveries
 mod Results
 mod Sessions
 mod StartRows
+mod TwoManagers

@@ -3,11 +3,9 @@
 ghost use Rattle.std.specs.Prelude.{IfOk};
 ghost use Rattle.uses.specs.Managers.{AreServedApart, IsServedFrom};
 
-use crate::serve::SessionFault;
+use crate::serve::{SessionFault, whole};
 use std::alloc::Global;
-use xa_coordinator::{
-    Coordinator, managers_stay_apart, replies_are_tracked, served_databases_agree,
-};
+use xa_coordinator::{Coordinator, managers_stay_apart, replies_are_tracked, served_databases_agree};
 use xa_log::DecisionLog;
 use xa_names::ManagerName;
 use xa_serve::starts_are_tracked;
@@ -25,7 +23,7 @@ fn served_under<L: DecisionLog + Drop>(
         IsServedFrom L.moment name.now threads rms text.now written.items) }
 {
     let mut written = Vec::new(alloc);
-    let mut unread = text;
+    let mut unread = whole(alloc, text)?;
     match Coordinator::new(alloc, threads, rms, log) {
         Ok(mut coordinator) => match coordinator.serve_under(name, &mut unread, &mut written) {
             Ok(()) => Ok(written),

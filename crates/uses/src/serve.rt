@@ -27,7 +27,7 @@ pub(crate) enum SessionFault {
 }
 
 /// A reader of this text.
-fn whole(alloc: Global, text: &[u8]) -> Result<BufReader<&[u8]>, SessionFault>
+pub(crate) fn whole(alloc: Global, text: &[u8]) -> Result<BufReader<&[u8]>, SessionFault>
     ensures { IfOk result (λ unread.
         reader_remaining (λ slice. Some slice.now) unread ≡ Some text.now) }
 {

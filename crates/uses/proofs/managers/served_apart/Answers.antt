@@ -1,4 +1,4 @@
-use Rattle.uses.proofs.Managers.{served_apart}
+use Rattle.uses.proofs.TwoManagers.{served_apart}
 use Rattle.uses.proofs.managers.served_apart.Goals as goal
 
 pub returns : goal.returns

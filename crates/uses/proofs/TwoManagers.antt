@@ -5,7 +5,7 @@ use Rattle.std.specs.List.{AllByRecursion, list_any}
 use Rattle.xa_base.specs.Xid.{Xid}
 use Rattle.xa_coordinator.specs.Lines.{asked_in, lines_of}
 use Rattle.xa_coordinator.specs.Managers.{ManagersAreApart, Replied, told_xid}
-use Rattle.xa_coordinator.specs.NamedLines.{lines_read}
+use Rattle.xa_coordinator.specs.NamedLines.{ServesUnder, lines_read}
 use Rattle.xa_coordinator.specs.Serving.{HaveReplies, RepliesBy}
 use Rattle.xa_coordinator.specs.Telling.{is_log_fault}
 use Rattle.xa_coordinator.specs.Tracking.{RepliesAreTracked, ServedDatabasesAgree}
@@ -19,6 +19,13 @@ use Rattle.xa_standings.specs.Explained.{IsOldLog}
 use Rattle.xa_standings.specs.Seen.{Seen, Seen.Start}
 use Rattle.uses.proofs.Sessions.{begins_so, start_of}
 use Rattle.uses.specs.Managers.{AreServedApart, IsServedFrom, IsServedUnder, TellApart}
+
+-- what is left of a text that was known is known
+pub known_left : {L : Type 0} (text : List ℕ) (left : Option (List ℕ)) (moment : L → Moment) (name : List ℕ) (greeting : Response)
+    (written all : Option (List ℕ)) (old new : Coordinator L) → ServesUnder moment name greeting (Some text) left written all old new
+    → (unread : List ℕ) × ServesUnder moment name greeting (Some text) (Some unread) written all old new
+known_left text None moment name greeting written all old new serves = absurd serves.consumed
+known_left text (Some unread) moment name greeting written all old new serves = (unread, serves)
 
 neither : (a b : Bool) → (a || b) ≡ false → (a ≡ false) × (b ≡ false)
 neither false false e = (refl, refl)
