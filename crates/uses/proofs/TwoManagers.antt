@@ -46,7 +46,7 @@ module _ {L : Type 0} (moment : L → Moment) where
     all_given (line ∷ lines) (reply ∷ replies) seen old new keeps (next, to, rest) none =
         let no = neither (is_log_fault reply) (list_any is_log_fault replies) none in
         let one = given (asked_in line) to no.0 in
-        (one.0, all_given lines replies one.1 next new one.2 rest no.1)
+        (one.0, all_given lines replies one.1.0 next new one.1.1 rest no.1)
       where
         given : (asked : Option Request) → RepliesBy moment asked old reply next → is_log_fault reply ≡ false
             → WasGiven reply × ((more : Seen) × KeepsTrack o more next.session)

@@ -425,9 +425,8 @@ fn show_managers(rt: &HostRuntime) -> anyhow::Result<()> {
         return Ok(());
     };
     let logs = (MemLog::new(alloc), MemLog::new(alloc));
-    let names = (&shop, &bank);
     let (one, two) = (SHOP.as_bytes(), BANK.as_bytes());
-    if let Ok((one, two)) = managers::served_apart(alloc, 1, 1, logs, names, one, two) {
+    if let Ok((one, two)) = managers::served_apart(alloc, 1, 1, logs, &shop, &bank, one, two) {
         println!(rt; "xa_names, shop:\n{}", String::from_utf8(one)?)?;
         println!(rt; "xa_names, bank:\n{}", String::from_utf8(two)?)?;
     }

@@ -42,18 +42,19 @@ pub(crate) fn served_apart<L: DecisionLog + Drop>(
     threads: u32,
     rms: u32,
     logs: (L, L),
-    names: (&ManagerName, &ManagerName),
+    name: &ManagerName,
+    other: &ManagerName,
     first: &[u8],
     second: &[u8],
 ) -> Result<(Vec<u8>, Vec<u8>), SessionFault>
-    ensures { IfOk result (λ written. AreServedApart names.0.now names.1.now threads rms
+    ensures { IfOk result (λ written. AreServedApart name.now other.now threads rms
         first.now second.now written.0.items written.1.items) }
 {
     managers_stay_apart::<L>();
     served_databases_agree::<L>();
     starts_are_tracked::<L>();
     replies_are_tracked::<L>();
-    let one = served_under(alloc, threads, rms, logs.0, names.0, first)?;
-    let two = served_under(alloc, threads, rms, logs.1, names.1, second)?;
+    let one = served_under(alloc, threads, rms, logs.0, name, first)?;
+    let two = served_under(alloc, threads, rms, logs.1, other, second)?;
     Ok((one, two))
 }
