@@ -100,8 +100,9 @@ pub record AreServedTwice (log : Option Content) (one_lines two_lines : List (Li
   pub one_told : HaveTold one.threads one_lines one_replies Start one_seen
   pub two_told : HaveTold two.threads two_lines two_replies Start two_seen
   pub agree :
-      (one_used two_used : List Line) (from to : Branch → Standing) → MayAllStand one one_seen (λ b. Comes one_seen b Unstarted) one_used from
-      → MayAllStand two two_seen (λ b. Comes two_seen b (broken (from b))) two_used to → StandAlike to × ((c : Content) → log ≡ Some c → LogDecides to c)
+      (one_done one_cut two_done two_cut : List Line) (from to : Branch → Standing)
+      → MayAllStand one one_seen (λ b. Comes one_seen b Unstarted) one_done one_cut from
+      → MayAllStand two two_seen (λ b. Comes two_seen b (broken (from b))) two_done two_cut to → StandAlike to × ((c : Content) → log ≡ Some c → LogDecides to c)
 
 -- The same where the log failed in neither session.
 pub record IsServedTwice (log : Option Content) (first second first_written second_written : List ℕ) : Type 0 where

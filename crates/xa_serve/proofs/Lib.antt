@@ -6,6 +6,7 @@ pub mod Logging
 mod NextRows
 mod NextStarts
 mod FailedSteps
+pub mod FailedAnswers
 mod Recoveries
 mod Hearings
 pub mod Refusals

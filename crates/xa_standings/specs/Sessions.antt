@@ -82,8 +82,8 @@ pub record IsSession (o : Origin) (seen : Seen) (fails : Option Fault) : Type 0 
 pub data AfterSessions : Log → (Branch → Standing) → Type 0 where
   NoneYet : (i : ℕ) → AfterSessions (Empty i) (λ b. Unstarted)
   OneMore :
-      (log : Log) (from to : Branch → Standing) (o : Origin) (seen : Seen) (fails : Option Fault) (used : List Line)
-      → AfterSessions log from → Finds log o → IsSession o seen fails → MayAllStand o seen (λ b. Comes seen b (broken (from b))) used to
+      (log : Log) (from to : Branch → Standing) (o : Origin) (seen : Seen) (fails : Option Fault) (done cut : List Line)
+      → AfterSessions log from → Finds log o → IsSession o seen fails → MayAllStand o seen (λ b. Comes seen b (broken (from b))) done cut to
       → AfterSessions (LeftBy o seen fails) to
   Between :
       (log : Log) (from to : Branch → Standing) (d : Branch) (how : How) → AfterSessions log from → from d ≡ Prepared
