@@ -153,11 +153,6 @@ module _ {L : Type 0} (moment : L → Moment) where
     on_branches : AreOnBranches told
     on_branches = calls_on_branches o.threads is.lines is.replies Start told is.told tt
 
-    left_keeps : (seen : Seen) (left : Coordinator L) → IsLeft moment told now seen left → KeepsLog moment now.session.manager left.session.manager
-    left_keeps _ _ AfterLine = same_keeps moment now now refl
-    left_keeps _ _ (InRequest request left asks performs) = performs.keeps
-    left_keeps _ _ (InAnswer t r name code call left waits performs) = performs.keeps
-
     -- ** the lines of the session
 
     line_is : (t r : ℕ) → HasLine now.session.lines t r → IsLineOf o (line t r)
@@ -251,15 +246,19 @@ module _ {L : Type 0} (moment : L → Moment) where
           either next (inl finds) = record { log = LeftBy o (Answered told (line t r) call (Ret code)) None; after = behind_it; finds = finds }
           either next (inr finds) = record { log = LeftBy o told None; after = before_it; finds = finds }
 
-      pub one_more : (seen : Seen) → IsLeft moment told now seen left → MayAllStand o seen (λ b. Comes seen b (broken (from b))) done cut to
-          → AreSessions (Some left) to
-      one_more _ AfterLine may = left_in None tt (λ c next tied raised. laws.left o told left.session c next is.tracks tied raised) may
-      one_more _ (InRequest request _ asks performs) may =
+    module _ (last : Option (Coordinator L)) (from to : Branch → Standing) (before : AreSessions last from) (handed_on : IsHandedOn moment last handed) where
+      pub one_more : (seen : Seen) (left : Coordinator L) → IsLeft moment told now seen left → (moment (log_in left.session.manager)).is_honest
+          → (done cut : List Line) → MayAllStand o seen (λ b. Comes seen b (broken (from b))) done cut to → AreSessions (Some left) to
+      one_more _ _ AfterLine honest done cut may =
+          left_in last from to before handed_on now (same_keeps moment now now refl) honest done cut None tt
+          (λ c next tied raised. laws.left o told now.session c next is.tracks tied raised) may
+      one_more _ _ (InRequest request left asks performs) honest done cut may =
           let failed = failed_in_request moment laws.decision laws.settlement laws.done o told now left is.tracks request asks performs in
-          left_in (Some failed.fault) failed.step.may_fail
+          left_in last from to before handed_on left performs.keeps honest done cut (Some failed.fault) failed.step.may_fail
           (λ c next tied raised. failed.step.finds c next (subst (λ k. IsTied true k (Some c)) failed.book tied) raised) may
-      one_more _ (InAnswer t r name code call _ waits performs) may =
-          left_in_answer t r code call waits (failed_in_answer moment now left t r name code call waits performs) may
+      one_more _ _ (InAnswer t r name code call left waits performs) honest done cut may =
+          left_in_answer last from to before handed_on left performs.keeps honest done cut t r code call waits
+          (failed_in_answer moment now left t r name code call waits performs) may
 
   -- ** all of them
 
@@ -271,8 +270,7 @@ module _ {L : Type 0} (moment : L → Moment) where
     holds = tt;
   }
   are_sessions laws _ _ (OneMore last from to handed o told seen now left done cut before handed_on is is_left honest may) =
-      one_more laws handed o told now is last from to (are_sessions laws last from before) handed_on left
-      (left_keeps laws handed o told now is seen left is_left) honest done cut seen is_left may
+      one_more laws handed o told now is last from to (are_sessions laws last from before) handed_on seen left is_left honest done cut may
   are_sessions laws _ _ (Between last from to d how before was final) =
       let b = are_sessions laws last from before in
       record {
