@@ -255,7 +255,7 @@ module _ {L : Type 0} (moment : L → Moment) (agree : ServedSessionsAgree momen
     all one_done one_cut two_done two_cut from to one_may two_may =
         OneMore (Some b) from to (log_in b.session.manager) (start_of threads rms x) t.0 t.0 y y two_done two_cut
         (OneMore None (λ c. Unstarted) from handed (start_of threads rms a) s.0 s.0 b b one_done one_cut NoneYet (empty_handed handed order empty) s.2
-            AfterLine b_honest one_may)
+        AfterLine b_honest one_may)
         second_handed t.2 AfterLine honest two_may
 
     holds_mid : HoldsItsBook moment true b.session.manager

@@ -66,7 +66,7 @@ module _ {L : Type 0} (s : Session L) (t r : ℕ) (answer : Given Xid) (c : Call
   heard_so =
       heard_if (can_hear (map_call name_of first.0) (map_answer name_of answer))
       (subst (λ o. unfit_for o answer ≡ None) first.1
-          (none_second (option_map Unfits.Refused (line_refusal s t r)) (unfit_so s t r answer fit) fit))
+      (none_second (option_map Unfits.Refused (line_refusal s t r)) (unfit_so s t r answer fit) fit))
 
   has_so : HasAnswer c (map_answer name_of answer)
   has_so = has_answer (map_call name_of first.0) (map_answer name_of answer) c heard_so first.2
