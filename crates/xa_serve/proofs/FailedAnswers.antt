@@ -1,6 +1,6 @@
 -- A start over the log of a session whose log failed as a heuristic end was to be recorded finds what the session left behind the answer, or
 -- before it.
-use Rattle.std.proofs.Common.{◌≡◌, ◌⊎◌, inl, inr, List, Bool, true, false, Option, Some, None, refl, sym, ap, ◌∙◌, subst, length}
+use Rattle.std.proofs.Common.{◌≡◌, ◌⊎◌, inl, inr, ℕ, Bool, true, false, Option, Some, None, refl, sym, ap, ◌∙◌, subst, length}
 use Rattle.std.specs.Prelude.{if◌then◌else◌, slice_get}
 use Rattle.std.specs.Option.{option_map}
 use Rattle.xa_base.specs.Answer.{map_answer}
@@ -13,20 +13,19 @@ use Rattle.xa_base.specs.declared.code.Code.TheVariants as Codes
 use Rattle.xa_base.specs.declared.refusal.Refusal.{Refusal}
 use Rattle.xa_line.specs.Grid.{HasLine, line_at}
 use Rattle.xa_log.specs.Content.{Content}
-use Rattle.xa_model.specs.Facts.{Change, Change.AddRecord, Change.NoChange, record_of}
+use Rattle.xa_model.specs.Facts.{Change.AddRecord, Change.NoChange, record_of}
 use Rattle.xa_model.specs.Protocol.{IsRun}
 use Rattle.xa_model.specs.Replies.History.{name_of}
-use Rattle.xa_model.specs.Replies.Steps.{accepted}
 use Rattle.xa_model.specs.Trace.{Answer, Call, Recorded, Fault.InHear, Happening.Failed, Happening.Heard, Happening.Took, Line, Origin, Trace, Trace.Then, line}
 use Rattle.xa_standings.proofs.Agreeing.{history_heard, history_up}
 use Rattle.xa_standings.specs.Seen.{HasAnswer, IsHistory, IsHistory.Hears, KeepsRules, Seen, Seen.Answered, Waits}
 use Rattle.xa_standings.specs.Sessions.{Finds, Log.LeftBy}
 use Rattle.xa_tm.proofs.Log.Ties.{holds_record}
-use Rattle.xa_tm.specs.Book.{Book, Doubt, Doubt.NoDoubt, after, book_after, doubt_of, recorded_with, records_with}
-use Rattle.xa_tm.specs.BookAndLog.{HoldsBook, IsChangeOf, IsTied, MayHold, SameRows, changed_by}
+use Rattle.xa_tm.specs.Book.{Book, after, book_after, doubt_of, recorded_with, records_with}
+use Rattle.xa_tm.specs.BookAndLog.{HoldsBook, MayHold, SameRows, changed_by}
 use Rattle.xa_tm.specs.Calls.{book_in}
 use Rattle.xa_serve.specs.Answering.{IsFirst}
-use Rattle.xa_serve.specs.Following.{BookStands, StandsIn}
+use Rattle.xa_serve.specs.Following.{BookStands}
 use Rattle.xa_serve.specs.Hearing.{can_hear}
 use Rattle.xa_serve.specs.Session.{line_refusal, unfit, unfit_for}
 use Rattle.xa_serve.specs.Tracking.{IsFailedAnswer, IsRaisedFrom, KeepsTrack}

@@ -437,5 +437,5 @@ one_untold log from to o seen l c a done cut before found session here waits kno
       may_fail = tt;
     })
     (untold o seen l c a here session.keeps.1 waits knows
-        (explained log from to (reached log from before) o found (Answered seen l c a) None session done cut may)
-        (λ b. broken (from b)) done cut to may)
+    (explained log from to (reached log from before) o found (Answered seen l c a) None session done cut may)
+    (λ b. broken (from b)) done cut to may)

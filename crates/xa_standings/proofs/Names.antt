@@ -3,15 +3,14 @@
 use Rattle.std.proofs.Common.{◌≡◌, ◌∙◌, ◌+◌, ℕ, zero, suc, Bool, true, false, List, [], ◌∷◌, ◌++◌, length, Option, Some, None, refl, sym, ap, subst}
 use Rattle.std.specs.Prelude.{if◌then◌else◌, slice_get}
 use Rattle.xa_base.specs.StateTable.{Kind, asks_of, on}
-use Rattle.xa_base.specs.declared.answer.Answer.TheVariants.{Page, Ret}
+use Rattle.xa_base.specs.declared.answer.Answer.TheVariants.{Page}
 use Rattle.xa_base.specs.declared.call.Call.TheVariants as Calls
 use Rattle.xa_model.specs.Facts.{breaks, fits, has_row, issued, live, new_calls, next_call, page, page_after, recorded, resolving_calls, resolving_kind, taken}
 use Rattle.xa_model.specs.Protocol.{IsRun, Lists}
-use Rattle.xa_model.specs.Trace.{Answer, Branch, Call, Happening, Happening.Heard, Happening.Issued, Happening.Resolved, Happening.ResolvedOpen, Happening.Took, Kind.Commit, Kind.Forget, Kind.Rollback, Line, Name, Name.Foreign, Name.Ours, Origin, Trace, Trace.Then, line, line_eq}
+use Rattle.xa_model.specs.Trace.{Branch, Call, Happening, Happening.Heard, Happening.Issued, Happening.Resolved, Happening.ResolvedOpen, Happening.Took, Kind.Commit, Kind.Forget, Kind.Rollback, Line, Name, Name.Foreign, Name.Ours, Origin, Trace, Trace.Then, line, line_eq}
 use Rattle.xa_standings.specs.Agreement.{call_at}
 use Rattle.xa_standings.specs.Named.{AreOnBranches, IsNamedCall, IsNamedPage, MakesNamedCall}
 use Rattle.xa_standings.specs.Seen.{Alone, Alone.Ends, Alone.NoMore, Alone.PutsOff, Alone.Votes, IsHistory, IsHistory.Does, IsHistory.Hears, IsHistory.Loses, IsHistory.LosesAnswer, IsHistory.Starts, IsManagers, KeepsRules, Seen, Seen.Answered, Seen.Did, Seen.Lost, Seen.Start, break_of}
-use Rattle.xa_standings.proofs.Taken.{same_lines}
 
 -- ** calls that were done
 
