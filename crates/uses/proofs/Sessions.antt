@@ -1,5 +1,5 @@
 -- A driver is served.
-use Rattle.std.proofs.Common.{◌≡◌, ◌≤◌, ◌<◌, inl, ℕ, true, false, List, [], ◌∷◌, ◌++◌, length, Some, None, IsSomeAnd, refl, sym, subst, arith}
+use Rattle.std.proofs.Common.{◌≡◌, ◌≤◌, ◌<◌, inl, ℕ, true, false, List, [], ◌∷◌, ◌++◌, length, Option, Some, None, IsSomeAnd, refl, sym, subst, arith}
 use Rattle.std.specs.FinMap.{len-empty}
 use Rattle.std.specs.List.{list_any}
 use Rattle.xa_base.specs.StateTable.{broken}
@@ -52,6 +52,13 @@ start_of threads rms first = record {
 begins_so : {L : Type 0} (threads rms : ℕ) (first : Coordinator L) → BeginsWith threads rms first.session.manager (start_of threads rms first)
 begins_so threads rms first = record { threads_are = refl; rms_are = refl; incarnation = refl; rows = refl; records = refl }
 
+-- what is left of a text that was known is known
+pub known_left : {L : Type 0} (text : List ℕ) (left : Option (List ℕ)) (moment : L → Moment) (greeting : Response) (written all : Option (List ℕ))
+    (old new : Coordinator L) → Serves moment greeting (Some text) left written all old new
+    → (unread : List ℕ) × Serves moment greeting (Some text) (Some unread) written all old new
+known_left text None moment greeting written all old new serves = absurd serves.consumed
+known_left text (Some unread) moment greeting written all old new serves = (unread, serves)
+
 none_logged : IsEmptyLog nothing
 none_logged = record { no_rows = len-empty _ _; no_records = len-empty _ _ }
 
@@ -85,6 +92,18 @@ is_served moment threads rms handed old new text unread before written starts or
       explained = so.explained;
       agree = so.agree;
     }
+
+-- the same of a reader that had the whole text
+pub is_served_whole : {L : Type 0} (moment : L → Moment) (threads rms : ℕ) (handed : L) (old new : Coordinator L) (text : List ℕ)
+    (whole left : Option (List ℕ)) (before written : List ℕ)
+    → StartsOver moment threads rms handed old → (moment handed).is_in_order → (moment (log_in old.session.manager)).is_honest
+    → (moment handed).content ≡ Some nothing → before ≡ [] → whole ≡ Some text
+    → Serves moment (greeting_of old) whole left (Some before) (Some written) old new → ServedDatabasesAgree moment
+    → IsServed threads rms text written
+is_served_whole moment threads rms handed old new text whole left before written starts order honest empty none is serves agree =
+    let known = known_left text left moment (greeting_of old) (Some before) (Some written) old new
+    (subst (λ w. Serves moment (greeting_of old) w left (Some before) (Some written) old new) is serves) in
+    is_served moment threads rms handed old new text known.0 before written starts order honest empty none known.1 agree
 
 -- each vote has its reply
 votes_fit : (votes : List (List ℕ)) (heard : List Response) (gs : List Gtrid) → AreVotes votes heard gs → length votes ≡ length heard

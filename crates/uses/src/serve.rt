@@ -1,13 +1,15 @@
 //! `xa_coordinator`: a driver is served, databases that obey the branch state table agree, also after a second driver that
 //! recovers what the first one left, and the log has the rows of what is committed.
 
-ghost use Rattle.std.specs.Prelude.{IfOk, IsSomeAnd};
+ghost use Rattle.std.specs.Prelude.{◌≡◌, IfOk, IsSomeAnd, Some};
+ghost use Rattle.std.specs.Io.Buffered.{reader_remaining};
 ghost use Rattle.uses.specs.Sessions.{AreServedTo, IsServed, IsServedOver, IsServedTwice, LogsCommits};
 ghost use Rattle.xa_base.specs.declared.state.Standing.TheVariants.{Unstarted};
 ghost use Rattle.xa_coordinator.specs.Sessions.{IsEmptyLog};
 ghost use Rattle.xa_log.specs.Contract.{Honestly};
 
 use std::alloc::Global;
+use std::io::BufReader;
 use xa_coordinator::{
     Coordinator, ServeFault, served_databases_agree, served_sessions_agree, sessions_are_tracked,
     voted_commits_are_logged,
@@ -25,6 +27,17 @@ pub(crate) enum SessionFault {
     Serve(ServeFault),
 }
 
+/// A reader of this text.
+fn whole(alloc: Global, text: &[u8]) -> Result<BufReader<&[u8]>, SessionFault>
+    ensures { IfOk result (λ unread.
+        reader_remaining (λ slice. Some slice.now) unread ≡ Some text.now) }
+{
+    match BufReader::new(alloc, text) {
+        Ok(unread) => Ok(unread),
+        Err(_) => Err(SessionFault::Serve(ServeFault::Memory)),
+    }
+}
+
 /// Serves a driver that writes this text, of any number of threads and resource managers, over a new log in memory.
 /// Whatever the text says, what it tells and what is written for it have a right history; and wherever the branches then
 /// stand at databases that obey the branch state table, no branch of a transaction is committed beside one that is rolled
@@ -39,7 +52,7 @@ pub(crate) fn served(
 {
     served_databases_agree::<MemLog>();
     let mut written = Vec::new(alloc);
-    let mut unread = text;
+    let mut unread = whole(alloc, text)?;
     let log = MemLog::new(alloc);
     match Coordinator::new(alloc, threads, rms, log) {
         Ok(mut coordinator) => match coordinator.serve(&mut unread, &mut written) {
@@ -62,7 +75,7 @@ fn served_over<L: DecisionLog + Drop>(
         IsServedOver L.moment threads rms log text.now left.0.items left.1) }
 {
     let mut written = Vec::new(alloc);
-    let mut unread = text;
+    let mut unread = whole(alloc, text)?;
     match Coordinator::new(alloc, threads, rms, log) {
         Ok(mut coordinator) => match coordinator.serve(&mut unread, &mut written) {
             Ok(()) => Ok((written, coordinator.into_log())),
