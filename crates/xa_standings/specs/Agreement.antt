@@ -41,9 +41,8 @@ abbrev pub WasDone : Call → (from to : Branch → Standing) → Type 0
 WasDone c from to = (a : Code) × ((b : Branch) → Takes (asks_of c) a b (from b) (to b))
 
 -- Where all branches may stand, if by what was told each may stand there, and after what wasn't told yet: of the calls that wait on a line
--- the first ones were done, in turn and however many, each with any answer; lines were cut off; databases ended prepared branches by
--- themselves. On each of the first lines a call was done, once for each time that it is there; the second ones were cut off: what waited on
--- them is lost.
+-- the first ones were done, in turn and however many, each with any answer; lines were cut off, and what waits on them is lost; databases
+-- ended prepared branches by themselves. The one list has a line for each call that was done, the other the lines that were cut off.
 pub data MayAllStand (o : Origin) (seen : Seen) (Told : Branch → Standing → Type 0) : List Line → List Line → (Branch → Standing) → Type 0 where
   AsTold : (f : Branch → Standing) → ((b : Branch) → Told b (f b)) → MayAllStand o seen Told [] [] f
   UnderWay :
