@@ -197,7 +197,7 @@ module _ {L : Type 0} (moment : L → Moment) (now left : Coordinator L) (t r : 
   }
     where
       told : (u : Unfit) → result ≡ Err u → u ≡ Unfits.Refused LogFault
-      told u e = let both : (let x : Result (Unit {0}) Unfit = Err u in x) ≡ Err (Unfits.Refused n) = sym e ∙ is in cc both fault
+      told u e = let both : (let x : Result (Unit {0}) Unfit = Err u in x) ≡ Err (Unfits.Refused n) = sym e ∙ is in cc (both, fault)
 
       fit_by : (o : Option Unfit) → unfit now.session t r (Ret code) ≡ o → o ≡ None
       fit_by None e = refl

@@ -239,7 +239,7 @@ module _ {L : Type 0} (moment : L → Moment) where
           before_it : AfterSessions (LeftBy o told None) to
           before_it =
               one_untold prior.log from to o told (line t r) call (Ret code) done cut prior.after prior.finds session here
-              (subst (WaitsAt o told (line t r) 0) waits (knows (line t r) 0 here).1) knows may
+              (subst (WaitsAt o told (line t r) 0) waits (laws.waiting o told now.session t r 0 is.tracks here.0 here.1)) knows may
 
           either : (next : Origin) → Finds (LeftBy o (Answered told (line t r) call (Ret code)) None) next ⊎ Finds (LeftBy o told None) next
               → GoesOn to next
