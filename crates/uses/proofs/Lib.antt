@@ -5,6 +5,7 @@ mod Decisions
 mod JobRows
 mod LaterProcesses
 mod LogSwaps
+mod Managers
 mod OwnLogs
 mod Recoveries
 mod Results

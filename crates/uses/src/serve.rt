@@ -11,11 +11,10 @@ ghost use Rattle.xa_log.specs.Contract.{Honestly};
 use std::alloc::Global;
 use std::io::BufReader;
 use xa_coordinator::{
-    Coordinator, ServeFault, served_databases_agree, served_sessions_agree, sessions_are_tracked,
+    Coordinator, ServeFault, served_databases_agree, served_sessions_agree,
     voted_commits_are_logged,
 };
 use xa_log::{DecisionLog, MemLog};
-use xa_serve::starts_are_tracked;
 use xa_tm::StartFault;
 
 /// Why a driver isn't served.
@@ -112,8 +111,6 @@ pub(crate) fn silent<L: DecisionLog + Drop>(
         AreServedTo L.moment left.1 (λ b. Unstarted))) }
 {
     served_sessions_agree::<L>();
-    starts_are_tracked::<L>();
-    sessions_are_tracked::<L>();
     served_over(alloc, threads, rms, log, &[])
 }
 
@@ -122,6 +119,11 @@ pub(crate) fn silent<L: DecisionLog + Drop>(
 /// then stand at databases that obey the branch state table: no branch of a transaction is committed beside one that is
 /// rolled back or lost. And the log has the row of each transaction with a branch that is committed and one that is prepared
 /// still, so that recovery commits that one too.
+///
+/// Where the first driver's text ends with votes, XA_OK each, and a line that commits their transactions, and this is replied by
+/// `decided`, each branch of these that stood prepared as that driver was killed ends committed, whatever the second one asks for:
+/// none is ever rolled back or lost, and once the log has no row of a transaction, its branches are committed, unless a
+/// database ended one by itself.
 pub(crate) fn served_twice<L: DecisionLog + Drop>(
     alloc: Global,
     threads: u32,
@@ -136,8 +138,7 @@ pub(crate) fn served_twice<L: DecisionLog + Drop>(
         left.0.items left.1.items)) }
 {
     served_sessions_agree::<L>();
-    starts_are_tracked::<L>();
-    sessions_are_tracked::<L>();
+    voted_commits_are_logged::<L>();
     let one = served_over(alloc, threads, rms, log, first)?;
     let two = served_over(alloc, threads, rms, one.1, second)?;
     Ok((one.0, two.0, two.1))
