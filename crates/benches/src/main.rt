@@ -20,6 +20,7 @@ mod hops;
 mod line;
 mod log;
 mod maps;
+mod place;
 mod rtrb_alone;
 mod scan;
 mod sqlite_alone;
