@@ -1,15 +1,17 @@
 -- Sessions of drivers one after another agree.
-use Rattle.std.proofs.Common.{◌≡◌, ◌<◌, ◌≤◌, ◌+◌, ℕ, true, List, [], ◌∷◌, length, Option, Some, None, IsSomeAnd, refl, sym, ap, ◌∙◌, subst, arith}
+use Rattle.std.proofs.Common.{◌≡◌, ◌<◌, ◌≤◌, ◌+◌, ◌⊎◌, inl, inr, ℕ, true, List, [], ◌∷◌, length, Option, Some, None, IsSomeAnd, refl, sym, ap, ◌∙◌, subst, arith}
 use Rattle.std.specs.FinMap.{get, len}
 use Rattle.std.specs.Prelude.{◌==◌, if◌then◌else◌, is_some}
 use Rattle.xa_base.specs.HeldBranch.{new_branch}
 use Rattle.xa_base.specs.Scan.{Scan.NotOpen}
 use Rattle.xa_base.specs.StateTable.{broken}
 use Rattle.xa_base.specs.declared.state.Standing.{Standing}
+use Rattle.xa_base.specs.declared.state.Standing.TheVariants.{Prepared}
 use Rattle.xa_coordinator.proofs.BranchLemmas.{calls_on_branches}
 use Rattle.xa_coordinator.proofs.Failures.{failed_in_request}
 use Rattle.xa_coordinator.proofs.LogLemmas.{replies_keep, same_keeps}
-use Rattle.xa_coordinator.specs.Sessions.{AreServed, AreServed.Between, AreServed.NoneYet, AreServed.OneMore, IsEmptyLog, IsHandedOn, IsLeft, IsLeft.AfterLine, IsLeft.InRequest, IsSession, LogDecides, StartsOver, WasLeft}
+use Rattle.xa_coordinator.specs.Sessions.{AreServed, AreServed.Between, AreServed.NoneYet, AreServed.OneMore, CommitStands, IsEmptyLog, IsHandedOn, IsLeft, IsLeft.AfterLine, IsLeft.InRequest, IsSession, LogDecides, StartsOver, WasFoundDecided, WasLeft}
+use Rattle.xa_coordinator.specs.Votes.{IsLogged}
 use Rattle.xa_coordinator.specs.declared.coordinator.Coordinator.{Coordinator}
 use Rattle.xa_log.specs.Content.{Content, with_bump}
 use Rattle.xa_log.specs.Contract.{Moment}
@@ -23,7 +25,7 @@ use Rattle.xa_serve.specs.Logging.{HoldsItsBook, KeepsLog}
 use Rattle.xa_serve.specs.Tracking.{FailedDecisionsAreFound, FailedDonesAreFound, FailedSettlementsAreFound, IsRaisedFrom, StartsFindTheLog}
 use Rattle.xa_standings.specs.Agreement.{MayAllStand}
 use Rattle.xa_standings.specs.Seen.{Seen, Seen.Start}
-use Rattle.xa_standings.specs.Sessions.{AfterSessions, AfterSessions.Between as Ends_between, AfterSessions.NoneYet as No_session, AfterSessions.OneMore as One_session, Finds, FindsLog, IsSession as Is_session, Log, Log.Empty, Log.LeftBy, MayFail, RowsDecide, nothing_yet}
+use Rattle.xa_standings.specs.Sessions.{AfterSessions, AfterSessions.Between as Ends_between, AfterSessions.NoneYet as No_session, AfterSessions.OneMore as One_session, CommitStands as Commit_stands, Finds, FindsLog, IsSession as Is_session, Log, Log.Empty, Log.LeftBy, MayFail, RowsDecide, WasFoundDecided as Was_found, nothing_yet}
 use Rattle.xa_standings.specs.Standings.{Comes}
 use Rattle.xa_tm.specs.Begins.{BeginsWith}
 use Rattle.xa_tm.specs.Book.{Book, book_of}
@@ -126,12 +128,13 @@ module _ {L : Type 0} (moment : L → Moment) where
   abbrev pub FindsLeft : Option (Coordinator L) → Log → Type 0
   FindsLeft last log = (c : Content) (o : Origin) → WasLeft moment last c → IsRaisedFrom c o → Finds log o
 
-  -- they are sessions one after another, and what the last left the next start finds
-  pub record AreSessions (last : Option (Coordinator L)) (f : Branch → Standing) : Type 0 where
+  -- they are sessions one after another, and what the last left the next start finds. They found such branches decided
+  pub record AreSessions (last : Option (Coordinator L)) (f : Branch → Standing) (Decided : Branch → Type 0) : Type 0 where
     pub log : Log
     pub after : AfterSessions log f
     pub finds : FindsLeft last log
     pub holds : Holds last
+    pub decided : (b : Branch) → Decided b → Was_found b log f after
 
   -- a session as it was left, after a line or in a step in which its log failed: the next start finds what it left
   record IsLeftSo (o : Origin) (seen : Seen) (left : Coordinator L) : Type 0 where
@@ -159,8 +162,8 @@ module _ {L : Type 0} (moment : L → Moment) where
     left_keeps _ AfterLine = same_keeps moment now now refl
     left_keeps _ (InRequest request left asks performs) = performs.keeps
 
-    module _ (last : Option (Coordinator L)) (from to : Branch → Standing) (before : AreSessions last from) (handed_on : IsHandedOn moment last handed)
-        (left : Coordinator L) (is_left : IsLeft moment now left) (honest : (moment (log_in left.session.manager)).is_honest) (used : List Line)
+    module _ (last : Option (Coordinator L)) (from to : Branch → Standing) (Decided : Branch → Type 0) (before : AreSessions last from Decided)
+        (handed_on : IsHandedOn moment last handed) (left : Coordinator L) (is_left : IsLeft moment now left) (honest : (moment (log_in left.session.manager)).is_honest) (used : List Line)
         (may : MayAllStand o seen (λ b. Comes seen b (broken (from b))) used to) where
       since_start : KeepsLog moment is.first.session.manager left.session.manager
       since_start =
@@ -178,7 +181,24 @@ module _ {L : Type 0} (moment : L → Moment) where
           raised_from moment is.threads is.rms handed is.first is.starts handed_on.order honest_first handed_on.content handed_on.has o is.begins
           handed_on.left handed_on.same.decisions handed_on.same.heuristics handed_on.raised
 
-      one_more : AreSessions (Some left) to
+      -- the start has the rows of its log
+      logged_rows : (content : Option Content) (g : Gtrid) → content ≡ Some handed_on.content → IsLogged content g
+          → is_some (get handed_on.content.decisions g) ≡ true
+      logged_rows None g has row = absurd row
+      logged_rows (Some c) g has row = subst (λ d. is_some (get d.decisions g) ≡ true) (let same : c ≡ handed_on.content = cc in same) row
+
+      listed_there : (b : Branch) → IsLogged (moment handed).content b.gtrid → lists_row o.rows b.gtrid ≡ true
+      listed_there b row =
+          lists_is o.rows b.gtrid ∙ ap is_some (raised.has.rows b.gtrid)
+          ∙ ap (λ m. is_some (get m b.gtrid)) (raised.rows ∙ sym handed_on.same.decisions)
+          ∙ logged_rows (moment handed).content b.gtrid handed_on.has row
+
+      found_so : (b : Branch) → ((from b ≡ Prepared) × IsLogged (moment handed).content b.gtrid) ⊎ Decided b
+          → ((from b ≡ Prepared) × (lists_row o.rows b.gtrid ≡ true)) ⊎ Was_found b before.log from before.after
+      found_so b (inl found) = inl (found.0, listed_there b found.1)
+      found_so b (inr earlier) = inr (before.decided b earlier)
+
+      one_more : AreSessions (Some left) to (λ b. ((from b ≡ Prepared) × IsLogged (moment handed).content b.gtrid) ⊎ Decided b)
       one_more =
           let so = left_so left is_left holds in
           let session : Is_session o seen so.fails = record {
@@ -192,22 +212,26 @@ module _ {L : Type 0} (moment : L → Moment) where
             after = One_session before.log from to o seen so.fails used before.after (before.finds handed_on.left o handed_on.was_left raised) session may;
             finds = so.finds;
             holds = holds;
+            decided = found_so;
           }
 
   -- ** all of them
 
-  pub are_sessions : Laws L → (last : Option (Coordinator L)) (f : Branch → Standing) → AreServed moment last f → AreSessions last f
+  pub are_sessions : Laws L → (last : Option (Coordinator L)) (f : Branch → Standing) (served : AreServed moment last f)
+      → AreSessions last f (λ b. WasFoundDecided moment b last f served)
   are_sessions laws _ _ NoneYet = record {
     log = Empty 0;
     after = No_session 0;
     finds = λ c o left raised. empty_found c o left raised;
     holds = tt;
+    decided = λ b found. absurd found;
   }
   are_sessions laws _ _ (OneMore last from to handed o seen now left used before handed_on is is_left honest may) =
-      one_more laws handed o seen now is last from to (are_sessions laws last from before) handed_on left is_left honest used may
+      one_more laws handed o seen now is last from to (λ b. WasFoundDecided moment b last from before) (are_sessions laws last from before) handed_on left
+      is_left honest used may
   are_sessions laws _ _ (Between last from to d how before was final) =
       let b = are_sessions laws last from before in
-      record { log = b.log; after = Ends_between b.log from to d how b.after was final; finds = b.finds; holds = b.holds }
+      record { log = b.log; after = Ends_between b.log from to d how b.after was final; finds = b.finds; holds = b.holds; decided = b.decided }
 
 -- ** what the log says that is left
 
@@ -245,4 +269,10 @@ module _ (have_content : StartsHaveContent) (are_apart : StartRowsAreApart) (c :
   log_decides f rows = record {
     committed = λ b d same committed prepared. sym (listed b.gtrid) ∙ rows.committed b d same committed prepared;
     undone = λ b u. sym (listed b.gtrid) ∙ rows.undone b u;
+  }
+
+  pub commit_stands : (f : Branch → Standing) (b : Branch) → Commit_stands f (start_of c) b → CommitStands f c b
+  commit_stands f b stands = record {
+    commits = stands.commits;
+    row_stays = λ prepared. sym (listed b.gtrid) ∙ stands.row_stays prepared;
   }

@@ -1,7 +1,7 @@
 -- Sessions of drivers one after another, over one log and the same databases, and where all branches then stand at databases that obey the
 -- branch state table. Nothing is supposed of the coordinator: of the log only that it is in order and honest, which is its library's to
 -- prove, and that it is handed on.
-use Rattle.std.specs.Prelude.{◌≡◌, ◌≤◌, ℕ, true, false, if◌then◌else◌, List, Option, Some, None, is_some}
+use Rattle.std.specs.Prelude.{◌≡◌, ◌≤◌, ◌⊎◌, ℕ, true, false, if◌then◌else◌, List, Option, Some, None, is_some}
 use Rattle.std.specs.FinMap.{get, len}
 use Rattle.std.specs.List.{list_any}
 use Rattle.xa_base.specs.Branch.{branch_eq}
@@ -13,6 +13,7 @@ use Rattle.xa_coordinator.specs.Faults.{AsksForRows}
 use Rattle.xa_coordinator.specs.Performing.{Performs}
 use Rattle.xa_coordinator.specs.Serving.{HaveReplies}
 use Rattle.xa_coordinator.specs.Telling.{HaveTold, is_log_fault}
+use Rattle.xa_coordinator.specs.Votes.{IsLogged}
 use Rattle.xa_coordinator.specs.declared.coordinator.Coordinator.{Coordinator}
 use Rattle.xa_log.specs.Content.{Content}
 use Rattle.xa_log.specs.Contract.{Honestly, Moment}
@@ -27,6 +28,7 @@ use Rattle.xa_serve.specs.Tracking.{KeepsTrack}
 use Rattle.xa_standings.specs.Agreement.{MayAllStand, StandAlike}
 use Rattle.xa_standings.specs.Explained.{IsOldLog}
 use Rattle.xa_standings.specs.Seen.{Seen, Seen.Start}
+use Rattle.xa_standings.specs.Sessions.{IsCommitting}
 use Rattle.xa_standings.specs.Standings.{Comes}
 use Rattle.xa_tm.specs.Begins.{BeginsWith}
 use Rattle.xa_tm.specs.BookAndLog.{SameRows}
@@ -124,9 +126,29 @@ ServedLogsDecide {L} moment =
     (last : Coordinator L) (f : Branch → Standing) (c : Content) → AreServed moment (Some last) f
     → LeavesContent moment last.session.manager c → LogDecides f c
 
--- What lines and their replies tell is known of each session that starts over a log that it is handed.
+-- One of these sessions began where the branch stood prepared, over a log with the row of its transaction.
+abbrev pub WasFoundDecided : {L : Type 0} (moment : L → Moment) (b : Branch) (last : Option (Coordinator L)) (f : Branch → Standing)
+    → AreServed moment last f → Type 0
+WasFoundDecided moment b _ _ NoneYet = ⊥
+WasFoundDecided moment b _ _ (OneMore last from to handed o seen now left used before handed_on is is_left honest may) =
+    ((from b ≡ Prepared) × IsLogged (moment handed).content b.gtrid) ⊎ WasFoundDecided moment b last from before
+WasFoundDecided moment b _ _ (Between last from to d how before was final) = WasFoundDecided moment b last from before
+
+-- Such a branch is to commit; and as long as it stands prepared, the log has its row.
+pub record CommitStands (f : Branch → Standing) (log : Content) (b : Branch) : Type 0 where
+  pub commits : IsCommitting (f b)
+  pub row_stays : f b ≡ Prepared → is_some (get log.decisions b.gtrid) ≡ true
+
+-- So does each decision to commit that a session found, in the log that the last session left, and in whatever a crash leaves of it.
+abbrev pub ServedCommitsStand : {L : Type 0} → (L → Moment) → Type 0
+ServedCommitsStand {L} moment =
+    (last : Coordinator L) (f : Branch → Standing) (c : Content) (b : Branch) (served : AreServed moment (Some last) f)
+    → WasFoundDecided moment b (Some last) f served → LeavesContent moment last.session.manager c → CommitStands f c b
+
+-- What lines and their replies tell is known of each session that starts over a log that it is handed, and it is one of these.
 abbrev pub ServedSessionsAreSeen : {L : Type 0} → (L → Moment) → Type 0
 ServedSessionsAreSeen {L} moment =
     (threads rms : ℕ) (lines : List (List ℕ)) (replies : List Response) (handed : L) (first now : Coordinator L)
     → StartsOver moment threads rms handed first → HaveReplies moment lines replies first now → list_any is_log_fault replies ≡ false
-    → (o : Origin) → BeginsWith threads rms first.session.manager o → (seen : Seen) × IsSession moment handed o seen now
+    → (o : Origin) → BeginsWith threads rms first.session.manager o
+    → (seen : Seen) × HaveTold o.threads lines replies Start seen × IsSession moment handed o seen now

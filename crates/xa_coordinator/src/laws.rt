@@ -3,7 +3,8 @@
 ghost use Rattle.xa_coordinator.specs.Branches.{CallsAreOnBranches};
 ghost use Rattle.xa_coordinator.specs.Faults.{FaultsLeaveAllOrNone};
 ghost use Rattle.xa_coordinator.specs.Managers.{ManagersAreApart, RepliesTellOwn};
-ghost use Rattle.xa_coordinator.specs.Sessions.{ServedLogsDecide, ServedSessionsAgree, ServedSessionsAreSeen};
+ghost use Rattle.xa_coordinator.specs.Sessions.{ServedCommitsStand, ServedLogsDecide};
+ghost use Rattle.xa_coordinator.specs.Sessions.{ServedSessionsAgree, ServedSessionsAreSeen};
 ghost use Rattle.xa_coordinator.specs.Tracking.{RepliesAreTracked, ServedDatabasesAgree};
 ghost use Rattle.xa_coordinator.specs.Tracking.{ServedSessionsAreExplained, SessionsAreTracked};
 ghost use Rattle.xa_coordinator.specs.Votes.{CommitsAreLogged, VotedCommitsAreLogged};
@@ -84,10 +85,13 @@ pub fn served_databases_agree<L: DecisionLog + Drop>()
 ///   decided or recovered it;
 /// - `rows`: the log that is left decides of what is prepared still. It has the row of each transaction of which a branch
 ///   is committed, and no row of one of which a branch is rolled back or lost;
+/// - `decided`: a branch that a session found prepared, and its transaction's row in the log, commits, or its database ends
+///   it by itself. The row is there as long as the branch stands prepared, so a log without it says that this is over;
 /// - `seen`: each session that starts so is one of these.
 pub fn served_sessions_agree<L: DecisionLog + Drop>()
     ensures agree { ServedSessionsAgree L.moment }
     ensures rows { ServedLogsDecide L.moment }
+    ensures decided { ServedCommitsStand L.moment }
     ensures seen { ServedSessionsAreSeen L.moment }
 {
     sessions_agree();

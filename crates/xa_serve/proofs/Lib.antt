@@ -3,7 +3,6 @@ mod Following
 mod Headroom
 mod Lines
 pub mod Logging
-mod NextRows
 mod NextStarts
 mod FailedSteps
 mod Recoveries

@@ -18,7 +18,9 @@ use Rattle.xa_serve.specs.Following.{BookStands, StandsIn}
 use Rattle.xa_serve.specs.Tracking.{IsRaisedFrom, KeepsTrack}
 use Rattle.xa_serve.specs.declared.session.Session.{Session}
 use Rattle.xa_serve.proofs.Books.{book_goes}
-use Rattle.xa_serve.proofs.NextRows.{MayHoldRows, StartsOver, after_change, may_hold_rows, next_records, next_rows, row_in_is}
+use Rattle.xa_tm.specs.LogRows.{MayHoldRows, StartsOver, after_change}
+use Rattle.xa_tm.proofs.Log.NextRows.{next_records, next_rows}
+use Rattle.xa_tm.proofs.Log.TellsRows.{may_hold_rows, row_in_is}
 
 -- ** what a log that is tied to a book has
 

@@ -11,6 +11,8 @@
 mod hearing;
 mod laws;
 mod session;
+mod session_line;
+mod session_lines;
 
 pub use laws::{
     answers_are_tracked, books_have_headroom, first_calls_are_tracked, later_sessions_go_on,

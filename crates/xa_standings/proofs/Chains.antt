@@ -19,8 +19,8 @@ use Rattle.xa_model.proofs.NameLemmas.OwnNames.{own_name}
 use Rattle.xa_model.proofs.ProcessLemmas.Facing.{Faces, faces_after}
 use Rattle.xa_model.proofs.ProcessLemmas.Joining.{gone_right}
 use Rattle.xa_model.proofs.ProcessLemmas.Leaving.{fits_branch}
-use Rattle.xa_model.proofs.ProcessLemmas.SameLogs.{rows_again, records_again}
-use Rattle.xa_model.specs.Facts.{fits, held_of, incarnation, origin, retries, standing, started, up, vote}
+use Rattle.xa_model.proofs.ProcessLemmas.SameLogs.{rows_again, records_again, same_listed}
+use Rattle.xa_model.specs.Facts.{fits, held_of, incarnation, lists_row, log as rows_of, origin, retries, standing, started, up, vote}
 use Rattle.xa_model.specs.Facts.InDoubt.{name_of}
 use Rattle.xa_model.specs.Promises.Agreement.{IsUndone}
 use Rattle.xa_model.specs.Promises.Processes.{AllAreNamed, Resumes, gone, held_in, resumed}
@@ -30,10 +30,11 @@ use Rattle.xa_standings.specs.Across.{IsKnownAsLeft, behind}
 use Rattle.xa_standings.specs.Agreement.{MayAllStand, MayAllStand.AsTold, MayAllStand.CutOff, MayAllStand.EndedAlone, MayAllStand.UnderWay, StandAlike}
 use Rattle.xa_standings.specs.Explained.{IsOldLog}
 use Rattle.xa_standings.specs.Seen.{IsHistory, IsHistory.Does, IsHistory.Hears, IsHistory.Loses, IsHistory.LosesAnswer, IsHistory.Starts, KeepsRules, Seen, Seen.Answered, Seen.Did, Seen.Lost, Seen.Start}
-use Rattle.xa_standings.specs.Sessions.{AfterSessions, AfterSessions.Between, AfterSessions.NoneYet, AfterSessions.OneMore, Finds, FindsLog, IsSession, Log, Log.Empty, Log.LeftBy, MayFail, failed_in, nothing_yet}
+use Rattle.xa_standings.specs.Sessions.{AfterSessions, AfterSessions.Between, AfterSessions.NoneYet, AfterSessions.OneMore, Finds, FindsLog, IsCommitting, IsSession, Log, Log.Empty, Log.LeftBy, MayFail, WasFoundDecided, failed_in, nothing_yet}
 use Rattle.xa_standings.specs.Standings.{Comes}
 use Rattle.xa_standings.proofs.Agreeing.{LeavesThere, ended_named, from_known}
 use Rattle.xa_standings.proofs.Books.{AsksIf, SameBooks, finds_same}
+use Rattle.xa_standings.proofs.Commits.{HasCommit, behind_commits, one_more_commits}
 use Rattle.xa_standings.proofs.Choices.{behind_right, same_there, unstarted_still}
 use Rattle.xa_standings.proofs.Names.{done_named, first_named}
 
@@ -133,14 +134,15 @@ broken_failed (Some f) tr b = by (up tr)
 -- ** what is so behind each of them
 
 -- there is one right history of all that happened. It leaves each branch where it stands, but that what was open may be lost already; and
--- the next start finds the rows and records of it
-pub record IsReached (log : Log) (f : Branch → Standing) : Type 0 where
+-- the next start finds the rows and records of it. In it such branches are to commit
+pub record IsReached (log : Log) (f : Branch → Standing) (Decided : Branch → Type 0) : Type 0 where
   pub whole : Trace
   pub right : AllRight whole
   pub there : (b : Branch) → broken (standing whole b) ≡ broken (f b)
   pub named : AllAreNamed whole
   pub finds : (next : Origin) → Finds log next → FindsLog whole next
   pub alike : StandAlike f
+  pub decided : (b : Branch) → Decided b → HasCommit whole b
 
 -- ** none yet
 
@@ -166,7 +168,7 @@ nothing_named i b unfit = (
   ap (λ t. (if t then new_branch else new_branch).retries) unfit,
 )
 
-none_reached : (i : ℕ) → IsReached (Empty i) (λ b. Unstarted)
+none_reached : (i : ℕ) → IsReached (Empty i) (λ b. Unstarted) (λ b. ⊥)
 none_reached i = record {
   whole = nothing_yet i;
   right = nothing_right i;
@@ -174,11 +176,12 @@ none_reached i = record {
   named = nothing_named i;
   finds = λ next found. found;
   alike = λ b c same e u. absurd (cc);
+  decided = λ b found. absurd found;
 }
 
 -- ** one more
 
-module _ (log : Log) (from to : Branch → Standing) (r : IsReached log from) (o : Origin) (found : Finds log o) where
+module _ (log : Log) (from to : Branch → Standing) (Decided : Branch → Type 0) (r : IsReached log from Decided) (o : Origin) (found : Finds log o) where
   abbrev past : Trace
   past = r.whole
 
@@ -295,7 +298,21 @@ module _ (log : Log) (from to : Branch → Standing) (r : IsReached log from) (o
         are_alike (behind (resumed past start) x.now) (behind_right past start x.now r.right resumes x.start x.runs).0 b c same
         (now_there b ∙ e) (subst IsUndone (sym (now_there c)) u)
 
-    one_more : IsReached (LeftBy o seen fails) to
+    -- what it found prepared, with a row, and what an earlier one did
+    resumed_right : AllRight (resumed past start)
+    resumed_right = (gone_right past r.right, (refl, found_log.later, found_log.rows.number, found_log.records.number))
+
+    found_commits : (b : Branch) → ((from b ≡ Prepared) × (lists_row o.rows b.gtrid ≡ true)) ⊎ Decided b → HasCommit (resumed past start) b
+    found_commits b (inl found) = record {
+      commits = subst IsCommitting (sym (r.there b ∙ ap broken found.0)) tt;
+      had = (always (resumed past start) resumed_right).row_rowed b.gtrid
+          (sym (same_listed o.rows (rows_of (resumed past start)) found_log.rows b.gtrid) ∙ found.1);
+    }
+    found_commits b (inr earlier) =
+        one_more_commits (gone past) (Restarted start.incarnation (length start.rows) (length start.heuristic_rows)) b resumed_right
+        (one_more_commits past (Crashed Part.Manager) b (gone_right past r.right) (r.decided b earlier))
+
+    one_more : IsReached (LeftBy o seen fails) to (λ b. ((from b ≡ Prepared) × (lists_row o.rows b.gtrid ≡ true)) ⊎ Decided b)
     one_more = record {
       whole = behind (resumed past start) last;
       right = both.0;
@@ -304,11 +321,13 @@ module _ (log : Log) (from to : Branch → Standing) (r : IsReached log from) (o
           (stands_so b ∙ n.0, sym (both.1.held.votes b) ∙ n.1, sym (both.1.held.retries b) ∙ n.2);
       finds = finds_it;
       alike = now_alike;
+      decided = λ b found. behind_commits (resumed past start) last b both.0 (found_commits b found);
     }
 
 -- ** between two
 
-module _ (log : Log) (from to : Branch → Standing) (r : IsReached log from) (d : Branch) (how : How) (was : from d ≡ Prepared)
+module _ (log : Log) (from to : Branch → Standing) (Decided : Branch → Type 0) (r : IsReached log from Decided) (d : Branch) (how : How)
+    (was : from d ≡ Prepared)
     (final : (b : Branch) → to b ≡ (if branch_eq d b then Completed how else from b)) where
   prepared : standing r.whole d ≡ Prepared
   prepared = prepared_whole (standing r.whole d) (r.there d ∙ ap broken was)
@@ -321,7 +340,7 @@ module _ (log : Log) (from to : Branch → Standing) (r : IsReached log from) (d
       by true same = absurd (other (sym same))
       by false same = same
 
-  between : IsReached log to
+  between : IsReached log to Decided
   between = record {
     whole = Then r.whole (CompletedAlone d how);
     right = (r.right, prepared);
@@ -329,6 +348,7 @@ module _ (log : Log) (from to : Branch → Standing) (r : IsReached log from) (d
     named = ended_named r.whole d how r.named;
     finds = λ next found. let l = r.finds next found in record { later = l.later; rows = l.rows; records = l.records };
     alike = λ b c same e u. r.alike b c same (before b Committed (λ x. absurd (cc)) e) (undone c u);
+    decided = λ b found. one_more_commits r.whole (CompletedAlone d how) b (r.right, prepared) (r.decided b found);
   }
     where
       undone : (c : Branch) → IsUndone (to c) → IsUndone (from c)
@@ -348,8 +368,9 @@ module _ (log : Log) (from to : Branch → Standing) (r : IsReached log from) (d
 
 -- ** all of them
 
-pub reached : (log : Log) (f : Branch → Standing) → AfterSessions log f → IsReached log f
+pub reached : (log : Log) (f : Branch → Standing) (after : AfterSessions log f) → IsReached log f (λ b. WasFoundDecided b log f after)
 reached _ _ (NoneYet i) = none_reached i
 reached _ _ (OneMore log from to o seen fails used before found session may) =
-    one_more log from to (reached log from before) o found seen fails session used may
-reached _ _ (Between log from to d how before was final) = between log from to (reached log from before) d how was final
+    one_more log from to (λ b. WasFoundDecided b log from before) (reached log from before) o found seen fails session used may
+reached _ _ (Between log from to d how before was final) =
+    between log from to (λ b. WasFoundDecided b log from before) (reached log from before) d how was final
