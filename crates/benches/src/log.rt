@@ -3,10 +3,12 @@
 ghost use Rattle.std.specs.Prelude.{◌≡◌, ◌≤◌};
 ghost use Rattle.xa_log.specs.Contract.{FitsRow};
 
-use crate::place::{InFile, InMemory, Place};
+use sqlite::{Alter, FileStore};
+use sqlite_disk::Disk;
 use std::time::Instant;
 use xa_base::{Branch, Gtrid, How};
 use xa_log::{DecisionLog, LogFault};
+use xa_sql_log::SqlLog;
 
 /// How many transactions are committed.
 const COMMITS: u64 = 1_000;
@@ -29,26 +31,48 @@ pub(crate) fn run(
     command: Option<&str>,
     path: Option<&str>,
 ) -> anyhow::Result<()> {
-    let memory = InMemory { alloc: rt.alloc() };
     match (command, path) {
-        (Some("write"), Some(path)) => work_in(rt, &InFile { rt, path }, Work::Write),
-        (Some("read"), Some(path)) => work_in(rt, &InFile { rt, path }, Work::Read),
+        (Some("write"), Some(path)) => work_at(rt, path, Work::Write),
+        (Some("read"), Some(path)) => work_at(rt, path, Work::Read),
         (Some("time"), Some(path)) => {
-            work_in(rt, &memory, Work::Time)?;
-            work_in(rt, &InFile { rt, path }, Work::Time)
+            work_in_memory(rt, Work::Time)?;
+            work_at(rt, path, Work::Time)
         }
-        (Some("time"), None) => work_in(rt, &memory, Work::Time),
-        _ => work_in(rt, &memory, Work::Settle),
+        (Some("time"), None) => work_in_memory(rt, Work::Time),
+        _ => work_in_memory(rt, Work::Settle),
     }
 }
 
-/// Works over the log in a place.
-fn work_in<P: Place>(rt: &HostRuntime, place: &P, work: Work) -> anyhow::Result<()> {
-    let mut log = place.log()?;
+/// Works over a log in memory.
+fn work_in_memory(rt: &HostRuntime, work: Work) -> anyhow::Result<()> {
+    work_over(rt, "in memory", SqlLog::open_in_memory(rt.alloc())?, work)
+}
+
+/// Works over a log in a file.
+fn work_at(rt: &HostRuntime, path: &str, work: Work) -> anyhow::Result<()> {
+    work_in_files(rt, SqlLog::open(rt, path)?, work)
+}
+
+/// Works over a log in files of any kind: a proof at one kind of file takes several times as long.
+fn work_in_files<D: Disk + Drop>(
+    rt: &HostRuntime,
+    log: SqlLog<FileStore<D>>,
+    work: Work,
+) -> anyhow::Result<()> {
+    work_over(rt, "in a file", log, work)
+}
+
+/// Works over a log in any store.
+fn work_over<S: Alter + Drop>(
+    rt: &HostRuntime,
+    place: &str,
+    mut log: SqlLog<S>,
+    work: Work,
+) -> anyhow::Result<()> {
     match work {
         Work::Write => Ok(write(&mut log)?),
         Work::Read => read(rt, &mut log),
-        Work::Time => measure(rt, place.name(), &mut log),
+        Work::Time => measure(rt, place, &mut log),
         Work::Settle => commit_and_settle(rt, &mut log),
     }
 }

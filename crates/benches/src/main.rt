@@ -20,7 +20,6 @@ mod hops;
 mod line;
 mod log;
 mod maps;
-mod place;
 mod rtrb_alone;
 mod scan;
 mod sqlite_alone;

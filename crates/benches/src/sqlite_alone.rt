@@ -1,8 +1,8 @@
 //! What the crate sqlite does by itself with the tables, the rows and the statements of the decision log. No log stands above
 //! it, and no clause says what it does: so its figures show how much of the time is the crate's own.
 
-use crate::place::{Closes, InFile, InMemory, Place};
-use sqlite::{Alter, Connection, Error, ErrorCode, Transaction, params};
+use sqlite::{Alter, Connection, Error, ErrorCode, FileStore, Transaction, params};
+use sqlite_disk::Disk;
 use std::time::Instant;
 
 /// So many transactions, of so many decisions each.
@@ -65,6 +65,8 @@ enum Work {
     Count,
     Time,
     Group,
+    /// All decisions, so many in a transaction.
+    Whole(i64),
 }
 
 impl Load {
@@ -80,28 +82,63 @@ pub(crate) fn run(
     path: Option<&str>,
     decisions: Option<&str>,
 ) -> anyhow::Result<()> {
-    let memory = InMemory { alloc: rt.alloc() };
     match (command, path) {
         (Some("whole"), Some(path)) => {
             let decisions = match decisions {
                 Some(word) => word.parse::<i64>()?,
                 None => 1,
             };
-            write_whole(rt, &InFile { rt, path }, decisions)
+            let conn = Connection::open(rt, path)?;
+            close(work_in_files(rt, conn, Work::Whole(decisions))?)
         }
         (Some("time"), Some(path)) => {
-            work_in(rt, &memory, Work::Time)?;
-            work_in(rt, &InFile { rt, path }, Work::Time)
+            work_in_memory(rt, Work::Time)?;
+            work_at(rt, path, Work::Time)
         }
-        (Some("time"), None) => work_in(rt, &memory, Work::Time),
-        (Some("groups"), Some(path)) => work_in(rt, &InFile { rt, path }, Work::Group),
-        _ => work_in(rt, &memory, Work::Count),
+        (Some("time"), None) => work_in_memory(rt, Work::Time),
+        (Some("groups"), Some(path)) => work_at(rt, path, Work::Group),
+        _ => work_in_memory(rt, Work::Count),
     }
 }
 
-/// Works over the database in a place, which has no tables.
-fn work_in<P: Place>(rt: &HostRuntime, place: &P, work: Work) -> anyhow::Result<()> {
-    let mut conn = place.connect()?;
+fn work_in_memory(rt: &HostRuntime, work: Work) -> anyhow::Result<()> {
+    let _conn = work_over(
+        rt,
+        "in memory",
+        Connection::open_in_memory(rt.alloc())?,
+        work,
+    )?;
+    Ok(())
+}
+
+/// Works over the new file at a path.
+fn work_at(rt: &HostRuntime, path: &str, work: Work) -> anyhow::Result<()> {
+    let _conn = work_in_files(rt, Connection::open(rt, path)?, work)?;
+    Ok(())
+}
+
+/// Works over files of any kind: a proof at one kind of file takes several times as long.
+fn work_in_files<D: Disk + Drop>(
+    rt: &HostRuntime,
+    conn: Connection<FileStore<D>>,
+    work: Work,
+) -> anyhow::Result<Connection<FileStore<D>>> {
+    work_over(rt, "in a file", conn, work)
+}
+
+/// Copies the journal into the file, and closes both.
+fn close<D: Disk + Drop>(conn: Connection<FileStore<D>>) -> anyhow::Result<()> {
+    conn.close()?;
+    Ok(())
+}
+
+/// Works over a database without tables, in any store, and gives it back.
+fn work_over<S: Alter + Drop>(
+    rt: &HostRuntime,
+    place: &str,
+    mut conn: Connection<S>,
+    work: Work,
+) -> anyhow::Result<Connection<S>> {
     create_tables(&mut conn)?;
     match work {
         Work::Count => {
@@ -110,30 +147,23 @@ fn work_in<P: Place>(rt: &HostRuntime, place: &P, work: Work) -> anyhow::Result<
                 "{} commits of the crate sqlite alone",
                 COUNTED.transactions
             )?;
-            Ok(())
         }
         Work::Time => {
             let commits = rate(rt, &mut conn, 0, TIMED)?;
-            println!(rt; "{commits} commits a second {}", place.name())?;
-            Ok(())
+            println!(rt; "{commits} commits a second {place}")?;
         }
-        Work::Group => show_groups(rt, &mut conn),
+        Work::Group => show_groups(rt, &mut conn)?,
+        Work::Whole(decisions) => {
+            let transactions = WHOLE.checked_div(decisions).unwrap_or(0);
+            let load = Load {
+                transactions,
+                decisions,
+            };
+            commit_all(&mut conn, 0, load)?;
+            println!(rt; "{} decisions {place}", load.total())?;
+        }
     }
-}
-
-/// Commits all decisions, so many in a transaction, and closes the database into one file.
-fn write_whole<P: Closes>(rt: &HostRuntime, place: &P, decisions: i64) -> anyhow::Result<()> {
-    let mut conn = place.connect()?;
-    create_tables(&mut conn)?;
-    let transactions = WHOLE.checked_div(decisions).unwrap_or(0);
-    let load = Load {
-        transactions,
-        decisions,
-    };
-    commit_all(&mut conn, 0, load)?;
-    P::close(conn)?;
-    println!(rt; "{} decisions {}", load.total(), place.name())?;
-    Ok(())
+    Ok(conn)
 }
 
 /// Prints how many decisions a second there are for each size of a transaction.
