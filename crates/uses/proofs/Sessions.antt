@@ -234,7 +234,7 @@ module _ {L : Type 0} (moment : L → Moment) (agree : ServedSessionsAgree momen
       let s = seen_in handed is.first is.last [] [] is.starts none_have refl in (
         is.last,
         is.log,
-        OneMore None (λ c. Unstarted) (λ c. Unstarted) handed (start_of threads rms is.first) s.0 is.last is.last [] NoneYet (empty_handed handed order empty) s.2
+        OneMore None (λ c. Unstarted) (λ c. Unstarted) handed (start_of threads rms is.first) s.0 s.0 is.last is.last [] [] NoneYet (empty_handed handed order empty) s.2
             AfterLine (subst (λ log. (moment log).is_honest) is.log honest)
             (AsTold (λ c. Unstarted) (λ c. subst (λ seen. Comes seen c Unstarted Unstarted) (sym s.1) refl)),
       )
@@ -277,12 +277,13 @@ module _ {L : Type 0} (moment : L → Moment) (agree : ServedSessionsAgree momen
       raised = let least : mid_content.0.incarnation ≤ mid_content.0.incarnation = omega arith in least;
     }
 
-    all : (one_used two_used : List Line) (from to : Branch → Standing)
-        → MayAllStand (start_of threads rms a) s.0 (λ c. Comes s.0 c Unstarted) one_used from
-        → MayAllStand (start_of threads rms x) t.0 (λ c. Comes t.0 c (broken (from c))) two_used to → AreServed moment (Some y) to
-    all one_used two_used from to one_may two_may =
-        OneMore (Some b) from to (log_in b.session.manager) (start_of threads rms x) t.0 y y two_used
-        (OneMore None (λ c. Unstarted) from handed (start_of threads rms a) s.0 b b one_used NoneYet (empty_handed handed order empty) s.2 AfterLine b_honest one_may)
+    all : (one_done one_cut two_done two_cut : List Line) (from to : Branch → Standing)
+        → MayAllStand (start_of threads rms a) s.0 (λ c. Comes s.0 c Unstarted) one_done one_cut from
+        → MayAllStand (start_of threads rms x) t.0 (λ c. Comes t.0 c (broken (from c))) two_done two_cut to → AreServed moment (Some y) to
+    all one_done one_cut two_done two_cut from to one_may two_may =
+        OneMore (Some b) from to (log_in b.session.manager) (start_of threads rms x) t.0 t.0 y y two_done two_cut
+        (OneMore None (λ c. Unstarted) from handed (start_of threads rms a) s.0 s.0 b b one_done one_cut NoneYet (empty_handed handed order empty) s.2
+        AfterLine b_honest one_may)
         second_handed t.2 AfterLine honest two_may
 
     holds_mid : HoldsItsBook moment true b.session.manager
@@ -301,13 +302,13 @@ module _ {L : Type 0} (moment : L → Moment) (agree : ServedSessionsAgree momen
         omega (arith, from, newer)
 
     -- the second session found a decided branch that stood prepared
-    found_decided : (gs : List Gtrid) → EndDecided one_lines one_replies gs → (one_used two_used : List Line) (from to : Branch → Standing)
-        (one_may : MayAllStand (start_of threads rms a) s.0 (λ c. Comes s.0 c Unstarted) one_used from)
-        (two_may : MayAllStand (start_of threads rms x) t.0 (λ c. Comes t.0 c (broken (from c))) two_used to)
+    found_decided : (gs : List Gtrid) → EndDecided one_lines one_replies gs → (one_done one_cut two_done two_cut : List Line) (from to : Branch → Standing)
+        (one_may : MayAllStand (start_of threads rms a) s.0 (λ c. Comes s.0 c Unstarted) one_done one_cut from)
+        (two_may : MayAllStand (start_of threads rms x) t.0 (λ c. Comes t.0 c (broken (from c))) two_done two_cut to)
         (d : Branch) → is_among gs d.gtrid ≡ true → from d ≡ Prepared
-        → WasFoundDecided moment d (Some y) to (all one_used two_used from to one_may two_may)
+        → WasFoundDecided moment d (Some y) to (all one_done one_cut two_done two_cut from to one_may two_may)
     unfolding all
-    found_decided gs end one_used two_used from to one_may two_may d among prepared =
+    found_decided gs end one_done one_cut two_done two_cut from to one_may two_may d among prepared =
         inl (prepared, rows_logged moment law threads rms handed a b one_lines one_replies one one_have order b_honest gs d.gtrid end among)
 
     pub are_served : AreServedTwice (moment (log_in y.session.manager)).content one_lines two_lines one_replies two_replies
@@ -319,12 +320,12 @@ module _ {L : Type 0} (moment : L → Moment) (agree : ServedSessionsAgree momen
       later = later;
       one_told = s.1;
       two_told = t.1;
-      agree = λ one_used two_used from to one_may two_may.
-          let served = all one_used two_used from to one_may two_may in
+      agree = λ one_done one_cut two_done two_cut from to one_may two_may.
+          let served = all one_done one_cut two_done two_cut from to one_may two_may in
           (agree (Some y) to served, λ c is. decide y to c served (inl is));
-      commits = λ gs end one_used two_used from to one_may two_may d among prepared c is.
-          ends_committed to c d (stand y to c d (all one_used two_used from to one_may two_may)
-          (found_decided gs end one_used two_used from to one_may two_may d among prepared) (inl is));
+      commits = λ gs end one_done one_cut two_done two_cut from to one_may two_may d among prepared c is.
+          ends_committed to c d (stand y to c d (all one_done one_cut two_done two_cut from to one_may two_may)
+          (found_decided gs end one_done one_cut two_done two_cut from to one_may two_may d among prepared) (inl is));
     }
 
   -- what is said of a log that two sessions leave

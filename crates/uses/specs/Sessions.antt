@@ -125,11 +125,13 @@ pub record AreServedTwice (log : Option Content) (one_lines two_lines : List (Li
   pub one_told : HaveTold one.threads one_lines one_replies Start one_seen
   pub two_told : HaveTold two.threads two_lines two_replies Start two_seen
   pub agree :
-      (one_used two_used : List Line) (from to : Branch → Standing) → MayAllStand one one_seen (λ b. Comes one_seen b Unstarted) one_used from
-      → MayAllStand two two_seen (λ b. Comes two_seen b (broken (from b))) two_used to → StandAlike to × ((c : Content) → log ≡ Some c → LogDecides to c)
+      (one_done one_cut two_done two_cut : List Line) (from to : Branch → Standing)
+      → MayAllStand one one_seen (λ b. Comes one_seen b Unstarted) one_done one_cut from
+      → MayAllStand two two_seen (λ b. Comes two_seen b (broken (from b))) two_done two_cut to → StandAlike to × ((c : Content) → log ≡ Some c → LogDecides to c)
   pub commits :
-      (gs : List Gtrid) → EndDecided one_lines one_replies gs → (one_used two_used : List Line) (from to : Branch → Standing)
-      → MayAllStand one one_seen (λ b. Comes one_seen b Unstarted) one_used from → MayAllStand two two_seen (λ b. Comes two_seen b (broken (from b))) two_used to
+      (gs : List Gtrid) → EndDecided one_lines one_replies gs → (one_done one_cut two_done two_cut : List Line) (from to : Branch → Standing)
+      → MayAllStand one one_seen (λ b. Comes one_seen b Unstarted) one_done one_cut from
+      → MayAllStand two two_seen (λ b. Comes two_seen b (broken (from b))) two_done two_cut to
       → (b : Branch) → is_among gs b.gtrid ≡ true → from b ≡ Prepared → (c : Content) → log ≡ Some c → EndsCommitted to c b
 
 -- The same where the log failed in neither session.

@@ -5,6 +5,7 @@ mod Lines
 pub mod Logging
 mod NextStarts
 mod FailedSteps
+pub mod FailedAnswers
 mod Recoveries
 mod Hearings
 pub mod Refusals

@@ -100,6 +100,10 @@ first_waiting g t r = if has_line g t r then slice_get (line_at g t r).calls.wai
 abbrev pub known_waiting : Grid → (thread rm : ℕ) → Option KnownCall
 known_waiting g t r = option_and_then known (first_waiting g t r)
 
+-- the call that waits on the line behind so many others, as a history knows it
+abbrev pub known_at : Grid → (thread rm : ℕ) → ℕ → Option KnownCall
+known_at g t r n = option_and_then known (if has_line g t r then slice_get (line_at g t r).calls.waiting n else None)
+
 -- why it refuses whatever is told of a line, the first reason that applies
 abbrev pub line_refusal : {L : Type 0} → Session L → (thread rm : ℕ) → Option Refusal
 line_refusal s t r =

@@ -1,11 +1,11 @@
 -- A branch that stood prepared in a right history, beside a row of its transaction, commits in the rest of it, or its database ends it by itself.
-use Rattle.std.proofs.Common.{◌≡◌, true, sym, subst}
+use Rattle.std.proofs.Common.{◌≡◌, true}
 use Rattle.std.proofs.lemmas.Bool.{or_right}
 use Rattle.xa_base.specs.StateTable.{broken}
 use Rattle.xa_base.specs.declared.state.Standing.{Standing}
-use Rattle.xa_base.specs.declared.state.Standing.TheVariants.{Active, Idle, RollbackOnly, Unstarted, Prepared, RolledBack, Lost, ReadOnly, Committed, Completed, Forgotten}
+use Rattle.xa_base.specs.declared.state.Standing.TheVariants.{Active, Idle, RollbackOnly, Prepared, Committed, Completed, Forgotten}
 use Rattle.xa_model.proofs.Invariant.{HasBegun}
-use Rattle.xa_model.proofs.Invariant.Moves.{CanRollBack, Move, Move.Commits, Move.Completes, Move.Forgets, Move.Rolls_back, Move.Stays}
+use Rattle.xa_model.proofs.Invariant.Moves.{Move, Move.Commits, Move.Completes, Move.Forgets, Move.Rolls_back, Move.Stays}
 use Rattle.xa_model.proofs.Invariant.Now.{step_move}
 use Rattle.xa_model.proofs.Invariant.Preservation.{always, begun_is_started}
 use Rattle.xa_model.proofs.Invariant.Rows.{rowed_kept}

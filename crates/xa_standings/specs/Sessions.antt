@@ -82,8 +82,8 @@ pub record IsSession (o : Origin) (seen : Seen) (fails : Option Fault) : Type 0 
 pub data AfterSessions : Log → (Branch → Standing) → Type 0 where
   NoneYet : (i : ℕ) → AfterSessions (Empty i) (λ b. Unstarted)
   OneMore :
-      (log : Log) (from to : Branch → Standing) (o : Origin) (seen : Seen) (fails : Option Fault) (used : List Line)
-      → AfterSessions log from → Finds log o → IsSession o seen fails → MayAllStand o seen (λ b. Comes seen b (broken (from b))) used to
+      (log : Log) (from to : Branch → Standing) (o : Origin) (seen : Seen) (fails : Option Fault) (done cut : List Line)
+      → AfterSessions log from → Finds log o → IsSession o seen fails → MayAllStand o seen (λ b. Comes seen b (broken (from b))) done cut to
       → AfterSessions (LeftBy o seen fails) to
   Between :
       (log : Log) (from to : Branch → Standing) (d : Branch) (how : How) → AfterSessions log from → from d ≡ Prepared
@@ -108,7 +108,7 @@ IsCommitting _ = ⊥
 -- One of these sessions began where the branch stood prepared, over a log with the row of its transaction.
 abbrev pub WasFoundDecided : Branch → (log : Log) (f : Branch → Standing) → AfterSessions log f → Type 0
 WasFoundDecided b _ _ (NoneYet i) = ⊥
-WasFoundDecided b _ _ (OneMore log from to o seen fails used before found session may) =
+WasFoundDecided b _ _ (OneMore log from to o seen fails done cut before found session may) =
     ((from b ≡ Prepared) × (lists_row o.rows b.gtrid ≡ true)) ⊎ WasFoundDecided b log from before
 WasFoundDecided b _ _ (Between log from to d how before was final) = WasFoundDecided b log from before
 
