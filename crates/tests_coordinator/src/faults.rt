@@ -1,7 +1,7 @@
-//! Readers and writers that fail.
+//! Readers and writers that fail, and when what was written is flushed.
 
 use std::alloc::Global;
-use std::io::{Error, ErrorKind, Read, Result as IoResult, Write};
+use std::io::{BufReader, Error, ErrorKind, Read, Result as IoResult, Write};
 use xa_coordinator::{Coordinator, ServeFault};
 use xa_log::MemLog;
 
@@ -46,8 +46,11 @@ impl Write for Full {
 fn tells_that_input_failed(rt: HostRuntime) {
     let alloc: Global = rt.alloc();
     let mut output = Vec::new(alloc);
+    let Ok(mut input) = BufReader::new(alloc, Broken { is_read: false }) else {
+        return;
+    };
     if let Ok(mut coordinator) = Coordinator::new(alloc, 1, 1, MemLog::new(alloc)) {
-        let served = coordinator.serve(&mut Broken { is_read: false }, &mut output);
+        let served = coordinator.serve(&mut input, &mut output);
         if served != Err(ServeFault::Memory) {
             assert_eq!(rt; served, Err(ServeFault::Input));
             assert_eq!(rt;
@@ -61,11 +64,84 @@ fn tells_that_input_failed(rt: HostRuntime) {
 #[test]
 fn tells_that_output_failed(rt: HostRuntime) {
     let alloc: Global = rt.alloc();
-    let mut input = "status\n".as_bytes();
+    let Ok(mut input) = BufReader::new(alloc, "status\n".as_bytes()) else {
+        return;
+    };
     if let Ok(mut coordinator) = Coordinator::new(alloc, 1, 1, MemLog::new(alloc)) {
         let served = coordinator.serve(&mut input, &mut Full { room: 20 });
         if served != Err(ServeFault::Memory) {
             assert_eq!(rt; served, Err(ServeFault::Output));
         }
+    }
+}
+
+/// Gives what is left of its lines, one at a time or all together.
+#[derive(Drop)]
+struct Lines<'a> {
+    left: &'a [u8],
+    together: bool,
+}
+
+impl Read for Lines<'_> {
+    fn read(&mut self, bytes: &mut [u8]) -> IoResult<usize> {
+        let mut count = 0;
+        for byte in self.left {
+            if count == bytes.len() {
+                break;
+            }
+            bytes[count] = *byte;
+            count += 1;
+            if *byte == b'\n' && !self.together {
+                break;
+            }
+        }
+        self.left = &self.left[count..];
+        Ok(count)
+    }
+}
+
+/// Counts how often it is flushed.
+#[derive(Drop)]
+struct Flushed {
+    times: u32,
+}
+
+impl Write for Flushed {
+    fn write(&mut self, bytes: &[u8]) -> IoResult<usize> {
+        Ok(bytes.len())
+    }
+
+    fn flush(&mut self) -> IoResult<()> {
+        self.times = self.times.saturating_add(1);
+        Ok(())
+    }
+}
+
+/// How often the writer is flushed in a session of two lines, which are read one at a time or together.
+fn flushes(alloc: Global, together: bool) -> Option<u32> {
+    let lines = Lines {
+        left: "status\nstatus\n".as_bytes(),
+        together,
+    };
+    let mut input = BufReader::new(alloc, lines).ok()?;
+    let mut output = Flushed { times: 0 };
+    let mut coordinator = Coordinator::new(alloc, 1, 1, MemLog::new(alloc)).ok()?;
+    coordinator.serve(&mut input, &mut output).ok()?;
+    Some(output.times)
+}
+
+/// Before each read: of the first line, of the second, and of what comes after it.
+#[test]
+fn flushes_before_each_wait(rt: HostRuntime) {
+    if let Some(times) = flushes(rt.alloc(), false) {
+        assert_eq!(rt; times, 3);
+    }
+}
+
+/// Before both lines, and before what comes after them.
+#[test]
+fn replies_to_what_was_read_together_at_once(rt: HostRuntime) {
+    if let Some(times) = flushes(rt.alloc(), true) {
+        assert_eq!(rt; times, 2);
     }
 }

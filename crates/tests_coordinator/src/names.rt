@@ -1,6 +1,7 @@
 //! Sessions of a manager that has a name.
 
 use std::alloc::Global;
+use std::io::BufReader;
 use xa_base::{Branch, Gtrid};
 use xa_coordinator::{Coordinator, ServeFault};
 use xa_log::{DecisionLog, LogFault, MemLog};
@@ -11,7 +12,7 @@ use xa_tm::StartFault;
 /// where memory was refused.
 fn written(alloc: Global, log: MemLog, lines: &str) -> Option<Vec<u8>> {
     let mut output = Vec::new(alloc);
-    let mut input = lines.as_bytes();
+    let mut input = BufReader::new(alloc, lines.as_bytes()).ok()?;
     let name = ManagerName::of_text("s1")?;
     match Coordinator::new(alloc, 2, 2, log) {
         Ok(mut coordinator) => match coordinator.serve_under(&name, &mut input, &mut output) {

@@ -1,6 +1,7 @@
 //! Sessions of a driver, line by line.
 
 use std::alloc::Global;
+use std::io::BufReader;
 use xa_base::{Branch, Gtrid};
 use xa_coordinator::{Coordinator, ServeFault};
 use xa_log::{DecisionLog, LogFault, MemLog};
@@ -10,7 +11,7 @@ use xa_tm::StartFault;
 /// refused.
 fn written(alloc: Global, log: MemLog, lines: &str) -> Option<Vec<u8>> {
     let mut output = Vec::new(alloc);
-    let mut input = lines.as_bytes();
+    let mut input = BufReader::new(alloc, lines.as_bytes()).ok()?;
     match Coordinator::new(alloc, 2, 2, log) {
         Ok(mut coordinator) => match coordinator.serve(&mut input, &mut output) {
             Ok(()) => Some(output),

@@ -10,3 +10,4 @@ mod Recoveries
 mod Results
 mod Sessions
 mod StartRows
+mod TwoManagers

@@ -1,10 +1,10 @@
 -- A driver is served.
-use Rattle.std.proofs.Common.{◌≡◌, ◌≤◌, ◌<◌, inl, ℕ, true, false, List, [], ◌∷◌, ◌++◌, length, Some, None, IsSomeAnd, refl, sym, subst, arith}
+use Rattle.std.proofs.Common.{◌≡◌, ◌≤◌, ◌<◌, ◌⊎◌, inl, inr, ℕ, true, false, List, [], ◌∷◌, ◌++◌, length, Option, Some, None, IsSomeAnd, refl, sym, subst, arith}
 use Rattle.std.specs.FinMap.{len-empty}
 use Rattle.std.specs.List.{list_any}
 use Rattle.xa_base.specs.StateTable.{broken}
 use Rattle.xa_base.specs.declared.state.Standing.{Standing}
-use Rattle.xa_base.specs.declared.state.Standing.TheVariants.{Unstarted}
+use Rattle.xa_base.specs.declared.state.Standing.TheVariants.{Committed, Completed, Forgotten, Prepared, Unstarted}
 use Rattle.xa_base.specs.declared.branch.Gtrid.{Gtrid}
 use Rattle.xa_base.specs.HeldBranch.{new_branch}
 use Rattle.xa_base.specs.Scan.{Scan.NotOpen}
@@ -15,13 +15,15 @@ use Rattle.xa_coordinator.proofs.VoteLemmas.{split_replies}
 use Rattle.xa_coordinator.specs.Lines.{lines_of}
 use Rattle.xa_coordinator.specs.Replies.{greeting_of}
 use Rattle.xa_coordinator.specs.Serving.{HaveReplies, RepliesTo, Serves, text_of}
-use Rattle.xa_coordinator.specs.Sessions.{AreServed, AreServed.NoneYet, AreServed.OneMore, IsEmptyLog, IsHandedOn, IsLeft.AfterLine, IsSession, ServedLogsDecide, ServedSessionsAgree, StartsOver}
+use Rattle.xa_coordinator.specs.Sessions.{AreServed, AreServed.NoneYet, AreServed.OneMore, CommitStands, IsEmptyLog, IsHandedOn, IsLeft.AfterLine, IsSession, ServedCommitsStand, ServedLogsDecide, ServedSessionsAgree, ServedSessionsAreSeen, StartsOver, WasFoundDecided}
 use Rattle.xa_coordinator.specs.Telling.{HaveTold, is_log_fault}
 use Rattle.xa_coordinator.specs.Tracking.{ServedDatabasesAgree, SessionsAreTracked}
-use Rattle.xa_coordinator.specs.Votes.{AreVotes, VotedCommitsAreLogged}
+use Rattle.xa_coordinator.specs.Votes.{AreVotes, IsLogged, VotedCommitsAreLogged}
+use Rattle.xa_coordinator.specs.Rows.{is_among}
 use Rattle.xa_coordinator.specs.declared.coordinator.Coordinator.{Coordinator}
 use Rattle.xa_log.specs.Content.{Content, nothing, with_bump}
 use Rattle.xa_log.specs.Contract.{Honestly, Moment}
+use Rattle.xa_model.specs.Promises.Agreement.{IsUndone}
 use Rattle.xa_model.specs.Trace.{Branch, Line, Origin}
 use Rattle.xa_requests.specs.declared.response.Response.{Response}
 use Rattle.xa_requests.specs.declared.response.Response.TheVariants as responses
@@ -30,14 +32,15 @@ use Rattle.xa_serve.specs.Logging.{HoldsItsBook, KeepsLog}
 use Rattle.xa_serve.specs.Tracking.{KeepsTrack, StartsAreTracked}
 use Rattle.xa_standings.specs.Agreement.{MayAllStand, MayAllStand.AsTold}
 use Rattle.xa_standings.specs.Seen.{Seen, Seen.Start}
+use Rattle.xa_standings.specs.Sessions.{IsCommitting}
 use Rattle.xa_standings.specs.Standings.{Comes}
 use Rattle.xa_tm.specs.Begins.{BeginsWith, records_begun, rows_begun}
 use Rattle.xa_tm.specs.Calls.{book_in, log_in}
 use Rattle.uses.proofs.Results.{there_is}
-use Rattle.uses.specs.Sessions.{AreServedTo, AreServedTwice, IsReplied, IsServed, IsServedOver, IsServedTwice, LogsCommits}
+use Rattle.uses.specs.Sessions.{AreServedTo, AreServedTwice, EndDecided, EndedAlone, EndsCommitted, IsReplied, IsServed, IsServedOver, IsServedTwice, LogsCommits}
 
 -- a start that has the rows and records of the log, and at whose resource managers nothing is
-abbrev start_of : {L : Type 0} → (threads rms : ℕ) → Coordinator L → Origin
+abbrev pub start_of : {L : Type 0} → (threads rms : ℕ) → Coordinator L → Origin
 start_of threads rms first = record {
   threads = threads;
   rms = rms;
@@ -49,8 +52,15 @@ start_of threads rms first = record {
   scans = λ r. NotOpen;
 }
 
-begins_so : {L : Type 0} (threads rms : ℕ) (first : Coordinator L) → BeginsWith threads rms first.session.manager (start_of threads rms first)
+pub begins_so : {L : Type 0} (threads rms : ℕ) (first : Coordinator L) → BeginsWith threads rms first.session.manager (start_of threads rms first)
 begins_so threads rms first = record { threads_are = refl; rms_are = refl; incarnation = refl; rows = refl; records = refl }
+
+-- what is left of a text that was known is known
+pub known_left : {L : Type 0} (text : List ℕ) (left : Option (List ℕ)) (moment : L → Moment) (greeting : Response) (written all : Option (List ℕ))
+    (old new : Coordinator L) → Serves moment greeting (Some text) left written all old new
+    → (unread : List ℕ) × Serves moment greeting (Some text) (Some unread) written all old new
+known_left text None moment greeting written all old new serves = absurd serves.consumed
+known_left text (Some unread) moment greeting written all old new serves = (unread, serves)
 
 none_logged : IsEmptyLog nothing
 none_logged = record { no_rows = len-empty _ _; no_records = len-empty _ _ }
@@ -86,6 +96,18 @@ is_served moment threads rms handed old new text unread before written starts or
       agree = so.agree;
     }
 
+-- the same of a reader that had the whole text
+pub is_served_whole : {L : Type 0} (moment : L → Moment) (threads rms : ℕ) (handed : L) (old new : Coordinator L) (text : List ℕ)
+    (whole left : Option (List ℕ)) (before written : List ℕ)
+    → StartsOver moment threads rms handed old → (moment handed).is_in_order → (moment (log_in old.session.manager)).is_honest
+    → (moment handed).content ≡ Some nothing → before ≡ [] → whole ≡ Some text
+    → Serves moment (greeting_of old) whole left (Some before) (Some written) old new → ServedDatabasesAgree moment
+    → IsServed threads rms text written
+is_served_whole moment threads rms handed old new text whole left before written starts order honest empty none is serves agree =
+    let known = known_left text left moment (greeting_of old) (Some before) (Some written) old new
+    (subst (λ w. Serves moment (greeting_of old) w left (Some before) (Some written) old new) is serves) in
+    is_served moment threads rms handed old new text known.0 before written starts order honest empty none known.1 agree
+
 -- each vote has its reply
 votes_fit : (votes : List (List ℕ)) (heard : List Response) (gs : List Gtrid) → AreVotes votes heard gs → length votes ≡ length heard
 votes_fit [] [] [] are = refl
@@ -97,6 +119,24 @@ votes_fit (l ∷ ls) (r ∷ rs) (g ∷ gs) are =
     let rest : length ls ≡ length rs = votes_fit ls rs gs are.2 in
     let all : length (l ∷ ls) ≡ length (r ∷ rs) = omega (arith, rest) in
     all
+
+-- behind a decision to commit, the log has the rows
+module _ {L : Type 0} (moment : L → Moment) (law : VotedCommitsAreLogged moment) (threads rms : ℕ) (handed : L) (old new : Coordinator L)
+    (lines : List (List ℕ)) (replies : List Response) (starts : StartsOver moment threads rms handed old) (have : HaveReplies moment lines replies old new)
+    (order : (moment handed).is_in_order) (honest : (moment (log_in new.session.manager)).is_honest) where
+  rows_logged : (gs : List Gtrid) (g : Gtrid) → EndDecided lines replies gs → is_among gs g ≡ true → IsLogged (moment (log_in new.session.manager)).content g
+  rows_logged gs g end among =
+      let all : HaveReplies moment (end.before ++ (end.votes ++ end.line ∷ [])) (end.first ++ (end.heard ++ responses.Decided ∷ [])) old new =
+      subst (λ ls. HaveReplies moment ls (end.first ++ (end.heard ++ responses.Decided ∷ [])) old new) end.lines_are
+      (subst (λ rs. HaveReplies moment lines rs old new) end.replies_are have) in
+      let one = split_replies moment end.before (end.votes ++ end.line ∷ []) end.first (end.heard ++ responses.Decided ∷ []) old new end.as_many all in
+      let two = split_replies moment end.votes (end.line ∷ []) end.heard (responses.Decided ∷ []) one.0 new (votes_fit end.votes end.heard gs end.are_votes) one.2 in
+      let kept = replies_keep moment end.before end.first old one.0 one.1 in
+      let later = replies_keep moment (end.votes ++ end.line ∷ []) (end.heard ++ responses.Decided ∷ []) one.0 new one.2 in
+      let last : RepliesTo moment end.line two.0 responses.Decided new = subst (λ c. RepliesTo moment end.line two.0 responses.Decided c) (sym two.2.2) two.2.1 in
+      law true end.votes end.heard end.line gs one.0 two.0 new g end.are_votes two.1 end.asks last among (kept.order (starts.over.order order)) honest
+      (kept.holds true (starts.over.order order) (later.honest honest)
+      (starts.holds order ((replies_keep moment lines replies old new have).honest honest)))
 
 -- what is said of a log that a session leaves
 abbrev CommitsLeft : {L : Type 0} → (L → Moment) → L → (text written : List ℕ) → L → Type 0
@@ -113,19 +153,7 @@ commits_left {L} moment threads rms handed left text written is law order honest
   whole = is.serves.consumed;
   replied = is.serves.appended;
   ends = is.serves.ends;
-  rows = λ earlier votes line first heard gs g lines replies same are asks among.
-      let old : Coordinator L = is.first in
-      let new : Coordinator L = is.last in
-      let all : HaveReplies moment (earlier ++ (votes ++ line ∷ [])) (first ++ (heard ++ responses.Decided ∷ [])) old new =
-      subst (λ ls. HaveReplies moment ls (first ++ (heard ++ responses.Decided ∷ [])) old new) lines
-      (subst (λ rs. HaveReplies moment (lines_of is.serves.read) rs old new) replies is.serves.replied) in
-      let one = split_replies moment earlier (votes ++ line ∷ []) first (heard ++ responses.Decided ∷ []) old new same all in
-      let two = split_replies moment votes (line ∷ []) heard (responses.Decided ∷ []) one.0 new (votes_fit votes heard gs are) one.2 in
-      let kept = replies_keep moment earlier first old one.0 one.1 in
-      let later = replies_keep moment (votes ++ line ∷ []) (heard ++ responses.Decided ∷ []) one.0 new one.2 in
-      let last : RepliesTo moment line two.0 responses.Decided new = subst (λ c. RepliesTo moment line two.0 responses.Decided c) (sym two.2.2) two.2.1 in
-      law true votes heard line gs one.0 two.0 new g are two.1 asks last among (kept.order (is.starts.over.order order)) honest
-      (kept.holds true (is.starts.over.order order) (later.honest honest) (is.starts.holds order (is.serves.keeps.honest honest)));
+  rows = rows_logged moment law threads rms handed is.first is.last (lines_of is.serves.read) is.serves.replies is.starts is.serves.replied order honest;
 }
 
 pub logs_commits : {L : Type 0} (moment : L → Moment) (threads rms : ℕ) (handed left : L) (text written : List ℕ)
@@ -148,32 +176,31 @@ is_replied moment threads rms handed left text written is = record {
   ends = is.serves.ends;
 }
 
-module _ {L : Type 0} (moment : L → Moment) (agree : ServedSessionsAgree moment) (decide : ServedLogsDecide moment) (tracked_first : StartsAreTracked L)
-    (tracked : SessionsAreTracked moment) (threads rms : ℕ) where
+-- where a branch ends that is to commit
+committing_ends : (s : Standing) → IsCommitting s → (s ≡ Prepared → ⊥) → (s ≡ Committed) ⊎ EndedAlone s
+committing_ends Prepared h n = absurd (n refl)
+committing_ends Committed h n = inl refl
+committing_ends (Completed how) h n = inr tt
+committing_ends (Forgotten how) h n = inr tt
+committing_ends _ h n = absurd h
+
+committing_stays : (s : Standing) → IsCommitting s → IsUndone s → ⊥
+committing_stays s h (inl e) = subst IsCommitting e h
+committing_stays s h (inr e) = subst IsCommitting e h
+
+ends_committed : (f : Branch → Standing) (c : Content) (b : Branch) → CommitStands f c b → EndsCommitted f c b
+ends_committed f c b stands = record {
+  never_undone = committing_stays (f b) stands.commits;
+  in_the_end = λ gone. committing_ends (f b) stands.commits (λ prepared. let row = stands.row_stays prepared in let no : ⊥ = cc in no);
+}
+
+module _ {L : Type 0} (moment : L → Moment) (agree : ServedSessionsAgree moment) (are_seen : ServedSessionsAreSeen moment) (threads rms : ℕ) where
   -- what lines and replies tell of a session over a log
   seen_in : (handed : L) (first last : Coordinator L) (lines : List (List ℕ)) (replies : List Response) → StartsOver moment threads rms handed first
       → HaveReplies moment lines replies first last → list_any is_log_fault replies ≡ false
       → (more : Seen) × HaveTold threads lines replies Start more × IsSession moment handed (start_of threads rms first) more last
   seen_in handed first last lines replies starts have none =
-      let o = start_of threads rms first in
-      let begins = begins_so threads rms first in
-      let tracks = since_start moment tracked_first tracked threads rms lines replies first last starts.stands have o begins (starts.old o begins) in (
-        tracks.more,
-        tracks.told,
-        record {
-          threads = threads;
-          rms = rms;
-          first = first;
-          lines = lines;
-          replies = replies;
-          starts = starts;
-          begins = begins;
-          replied = have;
-          no_fault = none;
-          told = tracks.told;
-          tracks = subst (λ c. KeepsTrack o tracks.more c.session) (tracks.to_end none) tracks.keeps;
-        },
-      )
+      are_seen threads rms lines replies handed first last starts have none (start_of threads rms first) (begins_so threads rms first)
 
   -- a driver that says nothing
   none_read : (read unread : List ℕ) → [] ≡ read ++ unread → read ≡ []
@@ -207,12 +234,13 @@ module _ {L : Type 0} (moment : L → Moment) (agree : ServedSessionsAgree momen
       let s = seen_in handed is.first is.last [] [] is.starts none_have refl in (
         is.last,
         is.log,
-        OneMore None (λ c. Unstarted) (λ c. Unstarted) handed (start_of threads rms is.first) s.0 is.last is.last [] NoneYet (empty_handed handed order empty) s.2
+        OneMore None (λ c. Unstarted) (λ c. Unstarted) handed (start_of threads rms is.first) s.0 s.0 is.last is.last [] [] NoneYet (empty_handed handed order empty) s.2
             AfterLine (subst (λ log. (moment log).is_honest) is.log honest)
             (AsTold (λ c. Unstarted) (λ c. subst (λ seen. Comes seen c Unstarted Unstarted) (sym s.1) refl)),
       )
 
-  module _ (handed : L) (order : (moment handed).is_in_order) (empty : IsSomeAnd (moment handed).content IsEmptyLog) (a b x y : Coordinator L)
+  module _ (decide : ServedLogsDecide moment) (stand : ServedCommitsStand moment) (law : VotedCommitsAreLogged moment) (handed : L)
+      (order : (moment handed).is_in_order) (empty : IsSomeAnd (moment handed).content IsEmptyLog) (a b x y : Coordinator L)
       (one_lines two_lines : List (List ℕ)) (one_replies two_replies : List Response) (one : StartsOver moment threads rms handed a)
       (two : StartsOver moment threads rms (log_in b.session.manager) x) (one_have : HaveReplies moment one_lines one_replies a b)
       (two_have : HaveReplies moment two_lines two_replies x y) (one_well : list_any is_log_fault one_replies ≡ false)
@@ -249,12 +277,13 @@ module _ {L : Type 0} (moment : L → Moment) (agree : ServedSessionsAgree momen
       raised = let least : mid_content.0.incarnation ≤ mid_content.0.incarnation = omega arith in least;
     }
 
-    all : (one_used two_used : List Line) (from to : Branch → Standing)
-        → MayAllStand (start_of threads rms a) s.0 (λ c. Comes s.0 c Unstarted) one_used from
-        → MayAllStand (start_of threads rms x) t.0 (λ c. Comes t.0 c (broken (from c))) two_used to → AreServed moment (Some y) to
-    all one_used two_used from to one_may two_may =
-        OneMore (Some b) from to (log_in b.session.manager) (start_of threads rms x) t.0 y y two_used
-        (OneMore None (λ c. Unstarted) from handed (start_of threads rms a) s.0 b b one_used NoneYet (empty_handed handed order empty) s.2 AfterLine b_honest one_may)
+    all : (one_done one_cut two_done two_cut : List Line) (from to : Branch → Standing)
+        → MayAllStand (start_of threads rms a) s.0 (λ c. Comes s.0 c Unstarted) one_done one_cut from
+        → MayAllStand (start_of threads rms x) t.0 (λ c. Comes t.0 c (broken (from c))) two_done two_cut to → AreServed moment (Some y) to
+    all one_done one_cut two_done two_cut from to one_may two_may =
+        OneMore (Some b) from to (log_in b.session.manager) (start_of threads rms x) t.0 t.0 y y two_done two_cut
+        (OneMore None (λ c. Unstarted) from handed (start_of threads rms a) s.0 s.0 b b one_done one_cut NoneYet (empty_handed handed order empty) s.2
+        AfterLine b_honest one_may)
         second_handed t.2 AfterLine honest two_may
 
     holds_mid : HoldsItsBook moment true b.session.manager
@@ -272,6 +301,16 @@ module _ {L : Type 0} (moment : L → Moment) (agree : ServedSessionsAgree momen
         }) mid_order x_honest in
         omega (arith, from, newer)
 
+    -- the second session found a decided branch that stood prepared
+    found_decided : (gs : List Gtrid) → EndDecided one_lines one_replies gs → (one_done one_cut two_done two_cut : List Line) (from to : Branch → Standing)
+        (one_may : MayAllStand (start_of threads rms a) s.0 (λ c. Comes s.0 c Unstarted) one_done one_cut from)
+        (two_may : MayAllStand (start_of threads rms x) t.0 (λ c. Comes t.0 c (broken (from c))) two_done two_cut to)
+        (d : Branch) → is_among gs d.gtrid ≡ true → from d ≡ Prepared
+        → WasFoundDecided moment d (Some y) to (all one_done one_cut two_done two_cut from to one_may two_may)
+    unfolding all
+    found_decided gs end one_done one_cut two_done two_cut from to one_may two_may d among prepared =
+        inl (prepared, rows_logged moment law threads rms handed a b one_lines one_replies one one_have order b_honest gs d.gtrid end among)
+
     pub are_served : AreServedTwice (moment (log_in y.session.manager)).content one_lines two_lines one_replies two_replies
     are_served = record {
       one = start_of threads rms a;
@@ -281,9 +320,12 @@ module _ {L : Type 0} (moment : L → Moment) (agree : ServedSessionsAgree momen
       later = later;
       one_told = s.1;
       two_told = t.1;
-      agree = λ one_used two_used from to one_may two_may.
-          let served = all one_used two_used from to one_may two_may in
+      agree = λ one_done one_cut two_done two_cut from to one_may two_may.
+          let served = all one_done one_cut two_done two_cut from to one_may two_may in
           (agree (Some y) to served, λ c is. decide y to c served (inl is));
+      commits = λ gs end one_done one_cut two_done two_cut from to one_may two_may d among prepared c is.
+          ends_committed to c d (stand y to c d (all one_done one_cut two_done two_cut from to one_may two_may)
+          (found_decided gs end one_done one_cut two_done two_cut from to one_may two_may d among prepared) (inl is));
     }
 
   -- what is said of a log that two sessions leave
@@ -291,22 +333,22 @@ module _ {L : Type 0} (moment : L → Moment) (agree : ServedSessionsAgree momen
   ServesLeft handed first second first_written second_written log = Honestly (moment handed) (moment log)
       (IsSomeAnd (moment handed).content IsEmptyLog → IsServedTwice (moment log).content first second first_written second_written)
 
-  serves_left : (handed mid left : L) (first second first_written second_written : List ℕ) → IsServedOver moment threads rms handed first first_written mid
+  serves_left : ServedLogsDecide moment → ServedCommitsStand moment → VotedCommitsAreLogged moment → (handed mid left : L) (first second first_written second_written : List ℕ) → IsServedOver moment threads rms handed first first_written mid
       → (two : IsServedOver moment threads rms mid second second_written left)
       → ServesLeft handed first second first_written second_written (log_in two.last.session.manager)
   unfolding is_replied
-  serves_left handed mid left first second first_written second_written one two order honest empty = record {
+  serves_left decide stand law handed mid left first second first_written second_written one two order honest empty = record {
     one = is_replied moment threads rms handed mid first first_written one;
     two = is_replied moment threads rms mid left second second_written two;
     served = λ one_well two_well.
-        are_served handed order empty one.first one.last two.first two.last (lines_of one.serves.read) (lines_of two.serves.read) one.serves.replies
+        are_served decide stand law handed order empty one.first one.last two.first two.last (lines_of one.serves.read) (lines_of two.serves.read) one.serves.replies
         two.serves.replies one.starts (subst (λ log. StartsOver moment threads rms log two.first) one.log two.starts) one.serves.replied
         two.serves.replied one_well two_well honest;
   }
 
-  pub served_so : (handed mid left : L) (first second first_written second_written : List ℕ) → IsServedOver moment threads rms handed first first_written mid
+  pub served_so : ServedLogsDecide moment → ServedCommitsStand moment → VotedCommitsAreLogged moment → (handed mid left : L) (first second first_written second_written : List ℕ) → IsServedOver moment threads rms handed first first_written mid
       → IsServedOver moment threads rms mid second second_written left → Honestly (moment handed) (moment left)
       (IsSomeAnd (moment handed).content IsEmptyLog → IsServedTwice (moment left).content first second first_written second_written)
-  served_so handed mid left first second first_written second_written one two =
+  served_so decide stand law handed mid left first second first_written second_written one two =
       subst (ServesLeft handed first second first_written second_written) (sym two.log)
-      (serves_left handed mid left first second first_written second_written one two)
+      (serves_left decide stand law handed mid left first second first_written second_written one two)

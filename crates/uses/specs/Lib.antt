@@ -1,5 +1,6 @@
 pub mod Crashes
 pub mod FirstRuns
+pub mod Managers
 pub mod Processes
 pub mod Sessions
 pub mod Starts

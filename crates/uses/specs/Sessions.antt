@@ -1,11 +1,12 @@
 -- What a driver writes is served, and what a second one writes after it; databases that obey the branch state table agree, and the log has the rows of
 -- what is committed.
-use Rattle.std.specs.Prelude.{◌≡◌, ◌<◌, ℕ, true, false, List, [], ◌∷◌, ◌++◌, length, Option, Some}
+use Rattle.std.specs.Prelude.{◌≡◌, ◌<◌, ◌⊎◌, ℕ, true, false, List, [], ◌∷◌, ◌++◌, length, Option, Some, is_some}
+use Rattle.std.specs.FinMap.{get}
 use Rattle.std.specs.List.{list_any}
 use Rattle.xa_base.specs.StateTable.{broken}
 use Rattle.xa_base.specs.declared.branch.Gtrid.{Gtrid}
 use Rattle.xa_base.specs.declared.state.Standing.{Standing}
-use Rattle.xa_base.specs.declared.state.Standing.TheVariants.{Unstarted}
+use Rattle.xa_base.specs.declared.state.Standing.TheVariants.{Committed, Completed, Forgotten, Prepared, Unstarted}
 use Rattle.xa_base.specs.declared.step.Outcome.TheVariants as Outcomes
 use Rattle.xa_coordinator.specs.Lines.{asked_in, lines_of}
 use Rattle.xa_coordinator.specs.Rows.{is_among}
@@ -17,6 +18,7 @@ use Rattle.xa_coordinator.specs.Votes.{AreVotes, IsLogged}
 use Rattle.xa_coordinator.specs.declared.coordinator.Coordinator.{Coordinator}
 use Rattle.xa_log.specs.Content.{Content}
 use Rattle.xa_log.specs.Contract.{Moment}
+use Rattle.xa_model.specs.Promises.Agreement.{IsUndone}
 use Rattle.xa_model.specs.Trace.{Branch, Line, Origin}
 use Rattle.xa_requests.specs.declared.request.Request.TheVariants as requests
 use Rattle.xa_requests.specs.declared.response.Response.{Response}
@@ -49,8 +51,21 @@ pub record IsServed (threads rms : ℕ) (text written : List ℕ) : Type 0 where
   pub explained : IsExplained start seen
   pub agree : (f : Branch → Standing) → StandSo start seen f → OwnStandAlike start.incarnation f
 
+-- Lines end with votes for these transactions, XA_OK each, and with a line that commits them all; that is replied by `decided`.
+pub record EndDecided (lines : List (List ℕ)) (replies : List Response) (gs : List Gtrid) : Type 0 where
+  pub before : List (List ℕ)
+  pub votes : List (List ℕ)
+  pub line : List ℕ
+  pub first : List Response
+  pub heard : List Response
+  pub lines_are : lines ≡ before ++ (votes ++ line ∷ [])
+  pub replies_are : replies ≡ first ++ (heard ++ responses.Decided ∷ [])
+  pub as_many : length before ≡ length first
+  pub are_votes : AreVotes votes heard gs
+  pub asks : asked_in line ≡ Some (requests.Decide gs Outcomes.Commit)
+
 -- The driver was told the first line of a session, and a line for each line of what was read of its text: up to `quit`, or all. Where these
--- end with votes for some transactions, and with a line that commits them all, which is replied by `decided`, the log has the row of each.
+-- end with decisions to commit some transactions, the log has the row of each.
 pub record LogsCommits (log : Option Content) (text written : List ℕ) : Type 0 where
   pub read : List ℕ
   pub unread : List ℕ
@@ -59,10 +74,7 @@ pub record LogsCommits (log : Option Content) (text written : List ℕ) : Type 0
   pub whole : text ≡ read ++ unread
   pub replied : written ≡ text_of (greeting ∷ replies)
   pub ends : EndsBy replies (unread ≡ [])
-  pub rows :
-      (before votes : List (List ℕ)) (line : List ℕ) (first heard : List Response) (gs : List Gtrid) (g : Gtrid)
-      → lines_of read ≡ before ++ (votes ++ line ∷ []) → replies ≡ first ++ (heard ++ responses.Decided ∷ []) → length before ≡ length first
-      → AreVotes votes heard gs → asked_in line ≡ Some (requests.Decide gs Outcomes.Commit) → is_among gs g ≡ true → IsLogged log g
+  pub rows : (gs : List Gtrid) (g : Gtrid) → EndDecided (lines_of read) replies gs → is_among gs g ≡ true → IsLogged log g
 
 -- A driver of so many threads and resource managers that writes this text was served by a coordinator that started over a log, and this was
 -- written; this log is left.
@@ -88,9 +100,22 @@ pub record IsReplied (text written : List ℕ) : Type 0 where
   pub replied : written ≡ text_of (greeting ∷ replies)
   pub ends : EndsBy replies (unread ≡ [])
 
+-- the database ended the branch by itself, which may be forgotten since
+abbrev pub EndedAlone : Standing → Type 0
+EndedAlone (Completed how) = Unit
+EndedAlone (Forgotten how) = Unit
+EndedAlone _ = ⊥
+
+-- The branch is never rolled back or lost; and once the log has no row of its transaction, it is committed, unless its database ended it by
+-- itself.
+pub record EndsCommitted (f : Branch → Standing) (log : Content) (b : Branch) : Type 0 where
+  pub never_undone : IsUndone (f b) → ⊥
+  pub in_the_end : is_some (get log.decisions b.gtrid) ≡ false → (f b ≡ Committed) ⊎ EndedAlone (f b)
+
 -- Two drivers were replied so, one after the other, over one log. From their starts, these lines and their replies tell what is seen.
 -- Wherever the branches may then stand at databases that obey the table, where no branch was at first: those of any transaction are alike,
--- and the log decides of what is prepared still.
+-- and the log decides of what is prepared still. Where the first driver was killed behind a decision to commit, each branch of it that stood
+-- prepared then ends committed, whatever the second driver asks for.
 pub record AreServedTwice (log : Option Content) (one_lines two_lines : List (List ℕ)) (one_replies two_replies : List Response) : Type 0 where
   pub one : Origin
   pub two : Origin
@@ -100,8 +125,14 @@ pub record AreServedTwice (log : Option Content) (one_lines two_lines : List (Li
   pub one_told : HaveTold one.threads one_lines one_replies Start one_seen
   pub two_told : HaveTold two.threads two_lines two_replies Start two_seen
   pub agree :
-      (one_used two_used : List Line) (from to : Branch → Standing) → MayAllStand one one_seen (λ b. Comes one_seen b Unstarted) one_used from
-      → MayAllStand two two_seen (λ b. Comes two_seen b (broken (from b))) two_used to → StandAlike to × ((c : Content) → log ≡ Some c → LogDecides to c)
+      (one_done one_cut two_done two_cut : List Line) (from to : Branch → Standing)
+      → MayAllStand one one_seen (λ b. Comes one_seen b Unstarted) one_done one_cut from
+      → MayAllStand two two_seen (λ b. Comes two_seen b (broken (from b))) two_done two_cut to → StandAlike to × ((c : Content) → log ≡ Some c → LogDecides to c)
+  pub commits :
+      (gs : List Gtrid) → EndDecided one_lines one_replies gs → (one_done one_cut two_done two_cut : List Line) (from to : Branch → Standing)
+      → MayAllStand one one_seen (λ b. Comes one_seen b Unstarted) one_done one_cut from
+      → MayAllStand two two_seen (λ b. Comes two_seen b (broken (from b))) two_done two_cut to
+      → (b : Branch) → is_among gs b.gtrid ≡ true → from b ≡ Prepared → (c : Content) → log ≡ Some c → EndsCommitted to c b
 
 -- The same where the log failed in neither session.
 pub record IsServedTwice (log : Option Content) (first second first_written second_written : List ℕ) : Type 0 where

@@ -1,6 +1,6 @@
 //! Callers of the libraries, each proved to do what its contract says, and run here. A file is named after its
-//! library, without the `xa_`; `serve` is a caller of `xa_coordinator`, `own_log`, `processes`, `recovery`, `swaps` and
-//! `crash` are further callers of `xa_system`, and `sql_jobs` of `xa_workers`.
+//! library, without the `xa_`; `serve` and `managers` are callers of `xa_coordinator`, `own_log`, `processes`,
+//! `recovery`, `swaps` and `crash` are further callers of `xa_system`, and `sql_jobs` of `xa_workers`.
 #![tactic(auto)]
 
 ghost use Rattle.std.specs.Prelude.{IsTrue};
@@ -12,6 +12,7 @@ mod jobs;
 mod line;
 mod listing;
 mod log;
+mod managers;
 mod model;
 mod own_log;
 mod processes;
@@ -34,6 +35,7 @@ use std::thread::Threads;
 use std::time::Clock;
 use xa_base::{Branch, Call, Fate, Gtrid, Outcome, Part, Reply, Side, Step};
 use xa_log::MemLog;
+use xa_names::ManagerName;
 use xa_rm::MemRm;
 use xa_system::System;
 
@@ -152,6 +154,24 @@ resolve 1
 waiting 0 1
 answer 0 1 xa_commit 7:00000000000000010000000000000001:0000000000000001 0
 done 00000000000000010000000000000001
+quit
+";
+
+const SHOP: &str = "issue 0 0 xa_open
+answer 0 0 xa_open 0
+begin 0
+issue 0 0 xa_start 00000000000000010000000000000001
+quit
+";
+
+const BANK: &str = "issue 0 0 xa_open
+answer 0 0 xa_open 0
+begin 0
+issue 0 0 xa_recover 32 TMSTARTRSCAN
+answer 0 0 xa_recover 1 7:73686f7000000000000000010000000000000001:0000000000000000
+resolve 0
+issue 0 0 xa_rollback 7:73686f7000000000000000010000000000000001:0000000000000000
+issue 0 0 xa_start 00000000000000010000000000000001
 quit
 ";
 
@@ -397,6 +417,22 @@ fn show_session(rt: &HostRuntime) -> anyhow::Result<()> {
     Ok(())
 }
 
+/// What the drivers of two managers are told over one database: the second one's page lists the first one's branch.
+fn show_managers(rt: &HostRuntime) -> anyhow::Result<()> {
+    let alloc = rt.alloc();
+    let names = (ManagerName::of_text("shop"), ManagerName::of_text("bank"));
+    let (Some(shop), Some(bank)) = names else {
+        return Ok(());
+    };
+    let logs = (MemLog::new(alloc), MemLog::new(alloc));
+    let (one, two) = (SHOP.as_bytes(), BANK.as_bytes());
+    if let Ok((one, two)) = managers::served_apart(alloc, 1, 1, logs, &shop, &bank, one, two) {
+        println!(rt; "xa_names, shop:\n{}", String::from_utf8(one)?)?;
+        println!(rt; "xa_names, bank:\n{}", String::from_utf8(two)?)?;
+    }
+    Ok(())
+}
+
 fn main(rt: HostRuntime) -> anyhow::Result<()> {
     show_parts(&rt)?;
     show_log(&rt)?;
@@ -407,5 +443,6 @@ fn main(rt: HostRuntime) -> anyhow::Result<()> {
     show_processes(&rt)?;
     show_jobs(&rt, &rt)?;
     show_scenario(&rt)?;
-    show_session(&rt)
+    show_session(&rt)?;
+    show_managers(&rt)
 }

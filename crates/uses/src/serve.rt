@@ -1,19 +1,20 @@
 //! `xa_coordinator`: a driver is served, databases that obey the branch state table agree, also after a second driver that
 //! recovers what the first one left, and the log has the rows of what is committed.
 
-ghost use Rattle.std.specs.Prelude.{IfOk, IsSomeAnd};
+ghost use Rattle.std.specs.Prelude.{◌≡◌, IfOk, IsSomeAnd, Some};
+ghost use Rattle.std.specs.Io.Buffered.{reader_remaining};
 ghost use Rattle.uses.specs.Sessions.{AreServedTo, IsServed, IsServedOver, IsServedTwice, LogsCommits};
 ghost use Rattle.xa_base.specs.declared.state.Standing.TheVariants.{Unstarted};
 ghost use Rattle.xa_coordinator.specs.Sessions.{IsEmptyLog};
 ghost use Rattle.xa_log.specs.Contract.{Honestly};
 
 use std::alloc::Global;
+use std::io::BufReader;
 use xa_coordinator::{
-    Coordinator, ServeFault, served_databases_agree, served_sessions_agree, sessions_are_tracked,
+    Coordinator, ServeFault, served_databases_agree, served_sessions_agree,
     voted_commits_are_logged,
 };
 use xa_log::{DecisionLog, MemLog};
-use xa_serve::starts_are_tracked;
 use xa_tm::StartFault;
 
 /// Why a driver isn't served.
@@ -23,6 +24,17 @@ pub(crate) enum SessionFault {
     Start(StartFault),
     /// The session was broken off.
     Serve(ServeFault),
+}
+
+/// A reader of this text.
+pub(crate) fn whole(alloc: Global, text: &[u8]) -> Result<BufReader<&[u8]>, SessionFault>
+    ensures { IfOk result (λ unread.
+        reader_remaining (λ slice. Some slice.now) unread ≡ Some text.now) }
+{
+    match BufReader::new(alloc, text) {
+        Ok(unread) => Ok(unread),
+        Err(_) => Err(SessionFault::Serve(ServeFault::Memory)),
+    }
 }
 
 /// Serves a driver that writes this text, of any number of threads and resource managers, over a new log in memory.
@@ -39,7 +51,7 @@ pub(crate) fn served(
 {
     served_databases_agree::<MemLog>();
     let mut written = Vec::new(alloc);
-    let mut unread = text;
+    let mut unread = whole(alloc, text)?;
     let log = MemLog::new(alloc);
     match Coordinator::new(alloc, threads, rms, log) {
         Ok(mut coordinator) => match coordinator.serve(&mut unread, &mut written) {
@@ -62,7 +74,7 @@ fn served_over<L: DecisionLog + Drop>(
         IsServedOver L.moment threads rms log text.now left.0.items left.1) }
 {
     let mut written = Vec::new(alloc);
-    let mut unread = text;
+    let mut unread = whole(alloc, text)?;
     match Coordinator::new(alloc, threads, rms, log) {
         Ok(mut coordinator) => match coordinator.serve(&mut unread, &mut written) {
             Ok(()) => Ok((written, coordinator.into_log())),
@@ -99,8 +111,6 @@ pub(crate) fn silent<L: DecisionLog + Drop>(
         AreServedTo L.moment left.1 (λ b. Unstarted))) }
 {
     served_sessions_agree::<L>();
-    starts_are_tracked::<L>();
-    sessions_are_tracked::<L>();
     served_over(alloc, threads, rms, log, &[])
 }
 
@@ -109,6 +119,11 @@ pub(crate) fn silent<L: DecisionLog + Drop>(
 /// then stand at databases that obey the branch state table: no branch of a transaction is committed beside one that is
 /// rolled back or lost. And the log has the row of each transaction with a branch that is committed and one that is prepared
 /// still, so that recovery commits that one too.
+///
+/// Where the first driver's text ends with votes, XA_OK each, and a line that commits their transactions, and this is replied by
+/// `decided`, each branch of these that stood prepared as that driver was killed ends committed, whatever the second one asks for:
+/// none is ever rolled back or lost, and once the log has no row of a transaction, its branches are committed, unless a
+/// database ended one by itself.
 pub(crate) fn served_twice<L: DecisionLog + Drop>(
     alloc: Global,
     threads: u32,
@@ -123,8 +138,7 @@ pub(crate) fn served_twice<L: DecisionLog + Drop>(
         left.0.items left.1.items)) }
 {
     served_sessions_agree::<L>();
-    starts_are_tracked::<L>();
-    sessions_are_tracked::<L>();
+    voted_commits_are_logged::<L>();
     let one = served_over(alloc, threads, rms, log, first)?;
     let two = served_over(alloc, threads, rms, one.1, second)?;
     Ok((one.0, two.0, two.1))

@@ -1,25 +1,46 @@
 -- Requests in which the log failed.
-use Rattle.std.proofs.Common.{◌≡◌, ◌∙◌, inl, inr, [], ◌∷◌, Bool, true, false, Option, Some, None, ap, refl, sym}
-use Rattle.std.specs.Prelude.{if◌then◌else◌, length, IfErr, Result, Ok, Err}
+use Rattle.std.proofs.Common.{◌≡◌, ◌∙◌, ◌⊎◌, inl, inr, ℕ, ℤ, [], ◌∷◌, Bool, true, false, Option, Some, None, ap, refl, sym}
+use Rattle.std.specs.Prelude.{if◌then◌else◌, length, IfErr, MatchBool, Result, Ok, Err, slice_get}
+use Rattle.std.specs.Option.{option_and_then, option_map, option_or}
+use Rattle.xa_base.specs.Answer.{answer_number, map_answer}
+use Rattle.xa_base.specs.Call.{map_call}
+use Rattle.xa_base.specs.Xid.{Xid}
+use Rattle.xa_base.specs.declared.answer.Answer.{Answer}
+use Rattle.xa_base.specs.declared.answer.Answer.TheVariants.{Ret}
+use Rattle.xa_base.specs.declared.branch.Gtrid.{Gtrid}
+use Rattle.xa_base.specs.declared.call.Call.{Call as Waiting}
 use Rattle.xa_base.specs.declared.refusal.Refusal.{Refusal}
-use Rattle.xa_base.specs.declared.refusal.Refusal.TheVariants.{Limit, LogFault, Memory}
+use Rattle.xa_base.specs.declared.refusal.Refusal.TheVariants.{Limit, LogFault, ManagerDown, Memory}
 use Rattle.xa_base.specs.declared.step.Step.TheVariants as Steps
+use Rattle.xa_coordinator.specs.Calls.{Hears, answer_reply, waits_for_other}
 use Rattle.xa_coordinator.specs.Faults.{AsksForRows}
 use Rattle.xa_coordinator.specs.Performing.{Performs}
+use Rattle.xa_coordinator.specs.Releasing.{ReleasesAll, if_taken, transaction_of}
 use Rattle.xa_coordinator.specs.Replies.{reply_of}
+use Rattle.xa_coordinator.specs.Standing.{LacksMemory, OnlyTells, StandsFor}
 use Rattle.xa_coordinator.specs.declared.coordinator.Coordinator.{Coordinator}
+use Rattle.xa_line.specs.Grid.{line_at}
+use Rattle.xa_line.specs.Histories.{known}
 use Rattle.xa_log.specs.Contract.{Moment}
-use Rattle.xa_model.specs.Trace.{Fault, Fault.InDecide, Fault.InDone, Happening.Decided, Happening.Done, Happening.Failed, Origin}
+use Rattle.xa_model.specs.Facts.{record_of}
+use Rattle.xa_model.specs.Replies.History.{name_of}
+use Rattle.xa_model.specs.Trace.{Call, Code, Fault, Fault.InDecide, Fault.InDone, Fault.InHear, Happening.Decided, Happening.Done, Happening.Failed, Origin, line}
+use Rattle.xa_requests.specs.declared.request.CallName.{CallName}
 use Rattle.xa_requests.specs.declared.request.Request.{Request}
 use Rattle.xa_requests.specs.declared.request.Request.TheVariants as requests
+use Rattle.xa_requests.specs.declared.response.RequestFault.TheVariants as faults
 use Rattle.xa_requests.specs.declared.response.Response.{Response}
 use Rattle.xa_requests.specs.declared.response.Response.TheVariants as responses
 use Rattle.xa_serve.proofs.Refusals.{no_fault, no_fault_in_turn}
-use Rattle.xa_serve.specs.Session.{decide_refusal, done_refusal, has_room_for, refusal_at}
+use Rattle.xa_serve.specs.Answering.{FailsToHear, IsFirst}
+use Rattle.xa_serve.specs.Hearing.{can_hear}
+use Rattle.xa_serve.specs.Session.{decide_refusal, done_refusal, has_line, has_room_for, known_waiting, refusal_at, unfit, unfit_for}
 use Rattle.xa_serve.specs.Tracking.{FailedDecisionsAreFound, FailedDonesAreFound, FailedSettlementsAreFound, IsFailedStep, KeepsTrack}
 use Rattle.xa_serve.specs.declared.session.Session.{Session}
+use Rattle.xa_serve.specs.declared.session.answers.Unfit.{Unfit}
+use Rattle.xa_serve.specs.declared.session.answers.Unfit.TheVariants as Unfits
 use Rattle.xa_standings.specs.Seen.{Seen}
-use Rattle.xa_tm.specs.Book.{Book, Doubt, Doubt.Drops, Doubt.Adds, book_after, rows_for}
+use Rattle.xa_tm.specs.Book.{Book, Doubt, Doubt.Drops, Doubt.Adds, book_after, doubt_of, rows_for}
 use Rattle.xa_tm.specs.Calls.{FailsBy, book_in, written_by}
 use Rattle.xa_tm.specs.InTurn as turns
 
@@ -124,3 +145,92 @@ module _ {L : Type 0} (moment : L → Moment) (decisions : FailedDecisionsAreFou
   failed_in_request (requests.CrashRm r) asks did = absurd asks
   failed_in_request requests.Status asks did = absurd asks
   failed_in_request requests.Quit asks did = absurd asks
+
+-- ** an answer whose record couldn't be written
+
+answer_is_no_refusal : (name : CallName) (n : ℤ) → (let r : Response = responses.Refused LogFault in r) ≡ responses.Heard name.kind n → ⊥
+answer_is_no_refusal name n e = cc
+
+no_line_fault : (a b : Bool) (o : Option Unfit) → (o ≡ Some (Unfits.Refused LogFault) → ⊥)
+    → option_or (option_map Unfits.Refused (if a then Some Limit else (if b then Some ManagerDown else None))) o ≡ Some (Unfits.Refused LogFault) → ⊥
+no_line_fault true b o never e = absurd (cc)
+no_line_fault false true o never e = absurd (cc)
+no_line_fault false false o never e = never e
+
+no_call_fault : (o : Option (Waiting Xid)) (answer : Answer Xid) → unfit_for o answer ≡ Some (Unfits.Refused LogFault) → ⊥
+no_call_fault None answer e = absurd (cc)
+no_call_fault (Some call) answer e = by (can_hear (map_call name_of call) (map_answer name_of answer)) e
+  where
+    by : (t : Bool) → (if t then None else Some Unfits.NoSuchAnswer) ≡ Some (Unfits.Refused LogFault) → ⊥
+    by true e = absurd (cc)
+    by false e = absurd (cc)
+
+-- the call that waits first, as it waits
+first_of : (t : Bool) (o : Option (Waiting Xid)) (c : Call) → option_and_then known (if t then o else None) ≡ Some c
+    → (call : Waiting Xid) × (o ≡ Some call) × (known call ≡ Some c)
+first_of true (Some call) c e = (call, refl, e)
+first_of true None c e = absurd (cc)
+first_of false o c e = absurd (cc)
+
+-- a request that is refused ends no transaction
+none_ended : {L : Type 0} (o : Option Gtrid) (mid left : Coordinator L) → ReleasesAll (if_taken (responses.Refused LogFault) o) mid left → left ≡ mid
+none_ended None mid left same = same
+none_ended (Some g) mid left same = same
+
+-- The log failed in an answer: the answer was fit, this call waits first, and the book is as it was, with the record of the answer in doubt.
+pub record IsFailedToHear {L : Type 0} (t r : ℕ) (code : Code) (c : Call) (now left : Coordinator L) : Type 0 where
+  pub fit : unfit now.session t r (Ret code) ≡ None
+  pub first : IsFirst now.session t r c
+  pub book : book_in left.session.manager ≡ book_after (book_in now.session.manager) (doubt_of (record_of c (Ret code))) (Failed (InHear (line t r)))
+
+module _ {L : Type 0} (moment : L → Moment) (now left : Coordinator L) (t r : ℕ) (name : CallName) (code : Code) (c : Call)
+    (waits : known_waiting now.session.lines t r ≡ Some c) where
+  first_so : IsFirst now.session t r c
+  first_so = first_of (has_line now.session.lines t r) (slice_get (line_at now.session.lines t r).calls.waiting 0) c waits
+
+  not_heard : (mid : Session L) (n : Refusal) (result : Result (Unit {0}) Unfit) → result ≡ Err (Unfits.Refused n) → n ≡ LogFault
+      → Hears t r (Ret code) now.session mid result → left.session.manager ≡ mid.manager → IsFailedToHear t r code c now left
+  not_heard mid n result is fault does same = record {
+    fit = fit_so;
+    first = first_so;
+    book = ap (λ m. book_in m) same ∙ by (does.fails n is fit_so c first_so);
+  }
+    where
+      told : (u : Unfit) → result ≡ Err u → u ≡ Unfits.Refused LogFault
+      told u e = let both : (let x : Result (Unit {0}) Unfit = Err u in x) ≡ Err (Unfits.Refused n) = sym e ∙ is in cc (both, fault)
+
+      fit_by : (o : Option Unfit) → unfit now.session t r (Ret code) ≡ o → o ≡ None
+      fit_by None e = refl
+      fit_by (Some u) e = absurd (no_line_fault _ _ _ (no_call_fault (slice_get (line_at now.session.lines t r).calls.waiting 0) (Ret code))
+          (e ∙ ap (λ x. let y : Option Unfit = Some x in y) (told u (does.refused u e).0)))
+
+      fit_so : unfit now.session t r (Ret code) ≡ None
+      fit_so = fit_by (unfit now.session t r (Ret code)) refl
+
+      by : FailsToHear t r c (Ret code) now.session mid n
+          → book_in mid.manager ≡ book_after (book_in now.session.manager) (doubt_of (record_of c (Ret code))) (Failed (InHear (line t r)))
+      by (inl memory) = absurd (let no : Memory ≡ LogFault = sym memory.0 ∙ fault in cc)
+      by (inr fell) = fell.1
+
+  heard_or_not : (mid : Coordinator L) (result : Result (Unit {0}) Unfit) → Hears t r (Ret code) now.session mid.session result
+      → (let x : Response = responses.Refused LogFault in x) ≡ answer_reply (responses.Heard name.kind (answer_number (let a : Answer Xid = Ret code in a))) result
+      → left.session.manager ≡ mid.session.manager → IsFailedToHear t r code c now left
+  heard_or_not mid (Ok x) does told same = absurd (answer_is_no_refusal name _ told)
+  heard_or_not mid (Err (Unfits.Refused n)) does told same = not_heard mid.session n (Err (Unfits.Refused n)) refl (fault_is_told n told) does same
+  heard_or_not mid (Err Unfits.NothingWaits) does told same = absurd (cc)
+  heard_or_not mid (Err Unfits.NoSuchAnswer) does told same = absurd (cc)
+  heard_or_not mid (Err (Unfits.NoSuchState b)) does told same = absurd (cc)
+
+  pub failed_in_answer : Performs moment (requests.Answer t r name (Ret code)) now (responses.Refused LogFault) left → IsFailedToHear t r code c now left
+  failed_in_answer did = by (waits_for_other now.session.lines t r name) did.does
+    where
+      same : left.session.manager ≡ did.mid.session.manager
+      same = ap (λ (c : Coordinator L). c.session.manager) (none_ended (transaction_of name) did.mid left did.releases)
+
+      by : (other : Bool) → MatchBool other (OnlyTells (responses.Fault faults.OtherCall) now (responses.Refused LogFault) did.mid)
+          (StandsFor (Hears t r (Ret code)) (answer_reply (responses.Heard name.kind (answer_number (let a : Answer Xid = Ret code in a)))) now
+          (responses.Refused LogFault) did.mid ⊎ LacksMemory now (responses.Refused LogFault) did.mid)
+          → IsFailedToHear t r code c now left
+      by true fault = absurd (let no = fault.0 in cc)
+      by false (inl stands) = heard_or_not did.mid stands.result stands.does stands.told same
+      by false (inr lacks) = absurd (let no = fault_is_told Memory lacks.0 in cc)

@@ -120,14 +120,16 @@ both_written (Some x) None c bs cs first second = absurd first
 both_written (Some x) (Some y) None bs cs first second = absurd second
 both_written (Some x) (Some y) (Some z) bs cs first second = second ∙ ap (λ l. l ++ cs) first ∙ append_assoc x bs cs
 
-pub written_then_begun : (a b c : Option (List ℕ)) (bs cs : List ℕ) → Appends a b bs → AppendsBeginning b c cs → AppendsBeginning a c (bs ++ cs)
-written_then_begun a b c bs cs first second = (
-  second.0,
-  record {
-    written = bs ++ second.1.written;
-    whole = ap (λ l. bs ++ l) second.1.whole ∙ sym (append_assoc bs second.1.written second.0);
-    appends = both_written a b c bs second.1.written first second.1.appends;
-  },
+pub kept_then_written : (a b c : Option (List ℕ)) (bs : List ℕ) → Keeps a b → Appends b c bs → Appends a c bs
+kept_then_written None b c bs p q = tt
+kept_then_written (Some xs) None c bs p q = absurd p
+kept_then_written (Some xs) (Some ys) None bs p q = absurd q
+kept_then_written (Some xs) (Some ys) (Some zs) bs p q = q ∙ ap (λ l. l ++ bs) p
+
+pub kept_then_begun : (a b c : Option (List ℕ)) (bs : List ℕ) → Keeps a b → AppendsBeginning b c bs → AppendsBeginning a c bs
+kept_then_begun a b c bs p begun = (
+  begun.0,
+  record { written = begun.1.written; whole = begun.1.whole; appends = kept_then_written a b c begun.1.written p begun.1.appends },
 )
 
 -- ** lines in parts

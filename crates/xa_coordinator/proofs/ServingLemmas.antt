@@ -2,13 +2,14 @@
 use Rattle.std.proofs.Common.{◌≡◌, ◌≢◌, ◌∙◌, ◌⊎◌, inl, inr, ◌==◌, ℕ, Bool, true, false, cond, List, [], ◌∷◌, ◌++◌, map, Option, Some, None, flat_map, refl, sym, ap, subst, append_assoc, arith, ◌||◌, ◌&&◌, not}
 use Rattle.std.specs.Prelude.{MatchBool, Result, Ok, Err, OnErr, OnOk}
 use Rattle.std.proofs.lemmas.List.{append-nil, map-append}
-use Rattle.std.specs.Io.KnownBytes.{Appends, Consumes, IsAtEnd}
+use Rattle.std.specs.Io.KnownBytes.{Appends, Consumes, IsAtEnd, Keeps}
 use Rattle.std.specs.List.{list_any}
+use Rattle.xa_files.proofs.OutputLemmas.{written_then_kept}
 use Rattle.xa_files.specs.Outputs.{AppendsBeginning}
 use Rattle.xa_log.specs.Contract.{Moment}
 use Rattle.xa_serve.proofs.Logging.{both_keep, kept}
 use Rattle.xa_coordinator.proofs.LogLemmas.{replies_keep}
-use Rattle.xa_coordinator.proofs.LineLemmas.{appends_none, asked_of_kept_by, kept_none, begins_with_all, both_consumed, both_written, consumed_none, keeps_all}
+use Rattle.xa_coordinator.proofs.LineLemmas.{appends_none, asked_of_kept_by, kept_none, begins_with_all, both_consumed, both_written, consumed_none, kept_then_begun, kept_then_written, keeps_all}
 use Rattle.xa_coordinator.specs.Lines.{IsKeptOf, IsPlain, IsWholeLines, ReadsLine, ReadsWholeLines, is_nothing, line_of, lines_of, with_end, with_first}
 use Rattle.xa_coordinator.specs.NamedLines.{BreaksSessionUnder, ServesUnder, line_read, line_written, lines_read, text_written}
 use Rattle.xa_coordinator.specs.Serving.{BreaksSession, EndsBy, HaveReplies, RepliesBy, RepliesTo, Serves, WritesUpToLast, is_bye, text_of}
@@ -254,11 +255,24 @@ module _ {L : Type 0} (moment : L → Moment) (name : List ℕ) (greeting : Resp
             (replies_keep moment (lines_read name (lines_of loses.read)) (loses.reply ∷ []) b c loses.replied);
       }
 
+  -- what was written was flushed then
+  flushed : (unread part written mid all : Option (List ℕ)) (a b : Coordinator L) → ServesSome moment name greeting unread part written mid a b
+      → Keeps mid all → ServesSome moment name greeting unread part written all a b
+  flushed unread part written mid all a b some keeps = record {
+    read = some.read;
+    replies = some.replies;
+    consumed = some.consumed;
+    replied = some.replied;
+    appended = written_then_kept written mid all (text_written name (greeting ∷ some.replies)) some.appended keeps;
+    whole = some.whole;
+    silent = some.silent;
+  }
+
   pub broken_off : (unread part written mid all : Option (List ℕ)) (a b c : Coordinator L) → ServesSome moment name greeting unread part written mid a b
       → BreaksOff moment name part mid all b c → BreaksSessionUnder moment name greeting unread written all a c
   broken_off unread part written mid all a b c some (inl none) =
       subst (λ x. BreaksSessionUnder moment name greeting unread written all a x) (sym none.1)
-      (subst (λ x. BreaksSessionUnder moment name greeting unread written x a b) (sym none.0) (no_more unread part written mid a b some))
+      (no_more unread part written all a b (flushed unread part written mid all a b some none.0))
   broken_off unread part written mid all a b c some (inr loses) = reply_lost unread part written mid all a b c some loses
 
 -- ** one line
@@ -277,8 +291,8 @@ kept_of_none (b ∷ bs) kept keeps none = absurd (cons_is_not_nil b bs none)
 
 module _ {L : Type 0} (moment : L → Moment) (name : List ℕ) where
   -- nothing was written, and nothing done
-  pub off_at_once : (unread all : Option (List ℕ)) (c : Coordinator L) → BreaksOff moment name unread all all c c
-  off_at_once unread all c = inl (refl, refl)
+  pub off_at_once : (unread written all : Option (List ℕ)) (c : Coordinator L) → Keeps written all → BreaksOff moment name unread written all c c
+  off_at_once unread written all c keeps = inl (keeps, refl)
 
   -- the line that was read was replied
   line_replied : (unread left : Option (List ℕ)) (kept : List ℕ) (is_ended : Bool) (reply : Response) (a b : Coordinator L)
@@ -298,17 +312,17 @@ module _ {L : Type 0} (moment : L → Moment) (name : List ℕ) where
   line_is_whole unread left kept true was = inl (whole_line was.line was.plain)
   line_is_whole unread left kept false was = inr (was.end refl)
 
-  -- the reply couldn't be written whole
-  pub off_behind : (unread left written all : Option (List ℕ)) (kept : List ℕ) (is_ended : Bool) (reply : Response) (a b : Coordinator L)
+  -- what was written was flushed, and then the reply couldn't be written whole
+  pub off_behind : (unread left written mid all : Option (List ℕ)) (kept : List ℕ) (is_ended : Bool) (reply : Response) (a b : Coordinator L)
       → ReadsLine unread left kept is_ended → is_nothing kept is_ended ≡ false → RepliesTo moment (line_read name kept) a reply b
-      → AppendsBeginning written all (line_written name reply) → BreaksOff moment name unread written all a b
-  off_behind unread left written all kept is_ended reply a b was some replied begun = inr (record {
+      → Keeps written mid → AppendsBeginning mid all (line_written name reply) → BreaksOff moment name unread written all a b
+  off_behind unread left written mid all kept is_ended reply a b was some replied keeps begun = inr (record {
     read = with_end was.line is_ended;
     left = left;
     reply = reply;
     reads = record { consumed = was.consumed; whole = line_is_whole unread left kept is_ended was };
     replied = line_replied unread left kept is_ended reply a b was some replied;
-    begun = begun;
+    begun = kept_then_begun written mid all (line_written name reply) keeps begun;
   })
 
   -- nothing is left
@@ -351,6 +365,22 @@ module _ {L : Type 0} (moment : L → Moment) (name : List ℕ) where
     whole = λ h. absurd (true_is_not_false (sym h));
     silent = λ h. absurd (true_is_not_false (sym h));
     ends = λ h. bye_ends reply (is_bye reply) (IsAtEnd left) refl (λ no_bye. was.end refl);
+  }
+
+-- ** behind a flush
+
+module _ {L : Type 0} (moment : L → Moment) (name : List ℕ) where
+  pub served_behind_flush : (unread left written mid all : Option (List ℕ)) (a b : Coordinator L) (goes_on : Bool) → Keeps written mid
+      → ServesLine moment name unread left mid all a b goes_on → ServesLine moment name unread left written all a b goes_on
+  served_behind_flush unread left written mid all a b goes_on keeps served = record {
+    read = served.read;
+    replies = served.replies;
+    consumed = served.consumed;
+    replied = served.replied;
+    appended = kept_then_written written mid all (text_written name served.replies) keeps served.appended;
+    whole = served.whole;
+    silent = served.silent;
+    ends = served.ends;
   }
 
 -- ** without a name

@@ -1,6 +1,6 @@
 -- One line of a driver is served.
 use Rattle.std.specs.Prelude.{◌≡◌, ◌⊎◌, ℕ, Bool, true, false, List, [], ◌∷◌, Option}
-use Rattle.std.specs.Io.KnownBytes.{Appends, Consumes, IsAtEnd}
+use Rattle.std.specs.Io.KnownBytes.{Appends, Consumes, IsAtEnd, Keeps}
 use Rattle.std.specs.List.{list_any}
 use Rattle.xa_coordinator.specs.Lines.{IsWholeLines, ReadsWholeLines, lines_of}
 use Rattle.xa_coordinator.specs.NamedLines.{line_written, lines_read, text_written}
@@ -34,4 +34,4 @@ module _ {L : Type 0} (moment : L → Moment) where
 
   -- It was broken off there, or before anything was done.
   abbrev pub BreaksOff : (name : List ℕ) → (unread written all : Option (List ℕ)) → (old new : Coordinator L) → Type 0
-  BreaksOff name unread written all old new = ((all ≡ written) × (new ≡ old)) ⊎ LosesReply name unread written all old new
+  BreaksOff name unread written all old new = (Keeps written all × (new ≡ old)) ⊎ LosesReply name unread written all old new

@@ -1,11 +1,12 @@
 -- Sessions of drivers one after another, over one log and the same databases, and where all branches then stand at databases that obey the
 -- branch state table. Nothing is supposed of the coordinator: of the log only that it is in order and honest, which is its library's to
 -- prove, and that it is handed on.
-use Rattle.std.specs.Prelude.{◌≡◌, ◌≤◌, ℕ, true, false, if◌then◌else◌, List, Option, Some, None, is_some}
+use Rattle.std.specs.Prelude.{◌≡◌, ◌≤◌, ◌⊎◌, ℕ, true, false, if◌then◌else◌, List, Option, Some, None, is_some}
 use Rattle.std.specs.FinMap.{get, len}
 use Rattle.std.specs.List.{list_any}
 use Rattle.xa_base.specs.Branch.{branch_eq}
 use Rattle.xa_base.specs.StateTable.{broken}
+use Rattle.xa_base.specs.declared.answer.Answer.TheVariants.{Ret}
 use Rattle.xa_base.specs.declared.refusal.Refusal.TheVariants.{LogFault}
 use Rattle.xa_base.specs.declared.state.Standing.{Standing}
 use Rattle.xa_base.specs.declared.state.Standing.TheVariants.{Committed, Completed, Prepared, Unstarted}
@@ -13,20 +14,25 @@ use Rattle.xa_coordinator.specs.Faults.{AsksForRows}
 use Rattle.xa_coordinator.specs.Performing.{Performs}
 use Rattle.xa_coordinator.specs.Serving.{HaveReplies}
 use Rattle.xa_coordinator.specs.Telling.{HaveTold, is_log_fault}
+use Rattle.xa_coordinator.specs.Votes.{IsLogged}
 use Rattle.xa_coordinator.specs.declared.coordinator.Coordinator.{Coordinator}
 use Rattle.xa_log.specs.Content.{Content}
 use Rattle.xa_log.specs.Contract.{Honestly, Moment}
 use Rattle.xa_model.specs.Promises.Agreement.{IsUndone}
-use Rattle.xa_model.specs.Trace.{Branch, How, Line, Origin}
+use Rattle.xa_model.specs.Trace.{Branch, Call, Code, How, Line, Origin, line}
+use Rattle.xa_requests.specs.declared.request.CallName.{CallName}
 use Rattle.xa_requests.specs.declared.request.Request.{Request}
+use Rattle.xa_requests.specs.declared.request.Request.TheVariants as requests
 use Rattle.xa_requests.specs.declared.response.Response.{Response}
 use Rattle.xa_requests.specs.declared.response.Response.TheVariants as responses
 use Rattle.xa_serve.specs.Following.{StandsAtStart}
 use Rattle.xa_serve.specs.Logging.{HoldsItsBook, LeavesContent}
+use Rattle.xa_serve.specs.Session.{known_waiting}
 use Rattle.xa_serve.specs.Tracking.{KeepsTrack}
 use Rattle.xa_standings.specs.Agreement.{MayAllStand, StandAlike}
 use Rattle.xa_standings.specs.Explained.{IsOldLog}
-use Rattle.xa_standings.specs.Seen.{Seen, Seen.Start}
+use Rattle.xa_standings.specs.Seen.{Seen, Seen.Answered, Seen.Start}
+use Rattle.xa_standings.specs.Sessions.{IsCommitting}
 use Rattle.xa_standings.specs.Standings.{Comes}
 use Rattle.xa_tm.specs.Begins.{BeginsWith}
 use Rattle.xa_tm.specs.BookAndLog.{SameRows}
@@ -83,27 +89,31 @@ module _ {L : Type 0} (moment : L → Moment) where
     pub told : HaveTold o.threads lines replies Start seen
     pub tracks : KeepsTrack o seen now.session
 
--- A session is left: after a line, as where its driver ends or the program is killed; or in a request in which its log failed, as it does
--- where the program is killed there.
-pub data IsLeft {L : Type 0} (moment : L → Moment) (now : Coordinator L) : Coordinator L → Type 0 where
-  AfterLine : IsLeft moment now now
+-- A session is left, with so much seen: after a line, as where its driver ends or the program is killed; or in a request in which its log
+-- failed, as it does where the program is killed there. An answer counts as told then, whether or not its record was written.
+pub data IsLeft {L : Type 0} (moment : L → Moment) (seen : Seen) (now : Coordinator L) : Seen → Coordinator L → Type 0 where
+  AfterLine : IsLeft moment seen now seen now
   InRequest :
       (request : Request) (left : Coordinator L) → AsksForRows request → Performs moment request now (responses.Refused LogFault) left
-      → IsLeft moment now left
+      → IsLeft moment seen now seen left
+  InAnswer :
+      (thread rm : ℕ) (name : CallName) (code : Code) (call : Call) (left : Coordinator L) → known_waiting now.session.lines thread rm ≡ Some call
+      → Performs moment (requests.Answer thread rm name (Ret code)) now (responses.Refused LogFault) left
+      → IsLeft moment seen now (Answered seen (line thread rm) call (Ret code)) left
 
 -- ** all of them
 
 -- Where all branches may stand after sessions one after another, the last of which was left so. Each is over the log that the one before it
 -- left, or that a crash left of it, the first over an empty one; each log was honest to the end. Databases obey the table: before the first
--- session no branch is there; in each the branches come to where they may by what was told and by what is under way (`MayAllStand`); between
+-- session no branch is there; in each the branches come to where they may by what was seen and by what is under way (`MayAllStand`); between
 -- two what was open is lost, and a database may end a prepared branch by itself.
 pub data AreServed {L : Type 0} (moment : L → Moment) : Option (Coordinator L) → (Branch → Standing) → Type 0 where
   NoneYet : AreServed moment None (λ b. Unstarted)
   OneMore :
-      (last : Option (Coordinator L)) (from to : Branch → Standing) (handed : L) (o : Origin) (seen : Seen) (now left : Coordinator L)
-      (used : List Line) → AreServed moment last from → IsHandedOn moment last handed → IsSession moment handed o seen now
-      → IsLeft moment now left → (moment (log_in left.session.manager)).is_honest
-      → MayAllStand o seen (λ b. Comes seen b (broken (from b))) used to → AreServed moment (Some left) to
+      (last : Option (Coordinator L)) (from to : Branch → Standing) (handed : L) (o : Origin) (told seen : Seen) (now left : Coordinator L)
+      (done cut : List Line) → AreServed moment last from → IsHandedOn moment last handed → IsSession moment handed o told now
+      → IsLeft moment told now seen left → (moment (log_in left.session.manager)).is_honest
+      → MayAllStand o seen (λ b. Comes seen b (broken (from b))) done cut to → AreServed moment (Some left) to
   Between :
       (last : Option (Coordinator L)) (from to : Branch → Standing) (d : Branch) (how : How) → AreServed moment last from
       → from d ≡ Prepared → ((b : Branch) → to b ≡ (if branch_eq d b then Completed how else from b)) → AreServed moment last to
@@ -124,9 +134,29 @@ ServedLogsDecide {L} moment =
     (last : Coordinator L) (f : Branch → Standing) (c : Content) → AreServed moment (Some last) f
     → LeavesContent moment last.session.manager c → LogDecides f c
 
--- What lines and their replies tell is known of each session that starts over a log that it is handed.
+-- One of these sessions began where the branch stood prepared, over a log with the row of its transaction.
+abbrev pub WasFoundDecided : {L : Type 0} (moment : L → Moment) (b : Branch) (last : Option (Coordinator L)) (f : Branch → Standing)
+    → AreServed moment last f → Type 0
+WasFoundDecided moment b _ _ NoneYet = ⊥
+WasFoundDecided moment b _ _ (OneMore last from to handed o told seen now left done cut before handed_on is is_left honest may) =
+    ((from b ≡ Prepared) × IsLogged (moment handed).content b.gtrid) ⊎ WasFoundDecided moment b last from before
+WasFoundDecided moment b _ _ (Between last from to d how before was final) = WasFoundDecided moment b last from before
+
+-- Such a branch is to commit; and as long as it stands prepared, the log has its row.
+pub record CommitStands (f : Branch → Standing) (log : Content) (b : Branch) : Type 0 where
+  pub commits : IsCommitting (f b)
+  pub row_stays : f b ≡ Prepared → is_some (get log.decisions b.gtrid) ≡ true
+
+-- So does each decision to commit that a session found, in the log that the last session left, and in whatever a crash leaves of it.
+abbrev pub ServedCommitsStand : {L : Type 0} → (L → Moment) → Type 0
+ServedCommitsStand {L} moment =
+    (last : Coordinator L) (f : Branch → Standing) (c : Content) (b : Branch) (served : AreServed moment (Some last) f)
+    → WasFoundDecided moment b (Some last) f served → LeavesContent moment last.session.manager c → CommitStands f c b
+
+-- What lines and their replies tell is known of each session that starts over a log that it is handed, and it is one of these.
 abbrev pub ServedSessionsAreSeen : {L : Type 0} → (L → Moment) → Type 0
 ServedSessionsAreSeen {L} moment =
     (threads rms : ℕ) (lines : List (List ℕ)) (replies : List Response) (handed : L) (first now : Coordinator L)
     → StartsOver moment threads rms handed first → HaveReplies moment lines replies first now → list_any is_log_fault replies ≡ false
-    → (o : Origin) → BeginsWith threads rms first.session.manager o → (seen : Seen) × IsSession moment handed o seen now
+    → (o : Origin) → BeginsWith threads rms first.session.manager o
+    → (seen : Seen) × HaveTold o.threads lines replies Start seen × IsSession moment handed o seen now

@@ -11,9 +11,9 @@ use Rattle.xa_model.specs.Trace.{Branch, Origin, line}
 use Rattle.xa_requests.specs.declared.request.Request.{Request}
 use Rattle.xa_requests.specs.declared.response.Response.{Response}
 use Rattle.xa_serve.specs.Following.{StandsAtStart}
-use Rattle.xa_serve.specs.Session.{known_waiting}
+use Rattle.xa_serve.specs.Session.{known_at}
 use Rattle.xa_serve.specs.Tracking.{KeepsTrack}
-use Rattle.xa_standings.specs.Agreement.{OwnStandAlike, StandSo, WaitsFirst}
+use Rattle.xa_standings.specs.Agreement.{OwnStandAlike, StandSo, WaitsAt}
 use Rattle.xa_standings.specs.Explained.{IsExplained, IsOldLog}
 use Rattle.xa_standings.specs.Seen.{Seen, Seen.Start}
 use Rattle.xa_tm.specs.Begins.{BeginsWith}
@@ -65,10 +65,10 @@ pub record DatabasesAgree {L : Type 0} (o : Origin) (lines : List (List ℕ)) (r
   pub seen : Seen
   pub told : HaveTold o.threads lines replies Start seen
   pub explained : IsExplained o seen
-  -- on each line the same call waits first by each such history, or none does: at the end the one that `waiting` tells
+  -- on each line the same calls wait by each such history, in order: at the end the first is the one that `waiting` tells
   pub last : Coordinator L
   pub to_end : list_any is_log_fault replies ≡ false → last ≡ new
-  pub first : (t r : ℕ) → t < o.threads → r < o.rms → WaitsFirst o seen (line t r) (known_waiting last.session.lines t r)
+  pub waiting : (t r n : ℕ) → t < o.threads → r < o.rms → WaitsAt o seen (line t r) n (known_at last.session.lines t r n)
   pub agree : (f : Branch → Standing) → StandSo o seen f → OwnStandAlike o.incarnation f
 
 -- Whatever a driver tells a new coordinator and is replied, databases that obey the branch state table agree: behind each line.

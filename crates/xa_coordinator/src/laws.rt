@@ -3,7 +3,8 @@
 ghost use Rattle.xa_coordinator.specs.Branches.{CallsAreOnBranches};
 ghost use Rattle.xa_coordinator.specs.Faults.{FaultsLeaveAllOrNone};
 ghost use Rattle.xa_coordinator.specs.Managers.{ManagersAreApart, RepliesTellOwn};
-ghost use Rattle.xa_coordinator.specs.Sessions.{ServedLogsDecide, ServedSessionsAgree, ServedSessionsAreSeen};
+ghost use Rattle.xa_coordinator.specs.Sessions.{ServedCommitsStand, ServedLogsDecide};
+ghost use Rattle.xa_coordinator.specs.Sessions.{ServedSessionsAgree, ServedSessionsAreSeen};
 ghost use Rattle.xa_coordinator.specs.Tracking.{RepliesAreTracked, ServedDatabasesAgree};
 ghost use Rattle.xa_coordinator.specs.Tracking.{ServedSessionsAreExplained, SessionsAreTracked};
 ghost use Rattle.xa_coordinator.specs.Votes.{CommitsAreLogged, VotedCommitsAreLogged};
@@ -11,9 +12,9 @@ ghost use Rattle.xa_coordinator.specs.Votes.{CommitsAreLogged, VotedCommitsAreLo
 use xa_log::DecisionLog;
 use xa_names::names_part_identifiers;
 use xa_serve::{
-    answers_are_tracked, first_calls_are_tracked, losses_are_tracked, refusals_are_tracked,
-    releases_are_tracked, sessions_are_explained, starts_are_tracked, starts_find_the_log,
-    steps_are_tracked,
+    answers_are_tracked, losses_are_tracked, refusals_are_tracked, releases_are_tracked,
+    sessions_are_explained, starts_are_tracked, starts_find_the_log, steps_are_tracked,
+    waiting_calls_are_tracked,
 };
 use xa_standings::{answers_are_explained, sessions_agree};
 use xa_tm::starts_are_histories;
@@ -58,9 +59,9 @@ pub fn served_sessions_are_explained<L: DecisionLog + Drop>()
 }
 
 /// And databases that obey the branch state table agree, behind each line that a driver told a new coordinator. Let the
-/// branches stand wherever they may by what was told; let the call that waits first on any line be done or not, though its
-/// answer isn't told; let lines be cut off, as all are where the driver is killed; and let databases end prepared branches
-/// by themselves. Then no branch of a transaction that this session began is committed beside one that is rolled back or
+/// branches stand wherever they may by what was told; of the calls that wait on any line let the first ones be done, however
+/// many, though their answers aren't told; let lines be cut off, as all are where the driver is killed; and let databases
+/// end prepared branches by themselves. Then no branch of a transaction that this session began is committed beside one that is rolled back or
 /// lost.
 ///
 /// That a database obeys the table is the one premise about it (`StandSo`), and that it has no branch of this incarnation
@@ -71,23 +72,27 @@ pub fn served_databases_agree<L: DecisionLog + Drop>()
     starts_are_tracked::<L>();
     sessions_are_tracked::<L>();
     sessions_are_explained::<L>();
-    first_calls_are_tracked::<L>();
+    waiting_calls_are_tracked::<L>();
     answers_are_explained();
 }
 
 /// So sessions of drivers agree, one after another over one log and the same databases, of which each obeys the branch
 /// state table (`AreServed`). Each session starts over the log that the one before it left, or that a crash of its store
 /// left, the first over an empty one. A session may be left after any line, or in a request in which its log failed, or
-/// in which the program was killed; calls may be under way then, and in between what was open is lost.
+/// in which the program was killed; calls may be under way then, several on a line too, and in between what was open is
+/// lost.
 ///
 /// - `agree`: no branch of any transaction is committed beside one that is rolled back or lost, whichever session began,
 ///   decided or recovered it;
 /// - `rows`: the log that is left decides of what is prepared still. It has the row of each transaction of which a branch
 ///   is committed, and no row of one of which a branch is rolled back or lost;
+/// - `decided`: a branch that a session found prepared, and its transaction's row in the log, commits, or its database ends
+///   it by itself. The row is there as long as the branch stands prepared, so a log without it says that this is over;
 /// - `seen`: each session that starts so is one of these.
 pub fn served_sessions_agree<L: DecisionLog + Drop>()
     ensures agree { ServedSessionsAgree L.moment }
     ensures rows { ServedLogsDecide L.moment }
+    ensures decided { ServedCommitsStand L.moment }
     ensures seen { ServedSessionsAreSeen L.moment }
 {
     sessions_agree();
@@ -95,6 +100,8 @@ pub fn served_sessions_agree<L: DecisionLog + Drop>()
     starts_find_the_log::<L>();
     starts_are_tracked::<L>();
     sessions_are_tracked::<L>();
+    sessions_are_explained::<L>();
+    waiting_calls_are_tracked::<L>();
 }
 
 /// What lines and their replies tell is of branches that have identifiers (XA, section 4.2): each call that was let wait is on

@@ -13,7 +13,7 @@ use std::alloc::{AllocError, Global};
 use std::io::{ErrorKind, Read, Write};
 use std::str::from_utf8;
 use xa_base::Memory;
-use xa_files::write_text;
+use xa_files::write_unflushed;
 use xa_names::{ManagerName, line_renamed, without_a_name_nothing_changes};
 use xa_requests::{Request, Response, read_request, response_text};
 
@@ -149,7 +149,7 @@ fn line_written(alloc: Global, name: &ManagerName, reply: &Response) -> Result<S
     Ok(text)
 }
 
-/// Writes the line of a reply, and lets the driver have it.
+/// Writes the line of a reply, and flushes nothing.
 pub(crate) fn write_reply<W: Write>(
     alloc: Global,
     name: &ManagerName,
@@ -164,7 +164,7 @@ pub(crate) fn write_reply<W: Write>(
     let Ok(text) = line_written(alloc, name, reply) else {
         return Err(ServeFault::Memory);
     };
-    match write_text(text.as_bytes(), output) {
+    match write_unflushed(text.as_bytes(), output) {
         Ok(()) => Ok(()),
         Err(_) => Err(ServeFault::Output),
     }

@@ -1,6 +1,8 @@
 //! The loop over the lines of a driver.
 
 ghost use Rattle.std.specs.Prelude.{◌≡◌, ◌&&◌, not, IfOk, OnErr, OnOk};
+ghost use Rattle.std.specs.Io.Buffered.{reader_remaining};
+ghost use Rattle.std.specs.Io.KnownBytes.{Keeps};
 ghost use Rattle.xa_coordinator.specs.Replies.{greeting_of};
 ghost use Rattle.xa_coordinator.specs.NamedLines.{BreaksSessionUnder, ServesUnder, line_read};
 ghost use Rattle.xa_coordinator.specs.Serving.{BreaksSession, RepliesTo, Serves, is_bye};
@@ -10,7 +12,7 @@ ghost use Rattle.xa_serve.specs.Session.{IsReady};
 use crate::coordinator::Coordinator;
 use crate::lines::{asked_by, is_nothing, read_line, write_reply};
 use std::alloc::AllocError;
-use std::io::{Read, Write};
+use std::io::{BufReader, Read, Write};
 use thiserror::Error;
 use xa_log::DecisionLog;
 use xa_names::{ManagerName, without_a_name_nothing_changes};
@@ -47,6 +49,22 @@ fn goes_on(is_ended: bool, reply: &Response) -> bool
     is_ended && !matches!(reply, Response::Bye)
 }
 
+/// Flushes what was written, unless a whole line was read ahead: then no input is waited for.
+fn flush_before_waiting<R: Read, W: Write>(
+    input: &BufReader<R>,
+    output: &mut W,
+) -> Result<(), ServeFault>
+    ensures { Keeps (W.contents output.old) (W.contents output.new) }
+{
+    if input.buffer().contains(&b'\n') {
+        return Ok(());
+    }
+    match output.flush() {
+        Ok(()) => Ok(()),
+        Err(_) => Err(ServeFault::Output),
+    }
+}
+
 impl<L: DecisionLog + Drop> Coordinator<L> {
     /// Does what a line asks for, and gives its reply.
     fn reply_to(&mut self, name: &ManagerName, line: &[u8]) -> Result<Response, ServeFault>
@@ -63,22 +81,23 @@ impl<L: DecisionLog + Drop> Coordinator<L> {
         }
     }
 
-    /// Reads a line, does what it asks for, and writes its reply. Says whether the session goes on: not behind `quit`, and
-    /// not at the end of the input.
+    /// Reads a line, does what it asks for, and writes its reply. What was written before is flushed first, if the line may
+    /// have to be waited for. Says whether the session goes on: not after `quit`, and not at the end of the input.
     fn serve_line<R: Read, W: Write>(
         &mut self,
         name: &ManagerName,
-        input: &mut R,
+        input: &mut BufReader<R>,
         output: &mut W,
     ) -> Result<bool, ServeFault>
         requires { IsReady self.old.session }
         ensures ready { IsReady self.new.session }
         ensures ok { IfOk result (ServesLine L.moment name.now
-            (R.remaining input.old) (R.remaining input.new)
+            (reader_remaining R.remaining input.old) (reader_remaining R.remaining input.new)
             (W.contents output.old) (W.contents output.new) self.old self.new) }
-        ensures err { OnErr result (BreaksOff L.moment name.now (R.remaining input.old)
+        ensures err { OnErr result (BreaksOff L.moment name.now (reader_remaining R.remaining input.old)
             (W.contents output.old) (W.contents output.new) self.old self.new) }
     {
+        flush_before_waiting(input, output)?;
         let line = read_line(self.alloc, input)?;
         if is_nothing(&line) {
             return Ok(false);
@@ -89,24 +108,26 @@ impl<L: DecisionLog + Drop> Coordinator<L> {
     }
 
     /// Serves a driver: first a line that says how the session starts, and then one line for each line that is read, in
-    /// their order, until `quit` or the end of the input. Each is written and flushed before the next is read. A line is
-    /// ended by a line feed, which the last one may lack.
+    /// their order, until `quit` or the end of the input. What was written is flushed before input is waited for: so what
+    /// was read together is replied by one write. What is written last the caller flushes. A line is ended by a line feed,
+    /// which the last one may lack.
     ///
     /// Input comes if the requests can't be read, Output if a reply can't be written, and Memory if a request for memory
     /// was refused outside of a step. What was done then is what whole lines that were read ask for, in their order, and
     /// each reply was written but the last, of which a beginning was.
     pub fn serve<R: Read, W: Write>(
         &mut self,
-        input: &mut R,
+        input: &mut BufReader<R>,
         output: &mut W,
     ) -> Result<(), ServeFault>
         requires { IsReady self.old.session }
         ensures ready { IsReady self.new.session }
         ensures served { OnOk result (Serves L.moment (greeting_of self.old)
-            (R.remaining input.old) (R.remaining input.new)
+            (reader_remaining R.remaining input.old) (reader_remaining R.remaining input.new)
             (W.contents output.old) (W.contents output.new) self.old self.new) }
         ensures broken { OnErr result (BreaksSession L.moment (greeting_of self.old)
-            (R.remaining input.old) (W.contents output.old) (W.contents output.new) self.old self.new) }
+            (reader_remaining R.remaining input.old)
+            (W.contents output.old) (W.contents output.new) self.old self.new) }
     {
         without_a_name_nothing_changes();
         self.serve_under(&ManagerName::none(), input, output)
@@ -118,16 +139,17 @@ impl<L: DecisionLog + Drop> Coordinator<L> {
     pub fn serve_under<R: Read, W: Write>(
         &mut self,
         name: &ManagerName,
-        input: &mut R,
+        input: &mut BufReader<R>,
         output: &mut W,
     ) -> Result<(), ServeFault>
         requires { IsReady self.old.session }
         ensures ready { IsReady self.new.session }
         ensures served { OnOk result (ServesUnder L.moment name.now (greeting_of self.old)
-            (R.remaining input.old) (R.remaining input.new)
+            (reader_remaining R.remaining input.old) (reader_remaining R.remaining input.new)
             (W.contents output.old) (W.contents output.new) self.old self.new) }
         ensures broken { OnErr result (BreaksSessionUnder L.moment name.now (greeting_of self.old)
-            (R.remaining input.old) (W.contents output.old) (W.contents output.new) self.old self.new) }
+            (reader_remaining R.remaining input.old)
+            (W.contents output.old) (W.contents output.new) self.old self.new) }
     {
         let greeting = self.greeting();
         write_reply(self.alloc, name, &greeting, output)?;

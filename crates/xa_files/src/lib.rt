@@ -21,6 +21,6 @@ pub use fields::{
 };
 pub use finding::Finding;
 pub use gtrids::gtrid_text;
-pub use output::write_text;
+pub use output::{write_text, write_unflushed};
 pub use refusal::Refusal;
 pub use words::{call_named, flag_named, vote_named};

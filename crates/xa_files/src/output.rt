@@ -8,8 +8,8 @@ ghost use Rattle.xa_files.specs.declared.fault.RunFault.TheVariants.{Output};
 use crate::fault::RunFault;
 use std::io::{ErrorKind, Write};
 
-/// Writes a text whole. What was written before a write failed is left: a beginning of the text.
-pub fn write_text<W: Write>(text: &[u8], out: &mut W) -> Result<(), RunFault>
+/// Writes a text whole, and flushes nothing. What was written before a write failed is left: a beginning of the text.
+pub fn write_unflushed<W: Write>(text: &[u8], out: &mut W) -> Result<(), RunFault>
     ensures whole { OnOk result (Appends (W.contents out.old) (W.contents out.new) text.now) }
     ensures begun { OnErr result (AppendsBeginning (W.contents out.old)
         (W.contents out.new) text.now) }
@@ -18,7 +18,7 @@ pub fn write_text<W: Write>(text: &[u8], out: &mut W) -> Result<(), RunFault>
     let mut rest = text;
     for _ in 0..u64::MAX {
         if rest.is_empty() {
-            return out.flush().map_err(|_| RunFault::Output);
+            return Ok(());
         }
         match out.write(rest) {
             Ok(0) => break,
@@ -31,4 +31,15 @@ pub fn write_text<W: Write>(text: &[u8], out: &mut W) -> Result<(), RunFault>
         }
     }
     Err(RunFault::Output)
+}
+
+/// Writes a text whole, and flushes it. What was written before a write failed is left: a beginning of the text.
+pub fn write_text<W: Write>(text: &[u8], out: &mut W) -> Result<(), RunFault>
+    ensures whole { OnOk result (Appends (W.contents out.old) (W.contents out.new) text.now) }
+    ensures begun { OnErr result (AppendsBeginning (W.contents out.old)
+        (W.contents out.new) text.now) }
+    ensures fault { IfErr result (λ e. e ≡ Output) }
+{
+    write_unflushed(text, out)?;
+    out.flush().map_err(|_| RunFault::Output)
 }

@@ -3,9 +3,9 @@ mod Following
 mod Headroom
 mod Lines
 pub mod Logging
-mod NextRows
 mod NextStarts
 mod FailedSteps
+pub mod FailedAnswers
 mod Recoveries
 mod Hearings
 pub mod Refusals

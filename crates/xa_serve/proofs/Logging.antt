@@ -1,10 +1,10 @@
 -- What becomes of the log.
-use Rattle.std.proofs.Common.{◌≡◌, ◌≢◌, ◌∙◌, ◌⊎◌, ◌+◌, ◌<◌, ◌≤◌, inl, inr, ℕ, Bool, true, false, ◌||◌, List, [], ◌∷◌, map, Option, Some, None, IsSomeAnd, is_some, refl, sym, ap, subst, arith}
+use Rattle.std.proofs.Common.{◌≡◌, ◌≢◌, ◌∙◌, ◌⊎◌, ◌+◌, ◌<◌, ◌≤◌, inl, inr, ℕ, Bool, true, false, ◌||◌, List, [], ◌∷◌, map, Option, Some, None, IsSomeAnd, refl, sym, ap, subst, arith}
 use Rattle.std.specs.Prelude.{Result, Ok, Err, OnOk, IfErr}
 use Rattle.std.specs.FinMap.{get}
 use Rattle.std.proofs.lemmas.Bool.{or_parts}
 use Rattle.xa_base.specs.declared.branch.Gtrid.{Gtrid}
-use Rattle.xa_base.specs.declared.answer.Answer.TheVariants.{Page, Ret}
+use Rattle.xa_base.specs.declared.answer.Answer.TheVariants.{Ret}
 use Rattle.xa_base.specs.declared.call.Call.TheVariants as Calls
 use Rattle.xa_base.specs.declared.code.Code.TheVariants as Codes
 use Rattle.xa_base.specs.declared.refusal.Refusal.{Refusal}
@@ -20,7 +20,7 @@ use Rattle.xa_log.specs.declared.fail_plan.LogCall.TheVariants.{Rows}
 use Rattle.xa_log.specs.declared.log_fault.LogFault.{LogFault as Fails}
 use Rattle.xa_log.specs.declared.log_rows.LogRows.{LogRows}
 use Rattle.xa_model.specs.Facts.{record_of}
-use Rattle.xa_model.specs.Trace.{Answer, Call, Fault, Fault.InHear, Happening, Happening.Begun, Happening.Claimed, Happening.Crashed, Happening.Decided, Happening.Done, Happening.Failed, Happening.Heard, Happening.Issued, Happening.ResolvedOpen, Line}
+use Rattle.xa_model.specs.Trace.{Answer, Call, Fault, Fault.InHear, Happening.Begun, Happening.Claimed, Happening.Crashed, Happening.Decided, Happening.Done, Happening.Failed, Happening.Heard, Happening.Issued, Happening.ResolvedOpen, Line}
 use Rattle.xa_tm.proofs.Log.Leaves.{left_by_a_fault}
 use Rattle.xa_tm.proofs.Log.Ties.{SameOfLog, tied_same, up_content}
 use Rattle.xa_tm.proofs.Several.Contents.{changed_at, of_same}
@@ -30,9 +30,8 @@ use Rattle.xa_tm.specs.BookAndLog.{HoldsBook, IsChangeOf, IsTied, IsTiedDown, Is
 use Rattle.xa_tm.specs.Calls.{AsksFor, FailsBy, IsOpenIn, book_in, log_in, written_by}
 use Rattle.xa_tm.specs.InTurn.{decide_refusal, done_refusal, rows_added}
 use Rattle.xa_tm.specs.LedgerBook.{IsSound}
-use Rattle.xa_tm.specs.Refusing.{is_taken_up_in, outlived_in, refusal_in}
+use Rattle.xa_tm.specs.Refusing.{outlived_in, refusal_in}
 use Rattle.xa_tm.specs.Release.{book_without}
-use Rattle.xa_tm.specs.Slots.{ReadsRows}
 use Rattle.xa_tm.specs.Started.{IsStartedOver}
 use Rattle.xa_tm.specs.Starting.{book_at_start}
 use Rattle.xa_tm.specs.StartFaults.{IsOnlyRead, IsToBlame}

@@ -18,15 +18,17 @@ use Rattle.xa_serve.specs.Following.{BookStands, StandsIn}
 use Rattle.xa_serve.specs.Tracking.{IsRaisedFrom, KeepsTrack}
 use Rattle.xa_serve.specs.declared.session.Session.{Session}
 use Rattle.xa_serve.proofs.Books.{book_goes}
-use Rattle.xa_serve.proofs.NextRows.{MayHoldRows, StartsOver, after_change, may_hold_rows, next_records, next_rows, row_in_is}
+use Rattle.xa_tm.specs.LogRows.{MayHoldRows, StartsOver, after_change}
+use Rattle.xa_tm.proofs.Log.NextRows.{next_records, next_rows}
+use Rattle.xa_tm.proofs.Log.TellsRows.{may_hold_rows, row_in_is}
 
 -- ** what a log that is tied to a book has
 
-record Has (k : Book) (c : Content) : Type 0 where
-  holds : MayHold k c
-  least : k.incarnation ≤ c.incarnation
+pub record Has (k : Book) (c : Content) : Type 0 where
+  pub holds : MayHold k c
+  pub least : k.incarnation ≤ c.incarnation
 
-tied_has : (k : Book) (c : Content) → IsTied true k (Some c) → Has k c
+pub tied_has : (k : Book) (c : Content) → IsTied true k (Some c) → Has k c
 tied_has k c tied = by k.up tied
   where
     by : (u : Bool) → TiedBy u true k (Some c) → Has k c
@@ -52,7 +54,7 @@ whole_holds gone whole k c released may =
 
 -- ** what a start finds
 
-module _ (past : Trace) (k : Book) (stands : BookStands past k) (run : IsRun past) (c : Content) (next : Origin) (tied : IsTied true k (Some c))
+module _ (past : Trace) (k : Book) (stands : BookStands past k) (run : IsRun past) (c : Content) (next : Origin) (has : Has k c)
     (raised : IsRaisedFrom c next) where
   -- the log, as it was before it was raised last
   abbrev before : Content
@@ -73,7 +75,7 @@ module _ (past : Trace) (k : Book) (stands : BookStands past k) (run : IsRun pas
   left = (at.0, at.1, by at.2)
     where
       at : MayHoldRows past c
-      at = may_hold_rows past c (whole_holds stands.0 (book_of past) k c stands.1 (tied_has k c tied).holds)
+      at = may_hold_rows past c (whole_holds stands.0 (book_of past) k c stands.1 has.holds)
 
       by : SameRows c at.0 ⊎ SameRows c (after_change (doubt past) at.0) → SameRows before at.0 ⊎ SameRows before (after_change (doubt past) at.0)
       by (inl same) = inl (record { decisions = same.decisions; heuristics = same.heuristics })
@@ -83,10 +85,10 @@ module _ (past : Trace) (k : Book) (stands : BookStands past k) (run : IsRun pas
   found = record {
     later =
         let i : incarnation past ≡ k.incarnation = ap (λ (b : Book). b.incarnation) stands.1.same in
-        let least = (tied_has k c tied).least in
-        let has = raised.has.incarnation in
+        let least = has.least in
+        let is = raised.has.incarnation in
         let more = raised.raised in
-        omega (arith, i, least, has, more);
+        omega (arith, i, least, is, more);
     rows = next_rows past next before (doubt_is_new_to past run) left over raised.apart;
     records = next_records past next before (doubt_is_new_to past run) left over;
   }
@@ -94,7 +96,7 @@ module _ (past : Trace) (k : Book) (stands : BookStands past k) (run : IsRun pas
 pub finds_the_log : {L : Type 0} (o : Origin) (seen : Seen) (s : Session L) (c : Content) (next : Origin) → KeepsTrack o seen s
     → IsTied true (book_in s.manager) (Some c) → IsRaisedFrom c next → Finds (LeftBy o seen None) next
 finds_the_log o seen s c next keeps tied raised tr history run =
-    found tr (book_in s.manager) (keeps.1 tr history run).book run c next tied raised
+    found tr (book_in s.manager) (keeps.1 tr history run).book run c next (tied_has (book_in s.manager) c tied) raised
 
 -- ** where the log failed
 
@@ -107,4 +109,5 @@ module _ {L : Type 0} (o : Origin) (seen : Seen) (s : Session L) (f : Fault) (as
       let right : RightFault tr f = may.1 tr history run in
       let behind = book_goes tr (book_in s.manager) stands.book (Failed f) (book_after (book_in s.manager) asked (Failed f)) run right stands.apart tt
       (ap (λ d. book_after (book_in s.manager) d (Failed f)) (asks tr stands)) in
-      found (Then tr (Failed f)) (book_after (book_in s.manager) asked (Failed f)) behind (run, right) c next tied raised
+      let has = tied_has (book_after (book_in s.manager) asked (Failed f)) c tied in
+      found (Then tr (Failed f)) (book_after (book_in s.manager) asked (Failed f)) behind (run, right) c next has raised

@@ -20,7 +20,7 @@ use Rattle.xa_line.specs.Traffic.{Traffic, barred, issued, refusal, with_one_mor
 use Rattle.xa_model.specs.Replies.History.{name_of}
 use Rattle.xa_model.specs.Replies.Steps.{accepted}
 use Rattle.xa_model.specs.Trace.{Call, Name, Name.Foreign, Name.Ours}
-use Rattle.xa_serve.specs.Session.{line_refusal, recovery_bar, recovery_refusal, with_more}
+use Rattle.xa_serve.specs.Session.{awaits_page, line_refusal, recovery_bar, recovery_refusal, with_more}
 use Rattle.xa_serve.specs.declared.session.Session.{Session}
 use Rattle.xa_serve.proofs.Lines.{none_second}
 
@@ -54,6 +54,13 @@ unclosed : (a b : Bool) → a ≡ false → b ≡ false → (a || b) ≡ false
 unclosed false b e d = d
 unclosed true b e d = absurd cc
 
+-- a line with more calls is open still
+pub still_open : (old now : Traffic) (yielded : List (Asking.Call Xid)) → now ≡ record old { calls = with_more old.calls yielded }
+    → has_opened (issued old) ≡ true → has_opened (issued now) ≡ true
+still_open old now yielded is opened =
+    ap (λ t. has_opened (issued t)) is ∙ ap has_opened (sym (append_assoc old.calls.gone old.calls.waiting yielded))
+    ∙ list_any-append opens (issued old) yielded ∙ ap (λ b. b || list_any opens yielded) opened
+
 -- one call more of several that a line takes
 pub took_more : (old now : Traffic) (all yielded rest left : List (Asking.Call Xid)) (call : Asking.Call Xid) (count : ℕ)
     (result : Result (Unit {0}) Refusal) (new : Traffic) → now ≡ record old { calls = with_more old.calls yielded } → all ≡ yielded ++ rest → rest ≡ call ∷ left
@@ -64,9 +71,7 @@ pub took_more : (old now : Traffic) (all yielded rest left : List (Asking.Call X
 took_more old now all yielded rest left call count result new here split first room many opened unclosed_all reason accepted =
     let at = record old { calls = with_more old.calls yielded } in
     let parted : all ≡ yielded ++ (call ∷ left) = split ∙ ap (λ xs. yielded ++ xs) first in
-    let open_now : has_opened (issued at) ≡ true =
-    ap has_opened (sym (append_assoc old.calls.gone old.calls.waiting yielded)) ∙ list_any-append opens (issued old) yielded
-    ∙ ap (λ b. b || list_any opens yielded) opened in
+    let open_now : has_opened (issued at) ≡ true = still_open old at yielded refl opened in
     let so_far : has_closed (issued old ++ yielded) ≡ false =
     not_first _ (list_any closes (call ∷ left))
     (sym (list_any-append closes (issued old ++ yielded) (call ∷ left)) ∙ ap has_closed
@@ -154,15 +159,17 @@ closed_alike (c ∷ cs) (k ∷ ks) e =
 
 -- ** a recovery that nothing hinders
 
-closed_so : (opened closed full : Bool)
-    → (if not opened then Some Refusals.NotOpen else (if closed then Some Refusals.Closed else (if full then Some Refusals.Full else None))) ≡ None
+closed_so : (opened closed waits full : Bool)
+    → (if not opened then Some Refusals.NotOpen
+    else (if closed then Some Refusals.Closed else (if waits then Some Refusals.Busy else (if full then Some Refusals.Full else None))))
+    ≡ None
     → closed ≡ false
-closed_so true false full e = refl
-closed_so true true full e = absurd (cc)
-closed_so false closed full e = absurd (cc)
+closed_so true false waits full e = refl
+closed_so true true waits full e = absurd (cc)
+closed_so false closed waits full e = absurd (cc)
 
 pub closed_in : (at : Traffic) (n : ℕ) → recovery_bar at n ≡ None → has_closed (issued at) ≡ false
-closed_in at n none = closed_so (has_opened (issued at)) (has_closed (issued at)) (nat_lt 64 (length at.calls.waiting + n)) none
+closed_in at n none = closed_so (has_opened (issued at)) (has_closed (issued at)) (awaits_page at) (nat_lt 64 (length at.calls.waiting + n)) none
 
 -- no call of it closes the line
 pub recovery_unclosed : {L : Type 0} (s : Session L) (r n : ℕ) (ks : List Call) (calls : List (Asking.Call Xid)) (x : Traffic)
@@ -172,6 +179,6 @@ recovery_unclosed s r n ks calls x none are is plain =
     let at = line_at s.lines 0 r in
     list_any-append closes (issued x) calls
     ∙ unclosed _ _ (ap (λ t. has_closed (issued t)) is
-    ∙ closed_so (has_opened (issued at)) (has_closed (issued at)) (nat_lt 64 (length at.calls.waiting + n)) (none_second (line_refusal s 0 r)
+    ∙ closed_so (has_opened (issued at)) (has_closed (issued at)) (awaits_page at) (nat_lt 64 (length at.calls.waiting + n)) (none_second (line_refusal s 0 r)
     (recovery_bar at n) none))
     (closed_alike calls ks are ∙ plain)

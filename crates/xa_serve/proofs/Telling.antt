@@ -1,10 +1,11 @@
 -- What is told of a line, in histories: calls that are issued, and lines that are lost.
-use Rattle.std.proofs.Common.{◌≡◌, ◌≢◌, ℕ, Bool, true, false, List, [], ◌∷◌, ◌++◌, map, inl, inr, Option, Some, None, refl, sym, ap, ◌∙◌, subst, append_assoc, length}
+use Rattle.std.proofs.Common.{◌≡◌, ◌≢◌, ◌+◌, arith, ℕ, suc, Bool, true, false, List, [], ◌∷◌, ◌++◌, map, inl, inr, Option, Some, None, refl, sym, ap, ◌∙◌, subst, append_assoc, length}
 use Rattle.std.specs.Prelude.{◌&&◌, if◌then◌else◌, nat_eq, nat_le, nat_lt, slice_get}
 use Rattle.std.specs.Option.{option_and_then, option_map}
 use Rattle.std.proofs.lemmas.Bool.{ne_eqb}
 use Rattle.std.proofs.lemmas.Bool.Decides.{eqb_tells}
-use Rattle.std.proofs.lemmas.List.{append-nil, map-append}
+use Rattle.std.proofs.lemmas.List.{append-nil, length-map, map-append}
+use Rattle.std.proofs.lemmas.Option.{slice_get-map}
 use Rattle.xa_base.proofs.Options.{some_is}
 use Rattle.xa_base.specs.Answer.{map_answer}
 use Rattle.xa_base.specs.Call.{map_call}
@@ -34,6 +35,7 @@ use Rattle.xa_model.specs.Trace.{Answer as KnownAnswer, Call, Happening, Happeni
 use Rattle.xa_model.proofs.Keys.{line_eq-refl}
 use Rattle.xa_model.proofs.Replies.Guards.{bar_of, issue_rule, issue_why}
 use Rattle.xa_model.proofs.Replies.Replies.{allowed_right}
+use Rattle.xa_standings.specs.Agreement.{call_at}
 use Rattle.xa_tm.specs.Book.{Doubt.NoDoubt, after, book_after, doubt_of_happening}
 use Rattle.xa_tm.specs.Calls.{book_in}
 use Rattle.xa_tm.specs.News.{Asked}
@@ -41,7 +43,7 @@ use Rattle.xa_tm.specs.Refusing.{resolved_in, resolved_open_in}
 use Rattle.xa_tm.proofs.History.Recovery.{resolved_is, resolved_open_is}
 use Rattle.xa_serve.specs.Following.{AreRight, BookStands, LeadsTo, LeadsByAnswer, LeadsByLoss, StandsIn}
 use Rattle.xa_serve.specs.Hearing.{heard_first, with_answer}
-use Rattle.xa_serve.specs.Session.{LetsWait, has_line, known_waiting, line_refusal, recovery_bar, recovery_refusal, with_more}
+use Rattle.xa_serve.specs.Session.{LetsWait, has_line, known_at, known_waiting, line_refusal, recovery_bar, recovery_refusal, with_more}
 use Rattle.xa_serve.specs.declared.session.Session.{Session}
 use Rattle.xa_serve.proofs.Books.{book_goes, call_allowed, resolves_alike, resolves_open_alike, up_alike}
 use Rattle.xa_serve.proofs.Following.{line_stays}
@@ -95,6 +97,28 @@ first_waits s tr t r stands has there =
     let at = line_at s.lines t r in
     known_first known_call (slice_get at.calls.waiting 0) _ (next_call_waits tr (line t r) at (stands.lines t r has))
     ∙ ap (λ b. option_and_then known_call (if b then slice_get at.calls.waiting 0 else None)) (sym there)
+
+-- so many items further on, behind those that are gone
+get_behind : {A : Type 0} (xs ys : List A) (n : ℕ) → slice_get (xs ++ ys) (length xs + n) ≡ slice_get ys n
+get_behind [] ys n = ap (slice_get ys) (let same : 0 + n ≡ n = omega arith in same)
+get_behind (x ∷ xs) ys n =
+    ap (slice_get (x ∷ (xs ++ ys))) (let same : suc (length xs) + n ≡ suc (length xs + n) = omega arith in same) ∙ get_behind xs ys n
+
+-- and so does each call behind it
+pub call_waits : {L : Type 0} (s : Session L) (tr : Trace) (t r n : ℕ) → StandsIn tr s → HasLine s.lines t r → has_line s.lines t r ≡ true
+    → call_at tr (line t r) n ≡ known_at s.lines t r n
+call_waits s tr t r n stands has there =
+    let l = line t r in
+    let at = line_at s.lines t r in
+    let here = stands.lines t r has in
+    let gone : length (facts.taken tr l) ≡ length (taken at) =
+    sym (same_length known_answered (answered at) (facts.taken tr l) here.all_answered) ∙ sym (ap length here.each_answered ∙ length-map (answered at) (λ p. p.0)) in
+    let same : option_map known_call (slice_get at.calls.waiting n) ≡ option_map Some (call_at tr l n) =
+    ap (option_map known_call) (sym (get_behind (taken at) at.calls.waiting n)) ∙ sym (slice_get-map known_call (issued at) (length (taken at) + n))
+    ∙ ap (λ m. slice_get (map known_call (issued at)) (m + n)) (sym gone) ∙ ap (λ zs. slice_get zs (length (facts.taken tr l) + n)) here.all_issued
+    ∙ slice_get-map Some (facts.issued tr l) (length (facts.taken tr l) + n) in
+    known_first known_call (slice_get at.calls.waiting n) (call_at tr l n) same
+    ∙ ap (λ b. option_and_then known_call (if b then slice_get at.calls.waiting n else None)) (sym there)
 
 -- a session stands in a history but for one line
 record StandsBeside {L : Type 0} (tr : Trace) (t r : ℕ) (s : Session L) : Type 0 where

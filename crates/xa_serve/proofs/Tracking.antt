@@ -8,17 +8,17 @@ use Rattle.xa_model.specs.Protocol.{IsRun}
 use Rattle.xa_model.specs.Trace.{Answer, Branch, Call, Happening, Line, Origin, Trace, Trace.Then, line}
 use Rattle.xa_standings.proofs.Agreeing.{history_begins}
 use Rattle.xa_standings.proofs.Following.{by_did, still_followed}
-use Rattle.xa_standings.specs.Agreement.{WaitsFirst}
+use Rattle.xa_standings.specs.Agreement.{WaitsAt}
 use Rattle.xa_standings.specs.Monitor.{AreStatesBy, Monitors, SaysTheSame, states_of}
 use Rattle.xa_standings.specs.declared.states.States.{States}
 use Rattle.xa_standings.specs.Seen.{HasAnswer, IsHistory, IsHistory.Does, IsHistory.Hears, IsHistory.Loses, IsHistory.LosesAnswer, IsHistory.Starts, IsManagers, KeepsRules, Seen, Seen.Answered, Seen.Did, Seen.Lost, Seen.Start}
 use Rattle.xa_tm.specs.Begins.{BeginsWith}
 use Rattle.xa_serve.specs.Following.{AreRight, BookStands, FollowsAll, FollowsAnswer, FollowsLoss, StandsAtStart, StandsIn, StaysAs, then_all}
-use Rattle.xa_serve.specs.Session.{has_line, known_waiting}
+use Rattle.xa_serve.specs.Session.{has_line, known_at}
 use Rattle.xa_serve.specs.Tracking.{KeepsTrack, Tracks, did_all}
 use Rattle.xa_serve.specs.declared.session.Session.{Session}
 use Rattle.xa_serve.proofs.Alone.{alone_back, alone_stands}
-use Rattle.xa_serve.proofs.Telling.{first_waits}
+use Rattle.xa_serve.proofs.Telling.{call_waits}
 
 -- ** a start
 
@@ -118,14 +118,14 @@ module _ {L : Type 0} (o : Origin) (seen : Seen) (old new : Session L) (keeps : 
     still_followed o seen (states_of old.monitor) (states_of new.monitor) same monitors,
   )
 
--- ** the calls that wait first
+-- ** the calls that wait
 
 lt_so : (m n : ℕ) → m < n → nat_lt m n ≡ true
 lt_so m n h = grind (arith, nat_tests)
 
-pub first_tracked : {L : Type 0} (o : Origin) (seen : Seen) (s : Session L) → KeepsTrack o seen s → (t r : ℕ) → t < o.threads → r < o.rms
-    → WaitsFirst o seen (line t r) (known_waiting s.lines t r)
-first_tracked o seen s keeps t r lt lr tr history run =
+pub calls_tracked : {L : Type 0} (o : Origin) (seen : Seen) (s : Session L) → KeepsTrack o seen s → (t r n : ℕ) → t < o.threads → r < o.rms
+    → WaitsAt o seen (line t r) n (known_at s.lines t r n)
+calls_tracked o seen s keeps t r n lt lr tr history run =
     let stands = keeps.1 tr history run in
     let begins = (history_begins o seen tr history).1 in
     let threads : s.lines.threads ≡ o.threads = stands.threads ∙ ap (λ (p : Origin). p.threads) begins in
@@ -133,7 +133,7 @@ first_tracked o seen s keeps t r lt lr tr history run =
     let of_threads : t < s.lines.threads = subst (λ n. t < n) (sym threads) lt in
     let of_rms : r < s.lines.rms = subst (λ n. r < n) (sym rms) lr in
     let there : has_line s.lines t r ≡ true = λ i. lt_so t s.lines.threads of_threads i && lt_so r s.lines.rms of_rms i in
-    first_waits s tr t r stands (of_threads, of_rms) there
+    call_waits s tr t r n stands (of_threads, of_rms) there
 
 -- it stands wherever it stood, where it stays as it was
 stays_there : {L : Type 0} (old new : Session L) → StaysAs old new → (tr : Trace) → StandsIn tr old → StandsIn tr new

@@ -1,5 +1,5 @@
 -- What a session stands at, and what it refuses.
-use Rattle.std.specs.Prelude.{ℕ, ◌≡◌, ◌≤◌, ◌-◌, ◌+◌, ◌++◌, ◌&&◌, ◌||◌, Bool, not, nat_le, nat_lt, if◌then◌else◌, List, [], length, slice_get, Option, Some, None, Result, Ok, Err}
+use Rattle.std.specs.Prelude.{ℕ, ◌≡◌, ◌≤◌, ◌-◌, ◌+◌, ◌++◌, ◌&&◌, ◌||◌, Bool, true, false, not, nat_le, nat_lt, if◌then◌else◌, List, [], length, slice_get, Option, Some, None, Result, Ok, Err}
 use Rattle.std.specs.Option.{option_and_then, option_map, option_or}
 use Rattle.xa_base.specs.Answer.{map_answer}
 use Rattle.xa_base.specs.Call.{map_call}
@@ -8,8 +8,9 @@ use Rattle.xa_base.specs.Xid.{Xid}
 use Rattle.xa_base.specs.declared.answer.Answer.{Answer}
 use Rattle.xa_base.specs.declared.branch.Gtrid.{Gtrid}
 use Rattle.xa_base.specs.declared.call.Call.{Call}
+use Rattle.xa_base.specs.declared.call.Call.TheVariants as Calls
 use Rattle.xa_base.specs.declared.refusal.Refusal.{Refusal}
-use Rattle.xa_base.specs.declared.refusal.Refusal.TheVariants.{Closed, Full, Limit, LogFault, ManagerDown, NotOpen}
+use Rattle.xa_base.specs.declared.refusal.Refusal.TheVariants.{Busy, Closed, Full, Limit, LogFault, ManagerDown, NotOpen}
 use Rattle.xa_base.specs.declared.step.Outcome.{Outcome}
 use Rattle.xa_base.specs.declared.step.Step.TheVariants as Steps
 use Rattle.xa_line.specs.Grid.{Grid, HasLine, line_at, new_grid, with_line}
@@ -99,6 +100,10 @@ first_waiting g t r = if has_line g t r then slice_get (line_at g t r).calls.wai
 abbrev pub known_waiting : Grid → (thread rm : ℕ) → Option KnownCall
 known_waiting g t r = option_and_then known (first_waiting g t r)
 
+-- the call that waits on the line behind so many others, as a history knows it
+abbrev pub known_at : Grid → (thread rm : ℕ) → ℕ → Option KnownCall
+known_at g t r n = option_and_then known (if has_line g t r then slice_get (line_at g t r).calls.waiting n else None)
+
 -- why it refuses whatever is told of a line, the first reason that applies
 abbrev pub line_refusal : {L : Type 0} → Session L → (thread rm : ℕ) → Option Refusal
 line_refusal s t r =
@@ -112,12 +117,22 @@ issue_refusal s t r call =
     (option_or (refusal_in (book_in s.manager) (Steps.Issue t r (map_call name_of call)))
     (if is_full (line_at s.lines t r) then Some Full else None)))
 
+-- the call is an xa_recover
+abbrev pub is_scan : Option (Call Xid) → Bool
+is_scan (Some (Calls.Recover count start_scan end_scan)) = true
+is_scan call = false
+
+-- the call that waits first is an xa_recover: its page wasn't told yet, or was refused
+abbrev pub awaits_page : Traffic → Bool
+awaits_page t = is_scan (slice_get t.calls.waiting 0)
+
 -- why the line of the first thread takes no recovery of so many calls
 abbrev pub recovery_bar : Traffic → (calls : ℕ) → Option Refusal
 recovery_bar t n =
     if not (has_opened (issued t)) then Some NotOpen
     else (if has_closed (issued t) then Some Closed
-    else (if nat_lt places (length t.calls.waiting + n) then Some Full else None))
+    else (if awaits_page t then Some Busy
+    else (if nat_lt places (length t.calls.waiting + n) then Some Full else None)))
 
 -- why it refuses a recovery of so many calls at a resource manager
 abbrev pub recovery_refusal : {L : Type 0} → Session L → (rm calls : ℕ) → Option Refusal

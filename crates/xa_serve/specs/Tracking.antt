@@ -1,26 +1,32 @@
 -- How a session tracks what is seen.
-use Rattle.std.specs.Prelude.{ℕ, ◌≡◌, ◌<◌, All, true, List, [], ◌∷◌, Option, Some, None}
+use Rattle.std.specs.Prelude.{ℕ, ◌≡◌, ◌⊎◌, ◌<◌, All, true, List, [], ◌∷◌, Option, Some, None}
+use Rattle.xa_base.specs.Answer.{map_answer}
+use Rattle.xa_base.specs.Xid.{Xid}
+use Rattle.xa_base.specs.declared.answer.Answer.{Answer as Given}
 use Rattle.xa_base.specs.declared.branch.Gtrid.{Gtrid}
 use Rattle.xa_base.specs.declared.step.Outcome.{Outcome}
 use Rattle.xa_base.specs.declared.step.Step.TheVariants as Steps
 use Rattle.xa_log.specs.Content.{Content}
+use Rattle.xa_model.specs.Facts.{record_of}
 use Rattle.xa_model.specs.Facts.Distinct.{ApartRows}
 use Rattle.xa_model.specs.Protocol.{IsRun}
-use Rattle.xa_model.specs.Trace.{Answer, Call, Fault, Fault.InDecide, Fault.InDone, Happening, Happening.Failed, Line, Origin, Trace, line}
-use Rattle.xa_standings.specs.Agreement.{WaitsFirst}
+use Rattle.xa_model.specs.Replies.History.{name_of}
+use Rattle.xa_model.specs.Trace.{Answer, Call, Fault, Fault.InDecide, Fault.InDone, Fault.InHear, Happening, Happening.Failed, Line, Origin, Trace, line}
+use Rattle.xa_standings.specs.Agreement.{WaitsAt}
 use Rattle.xa_standings.specs.Explained.{IsExplained, IsOldLog}
 use Rattle.xa_standings.specs.Monitor.{Monitors}
 use Rattle.xa_standings.specs.Seen.{HasAnswer, IsHistory, IsManagers, KeepsRules, Seen, Seen.Answered, Seen.Did, Seen.Lost, Seen.Start}
 use Rattle.xa_standings.specs.Sessions.{Finds, Log.LeftBy, MayFail}
 use Rattle.xa_tm.specs.Begins.{BeginsWith}
-use Rattle.xa_tm.specs.Book.{Doubt, Doubt.Adds, Doubt.Drops, book_after, rows_for}
+use Rattle.xa_tm.specs.Book.{Doubt, Doubt.Adds, Doubt.Drops, book_after, doubt_of, rows_for}
 use Rattle.xa_tm.specs.BookAndLog.{IsTied}
 use Rattle.xa_tm.specs.Calls.{book_in, written_by}
 use Rattle.xa_tm.specs.InTurn as turns
 use Rattle.xa_tm.specs.Refusing.{refusal_in}
 use Rattle.xa_tm.specs.Starting.{HasContent}
 use Rattle.xa_serve.specs.Following.{FollowsAll, FollowsAnswer, FollowsLoss, StandsAtStart, StandsIn, StaysAs}
-use Rattle.xa_serve.specs.Session.{known_waiting}
+use Rattle.xa_serve.specs.Answering.{IsFirst}
+use Rattle.xa_serve.specs.Session.{known_at, unfit}
 use Rattle.xa_serve.specs.declared.session.Session.{Session}
 
 -- the session stands in each history of what is seen that is a run, whatever the resource managers did by themselves
@@ -69,11 +75,11 @@ ReleasesAreTracked L =
     (o : Origin) (seen : Seen) (old new : Session L) → KeepsTrack o seen old → ((tr : Trace) → StandsIn tr old → StandsIn tr new)
     → new.monitor ≡ old.monitor → KeepsTrack o seen new
 
--- On each of its lines a session that keeps track has that call wait first which does by each right history of what is seen, or none.
-abbrev pub FirstCallsAreTracked : Type 0 → Type 0
-FirstCallsAreTracked L =
-    (o : Origin) (seen : Seen) (s : Session L) (t r : ℕ) → KeepsTrack o seen s → t < o.threads → r < o.rms
-    → WaitsFirst o seen (line t r) (known_waiting s.lines t r)
+-- On each of its lines a session that keeps track has those calls wait, in order, that do by each right history of what is seen.
+abbrev pub WaitingCallsAreTracked : Type 0 → Type 0
+WaitingCallsAreTracked L =
+    (o : Origin) (seen : Seen) (s : Session L) (t r n : ℕ) → KeepsTrack o seen s → t < o.threads → r < o.rms
+    → WaitsAt o seen (line t r) n (known_at s.lines t r n)
 
 -- a start over a log: it has the rows and records of that, in an incarnation that was raised since, once or more
 pub record IsRaisedFrom (c : Content) (next : Origin) : Type 0 where
@@ -116,6 +122,19 @@ abbrev pub FailedDonesAreFound : Type 0 → Type 0
 FailedDonesAreFound L =
     (o : Origin) (seen : Seen) (s : Session L) (gs : List Gtrid) → KeepsTrack o seen s → turns.done_refusal (book_in s.manager) gs ≡ None
     → IsFailedStep o seen s (Drops gs) (InDone gs)
+
+-- An answer was told to the call that waits first on a line, which may be answered so, and its record couldn't be written: the log failed,
+-- or the program was killed in it. It is all or none. What a start finds is what the session left behind the answer, or before it.
+pub record IsFailedAnswer {L : Type 0} (o : Origin) (seen : Seen) (s : Session L) (l : Line) (c : Call) (a : Answer) : Type 0 where
+  pub keeps : KeepsRules o (Answered seen l c a)
+  pub finds :
+      (found : Content) (next : Origin) → IsTied true (book_after (book_in s.manager) (doubt_of (record_of c a)) (Failed (InHear l))) (Some found)
+      → IsRaisedFrom found next → Finds (LeftBy o (Answered seen l c a) None) next ⊎ Finds (LeftBy o seen None) next
+
+abbrev pub FailedAnswersAreFound : Type 0 → Type 0
+FailedAnswersAreFound L =
+    (o : Origin) (seen : Seen) (s : Session L) (t r : ℕ) (answer : Given Xid) (c : Call) → KeepsTrack o seen s → unfit s t r answer ≡ None
+    → IsFirst s t r c → IsFailedAnswer o seen s (line t r) c (map_answer name_of answer)
 
 -- What a session keeps track of, from an old log, has a right history.
 abbrev pub SessionsAreExplained : Type 0 → Type 0

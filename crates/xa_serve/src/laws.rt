@@ -4,10 +4,11 @@
 ghost use Rattle.xa_serve.specs.Headroom.{HeadroomIsSound, HeadroomIsUsedUpByOne};
 ghost use Rattle.xa_serve.specs.Headroom.{ReleasesKeepHeadroom, StartsHaveHeadroom};
 ghost use Rattle.xa_serve.specs.Logging.{LaterSessionsAreNewer, LogsHaveAllOrNone, RowsAreHandedOn};
-ghost use Rattle.xa_serve.specs.Tracking.{AnswersAreTracked, FirstCallsAreTracked, LossesAreTracked};
-ghost use Rattle.xa_serve.specs.Tracking.{RefusalsAreTracked, ReleasesAreTracked};
-ghost use Rattle.xa_serve.specs.Tracking.{FailedDecisionsAreFound, FailedDonesAreFound, FailedSettlementsAreFound};
+ghost use Rattle.xa_serve.specs.Tracking.{AnswersAreTracked, LossesAreTracked, RefusalsAreTracked, ReleasesAreTracked};
+ghost use Rattle.xa_serve.specs.Tracking.{FailedAnswersAreFound, FailedDecisionsAreFound};
+ghost use Rattle.xa_serve.specs.Tracking.{FailedDonesAreFound, FailedSettlementsAreFound};
 ghost use Rattle.xa_serve.specs.Tracking.{SessionsAreExplained, StartsAreTracked, StartsFindTheLog, StepsAreTracked};
+ghost use Rattle.xa_serve.specs.Tracking.{WaitingCallsAreTracked};
 
 use xa_log::DecisionLog;
 
@@ -60,10 +61,10 @@ pub fn releases_are_tracked<L: DecisionLog + Drop>()
     ensures { ReleasesAreTracked L }
 {}
 
-/// The call that waits first on a line of a session that tracks what is seen does so by each right history of that. So it
-/// is known of which call it isn't known whether it was done.
-pub fn first_calls_are_tracked<L: DecisionLog + Drop>()
-    ensures { FirstCallsAreTracked L }
+/// The calls that wait on a line of a session that tracks what is seen do so, in that order, by each right history of
+/// that. So it is known of which calls it isn't known whether they were done.
+pub fn waiting_calls_are_tracked<L: DecisionLog + Drop>()
+    ensures { WaitingCallsAreTracked L }
 {}
 
 /// The next start finds what a session left: its log has what the session's book says, which is what each right history
@@ -71,12 +72,15 @@ pub fn first_calls_are_tracked<L: DecisionLog + Drop>()
 ///
 /// - `left`: of a session whose log didn't fail;
 /// - `decision`, `settlement`, `done`: of one whose log failed as rows were to be written or taken away, or that was killed
-///   in that. The change is in doubt then, and the step was right.
+///   in that. The change is in doubt then, and the step was right;
+/// - `answer`: of one whose log failed as a heuristic end was to be recorded. The next start finds what is left behind the
+///   answer, or what was left before it.
 pub fn starts_find_the_log<L: DecisionLog + Drop>()
     ensures left { StartsFindTheLog L }
     ensures decision { FailedDecisionsAreFound L }
     ensures settlement { FailedSettlementsAreFound L }
     ensures done { FailedDonesAreFound L }
+    ensures answer { FailedAnswersAreFound L }
 {}
 
 /// What a session tracks has a right history, whatever the resource managers are: of them it is only known what they

@@ -11,11 +11,13 @@
 mod hearing;
 mod laws;
 mod session;
+mod session_line;
+mod session_lines;
 
 pub use laws::{
-    answers_are_tracked, books_have_headroom, first_calls_are_tracked, later_sessions_go_on,
-    losses_are_tracked, refusals_are_tracked, releases_are_tracked, sessions_are_explained,
-    starts_are_tracked, starts_find_the_log, steps_are_tracked,
+    answers_are_tracked, books_have_headroom, later_sessions_go_on, losses_are_tracked,
+    refusals_are_tracked, releases_are_tracked, sessions_are_explained, starts_are_tracked,
+    starts_find_the_log, steps_are_tracked, waiting_calls_are_tracked,
 };
 pub use session::Session;
 pub use session::answers::Unfit;

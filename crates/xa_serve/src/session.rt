@@ -21,9 +21,9 @@ mod recoveries;
 mod releases;
 mod several;
 
+use crate::session_lines::SessionLines;
 use std::alloc::Global;
 use xa_base::Refusal;
-use xa_line::Lines;
 use xa_log::{DecisionLog, LogRows};
 use xa_standings::Monitor;
 use xa_tm::{Manager, StartFault};
@@ -38,7 +38,7 @@ const HAPPENING_LIMIT: u64 = 4_611_686_018_427_387_904;
 #[derive(Drop)]
 pub struct Session<L: DecisionLog + Drop> {
     pub(crate) manager: Manager<L>,
-    pub(crate) lines: Lines,
+    pub(crate) lines: SessionLines,
     /// The states of the branches, by all that was answered.
     pub(crate) monitor: Monitor,
     /// How many steps have happened since the start, a failure of the log among them.
@@ -79,7 +79,7 @@ impl<L: DecisionLog + Drop> Session<L> {
         let Ok(rows) = log.rows() else {
             return Err(StartFault::Log);
         };
-        let Ok(lines) = Lines::new(alloc, threads, rms) else {
+        let Ok(lines) = SessionLines::new(alloc, threads, rms) else {
             return Err(StartFault::Memory);
         };
         match Manager::new(alloc, threads, rms, log) {

@@ -1,31 +1,34 @@
 -- Databases that obey the branch state table agree: wherever their branches may stand, some right history leaves them there.
-use Rattle.std.proofs.Common.{◌≡◌, ◌≤◌, ◌⊎◌, inl, inr, ℕ, List, [], ◌∷◌, ◌++◌, length, Bool, true, false, ◌||◌, refl, sym, ap, ◌∙◌, subst}
+use Rattle.std.proofs.Common.{◌≡◌, ◌≤◌, ◌+◌, ℕ, suc, List, [], ◌∷◌, ◌++◌, length, length-append, Bool, true, false, ◌||◌, refl, sym, ap, ◌∙◌, subst, arith}
 use Rattle.std.proofs.lemmas.List.{append-nil}
 use Rattle.std.specs.Prelude.{if◌then◌else◌, Option, Some, None, slice_get}
-use Rattle.xa_base.proofs.BranchKeys.{branch_eq-true, branch_eq-refl}
+use Rattle.xa_base.proofs.BranchKeys.{branch_eq-refl, branch_eq-true}
 use Rattle.xa_base.specs.Branch.{branch_eq}
 use Rattle.xa_base.specs.HeldBranch.{HeldBranch}
 use Rattle.xa_base.specs.StateTable.{Kind, asks_of, broken, completed}
 use Rattle.xa_base.specs.Xid.{Xid}
 use Rattle.xa_base.specs.declared.answer.Answer.TheVariants.{Ret}
+use Rattle.xa_base.specs.declared.call.Call.TheVariants as Calls
+use Rattle.xa_base.specs.declared.code.Code.TheVariants as Codes
 use Rattle.xa_base.specs.declared.state.Standing.{Standing}
 use Rattle.xa_base.specs.declared.state.Standing.TheVariants.{Completed, Prepared, Unstarted}
 use Rattle.xa_model.proofs.AgreementLemmas.Alike.{are_alike, own_alike}
-use Rattle.xa_model.specs.Facts.{held_of, issued, next_call, origin, standing, taken, up}
+use Rattle.xa_model.specs.Facts.{heard, held_of, issued, next_call, origin, standing, taken, up}
+use Rattle.xa_model.specs.Facts.Standings.{moved_by}
 use Rattle.xa_model.specs.Promises.Agreement.{IsUndone}
 use Rattle.xa_model.specs.Promises.Processes.{AllAreNamed, Resumes, resumed}
-use Rattle.xa_model.specs.Protocol.{AllRight, IsRun, OldOrigin}
-use Rattle.xa_model.specs.Trace.{Answer, Branch, Call, Code, Happening, Happening.Begun, Happening.Claimed, Happening.CompletedAlone, Happening.Decided, Happening.Done, Happening.Issued, Happening.Nothing, Happening.Resolved, Happening.ResolvedOpen, Happening.Took, How, Line, Origin, Trace, Trace.Then, line_eq, line_of}
+use Rattle.xa_model.specs.Protocol.{AllRight, IsRun, OldOrigin, SoundAnswer}
+use Rattle.xa_model.specs.Trace.{Answer, Branch, Call, Happening, Happening.Begun, Happening.Claimed, Happening.CompletedAlone, Happening.Decided, Happening.Done, Happening.Heard, Happening.Issued, Happening.Nothing, Happening.Resolved, Happening.ResolvedOpen, Happening.Took, How, Line, Origin, Trace, Trace.Then, line_eq, line_of}
 use Rattle.xa_standings.specs.Across.{IsKnownAsLeft, behind}
-use Rattle.xa_standings.specs.Agreement.{HaveCome, MayAllStand, MayAllStand.AsTold, MayAllStand.CutOff, MayAllStand.EndedAlone, MayAllStand.UnderWay, IsLineOf, OwnStandAlike, StandAlike, StandSo, WaitsFirst, is_one_of}
+use Rattle.xa_standings.specs.Agreement.{HaveCome, MayAllStand, MayAllStand.AsTold, MayAllStand.CutOff, MayAllStand.EndedAlone, MayAllStand.UnderWay, IsLineOf, OwnStandAlike, StandAlike, StandSo, WaitsAt, WasDone, call_at, is_one_of, times}
 use Rattle.xa_standings.specs.Explained.{IsOldLog}
 use Rattle.xa_standings.specs.Named.{IsNamedCall}
-use Rattle.xa_standings.specs.Seen.{Alone.Ends, Alone.NoMore, IsHistory, IsHistory.Does, IsHistory.Hears, IsHistory.Loses, IsHistory.LosesAnswer, IsHistory.Starts, IsManagers, KeepsRules, Seen, break_of}
-use Rattle.xa_standings.specs.Standings.{Comes, Explains, ExplainsIf, MayBeDone, MayStand, Takes}
+use Rattle.xa_standings.specs.Seen.{Alone, Alone.Ends, Alone.NoMore, IsHistory, IsHistory.Does, IsHistory.Hears, IsHistory.Loses, IsHistory.LosesAnswer, IsHistory.Starts, IsManagers, KeepsRules, Seen, break_of}
+use Rattle.xa_standings.specs.Standings.{Comes, ExplainsIf, MayStand, Takes}
 use Rattle.xa_standings.proofs.Books.{SameBooks, same_alone, same_books, same_step}
 use Rattle.xa_standings.proofs.Choices.{behind_right, broken_named, from_some, from_start, same_there, taken_named}
 use Rattle.xa_standings.proofs.Names.{AreNamed}
-use Rattle.xa_standings.proofs.Taken.{TakenThere, alone_runs, first_still, same_lines, taken_there}
+use Rattle.xa_standings.proofs.Taken.{IsKept, IsOtherThan, TakenThere, alone_runs, retries_kept, same_lines, taken_there}
 
 -- ** histories
 
@@ -59,24 +62,97 @@ history_up o _ _ keeps (Hears seen tr now l c a h alone) = (same_lines tr now al
 history_up o _ _ keeps (Loses seen tr l c h) = history_up o seen tr keeps.0 h
 history_up o _ _ keeps (LosesAnswer seen tr now l c a h alone) = (same_lines tr now alone).is_up ∙ history_up o seen tr keeps.0 h
 
--- ** other lines
+-- each answer was heard as it came
+did_heard : (tr : Trace) (e : Happening) (l : Line) → IsManagers e → heard tr l ≡ taken tr l → heard (Then tr e) l ≡ taken (Then tr e) l
+did_heard tr (Begun g) l m same = ap (λ xs. xs ++ []) same
+did_heard tr (Issued k c) l m same = ap (λ xs. xs ++ []) same
+did_heard tr (Resolved r) l m same = ap (λ xs. xs ++ []) same
+did_heard tr (ResolvedOpen r) l m same = ap (λ xs. xs ++ []) same
+did_heard tr (Claimed g) l m same = ap (λ xs. xs ++ []) same
+did_heard tr (Decided g outcome) l m same = ap (λ xs. xs ++ []) same
+did_heard tr (Done g) l m same = ap (λ xs. xs ++ []) same
+did_heard tr Nothing l m same = ap (λ xs. xs ++ []) same
+did_heard tr _ l m same = absurd m
+
+alone_heard : (tr now : Trace) (l : Line) → Alone tr now → heard tr l ≡ taken tr l → heard now l ≡ taken now l
+alone_heard tr now l alone same = let s = same_lines tr now alone in s.heard_are l ∙ (same ∙ sym (s.taken_are l))
+
+answer_lost : (now : Trace) (k l : Line) (c : Call) (a : Answer) (t : Bool) → heard now l ≡ taken now l
+    → (if t then [] else (heard now l ++ []) ++ []) ≡ (if t then [] else (taken now l ++ (if t then (c, a) ∷ [] else [])) ++ [])
+answer_lost now k l c a true same = refl
+answer_lost now k l c a false same = ap (λ xs. (xs ++ []) ++ []) same
+
+pub history_heard : (o : Origin) (seen : Seen) (tr : Trace) (l : Line) → KeepsRules o seen → IsHistory o seen tr → heard tr l ≡ taken tr l
+history_heard o _ _ l keeps (Starts held) = refl
+history_heard o _ _ l keeps (Does seen tr e h) = did_heard tr e l keeps.1 (history_heard o seen tr l keeps.0 h)
+history_heard o _ _ l keeps (Hears seen tr now k c a h alone) =
+    let more = if line_eq k l then (c, a) ∷ [] else [] in
+    ap (λ xs. xs ++ more) (append-nil (heard now l) ∙ alone_heard tr now l alone (history_heard o seen tr l keeps.0 h))
+    ∙ sym (append-nil (taken now l ++ more))
+history_heard o _ _ l keeps (Loses seen tr k c h) = ap (λ xs. if line_eq k l then [] else xs ++ []) (history_heard o seen tr l keeps.0 h)
+history_heard o _ _ l keeps (LosesAnswer seen tr now k c a h alone) =
+    answer_lost now k l c a (line_eq k l) (alone_heard tr now l alone (history_heard o seen tr l keeps.0 h))
+
+-- ** calls that wait
 
 neither : (a b : Bool) → (a || b) ≡ false → (a ≡ false) × (b ≡ false)
 neither false b e = (refl, e)
 neither true b e = absurd (cc)
 
 -- what waits on a line waits on, where a call is taken on another
-taken_other : (tr : Trace) (l m : Line) (c : Call) (a : Answer) → line_eq l m ≡ false → next_call (Then tr (Took l c a)) m ≡ next_call tr m
-taken_other tr l m c a n =
-    ap (λ xs. slice_get xs (length (taken tr m ++ (if line_eq l m then (c, a) ∷ [] else [])))) (append-nil (issued tr m))
-    ∙ ap (λ xs. slice_get (issued tr m) (length xs)) (ap (λ t. taken tr m ++ (if t then (c, a) ∷ [] else [])) n ∙ append-nil (taken tr m))
+taken_other : (tr : Trace) (l m : Line) (c : Call) (a : Answer) (n : ℕ) → line_eq l m ≡ false
+    → call_at (Then tr (Took l c a)) m n ≡ call_at tr m n
+taken_other tr l m c a n apart =
+    ap (λ xs. slice_get xs (length (taken tr m ++ (if line_eq l m then (c, a) ∷ [] else [])) + n)) (append-nil (issued tr m))
+    ∙ ap (λ xs. slice_get (issued tr m) (length xs + n)) (ap (λ t. taken tr m ++ (if t then (c, a) ∷ [] else [])) apart ∙ append-nil (taken tr m))
 
--- and where another breaks
-broken_other : (tr : Trace) (l m : Line) → line_eq l m ≡ false → next_call (Then tr (break_of l)) m ≡ next_call tr m
-broken_other tr l m n =
-    ap (λ t. slice_get (if t then [] else issued tr m ++ []) (length (if t then [] else taken tr m ++ []))) n
-    ∙ (ap (λ xs. slice_get xs (length (taken tr m ++ []))) (append-nil (issued tr m))
-    ∙ ap (λ xs. slice_get (issued tr m) (length xs)) (append-nil (taken tr m)))
+one_longer : {X : Type 0} (xs : List X) (x : X) (n : ℕ) → length (xs ++ x ∷ []) + n ≡ length xs + suc n
+one_longer xs x n = omega (arith, length-append xs (x ∷ []))
+
+-- and moves up by one, where one is taken on this
+pub taken_here : (tr : Trace) (l m : Line) (c : Call) (a : Answer) (n : ℕ) → line_eq l m ≡ true
+    → call_at (Then tr (Took l c a)) m n ≡ call_at tr m (suc n)
+taken_here tr l m c a n same =
+    ap (λ xs. slice_get xs (length (taken tr m ++ (if line_eq l m then (c, a) ∷ [] else [])) + n)) (append-nil (issued tr m))
+    ∙ ap (slice_get (issued tr m)) (ap (λ t. length (taken tr m ++ (if t then (c, a) ∷ [] else [])) + n) same ∙ one_longer (taken tr m) (c, a) n)
+
+-- so many calls were taken
+abbrev pub one_if : Bool → ℕ → ℕ
+one_if t n = if t then suc n else n
+
+pub taken_calls : (tr : Trace) (l m : Line) (c : Call) (a : Answer) (n : ℕ)
+    → call_at (Then tr (Took l c a)) m n ≡ call_at tr m (one_if (line_eq l m) n)
+taken_calls tr l m c a n = by (line_eq l m) refl
+  where
+    by : (t : Bool) → line_eq l m ≡ t → call_at (Then tr (Took l c a)) m n ≡ call_at tr m (one_if t n)
+    by true e = taken_here tr l m c a n e
+    by false e = taken_other tr l m c a n e
+
+-- that an answer is heard is nothing to it
+pub heard_calls : (tr : Trace) (l m : Line) (c : Call) (a : Answer) (n : ℕ) → call_at (Then tr (Heard l c a)) m n ≡ call_at tr m n
+heard_calls tr l m c a n =
+    ap (λ xs. slice_get xs (length (taken tr m ++ []) + n)) (append-nil (issued tr m))
+    ∙ ap (λ xs. slice_get (issued tr m) (length xs + n)) (append-nil (taken tr m))
+
+-- nor is what resource managers do by themselves
+pub alone_calls : (tr now : Trace) (l : Line) (n : ℕ) → Alone tr now → call_at now l n ≡ call_at tr l n
+alone_calls tr now l n alone =
+    let s = same_lines tr now alone in
+    ap (λ xs. slice_get xs (length (taken now l) + n)) (s.calls l) ∙ ap (λ xs. slice_get (issued tr l) (length xs + n)) (s.taken_are l)
+
+-- nor is another line that breaks
+broken_other : (tr : Trace) (l m : Line) (n : ℕ) → line_eq l m ≡ false → call_at (Then tr (break_of l)) m n ≡ call_at tr m n
+broken_other tr l m n apart =
+    ap (λ t. slice_get (if t then [] else issued tr m ++ []) (length (if t then [] else taken tr m ++ []) + n)) apart
+    ∙ (ap (λ xs. slice_get xs (length (taken tr m ++ []) + n)) (append-nil (issued tr m))
+    ∙ ap (λ xs. slice_get (issued tr m) (length xs + n)) (append-nil (taken tr m)))
+
+none_more : (n : ℕ) → n + 0 ≡ n
+none_more n = omega arith
+
+-- the call that waits first
+pub first_at : (tr : Trace) (l : Line) → next_call tr l ≡ call_at tr l 0
+first_at tr l = ap (slice_get (issued tr l)) (sym (none_more (length (taken tr l))))
 
 -- ** what wasn't told yet
 
@@ -87,89 +163,87 @@ ended_named tr d how named b unfit = let n = named b unfit in (by_test (branch_e
     by_test true s e = ap (λ x. completed x how) e
     by_test false s e = e
 
--- a right history leaves the branches there. On other lines than those that were used, what waits is what waited as all was told
-pub record LeavesThere (o : Origin) (seen : Seen) (Start : Origin → Type 0) (used : List Line) (f : Branch → Standing) : Type 0 where
+-- a right history leaves the branches there. On lines that weren't cut off what waits is what waited as all was told, but for what was done
+pub record LeavesThere (o : Origin) (seen : Seen) (Start : Origin → Type 0) (done cut : List Line) (f : Branch → Standing) : Type 0 where
   pub told : Trace
   pub is_history : IsHistory o seen told
   pub told_runs : IsRun told
   pub now : Trace
   pub runs : IsRun now
   pub start : Start (origin now)
-  pub first : (l : Line) → is_one_of used l ≡ false → next_call now l ≡ next_call told l
+  pub calls : (l : Line) (n : ℕ) → is_one_of cut l ≡ false → call_at now l n ≡ call_at told l (times done l + n)
   pub there : (b : Branch) → standing now b ≡ f b
   pub same : SameBooks now told
-  pub named : AreNamed seen → ((l : Line) (c : Call) → IsLineOf o l → next_call told l ≡ Some c → IsNamedCall c) → AllAreNamed now
+  pub named : AreNamed seen → ((l : Line) (n : ℕ) (c : Call) → IsLineOf o l → call_at told l n ≡ Some c → IsNamedCall c) → AllAreNamed now
 
-module _ (o : Origin) (seen : Seen) (Start : Origin → Type 0) (used : List Line) (from to : Branch → Standing) (r : LeavesThere o seen Start used from) where
-  -- one more line was used, and no branch moved
-  none_moved : (l : Line) → ((b : Branch) → to b ≡ from b) → LeavesThere o seen Start (l ∷ used) to
-  none_moved l same = record {
+-- nothing was done yet
+pub as_told : (tr : Trace) (l : Line) (n : ℕ) → call_at tr l n ≡ call_at tr l (times [] l + n)
+as_told tr l n = ap (call_at tr l) (let same : n ≡ 0 + n = omega arith in same)
+
+module _ (o : Origin) (seen : Seen) (Start : Origin → Type 0) (done cut : List Line) (from to : Branch → Standing)
+    (r : LeavesThere o seen Start done cut from) where
+  -- the call that waits next on a line was done, and so answered
+  was_taken : (l : Line) (c : Call) (a : Answer) (now : Trace) → IsLineOf o l → is_one_of cut l ≡ false → WaitsAt o seen l (times done l) (Some c)
+      → Alone r.now now → SoundAnswer now l c a → ((b : Branch) → standing (Then now (Took l c a)) b ≡ to b)
+      → ((b : Branch) → IsOtherThan c b → IsKept r.now (Then now (Took l c a)) b) → LeavesThere o seen Start (l ∷ done) cut to
+  was_taken l c a now has uncut waits alone sound there kept = record {
     told = r.told;
     is_history = r.is_history;
     told_runs = r.told_runs;
-    now = r.now;
-    runs = r.runs;
-    start = r.start;
-    first = λ m n. r.first m (neither _ _ n).1;
-    there = λ b. r.there b ∙ sym (same b);
-    same = r.same;
-    named = r.named;
-  }
-
-  -- the call that waits first on a line was done
-  was_done : (l : Line) (c : Call) (code : Code) (k : Kind) (d : Branch) → IsLineOf o l → is_one_of used l ≡ false → WaitsFirst o seen l (Some c)
-      → asks_of c ≡ Some (k, d) → Explains (from d) k code (to d) → ((b : Branch) → branch_eq d b ≡ false → to b ≡ from b)
-      → LeavesThere o seen Start (l ∷ used) to
-  was_done l c code k d has new waits asks x others = record {
-    told = r.told;
-    is_history = r.is_history;
-    told_runs = r.told_runs;
-    now = Then t.now (Took l c (Ret code));
-    runs = (alone_runs r.now t.now t.alone r.runs, (first_still r.now t.now l t.alone ∙ (r.first l new ∙ waited), t.sound));
-    start = subst Start (sym (same_lines r.now t.now t.alone).start) r.start;
-    first = λ m n.
-        let apart = neither (line_eq l m) (is_one_of used m) n in
-        taken_other t.now l m c (Ret code) apart.0 ∙ (first_still r.now t.now m t.alone ∙ r.first m apart.1);
-    there = t.there;
-    same = same_step t.now r.told (Took l c (Ret code)) tt (same_alone r.now t.now r.told t.alone r.same);
-    named = λ n first. taken_named r.now (Then t.now (Took l c (Ret code))) c (first l c has waited) t.kept (r.named n first);
+    now = Then now (Took l c a);
+    runs = (alone_runs r.now now alone r.runs, (next, sound));
+    start = subst Start (sym (same_lines r.now now alone).start) r.start;
+    calls = calls_so;
+    there = there;
+    same = same_step now r.told (Took l c a) tt (same_alone r.now now r.told alone r.same);
+    named = λ n each. taken_named r.now (Then now (Took l c a)) c (each l (times done l) c has waited) kept (r.named n each);
   }
     where
-      waited : next_call r.told l ≡ Some c
+      waited : call_at r.told l (times done l) ≡ Some c
       waited = waits r.told r.is_history r.told_runs
 
-      t : TakenThere r.now l c code to
-      t = taken_there r.now l c code k d from to asks r.there x others
+      next : next_call now l ≡ Some c
+      next = first_at now l ∙ (alone_calls r.now now l 0 alone ∙ (r.calls l 0 uncut ∙ (ap (call_at r.told l) (none_more (times done l)) ∙ waited)))
 
-  -- it was done, or it wasn't
-  under_way : (l : Line) (c : Call) → IsLineOf o l → is_one_of used l ≡ false → WaitsFirst o seen l (Some c) → ((b : Branch) → MayBeDone (Some c) b (from b) (to b))
-      → LeavesThere o seen Start (l ∷ used) to
-  under_way l c has new waits done = by_asks (asks_of c) refl done
+      one_more : (t : Bool) (m n : ℕ) → m + one_if t n ≡ one_if t m + n
+      one_more true m n = omega arith
+      one_more false m n = refl
+
+      calls_so : (m : Line) (n : ℕ) → is_one_of cut m ≡ false → call_at (Then now (Took l c a)) m n ≡ call_at r.told m (times (l ∷ done) m + n)
+      calls_so m n apart =
+          taken_calls now l m c a n
+          ∙ (alone_calls r.now now m (one_if (line_eq l m) n) alone
+          ∙ (r.calls m (one_if (line_eq l m) n) apart ∙ ap (call_at r.told m) (one_more (line_eq l m) (times done m) n)))
+
+  -- any call
+  under_way : (l : Line) (c : Call) → IsLineOf o l → is_one_of cut l ≡ false → WaitsAt o seen l (times done l) (Some c) → WasDone c from to
+      → LeavesThere o seen Start (l ∷ done) cut to
+  under_way l c has uncut waits was = by_asks (asks_of c) refl was.1
     where
-      unmoved : (b : Branch) → (to b ≡ from b) ⊎ ((a : Code) × (to b ≡ from b)) → to b ≡ from b
-      unmoved b (inl e) = e
-      unmoved b (inr (a, e)) = e
+      sound : (c : Call) → asks_of c ≡ None → SoundAnswer r.now l c (Ret Codes.Success)
+      sound Calls.OpenRm e = refl
+      sound Calls.CloseRm e = refl
+      sound (Calls.Recover n s e) q = tt
+      sound _ e = absurd (cc)
 
-      others : (k : Kind) (d b : Branch) → branch_eq d b ≡ false → (to b ≡ from b) ⊎ ((a : Code) × Takes (Some (k, d)) a b (from b) (to b)) → to b ≡ from b
-      others k d b n (inl e) = e
-      others k d b n (inr (a, x)) = subst (λ z. ExplainsIf z (from b) k a (to b)) n x
-
-      by_asks : (x : Option (Kind × Branch)) → asks_of c ≡ x → ((b : Branch) → (to b ≡ from b) ⊎ ((a : Code) × Takes x a b (from b) (to b)))
-          → LeavesThere o seen Start (l ∷ used) to
-      by_asks None asks done = none_moved l (λ b. unmoved b (done b))
-      by_asks (Some (k, d)) asks done = by_branch (done d)
+      by_asks : (x : Option (Kind × Branch)) → asks_of c ≡ x → ((b : Branch) → Takes x was.0 b (from b) (to b)) → LeavesThere o seen Start (l ∷ done) cut to
+      by_asks None asks takes =
+          was_taken l c (Ret Codes.Success) r.now has uncut waits NoMore (sound c asks)
+          (λ b. ap (λ x. moved_by x Codes.Success b (standing r.now b)) asks ∙ (r.there b ∙ sym (takes b)))
+          (λ b other. record {
+            stands = ap (λ x. moved_by x Codes.Success b (standing r.now b)) asks;
+            votes = refl;
+            retries_are = retries_kept r.now l c (Ret Codes.Success) b other;
+          })
+      by_asks (Some (k, d)) asks takes = was_taken l c (Ret was.0) t.now has uncut waits t.alone t.sound t.there t.kept
         where
-          all_stay : (e : to d ≡ from d) (b : Branch) (t : Bool) → branch_eq d b ≡ t → to b ≡ from b
-          all_stay e b true q = subst (λ z. to z ≡ from z) (branch_eq-true d b q) e
-          all_stay e b false q = others k d b q (done b)
-
-          by_branch : (to d ≡ from d) ⊎ ((a : Code) × Takes (Some (k, d)) a d (from d) (to d)) → LeavesThere o seen Start (l ∷ used) to
-          by_branch (inl e) = none_moved l (λ b. all_stay e b (branch_eq d b) refl)
-          by_branch (inr (a, x)) =
-              was_done l c a k d has new waits asks (subst (λ z. ExplainsIf z (from d) k a (to d)) (branch_eq-refl d) x) (λ b n. others k d b n (done b))
+          t : TakenThere r.now l c was.0 to
+          t = taken_there r.now l c was.0 k d from to asks r.there
+              (subst (λ z. ExplainsIf z (from d) k was.0 (to d)) (branch_eq-refl d) (takes d))
+              (λ b n. subst (λ z. ExplainsIf z (from b) k was.0 (to b)) n (takes b))
 
   -- a line is cut off
-  cut_off : (l : Line) → ((b : Branch) → to b ≡ (if line_eq l (line_of b) then broken (from b) else from b)) → LeavesThere o seen Start (l ∷ used) to
+  cut_off : (l : Line) → ((b : Branch) → to b ≡ (if line_eq l (line_of b) then broken (from b) else from b)) → LeavesThere o seen Start done (l ∷ cut) to
   cut_off l final = record {
     told = r.told;
     is_history = r.is_history;
@@ -177,17 +251,17 @@ module _ (o : Origin) (seen : Seen) (Start : Origin → Type 0) (used : List Lin
     now = Then r.now (break_of l);
     runs = (r.runs, tt);
     start = r.start;
-    first = λ m n.
-        let apart = neither (line_eq l m) (is_one_of used m) n in
-        broken_other r.now l m apart.0 ∙ r.first m apart.1;
+    calls = λ m n apart.
+        let parts = neither (line_eq l m) (is_one_of cut m) apart in
+        broken_other r.now l m n parts.0 ∙ r.calls m n parts.1;
     there = λ b. ap (λ s. if line_eq l (line_of b) then broken s else s) (r.there b) ∙ sym (final b);
     same = same_step r.now r.told (break_of l) tt r.same;
-    named = λ n first. broken_named r.now l (r.named n first);
+    named = λ n each. broken_named r.now l (r.named n each);
   }
 
   -- a prepared branch was ended by its database alone
   ended_alone : (d : Branch) (how : How) → from d ≡ Prepared → ((b : Branch) → to b ≡ (if branch_eq d b then Completed how else from b))
-      → LeavesThere o seen Start used to
+      → LeavesThere o seen Start done cut to
   ended_alone d how was final = record {
     told = r.told;
     is_history = r.is_history;
@@ -195,10 +269,10 @@ module _ (o : Origin) (seen : Seen) (Start : Origin → Type 0) (used : List Lin
     now = Then r.now (CompletedAlone d how);
     runs = (r.runs, prepared);
     start = r.start;
-    first = λ m n. first_still r.now (Then r.now (CompletedAlone d how)) m (Ends r.now d how NoMore prepared) ∙ r.first m n;
+    calls = λ m n apart. alone_calls r.now (Then r.now (CompletedAlone d how)) m n (Ends r.now d how NoMore prepared) ∙ r.calls m n apart;
     there = λ b. by_test b (branch_eq d b) refl ∙ sym (final b);
     same = same_step r.now r.told (CompletedAlone d how) tt r.same;
-    named = λ n first. ended_named r.now d how (r.named n first);
+    named = λ n each. ended_named r.now d how (r.named n each);
   }
     where
       prepared : standing r.now d ≡ Prepared
@@ -216,15 +290,15 @@ module _ (o : Origin) (seen : Seen) (Start : Origin → Type 0) (used : List Lin
 
 -- all of that
 pub leaves_there : (o : Origin) (seen : Seen) (Start : Origin → Type 0) (Told : Branch → Standing → Type 0)
-    → ((f : Branch → Standing) → ((b : Branch) → Told b (f b)) → LeavesThere o seen Start [] f)
-    → (used : List Line) (f : Branch → Standing) → MayAllStand o seen Told used f → LeavesThere o seen Start used f
-leaves_there o seen Start Told told _ _ (AsTold f may) = told f may
-leaves_there o seen Start Told told _ _ (UnderWay used from to l c may has new waits done) =
-    under_way o seen Start used from to (leaves_there o seen Start Told told used from may) l c has new waits done
-leaves_there o seen Start Told told _ _ (CutOff used from to l may final) =
-    cut_off o seen Start used from to (leaves_there o seen Start Told told used from may) l final
-leaves_there o seen Start Told told _ _ (EndedAlone used from to d how may was final) =
-    ended_alone o seen Start used from to (leaves_there o seen Start Told told used from may) d how was final
+    → ((f : Branch → Standing) → ((b : Branch) → Told b (f b)) → LeavesThere o seen Start [] [] f)
+    → (done cut : List Line) (f : Branch → Standing) → MayAllStand o seen Told done cut f → LeavesThere o seen Start done cut f
+leaves_there o seen Start Told told _ _ _ (AsTold f may) = told f may
+leaves_there o seen Start Told told _ _ _ (UnderWay done cut from to l c may has uncut waits was) =
+    under_way o seen Start done cut from to (leaves_there o seen Start Told told done cut from may) l c has uncut waits was
+leaves_there o seen Start Told told _ _ _ (CutOff done cut from to l may final) =
+    cut_off o seen Start done cut from to (leaves_there o seen Start Told told done cut from may) l final
+leaves_there o seen Start Told told _ _ _ (EndedAlone done cut from to d how may was final) =
+    ended_alone o seen Start done cut from to (leaves_there o seen Start Told told done cut from may) d how was final
 
 -- ** so they agree
 
@@ -236,7 +310,7 @@ agreed o seen old keeps f so b c own same committed undone =
     begins : Origin → Type 0
     begins p = p.incarnation ≡ o.incarnation
 
-    told : (f : Branch → Standing) → ((b : Branch) → MayStand o seen b (f b)) → LeavesThere o seen begins [] f
+    told : (f : Branch → Standing) → ((b : Branch) → MayStand o seen b (f b)) → LeavesThere o seen begins [] [] f
     told f may =
         let x = (from_some o seen old keeps f may).run in
         record {
@@ -246,21 +320,21 @@ agreed o seen old keeps f so b c own same committed undone =
           now = x.whole.history;
           runs = x.whole.runs;
           start = ap (λ (p : Origin). p.incarnation) (history_begins o seen x.whole.history x.whole.is_history).1;
-          first = λ l n. refl;
+          calls = λ l n uncut. as_told x.whole.history l n;
           there = x.there;
           same = same_books x.whole.history;
           named = λ n first. x.named n;
         }
 
-    r : LeavesThere o seen begins so.used f
-    r = leaves_there o seen begins (MayStand o seen) told so.used f so.may
+    r : LeavesThere o seen begins so.done so.cut f
+    r = leaves_there o seen begins (MayStand o seen) told so.done so.cut f so.may
 
 -- where it is known how each branch stood at the start
-pub from_known : (o : Origin) (seen : Seen) → OldOrigin o → KeepsRules o seen → (used : List Line) (f : Branch → Standing)
-    → MayAllStand o seen (λ b. Comes seen b (held_of o b).standing) used f → LeavesThere o seen (λ p. p ≡ o) used f
-from_known o seen old keeps used f may = leaves_there o seen (λ p. p ≡ o) (λ b. Comes seen b (held_of o b).standing) told used f may
+pub from_known : (o : Origin) (seen : Seen) → OldOrigin o → KeepsRules o seen → (done cut : List Line) (f : Branch → Standing)
+    → MayAllStand o seen (λ b. Comes seen b (held_of o b).standing) done cut f → LeavesThere o seen (λ p. p ≡ o) done cut f
+from_known o seen old keeps done cut f may = leaves_there o seen (λ p. p ≡ o) (λ b. Comes seen b (held_of o b).standing) told done cut f may
   where
-    told : (f : Branch → Standing) → ((b : Branch) → Comes seen b (held_of o b).standing (f b)) → LeavesThere o seen (λ p. p ≡ o) [] f
+    told : (f : Branch → Standing) → ((b : Branch) → Comes seen b (held_of o b).standing (f b)) → LeavesThere o seen (λ p. p ≡ o) [] [] f
     told f may =
         let x = from_start o seen old keeps f may in
         record {
@@ -270,7 +344,7 @@ from_known o seen old keeps used f may = leaves_there o seen (λ p. p ≡ o) (λ
           now = x.whole.history;
           runs = x.whole.runs;
           start = x.start;
-          first = λ l n. refl;
+          calls = λ l n uncut. as_told x.whole.history l n;
           there = x.there;
           same = same_books x.whole.history;
           named = λ n first. x.named n;
@@ -283,8 +357,8 @@ agreed_across past o seen a resumes old keeps known f so b c same committed undo
     let whole = (behind_right past o r.now a resumes r.start r.runs).0 in
     are_alike (behind (resumed past o) r.now) whole b c same (there b ∙ committed) (subst IsUndone (sym (there c)) undone)
   where
-    r : LeavesThere o seen (λ p. p ≡ o) so.used f
-    r = from_known o seen old keeps so.used f so.may
+    r : LeavesThere o seen (λ p. p ≡ o) so.done so.cut f
+    r = from_known o seen old keeps so.done so.cut f so.may
 
     there : (b : Branch) → standing (behind (resumed past o) r.now) b ≡ f b
     there b = same_there past o r.now a resumes r.start r.runs b (known b) ∙ r.there b

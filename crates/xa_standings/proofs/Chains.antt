@@ -1,13 +1,16 @@
 -- Sessions one after another agree: behind each of them there is one right history of all, which leaves the branches where they stand.
-use Rattle.std.proofs.Common.{◌≡◌, ◌<◌, ◌⊎◌, inl, inr, ℕ, List, [], length, Bool, true, false, refl, sym, ap, ◌∙◌, subst, arith}
+use Rattle.std.proofs.Common.{◌≡◌, ◌<◌, ◌⊎◌, inl, inr, ℕ, suc, List, [], ◌∷◌, ◌++◌, length, Bool, true, false, refl, sym, ap, ◌∙◌, subst, arith}
 use Rattle.std.proofs.lemmas.Bool.Decides.{nat_tests}
 use Rattle.std.proofs.lemmas.List.Elements.{at_from_Contains}
 use Rattle.std.specs.Prelude.{Contains, if◌then◌else◌, nat_lt, Option, Some, None}
 use Rattle.xa_base.proofs.BranchKeys.{branch_eq-true}
 use Rattle.xa_base.specs.Branch.{branch_eq, xid_of_branch}
 use Rattle.xa_base.specs.HeldBranch.{HeldBranch, new_branch}
-use Rattle.xa_base.specs.StateTable.{broken, completed, state_of}
+use Rattle.xa_base.specs.StateTable.{asks_of, broken, completed, state_of}
 use Rattle.xa_base.specs.Xid.{Xid}
+use Rattle.xa_base.specs.declared.answer.Answer.TheVariants.{Page, Ret}
+use Rattle.xa_base.specs.declared.call.Call.TheVariants as Calls
+use Rattle.xa_base.specs.declared.code.Code.TheVariants as Codes
 use Rattle.xa_base.specs.declared.state.Standing.{Standing}
 use Rattle.xa_base.specs.declared.state.Standing.TheVariants.{Active, Committed, Completed, Forgotten, Idle, Lost, Prepared, ReadOnly, RollbackOnly, RolledBack, Unstarted}
 use Rattle.xa_base.specs.declared.step.Part.TheVariants as Part
@@ -19,23 +22,24 @@ use Rattle.xa_model.proofs.NameLemmas.OwnNames.{own_name}
 use Rattle.xa_model.proofs.ProcessLemmas.Facing.{Faces, faces_after}
 use Rattle.xa_model.proofs.ProcessLemmas.Joining.{gone_right}
 use Rattle.xa_model.proofs.ProcessLemmas.Leaving.{fits_branch}
-use Rattle.xa_model.proofs.ProcessLemmas.SameLogs.{rows_again, records_again}
-use Rattle.xa_model.specs.Facts.{fits, held_of, incarnation, origin, retries, standing, started, up, vote}
+use Rattle.xa_model.proofs.ProcessLemmas.SameLogs.{rows_again, records_again, same_listed}
+use Rattle.xa_model.specs.Facts.{fits, held_of, incarnation, lists_row, log as rows_of, origin, retries, standing, started, up, vote}
 use Rattle.xa_model.specs.Facts.InDoubt.{name_of}
 use Rattle.xa_model.specs.Promises.Agreement.{IsUndone}
 use Rattle.xa_model.specs.Promises.Processes.{AllAreNamed, Resumes, gone, held_in, resumed}
 use Rattle.xa_model.specs.Protocol.{AllRight, IsRun, OldOrigin}
-use Rattle.xa_model.specs.Trace.{Branch, Fault, Gtrid, Happening.CompletedAlone, Happening.Crashed, Happening.Restarted, How, Line, Name.Ours, Origin, Trace, Trace.Then}
+use Rattle.xa_model.specs.Trace.{Answer, Branch, Call, Fault, Gtrid, Happening.CompletedAlone, Happening.Crashed, Happening.Restarted, Happening.Took, How, Line, Name, Name.Ours, Origin, Trace, Trace.Then, line_eq}
 use Rattle.xa_standings.specs.Across.{IsKnownAsLeft, behind}
-use Rattle.xa_standings.specs.Agreement.{MayAllStand, MayAllStand.AsTold, MayAllStand.CutOff, MayAllStand.EndedAlone, MayAllStand.UnderWay, StandAlike}
-use Rattle.xa_standings.specs.Explained.{IsOldLog}
-use Rattle.xa_standings.specs.Seen.{IsHistory, IsHistory.Does, IsHistory.Hears, IsHistory.Loses, IsHistory.LosesAnswer, IsHistory.Starts, KeepsRules, Seen, Seen.Answered, Seen.Did, Seen.Lost, Seen.Start}
-use Rattle.xa_standings.specs.Sessions.{AfterSessions, AfterSessions.Between, AfterSessions.NoneYet, AfterSessions.OneMore, Finds, FindsLog, IsSession, Log, Log.Empty, Log.LeftBy, MayFail, failed_in, nothing_yet}
-use Rattle.xa_standings.specs.Standings.{Comes}
-use Rattle.xa_standings.proofs.Agreeing.{LeavesThere, ended_named, from_known}
+use Rattle.xa_standings.specs.Agreement.{IsLineOf, MayAllStand, MayAllStand.AsTold, MayAllStand.CutOff, MayAllStand.EndedAlone, MayAllStand.UnderWay, StandAlike, WaitsAt, WasDone, call_at, times}
+use Rattle.xa_standings.specs.Explained.{IsExplained, IsOldLog}
+use Rattle.xa_standings.specs.Seen.{HasAnswer, IsHistory, IsHistory.Does, IsHistory.Hears, IsHistory.Loses, IsHistory.LosesAnswer, IsHistory.Starts, KeepsRules, Seen, Seen.Answered, Seen.Did, Seen.Lost, Seen.Start}
+use Rattle.xa_standings.specs.Sessions.{AfterSessions, AfterSessions.Between, AfterSessions.NoneYet, AfterSessions.OneMore, Finds, FindsLog, IsCommitting, IsSession, Log, Log.Empty, Log.LeftBy, MayFail, WasFoundDecided, failed_in, nothing_yet}
+use Rattle.xa_standings.specs.Standings.{Comes, Explained, Takes}
+use Rattle.xa_standings.proofs.Agreeing.{LeavesThere, alone_calls, ended_named, from_known, heard_calls, one_if, taken_calls}
 use Rattle.xa_standings.proofs.Books.{AsksIf, SameBooks, finds_same}
+use Rattle.xa_standings.proofs.Commits.{HasCommit, behind_commits, one_more_commits}
 use Rattle.xa_standings.proofs.Choices.{behind_right, same_there, unstarted_still}
-use Rattle.xa_standings.proofs.Names.{done_named, first_named}
+use Rattle.xa_standings.proofs.Names.{alone_ran, done_named, waiting_named}
 
 -- ** standings
 
@@ -95,13 +99,14 @@ module _ (o : Origin) (held : ℕ → Xid → HeldBranch) where
   rules_back (Lost seen l c) k = (rules_back seen k.0, λ tr i run. k.1 tr (history_back seen tr i) run)
 
   stands_back : (seen : Seen) (Told New : Branch → Standing → Type 0) → ((b : Branch) (s : Standing) → Told b s → New b s)
-      → (used : List Line) (f : Branch → Standing) → MayAllStand o seen Told used f → MayAllStand with_held seen New used f
-  stands_back seen Told New same _ _ (AsTold f may) = AsTold f (λ b. same b (f b) (may b))
-  stands_back seen Told New same _ _ (UnderWay used from to l c may has new waits done) =
-      UnderWay used from to l c (stands_back seen Told New same used from may) has new (λ tr i run. waits tr (history_back seen tr i) run) done
-  stands_back seen Told New same _ _ (CutOff used from to l may final) = CutOff used from to l (stands_back seen Told New same used from may) final
-  stands_back seen Told New same _ _ (EndedAlone used from to d how may was final) =
-      EndedAlone used from to d how (stands_back seen Told New same used from may) was final
+      → (done cut : List Line) (f : Branch → Standing) → MayAllStand o seen Told done cut f → MayAllStand with_held seen New done cut f
+  stands_back seen Told New same _ _ _ (AsTold f may) = AsTold f (λ b. same b (f b) (may b))
+  stands_back seen Told New same _ _ _ (UnderWay done cut from to l c may has uncut waits was) =
+      UnderWay done cut from to l c (stands_back seen Told New same done cut from may) has uncut (λ tr i run. waits tr (history_back seen tr i) run) was
+  stands_back seen Told New same _ _ _ (CutOff done cut from to l may final) =
+      CutOff done cut from to l (stands_back seen Told New same done cut from may) final
+  stands_back seen Told New same _ _ _ (EndedAlone done cut from to d how may was final) =
+      EndedAlone done cut from to d how (stands_back seen Told New same done cut from may) was final
 
 -- ** a session that was left in a step
 
@@ -133,14 +138,15 @@ broken_failed (Some f) tr b = by (up tr)
 -- ** what is so behind each of them
 
 -- there is one right history of all that happened. It leaves each branch where it stands, but that what was open may be lost already; and
--- the next start finds the rows and records of it
-pub record IsReached (log : Log) (f : Branch → Standing) : Type 0 where
+-- the next start finds the rows and records of it. In it such branches are to commit
+pub record IsReached (log : Log) (f : Branch → Standing) (Decided : Branch → Type 0) : Type 0 where
   pub whole : Trace
   pub right : AllRight whole
   pub there : (b : Branch) → broken (standing whole b) ≡ broken (f b)
   pub named : AllAreNamed whole
   pub finds : (next : Origin) → Finds log next → FindsLog whole next
   pub alike : StandAlike f
+  pub decided : (b : Branch) → Decided b → HasCommit whole b
 
 -- ** none yet
 
@@ -166,7 +172,7 @@ nothing_named i b unfit = (
   ap (λ t. (if t then new_branch else new_branch).retries) unfit,
 )
 
-none_reached : (i : ℕ) → IsReached (Empty i) (λ b. Unstarted)
+none_reached : (i : ℕ) → IsReached (Empty i) (λ b. Unstarted) (λ b. ⊥)
 none_reached i = record {
   whole = nothing_yet i;
   right = nothing_right i;
@@ -174,11 +180,12 @@ none_reached i = record {
   named = nothing_named i;
   finds = λ next found. found;
   alike = λ b c same e u. absurd (cc);
+  decided = λ b found. absurd found;
 }
 
 -- ** one more
 
-module _ (log : Log) (from to : Branch → Standing) (r : IsReached log from) (o : Origin) (found : Finds log o) where
+module _ (log : Log) (from to : Branch → Standing) (Decided : Branch → Type 0) (r : IsReached log from Decided) (o : Origin) (found : Finds log o) where
   abbrev past : Trace
   past = r.whole
 
@@ -229,18 +236,18 @@ module _ (log : Log) (from to : Branch → Standing) (r : IsReached log from) (o
           later : incarnation past < b.gtrid.incarnation
           later = let l = found_log.later in grind (arith, nat_tests, e, l)
 
-  module _ (seen : Seen) (fails : Option Fault) (session : IsSession o seen fails) (used : List Line)
-      (may : MayAllStand o seen (λ b. Comes seen b (broken (from b))) used to) where
+  module _ (seen : Seen) (fails : Option Fault) (session : IsSession o seen fails) (done cut : List Line)
+      (may : MayAllStand o seen (λ b. Comes seen b (broken (from b))) done cut to) where
     abbrev held : ℕ → Xid → HeldBranch
     held = λ q x. held_in past (name_of x)
 
     there_at_start : (b : Branch) → broken (from b) ≡ (held_of start b).standing
     there_at_start b = sym (known b ∙ r.there b)
 
-    x : LeavesThere start seen (λ p. p ≡ start) used to
-    x = from_known start seen (is_old session.old) (rules_back o held seen session.keeps) used to
+    x : LeavesThere start seen (λ p. p ≡ start) done cut to
+    x = from_known start seen (is_old session.old) (rules_back o held seen session.keeps) done cut to
         (stands_back o held seen (λ b. Comes seen b (broken (from b))) (λ b. Comes seen b (held_of start b).standing)
-        (λ b s c. subst (λ f. Comes seen b f s) (there_at_start b) c) used to may)
+        (λ b s c. subst (λ f. Comes seen b f s) (there_at_start b) c) done cut to may)
 
     told_history : IsHistory o seen x.told
     told_history = history_back o held seen x.told x.is_history
@@ -263,7 +270,11 @@ module _ (log : Log) (from to : Branch → Standing) (r : IsReached log from) (o
     last_named : AllAreNamed last
     last_named = named_failed fails x.now (x.named
         (done_named o seen x.told told_history x.told_runs session.keeps session.on_branches)
-        (λ l c has e. first_named o seen x.told l c told_history session.keeps session.on_branches e))
+        (λ l n c has e. waiting_named o seen x.told l n c told_history session.keeps session.on_branches e))
+
+    -- there is a right history of what was seen
+    explained : IsExplained o seen
+    explained = record { history = x.told; is_history = told_history; runs = x.told_runs }
 
     -- what a start finds that finds what the session left
     finds_it : (next : Origin) → Finds (LeftBy o seen fails) next → FindsLog (behind (resumed past start) last) next
@@ -295,7 +306,21 @@ module _ (log : Log) (from to : Branch → Standing) (r : IsReached log from) (o
         are_alike (behind (resumed past start) x.now) (behind_right past start x.now r.right resumes x.start x.runs).0 b c same
         (now_there b ∙ e) (subst IsUndone (sym (now_there c)) u)
 
-    one_more : IsReached (LeftBy o seen fails) to
+    -- what it found prepared, with a row, and what an earlier one did
+    resumed_right : AllRight (resumed past start)
+    resumed_right = (gone_right past r.right, (refl, found_log.later, found_log.rows.number, found_log.records.number))
+
+    found_commits : (b : Branch) → ((from b ≡ Prepared) × (lists_row o.rows b.gtrid ≡ true)) ⊎ Decided b → HasCommit (resumed past start) b
+    found_commits b (inl found) = record {
+      commits = subst IsCommitting (sym (r.there b ∙ ap broken found.0)) tt;
+      had = (always (resumed past start) resumed_right).row_rowed b.gtrid
+          (sym (same_listed o.rows (rows_of (resumed past start)) found_log.rows b.gtrid) ∙ found.1);
+    }
+    found_commits b (inr earlier) =
+        one_more_commits (gone past) (Restarted start.incarnation (length start.rows) (length start.heuristic_rows)) b resumed_right
+        (one_more_commits past (Crashed Part.Manager) b (gone_right past r.right) (r.decided b earlier))
+
+    one_more : IsReached (LeftBy o seen fails) to (λ b. ((from b ≡ Prepared) × (lists_row o.rows b.gtrid ≡ true)) ⊎ Decided b)
     one_more = record {
       whole = behind (resumed past start) last;
       right = both.0;
@@ -304,11 +329,13 @@ module _ (log : Log) (from to : Branch → Standing) (r : IsReached log from) (o
           (stands_so b ∙ n.0, sym (both.1.held.votes b) ∙ n.1, sym (both.1.held.retries b) ∙ n.2);
       finds = finds_it;
       alike = now_alike;
+      decided = λ b found. behind_commits (resumed past start) last b both.0 (found_commits b found);
     }
 
 -- ** between two
 
-module _ (log : Log) (from to : Branch → Standing) (r : IsReached log from) (d : Branch) (how : How) (was : from d ≡ Prepared)
+module _ (log : Log) (from to : Branch → Standing) (Decided : Branch → Type 0) (r : IsReached log from Decided) (d : Branch) (how : How)
+    (was : from d ≡ Prepared)
     (final : (b : Branch) → to b ≡ (if branch_eq d b then Completed how else from b)) where
   prepared : standing r.whole d ≡ Prepared
   prepared = prepared_whole (standing r.whole d) (r.there d ∙ ap broken was)
@@ -321,7 +348,7 @@ module _ (log : Log) (from to : Branch → Standing) (r : IsReached log from) (d
       by true same = absurd (other (sym same))
       by false same = same
 
-  between : IsReached log to
+  between : IsReached log to Decided
   between = record {
     whole = Then r.whole (CompletedAlone d how);
     right = (r.right, prepared);
@@ -329,6 +356,7 @@ module _ (log : Log) (from to : Branch → Standing) (r : IsReached log from) (d
     named = ended_named r.whole d how r.named;
     finds = λ next found. let l = r.finds next found in record { later = l.later; rows = l.rows; records = l.records };
     alike = λ b c same e u. r.alike b c same (before b Committed (λ x. absurd (cc)) e) (undone c u);
+    decided = λ b found. one_more_commits r.whole (CompletedAlone d how) b (r.right, prepared) (r.decided b found);
   }
     where
       undone : (c : Branch) → IsUndone (to c) → IsUndone (from c)
@@ -348,8 +376,90 @@ module _ (log : Log) (from to : Branch → Standing) (r : IsReached log from) (d
 
 -- ** all of them
 
-pub reached : (log : Log) (f : Branch → Standing) → AfterSessions log f → IsReached log f
+pub reached : (log : Log) (f : Branch → Standing) (after : AfterSessions log f) → IsReached log f (λ b. WasFoundDecided b log f after)
 reached _ _ (NoneYet i) = none_reached i
-reached _ _ (OneMore log from to o seen fails used before found session may) =
-    one_more log from to (reached log from before) o found seen fails session used may
-reached _ _ (Between log from to d how before was final) = between log from to (reached log from before) d how was final
+reached _ _ (OneMore log from to o seen fails done cut before found session may) =
+    one_more log from to (λ b. WasFoundDecided b log from before) (reached log from before) o found seen fails session done cut may
+reached _ _ (Between log from to d how before was final) =
+    between log from to (λ b. WasFoundDecided b log from before) (reached log from before) d how was final
+
+-- ** an answer that may as well not have been told
+
+-- which call waits where on each line is known, or that none does
+abbrev pub KnowsCalls : Origin → Seen → Type 0
+KnowsCalls o seen = (l : Line) (n : ℕ) → IsLineOf o l → (c : Option Call) × WaitsAt o seen l n c
+
+times_last : (done : List Line) (l m : Line) → times (done ++ l ∷ []) m ≡ one_if (line_eq l m) (times done m)
+times_last [] l m = refl
+times_last (d ∷ done) l m = by (line_eq d m) (line_eq l m) (times_last done l m)
+  where
+    by : (s t : Bool) → times (done ++ l ∷ []) m ≡ one_if t (times done m)
+        → (if s then suc (times (done ++ l ∷ []) m) else times (done ++ l ∷ []) m) ≡ one_if t (if s then suc (times done m) else times done m)
+    by true true e = ap suc e
+    by true false e = ap suc e
+    by false t e = e
+
+module _ (o : Origin) (seen : Seen) (l : Line) (c : Call) (a : Answer) (here : IsLineOf o l) (has : HasAnswer c a)
+    (waits : WaitsAt o seen l 0 (Some c)) (knows : KnowsCalls o seen) (explained : IsExplained o (Answered seen l c a)) where
+  -- behind the answer the calls wait that waited before it, but for the first on its line
+  calls_behind : (tr : Trace) → IsHistory o (Answered seen l c a) tr → IsRun tr
+      → (old : Trace) × IsHistory o seen old × IsRun old × ((m : Line) (n : ℕ) → call_at tr m n ≡ call_at old m (one_if (line_eq l m) n))
+  calls_behind _ (Hears _ old now _ _ _ i alone) run = (
+    old,
+    i,
+    alone_ran old now alone run.0.0,
+    λ m n. heard_calls (Then now (Took l c a)) l m c a n ∙ (taken_calls now l m c a n ∙ alone_calls old now m (one_if (line_eq l m) n) alone),
+  )
+
+  waits_before : (done : List Line) (m : Line) (d : Call) → IsLineOf o m → WaitsAt o (Answered seen l c a) m (times done m) (Some d)
+      → WaitsAt o seen m (times (done ++ l ∷ []) m) (Some d)
+  waits_before done m d is later =
+      let there = knows m (times (done ++ l ∷ []) m) is in
+      let old = calls_behind explained.history explained.is_history explained.runs in
+      let same : there.0 ≡ Some d =
+      sym (there.1 old.0 old.1 old.2)
+      ∙ (ap (call_at old.0 m) (times_last done l m)
+      ∙ (sym (old.3 m (times done m)) ∙ later explained.history explained.is_history explained.runs)) in
+      λ tr i run. there.1 tr i run ∙ same
+
+  -- by the answer the call was done
+  was_done : (from to : Branch → Standing) → ((b : Branch) → Explained l c a b (from b) (to b)) → WasDone c from to
+  was_done from to x = by a has x
+    where
+      unnamed : (c : Call) (names : List Name) → HasAnswer c (Page names) → asks_of c ≡ None
+      unnamed (Calls.Recover n s e) names h = refl
+      unnamed _ names h = absurd h
+
+      by : (a : Answer) → HasAnswer c a → ((b : Branch) → Explained l c a b (from b) (to b)) → WasDone c from to
+      by (Ret code) h x = (code, x)
+      by (Page names) h x = (Codes.Success, λ b. subst (λ z. Takes z Codes.Success b (from b) (to b)) (sym (unnamed c names h)) (x b).0)
+
+  -- so where the branches may stand by what was told, they may by what was told before, with the call under way
+  pub untold : (stood : Branch → Standing) (done cut : List Line) (f : Branch → Standing)
+      → MayAllStand o (Answered seen l c a) (λ b. Comes (Answered seen l c a) b (stood b)) done cut f
+      → MayAllStand o seen (λ b. Comes seen b (stood b)) (done ++ l ∷ []) cut f
+  untold stood _ _ _ (AsTold f may) =
+      UnderWay [] [] (λ b. (may b).0) f l c (AsTold (λ b. (may b).0) (λ b. (may b).1)) here refl waits (was_done (λ b. (may b).0) f (λ b. (may b).2))
+  untold stood _ _ _ (UnderWay done cut from to m d may is uncut later was) =
+      UnderWay (done ++ l ∷ []) cut from to m d (untold stood done cut from may) is uncut (waits_before done m d is later) was
+  untold stood _ _ _ (CutOff done cut from to m may final) = CutOff (done ++ l ∷ []) cut from to m (untold stood done cut from may) final
+  untold stood _ _ _ (EndedAlone done cut from to d how may was final) =
+      EndedAlone (done ++ l ∷ []) cut from to d how (untold stood done cut from may) was final
+
+-- A session whose last answer was told is one in which that call is under way. It found decided what it found decided.
+pub record IsUntold (log : Log) (from to : Branch → Standing) (o : Origin) (seen : Seen) (before : AfterSessions log from) : Type 0 where
+  pub after : AfterSessions (LeftBy o seen None) to
+  pub decided : (b : Branch) → ((from b ≡ Prepared) × (lists_row o.rows b.gtrid ≡ true)) ⊎ WasFoundDecided b log from before
+      → WasFoundDecided b (LeftBy o seen None) to after
+
+pub one_untold : (log : Log) (from to : Branch → Standing) (o : Origin) (seen : Seen) (l : Line) (c : Call) (a : Answer) (done cut : List Line)
+    (before : AfterSessions log from) → Finds log o → IsSession o (Answered seen l c a) None → IsLineOf o l → WaitsAt o seen l 0 (Some c) → KnowsCalls o seen
+    → MayAllStand o (Answered seen l c a) (λ b. Comes (Answered seen l c a) b (broken (from b))) done cut to → IsUntold log from to o seen before
+one_untold log from to o seen l c a done cut before found session here waits knows may = record {
+  after = OneMore log from to o seen None (done ++ l ∷ []) cut before found
+      (record { old = session.old; keeps = session.keeps.0; on_branches = session.on_branches.0; may_fail = tt })
+      (untold o seen l c a here session.keeps.1 waits knows
+      (explained log from to (λ b. WasFoundDecided b log from before) (reached log from before) o found (Answered seen l c a) None session done cut may)
+      (λ b. broken (from b)) done cut to may);
+  decided = λ b was. was;
+}

@@ -8,4 +8,5 @@ pub mod Names
 pub mod Pages
 pub mod RowLemmas
 pub mod Taken
+mod Commits
 mod OneHistory

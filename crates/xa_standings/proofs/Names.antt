@@ -1,16 +1,16 @@
 -- If each call that was made is on a branch that has an identifier, and each page lists such branches, then each call that waits or was done
 -- is on one: also those that a recovery lets wait.
-use Rattle.std.proofs.Common.{◌≡◌, ◌∙◌, ℕ, zero, suc, Bool, true, false, List, [], ◌∷◌, ◌++◌, length, Option, Some, None, refl, sym, ap, subst}
+use Rattle.std.proofs.Common.{◌≡◌, ◌∙◌, ◌+◌, ℕ, zero, suc, Bool, true, false, List, [], ◌∷◌, ◌++◌, length, Option, Some, None, refl, sym, ap, subst}
 use Rattle.std.specs.Prelude.{if◌then◌else◌, slice_get}
 use Rattle.xa_base.specs.StateTable.{Kind, asks_of, on}
-use Rattle.xa_base.specs.declared.answer.Answer.TheVariants.{Page, Ret}
+use Rattle.xa_base.specs.declared.answer.Answer.TheVariants.{Page}
 use Rattle.xa_base.specs.declared.call.Call.TheVariants as Calls
 use Rattle.xa_model.specs.Facts.{breaks, fits, has_row, issued, live, new_calls, next_call, page, page_after, recorded, resolving_calls, resolving_kind, taken}
 use Rattle.xa_model.specs.Protocol.{IsRun, Lists}
-use Rattle.xa_model.specs.Trace.{Answer, Branch, Call, Happening, Happening.Heard, Happening.Issued, Happening.Resolved, Happening.ResolvedOpen, Happening.Took, Kind.Commit, Kind.Forget, Kind.Rollback, Line, Name, Name.Foreign, Name.Ours, Origin, Trace, Trace.Then, line, line_eq}
+use Rattle.xa_model.specs.Trace.{Branch, Call, Happening, Happening.Heard, Happening.Issued, Happening.Resolved, Happening.ResolvedOpen, Happening.Took, Kind.Commit, Kind.Forget, Kind.Rollback, Line, Name, Name.Foreign, Name.Ours, Origin, Trace, Trace.Then, line, line_eq}
+use Rattle.xa_standings.specs.Agreement.{call_at}
 use Rattle.xa_standings.specs.Named.{AreOnBranches, IsNamedCall, IsNamedPage, MakesNamedCall}
 use Rattle.xa_standings.specs.Seen.{Alone, Alone.Ends, Alone.NoMore, Alone.PutsOff, Alone.Votes, IsHistory, IsHistory.Does, IsHistory.Hears, IsHistory.Loses, IsHistory.LosesAnswer, IsHistory.Starts, IsManagers, KeepsRules, Seen, Seen.Answered, Seen.Did, Seen.Lost, Seen.Start, break_of}
-use Rattle.xa_standings.proofs.Taken.{same_lines}
 
 -- ** calls that were done
 
@@ -155,8 +155,13 @@ history_names o _ _ (LosesAnswer seen tr now l c a i alone) keeps on =
     names_after (Then now (Took l c a)) (break_of l)
     (names_after now (Took l c a) (alone_names tr now alone (history_names o seen tr i keeps.0 on)) tt tt) tt tt
 
--- the call that waits first is on a branch that has an identifier
-pub first_named : (o : Origin) (seen : Seen) (tr : Trace) (l : Line) (c : Call) → IsHistory o seen tr → KeepsRules o seen → AreOnBranches seen
+-- each call that waits is on a branch that has an identifier
+pub waiting_named : (o : Origin) (seen : Seen) (tr : Trace) (l : Line) (n : ℕ) (c : Call) → IsHistory o seen tr → KeepsRules o seen → AreOnBranches seen
+    → call_at tr l n ≡ Some c → IsNamedCall c
+waiting_named o seen tr l n c i keeps on has = (history_names o seen tr i keeps on).calls l (length (taken tr l) + n) c has
+
+-- so is the one that waits first
+first_named : (o : Origin) (seen : Seen) (tr : Trace) (l : Line) (c : Call) → IsHistory o seen tr → KeepsRules o seen → AreOnBranches seen
     → next_call tr l ≡ Some c → IsNamedCall c
 first_named o seen tr l c i keeps on has = (history_names o seen tr i keeps on).calls l (length (taken tr l)) c has
 
@@ -164,7 +169,7 @@ named_if : (c next : Option Call) → next ≡ c → ((d : Call) → next ≡ So
 named_if None next same named = tt
 named_if (Some c) next same named = named c same
 
-alone_ran : (tr now : Trace) → Alone tr now → IsRun now → IsRun tr
+pub alone_ran : (tr now : Trace) → Alone tr now → IsRun now → IsRun tr
 alone_ran tr _ NoMore run = run
 alone_ran tr _ (Votes now b v a) run = alone_ran tr now a run.0
 alone_ran tr _ (PutsOff now b n a) run = alone_ran tr now a run.0

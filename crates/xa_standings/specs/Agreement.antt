@@ -1,22 +1,26 @@
 -- Where all branches may stand at databases that obey the branch state table, also while calls are under way and where lines are lost of
 -- which nothing was told yet; and what it is that they agree.
-use Rattle.std.specs.Prelude.{ℕ, ◌≡◌, ◌≤◌, ◌<◌, ◌||◌, Bool, false, if◌then◌else◌, List, [], ◌∷◌, Option, Some}
+use Rattle.std.specs.Prelude.{ℕ, suc, ◌+◌, ◌≡◌, ◌≤◌, ◌<◌, ◌||◌, Bool, false, if◌then◌else◌, length, slice_get, List, [], ◌∷◌, Option, Some}
 use Rattle.xa_base.specs.Branch.{branch_eq}
-use Rattle.xa_base.specs.StateTable.{broken}
+use Rattle.xa_base.specs.StateTable.{asks_of, broken}
 use Rattle.xa_base.specs.declared.state.Standing.{Standing}
 use Rattle.xa_base.specs.declared.state.Standing.TheVariants.{Committed, Completed, Prepared}
-use Rattle.xa_model.specs.Facts.{held_of, next_call}
+use Rattle.xa_model.specs.Facts.{held_of, issued, taken}
 use Rattle.xa_model.specs.Promises.Agreement.{IsUndone}
 use Rattle.xa_model.specs.Protocol.{IsRun}
-use Rattle.xa_model.specs.Trace.{Branch, Call, How, Line, Origin, Trace, line_eq, line_of}
+use Rattle.xa_model.specs.Trace.{Branch, Call, Code, How, Line, Origin, Trace, line_eq, line_of}
 use Rattle.xa_standings.specs.Seen.{IsHistory, Seen}
-use Rattle.xa_standings.specs.Standings.{Comes, MayBeDone, MayStand}
+use Rattle.xa_standings.specs.Standings.{Comes, MayStand, Takes}
 
 -- ** what wasn't told yet
 
--- the call waits first on the line, or none does, by each right history of what was seen
-abbrev pub WaitsFirst : Origin → Seen → Line → Option Call → Type 0
-WaitsFirst o seen l c = (tr : Trace) → IsHistory o seen tr → IsRun tr → next_call tr l ≡ c
+-- the call that waits on a line behind so many others
+abbrev pub call_at : Trace → Line → ℕ → Option Call
+call_at tr l n = slice_get (issued tr l) (length (taken tr l) + n)
+
+-- the call waits there on the line, or none does, by each right history of what was seen
+abbrev pub WaitsAt : Origin → Seen → Line → ℕ → Option Call → Type 0
+WaitsAt o seen l n c = (tr : Trace) → IsHistory o seen tr → IsRun tr → call_at tr l n ≡ c
 
 -- the line is one of the session
 abbrev pub IsLineOf : Origin → Line → Type 0
@@ -27,30 +31,41 @@ abbrev pub is_one_of : List Line → Line → Bool
 is_one_of [] l = false
 is_one_of (m ∷ ms) l = line_eq m l || is_one_of ms l
 
--- Where all branches may stand, if by what was told each may stand there, and after what wasn't told yet: the call that waits first on a
--- line is under way, and was done with any answer, or wasn't; a line is cut off; a database ended a prepared branch by itself. These are
--- the lines on which a call is under way or that are cut off: no second call is under way on one of them.
-pub data MayAllStand (o : Origin) (seen : Seen) (Told : Branch → Standing → Type 0) : List Line → (Branch → Standing) → Type 0 where
-  AsTold : (f : Branch → Standing) → ((b : Branch) → Told b (f b)) → MayAllStand o seen Told [] f
+-- so many of these lines are the line
+abbrev pub times : List Line → Line → ℕ
+times [] l = 0
+times (m ∷ ms) l = if line_eq m l then suc (times ms l) else times ms l
+
+-- the call was done with some answer, and each branch came from the one standing to the other by that
+abbrev pub WasDone : Call → (from to : Branch → Standing) → Type 0
+WasDone c from to = (a : Code) × ((b : Branch) → Takes (asks_of c) a b (from b) (to b))
+
+-- Where all branches may stand, if by what was told each may stand there, and after what wasn't told yet: of the calls that wait on a line
+-- the first ones were done, in turn and however many, each with any answer; lines were cut off, and what waits on them is lost; databases
+-- ended prepared branches by themselves. The one list has a line for each call that was done, the other the lines that were cut off.
+pub data MayAllStand (o : Origin) (seen : Seen) (Told : Branch → Standing → Type 0) : List Line → List Line → (Branch → Standing) → Type 0 where
+  AsTold : (f : Branch → Standing) → ((b : Branch) → Told b (f b)) → MayAllStand o seen Told [] [] f
   UnderWay :
-      (used : List Line) (from to : Branch → Standing) (l : Line) (c : Call) → MayAllStand o seen Told used from → IsLineOf o l
-      → is_one_of used l ≡ false → WaitsFirst o seen l (Some c) → ((b : Branch) → MayBeDone (Some c) b (from b) (to b)) → MayAllStand o seen Told (l ∷ used) to
+      (done cut : List Line) (from to : Branch → Standing) (l : Line) (c : Call) → MayAllStand o seen Told done cut from → IsLineOf o l
+      → is_one_of cut l ≡ false → WaitsAt o seen l (times done l) (Some c) → WasDone c from to → MayAllStand o seen Told (l ∷ done) cut to
   CutOff :
-      (used : List Line) (from to : Branch → Standing) (l : Line) → MayAllStand o seen Told used from
-      → ((b : Branch) → to b ≡ (if line_eq l (line_of b) then broken (from b) else from b)) → MayAllStand o seen Told (l ∷ used) to
+      (done cut : List Line) (from to : Branch → Standing) (l : Line) → MayAllStand o seen Told done cut from
+      → ((b : Branch) → to b ≡ (if line_eq l (line_of b) then broken (from b) else from b)) → MayAllStand o seen Told done (l ∷ cut) to
   EndedAlone :
-      (used : List Line) (from to : Branch → Standing) (d : Branch) (how : How) → MayAllStand o seen Told used from → from d ≡ Prepared
-      → ((b : Branch) → to b ≡ (if branch_eq d b then Completed how else from b)) → MayAllStand o seen Told used to
+      (done cut : List Line) (from to : Branch → Standing) (d : Branch) (how : How) → MayAllStand o seen Told done cut from → from d ≡ Prepared
+      → ((b : Branch) → to b ≡ (if branch_eq d b then Completed how else from b)) → MayAllStand o seen Told done cut to
 
 -- the branches stand so at databases that obey the table: whatever these held of older incarnations
 pub record StandSo (o : Origin) (seen : Seen) (f : Branch → Standing) : Type 0 where
-  pub used : List Line
-  pub may : MayAllStand o seen (MayStand o seen) used f
+  pub done : List Line
+  pub cut : List Line
+  pub may : MayAllStand o seen (MayStand o seen) done cut f
 
 -- the same, where it is known how each branch stood at the start
 pub record HaveCome (o : Origin) (seen : Seen) (f : Branch → Standing) : Type 0 where
-  pub used : List Line
-  pub may : MayAllStand o seen (λ b. Comes seen b (held_of o b).standing) used f
+  pub done : List Line
+  pub cut : List Line
+  pub may : MayAllStand o seen (λ b. Comes seen b (held_of o b).standing) done cut f
 
 -- ** what it is that they agree
 

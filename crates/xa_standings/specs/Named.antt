@@ -1,5 +1,5 @@
 -- Calls on branches that have an identifier.
-use Rattle.std.specs.Prelude.{ℕ, ◌≡◌, true, Some}
+use Rattle.std.specs.Prelude.{◌≡◌, true, Some}
 use Rattle.xa_base.specs.StateTable.{Kind, asks_of}
 use Rattle.xa_base.specs.declared.answer.Answer.TheVariants.{Page, Ret}
 use Rattle.xa_model.specs.Facts.{fits}

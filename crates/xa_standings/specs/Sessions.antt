@@ -6,7 +6,7 @@ use Rattle.xa_base.specs.HeldBranch.{new_branch}
 use Rattle.xa_base.specs.Scan.{Scan.NotOpen}
 use Rattle.xa_base.specs.StateTable.{broken}
 use Rattle.xa_base.specs.declared.state.Standing.{Standing}
-use Rattle.xa_base.specs.declared.state.Standing.TheVariants.{Committed, Completed, Prepared, Unstarted}
+use Rattle.xa_base.specs.declared.state.Standing.TheVariants.{Committed, Completed, Forgotten, Prepared, Unstarted}
 use Rattle.xa_model.specs.Facts.{ever, handed_over, heuristic_rows, incarnation, lists_row, log as rows_of, standing}
 use Rattle.xa_model.specs.Promises.Agreement.{IsUndone}
 use Rattle.xa_model.specs.Promises.Processes.{SameRecords, SameRows, gone, resumed}
@@ -82,8 +82,8 @@ pub record IsSession (o : Origin) (seen : Seen) (fails : Option Fault) : Type 0 
 pub data AfterSessions : Log → (Branch → Standing) → Type 0 where
   NoneYet : (i : ℕ) → AfterSessions (Empty i) (λ b. Unstarted)
   OneMore :
-      (log : Log) (from to : Branch → Standing) (o : Origin) (seen : Seen) (fails : Option Fault) (used : List Line)
-      → AfterSessions log from → Finds log o → IsSession o seen fails → MayAllStand o seen (λ b. Comes seen b (broken (from b))) used to
+      (log : Log) (from to : Branch → Standing) (o : Origin) (seen : Seen) (fails : Option Fault) (done cut : List Line)
+      → AfterSessions log from → Finds log o → IsSession o seen fails → MayAllStand o seen (λ b. Comes seen b (broken (from b))) done cut to
       → AfterSessions (LeftBy o seen fails) to
   Between :
       (log : Log) (from to : Branch → Standing) (d : Branch) (how : How) → AfterSessions log from → from d ≡ Prepared
@@ -96,6 +96,26 @@ pub data AfterSessions : Log → (Branch → Standing) → Type 0 where
 pub record RowsDecide (f : Branch → Standing) (next : Origin) : Type 0 where
   pub committed : (b c : Branch) → b.gtrid ≡ c.gtrid → f b ≡ Committed → f c ≡ Prepared → lists_row next.rows b.gtrid ≡ true
   pub undone : (b : Branch) → IsUndone (f b) → lists_row next.rows b.gtrid ≡ false
+
+-- The branch is to commit: it stands prepared still, or committed, or its database ended it by itself, which may be forgotten since.
+abbrev pub IsCommitting : Standing → Type 0
+IsCommitting Prepared = Unit
+IsCommitting Committed = Unit
+IsCommitting (Completed how) = Unit
+IsCommitting (Forgotten how) = Unit
+IsCommitting _ = ⊥
+
+-- One of these sessions began where the branch stood prepared, over a log with the row of its transaction.
+abbrev pub WasFoundDecided : Branch → (log : Log) (f : Branch → Standing) → AfterSessions log f → Type 0
+WasFoundDecided b _ _ (NoneYet i) = ⊥
+WasFoundDecided b _ _ (OneMore log from to o seen fails done cut before found session may) =
+    ((from b ≡ Prepared) × (lists_row o.rows b.gtrid ≡ true)) ⊎ WasFoundDecided b log from before
+WasFoundDecided b _ _ (Between log from to d how before was final) = WasFoundDecided b log from before
+
+-- Such a branch is to commit; and as long as it stands prepared, a start finds its row.
+pub record CommitStands (f : Branch → Standing) (next : Origin) (b : Branch) : Type 0 where
+  pub commits : IsCommitting (f b)
+  pub row_stays : f b ≡ Prepared → lists_row next.rows b.gtrid ≡ true
 
 -- There is one right history of all sessions. Once what was open is lost, it leaves each branch where that then stands; and the next start
 -- finds its rows and records. So what is promised of right histories (`Promises` of `xa_model`) holds of the branches and the log as well.

@@ -9,7 +9,8 @@ ghost use Rattle.xa_standings.specs.Standings.{Comes, MayStand};
 ghost use Rattle.xa_standings.specs.Across.{GoesOn, IsKnownAsLeft};
 ghost use Rattle.xa_standings.specs.Agreement.{HaveCome, OwnStandAlike, StandAlike, StandSo};
 ghost use Rattle.xa_standings.specs.Explained.{IsExplained, IsOldLog, IsRunOf};
-ghost use Rattle.xa_standings.specs.Sessions.{AfterSessions, Finds, HaveOneHistory, Log, RowsDecide};
+ghost use Rattle.xa_standings.specs.Sessions.{AfterSessions, CommitStands, Finds, HaveOneHistory};
+ghost use Rattle.xa_standings.specs.Sessions.{Log, RowsDecide, WasFoundDecided};
 
 /// A manager that keeps its own rules, over resource managers of which only the answers are known: if each branch may
 /// stand somewhere, by the branch state table and all that was answered, then what was seen has a right history.
@@ -51,12 +52,26 @@ pub fn answers_are_explained()
 ///   began, decided or recovered it;
 /// - `rows`: the log that is left decides of what stands prepared still. It has the row of each transaction of which a
 ///   branch stands committed, and no row of one of which a branch stands rolled back or lost;
+/// - `decided`: a branch that one of these sessions found prepared, and its transaction's row in the log, is never rolled
+///   back or lost. It commits, unless its database ends it by itself; and its row is there as long as it stands prepared;
 /// - `history`: there is one right history of all sessions, so that whatever is proved of right histories (`agreement`,
 ///   `agreement_invariant` and `headline_holds` of `xa_model`) holds of the branches and of the log.
 pub fn sessions_agree()
     ensures agree { (log : Log) (f : Branch → Standing) → AfterSessions log f → StandAlike f }
     ensures rows { (log : Log) (f : Branch → Standing) (next : Origin) → AfterSessions log f →
         Finds log next → RowsDecide f next }
+    ensures decided { (log : Log) (f : Branch → Standing) (next : Origin) (b : Branch) →
+        (after : AfterSessions log f) → WasFoundDecided b log f after → Finds log next →
+        CommitStands f next b }
     ensures history { (log : Log) (f : Branch → Standing) → AfterSessions log f →
         HaveOneHistory log f }
+{}
+
+/// What is promised of right histories is promised of sessions: that their branches stand alike (`agree`), and that the log
+/// decides of what is prepared still (`rows`), follows from the one right history of all of them alone (`history` of
+/// [`sessions_agree`]), by what `agreement` of `xa_model` says of that.
+pub fn one_history_agrees()
+    ensures agree { (log : Log) (f : Branch → Standing) → HaveOneHistory log f → StandAlike f }
+    ensures rows { (log : Log) (f : Branch → Standing) (next : Origin) →
+        HaveOneHistory log f → Finds log next → RowsDecide f next }
 {}

@@ -10,6 +10,6 @@ mod explained;
 mod monitor;
 mod states;
 
-pub use explained::{answers_are_explained, sessions_agree};
+pub use explained::{answers_are_explained, one_history_agrees, sessions_agree};
 pub use monitor::{HearFault, Monitor};
 pub use states::{HeuristicEnds, States};

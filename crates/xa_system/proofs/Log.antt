@@ -4,4 +4,3 @@ pub mod GiveLog
 pub mod KeptLog
 pub mod Laws
 pub mod Changes
-pub mod NextLog

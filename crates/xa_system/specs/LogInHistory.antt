@@ -1,13 +1,9 @@
 -- What a decision log holds, as the history of its system knows it.
-use Rattle.std.specs.Prelude.{◌≡◌, ◌≤◌, ◌⊎◌, ◌&&◌, not, ◌+◌, ◌-◌, ◌^◌, ℕ, Bool, true, false, filter, if◌then◌else◌, List, length, map, Option, Some, None, IsSomeAnd}
-use Rattle.std.specs.FinMap.{get, len}
-use Rattle.xa_base.specs.Branch.{branch_cmp}
+use Rattle.std.specs.Prelude.{◌≡◌, ◌≤◌, ◌⊎◌, ◌&&◌, not, ◌+◌, ◌-◌, ◌^◌, ℕ, Bool, true, false, filter, List, length, Option, Some, IsSomeAnd}
 use Rattle.xa_model.specs.Replies.Allowed.{failed_restarts}
-use Rattle.xa_model.specs.Facts.{Change, Change.AddRecord, Change.AddRows, Change.DropRows, Change.NoChange, doubt, fault_change, has_row, heuristic_rows, incarnation, log, participants, recorded_as, up}
-use Rattle.xa_model.specs.Trace.{Fault, Fault.InRestart, Happening, Happening.Failed, Origin, Trace, Trace.From}
+use Rattle.xa_model.specs.Facts.{fault_change, incarnation, up}
+use Rattle.xa_model.specs.Trace.{Fault, Fault.InRestart, Happening, Happening.Failed, Trace}
 use Rattle.xa_base.specs.Xid.{Xid}
-use Rattle.xa_base.specs.declared.branch.Branch.{Branch}
-use Rattle.xa_base.specs.declared.branch.Gtrid.{Gtrid}
 use Rattle.xa_base.specs.declared.refusal.Refusal.TheVariants as Refusals
 use Rattle.xa_base.specs.declared.reply.Event.{Event}
 use Rattle.xa_base.specs.declared.reply.Reply.{Reply}
@@ -16,43 +12,13 @@ use Rattle.xa_base.specs.declared.step.Side.TheVariants as Sides
 use Rattle.xa_base.specs.declared.step.Step.TheVariants as Steps
 use Rattle.xa_model.specs.Replies.History.{step_of}
 use Rattle.xa_model.specs.Replies.Steps as known
-use Rattle.xa_log.specs.Content.{Content, with_bump, with_record, without_decisions}
-use Rattle.xa_log.specs.Contract.{Honestly, Makes, MayMake, Moment, one_more_fault}
-use Rattle.xa_log.specs.KeySet.{KeySet, from_list}
-use Rattle.xa_tm.specs.Book.{Book, waiting_row}
+use Rattle.xa_log.specs.Content.{Content, with_bump}
+use Rattle.xa_log.specs.Contract.{Honestly, MayMake, Moment, one_more_fault}
+use Rattle.xa_tm.specs.Book.{Book}
 use Rattle.xa_tm.specs.Calls.{book_in, log_in}
-use Rattle.xa_tm.specs.Starting.{book_at_start}
-use Rattle.xa_tm.specs.BookAndLog.{IsTied, SameRows, with_rows}
+use Rattle.xa_tm.specs.BookAndLog.{IsTied}
 use Rattle.xa_tm.specs.declared.manager.Manager.{Manager}
-
--- ** rows and records
-
--- the row of a transaction: the branches whose xa_commit it waits for
-abbrev pub participants_of_row : Trace → Gtrid → Option (KeySet branch_cmp)
-participants_of_row tr g = if has_row tr g then Some (from_list (participants tr g)) else None
-
--- the log has just the rows of the history, each with its participants, and its record
-pub record HoldsRows (tr : Trace) (c : Content) : Type 0 where
-  pub rows : (g : Gtrid) → get c.decisions g ≡ participants_of_row tr g
-  pub row_number : len c.decisions ≡ length (log tr)
-  pub records : (b : Branch) → get c.heuristics b ≡ recorded_as tr b
-  pub record_number : len c.heuristics ≡ length (heuristic_rows tr)
-
--- a log with a change
-abbrev pub after_change : Change → Content → Content
-after_change (AddRows xs) c = with_rows (map waiting_row xs) c
-after_change (DropRows gs) c = without_decisions gs c
-after_change (AddRecord x) c = with_record x.branch x.how c
-after_change NoChange c = c
-
--- the log has those rows and that record, with or without the change in doubt
-abbrev pub MayHoldRows : Trace → Content → Type 0
-MayHoldRows tr c = (before : Content) × HoldsRows tr before × (SameRows c before ⊎ SameRows c (after_change (doubt tr) before))
-
--- a history starts over a log that had just the rows and the record of its start, in the incarnation before
-pub record StartsOver (o : Origin) (c : Content) : Type 0 where
-  pub rows : HoldsRows (From o) c
-  pub incarnation : o.incarnation ≡ c.incarnation + 1
+pub use Rattle.xa_tm.specs.LogRows.{HoldsRows, MayHoldRows, StartsOver, after_change, participants_of_row}
 
 -- ** the log of a manager that is up, and of one that is down
 

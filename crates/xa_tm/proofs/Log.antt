@@ -7,3 +7,5 @@ pub mod AgreesWith
 pub mod MayHoldAgain
 pub mod Pasts
 pub mod Begins
+pub mod TellsRows
+pub mod NextRows

@@ -13,3 +13,4 @@ pub mod Resolve
 pub mod ResolveOpen
 pub mod Decide
 pub mod Removals
+pub mod FirstBranches

@@ -14,6 +14,7 @@ pub mod Outcomes
 pub mod Refusing
 pub mod Resolving
 pub mod BookAndLog
+pub mod LogRows
 pub mod StartFaults
 pub mod Started
 pub mod Starting

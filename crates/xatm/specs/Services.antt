@@ -41,3 +41,16 @@ module _ {L : Type 0} (moment : L → Moment) (name : List ℕ) (threads rms : �
 pub record StartsNot {L : Type 0} (logs : DecisionLog.Ghosts L) (handed : L) (written all : Option (List ℕ)) (failure : Failure) : Type 0 where
   pub silent : Keeps written all
   pub why : ((failure ≡ Run faults.Log) × IsToBlame logs handed) ⊎ ((failure ≡ Run faults.Memory) × ((left : L) × IsOnlyRead logs handed left))
+
+module _ {L : Type 0} (logs : DecisionLog.Ghosts L) (name : List ℕ) (threads rms : ℕ) (handed : L) where
+  -- a coordinator served a driver over this log
+  abbrev pub HasServed : (unread left written all : Option (List ℕ)) → Type 0
+  HasServed unread left written all =
+      (first : Coordinator L) × (last : Coordinator L) × IsServed logs.moment name threads rms (logs.moment handed) unread left written all first last
+
+  -- none started over it, or its session was broken off
+  abbrev pub HasFailed : (unread written all : Option (List ℕ)) → Failure → Type 0
+  HasFailed unread written all failure =
+      StartsNot logs handed written all failure
+      ⊎ ((first : Coordinator L) × (last : Coordinator L)
+      × IsBrokenOff logs.moment name threads rms (logs.moment handed) unread written all first last)

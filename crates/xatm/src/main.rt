@@ -24,7 +24,7 @@ use crate::stores::{
     close_in_files, list_in_files, run_in_files, run_jobs_in_files, run_jobs_over, run_over,
 };
 use crate::stories::{check, draw, explain};
-use std::io::{BufReader, Input, Write};
+use std::io::{BufReader, BufWriter, Input, Write};
 use std::process::ExitCode;
 use std::sync::Wait;
 use std::thread::Threads;
@@ -101,7 +101,7 @@ fn perform<T: Threads + Wait + Clock + Sync>(
             let name = manager_named(name)?;
             claim_log(rt, log, &name, rm_names)?;
             introduce(rt.alloc(), &name, rm_names, &mut out)?;
-            serve(rt, &name, log, threads, rms, &mut out)
+            serve(rt, &name, log, threads, rms)
         }
         Command::Log { path, explains } => list(rt, path, explains, &mut out),
         Command::MakeLog { path } => make_log(rt, path),
@@ -205,22 +205,26 @@ fn run_threads<T: Threads + Wait + Clock + Sync, W: Write>(
 }
 
 /// Serves the driver behind standard input and output over the log at a path, as the manager of this name.
-fn serve<W: Write>(
+fn serve(
     rt: &HostRuntime,
     name: &ManagerName,
     log: &str,
     threads: u32,
     rms: u32,
-    out: &mut W,
 ) -> Result<(), Failure> {
     let alloc = rt.alloc();
     let mut input = BufReader::new(alloc, rt.reader()).map_err(|error| Failure::Input.caused_by(
         &error,
     ))?;
+    let mut out = BufWriter::new(alloc, io::writer(rt)).map_err(|error| Failure::Run(
+        RunFault::Output,
+    ).caused_by(&error))?;
     let opened = SqlLog::open(rt, log)?;
-    let served = serve_in_files(alloc, name, threads, rms, opened, &mut input, out);
+    let served = serve_in_files(alloc, name, threads, rms, opened, &mut input, &mut out);
+    let flushed = out.flush();
     let gathered = gather(rt, log);
     served?;
+    flushed.map_err(|_| Failure::Run(RunFault::Output))?;
     gathered?;
     Ok(())
 }

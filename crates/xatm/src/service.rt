@@ -1,15 +1,15 @@
 //! What is done for a driver, over a log in any store and over one in files.
 
-ghost use Rattle.std.specs.Prelude.{◌≡◌, ◌⊎◌, IfErr, OnOk};
-ghost use Rattle.xa_coordinator.specs.declared.coordinator.Coordinator.{Coordinator};
+ghost use Rattle.std.specs.Prelude.{◌≡◌, IfErr, OnOk};
+ghost use Rattle.std.specs.Io.Buffered.{reader_remaining};
 ghost use Rattle.xatm.specs.Failures.{failure_status};
-ghost use Rattle.xatm.specs.Services.{IsBrokenOff, IsServed, StartsNot};
+ghost use Rattle.xatm.specs.Services.{HasFailed, HasServed};
 
 use crate::failure::Failure;
 use sqlite::FileStore;
 use sqlite_disk::Disk;
 use std::alloc::Global;
-use std::io::{Read, Write};
+use std::io::{BufReader, Read, Write};
 use xa_coordinator::Coordinator;
 use xa_log::DecisionLog;
 use xa_names::ManagerName;
@@ -23,18 +23,14 @@ pub(crate) fn serve_over<L: DecisionLog + Drop, R: Read, W: Write>(
     threads: u32,
     rms: u32,
     log: L,
-    input: &mut R,
+    input: &mut BufReader<R>,
     out: &mut W,
 ) -> Result<(), Failure>
-    ensures served { OnOk result ((first : Coordinator L) × (last : Coordinator L)
-        × IsServed L.moment name.now threads rms (L.moment log)
-        (R.remaining input.old) (R.remaining input.new)
-        (W.contents out.old) (W.contents out.new) first last) }
-    ensures broken { IfErr result (λ failure.
-        StartsNot L.DecisionLog log (W.contents out.old) (W.contents out.new) failure
-        ⊎ ((first : Coordinator L) × (last : Coordinator L)
-        × IsBrokenOff L.moment name.now threads rms (L.moment log)
-        (R.remaining input.old) (W.contents out.old) (W.contents out.new) first last)) }
+    ensures served { OnOk result (HasServed L.DecisionLog name.now threads rms log
+        (reader_remaining R.remaining input.old) (reader_remaining R.remaining input.new)
+        (W.contents out.old) (W.contents out.new)) }
+    ensures broken { IfErr result (HasFailed L.DecisionLog name.now threads rms log
+        (reader_remaining R.remaining input.old) (W.contents out.old) (W.contents out.new)) }
     ensures status { IfErr result (λ failure. failure_status failure ≡ 2) }
 {
     let mut coordinator = Coordinator::new(alloc, threads, rms, log)?;
@@ -49,8 +45,17 @@ pub(crate) fn serve_in_files<D: Disk + Drop, R: Read, W: Write>(
     threads: u32,
     rms: u32,
     log: SqlLog<FileStore<D>>,
-    input: &mut R,
+    input: &mut BufReader<R>,
     out: &mut W,
-) -> Result<(), Failure> {
+) -> Result<(), Failure>
+    ensures served { OnOk result (HasServed ⟦<SqlLog<FileStore<D>> as DecisionLog>⟧
+        name.now threads rms log
+        (reader_remaining R.remaining input.old) (reader_remaining R.remaining input.new)
+        (W.contents out.old) (W.contents out.new)) }
+    ensures broken { IfErr result (HasFailed ⟦<SqlLog<FileStore<D>> as DecisionLog>⟧
+        name.now threads rms log (reader_remaining R.remaining input.old)
+        (W.contents out.old) (W.contents out.new)) }
+    ensures status { IfErr result (λ failure. failure_status failure ≡ 2) }
+{
     serve_over(alloc, name, threads, rms, log, input, out)
 }

@@ -18,7 +18,6 @@ use super::Session;
 use crate::hearing::can_hear;
 use crate::laws::books_have_headroom;
 use xa_base::{Answer, Branch, Refusal};
-use xa_line::Line;
 use xa_log::DecisionLog;
 
 /// Why an answer is not heard.
@@ -91,7 +90,7 @@ impl<L: DecisionLog + Drop> Session<L> {
         match self.manager.hear(thread, rm, &call, &answer) {
             Ok(()) => {
                 self.monitor.follow(&call, &answer);
-                answer_first(self.lines.line_mut(thread, rm), answer);
+                self.lines.line_mut(thread, rm).answer_first(answer);
                 self.happenings += 1;
                 Ok(())
             }
@@ -101,16 +100,5 @@ impl<L: DecisionLog + Drop> Session<L> {
                 Err(Unfit::Refused(refusal))
             }
         }
-    }
-}
-
-/// The call that waits first is taken, answered and heard.
-fn answer_first(line: &mut Line, answer: Answer)
-    requires { line.old.answers.waiting ≡ [] }
-    ensures { line.new ≡ with_answer line.old answer }
-{
-    if let Some(call) = line.take() {
-        let _ = line.answer(call, answer);
-        let _ = line.hear();
     }
 }

@@ -17,8 +17,8 @@ ghost use Rattle.xa_serve.specs.Session.{IsReady, first_waiting, issue_refusal, 
 
 use super::Session;
 use crate::laws::books_have_headroom;
+use crate::session_line::SessionLine;
 use xa_base::{Call, Refusal};
-use xa_line::Line;
 use xa_log::DecisionLog;
 
 impl<L: DecisionLog + Drop> Session<L> {
@@ -96,9 +96,12 @@ impl<L: DecisionLog + Drop> Session<L> {
         if let Some(refusal) = self.may_issue(thread, rm, call) {
             return Err(refusal);
         }
+        let Ok(room) = self.lines.room(thread, rm) else {
+            return Err(Refusal::Memory);
+        };
         match self.manager.note_issued(thread, rm, call) {
             Ok(()) => {
-                let _ = self.lines.line_mut(thread, rm).issue(call.copy());
+                let _ = self.lines.line_mut(thread, rm).issue(call.copy(), room);
                 self.happenings += 1;
                 Ok(())
             }
@@ -108,7 +111,7 @@ impl<L: DecisionLog + Drop> Session<L> {
 }
 
 /// Why a line takes no such call, however little waits on it.
-fn bar(line: &Line, call: &Call) -> Option<Refusal>
+fn bar(line: &SessionLine, call: &Call) -> Option<Refusal>
     ensures { result ≡ barred (issued line.now) call.now }
 {
     if !matches!(call, Call::OpenRm) && !line.is_open() {

@@ -10,12 +10,12 @@ ghost use Rattle.xa_tm.specs.Calls.{book_in, log_in};
 ghost use Rattle.xa_tm.specs.Refusing.{resolved_in, resolved_open_in};
 ghost use Rattle.xa_serve.specs.Following.{Follows, StaysAs};
 ghost use Rattle.xa_serve.specs.Logging.{KeepsLog};
-ghost use Rattle.xa_serve.specs.Session.{IsReady, LetsWait, recovery_refusal, with_more};
+ghost use Rattle.xa_serve.specs.Session.{IsReady, LetsWait, awaits_page, recovery_refusal, with_more};
 
 use super::Session;
 use crate::laws::books_have_headroom;
+use crate::session_line::SessionLine;
 use xa_base::{Call, Refusal};
-use xa_line::Line;
 use xa_log::DecisionLog;
 use xa_tm::recoveries_are_read;
 
@@ -34,6 +34,9 @@ impl<L: DecisionLog + Drop> Session<L> {
         if line.is_closed() {
             return Some(Refusal::Closed);
         }
+        if awaits_page(line) {
+            return Some(Refusal::Busy);
+        }
         if line.is_full_for(count) {
             return Some(Refusal::Full);
         }
@@ -41,7 +44,7 @@ impl<L: DecisionLog + Drop> Session<L> {
     }
 
     /// Lets the calls wait, on the line of the first thread, that end what a resource manager listed last. Gives their
-    /// number.
+    /// number. It is refused as Busy while an xa_recover waits first on that line: behind a page that was refused, too.
     pub fn resolve(&mut self, rm: u32) -> Result<usize, Refusal>
         requires { IsReady self.old }
         ensures ready { IsReady self.new }
@@ -127,14 +130,21 @@ impl<L: DecisionLog + Drop> Session<L> {
     }
 }
 
+/// Whether the call that waits first on a line is an xa_recover, of which no page was heard.
+fn awaits_page(line: &SessionLine) -> bool
+    ensures { result ≡ awaits_page line.now }
+{
+    matches!(line.front(), Some(Call::Recover { .. }))
+}
+
 /// Lets calls wait on a line that has room for all of them, is open, and isn't closed by one of them.
-fn issue_all(line: &mut Line, calls: Vec<Call>)
+fn issue_all(line: &mut SessionLine, calls: Vec<Call>)
     requires room { length line.old.calls.waiting + vec_len calls ≤ places }
     requires open { has_opened (issued line.old) ≡ true }
     requires unclosed { has_closed (issued line.old ++ calls.items) ≡ false }
     ensures { line.new ≡ record line.old { calls = with_more line.old.calls calls.items } }
 {
     for call in calls {
-        let _ = line.issue(call);
+        let _ = line.issue(call, None);
     }
 }

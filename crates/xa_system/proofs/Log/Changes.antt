@@ -20,7 +20,7 @@ use Rattle.xa_tm.specs.Slots.{durable_in, last_out, log_held, slot_moment}
 use Rattle.xa_tm.specs.BookAndLog.{IsChangeOf, IsTied, IsTiedDown, IsTiedUp, TiedBy, changed_by}
 use Rattle.xa_tm.specs.declared.manager.Manager.{Manager}
 use Rattle.xa_system.specs.LogInHistory.{AreTied, IsDurable, LogFollows, MayHaveFailed, change_in, count_after}
-use Rattle.xa_system.proofs.Log.Laws.{change_of, made_is}
+use Rattle.xa_tm.proofs.Log.TellsRows.{change_of, made_is}
 
 -- no failure of the log
 abbrev pub IsUncounted : Happening → Type 0

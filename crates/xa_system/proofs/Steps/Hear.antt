@@ -54,7 +54,7 @@ use Rattle.xa_system.proofs.Steps.Crash.{all_stand, line_why}
 use Rattle.xa_line.proofs.TrafficLaws.{line_goes_on, line_renewed}
 use Rattle.xa_system.proofs.LineLaws.{line_stays, no_waiting_answer, waiting_answer}
 use Rattle.xa_system.proofs.OnBranch.{ours_back}
-use Rattle.xa_system.proofs.Log.Laws.{made_is}
+use Rattle.xa_tm.proofs.Log.TellsRows.{made_is}
 use Rattle.xa_log.specs.Content.{Content}
 use Rattle.xa_tm.specs.BookAndLog.{changed_by}
 use Rattle.xa_system.proofs.Log.Changes.{LogCalled, LogUndone, fault_is_change, log_done, log_failing}

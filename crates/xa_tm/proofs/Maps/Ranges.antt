@@ -1,9 +1,11 @@
 -- The branches of one transaction stand in a row.
-use Rattle.std.proofs.Common.{◌≡◌, ℕ, ◌+◌, List, [], ◌∷◌, Bool, true, false, not, ◌&&◌, filter, cond, refl, ap, ◌∙◌, arith, Ordering, Less, Equal, Greater, nat_cmp, is_eq}
+use Rattle.std.proofs.Common.{◌≡◌, ℕ, ◌+◌, List, [], ◌∷◌, Bool, true, false, not, ◌&&◌, ◌||◌, filter, cond, refl, sym, ap, ◌∙◌, arith, Ordering, Less, Equal, Greater, nat_cmp, is_eq}
 use Rattle.std.specs.Prelude.{nat_eq}
 use Rattle.std.specs.Ordering.{is_gt, is_le, is_lt, ordering_then}
 use Rattle.std.proofs.lemmas.Bool.{eq-eqb}
-use Rattle.std.specs.BTreeMap.Range.{range_contains}
+use Rattle.std.specs.BTreeMap.Range.{is_past_end, range_contains}
+use Rattle.std.specs.List.{list_any}
+use Rattle.std.specs.declared.ops.Bound.{Bound}
 use Rattle.std.specs.declared.ops.Bound.TheVariants.{Included, Excluded}
 use Rattle.xa_base.specs.Branch.{branch_cmp, gtrid_eq}
 use Rattle.xa_base.specs.declared.branch.Branch.{Branch}
@@ -68,3 +70,30 @@ in_turn r p v same (e ∷ es) = by (r e) (p e) (same e) (in_turn r p v same es)
     by false false is tail = tail
     by true false is tail = absurd (cc)
     by false true is tail = absurd (cc)
+
+-- ** what is looked for among the branches of one transaction
+
+-- its own are in a range that begins with its least and doesn't end before one of them
+pub inside : (g : Gtrid) (end : Bound Branch) → ((q : Branch) → gtrid_eq q.gtrid g ≡ true → is_past_end branch_cmp end q ≡ false) → (q : Branch)
+    → gtrid_eq q.gtrid g ≡ true → range_contains branch_cmp (Included (record { gtrid = g; thread = 0; rm = 0 })) end q ≡ true
+inside g end own q is = by _ _ (from_first _ _ (within g q ∙ is)) (own q is)
+  where
+    from_first : (a b : Bool) → (a && b) ≡ true → a ≡ true
+    from_first true b e = refl
+    from_first false b e = absurd (cc)
+
+    by : (a b : Bool) → a ≡ true → b ≡ false → (a && not b) ≡ true
+    by true false s t = refl
+    by true true s t = absurd (cc)
+    by false b s t = absurd (cc)
+
+-- what only some pass is found among those
+pub any_inside : {E : Type 0} (r p : E → Bool) → ((e : E) → p e ≡ true → r e ≡ true) → (es : List E) → list_any p (filter r es) ≡ list_any p es
+any_inside r p some [] = refl
+any_inside r p some (e ∷ es) = by (r e) (p e) refl refl (any_inside r p some es)
+  where
+    by : (s t : Bool) → r e ≡ s → p e ≡ t → list_any p (filter r es) ≡ list_any p es
+        → list_any p (cond s (e ∷ filter r es) (filter r es)) ≡ (p e || list_any p es)
+    by true t is of tail = ap (λ b. p e || b) tail
+    by false false is of tail = tail ∙ sym (ap (λ b. b || list_any p es) of)
+    by false true is of tail = absurd (let no : true ≡ false = sym (some e of) ∙ is in cc)

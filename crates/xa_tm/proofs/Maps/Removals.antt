@@ -1,10 +1,10 @@
 -- What is noted of a transaction is taken out of the maps of the manager's book.
-use Rattle.std.proofs.Common.{◌≡◌, List, [], ◌∷◌, filter, Bool, true, false, not, ◌&&◌, ◌||◌, cond, Option, Some, None, is_some, refl, sym, ap, ◌∙◌}
+use Rattle.std.proofs.Common.{◌≡◌, filter, Bool, true, false, not, ◌&&◌, ◌||◌, cond, Option, Some, None, is_some, refl, sym, ap, ◌∙◌}
 use Rattle.std.specs.Prelude.{if◌then◌else◌, unwrap_or}
 use Rattle.std.specs.BTreeMap.{BTreeMap, get, is_at, IsOrdered}
 use Rattle.std.specs.Global.{Vec}
 use Rattle.std.specs.List.{list_any}
-use Rattle.std.specs.Map.{keys_of, lookup}
+use Rattle.std.specs.Map.{keys_of}
 use Rattle.std.specs.Option.{option_map}
 use Rattle.std.specs.Ordering.{eq_by_cmp}
 use Rattle.std.proofs.lemmas.Bool.{true≢false}
@@ -13,10 +13,7 @@ use Rattle.xa_base.specs.declared.branch.Branch.{Branch}
 use Rattle.xa_base.specs.declared.branch.Gtrid.{Gtrid}
 use Rattle.xa_base.specs.declared.code.How.{How}
 use Rattle.xa_base.proofs.BranchKeys.{gtrid_eq-refl, gtrid_eq-true}
-use Rattle.xa_base.proofs.BranchOrder.{branches_total, exact_branches}
-use Rattle.xa_base.proofs.Orders.{equal_is}
-use Rattle.xa_log.specs.KeySet.{from_list, items, same_set}
-use Rattle.xa_tm.specs.LedgerBook.{as_book, known_in, no_branch, no_transaction, notes_at, notes_of, row_at, transaction_at, transaction_notes_of, waiting_of}
+use Rattle.xa_tm.specs.LedgerBook.{as_book, no_branch, no_transaction, notes_at, notes_of, row_at, transaction_at, transaction_notes_of, waiting_of}
 use Rattle.xa_tm.specs.Release.{AreFinished}
 use Rattle.xa_tm.specs.Starting.{no_notes, no_transaction_notes}
 use Rattle.xa_tm.specs.declared.ledger.Ledger.{Ledger}
@@ -26,7 +23,6 @@ use Rattle.xa_tm.proofs.Maps.Transactions.{gtrid_tie}
 use Rattle.xa_tm.proofs.Maps.StartedBranches.{any_kept, known_has}
 use Rattle.xa_tm.proofs.History.Members.{passes_among, witness}
 use Rattle.xa_tm.proofs.Maps.UnfinishedBranches.{some_left}
-use Rattle.xa_tm.proofs.Release.{set_filtered}
 
 -- ** a transaction, and the room for its row
 
@@ -55,64 +51,19 @@ pub taken_out : {X : Type 0} (m n : BTreeMap Gtrid X) (g : Gtrid)
     → ((q : Gtrid) → get gtrid_cmp n q ≡ cond (is_at (gtrid_cmp g) q) None (get gtrid_cmp m q)) → get gtrid_cmp n g ≡ None
 taken_out m n g h = h g ∙ ap (λ t. cond t None (get gtrid_cmp m g)) (gtrid_tie g g ∙ gtrid_eq-refl g)
 
--- ** its branches
-
-found : (keep : Branch → Bool) (q : Branch) (es : List (Branch × BranchNotes))
-    → lookup (is_at (branch_cmp q)) (filter (λ e. keep e.0) es) ≡ (if keep q then lookup (is_at (branch_cmp q)) es else None)
-found keep q [] = by None (keep q)
-  where
-    by : (o : Option BranchNotes) (t : Bool) → o ≡ (if t then o else o)
-    by o true = refl
-    by o false = refl
-found keep q (e ∷ es) = by (keep e.0) (is_at (branch_cmp q) e.0) refl refl (found keep q es)
-  where
-    rest_of : List (Branch × BranchNotes)
-    rest_of = filter (λ e. keep e.0) es
-
-    by : (t s : Bool) → keep e.0 ≡ t → is_at (branch_cmp q) e.0 ≡ s
-        → lookup (is_at (branch_cmp q)) (filter (λ e. keep e.0) es) ≡ (if keep q then lookup (is_at (branch_cmp q)) es else None)
-        → lookup (is_at (branch_cmp q)) (cond t (e ∷ filter (λ e. keep e.0) es) (filter (λ e. keep e.0) es))
-        ≡ (if keep q then cond s (Some e.1) (lookup (is_at (branch_cmp q)) es) else None)
-    by true true is at rest =
-        ap (λ b. cond b (Some e.1) (lookup (is_at (branch_cmp q)) (filter (λ e. keep e.0) es))) at
-        ∙ sym (ap (λ (b : Bool). if b then Some e.1 else None) (ap keep (exact_branches q e.0 (equal_is _ at)) ∙ is))
-    by true false is at rest = ap (λ b. cond b (Some e.1) (lookup (is_at (branch_cmp q)) (filter (λ e. keep e.0) es))) at ∙ rest
-    by false true is at rest =
-        let out = ap keep (exact_branches q e.0 (equal_is _ at)) ∙ is in
-        rest ∙ ap (λ (b : Bool). if b then lookup (is_at (branch_cmp q)) es else None) out
-        ∙ sym (ap (λ (b : Bool). if b then Some e.1 else None) out)
-    by false false is at rest = rest
-
-module _ (m n : BTreeMap Branch BranchNotes) (g : Gtrid) (is : n.entries ≡ filter (λ e. not (gtrid_eq g e.0.gtrid)) m.entries) where
-  pub left_notes : (q : Branch) → notes_at n q ≡ (if gtrid_eq g q.gtrid then no_branch else notes_at m q)
-  left_notes q =
-      ap (λ es. unwrap_or (lookup (is_at (branch_cmp q)) es) no_branch) is
-      ∙ ap (λ o. unwrap_or o no_branch) (found (λ b. not (gtrid_eq g b.gtrid)) q m.entries) ∙ by (gtrid_eq g q.gtrid)
-    where
-      by : (t : Bool) → unwrap_or (if not t then lookup (is_at (branch_cmp q)) m.entries else None) no_branch ≡ (if t then no_branch else notes_at m q)
-      by true = refl
-      by false = refl
-
-  pub left_gone : (q : Branch) → q.gtrid ≡ g → get branch_cmp n q ≡ None
-  left_gone q of =
-      ap (λ es. lookup (is_at (branch_cmp q)) es) is ∙ found (λ b. not (gtrid_eq g b.gtrid)) q m.entries
-      ∙ ap (λ (t : Bool). if not t then lookup (is_at (branch_cmp q)) m.entries else None) (ap (gtrid_eq g) of ∙ gtrid_eq-refl g)
-
-  pub left_known : IsOrdered branch_cmp m → IsOrdered branch_cmp n
-      → known_in n ≡ from_list (filter (λ b. not (gtrid_eq g b.gtrid)) (items (known_in m)))
-  left_known up rise = same_set branches_total exact_branches _ _ (λ q.
-      known_has n rise q ∙ ap (λ (x : BranchNotes). x.is_started) (left_notes q) ∙ by q (gtrid_eq g q.gtrid)
-      ∙ sym (set_filtered (λ b. not (gtrid_eq g b.gtrid)) q (known_in m) ∙ ap (λ t. not (gtrid_eq g q.gtrid) && t) (known_has m up q)))
-    where
-      by : (q : Branch) (t : Bool) → (if t then no_branch else notes_at m q).is_started ≡ (not t && (notes_at m q).is_started)
-      by q true = refl
-      by q false = refl
-
 -- ** nothing more can come of them
 
 -- an entry of a branch of the transaction of which something may still come
 abbrev pub is_owed : Gtrid → Branch × BranchNotes → Bool
 is_owed g e = ((e.1.is_started && not e.1.is_finished) || is_some e.1.recorded) && gtrid_eq e.0.gtrid g
+
+pub is_of : (g : Gtrid) (e : Branch × BranchNotes) → is_owed g e ≡ true → gtrid_eq e.0.gtrid g ≡ true
+is_of g e owed = by _ _ owed
+  where
+    by : (a b : Bool) → (a && b) ≡ true → b ≡ true
+    by a true is = refl
+    by true false is = absurd (cc)
+    by false false is = absurd (cc)
 
 module _ (k : Ledger) (g : Gtrid) (up : IsOrdered branch_cmp k.branches) where
   at_branch : (q : Branch) → list_any (eq_by_cmp branch_cmp q) (keys_of (filter (is_owed g) k.branches.entries)) ≡ is_owed g (q, notes_at k.branches q)

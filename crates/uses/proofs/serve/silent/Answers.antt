@@ -5,6 +5,6 @@ use Rattle.uses.proofs.serve.silent.Goals as goal
 pub returns : goal.returns
 returns g c =
     for_ok c.served_over.result _ _
-    (λ left is. silent_so g.L.DecisionLog.moment c.served_sessions_agree.ensures.agree c.served_sessions_agree.ensures.rows c.starts_are_tracked.ensures c.sessions_are_tracked.ensures
+    (λ left is. silent_so g.L.DecisionLog.moment c.served_sessions_agree.ensures.agree c.served_sessions_agree.ensures.seen
     c.args.threads c.args.rms c.args.log left.1 left.0.items is)
     c.served_over.ensures

@@ -11,7 +11,7 @@ returns g c = record {
         explained = c.sessions_are_explained.ensures o tracks.more tracks.last.session is_old tracks.keeps;
         last = tracks.last;
         to_end = tracks.to_end;
-        first = λ t r lt lr. c.first_calls_are_tracked.ensures o tracks.more tracks.last.session t r tracks.keeps lt lr;
+        waiting = λ t r n lt lr. c.waiting_calls_are_tracked.ensures o tracks.more tracks.last.session t r n tracks.keeps lt lr;
         agree = λ f so. c.answers_are_explained.ensures.agree o tracks.more is_old tracks.keeps.0 f so;
       };
 }

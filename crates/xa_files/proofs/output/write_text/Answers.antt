@@ -1,19 +1,9 @@
-use Rattle.std.proofs.Common.{take, rules}
-use Rattle.std.specs.Io.KnownBytes.{Appends, Keeps}
-use Rattle.xa_files.proofs.OutputLemmas.{more_written, still_written}
+use Rattle.xa_files.proofs.OutputLemmas.{begun_with_all, written_then_kept}
 use Rattle.xa_files.proofs.output.write_text.Goals as goal
-use Rattle.xa_files.proofs.output.write_text.Goals.{in-Ok, in-Err+else-ne}
 
-pub loop-preserved : goal.loop-preserved
-loop-preserved g c = elim c.match-write.branch [
-  | in-Ok w ↦
-      let contents = g.W.Write.contents in
-      let more : Appends (contents c.loop.out) (contents c.write.new.self) (take w.in-Ok.count c.loop.rest.now) = w.in-Ok.ensures.bytes in
-      rw w.rest-is (more_written (contents c.args.out.now) (contents c.loop.out) (contents c.write.new.self) c.loop.rest.now c.args.text.now w.in-Ok.count
-      c.loop.invariant more)
-  | in-Err+else-ne w ↦
-      let contents = g.W.Write.contents in
-      let keeps : Keeps (contents c.loop.out) (contents c.write.new.self) = search rules in
-      rw w.rest-is (still_written (contents c.args.out.now) (contents c.loop.out) (contents c.write.new.self) c.loop.rest.now c.args.text.now
-      c.loop.invariant keeps)
-]
+pub returns-clause-begun : goal.returns-clause-begun
+returns-clause-begun g c =
+    let contents = g.W.Write.contents in
+    begun_with_all c.map_err.result (contents c.args.out.now) (contents c.flush.new.self) c.args.text.now
+    (written_then_kept (contents c.args.out.now) (contents c.write_unflushed.new.out) (contents c.flush.new.self) c.args.text.now
+    c.in_ok-write_unflushed.ensures.whole c.flush.ensures.bytes)

@@ -1,3 +1,4 @@
+use Rattle.xa_serve.proofs.FailedAnswers.{answer_found}
 use Rattle.xa_serve.proofs.FailedSteps.{decisions_found, done_found, settlement_found}
 use Rattle.xa_serve.proofs.NextStarts.{finds_the_log}
 use Rattle.xa_serve.proofs.laws.starts_find_the_log.Goals as goal
@@ -8,4 +9,5 @@ returns g c = record {
   decision = λ o seen s outcome ts keeps none. decisions_found s outcome ts none o seen keeps;
   settlement = λ o seen s t keeps none voted. settlement_found s t none voted o seen keeps;
   done = λ o seen s ts keeps none. done_found s ts none o seen keeps;
+  answer = λ o seen s t r answer call keeps fit first. answer_found o seen s t r answer call keeps fit first;
 }

@@ -1,4 +1,5 @@
 use Rattle.std.proofs.Common.{[], OnErr, OnOk, subst}
+use Rattle.std.specs.Io.Buffered.{reader_remaining}
 use Rattle.xa_coordinator.proofs.ServingLemmas.{breaks_as_is, on_err_as, on_ok_as, serves_as_is}
 use Rattle.xa_coordinator.specs.NamedLines.{BreaksSessionUnder, ServesUnder}
 use Rattle.xa_coordinator.specs.Replies.{greeting_of}
@@ -8,7 +9,7 @@ use Rattle.xa_coordinator.proofs.coordinator.Coordinator.serve.Goals as goal
 pub returns : goal.returns
 returns g c =
     let contents = g.W.Write.contents in
-    let left = g.R.Read.remaining in
+    let left = reader_remaining g.R.Read.remaining in
     let s = c.args.self.now in
     let law = c.without_a_name_nothing_changes.ensures.lines in
     let result = c.serve_under.result in

@@ -1,50 +1,72 @@
-use Rattle.std.proofs.Common.{◌∙◌, subst, sym}
-use Rattle.xa_coordinator.proofs.ServingLemmas.{at_end, off_at_once, off_behind, on_err, one_line}
+use Rattle.std.proofs.Common.{◌∙◌, false, subst, sym}
+use Rattle.std.specs.Io.Buffered.{reader_remaining}
+use Rattle.xa_coordinator.proofs.ServingLemmas.{at_end, off_at_once, off_behind, on_err, one_line, served_behind_flush}
 use Rattle.xa_coordinator.specs.NamedLines.{line_read}
 use Rattle.xa_coordinator.specs.Serving.{RepliesTo}
 use Rattle.xa_coordinator.specs.ServingLines.{BreaksOff, ServesLine}
 use Rattle.xa_coordinator.proofs.coordinator.Coordinator.serve_line.Goals as goal
 
+pub returns-in_err-flush_before_waiting-clause-err : goal.returns-in_err-flush_before_waiting-clause-err
+returns-in_err-flush_before_waiting-clause-err g c =
+    let unread = reader_remaining g.R.Read.remaining c.args.input.now in
+    let written = g.W.Write.contents c.args.output.now in
+    let all = g.W.Write.contents c.flush_before_waiting.new.output in
+    on_err c.from_residual.result (BreaksOff g.L.DecisionLog.moment c.args.name.now unread written all c.args.self.now c.args.self.now)
+    (off_at_once g.L.DecisionLog.moment c.args.name.now unread written all c.args.self.now c.flush_before_waiting.ensures)
+
 pub returns-in_err-line-clause-err : goal.returns-in_err-line-clause-err
 returns-in_err-line-clause-err g c =
-    let contents = g.W.Write.contents in
-    on_err c.from_residual.result (BreaksOff g.L.DecisionLog.moment c.args.name.now (g.R.Read.remaining c.args.input.now) (contents c.args.output.now) (contents c.args.output.now) c.args.self.now c.args.self.now)
-    (off_at_once g.L.DecisionLog.moment c.args.name.now (g.R.Read.remaining c.args.input.now) (contents c.args.output.now) c.args.self.now)
+    let unread = reader_remaining g.R.Read.remaining c.args.input.now in
+    let written = g.W.Write.contents c.args.output.now in
+    let all = g.W.Write.contents c.flush_before_waiting.new.output in
+    on_err c.from_residual-in_err-line.result (BreaksOff g.L.DecisionLog.moment c.args.name.now unread written all c.args.self.now c.args.self.now)
+    (off_at_once g.L.DecisionLog.moment c.args.name.now unread written all c.args.self.now c.flush_before_waiting.ensures)
 
 pub returns-in_err-reply-clause-err : goal.returns-in_err-reply-clause-err
 returns-in_err-reply-clause-err g c =
-    let all = g.W.Write.contents c.args.output.now in
-    let unread = g.R.Read.remaining c.args.input.now in
-    on_err c.from_residual-in_err-reply.result (BreaksOff g.L.DecisionLog.moment c.args.name.now unread all all c.args.self.now c.reply_to.new.self)
-    (subst (λ s. BreaksOff g.L.DecisionLog.moment c.args.name.now unread all all c.args.self.now s) (sym c.in_err-reply.ensures.err)
-    (off_at_once g.L.DecisionLog.moment c.args.name.now unread all c.args.self.now))
+    let unread = reader_remaining g.R.Read.remaining c.args.input.now in
+    let written = g.W.Write.contents c.args.output.now in
+    let all = g.W.Write.contents c.flush_before_waiting.new.output in
+    on_err c.from_residual-in_err-reply.result (BreaksOff g.L.DecisionLog.moment c.args.name.now unread written all c.args.self.now c.reply_to.new.self)
+    (subst (λ s. BreaksOff g.L.DecisionLog.moment c.args.name.now unread written all c.args.self.now s) (sym c.in_err-reply.ensures.err)
+    (off_at_once g.L.DecisionLog.moment c.args.name.now unread written all c.args.self.now c.flush_before_waiting.ensures))
 
 pub returns-in_err-write_reply-clause-err : goal.returns-in_err-write_reply-clause-err
 returns-in_err-write_reply-clause-err g c =
-    let left = g.R.Read.remaining in
+    let left = reader_remaining g.R.Read.remaining in
     let contents = g.W.Write.contents in
+    let mid = contents c.flush_before_waiting.new.output in
     on_err c.from_residual-in_err-write_reply.result
     (BreaksOff g.L.DecisionLog.moment c.args.name.now (left c.args.input.now) (contents c.args.output.now) (contents c.write_reply.new.output) c.args.self.now c.reply_to.new.self)
-    (off_behind g.L.DecisionLog.moment c.args.name.now (left c.args.input.now) (left c.read_line.new.input) (contents c.args.output.now) (contents c.write_reply.new.output)
+    (off_behind g.L.DecisionLog.moment c.args.name.now (left c.args.input.now) (left c.read_line.new.input) (contents c.args.output.now) mid
+    (contents c.write_reply.new.output)
     c.in_ok-line.line.bytes.items c.in_ok-line.line.is_ended c.in_ok-reply.reply c.args.self.now c.reply_to.new.self
     c.in_ok-line.ensures (sym c.is_nothing.ensures ∙ c.if-is_nothing.false)
     (subst (λ l. RepliesTo g.L.DecisionLog.moment (line_read c.args.name.now l) c.args.self.now c.in_ok-reply.reply c.reply_to.new.self) c.deref.ensures.value c.in_ok-reply.ensures.ok)
-    c.in_err-write_reply.ensures.err)
+    c.flush_before_waiting.ensures c.in_err-write_reply.ensures.err)
 
 pub returns-then-is_nothing-clause-ok : goal.returns-then-is_nothing-clause-ok
 returns-then-is_nothing-clause-ok g c =
-    let left = g.R.Read.remaining in
-    at_end g.L.DecisionLog.moment c.args.name.now (left c.args.input.now) (left c.read_line.new.input) (g.W.Write.contents c.args.output.now) c.in_ok-line.line.bytes.items c.in_ok-line.line.is_ended
-    c.args.self.now c.in_ok-line.ensures (sym c.is_nothing.ensures ∙ c.if-is_nothing.true)
+    let left = reader_remaining g.R.Read.remaining in
+    let contents = g.W.Write.contents in
+    let mid = contents c.flush_before_waiting.new.output in
+    served_behind_flush g.L.DecisionLog.moment c.args.name.now (left c.args.input.now) (left c.read_line.new.input) (contents c.args.output.now) mid mid
+    c.args.self.now c.args.self.now false c.flush_before_waiting.ensures
+    (at_end g.L.DecisionLog.moment c.args.name.now (left c.args.input.now) (left c.read_line.new.input) mid c.in_ok-line.line.bytes.items c.in_ok-line.line.is_ended
+    c.args.self.now c.in_ok-line.ensures (sym c.is_nothing.ensures ∙ c.if-is_nothing.true))
 
 pub returns-clause-ok : goal.returns-clause-ok
 returns-clause-ok g c =
-    let left = g.R.Read.remaining in
+    let left = reader_remaining g.R.Read.remaining in
     let contents = g.W.Write.contents in
-    subst (ServesLine g.L.DecisionLog.moment c.args.name.now (left c.args.input.now) (left c.read_line.new.input) (contents c.args.output.now) (contents c.write_reply.new.output) c.args.self.now
+    let mid = contents c.flush_before_waiting.new.output in
+    let all = contents c.write_reply.new.output in
+    served_behind_flush g.L.DecisionLog.moment c.args.name.now (left c.args.input.now) (left c.read_line.new.input) (contents c.args.output.now) mid all
+    c.args.self.now c.reply_to.new.self c.goes_on.result c.flush_before_waiting.ensures
+    (subst (ServesLine g.L.DecisionLog.moment c.args.name.now (left c.args.input.now) (left c.read_line.new.input) mid all c.args.self.now
     c.reply_to.new.self) (sym c.goes_on.ensures)
-    (one_line g.L.DecisionLog.moment c.args.name.now (left c.args.input.now) (left c.read_line.new.input) (contents c.args.output.now) (contents c.write_reply.new.output)
+    (one_line g.L.DecisionLog.moment c.args.name.now (left c.args.input.now) (left c.read_line.new.input) mid all
     c.in_ok-line.line.bytes.items c.in_ok-line.line.is_ended c.in_ok-reply.reply c.args.self.now c.reply_to.new.self
     c.in_ok-line.ensures (sym c.is_nothing.ensures ∙ c.if-is_nothing.false)
     (subst (λ l. RepliesTo g.L.DecisionLog.moment (line_read c.args.name.now l) c.args.self.now c.in_ok-reply.reply c.reply_to.new.self) c.deref.ensures.value c.in_ok-reply.ensures.ok)
-    c.in_ok-write_reply.ensures.ok)
+    c.in_ok-write_reply.ensures.ok))

@@ -1,4 +1,5 @@
 use Rattle.std.proofs.Common.{subst}
+use Rattle.std.specs.Io.Buffered.{reader_remaining}
 use Rattle.xa_coordinator.proofs.ServingLemmas.{broken_off, greeted, no_more, not_greeted, on_err, one_more, the_last}
 use Rattle.xa_coordinator.specs.NamedLines.{BreaksSessionUnder, line_written}
 use Rattle.xa_coordinator.specs.Replies.{greeting_of}
@@ -11,8 +12,8 @@ pub returns-in_err-write_reply-clause-broken : goal.returns-in_err-write_reply-c
 returns-in_err-write_reply-clause-broken g c =
     let contents = g.W.Write.contents in
     let s = c.args.self.now in
-    on_err c.from_residual.result (BreaksSessionUnder g.L.DecisionLog.moment c.args.name.now (greeting_of s) (g.R.Read.remaining c.args.input.now) (contents c.args.output.now) (contents c.write_reply.new.output) s s)
-    (not_greeted g.L.DecisionLog.moment c.args.name.now (greeting_of s) (g.R.Read.remaining c.args.input.now) (contents c.args.output.now) (contents c.write_reply.new.output) s
+    on_err c.from_residual.result (BreaksSessionUnder g.L.DecisionLog.moment c.args.name.now (greeting_of s) (reader_remaining g.R.Read.remaining c.args.input.now) (contents c.args.output.now) (contents c.write_reply.new.output) s s)
+    (not_greeted g.L.DecisionLog.moment c.args.name.now (greeting_of s) (reader_remaining g.R.Read.remaining c.args.input.now) (contents c.args.output.now) (contents c.write_reply.new.output) s
     (subst (λ r. AppendsBeginning (contents c.args.output.now) (contents c.write_reply.new.output) (line_written c.args.name.now r)) c.greeting-greeting.ensures
     c.in_err-write_reply.ensures.err))
 
@@ -22,7 +23,7 @@ loop-init g c =
     let s = c.args.self.now in
     record {
       ready = c.requires;
-      some = greeted g.L.DecisionLog.moment c.args.name.now (greeting_of s) (g.R.Read.remaining c.args.input.now) (contents c.args.output.now) (contents c.write_reply.new.output) s
+      some = greeted g.L.DecisionLog.moment c.args.name.now (greeting_of s) (reader_remaining g.R.Read.remaining c.args.input.now) (contents c.args.output.now) (contents c.write_reply.new.output) s
           (subst (λ r. Appends (contents c.args.output.now) (contents c.write_reply.new.output) (line_written c.args.name.now r)) c.greeting-greeting.ensures
           c.in_ok-write_reply.ensures.ok);
     }
@@ -30,7 +31,7 @@ loop-init g c =
 pub returns-in_err-serve_line-clause-broken : goal.returns-in_err-serve_line-clause-broken
 returns-in_err-serve_line-clause-broken g c =
     let contents = g.W.Write.contents in
-    let left = g.R.Read.remaining in
+    let left = reader_remaining g.R.Read.remaining in
     let s = c.args.self.now in
     on_err c.from_residual-in_err-serve_line.result
     (BreaksSessionUnder g.L.DecisionLog.moment c.args.name.now (greeting_of s) (left c.args.input.now) (contents c.args.output.now) (contents c.serve_line.new.output) s c.serve_line.new.self)
@@ -41,7 +42,7 @@ returns-in_err-serve_line-clause-broken g c =
 pub returns-then-not-branch-clause-served : goal.returns-then-not-branch-clause-served
 returns-then-not-branch-clause-served g c =
     let contents = g.W.Write.contents in
-    let left = g.R.Read.remaining in
+    let left = reader_remaining g.R.Read.remaining in
     let s = c.args.self.now in
     the_last g.L.DecisionLog.moment c.args.name.now (greeting_of s) (left c.args.input.now) (left c.loop.input) (left c.serve_line.new.input) (contents c.args.output.now) (contents c.loop.output)
     (contents c.serve_line.new.output) s c.loop.self c.serve_line.new.self c.loop.invariant.some
@@ -51,7 +52,7 @@ returns-then-not-branch-clause-served g c =
 pub loop-preserved : goal.loop-preserved
 loop-preserved g c =
     let contents = g.W.Write.contents in
-    let left = g.R.Read.remaining in
+    let left = reader_remaining g.R.Read.remaining in
     let s = c.args.self.now in
     record {
       ready = c.serve_line.ensures.ready;
@@ -65,7 +66,7 @@ loop-preserved g c =
 pub returns-clause-broken : goal.returns-clause-broken
 returns-clause-broken g c =
     let contents = g.W.Write.contents in
-    let left = g.R.Read.remaining in
+    let left = reader_remaining g.R.Read.remaining in
     let s = c.args.self.now in
     no_more g.L.DecisionLog.moment c.args.name.now (greeting_of s) (left c.args.input.now) (left c.loop.input) (contents c.args.output.now) (contents c.loop.output) s c.loop.self
     c.loop.invariant.some

@@ -1,3 +1,4 @@
+use Rattle.std.specs.Io.Buffered.{reader_remaining}
 use Rattle.xa_coordinator.proofs.ServingLemmas.{ServesSome}
 use Rattle.xa_coordinator.specs.Replies.{greeting_of}
 use Rattle.xa_serve.specs.Session.{IsReady}
@@ -6,6 +7,6 @@ use Rattle.xa_coordinator.proofs.coordinator.Coordinator.serve_under.Given as go
 abbrev pub invariant-loop : goal.invariant-loop
 invariant-loop g l = record {
   ready : IsReady l.self.session;
-  some : ServesSome g.L.DecisionLog.moment l.fn.name (greeting_of l.fn.self) (g.R.Read.remaining l.fn.input) (g.R.Read.remaining l.input) (g.W.Write.contents l.fn.output)
+  some : ServesSome g.L.DecisionLog.moment l.fn.name (greeting_of l.fn.self) (reader_remaining g.R.Read.remaining l.fn.input) (reader_remaining g.R.Read.remaining l.input) (g.W.Write.contents l.fn.output)
       (g.W.Write.contents l.output) l.fn.self l.self;
 }

@@ -76,7 +76,7 @@ returns-in-Ok-hear-clause-ready g c =
     let knows = (hearable (map_call name_of c.copy-call.result) (map_answer name_of c.args.answer) (sym c.can_hear.ensures ∙ c.if-not-can_hear.false)).known in
     step_leaves s _ NoDoubt (Heard (line t r) knows.0 (map_answer name_of c.args.answer)) c.requires (has_few s may.free) tt refl
     (c.in-Ok-hear.ensures.ok knows.0 knows.1)
-    (all_with s.lines t r c.answer_first.new.line c.line_mut.ensures.whole may.has
+    (all_with s.lines t r c.answer_first.new.self c.line_mut.ensures.whole may.has
     (ap (λ (l : Traffic). l.answers.waiting) c.answer_first.ensures ∙ answer_heard c.line_mut.result.now c.args.answer
     (ap (λ (l : Traffic). l.answers.waiting) c.line_mut.ensures.value ∙ c.requires.heard t r may.has)) c.requires.heard)
 

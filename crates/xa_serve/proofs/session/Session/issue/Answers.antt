@@ -14,8 +14,8 @@ use Rattle.xa_serve.proofs.Telling.{issued_follows}
 use Rattle.xa_serve.proofs.Logging.{quiet_keeps, same_book, same_issued}
 use Rattle.xa_serve.proofs.session.Session.issue.Goals as goal
 
-pub returns-in-Ok-clause-ready : goal.returns-in-Ok-clause-ready
-returns-in-Ok-clause-ready g c =
+pub returns-in-Ok-note_issued-clause-ready : goal.returns-in-Ok-note_issued-clause-ready
+returns-in-Ok-note_issued-clause-ready g c =
     let s = c.args.self.now in
     let t = c.args.thread in
     let r = c.args.rm in
@@ -24,12 +24,12 @@ returns-in-Ok-clause-ready g c =
     let put =
     line_took (line_at s.lines t r) c.line_mut.result.now c.args.call.now c.copy.result c.issue.result c.issue.new.self c.line_mut.ensures.value c.copy.ensures
     c.issue.ensures.reason c.issue.ensures.accepted may.bar may.room in
-    step_leaves s _ NoDoubt (Issued (line t r) known.0) c.requires (has_few s may.tell.free) tt refl (c.in-Ok.ensures.ok known.0 known.1)
+    step_leaves s _ NoDoubt (Issued (line t r) known.0) c.requires (has_few s may.tell.free) tt refl (c.in-Ok-note_issued.ensures.ok known.0 known.1)
     (all_with s.lines t r c.issue.new.self c.line_mut.ensures.whole may.tell.has
     (ap (λ (l : Traffic). l.answers.waiting) put ∙ c.requires.heard t r may.tell.has) c.requires.heard)
 
-pub returns-in-Ok-clause-lines : goal.returns-in-Ok-clause-lines
-returns-in-Ok-clause-lines g c =
+pub returns-in-Ok-note_issued-clause-lines : goal.returns-in-Ok-note_issued-clause-lines
+returns-in-Ok-note_issued-clause-lines g c =
     let s = c.args.self.now in
     let t = c.args.thread in
     let r = c.args.rm in
@@ -38,15 +38,15 @@ returns-in-Ok-clause-lines g c =
     (line_took (line_at s.lines t r) c.line_mut.result.now c.args.call.now c.copy.result c.issue.result c.issue.new.self c.line_mut.ensures.value c.copy.ensures
     c.issue.ensures.reason c.issue.ensures.accepted may.bar may.room)
 
-pub returns-in-Ok-clause-follows : goal.returns-in-Ok-clause-follows
-returns-in-Ok-clause-follows g c = λ d is.
+pub returns-in-Ok-note_issued-clause-follows : goal.returns-in-Ok-note_issued-clause-follows
+returns-in-Ok-note_issued-clause-follows g c = λ d is.
     let s = c.args.self.now in
     let t = c.args.thread in
     let r = c.args.rm in
     let may = may_issue_so s t r c.args.call.now (sym c.may_issue.ensures ∙ c.in_default.is) in
     record {
       leads =
-          issued_follows s _ t r c.args.call.now d is may (c.in-Ok.ensures.ok d is)
+          issued_follows s _ t r c.args.call.now d is may (c.in-Ok-note_issued.ensures.ok d is)
           (ap (with_line s.lines t r)
           (line_took (line_at s.lines t r) c.line_mut.result.now c.args.call.now c.copy.result c.issue.result c.issue.new.self c.line_mut.ensures.value
           c.copy.ensures c.issue.ensures.reason c.issue.ensures.accepted may.bar may.room));
@@ -57,15 +57,15 @@ returns-in-Ok-clause-follows g c = λ d is.
 pub returns-in-Err-clause-stays : goal.returns-in-Err-clause-stays
 returns-in-Err-clause-stays g c = stays_by c.args.self.now _ c.in-Err.ensures.err.1 c.in-Err.ensures.log
 
-pub returns-in-Ok-clause-keeps : goal.returns-in-Ok-clause-keeps
-returns-in-Ok-clause-keeps g c =
+pub returns-in-Ok-note_issued-clause-keeps : goal.returns-in-Ok-note_issued-clause-keeps
+returns-in-Ok-note_issued-clause-keeps g c =
     let s = c.args.self.now in
     let t = c.args.thread in
     let r = c.args.rm in
     let may = may_issue_so s t r c.args.call.now (sym c.may_issue.ensures ∙ c.in_default.is) in
     let known = known_issue (book_in s.manager) t r (map_call name_of c.args.call.now) may.book in
-    quiet_keeps g.L.DecisionLog.moment s.manager c.note_issued.new.self c.in-Ok.ensures.log
-    (same_issued (book_in s.manager) (book_in c.note_issued.new.self) (line t r) known.0 (c.in-Ok.ensures.ok known.0 known.1))
+    quiet_keeps g.L.DecisionLog.moment s.manager c.note_issued.new.self c.in-Ok-note_issued.ensures.log
+    (same_issued (book_in s.manager) (book_in c.note_issued.new.self) (line t r) known.0 (c.in-Ok-note_issued.ensures.ok known.0 known.1))
 
 pub returns-in-Err-clause-keeps : goal.returns-in-Err-clause-keeps
 returns-in-Err-clause-keeps g c =

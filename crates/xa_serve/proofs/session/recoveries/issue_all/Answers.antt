@@ -1,5 +1,8 @@
-use Rattle.xa_serve.proofs.Recoveries.{took_more}
+use Rattle.xa_serve.proofs.Recoveries.{still_open, took_more}
 use Rattle.xa_serve.proofs.session.recoveries.issue_all.Goals as goal
+
+pub issue-requires-clause-made : goal.issue-requires-clause-made
+issue-requires-clause-made c = λ none. still_open c.args.line.now c.loop-call.line c.loop-call.yielded c.loop-call.invariant.line c.requires.open
 
 pub loop-call-preserved : goal.loop-call-preserved
 loop-call-preserved c =

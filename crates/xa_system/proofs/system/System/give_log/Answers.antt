@@ -11,7 +11,7 @@ use Rattle.xa_tm.specs.declared.slot.Slot.{Slot}
 use Rattle.xa_system.specs.LogInHistory.{MayHoldRows}
 use Rattle.xa_system.specs.SystemView.{observes, view_of, trace_in}
 use Rattle.xa_model.proofs.AgreementLemmas.Distinct.{doubt_is_new_to}
-use Rattle.xa_system.proofs.Log.Laws.{rows_may_hold}
+use Rattle.xa_tm.proofs.Log.TellsRows.{rows_may_hold}
 use Rattle.xa_tm.specs.BookAndLog.{MayHold}
 use Rattle.xa_tm.proofs.History.HeardAnswers.{if_err}
 use Rattle.xa_system.proofs.system.System.give_log.Goals as goal

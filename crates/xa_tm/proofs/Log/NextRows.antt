@@ -1,4 +1,4 @@
--- What a start finds in the log that a history left.
+-- A start over a log that a history leaves has the rows and the records of the history.
 use Rattle.std.proofs.Common.{◌≡◌, ◌≤◌, ◌+◌, ◌-◌, ◌⊎◌, inl, inr, suc, List, [], ◌∷◌, length, map, Bool, true, false, refl, sym, ap, subst, ◌∙◌, arith, length-append}
 use Rattle.std.specs.Prelude.{◌==◌, ◌||◌, cond, filter, if◌then◌else◌, is_some, Option, Some, None}
 use Rattle.std.specs.FinMap.{FinMap, contains_key, empty, get, get-empty, get-insert, insert, len, len-empty, len-insert, same_map}
@@ -12,121 +12,23 @@ use Rattle.xa_base.specs.declared.branch.Gtrid.{Gtrid}
 use Rattle.xa_base.proofs.BranchKeys.{gtrid_eq-refl, gtrid_eq-true}
 use Rattle.xa_base.proofs.BranchOrder.{branches_total, exact_gtrids, gtrids_total}
 use Rattle.xa_base.proofs.Orders.{branch_swap, gtrid_swap}
-use Rattle.xa_log.specs.Content.{Content, with_bump, with_record, without_decisions}
+use Rattle.xa_log.specs.Content.{Content, with_bump}
 use Rattle.xa_log.specs.KeySet.{contains, contains-from_list, from_list}
-use Rattle.xa_model.specs.Facts.{Change, Change.AddRecord, Change.AddRows, Change.DropRows, Change.NoChange, doubt, has_branch, has_record, has_row, heuristic_rows, heuristics_changed, how_in, lists_row, log, participants, participants_in, recorded_as, rows_changed, without, without_each}
-use Rattle.xa_model.specs.Facts.Distinct.{ApartRows, EachOnce, IsNewTo}
+use Rattle.xa_model.specs.Facts.{Change, Change.AddRecord, Change.AddRows, Change.DropRows, Change.NoChange, doubt, has_branch, has_record, heuristic_rows, heuristics_changed, how_in, lists_row, log, participants_in, rows_changed, without, without_each}
+use Rattle.xa_model.specs.Facts.Distinct.{ApartRows, IsNewTo}
 use Rattle.xa_model.specs.Promises.Processes.{SameRecords, gone, resumed, row_count}
 use Rattle.xa_model.specs.Promises.Processes as processes
-use Rattle.xa_model.specs.Trace.{Happening.Restarted, Origin, Recorded, Row, Trace, Trace.From}
+use Rattle.xa_model.specs.Trace.{Happening.Restarted, Origin, Recorded, Row, Trace}
 use Rattle.xa_tm.specs.Book.{Book, Waiting, after, book_of, doubt_of, recorded_with, row_in, row_with, waiting_row}
-use Rattle.xa_tm.specs.BookAndLog.{FoundIn, HoldsBook, IsChangeOf, IsTied, IsTiedDown, IsTiedUp, MayHold, SameRows, changed_by, rows_of, with_rows}
+use Rattle.xa_tm.specs.BookAndLog.{FoundIn, IsTied, IsTiedDown, IsTiedUp, SameRows, rows_of}
 use Rattle.xa_tm.proofs.History.OneMore.{has_record_is, how_changed, lists_is, row_changed}
 use Rattle.xa_tm.proofs.History.RowCounts.{one_row_less}
 use Rattle.xa_model.proofs.Invariant.RowLists.{without_drops, without_keeps}
-use Rattle.xa_tm.proofs.Several.Lists.{once_among, once_so, other_of}
+use Rattle.xa_tm.proofs.Several.Lists.{once_among, other_of}
 use Rattle.xa_tm.proofs.Log.Restart.{tied_restart}
 use Rattle.xa_tm.proofs.Several.Contents.{added_heuristics, changed_len, dropped_heuristics, of_same}
-
--- ** words
-
--- the row of a transaction: the branches whose xa_commit it waits for
-abbrev participants_of_row : Trace → Gtrid → Option Waiting
-participants_of_row tr g = if has_row tr g then Some (from_list (participants tr g)) else None
-
--- a log has just the rows of the history, each with its participants, and its record
-pub record HoldsRows (tr : Trace) (c : Content) : Type 0 where
-  pub rows : (g : Gtrid) → get c.decisions g ≡ participants_of_row tr g
-  pub row_number : len c.decisions ≡ length (log tr)
-  pub records : (b : Branch) → get c.heuristics b ≡ recorded_as tr b
-  pub record_number : len c.heuristics ≡ length (heuristic_rows tr)
-
--- a log with a change
-abbrev pub after_change : Change → Content → Content
-after_change (AddRows xs) c = with_rows (map waiting_row xs) c
-after_change (DropRows gs) c = without_decisions gs c
-after_change (AddRecord x) c = with_record x.branch x.how c
-after_change NoChange c = c
-
--- it has those rows and that record, with or without the change in doubt
-abbrev pub MayHoldRows : Trace → Content → Type 0
-MayHoldRows tr c = (before : Content) × HoldsRows tr before × (SameRows c before ⊎ SameRows c (after_change (doubt tr) before))
-
--- a history starts over a log that had just the rows and the record of its start, in the incarnation before
-pub record StartsOver (o : Origin) (c : Content) : Type 0 where
-  pub rows : HoldsRows (From o) c
-  pub incarnation : o.incarnation ≡ c.incarnation + 1
-
--- ** words and books
-
-pub row_in_is : (rows : List Row) (g : Gtrid) → row_in rows g ≡ (if lists_row rows g then Some (from_list (participants_in rows g)) else None)
-row_in_is [] g = refl
-row_in_is (x ∷ xs) g = by (gtrid_eq x.gtrid g) (row_in_is xs g)
-  where
-    by : (t : Bool) → row_in xs g ≡ (if lists_row xs g then Some (from_list (participants_in xs g)) else None)
-        → (if t then Some (from_list x.participants) else row_in xs g)
-        ≡ (if (t || lists_row xs g) then Some (from_list (if t then x.participants else participants_in xs g)) else None)
-    by true e = refl
-    by false e = e
-
--- a change that is new to rows is one of the rows that a book says
-pub change_of : (rows : List Row) (c : Change) → IsNewTo rows c → IsChangeOf (row_in rows) (doubt_of c)
-change_of rows (AddRows xs) new =
-    subst (EachOnce (λ g. row_in rows g ≡ None)) (names xs)
-    (once_so (λ g. lists_row rows g ≡ false) (λ g. row_in rows g ≡ None) (map (λ (x : Row). x.gtrid) xs)
-    (λ g none. unlisted (row_in rows g) (sym (lists_is rows g) ∙ none)) new)
-  where
-    names : (xs : List Row) → map (λ (x : Row). x.gtrid) xs ≡ map (λ (x : Gtrid × Waiting). x.0) (map waiting_row xs)
-    names [] = refl
-    names (x ∷ xs) = ap (λ gs. x.gtrid ∷ gs) (names xs)
-
-    unlisted : (o : Option Waiting) → is_some o ≡ false → o ≡ None
-    unlisted None e = refl
-    unlisted (Some w) e = absurd (cc)
-change_of rows (DropRows gs) new =
-    once_so (λ g. lists_row rows g ≡ true) (λ g. is_some (row_in rows g) ≡ true) gs (λ g some. sym (lists_is rows g) ∙ some) new
-change_of rows (AddRecord x) new = tt
-change_of rows NoChange new = tt
-
-pub made_is : (d : Change) (c : Content) → changed_by (doubt_of d) c ≡ after_change d c
-made_is (AddRows xs) c = refl
-made_is (DropRows gs) c = refl
-made_is (AddRecord x) c = refl
-made_is NoChange c = refl
-
-holds_rows : (tr : Trace) (c : Content) → HoldsBook (book_of tr) c → HoldsRows tr c
-holds_rows tr c holds = record {
-  rows = λ g. holds.rows g ∙ row_in_is (log tr) g;
-  row_number = holds.row_number;
-  records = holds.records;
-  record_number = holds.record_number;
-}
-
-pub may_hold_rows : (tr : Trace) (c : Content) → MayHold (book_of tr) c → MayHoldRows tr c
-may_hold_rows tr c holds = (holds.0, holds_rows tr holds.0 holds.1, by holds.2)
-  where
-    by : SameRows c holds.0 ⊎ (IsChangeOf (book_of tr).row (doubt_of (doubt tr)) × SameRows c (changed_by (doubt_of (doubt tr)) holds.0))
-        → SameRows c holds.0 ⊎ SameRows c (after_change (doubt tr) holds.0)
-    by (inl same) = inl same
-    by (inr made) = inr (subst (SameRows c) (made_is (doubt tr) holds.0) made.1)
-
--- what the history tells of is what its book says
-rows_held : (tr : Trace) (c : Content) → HoldsRows tr c → HoldsBook (book_of tr) c
-rows_held tr c holds = record {
-  rows = λ g. holds.rows g ∙ sym (row_in_is (log tr) g);
-  row_number = holds.row_number;
-  records = holds.records;
-  record_number = holds.record_number;
-}
-
-pub rows_may_hold : (tr : Trace) (c : Content) → IsNewTo (log tr) (doubt tr) → MayHoldRows tr c → MayHold (book_of tr) c
-rows_may_hold tr c new holds = (holds.0, rows_held tr holds.0 holds.1, by holds.2)
-  where
-    by : SameRows c holds.0 ⊎ SameRows c (after_change (doubt tr) holds.0) → SameRows c holds.0
-        ⊎ (IsChangeOf (book_of tr).row (doubt_of (doubt tr)) × SameRows c (changed_by (doubt_of (doubt tr)) holds.0))
-    by (inl same) = inl same
-    by (inr same) =
-        inr (change_of (log tr) (doubt tr) new, subst (SameRows c) (sym (made_is (doubt tr) holds.0)) same)
+use Rattle.xa_tm.specs.LogRows.{MayHoldRows, StartsOver, after_change}
+use Rattle.xa_tm.proofs.Log.TellsRows.{change_of, made_is, row_in_is, rows_may_hold}
 
 -- ** rows as a map
 

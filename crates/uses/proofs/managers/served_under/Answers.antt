@@ -1,0 +1,27 @@
+use Rattle.std.proofs.Common.{Some, subst}
+use Rattle.std.specs.Io.Buffered.{reader_remaining}
+use Rattle.uses.proofs.TwoManagers.{known_left}
+use Rattle.xa_coordinator.specs.NamedLines.{ServesUnder}
+use Rattle.xa_coordinator.specs.Replies.{greeting_of}
+use Rattle.uses.proofs.managers.served_under.Goals as goal
+
+pub returns-in-Ok-serve_under : goal.returns-in-Ok-serve_under
+returns-in-Ok-serve_under g c =
+    let made = c.in-Ok.ensures in
+    let first = c.in-Ok.coordinator in
+    let last = c.serve_under.new.self in
+    let written = c.serve_under.new.output.items in
+    let left = reader_remaining (λ slice. Some slice.now) c.serve_under.new.input in
+    let unread = known_left c.args.text.now left _ _ _ _ _ _ _
+    (subst (λ whole. ServesUnder g.L.DecisionLog.moment c.args.name.now (greeting_of first) whole left (Some c.new-written.result.items) (Some written)
+    first last) c.in_ok-unread.ensures c.in-Ok-serve_under.ensures.served) in
+    record {
+      first = first;
+      last = last;
+      unread = unread.0;
+      stands = made.stands;
+      old = made.old;
+      serves =
+          subst (λ before. ServesUnder g.L.DecisionLog.moment c.args.name.now (greeting_of first) (Some c.args.text.now) (Some unread.0) (Some before)
+          (Some written) first last) c.new-written.ensures.items unread.1;
+    }

@@ -1,0 +1,62 @@
+-- Two drivers are served by managers of two names, over the same resource managers.
+use Rattle.std.specs.Prelude.{◌≡◌, ◌≢◌, ℕ, false, List, [], ◌∷◌, ◌++◌, Some}
+use Rattle.std.specs.List.{AllByRecursion, list_any}
+use Rattle.xa_base.specs.Xid.{Xid}
+use Rattle.xa_base.specs.declared.state.Standing.{Standing}
+use Rattle.xa_coordinator.specs.Lines.{lines_of}
+use Rattle.xa_coordinator.specs.Managers.{told_xid}
+use Rattle.xa_coordinator.specs.NamedLines.{ServesUnder, lines_read, text_written}
+use Rattle.xa_coordinator.specs.Replies.{greeting_of}
+use Rattle.xa_coordinator.specs.Serving.{EndsBy}
+use Rattle.xa_coordinator.specs.Telling.{HaveTold, is_log_fault}
+use Rattle.xa_coordinator.specs.declared.coordinator.Coordinator.{Coordinator}
+use Rattle.xa_log.specs.Contract.{Moment}
+use Rattle.xa_model.specs.Trace.{Branch, Origin}
+use Rattle.xa_requests.specs.declared.response.Response.{Response}
+use Rattle.xa_requests.specs.declared.response.Response.TheVariants as responses
+use Rattle.xa_serve.specs.Following.{StandsAtStart}
+use Rattle.xa_standings.specs.Agreement.{OwnStandAlike, StandSo}
+use Rattle.xa_standings.specs.Explained.{IsExplained, IsOldLog}
+use Rattle.xa_standings.specs.Seen.{Seen, Seen.Start}
+use Rattle.xa_tm.specs.Begins.{BeginsWith}
+
+-- A driver of so many threads and resource managers that writes this text was served by a coordinator of this name that started over some
+-- log, and this was written.
+pub record IsServedFrom {L : Type 0} (moment : L → Moment) (name : List ℕ) (threads rms : ℕ) (text written : List ℕ) : Type 0 where
+  pub first : Coordinator L
+  pub last : Coordinator L
+  pub unread : List ℕ
+  pub stands : StandsAtStart threads rms first.session
+  pub old : (o : Origin) → BeginsWith threads rms first.session.manager o → IsOldLog o
+  pub serves : ServesUnder moment name (greeting_of first) (Some text) (Some unread) (Some []) (Some written) first last
+
+-- The driver was told the first line of a session, and a line for each line of what was read of its text: up to `quit`, or all. What
+-- these tell, as a manager of this name means them and up to where the log failed, has a right history; and wherever the branches then
+-- stand at databases that obey the table, those of a transaction of this session are alike.
+pub record IsServedUnder (name : List ℕ) (threads rms : ℕ) (text written : List ℕ) : Type 0 where
+  pub read : List ℕ
+  pub unread : List ℕ
+  pub start : Origin
+  pub decisions : ℕ
+  pub heuristics : ℕ
+  pub replies : List Response
+  pub seen : Seen
+  pub threads_are : start.threads ≡ threads
+  pub rms_are : start.rms ≡ rms
+  pub whole : text ≡ read ++ unread
+  pub replied : written ≡ text_written name (responses.Restarted start.incarnation decisions heuristics ∷ replies)
+  pub ends : EndsBy replies (unread ≡ [])
+  pub told : HaveTold threads (lines_read name (lines_of read)) replies Start seen
+  pub explained : IsExplained start seen
+  pub agree : (f : Branch → Standing) → StandSo start seen f → OwnStandAlike start.incarnation f
+
+-- none of the first replies, of a manager of the name m, tells a call on an identifier that one of the others, of n, tells a call on
+abbrev pub TellApart : (m n : List ℕ) → (ps qs : List Response) → Type 0
+TellApart m n ps qs = AllByRecursion (λ p. AllByRecursion (λ q. (x : Xid) → told_xid m p ≡ Some x → told_xid n q ≡ Some x → ⊥) qs) ps
+
+-- Two drivers were served so, by managers of these names. If the names differ, and neither log failed, no call that one driver was told is on
+-- an identifier of a call that the other was told.
+pub record AreServedApart (m n : List ℕ) (threads rms : ℕ) (first second first_written second_written : List ℕ) : Type 0 where
+  pub one : IsServedUnder m threads rms first first_written
+  pub two : IsServedUnder n threads rms second second_written
+  pub apart : m ≢ n → list_any is_log_fault one.replies ≡ false → list_any is_log_fault two.replies ≡ false → TellApart m n one.replies two.replies
