@@ -114,8 +114,7 @@ class Commits:
                 # What was asked for with the decision has come as well then: no thread waits for its own.
                 self._coordinator.see_arrived()
             self._coordinator.wait(reply)
-            if self._mirror is not None:
-                self._mirror.add([(commit.gtrid, commit.behind.xids) for commit in group])
+            self._tell_mirror(group)
         except Refused as refused:
             for commit in group:
                 commit.behind.take_back()
@@ -125,7 +124,14 @@ class Commits:
                 for commit in group:
                     self._ask([commit])
         except XaError as error:
-            # Where the mirror failed, nothing more may be done in the session: the next one tells it what the log has.
-            self._coordinator.kill()
             for commit in group:
                 commit.error = error
+
+    def _tell_mirror(self, group: List[_Commit]) -> None:
+        """Tells the mirror what is decided. Where that fails the session is over: the next one tells it what the log has."""
+        if self._mirror is not None:
+            try:
+                self._mirror.add([(commit.gtrid, commit.behind.xids) for commit in group])
+            except BaseException:
+                self._coordinator.kill()
+                raise

@@ -19,7 +19,7 @@ from .xid import Xid
 log = logging.getLogger("garterfossil")
 
 #: The tables, whose texts are compared byte by byte: one row for each manager, and one for each of its decisions.
-MANAGERS = "garterfossil_manager (name {16} PRIMARY KEY, log {1000} NOT NULL, rms {5000} NOT NULL, incarnation bigint NOT NULL)"
+MANAGERS = "garterfossil_manager (name {16} PRIMARY KEY, log text NOT NULL, rms text NOT NULL, incarnation bigint NOT NULL)"
 DECISIONS = "garterfossil_decision (name {16} NOT NULL, gtrid {32} NOT NULL, branches text NOT NULL, PRIMARY KEY (name, gtrid))"
 
 

@@ -75,6 +75,8 @@ class Session:
             self._take_over(is_first)
         except BaseException:
             self.coordinator.kill()
+            if self.mirror is not None:
+                self.mirror.close()
             raise
 
     def _look(self, is_new: bool, is_first: bool) -> None:
