@@ -1,6 +1,8 @@
 """The driver that is killed: moves money between two databases, on several threads.
 
-usage: bank.py HOME SECONDS THREADS
+usage: bank.py HOME SECONDS THREADS [LOG [MIRROR]]
+
+LOG is the path of a log, if it isn't the usual one, and MIRROR the number of the server in which it is mirrored.
 
 Each outcome is written to HOME/told once it was told. One transfer of ten fails on purpose, and one of ten moves money within
 one database. Ends with a line of JSON: how many there were of each kind, and the seconds."""
@@ -27,12 +29,12 @@ def pay(branch, sign, amount):
     branch.execute("UPDATE account SET balance = balance + %s WHERE id = %s", [sign * amount, account])
 
 
-def between(t, fails):
+def between(t, key, fails):
     """Moves money from one database to the other."""
     amount = random.randint(1, 50)
     for rm, sign in ((0, -1), (1, 1)):
         pay(t[rm], sign, amount)
-        t[rm].execute("INSERT INTO moved VALUES (%s, %s)", [t.gtrid, amount])
+        t[rm].execute("INSERT INTO moved VALUES (%s, %s)", [key, amount])
     if fails:
         fail(t[random.randrange(2)])
 
@@ -51,12 +53,12 @@ def fail(branch):
             raise OnPurpose from error
 
 
-def within(t, rm):
+def within(t, key, rm):
     """Moves money within one database."""
     amount = random.randint(1, 50)
     for sign in (-1, 1):
         pay(t[rm], sign, amount)
-    t[rm].execute("INSERT INTO alone VALUES (%s)", [t.gtrid])
+    t[rm].execute("INSERT INTO alone VALUES (%s)", [key])
 
 
 class Bank:
@@ -74,18 +76,22 @@ class Bank:
             try:
                 with self.xa.transaction() as t:
                     if kind == "both":
-                        between(t, random.random() < 0.1)
+                        between(t, self.key(t), random.random() < 0.1)
                     else:
-                        within(t, int(kind))
+                        within(t, self.key(t), int(kind))
             except Exception as raised:
                 error = raised
             self.note(t, kind, error)
+
+    def key(self, t):
+        """What the databases and the notes have of a transaction: others may have another one of this number."""
+        return self.xa.name + t.gtrid
 
     def note(self, t, kind, error):
         end = "not begun" if t is None else t.outcome.value
         with self.lock:
             if t is not None and t.outcome in (Outcome.COMMITTED, Outcome.ROLLED_BACK):
-                self.told.write(f"{t.gtrid} {kind} {end.replace(' ', '-')}\n")
+                self.told.write(f"{self.key(t)} {kind} {end.replace(' ', '-')}\n")
             self.counts[end] += 1
             if isinstance(error, HeuristicEnd):
                 logging.error("%s", error)
@@ -95,20 +101,26 @@ class Bank:
             time.sleep(0.1)
 
 
-def manager(world, threads):
+def manager(world, threads, log=None, mirror=None):
     """The transaction manager, although the coordinator may be killed as it starts."""
     while True:
         try:
-            return world.manager(threads, patience=20.0)
+            return world.manager(threads, patience=20.0, log=log, mirror=mirror)
         except CoordinatorGone as gone:
             logging.warning("%s", gone)
 
 
 def main():
+    home, seconds, threads, *more = sys.argv[1:]
+    log, mirror = (*more, None, None)[:2]
+    run(World.found(home), float(seconds), int(threads), log, None if mirror is None else int(mirror))
+
+
+def run(world, seconds, threads, log=None, mirror=None):
+    """Moves money, and prints how it went."""
     logging.basicConfig(level=logging.WARNING, format="%(asctime)s %(message)s")
-    world, seconds, threads = World.found(sys.argv[1]), float(sys.argv[2]), int(sys.argv[3])
     begun = time.monotonic()
-    with manager(world, threads) as xa:
+    with manager(world, threads, log, mirror) as xa:
         bank = Bank(world, xa, begun + seconds)
         workers = [threading.Thread(target=bank.work, daemon=True) for _ in range(threads)]
         for worker in workers:

@@ -100,13 +100,19 @@ class World:
     def command(self, threads, log=None):
         return [self.coordinator, "serve", "--log", log or self.log, str(threads), "2"]
 
-    def manager(self, threads, patience=30.0, databases=None, name=""):
-        """A transaction manager, over both databases unless it is given others. One with a name has a log of its own."""
+    def manager(self, threads, patience=30.0, databases=None, name="", log=None, mirror=None):
+        """A transaction manager, over both databases unless it is given others. One with a name has a log of its own; one that is
+        given a log has the name that this keeps. Its mirror is the server of a number."""
         from garterfossil import TransactionManager
 
-        log = f"{self.home}/{name}.db" if name else self.log
         return TransactionManager(
-            databases or self.databases(), log, name=name, threads=threads, patience=patience, program=self.coordinator
+            databases or self.databases(),
+            log or (f"{self.home}/{name}.db" if name else self.log),
+            name=None if log else name,
+            threads=threads,
+            patience=patience,
+            program=self.coordinator,
+            mirror=None if mirror is None else self.servers[mirror].database(),
         )
 
     # ** the bank
@@ -128,8 +134,9 @@ class World:
             for table in ("account", "moved", "alone", "once"):
                 connection.run(f"DROP TABLE IF EXISTS {table}")
             connection.run("CREATE TABLE account (id int PRIMARY KEY, balance bigint CHECK (balance > -100000000))")
-            connection.run("CREATE TABLE moved (gtrid char(32) PRIMARY KEY, amount bigint)")
-            connection.run("CREATE TABLE alone (gtrid char(32) PRIMARY KEY)")
+            # (A manager's name stands in front of its transactions.)
+            connection.run("CREATE TABLE moved (gtrid varchar(64) PRIMARY KEY, amount bigint)")
+            connection.run("CREATE TABLE alone (gtrid varchar(64) PRIMARY KEY)")
             for number in range(ACCOUNTS):
                 connection.run("INSERT INTO account VALUES (%s, 1000)", [number])
             connection.run(server.ONCE)

@@ -13,6 +13,7 @@ use xa_display::ChartFault;
 use xa_files::RunFault;
 use xa_listing::run_fault;
 use xa_log::LogFault;
+use xa_restore::{LineFault, RestoreFault};
 use xa_tm::StartFault;
 
 /// Why the program ends early.
@@ -40,6 +41,8 @@ pub enum Failure {
     RmNames,
     /// The log is another's, or only a part of it is there, as this text says.
     Refused(String),
+    /// The line of this number, of those that a log is to be made from, is wrong in this.
+    Line(usize, LineFault),
 }
 
 impl Failure {
@@ -77,7 +80,7 @@ impl Failure {
         match self {
             Failure::CommandLine(_) | Failure::Words | Failure::Name | Failure::RmNames => 3,
             Failure::NotReadable => 1,
-            Failure::NotReadableAt(_) => 1,
+            Failure::NotReadableAt(_) | Failure::Line(_, _) => 1,
             Failure::TooLong | Failure::Input | Failure::Refused(_) => 2,
             Failure::Run(fault) | Failure::RunAt(fault, _) => fault.status(),
         }
@@ -99,6 +102,7 @@ impl Failure {
                 "xatm: rm: a name for each resource manager, and for each another one: 1 to 64 letters, digits, _ and -"
             ),
             Failure::Refused(text) => eprintln!(rt; "xatm: log: {text}"),
+            Failure::Line(number, fault) => eprintln!(rt; "xatm: line {number}: {fault}"),
         }
     }
 }
@@ -170,6 +174,15 @@ impl From<LogFault> for Failure {
 
     fn from(fault: LogFault) -> Failure {
         Failure::Run(run_fault(fault))
+    }
+}
+
+impl From<RestoreFault> for Failure {
+    fn from(fault: RestoreFault) -> Failure {
+        match fault {
+            RestoreFault::Line(number, fault) => Failure::Line(number, fault),
+            RestoreFault::Memory => Failure::Run(RunFault::Memory),
+        }
     }
 }
 

@@ -6,10 +6,8 @@ use std::alloc::Global;
 use std::io::Write;
 use xa_files::RunFault;
 use xa_names::{ManagerName, NameFault, check_names, line_renamed};
+use xa_restore::is_rm_name;
 use xa_sql_log::SqlLog;
-
-/// The most letters of the name of a resource manager.
-const RM_NAME_LEN: usize = 64;
 
 /// The name that a manager is given.
 pub(crate) fn manager_named(text: Option<&str>) -> Result<ManagerName, Failure> {
@@ -17,11 +15,6 @@ pub(crate) fn manager_named(text: Option<&str>) -> Result<ManagerName, Failure> 
         Some(text) => ManagerName::of_text(text).ok_or(Failure::Name),
         None => Ok(ManagerName::none()),
     }
-}
-
-/// Whether a text may be the name of a resource manager.
-fn is_rm_name(text: &str) -> bool {
-    !text.is_empty() && text.len() <= RM_NAME_LEN && ManagerName::has_letters(text)
 }
 
 /// Refuses names of resource managers of which one isn't a name, or comes twice, or of which there are more or fewer than
@@ -126,7 +119,7 @@ fn compare(alloc: Global, path: &str, kept: &str, given: &str) -> Result<(), Fai
 }
 
 /// The label of a log of these names.
-fn label_of(alloc: Global, name: &ManagerName, rms: &[&str]) -> Result<String, Failure> {
+pub(crate) fn label_of(alloc: Global, name: &ManagerName, rms: &[&str]) -> Result<String, Failure> {
     let mut label = String::from_utf8_lossy(alloc, name.as_slice())?;
     for rm in rms {
         label.push_str(" ")?;

@@ -8,6 +8,7 @@
 mod command;
 mod failure;
 mod log_names;
+mod made_logs;
 mod service;
 mod stores;
 mod stories;
@@ -17,6 +18,7 @@ use crate::failure::Failure;
 use crate::log_names::{
     check_rm_names, claim_log, introduce, manager_named, print_named, refuse_half,
 };
+use crate::made_logs::make_log;
 use crate::service::serve_in_files;
 use crate::stores::{
     close_in_files, list_in_files, run_in_files, run_jobs_in_files, run_jobs_over, run_over,
@@ -102,6 +104,7 @@ fn perform<T: Threads + Wait + Clock + Sync>(
             serve(rt, &name, log, threads, rms)
         }
         Command::Log { path, explains } => list(rt, path, explains, &mut out),
+        Command::MakeLog { path } => make_log(rt, path),
     }
 }
 

@@ -1,6 +1,10 @@
 //! What is done over a log in any store, and over one in files of any kind. Each step nearer to one kind of file makes a proof
 //! several times as long, so that a function does no more there than to call the one behind it.
 
+ghost use Rattle.std.specs.List.{AllByRecursion};
+ghost use Rattle.xa_log.specs.Contract.{FitsRow};
+ghost use Rattle.xa_restore.specs.LogLines.{OwnsBranches};
+
 use crate::failure::Failure;
 use sqlite::{Alter, FileStore};
 use sqlite_disk::Disk;
@@ -13,6 +17,7 @@ use xa_files::RunFault;
 use xa_jobs::run_job_file;
 use xa_listing::{explain_log, list_log};
 use xa_log::LogFault;
+use xa_restore::{LogLines, restore_log};
 use xa_scenario::{FileFault, read_scenarios, run_scenarios};
 use xa_sql_log::SqlLog;
 
@@ -96,4 +101,31 @@ pub(crate) fn list_in_files<D: Disk + Drop, W: Write>(
 /// Copies the journal of a log into its file, and closes both.
 pub(crate) fn close_in_files<D: Disk + Drop>(log: SqlLog<FileStore<D>>) -> Result<(), LogFault> {
     log.close()
+}
+
+/// Writes into an empty log what lines say.
+fn restore_over<S: Alter>(
+    alloc: Global,
+    log: &mut SqlLog<S>,
+    lines: &LogLines,
+) -> Result<(), LogFault>
+    requires own { AllByRecursion OwnsBranches lines.now.decisions.items }
+    requires fits { AllByRecursion (λ d. FitsRow d.gtrid) lines.now.decisions.items }
+{
+    restore_log(alloc, log, lines)
+}
+
+/// Does so over a log in files, and closes it.
+pub(crate) fn restore_in_files<D: Disk + Drop>(
+    alloc: Global,
+    mut log: SqlLog<FileStore<D>>,
+    lines: &LogLines,
+) -> Result<(), LogFault>
+    requires own { AllByRecursion OwnsBranches lines.now.decisions.items }
+    requires fits { AllByRecursion (λ d. FitsRow d.gtrid) lines.now.decisions.items }
+{
+    let restored = restore_over(alloc, &mut log, lines);
+    let closed = close_in_files(log);
+    restored?;
+    closed
 }

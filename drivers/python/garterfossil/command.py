@@ -5,16 +5,21 @@ from __future__ import annotations
 import argparse
 import logging
 import sys
-from typing import Iterator, List, Optional, Sequence, Tuple
+from typing import Iterator, List, Mapping, Optional, Sequence, Tuple
 
 from . import __version__
 from .calls import Call
 from .codes import Code
 from .configuration import Configuration
 from .coordinator import Coordinator, serve_command
-from .doubt import IN_USE, Listing, Log, incarnation_in, listings_of, manager_in, places_of
-from .errors import SetupError, XaError
+from .doubt import IN_USE, Listing, Log, incarnation_in, listings_of, logs_of, manager_in, place_of
+from .errors import LogInUse, SetupError, XaError
+from .failover import fail_over
+from .logs import logs_of_workers
 from .xid import Xid
+
+#: So many branches of another manager are shown.
+MOST_SHOWN = 20
 
 DESCRIPTION = """\
 Shows what is in doubt in the databases of a transaction manager, and ends it.
@@ -36,9 +41,11 @@ def main(words: Sequence[str]) -> int:
     try:
         configuration = Configuration.read(given.config)
         if given.does == "end":
-            return _end(configuration, given.branch, given.yes)
+            return _end_left(configuration, given) if given.left_by is not None else _end(configuration, given.branch, given.yes)
+        if given.does == "failover":
+            return _fail_over(configuration, given)
         if given.does == "recover":
-            configuration.manager().close()
+            _recover(configuration)
         return _status(configuration)
     except XaError as error:
         print(f"garterfossil: {error}", file=sys.stderr)
@@ -53,42 +60,82 @@ def _parser() -> argparse.ArgumentParser:
     status = does.add_parser("status", help="show each branch in doubt, what it waits for and the statement that ends it; changes nothing")
     recover = does.add_parser("recover", help="do what a start of the manager does, and show what is left")
     end = does.add_parser("end", help="end one branch as the log says, after a question")
-    for one in (status, recover, end):
+    failover = does.add_parser("failover", help="make the log anew from the mirror, where the machine that had it is lost")
+    for one in (status, recover, end, failover):
         one.add_argument("--config", required=True, metavar="FILE", help="what the manager is made of")
     end.add_argument("branch", metavar="BRANCH", help="its identifier, as status shows it")
     end.add_argument("--yes", action="store_true", help="don't ask")
+    end.add_argument("--left-by", metavar="NAME", help="it is of another manager, of this name, which is gone for good with its log")
+    end.add_argument("--outcome", choices=["commit", "rollback"], help="how: with --left-by no log says it")
+    failover.add_argument("--name", help="only the manager of this name, of those that the mirror has")
     return parser
 
 
 # ** status
 
 
+def _recover(configuration: Configuration) -> None:
+    """Starts and closes the manager over each log that no program has."""
+    for path in logs_of_workers(configuration.log) or [configuration.log]:
+        try:
+            configuration.manager(path).close()
+        except LogInUse as error:
+            if path == configuration.log:
+                raise
+            logging.getLogger("garterfossil").info("%s", error)
+
+
 def _status(configuration: Configuration) -> int:
-    log, found = Log.of(configuration), listings_of(configuration)
-    for line in _lines(configuration, log, found):
+    logs = logs_of(configuration)
+    found = listings_of(configuration, [log.names.manager for log in logs.values()])
+    for line in _lines(configuration, logs, found):
         print(line)
     return 1 if any(one.own or one.fault for one in found) else 0
 
 
-def _lines(configuration: Configuration, log: Log, found: List[Listing]) -> Iterator[str]:
+def _lines(configuration: Configuration, logs: Mapping[str, Log], found: List[Listing]) -> Iterator[str]:
     """What is in doubt, for a reader."""
-    if log.fault == IN_USE:
-        yield f"log {configuration.log}: {IN_USE}: it ends its branches by itself, so stop it before anything is ended by hand"
-    else:
-        yield f"log {configuration.log}: {log.fault or f'{len(log.decided)} decided, {len(log.heuristics)} ended by a database itself'}"
-    yield from (f"  {line}: compare it with the other databases (docs/LOG.md)" for line in log.heuristics)
+    for path, log in logs.items():
+        yield from _lines_of_log(path, log)
+    by_manager = {log.names.manager: log for log in logs.values()}
     for rm, one in enumerate(found):
         yield f"database {rm}, {configuration.label(rm)}: {one.fault or f'{len(one.own)} in doubt'}"
         for xid in one.own:
-            yield from _lines_of(configuration, log, rm, xid)
+            yield from _lines_of(configuration, by_manager[manager_in(xid)], rm, xid)
         for name in sorted({manager_in(xid) for xid in one.others}):
-            count = sum(manager_in(xid) == name for xid in one.others)
-            yield f"  {count} of {f'the manager {name}' if name else 'a manager without a name'}, which ends them: leave them alone"
-    left = log.decided - {xid.transaction for one in found for xid in one.own}
+            yield from _lines_of_others(name, [xid for xid in one.others if manager_in(xid) == name], one)
+    decided = frozenset(gtrid for log in logs.values() for gtrid in log.decided)
+    left = decided - {xid.transaction for one in found for xid in one.own}
     if left and any(one.fault for one in found):
         yield f"{len(left)} of the decisions have no branch at the databases that answered"
     elif left:
         yield f"{len(left)} of the decisions have no branch any more: the next start takes their rows away"
+
+
+def _lines_of_log(path: str, log: Log) -> Iterator[str]:
+    whose = f"log {path}, of the manager {log.names.manager}" if log.names.manager else f"log {path}"
+    if log.fault == IN_USE:
+        yield f"{whose}: {IN_USE}: it ends its branches by itself, so stop it before anything is ended by hand"
+    else:
+        yield f"{whose}: {log.fault or f'{len(log.decided)} decided, {len(log.heuristics)} ended by a database itself'}"
+    yield from (f"  {line}: compare it with the other databases (docs/LOG.md)" for line in log.heuristics)
+
+
+def _lines_of_others(name: str, xids: List[Xid], one: Listing) -> Iterator[str]:
+    """Of another manager: whose, how many, and how old. It ends them, unless it is gone."""
+    ages = [one.ages[xid] for xid in xids if xid in one.ages]
+    old = f", the oldest for {_time(max(ages))}" if ages else ""
+    whose = f"the manager {name}" if name else "a manager without a name"
+    yield f"  {len(xids)} of {whose}{old}: it ends them, so leave them alone"
+    yield f"      (if it is gone for good, and its log with it: end --left-by {name or repr('')} --outcome commit|rollback BRANCH)"
+    yield from (f"      {xid}" for xid in xids[:MOST_SHOWN])
+
+
+def _time(seconds: float) -> str:
+    for unit, length in (("days", 86400), ("hours", 3600), ("minutes", 60)):
+        if seconds >= 2 * length:
+            return f"{seconds / length:.0f} {unit}"
+    return f"{seconds:.0f} seconds"
 
 
 def _lines_of(configuration: Configuration, log: Log, rm: int, xid: Xid) -> Iterator[str]:
@@ -107,36 +154,67 @@ def _lines_of(configuration: Configuration, log: Log, rm: int, xid: Xid) -> Iter
 
 def _end(configuration: Configuration, text: str, is_sure: bool) -> int:
     """Ends a branch as the log says. The log is held meanwhile, so that no coordinator decides otherwise."""
-    log = Log.of(configuration)
+    logs = logs_of(configuration)
+    path, log = _log_of(logs, _branch(text))
     if log.fault is not None:
-        raise SetupError(f"the log {configuration.log} can't be read, so nothing is ended: {log.fault}")
-    rm, xid = _database_and_branch(configuration, text)
+        raise SetupError(f"the log {path} can't be read, so nothing is ended: {log.fault}")
+    rm, xid = _database_and_branch(configuration, text, [log.names.manager])
     call = Call(log.call_for(xid), xid)
     print(f"database {rm}: {configuration.databases[rm].by_hand(call)}")
-    with _LogHold(configuration) as incarnation:
+    with _LogHold(configuration, path, log) as incarnation:
         if incarnation_in(xid) >= incarnation:
-            raise SetupError(f"the log {configuration.log} is older than the branch {xid}, so nothing is ended: put the right one back")
-        if not is_sure and not _agrees():
-            print("nothing was done")
-            return 1
-        place = places_of(configuration)[rm]
-        connection = configuration.databases[rm].connect(place)
-        try:
-            with connection.timed(place.patience):
-                code = connection.do(call).code
-        finally:
-            connection.close()
+            raise SetupError(f"the log {path} is older than the branch {xid}, so nothing is ended: put the right one back")
+        return _end_at(configuration, rm, call, is_sure)
+
+
+def _end_left(configuration: Configuration, given: argparse.Namespace) -> int:
+    """Ends a branch of a manager that is gone for good, and its log with it, as an operator says."""
+    if given.outcome is None:
+        raise SetupError("--left-by needs --outcome commit or --outcome rollback: no log says how it ends")
+    own = {log.names.manager for log in logs_of(configuration).values()}
+    if given.left_by in own:
+        raise SetupError(f"{given.left_by or 'the manager without a name'} is the manager of this file: its log says how its branches end")
+    rm, xid = _database_and_branch(configuration, given.branch, [given.left_by])
+    call = Call(f"xa_{given.outcome}", xid)
+    print(f"database {rm}: {configuration.databases[rm].by_hand(call)}")
+    print("All branches of a transaction are to end alike: look at what the other databases hold of it, and that its manager runs nowhere.")
+    return _end_at(configuration, rm, call, given.yes)
+
+
+def _end_at(configuration: Configuration, rm: int, call: Call, is_sure: bool) -> int:
+    if not is_sure and not _agrees():
+        print("nothing was done")
+        return 1
+    place = place_of(configuration, manager_in(call.branch), rm)
+    connection = configuration.databases[rm].connect(place)
+    try:
+        with connection.timed(place.patience):
+            code = connection.do(call).code
+    finally:
+        connection.close()
     print("it is ended" if code is Code.OK else f"it was over already: {code.name}")
     return 0
 
 
-def _database_and_branch(configuration: Configuration, text: str) -> Tuple[int, Xid]:
-    """The branch of this identifier, and the database that lists it."""
+def _branch(text: str) -> Xid:
     try:
-        xid = Xid.parse(text)
+        return Xid.parse(text)
     except ValueError as error:
         raise SetupError(str(error)) from error
-    found = listings_of(configuration)
+
+
+def _log_of(logs: Mapping[str, Log], xid: Xid) -> Tuple[str, Log]:
+    """The log of the manager of a branch: the only one, or the worker's."""
+    for path, log in logs.items():
+        if len(logs) == 1 or log.names.manager == manager_in(xid):
+            return path, log
+    raise SetupError(f"none of the logs is that of {manager_in(xid) or 'a manager without a name'}, whose branch {xid} is")
+
+
+def _database_and_branch(configuration: Configuration, text: str, managers: List[str]) -> Tuple[int, Xid]:
+    """The branch of this identifier, and the database that lists it."""
+    xid = _branch(text)
+    found = listings_of(configuration, managers)
     for rm, one in enumerate(found):
         if xid in one.own:
             return rm, xid
@@ -154,9 +232,8 @@ def _agrees() -> bool:
 class _LogHold:
     """Keeps the log for itself, by a coordinator that is asked for nothing."""
 
-    def __init__(self, configuration: Configuration):
-        known = configuration.program, configuration.log, configuration.name
-        self._command = serve_command(*known, threads=1, databases=len(configuration.databases))
+    def __init__(self, configuration: Configuration, path: str, log: Log):
+        self._command = serve_command(configuration.program, path, log.names, threads=1, databases=len(configuration.databases))
         self._coordinator: Optional[Coordinator] = None
 
     def __enter__(self) -> int:
@@ -167,3 +244,13 @@ class _LogHold:
     def __exit__(self, *_: object) -> None:
         if self._coordinator is not None:
             self._coordinator.quit()
+
+
+# ** failover
+
+
+def _fail_over(configuration: Configuration, given: argparse.Namespace) -> int:
+    """Makes the logs of managers anew whose machine is lost, from what the mirror holds."""
+    for path, name, count in fail_over(configuration, given.name):
+        print(f"log {path}, of the manager {name}: made, with {count} decisions to commit")
+    return 0

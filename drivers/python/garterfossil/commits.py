@@ -3,14 +3,20 @@
 from __future__ import annotations
 
 import threading
-from typing import List, Optional, Protocol
+from typing import List, Optional, Protocol, Sequence
 
 from .coordinator import Coordinator
 from .errors import CoordinatorGone, Refused, XaError
+from .mirror import Mirror
+from .xid import Xid
 
 
 class Behind(Protocol):
     """What a thread asks for behind its decision, by the same write. It is refused where the decision is."""
+
+    @property
+    def xids(self) -> Sequence[Xid]:
+        """The branches that the decision waits for."""
 
     def post(self) -> None:
         """Puts it on its way."""
@@ -37,14 +43,15 @@ class Commits:
     """Decides to commit. The coordinator writes the rows of one request by one write of its log, which takes a while: what other
     threads ask for meanwhile is then decided together, by the first of them. No thread is woken before its turn."""
 
-    def __init__(self, coordinator: Coordinator):
+    def __init__(self, coordinator: Coordinator, mirror: Optional[Mirror] = None):
         self._coordinator = coordinator
+        self._mirror = mirror
         self._change = threading.Lock()
         self._asked: List[_Commit] = []
         self._is_deciding = False
 
     def decide(self, gtrid: str, behind: Behind) -> None:
-        """Decides that the transaction commits. Once this returns, the decision is in the log."""
+        """Decides that the transaction commits. Once this returns, the decision is in the log, and in the mirror if there is one."""
         mine = _Commit(gtrid, behind)
         with self._change:
             if self._is_deciding:
@@ -107,6 +114,7 @@ class Commits:
                 # What was asked for with the decision has come as well then: no thread waits for its own.
                 self._coordinator.see_arrived()
             self._coordinator.wait(reply)
+            self._tell_mirror(group)
         except Refused as refused:
             for commit in group:
                 commit.behind.take_back()
@@ -118,3 +126,12 @@ class Commits:
         except XaError as error:
             for commit in group:
                 commit.error = error
+
+    def _tell_mirror(self, group: List[_Commit]) -> None:
+        """Tells the mirror what is decided. Where that fails the session is over: the next one tells it what the log has."""
+        if self._mirror is not None:
+            try:
+                self._mirror.add([(commit.gtrid, commit.behind.xids) for commit in group])
+            except BaseException:
+                self._coordinator.kill()
+                raise

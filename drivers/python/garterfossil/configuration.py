@@ -5,7 +5,7 @@ from __future__ import annotations
 import importlib
 import os
 from dataclasses import dataclass, field
-from typing import Any, Dict, List, Mapping, Sequence
+from typing import Any, Dict, List, Mapping, Optional, Sequence
 
 from .adapters.base import Database
 from .errors import SetupError
@@ -42,8 +42,8 @@ class Configuration:
     def of(cls, found: Mapping[str, Any], path: str) -> Configuration:
         """What the tables of such a file say. A log without a folder is in that of the file."""
         for key, value in found.items():
-            if key != "database" and not isinstance(value, KEYS.get(key, ())):
-                raise SetupError(f"{path}: {key} = {value!r} isn't right; the keys are {', '.join(KEYS)} and [[database]]")
+            if key not in ("database", "mirror") and not isinstance(value, KEYS.get(key, ())):
+                raise SetupError(f"{path}: {key} = {value!r} isn't right; the keys are {', '.join(KEYS)}, [[database]] and [mirror]")
         if "log" not in found or not isinstance(found.get("database"), list) or not found["database"]:
             raise SetupError(f"{path}: it needs the key log, and a table [[database]] for each database")
         tables = [dict(table) for table in found["database"]]
@@ -52,12 +52,20 @@ class Configuration:
             raise SetupError(f"{path}: either each database has a name of its own (as = ..), or none has")
         databases = [_database(table, f"{path}: database {rm}") for rm, table in enumerate(tables)]
         log = os.path.join(os.path.dirname(os.path.abspath(path)), found["log"])
-        return cls(databases, log, names, {key: found[key] for key in KEYS if key in found and key != "log"})
+        options = {key: found[key] for key in KEYS if key in found and key != "log"}
+        if "mirror" in found:
+            options["mirror"] = _database(dict(found["mirror"]), f"{path}: the mirror")
+        return cls(databases, log, names, options)
 
     @property
-    def name(self) -> str:
-        """The manager's name, if it has one."""
-        return str(self.options.get("name", ""))
+    def name(self) -> Optional[str]:
+        """The manager's name, if one is given. Else it is the one that the log keeps."""
+        return self.options.get("name")
+
+    @property
+    def mirror(self) -> Optional[Database]:
+        """Where the decisions are mirrored, if they are."""
+        return self.options.get("mirror")
 
     @property
     def program(self) -> str:
@@ -68,10 +76,10 @@ class Configuration:
         """What messages call a database."""
         return f"{self.names[rm]}, {self.databases[rm]!r}" if self.names else repr(self.databases[rm])
 
-    def manager(self) -> TransactionManager:
-        """The transaction manager. Raises what its constructor does."""
+    def manager(self, log: Optional[str] = None) -> TransactionManager:
+        """The transaction manager, or the one of a worker's log. Raises what its constructor does."""
         named = dict(zip(self.names, self.databases))
-        return TransactionManager(named or self.databases, self.log, **self.options)
+        return TransactionManager(named or self.databases, log or self.log, **self.options)
 
 
 def manager_of(path: str) -> TransactionManager:

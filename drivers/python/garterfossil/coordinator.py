@@ -11,7 +11,7 @@ from typing import Deque, Dict, Iterable, List, Optional, Sequence, Tuple, Union
 
 from .calls import Answer, Call
 from .errors import CoordinatorGone, LogInUse, Refused, RequestError, SetupError, Unexplained, XaError
-from .logs import fault_of_log, is_log_in_use
+from .logs import Names, fault_of_log, is_log_in_use
 from .xid import Xid
 
 log = logging.getLogger("garterfossil")
@@ -20,16 +20,24 @@ log = logging.getLogger("garterfossil")
 MANAGER_DOWN, UNKNOWN_TRANSACTION, LOG_FAULT = 1, 5, 15
 #: The coordinator ends so where another one has the log, or the log can't be opened.
 LOG_STATUS = 2
+#: What it says of a log that is another's, or of which only a part is there, before the path and the reason.
+REFUSED_LOG = "xatm: log: "
 #: What the file doesn't tell.
-OTHER_FAULTS = "it is of another version, or of a manager of another name, or damaged, or the disk is full"
+OTHER_FAULTS = "it is of another version, or damaged, or the disk is full"
+#: The version of the protocol that this driver speaks.
+PROTOCOL = "1"
 #: How the reply to a request begins that wasn't done.
 UNDONE = ("refused ", "error ")
 UNEXPLAINED = "error the branch is in no such state"
 
 
-def serve_command(program: str, log: str, name: str, threads: int, databases: int) -> List[str]:
-    """The words that start a coordinator over a log, as the manager of this name, if it has one."""
-    return [program, "serve", *(["--name", name] if name else []), "--log", log, str(threads), str(databases)]
+def serve_command(program: str, log: str, names: Names, threads: int, databases: int) -> List[str]:
+    """The words that start a coordinator over a log, as the manager of this name, if it has one, whose resource managers have these
+    names, if they have some."""
+    words = [program, "serve", *(["--name", names.manager] if names.manager else [])]
+    for rm in names.rms:
+        words += ["--rm", rm]
+    return [*words, "--log", log, str(threads), str(databases)]
 
 
 class Reply:
@@ -102,6 +110,9 @@ class Coordinator:
                     raise
                 waited = time.monotonic() - begun
                 is_used = path is None or is_log_in_use(path)
+                if REFUSED_LOG in str(gone):
+                    # The coordinator has said why.
+                    raise SetupError(str(gone)) from gone
                 if is_used and waited >= patience:
                     raise LogInUse(f"the log {path} is in use by another program: {gone}") from gone
                 # One that has just ended has let the log go meanwhile.
@@ -350,9 +361,13 @@ class Coordinator:
         """The greeting. Nothing comes after it, since nothing was asked for."""
         while True:
             for line in self._read_lines():
-                # A coordinator with a name says before it which protocol this is, and its name.
                 if not line.startswith("protocol "):
                     return line
+                # A coordinator with names says before it which protocol this is.
+                version = line.split(" ")[1]
+                if version != PROTOCOL:
+                    self.kill()
+                    raise SetupError(f"the coordinator speaks the protocol {version}, and this driver {PROTOCOL}: they are to be of one version")
 
     def _read_lines(self) -> List[str]:
         """The lines of which the ends have come, at once; waits for something to come."""

@@ -9,8 +9,9 @@ from .adapters.base import Database, Place
 
 #: The coordinator takes so many resource managers.
 MOST = 64
-#: A manager's name.
+#: A manager's name, and that of a database, which the log keeps.
 NAME = re.compile(r"[A-Za-z0-9_-]{1,16}")
+RM_NAME = re.compile(r"[A-Za-z0-9_-]{1,64}")
 
 
 class Databases:
@@ -36,6 +37,13 @@ class Databases:
         for name in self._names:
             if not isinstance(name, str):
                 raise TypeError(f"databases: the name {name!r} is no text")
+            if not RM_NAME.fullmatch(name):
+                raise ValueError(f"databases: a name has 1 to 64 letters, digits, _ and -, and {name!r} hasn't: the log keeps it")
+
+    @property
+    def names(self) -> List[str]:
+        """The names of all of them, in the order of their numbers; none, if they have none."""
+        return list(self._names)
 
     def __len__(self) -> int:
         return len(self._all)

@@ -5,15 +5,14 @@ from __future__ import annotations
 import contextlib
 import os
 import sqlite3
-import subprocess
 import urllib.parse
-from dataclasses import dataclass
-from typing import FrozenSet, List, Optional, Tuple
+from dataclasses import dataclass, field
+from typing import Dict, FrozenSet, Iterable, List, Optional, Tuple
 
 from .adapters.base import Database, Place
 from .configuration import Configuration
-from .errors import SetupError, XaError
-from .logs import is_log_in_use
+from .errors import LogInUse, SetupError, XaError
+from .logs import Names, is_log_in_use, logs_of_workers, names_at_work, printed_log
 from .xid import FORMAT, Xid
 
 
@@ -32,27 +31,28 @@ class Log:
     incarnation: Optional[int] = None
     #: Why it can't be read now.
     fault: Optional[str] = None
+    #: The names that it keeps.
+    names: Names = Names()
 
     @classmethod
-    def of(cls, configuration: Configuration) -> Log:
-        """What is in the log of a configuration. A look changes nothing."""
-        if not os.path.exists(configuration.log):
-            return cls(fault="there is no such file")
-        if is_log_in_use(configuration.log):
-            return cls(fault=IN_USE)
-        words = [configuration.program, "log", configuration.log]
+    def of(cls, program: str, path: str, name: Optional[str] = None) -> Log:
+        """What is in the log at a path. A look changes nothing. Of one that isn't there only the name is known that is given."""
+        given = Names(name or "")
+        if not os.path.exists(path):
+            return cls(fault="there is no such file", names=given)
+        if is_log_in_use(path):
+            return cls(fault=IN_USE, names=names_at_work(path))
         try:
-            done = subprocess.run(words, stdin=subprocess.DEVNULL, capture_output=True, text=True, check=False)
-        except OSError as error:
-            raise SetupError(f"the program {configuration.program} can't be run: {error.strerror}") from error
-        if done.returncode != 0:
-            said = done.stderr.strip() or f"status {done.returncode}"
-            return cls(fault=f"{configuration.program} can't read it: {said}")
+            printed = printed_log(program, path)
+        except LogInUse:
+            return cls(fault=IN_USE, names=names_at_work(path))
+        except SetupError as error:
+            return cls(fault=str(error), names=given)
         # Of a log that keeps names these come first.
-        lines = [line for line in done.stdout.splitlines() if line and not line.startswith(("name ", "rm "))]
+        lines = [line for line in printed if line and not line.startswith(("name ", "rm "))]
         heuristics = tuple(line for line in lines if ":" in line)
         decided = frozenset(line.split(" ")[0] for line in lines if ":" not in line)
-        return cls(decided, heuristics, _incarnation_of(configuration.log))
+        return cls(decided, heuristics, _incarnation_of(path), names=Names.printed(printed))
 
     def objection(self, xid: Xid) -> Optional[str]:
         """Why the log doesn't say how a branch of the manager ends, if so."""
@@ -83,35 +83,47 @@ class Listing:
     own: Tuple[Xid, ...] = ()
     others: Tuple[Xid, ...] = ()
     fault: Optional[str] = None
+    #: For how many seconds branches have been prepared, as far as the database tells.
+    ages: Dict[Xid, float] = field(default_factory=dict)
 
     @classmethod
-    def at(cls, database: Database, place: Place) -> Listing:
-        """What a database lists."""
+    def at(cls, database: Database, places: List[Place]) -> Listing:
+        """What a database lists that has these places at managers."""
+        place = places[0]
         try:
             connection = database.connect(place)
         except XaError as error:
             return cls(fault=str(error))
         try:
             with connection.timed(place.patience):
-                found = connection.all_listed()
+                found, ages = connection.all_listed(), connection.ages()
         except XaError as error:
             return cls(fault=str(error))
         finally:
             connection.close()
         # (A server may list the branches of other databases of the manager, too.)
-        others = [xid for xid in found if _is_a_managers(xid) and manager_in(xid) != place.manager]
-        return cls(tuple(filter(place.owns, found)), tuple(others))
+        managers = {place.manager for place in places}
+        others = [xid for xid in found if _is_a_managers(xid) and manager_in(xid) not in managers]
+        return cls(tuple(xid for xid in found if any(place.owns(xid) for place in places)), tuple(others), ages=ages)
 
 
-def places_of(configuration: Configuration) -> List[Place]:
-    """The places of the databases."""
-    patience = float(configuration.options.get("patience", 30.0))
-    return [Place(configuration.name, rm, patience=patience) for rm in range(len(configuration.databases))]
+def logs_of(configuration: Configuration) -> Dict[str, Log]:
+    """What is in the logs of a configuration, by their paths: in one, or in that of each worker that has had one."""
+    paths = logs_of_workers(configuration.log) or [configuration.log]
+    return {path: Log.of(configuration.program, path, configuration.name) for path in paths}
 
 
-def listings_of(configuration: Configuration) -> List[Listing]:
-    """What each database lists."""
-    return [Listing.at(database, place) for database, place in zip(configuration.databases, places_of(configuration))]
+def place_of(configuration: Configuration, manager: str, rm: int) -> Place:
+    """The place of a database at the manager of this name."""
+    return Place(manager, rm, patience=float(configuration.options.get("patience", 30.0)))
+
+
+def listings_of(configuration: Configuration, managers: Iterable[str]) -> List[Listing]:
+    """What each database lists, beside the managers of these names."""
+    return [
+        Listing.at(database, [place_of(configuration, manager, rm) for manager in managers])
+        for rm, database in enumerate(configuration.databases)
+    ]
 
 
 def manager_in(xid: Xid) -> str:

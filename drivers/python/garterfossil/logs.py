@@ -1,16 +1,130 @@
-"""The coordinator's log, as a file: why it can't be had, and whether it is new."""
+"""The coordinator's log, as a file: whose it is, why it can't be had, and whether it is new."""
 
 from __future__ import annotations
 
+import contextlib
 import fcntl
 import os
+import re
+import secrets
+import sqlite3
+import string
 import struct
-from typing import Optional
+import subprocess
+import time
+import urllib.parse
+from dataclasses import dataclass
+from typing import IO, List, Optional, Sequence, Tuple
+
+from .errors import LogInUse, SetupError
 
 #: How a file of SQLite begins, and where it is locked: the bytes from here on.
 HEADER, LOCKED, LOCKED_BYTES = b"SQLite format 3\0", 0x40000000, 512
 #: Linux's struct flock: kind, whence, start, length, and process.
 FLOCK = "hhqqi4x"
+#: What a name that nobody gave has: so many letters and digits, that no two logs have the same by chance.
+LETTERS, DRAWN = string.ascii_lowercase + string.digits, 12
+#: How the text that made a log's table of participants ends, if the log keeps names: the manager's, which may be empty, and those of
+#: its resource managers.
+KEPT = re.compile(r" /\* ([A-Za-z0-9_ -]*) \*/\)$")
+#: What stands for the number of a worker in the path of a log, and the most workers.
+WORKER, MOST_WORKERS = "{worker}", 1024
+
+
+@dataclass(frozen=True)
+class Names:
+    """The names that a log keeps."""
+
+    #: The manager's, which is empty if it has none.
+    manager: str = ""
+    #: Those of its resource managers, in the order of their numbers. None of them if they have none.
+    rms: Tuple[str, ...] = ()
+
+    @classmethod
+    def printed(cls, lines: Sequence[str]) -> Names:
+        """Those that `xatm log` prints before all else."""
+        manager = [line[5:] for line in lines if line.startswith("name ")]
+        return cls("".join(manager), tuple(line.split(" ")[2] for line in lines if line.startswith("rm ")))
+
+    @classmethod
+    def drawn(cls, rms: Sequence[str]) -> Names:
+        """Those of a new log, whose manager was given no name: one that no other log has."""
+        return cls("".join(secrets.choice(LETTERS) for _ in range(DRAWN)), tuple(rms))
+
+
+def printed_log(program: str, path: str) -> List[str]:
+    """The lines that `xatm log` prints of the log at a path. A look changes nothing. Raises LogInUse or SetupError."""
+    try:
+        done = subprocess.run([program, "log", path], stdin=subprocess.DEVNULL, capture_output=True, text=True, check=False)
+    except OSError as error:
+        raise SetupError(f"the program {program} can't be run, which program= may give: {error.strerror}") from error
+    if done.returncode == 0:
+        return done.stdout.splitlines()
+    if is_log_in_use(path):
+        raise LogInUse(f"the log {path} is in use by another program")
+    raise SetupError(f"{program} can't read the log {path}: {done.stderr.strip() or f'status {done.returncode}'}")
+
+
+def kept_names(program: str, path: str, patience: float) -> Optional[Names]:
+    """The names that the log at a path keeps. None where there is no log yet, or one that nobody can read: the coordinator says why.
+    While another program has it, looks again for so many seconds, and then raises LogInUse."""
+    until = time.monotonic() + patience
+    while not is_new_log(path):
+        try:
+            return Names.printed(printed_log(program, path))
+        except LogInUse:
+            if time.monotonic() >= until:
+                raise
+            time.sleep(0.1)
+        except SetupError:
+            if not is_log_in_use(path):
+                return None
+    return None
+
+
+def names_at_work(path: str) -> Names:
+    """The names that the log at a path keeps, while a program has it: they are in its file from the first."""
+    try:
+        with contextlib.closing(sqlite3.connect(f"file:{urllib.parse.quote(path)}?immutable=1", uri=True)) as it:
+            row = it.execute("SELECT sql FROM sqlite_schema WHERE name = 'participant'").fetchone()
+    except sqlite3.Error:
+        return Names()
+    found = KEPT.search(row[0]) if row else None
+    manager, *rms = found.group(1).split(" ") if found else [""]
+    return Names(manager, tuple(rms))
+
+
+def names_for(program: str, path: str, name: Optional[str], rms: Sequence[str], patience: float) -> Names:
+    """The names that a coordinator is started with over the log at a path: those that the log keeps, but for another name that is
+    given, with which the log will be refused. A new log gets the given name, or if there is none, one that is drawn."""
+    kept = kept_names(program, path, patience)
+    if kept is None:
+        return Names.drawn(rms) if name is None else Names(name, tuple(rms))
+    return Names(kept.manager if name is None else name, tuple(rms) if kept.rms else ())
+
+
+def free_log(path: str) -> Tuple[str, Optional[IO[bytes]]]:
+    """The path of a log for a worker: the first number in place of `{worker}` that no other process has taken. And what is to be kept
+    open as long as it is to be this one's."""
+    if WORKER not in path:
+        return path, None
+    for number in range(MOST_WORKERS):
+        mine = path.replace(WORKER, str(number))
+        it = open(f"{mine}-worker", "ab")
+        try:
+            fcntl.flock(it, fcntl.LOCK_EX | fcntl.LOCK_NB)
+        except BlockingIOError:
+            it.close()
+            continue
+        return mine, it
+    raise LogInUse(f"all {MOST_WORKERS} logs {path} are in use by other workers")
+
+
+def logs_of_workers(path: str) -> List[str]:
+    """The paths of the logs that workers have had, in the order of their numbers."""
+    if WORKER not in path:
+        return [path]
+    return [mine for mine in (path.replace(WORKER, str(number)) for number in range(MOST_WORKERS)) if os.path.exists(mine)]
 
 
 def is_new_log(path: str) -> bool:

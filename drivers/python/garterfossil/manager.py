@@ -32,6 +32,7 @@ from .databases import NAME, Databases
 from .errors import CoordinatorGone, LogInUse, NestedTransaction, XaError
 from .coordinator import serve_command
 from .line import PAUSE
+from .logs import Names, free_log, names_for
 from .outcomes import Outcome, Outcomes
 from .session import Session, Settings
 from .transaction import Transaction
@@ -64,11 +65,18 @@ class TransactionManager:
     wrongly. One program at a time uses the log.
 
     Programs that share a database have each a log of its own and a `name` of its own, 1 to 16 letters, digits, _ and -: it
-    stands in the identifiers of the branches, and a program leaves those of other names alone. A log keeps its name.
+    stands in the identifiers of the branches, and a program leaves those of other names alone. A log keeps its name, and so those of
+    the databases. If no name is given it is the one that the log keeps; that of a new log is drawn. (`name=""` makes a new log
+    without one.) If the path of the log has `{worker}` in it, each process of a service takes the first number in place of that which
+    no other one has.
 
     A transaction needs one of the coordinator's `threads` (1 to 1,024). `patience` says for how many seconds a transaction
     waits for one, how long an answer of a database is waited for, and how long a database that has none is asked again before
     it is left to the recovery. `timeout` is for how many seconds a transaction may do work, unless it is given its own.
+
+    `mirror` is a database that is replicated already, as PostgreSQL with a synchronous standby, or a cluster of Galera. All that is
+    decided is there before any database hears of it, so that where this machine is lost a new log is made of it elsewhere
+    (`python -m garterfossil failover`). While it can't be reached, nothing is committed.
 
     Any thread of the process that made it may use it. Where the coordinator ends, the next transaction starts it anew. `ended` is
     called with each transaction after its end. Raises SetupError if a database or the log can't be used as it is, and ConnectionLost if
@@ -79,13 +87,14 @@ class TransactionManager:
         databases: Union[Sequence[Database], Mapping[str, Database]],
         log: "Union[str, os.PathLike[str]]",
         *,
-        name: str = "",
+        name: Optional[str] = None,
         threads: int = 8,
         patience: float = 30.0,
         timeout: Optional[float] = 300.0,
         program: str = "xatm",
         command: Optional[Sequence[str]] = None,
         ended: Optional[Callable[[Transaction], None]] = None,
+        mirror: Optional[Database] = None,
     ):
         if not 1 <= threads <= MOST_THREADS:
             raise ValueError(f"threads: 1 to {MOST_THREADS}, not {threads}")
@@ -93,9 +102,15 @@ class TransactionManager:
             raise ValueError(f"patience: more than 0 seconds, not {patience}")
         if name and not NAME.fullmatch(name):
             raise ValueError(f"name: 1 to 16 letters, digits, _ and -, not {name!r}")
-        all_databases, path = Databases(databases), os.fspath(log)
-        words = command or serve_command(program, path, name, threads, len(all_databases))
-        self._settings = Settings(words, all_databases, path, name, threads, patience)
+        all_databases = Databases(databases)
+        # A worker has its log as long as this is open.
+        path, self._worker = free_log(os.fspath(log))
+        if command is None:
+            names = names_for(program, path, name, all_databases.names, patience)
+            command = serve_command(program, path, names, threads, len(all_databases))
+        else:
+            names = Names(name or "", tuple(all_databases.names))
+        self._settings = Settings(command, all_databases, path, threads, patience, names, mirror)
         self._timeout = timeout
         self._ended = ended
         self._process = os.getpid()
@@ -111,7 +126,7 @@ class TransactionManager:
 
     def __repr__(self) -> str:
         state = "closed" if self._is_closed else "open"
-        name = f" {self._settings.name}" if self._settings.name else ""
+        name = f" {self.name}" if self.name else ""
         return f"<TransactionManager{name} over {len(self._settings.databases)} databases, log {self._settings.log}, {state}>"
 
     def __enter__(self) -> TransactionManager:
@@ -121,6 +136,16 @@ class TransactionManager:
         self, kind: Optional[Type[BaseException]], error: Optional[BaseException], trace: Optional[TracebackType]
     ) -> None:
         self.close()
+
+    @property
+    def name(self) -> str:
+        """The manager's name, which stands in the identifiers of its branches; empty, if it has none."""
+        return self._settings.names.manager
+
+    @property
+    def log(self) -> str:
+        """The path of its log."""
+        return self._settings.log
 
     # ** transactions
 
@@ -204,8 +229,12 @@ class TransactionManager:
         with self._lock:
             self._is_closed = True
             session, self._session = self._session, None
-        if session is not None and not session.coordinator.is_gone:
-            session.close()
+        try:
+            if session is not None and not session.coordinator.is_gone:
+                session.close()
+        finally:
+            if self._worker is not None:
+                self._worker.close()
 
     # ** for the blocks of transactions
 

@@ -8,6 +8,7 @@ from typing import List, Optional, Tuple
 
 from .coordinator import Coordinator, Reply
 from .errors import Refused, XaError
+from .mirror import Mirror
 
 log = logging.getLogger("garterfossil")
 
@@ -19,8 +20,9 @@ AT_ONCE = 8
 class Rows:
     """The rows that may leave the log. Nobody waits until they have: the coordinator sees to them while the next work is done."""
 
-    def __init__(self, coordinator: Coordinator):
+    def __init__(self, coordinator: Coordinator, mirror: Optional[Mirror] = None):
         self._coordinator = coordinator
+        self._mirror = mirror
         self._lock = threading.Lock()
         self._over: List[str] = []
         # The request that is under way, and its transactions.
@@ -61,6 +63,8 @@ class Rows:
         reply, gtrids = asked
         try:
             self._coordinator.wait(reply)
+            if self._mirror is not None:
+                self._mirror.remove(gtrids)
         except Refused as refused:
             log.warning("a row stays in the log: %s", refused)
             if len(gtrids) > 1:

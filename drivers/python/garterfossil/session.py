@@ -6,8 +6,9 @@ import logging
 import threading
 import time
 from dataclasses import dataclass
-from typing import List, Optional, Sequence
+from typing import Dict, List, Optional, Sequence
 
+from .adapters.base import Database
 from .calls import Call
 from .commits import Commits
 from .coordinator import Coordinator, Reply
@@ -15,7 +16,8 @@ from .databases import Databases
 from .debts import Debts
 from .errors import ConnectionLost, Overdue, Refused, RequestError, SetupError, XaError
 from .line import Line
-from .logs import is_new_log
+from .logs import Names, is_new_log
+from .mirror import Mirror
 from .outcomes import Outcomes
 from .recovery import recover
 from .resource_manager import GLANCE, ResourceManager
@@ -35,10 +37,12 @@ class Settings:
     databases: Databases
     #: The path of the log.
     log: str
-    #: The manager's name, or none.
-    name: str
     threads: int
     patience: float
+    #: The names that the log keeps.
+    names: Names = Names()
+    #: Where its decisions are mirrored, if they are.
+    mirror: Optional[Database] = None
 
 
 class Session:
@@ -49,27 +53,30 @@ class Session:
         self.databases = settings.databases
         self.outcomes = outcomes
         #: The coordinator's name, which stands in front of the transaction in its identifiers.
-        self.name = settings.name.encode("ascii")
+        self.name = settings.names.manager.encode("ascii")
         self.threads = Threads(settings.threads)
         self.debts = Debts()
         self._rms = [
             ResourceManager(database, place, settings.databases.label(place.number))
-            for database, place in settings.databases.placed(settings.name, settings.threads, settings.patience)
+            for database, place in settings.databases.placed(settings.names.manager, settings.threads, settings.patience)
         ]
         self._look(is_new_log(settings.log), is_first)
+        self.mirror = settings.mirror and Mirror(settings.mirror, settings.names, settings.log, settings.patience)
         self.coordinator = Coordinator.start(settings.command, settings.patience, settings.log)
-        self.commits = Commits(self.coordinator)
+        self.commits = Commits(self.coordinator, self.mirror)
         self._lines = [[Line(self.coordinator, thread, rm, self.patience) for rm in self._rms] for thread in range(settings.threads)]
         # By thread, what begins its next transaction, where that was asked for ahead.
         self._begun: List[Optional[Reply]] = [None] * settings.threads
         # The transactions of a session are numbered. By thread, the last that began.
         self._last = [0] * settings.threads
         #: Where a committed transaction goes of which all branches have acknowledged.
-        self.rows = Rows(self.coordinator)
+        self.rows = Rows(self.coordinator, self.mirror)
         try:
             self._take_over(is_first)
         except BaseException:
             self.coordinator.kill()
+            if self.mirror is not None:
+                self.mirror.close()
             raise
 
     def _look(self, is_new: bool, is_first: bool) -> None:
@@ -91,10 +98,15 @@ class Session:
 
     def _take_over(self, is_first: bool) -> None:
         """Ends what earlier sessions have left in doubt."""
+        decisions: Dict[str, List[Xid]] = {}
         for rm in self._rms:
             for xid in self.coordinator.owed(rm.number):
                 self.debts.add(rm.number, Call("xa_commit", xid))
+                decisions.setdefault(xid.transaction, []).append(xid)
         rows = self.debts.transactions()
+        if self.mirror is not None:
+            # Before the first transaction begins, and before anything is ended.
+            self.mirror.begin(self.coordinator.incarnation, decisions)
         self.outcomes.note_rows(self.coordinator.incarnation, rows)
         log.info("session %d began: the log has %d decisions to commit", self.coordinator.incarnation, len(rows))
         self.recover_what_is_due(is_first)
@@ -193,6 +205,8 @@ class Session:
     def _leave(self) -> None:
         self.rows.finish()
         self.coordinator.quit()
+        if self.mirror is not None:
+            self.mirror.close()
         for lines in self._lines:
             for line in lines:
                 line.close()

@@ -40,6 +40,10 @@ class _Commits:
         self._thread = thread
         self._branches = branches
 
+    @property
+    def xids(self) -> List[Xid]:
+        return [branch.xid for branch in self._branches]
+
     def post(self) -> None:
         for branch in self._branches:
             branch.issue_commit()

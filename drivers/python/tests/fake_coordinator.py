@@ -49,7 +49,7 @@ class Coordinator:
         return f"begun {gtrid}"
 
     def do_issue(self, thread, rm, *call):
-        if call[0] == "xa_commit" and len(call) == 2 and call[1].split(":")[1] not in self.log["rows"]:
+        if call[0] == "xa_commit" and len(call) == 2 and call[1].split(":")[1][-32:] not in self.log["rows"]:
             return "refused 9 NotDecided"
         self.waiting.setdefault((thread, rm), []).append(" ".join(call))
         return f"issued {' '.join(call)}"
@@ -68,7 +68,7 @@ class Coordinator:
         if name == "xa_rollback" and words[1] == "0":
             self.rolled_back.add(words[0])
         if name == "xa_prepare" and words[1] == "0":
-            self.votes.setdefault(words[0].split(":")[1], []).append(words[0])
+            self.votes.setdefault(words[0].split(":")[1][-32:], []).append(words[0])
         return f"heard {name} {words[-1]}"
 
     def do_decide(self, *words):
@@ -96,7 +96,7 @@ class Coordinator:
     def do_resolve(self, rm):
         calls = []
         for xid in self.pages[rm]:
-            gtrid = xid.split(":")[1]
+            gtrid = xid.split(":")[1][-32:]
             if gtrid not in self.live:
                 calls.append(f"xa_{'commit' if gtrid in self.log['rows'] else 'rollback'} {xid}")
         self.waiting["0", rm] = calls

@@ -1,4 +1,5 @@
-"""A stand-in for the program `xatm`: `serve` is `fake_coordinator.py`, and `log` prints the rows of its log."""
+"""A stand-in for the program `xatm`: `serve` is `fake_coordinator.py`, and `log` prints the names and the rows of its log, or makes one
+of such lines."""
 
 import json
 import os
@@ -19,14 +20,60 @@ def made_in(folder):
 
 def main(words):
     if words[0] == "serve":
-        log = words[words.index("--log") + 1]
-        os.execv(sys.executable, [sys.executable, os.path.join(FOLDER, "fake_coordinator.py"), log])
-    with open(words[1]) as it:
-        rows = json.load(it)["rows"]
-    # (As of a log that keeps names.)
-    print("name shop-1\nrm 0 bank\nrm 1 stock")
-    for gtrid, xids in sorted(rows.items()):
+        serve(words)
+    elif "--make" in words:
+        make(words[-1], sys.stdin.read().splitlines())
+    else:
+        show(words[1])
+
+
+def serve(words):
+    """The names of a new log are kept, and others refused."""
+    log = words[words.index("--log") + 1]
+    name = words[words.index("--name") + 1] if "--name" in words else ""
+    names = [name, *(words[at + 1] for at, word in enumerate(words) if word == "--rm")]
+    if not os.path.exists(log):
+        with open(log, "w") as it:
+            json.dump({"incarnation": 0, "rows": {}, "requests": [], "names": names}, it)
+    with open(log) as it:
+        kept = json.load(it).get("names", [""])
+    if kept != names:
+        print(f"xatm: log: {log}: it is that of {kept}, not of {names}", file=sys.stderr)
+        sys.exit(2)
+    if names != [""]:
+        print("protocol 1", *(["name", name] if name else []), *(["rms", *names[1:]] if names[1:] else []), flush=True)
+    os.execv(sys.executable, [sys.executable, os.path.join(FOLDER, "fake_coordinator.py"), log])
+
+
+def show(log):
+    with open(log) as it:
+        found = json.load(it)
+    manager, *rms = found.get("names", [""])
+    if manager:
+        print("name", manager)
+    for number, rm in enumerate(rms):
+        print("rm", number, rm)
+    for gtrid, xids in sorted(found["rows"].items()):
         print(gtrid, len(xids))
+
+
+def make(log, lines):
+    """Makes a log, and keeps the lines that it was made of."""
+    if os.path.exists(log) or lines[-1] != "end":
+        sys.exit("xatm: log: it is there, or the lines are cut off")
+    names, found = [""], {"incarnation": 0, "rows": {}, "requests": [], "made": lines}
+    for line in lines[:-1]:
+        word, *words = line.split(" ")
+        if word == "name":
+            names[0] = words[0]
+        elif word == "rm":
+            names.append(words[1])
+        elif word == "incarnation":
+            found["incarnation"] = int(words[0])
+        else:
+            found["rows"][word] = words[1:]
+    with open(log, "w") as it:
+        json.dump({**found, "names": names}, it)
 
 
 if __name__ == "__main__":

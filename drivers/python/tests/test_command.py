@@ -13,7 +13,7 @@ from garterfossil.configuration import Configuration
 from garterfossil.xid import Xid
 
 from . import fake_program
-from .fake_database import FakeDatabase
+from .fake_database import FakeConnection, FakeDatabase
 
 DECIDED, UNDECIDED = "00000000000000010000000000000001", "00000000000000010000000000000002"
 
@@ -73,11 +73,32 @@ class Commands(unittest.TestCase):
             self.assertIn(self.databases[rm].by_hand(command.Call("xa_commit", branch(DECIDED, rm))), printed)
         self.assertEqual([len(database.prepared) for database in self.databases], [2, 2])
 
-    def test_branches_of_others_are_counted_and_no_more(self):
-        self.databases[0].prepared[branch(UNDECIDED, 0, "shop-2")] = []
-        status, printed = self.does("status")
+    def test_branches_of_others_are_told_with_their_age_and_left_alone(self):
+        foreign = branch(UNDECIDED, 0, "shop-2")
+        self.databases[0].prepared[foreign] = []
+        with mock.patch.object(FakeConnection, "ages", lambda connection: {foreign: 7500.0}):
+            status, printed = self.does("status")
         self.assertEqual(status, 0)
-        self.assertIn("1 of the manager shop-2", printed)
+        self.assertIn("1 of the manager shop-2, the oldest for 2 hours", printed)
+        self.assertIn(str(foreign), printed)
+
+    def test_what_a_dead_manager_left_is_ended_as_an_operator_says(self):
+        foreign = branch(UNDECIDED, 1, "shop-2")
+        for name, words in (("commit", ["work"]), ("rollback", [])):
+            self.databases[1].prepared[foreign] = ["work"]
+            self.databases[1].written.clear()
+            self.assertEqual(self.does("end", "--left-by", "shop-3", "--outcome", name, str(foreign), "--yes")[0], 2)
+            self.assertEqual(self.does("end", "--left-by", "shop-2", str(foreign), "--yes")[0], 2)
+            status, printed = self.does("end", "--left-by", "shop-2", "--outcome", name, str(foreign), says="no")
+            self.assertEqual((status, list(self.databases[1].prepared)), (1, [foreign]), printed)
+            self.assertEqual(self.does("end", "--left-by", "shop-2", "--outcome", name, str(foreign), says="yes")[0], 0)
+            self.assertEqual((self.databases[1].written, self.databases[1].prepared), (words, {}))
+
+    def test_the_manager_of_the_file_is_not_gone(self):
+        self.in_doubt()
+        status, printed = self.does("end", "--left-by", "", "--outcome", "commit", str(branch(DECIDED, 0)), "--yes")
+        self.assertEqual(status, 2, printed)
+        self.assertEqual(len(self.databases[0].prepared), 2)
         self.assertNotIn("by hand", printed)
 
     def test_without_the_log_nobody_says_how_a_branch_ends(self):

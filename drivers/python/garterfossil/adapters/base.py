@@ -4,6 +4,7 @@ from __future__ import annotations
 
 import abc
 import enum
+import re
 import threading
 import time
 from dataclasses import dataclass
@@ -12,6 +13,7 @@ from typing import (
     Any,
     Callable,
     Collection,
+    Dict,
     FrozenSet,
     Iterable,
     Iterator,
@@ -113,6 +115,14 @@ class Database(abc.ABC):
 
     #: How SQLAlchemy names its own dialect for the module that reaches the database, if it has one.
     SQLALCHEMY: Optional[str] = None
+    #: The end of a SELECT by which the rows of its table `m` stay as they are until the transaction ends.
+    SHARED = "FOR SHARE OF m"
+    #: The type of a text of so many letters at most, which is compared byte by byte.
+    EXACT_TEXT = "varchar({})"
+
+    def with_exact_texts(self, table: str) -> str:
+        """The columns of a table, in which numbers in braces stand for the types of texts."""
+        return re.sub(r"\{(\d+)\}", lambda found: self.EXACT_TEXT.format(found.group(1)), table)
 
     @abc.abstractmethod
     def connect(self, place: Place = Place()) -> Connection:
@@ -194,8 +204,8 @@ class Connection(abc.ABC):
         self._fault: Optional[Code] = None
         #: The database's own error because of which it can, or because of which the last branch was rolled back.
         self.reason: Optional[BaseException] = None
-        #: The identifier behind which the next page of a scan begins. None where no scan is open.
-        self._scanned: Optional[Tuple[Any, ...]] = None
+        #: What the pages of a scan are yet to list, in the order of the identifiers. None where no scan is open.
+        self._unscanned: Optional[List[Xid]] = None
 
     # ** work
 
@@ -356,17 +366,15 @@ class Connection(abc.ABC):
         self.options, self.limit = Options(), None
 
     def _recover(self, call: Call) -> Answer:
-        """The next page of the scan, in the order of the identifiers. It has the branches of the connection's own place."""
+        """The next page of the scan, in the order of the identifiers. It has the branches of the connection's own place, as they were
+        listed as the scan began: those of others are never looked at again."""
         if "TMSTARTRSCAN" in call.flags:
-            self._scanned = ()
-        if self._scanned is None or call.count is None or call.count < 0:
+            self._unscanned = sorted(self.listed())
+        if self._unscanned is None or call.count is None or call.count < 0:
             raise Unanswered("no scan is open")
-        rest = sorted(xid for xid in self.listed() if (xid.format, xid.gtrid, xid.bqual) > self._scanned)
-        page = tuple(rest[: call.count])
-        if page:
-            self._scanned = (page[-1].format, page[-1].gtrid, page[-1].bqual)
+        page, self._unscanned = tuple(self._unscanned[: call.count]), self._unscanned[call.count :]
         if "TMENDRSCAN" in call.flags:
-            self._scanned = None
+            self._unscanned = None
         return Answer(page=page)
 
     def listed(self) -> List[Xid]:
@@ -376,6 +384,10 @@ class Connection(abc.ABC):
     def all_listed(self) -> List[Xid]:
         """The prepared branches of all places and managers."""
         return sorted(self._listed())
+
+    def ages(self) -> Dict[Xid, float]:
+        """For how many seconds branches have been prepared, as far as the database tells."""
+        return {}
 
     # ** what a kind of database gives
 

@@ -51,6 +51,8 @@ class MariaDB(Database):
     them."""
 
     SQLALCHEMY = "mariadb+pymysql"
+    SHARED = "LOCK IN SHARE MODE"
+    EXACT_TEXT = "varchar({}) CHARACTER SET ascii COLLATE ascii_bin"
 
     def __init__(self, *, lock_timeout: int = 10, **parameters: Any):
         if "autocommit" in parameters:

@@ -6,7 +6,7 @@ import math
 import re
 import time
 from dataclasses import dataclass
-from typing import Any, Collection, List, Optional, Set
+from typing import Any, Collection, Dict, List, Optional, Set
 
 from ..calls import Call
 from ..codes import Code
@@ -282,6 +282,12 @@ class PostgreSQLConnection(Connection):
     def _listed(self) -> List[Xid]:
         rows = self.run("SELECT gid FROM pg_prepared_xacts WHERE database = current_database()")
         return xids_in(gid for gid, in rows)
+
+    def ages(self) -> Dict[Xid, float]:
+        rows = self.run(
+            "SELECT gid, extract(epoch FROM now() - prepared)::float8 FROM pg_prepared_xacts WHERE database = current_database()"
+        )
+        return {xid: float(age) for gid, age in rows for xid in xids_in([gid])}
 
     # ** statements
 

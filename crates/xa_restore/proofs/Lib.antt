@@ -1,0 +1,3 @@
+mod HeadingLemmas
+mod LineLemmas
+mod RestoreLemmas

@@ -1,0 +1,58 @@
+-- The lines of a log behind its names: the first, those of the decisions, and the last.
+use Rattle.std.proofs.Common.{◌≡◌, ℕ, ◌+◌, ◌-◌, ◌<◌, List, [], ◌∷◌, ◌++◌, length, map, take, drop, get_or, suc, Bool, true, false, not, ap, refl, subst, sym, ◌∙◌, arith}
+use Rattle.std.specs.Borrow.{Bor}
+use Rattle.std.specs.Prelude.{codes}
+use Rattle.std.proofs.lemmas.Bool.{true≢false}
+use Rattle.std.proofs.lemmas.List.{map-append, take_all, take_more}
+use Rattle.std.proofs.lemmas.Slice.Eq.{bytes_eq-Decides}
+use Rattle.std.specs.Str.{bytes_eq}
+use Rattle.xa_log.specs.declared.decision.Decision.{Decision}
+use Rattle.xa_names.specs.Lines.{line_renamed}
+use Rattle.xa_restore.specs.LogLines.{AreLinesOf, decision_line, incarnation_line}
+use Rattle.xa_restore.proofs.HeadingLemmas.{texts}
+
+not_true : (b : Bool) → false ≡ not b → b ≡ true
+not_true true e = refl
+not_true false e = absurd (true≢false (sym e))
+
+-- texts of which `!=` is false are the same
+pub same_text : (xs ys : List ℕ) → false ≡ not (bytes_eq xs ys) → xs ≡ ys
+same_text xs ys e = (bytes_eq-Decides xs ys).0 (not_true (bytes_eq xs ys) e)
+
+map_texts : (f : List ℕ → List ℕ) (lines : List (Bor (List ℕ))) → map f (texts lines) ≡ map (λ line. f line.now) lines
+map_texts f [] = refl
+map_texts f (line ∷ lines) = ap (λ rest. f line.now ∷ rest) (map_texts f lines)
+
+-- lines, but for the last, and that
+but_the_last : (lines : List (Bor (List ℕ))) (d : Bor (List ℕ)) → 0 < length lines
+    → lines ≡ take (length lines - 1) lines ++ get_or lines (length lines - 1) d ∷ []
+but_the_last lines d some =
+    let short : length lines - 1 < length lines = omega arith in
+    sym (take_all ((length lines - 1) + 1) lines (omega arith)) ∙ take_more lines (length lines - 1) d short
+
+-- the lines behind the first
+module _ (line : Bor (List ℕ)) (lines : List (Bor (List ℕ))) (d e : Bor (List ℕ)) (name : List ℕ) (n : ℕ) (decisions : List Decision) where
+  whole_is : 0 < length lines → line.now ≡ incarnation_line n → (get_or lines (length lines - 1) e).now ≡ codes "end"
+      → texts (line ∷ lines) ≡ incarnation_line n ∷ texts (take (length lines - 1) lines) ++ codes "end" ∷ []
+  whole_is some first last =
+      ap (λ l. l ∷ texts lines) first
+      ∙ ap (λ ls. incarnation_line n ∷ ls) (ap texts (but_the_last lines e some)
+      ∙ map-append (λ line. line.now) (take (length lines - 1) lines) (get_or lines (length lines - 1) e ∷ [])
+      ∙ ap (λ l. texts (take (length lines - 1) lines) ++ l ∷ []) last)
+
+pub lines_are : (lines : List (Bor (List ℕ))) (d e : Bor (List ℕ)) (name : List ℕ) (n : ℕ) (decisions : List Decision) → 1 < length lines
+    → (get_or lines 0 d).now ≡ incarnation_line n → (get_or lines (length lines - 1) e).now ≡ codes "end"
+    → map (λ line. line_renamed name line.now) (take ((length lines - 1) - 1) (drop 1 lines)) ≡ map decision_line decisions
+    → AreLinesOf name (texts lines) n decisions
+lines_are [] d e name n decisions some first last meant = absurd (omega arith)
+lines_are (line ∷ lines) d e name n decisions some first last meant =
+    let more : 0 < length lines = omega arith in
+    let last_place : length (line ∷ lines) - 1 ≡ suc (length lines - 1) = omega arith in
+    let rows_count : (length (line ∷ lines) - 1) - 1 ≡ length lines - 1 = omega arith in
+    let LastIs : ℕ → Type 0 = λ i. (get_or (line ∷ lines) i e).now ≡ codes "end" in
+    let HaveMeant : ℕ → Type 0 = λ i. map (λ line. line_renamed name line.now) (take i lines) ≡ map decision_line decisions in
+    record {
+      rows = texts (take (length lines - 1) lines);
+      whole = whole_is line lines d e name n decisions more first (subst LastIs last_place last);
+      meant = map_texts (line_renamed name) (take (length lines - 1) lines) ∙ subst HaveMeant rows_count meant;
+    }

@@ -1,0 +1,11 @@
+use Rattle.std.proofs.Common.{length, ap, sym, ◌∙◌, arith, rules}
+use Rattle.xa_restore.proofs.HeadingLemmas.{rms_pushed}
+use Rattle.xa_restore.proofs.heading.read_rms.Goals as goal
+
+pub loop-at-preserved : goal.loop-at-preserved
+loop-at-preserved c = record {
+  lines = rms_pushed c.args.lines.now c.loop-at.rms.items c.loop-at.at c.in-Some.rm _ c.push.new.self.items (omega arith) c.loop-at.invariant.lines
+      (ap length (sym c.deref.ensures.value) ∙ c.deref.ensures.len ∙ c.loop-at.invariant.count)
+      (rw c.in-Some.is at c.in_ok-rm.ensures) c.in_ok-push-in-Some.ensures.items;
+  count = search rules;
+}

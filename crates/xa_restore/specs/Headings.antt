@@ -1,0 +1,34 @@
+-- The names that the lines of a log begin with.
+use Rattle.std.specs.Prelude.{◌≡◌, ◌&&◌, ℕ, ◌+◌, Bool, nat_le, List, [], ◌∷◌, ◌++◌, codes, length}
+use Rattle.std.specs.Fmt.{decimal}
+use Rattle.std.specs.List.{list_all}
+use Rattle.xa_names.specs.Names.{is_name_byte}
+use Rattle.xa_restore.specs.declared.heading.TheConstants.{RM_NAME_LEN}
+
+-- a text that may be the name of a resource manager
+abbrev pub is_rm_name : List ℕ → Bool
+is_rm_name text = nat_le 1 (length text) && (nat_le (length text) RM_NAME_LEN && list_all is_name_byte text)
+
+abbrev pub name_line : List ℕ → List ℕ
+name_line name = codes "name " ++ name
+
+abbrev pub rm_line : ℕ → List ℕ → List ℕ
+rm_line number rm = codes "rm " ++ decimal number ++ codes " " ++ rm
+
+-- a line for each resource manager, from this number on
+abbrev pub rm_lines_from : ℕ → List (List ℕ) → List (List ℕ)
+rm_lines_from number [] = []
+rm_lines_from number (rm ∷ rms) = rm_line number rm ∷ rm_lines_from (number + 1) rms
+
+abbrev pub rm_lines : List (List ℕ) → List (List ℕ)
+rm_lines = rm_lines_from 0
+
+-- the line of the manager's name; none, where it has none
+abbrev pub name_lines : List ℕ → List (List ℕ)
+name_lines [] = []
+name_lines name = name_line name ∷ []
+
+-- The lines begin with those of these names: that of the manager's, where it has one, and one for each resource manager.
+pub record IsHeadingOf (name : List ℕ) (rms : List (List ℕ)) (lines : List (List ℕ)) : Type 0 where
+  pub rest : List (List ℕ)
+  pub begins : lines ≡ name_lines name ++ rm_lines rms ++ rest

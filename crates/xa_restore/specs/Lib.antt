@@ -1,0 +1,3 @@
+pub mod Headings
+pub mod LogLines
+pub mod Restored

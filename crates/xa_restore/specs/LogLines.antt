@@ -1,0 +1,36 @@
+-- The lines of a log.
+use Rattle.std.specs.Prelude.{◌≡◌, ℕ, List, [], ◌∷◌, ◌++◌, codes, length, map}
+use Rattle.std.specs.Fmt.{decimal}
+use Rattle.std.specs.List.{AllByRecursion, flat_map}
+use Rattle.xa_base.specs.Branch.{xid_of_branch}
+use Rattle.xa_base.specs.Xid.{text_of}
+use Rattle.xa_base.specs.declared.branch.Branch.{Branch}
+use Rattle.xa_files.specs.Gtrids.{gtrid_text}
+use Rattle.xa_log.specs.declared.decision.Decision.{Decision}
+use Rattle.xa_names.specs.Lines.{line_renamed}
+
+-- how often the manager has started
+abbrev pub incarnation_line : ℕ → List ℕ
+incarnation_line n = codes "incarnation " ++ decimal n
+
+-- the identifier of a branch, behind a space
+abbrev pub branch_word : Branch → List ℕ
+branch_word b = codes " " ++ text_of (xid_of_branch b)
+
+abbrev pub branch_words : List Branch → List ℕ
+branch_words = flat_map branch_word
+
+-- a transaction that is decided to commit, how many branches it waits for, and these
+abbrev pub decision_line : Decision → List ℕ
+decision_line d = gtrid_text d.gtrid ++ codes " " ++ decimal (length d.participants.items) ++ branch_words d.participants.items
+
+-- the participants are branches of the transaction
+abbrev pub OwnsBranches : Decision → Type 0
+OwnsBranches d = AllByRecursion (λ b. b.gtrid ≡ d.gtrid) d.participants.items
+
+-- These are the lines of a log of this incarnation with these decisions, whose manager has this name: the incarnation; a line for each
+-- decision, as this manager means it; and `end`, so that lines that were cut off are those of no log.
+pub record AreLinesOf (name : List ℕ) (lines : List (List ℕ)) (n : ℕ) (decisions : List Decision) : Type 0 where
+  pub rows : List (List ℕ)
+  pub whole : lines ≡ incarnation_line n ∷ rows ++ codes "end" ∷ []
+  pub meant : map (line_renamed name) rows ≡ map decision_line decisions

@@ -1,0 +1,61 @@
+"""A log that is made anew from its mirror, where the machine that had it is lost."""
+
+from __future__ import annotations
+
+import os
+import re
+import subprocess
+from typing import Iterator, Optional, Tuple
+
+from .adapters.base import Database
+from .configuration import Configuration
+from .errors import SetupError
+from .logs import WORKER
+from .mirror import Mirrored, Tables, managers_in
+
+
+def fail_over(configuration: Configuration, only: Optional[str] = None) -> Iterator[Tuple[str, str, int]]:
+    """Makes the log of each manager of a configuration that isn't here and that the mirror knows, or of the one of this name. For each
+    its path, the manager's name, and how many decisions to commit it has. Raises SetupError if there is none to be made."""
+    mirror = configuration.mirror
+    if mirror is None:
+        raise SetupError("the file names no mirror: it needs a table [mirror]")
+    patience = float(configuration.options.get("patience", 30.0))
+    made = 0
+    for name, path in managers_in(mirror, patience).items():
+        here = _path_here(configuration.log, path)
+        if here is None or only is not None and name != only or os.path.exists(here):
+            continue
+        found = _take_over(mirror, name, patience)
+        make_log(configuration.program, here, found)
+        made += 1
+        yield here, name, len(found.decisions)
+    if not made:
+        raise SetupError(f"there is no log to be made at {configuration.log}: each that the mirror knows of such a name is there")
+
+
+def _path_here(pattern: str, path: str) -> Optional[str]:
+    """Where the log is to be that lay at a path, if it is one of this pattern."""
+    folder, name = os.path.split(os.path.abspath(pattern))
+    parts = [re.escape(part) for part in name.split(WORKER)]
+    there = os.path.basename(path)
+    return os.path.join(folder, there) if re.fullmatch("[0-9]+".join(parts), there) else None
+
+
+def _take_over(mirror: Database, name: str, patience: float) -> Mirrored:
+    tables = Tables(mirror, name, patience)
+    try:
+        return tables.take_over()
+    finally:
+        tables.close()
+
+
+def make_log(program: str, path: str, found: Mirrored) -> None:
+    """Makes a log of what a mirror holds."""
+    text = "".join(f"{line}\n" for line in found.lines())
+    try:
+        done = subprocess.run([program, "log", "--make", path], input=text, capture_output=True, text=True, check=False)
+    except OSError as error:
+        raise SetupError(f"the program {program} can't be run: {error.strerror}") from error
+    if done.returncode != 0:
+        raise SetupError(f"the log {path} can't be made: {done.stderr.strip() or f'status {done.returncode}'}")

@@ -1,0 +1,201 @@
+"""The mirror: what the log has decided, in a database that is replicated already, so that a new log can be made of it where the
+machine that had the log is lost."""
+
+from __future__ import annotations
+
+import contextlib
+import logging
+import os
+import threading
+from dataclasses import dataclass
+from typing import Dict, Iterator, List, Mapping, Optional, Sequence, Tuple
+
+from .adapters.base import Connection, Database, Place
+from .databases import MOST
+from .errors import ConnectionLost, CoordinatorGone, SetupError, XaError
+from .logs import Names
+from .xid import Xid
+
+log = logging.getLogger("garterfossil")
+
+#: The tables, whose texts are compared byte by byte: one row for each manager, and one for each of its decisions.
+MANAGERS = "garterfossil_manager (name {16} PRIMARY KEY, log text NOT NULL, rms text NOT NULL, incarnation bigint NOT NULL)"
+DECISIONS = "garterfossil_decision (name {16} NOT NULL, gtrid {32} NOT NULL, branches text NOT NULL, PRIMARY KEY (name, gtrid))"
+
+
+@dataclass(frozen=True)
+class Mirrored:
+    """What the mirror holds of a manager."""
+
+    names: Names
+    #: The path of its log, where that was.
+    log: str
+    incarnation: int
+    #: The transactions that are decided to commit, in their order, each with its participants.
+    decisions: Mapping[str, Sequence[str]]
+
+    def lines(self) -> List[str]:
+        """The lines of which `xatm log --make` makes the log."""
+        lines = [f"name {self.names.manager}"] if self.names.manager else []
+        lines += [f"rm {number} {rm}" for number, rm in enumerate(self.names.rms)]
+        lines.append(f"incarnation {self.incarnation}")
+        lines += [" ".join([gtrid, str(len(xids)), *xids]) for gtrid, xids in sorted(self.decisions.items())]
+        return [*lines, "end"]
+
+
+class Tables:
+    """The tables of the mirror, over one connection to its database."""
+
+    def __init__(self, database: Database, manager: str, patience: float):
+        self._database = database
+        self._place = Place(manager, MOST, 0, patience)
+        self._connection: Optional[Connection] = None
+
+    @contextlib.contextmanager
+    def at_work(self) -> Iterator[Connection]:
+        """The connection, which is made anew where it is lost, for as long as the patience lasts. Where something fails on it, it is
+        given up, and what was under way with it."""
+        if self._connection is None or not self._connection.is_there():
+            self.close()
+            self._connection = self._database.connect(self._place)
+        connection = self._connection
+        try:
+            with connection.timed(self._place.patience):
+                yield connection
+        except BaseException:
+            self.close()
+            raise
+
+    def close(self) -> None:
+        """Closes the connection."""
+        connection, self._connection = self._connection, None
+        if connection is not None:
+            connection.close()
+
+    @contextlib.contextmanager
+    def at_once(self) -> Iterator[Connection]:
+        """One transaction of the mirror's database."""
+        with self.at_work() as connection:
+            connection.run("BEGIN")
+            yield connection
+            connection.run("COMMIT")
+
+    def make(self) -> None:
+        """Makes the tables, unless they are there."""
+        with self.at_work() as connection:
+            for table in (MANAGERS, DECISIONS):
+                connection.run(f"CREATE TABLE IF NOT EXISTS {self._database.with_exact_texts(table)}")
+
+    def insert(self, connection: Connection, rows: Sequence[Tuple[str, Sequence[Xid]]], incarnation: int) -> int:
+        """Adds decisions, of which none has a row, if the manager is in this incarnation: how many, all of them or none."""
+        values = " UNION ALL ".join(["SELECT %s AS gtrid, %s AS branches", *["SELECT %s, %s"] * (len(rows) - 1)])
+        words = [word for gtrid, xids in rows for word in (gtrid, " ".join(map(str, sorted(xids))))]
+        statement = (
+            "INSERT INTO garterfossil_decision (name, gtrid, branches) SELECT m.name, d.gtrid, d.branches FROM garterfossil_manager m"
+            f" JOIN ({values}) d ON 1 = 1 WHERE m.name = %s AND m.incarnation = %s {self._database.SHARED}"
+        )
+        return connection.run(statement, [*words, self._place.manager, incarnation]).rowcount
+
+    def incarnation(self, connection: Connection) -> Optional[int]:
+        """The incarnation of the manager, which stays as it is until the transaction ends. None, if the mirror doesn't know it."""
+        rows = connection.run("SELECT incarnation FROM garterfossil_manager WHERE name = %s FOR UPDATE", [self._place.manager]).rows
+        return int(rows[0][0]) if rows else None
+
+    def take_over(self) -> Mirrored:
+        """What the mirror holds of the manager. From now on the session that had it can't decide any more: its incarnation is over."""
+        with self.at_once() as connection:
+            before = self.incarnation(connection)
+            if before is None:
+                raise SetupError(f"the mirror knows no manager {self._place.manager}")
+            connection.run("UPDATE garterfossil_manager SET incarnation = %s WHERE name = %s", [before + 1, self._place.manager])
+            where = "WHERE name = %s", [self._place.manager]
+            path, rms = connection.run(f"SELECT log, rms FROM garterfossil_manager {where[0]}", where[1]).rows[0]
+            rows = connection.run(f"SELECT gtrid, branches FROM garterfossil_decision {where[0]}", where[1]).rows
+        names = Names(self._place.manager, tuple(rms.split()))
+        return Mirrored(names, path, before + 1, {gtrid: branches.split() for gtrid, branches in rows})
+
+
+class Mirror:
+    """The mirror of one session. A decision is in it before any xa_commit of it is made, and so a log that is made of it lacks no
+    decision of which a database has heard."""
+
+    def __init__(self, database: Database, names: Names, path: str, patience: float):
+        if not names.manager:
+            raise SetupError("a mirror is for a manager with a name, and this log keeps none: give a new log a name, once nothing is in doubt")
+        self._names, self._path = names, os.path.abspath(path)
+        # Decisions come by one connection, and leave by another, for which nobody waits.
+        self._adding = Tables(database, names.manager, patience)
+        self._removing = Tables(database, names.manager, patience)
+        self._lock = threading.Lock()
+        self._incarnation = 0
+
+    def begin(self, incarnation: int, decisions: Mapping[str, Sequence[Xid]]) -> None:
+        """A session begins, over a log that has these decisions: the mirror has just them then. Raises SetupError if the log is older
+        than the mirror, and CoordinatorGone if the mirror can't be had."""
+        try:
+            self._adding.make()
+            with self._adding.at_once() as connection:
+                before = self._adding.incarnation(connection)
+                if before is not None and before >= incarnation:
+                    raise SetupError(
+                        f"the log {self._path} is older than its mirror, in session {incarnation} and not behind {before}: put the right one"
+                        " back, or make it of the mirror (python -m garterfossil failover)"
+                    )
+                self._note(connection, incarnation, before is None)
+                connection.run("DELETE FROM garterfossil_decision WHERE name = %s", [self._names.manager])
+                if decisions:
+                    self._adding.insert(connection, list(decisions.items()), incarnation)
+        except ConnectionLost as error:
+            raise CoordinatorGone(f"the mirror can't be reached: {error}") from error
+        self._incarnation = incarnation
+
+    def _note(self, connection: Connection, incarnation: int, is_new: bool) -> None:
+        known = [self._path, " ".join(self._names.rms), incarnation, self._names.manager]
+        if is_new:
+            connection.run("INSERT INTO garterfossil_manager (log, rms, incarnation, name) VALUES (%s, %s, %s, %s)", known)
+        else:
+            connection.run("UPDATE garterfossil_manager SET log = %s, rms = %s, incarnation = %s WHERE name = %s", known)
+
+    def add(self, decisions: Sequence[Tuple[str, Sequence[Xid]]]) -> None:
+        """These transactions are decided to commit: by one commit of the mirror's database. Raises CoordinatorGone, and the session is
+        over, if nobody knows whether they are in it: they stand all the same, as the log has them."""
+        with_branches = [decision for decision in decisions if decision[1]]
+        if not with_branches:
+            return
+        try:
+            with self._adding.at_work() as connection:
+                count = self._adding.insert(connection, with_branches, self._incarnation)
+        except Exception as error:
+            raise CoordinatorGone(f"decisions can't be told to the mirror: {error}") from error
+        if count != len(with_branches):
+            raise CoordinatorGone("the mirror is in a later session of this manager: another machine has taken over")
+
+    def remove(self, gtrids: Sequence[str]) -> None:
+        """The rows of these transactions have left the log. One that stays here costs a failover some calls, and no more."""
+        marks = ", ".join(["%s"] * len(gtrids))
+        with self._lock:
+            try:
+                with self._removing.at_work() as connection:
+                    words = [self._names.manager, *gtrids]
+                    connection.run(f"DELETE FROM garterfossil_decision WHERE name = %s AND gtrid IN ({marks})", words)
+            except Exception as error:
+                log.warning("rows stay in the mirror: %s", error)
+
+    def close(self) -> None:
+        """Closes its connections."""
+        self._adding.close()
+        with self._lock:
+            self._removing.close()
+
+
+def managers_in(database: Database, patience: float) -> Dict[str, str]:
+    """The managers that a mirror knows, each with the path of its log."""
+    tables = Tables(database, "", patience)
+    try:
+        tables.make()
+        with tables.at_work() as connection:
+            return dict(connection.run("SELECT name, log FROM garterfossil_manager ORDER BY name").rows)
+    except XaError as error:
+        raise SetupError(f"the mirror can't be read: {error}") from error
+    finally:
+        tables.close()

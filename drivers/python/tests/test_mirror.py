@@ -1,0 +1,119 @@
+"""The mirror: what is in it when, what it refuses, and the log that is made of it."""
+
+import json
+import os
+import shutil
+import sqlite3
+
+from garterfossil import OutcomeUnknown, Outcome, SetupError, TransactionManager
+from garterfossil.configuration import Configuration
+from garterfossil.errors import CoordinatorGone
+from garterfossil.failover import fail_over
+
+from . import fake_program
+from .case import Case
+from .fake_mirror import FakeMirror
+
+
+class Mirrors(Case):
+    def setUp(self):
+        super().setUp()
+        self.mirror = FakeMirror(self.folder)
+        self.program = fake_program.made_in(self.folder)
+        # What the machine has that is lost.
+        self.machine = os.path.join(self.folder, "machine")
+        os.mkdir(self.machine)
+        self.log = os.path.join(self.machine, "log")
+
+    def manager(self, **options):
+        named = {"bank": self.left, "shop": self.right}
+        return TransactionManager(named, self.log, threads=2, patience=1.0, program=self.program, mirror=self.mirror, **options)
+
+    def fail_over(self, **options):
+        given = {"program": self.program, "patience": 1.0, "mirror": self.mirror}
+        return list(fail_over(Configuration([self.left, self.right], self.log, ["bank", "shop"], given), **options))
+
+    def test_a_decision_is_in_it_before_a_database_hears_of_it_and_leaves_behind_the_log(self):
+        seen = []
+        self.left.before["commit_prepared"] = lambda: seen.append(self.mirror.decided())
+        with self.manager() as xa:
+            t = self.move(xa)
+            self.assertEqual(seen, [[t.gtrid]])
+            self.assertEqual(self.mirror.rows("name, incarnation", "garterfossil_manager"), [(xa.name, 1)])
+        self.assertEqual(self.mirror.decided(), [])
+
+    def test_a_session_tells_it_what_the_log_has_and_no_more(self):
+        xa = self.manager()
+        self.right.before["commit_prepared"] = lambda: xa._session.coordinator.kill()
+        self.right.next["commit_prepared"] = "lost"
+        gtrid = self.move(xa).gtrid
+        self.right.before.clear()
+        # What the log lost, and what it has, as nobody could tell the mirror.
+        with sqlite3.connect(self.mirror.path) as it:
+            it.execute("UPDATE garterfossil_decision SET gtrid = 'of another session'")
+        self.left.before["listed"] = lambda: self.assertEqual(self.mirror.decided(), [gtrid])
+        self.manager().close()
+        self.assertEqual(self.mirror.rows("incarnation", "garterfossil_manager"), [(2,)])
+        self.assertEqual(self.mirror.decided(), [])
+
+    def test_while_it_is_away_nothing_is_committed(self):
+        with self.manager() as xa:
+            self.left.before["prepare"] = lambda: setattr(self.mirror, "is_up", False)
+            with self.assertRaises(OutcomeUnknown) as raised:
+                self.move(xa)
+            self.left.before.clear()
+            self.assertEqual(self.written(), ([], []))
+            with self.assertRaises(CoordinatorGone):
+                self.move(xa)
+            self.mirror.is_up = True
+            gtrid = str(raised.exception).split(":")[0]
+            self.assertIs(xa.outcome(gtrid), Outcome.COMMITTED)
+        self.assertEqual(self.written(), (["take"], ["give"]))
+
+    def test_an_older_log_than_it_is_refused(self):
+        with self.manager() as xa:
+            name = xa.name
+        with self.manager():
+            pass
+        os.remove(self.log)
+        with self.assertRaisesRegex(SetupError, "older than its mirror"):
+            self.manager(name=name)
+
+    def test_a_manager_without_a_name_has_none(self):
+        with self.assertRaisesRegex(SetupError, "name"):
+            self.manager(name="")
+
+    def test_a_log_is_made_of_it_where_the_machine_is_lost(self):
+        xa = self.manager()
+        self.right.next["commit_prepared"] = "lost"
+        self.right.before["commit_prepared"] = lambda: xa._session.coordinator.kill()
+        self.move(xa)
+        self.right.before.clear()
+        # It is committed at the one and not at the other, and the machine is gone.
+        self.assertEqual(len(self.mirror.decided()), 1)
+        shutil.rmtree(self.machine)
+        os.mkdir(self.machine)
+        [(path, name, count)] = self.fail_over()
+        self.assertEqual((path, name, count), (self.log, xa.name, 1))
+        with open(self.log) as it:
+            made = json.load(it)
+        gtrid = self.mirror.decided()[0]
+        self.assertEqual(made["made"][:4], [f"name {name}", "rm 0 bank", "rm 1 shop", "incarnation 2"])
+        self.assertEqual(made["made"][4].split(" ")[:2], [gtrid, "2"])
+        with self.manager():
+            pass
+        self.assertEqual(self.written(), (["take"], ["give"]))
+        self.assertEqual(self.mirror.decided(), [])
+
+    def test_whoever_is_taken_over_decides_nothing_more(self):
+        xa = self.manager()
+        self.left.before["prepare"] = lambda: (shutil.move(self.log, self.log + ".lost"), self.fail_over())
+        with self.assertRaises(OutcomeUnknown):
+            self.move(xa)
+        self.assertEqual(self.written(), ([], []))
+
+    def test_a_log_that_is_there_is_left_alone(self):
+        with self.manager():
+            pass
+        with self.assertRaisesRegex(SetupError, "no log to be made"):
+            self.fail_over()

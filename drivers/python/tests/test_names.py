@@ -1,0 +1,121 @@
+"""Whose log it is: the names that it keeps, those that are drawn, and the logs of workers."""
+
+import os
+import subprocess
+import sys
+
+from garterfossil import LogInUse, SetupError, TransactionManager
+from garterfossil.coordinator import Coordinator, serve_command
+from garterfossil.logs import Names, free_log, logs_of_workers, names_at_work
+from garterfossil.xid import Xid
+
+from . import fake_program
+from .case import Case
+
+
+class Kept(Case):
+    def setUp(self):
+        super().setUp()
+        self.program = fake_program.made_in(self.folder)
+
+    def manager(self, databases=None, log=None, **options):
+        named = databases or {"bank": self.left, "shop": self.right}
+        return TransactionManager(named, log or self.log, threads=2, patience=1.0, program=self.program, **options)
+
+    def test_a_new_log_gets_a_name_that_no_other_has_and_keeps_it(self):
+        with self.manager() as xa:
+            name = xa.name
+            self.assertRegex(name, "^[a-z0-9]{12}$")
+            self.left.prepared.clear()
+            seen = []
+            self.left.before["commit_prepared"] = lambda: seen.extend(self.left.prepared)
+            self.move(xa)
+        self.assertEqual(seen[0].gtrid[:-16].decode(), name)
+        with self.manager() as xa:
+            self.assertEqual(xa.name, name)
+        with self.manager(log=self.log + "-2") as xa:
+            self.assertNotEqual(xa.name, name)
+
+    def test_a_new_log_over_old_branches_leaves_them_alone(self):
+        with self.manager() as xa:
+            self.right.next["commit_prepared"] = "lost"
+            self.right.before["commit_prepared"] = lambda: xa._session.coordinator.kill()
+            self.left.next["commit_prepared"] = "lost"
+            self.move(xa)
+            self.left.prepared[Xid(7, xa.name.encode() + bytes(16), bytes(8))] = []
+        os.remove(self.log)
+        with self.manager() as xa:
+            self.move(xa)
+        self.assertEqual(len(self.left.prepared), 1)
+
+    def test_an_old_log_without_a_name_goes_on_without_one(self):
+        with self.manager([self.left, self.right], name="") as xa:
+            self.assertEqual(xa.name, "")
+        with self.manager() as xa:
+            self.assertEqual(xa.name, "")
+            self.move(xa)
+        self.assertEqual(self.written(), (["take"], ["give"]))
+
+    def test_another_name_and_another_order_are_refused(self):
+        self.manager(name="shop-1").close()
+        self.manager().close()
+        with self.assertRaises(SetupError):
+            self.manager(name="shop-2")
+        with self.assertRaises(SetupError):
+            self.manager({"shop": self.right, "bank": self.left})
+
+    def test_names_of_databases_that_no_log_can_keep(self):
+        with self.assertRaisesRegex(ValueError, "my bank"):
+            self.manager({"my bank": self.left})
+
+    def test_the_words_of_the_command(self):
+        words = serve_command("xatm", "a.db", Names("shop-1", ("bank", "stock")), 8, 2)
+        self.assertEqual(" ".join(words), "xatm serve --name shop-1 --rm bank --rm stock --log a.db 8 2")
+
+    def test_another_version_of_the_protocol_is_refused(self):
+        with self.assertRaisesRegex(SetupError, "protocol 2"):
+            Coordinator([sys.executable, "-c", "print('protocol 2 name a'); print('restarted 1 0 0'); input()"])
+
+    def test_the_names_in_a_file_of_sqlite(self):
+        import sqlite3
+
+        for comment, names in ((" /* shop-1 bank stock */", Names("shop-1", ("bank", "stock"))), (" /*  bank */", Names("", ("bank",))), ("", Names())):
+            path = f"{self.folder}/{len(comment)}.db"
+            it = sqlite3.connect(path)
+            it.execute(f"CREATE TABLE participant (inc INTEGER NOT NULL{comment})")
+            it.close()
+            self.assertEqual(names_at_work(path), names)
+
+    # ** workers
+
+    def test_each_worker_has_a_log_and_a_name_of_its_own(self):
+        pattern = os.path.join(self.folder, "log-{worker}.db")
+        with self.manager(log=pattern) as one, self.manager(log=pattern) as other:
+            self.assertEqual([os.path.basename(xa.log) for xa in (one, other)], ["log-0.db", "log-1.db"])
+            self.assertNotEqual(one.name, other.name)
+            first = one.name
+        self.assertEqual([os.path.basename(path) for path in logs_of_workers(pattern)], ["log-0.db", "log-1.db"])
+        with self.manager(log=pattern) as again:
+            self.assertEqual((os.path.basename(again.log), again.name), ("log-0.db", first))
+
+    def test_a_worker_that_is_killed_lets_its_log_go(self):
+        pattern = os.path.join(self.folder, "log-{worker}")
+        held = f"import time; from garterfossil.logs import free_log; it = free_log({pattern!r}); print(it[0], flush=True); time.sleep(60)"
+        with subprocess.Popen([sys.executable, "-c", held], stdout=subprocess.PIPE, text=True, cwd=os.path.dirname(os.path.dirname(__file__))) as worker:
+            self.assertEqual(os.path.basename(worker.stdout.readline().strip()), "log-0")
+            path, mine = free_log(pattern)
+            self.assertEqual(os.path.basename(path), "log-1")
+            worker.kill()
+        path, its = free_log(pattern)
+        self.assertEqual(os.path.basename(path), "log-0")
+        mine.close()
+        its.close()
+
+    def test_all_logs_of_workers_in_use(self):
+        from unittest import mock
+
+        with mock.patch("garterfossil.logs.MOST_WORKERS", 1):
+            _, it = free_log(f"{self.folder}/{{worker}}")
+            with self.assertRaises(LogInUse):
+                free_log(f"{self.folder}/{{worker}}")
+            it.close()
