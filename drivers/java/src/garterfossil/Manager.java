@@ -28,7 +28,7 @@ public final class Manager implements AutoCloseable {
         private final List<Resource> resources = new ArrayList<>();
         private String program = "xatm";
         private String name = "";
-        private int threads = 32;
+        private int threads = 32, helpers = Math.max(2, Runtime.getRuntime().availableProcessors());
         private Duration timeout = Duration.ofSeconds(60), patience = Duration.ofSeconds(20);
         private Coordinator.Starter starter = Coordinator::start;
 
@@ -60,6 +60,18 @@ public final class Manager implements AutoCloseable {
                 throw new IllegalArgumentException("threads: 1 to 1,023, and not " + count);
             }
             threads = count;
+            return this;
+        }
+
+        /**
+         * How many threads of the manager's own help those that commit: each calls one more resource at the same time. As many as there are
+         * processors, where none is given; with 0 all calls of a transaction are made by the thread that commits, one after the other.
+         */
+        public Builder helpers(int count) {
+            if (count < 0) {
+                throw new IllegalArgumentException("helpers: 0 or more, and not " + count);
+            }
+            helpers = count;
             return this;
         }
 
@@ -96,6 +108,7 @@ public final class Manager implements AutoCloseable {
     }
 
     final Decisions decisions = new Decisions();
+    final Helpers helpers;
     private final Builder made;
     private final List<ResourceManager> rms = new ArrayList<>();
     private final ScheduledThreadPoolExecutor clock = new ScheduledThreadPoolExecutor(4, work -> {
@@ -112,6 +125,7 @@ public final class Manager implements AutoCloseable {
 
     private Manager(Builder made) {
         this.made = made;
+        helpers = new Helpers(made.helpers);
         clock.setRemoveOnCancelPolicy(true);
     }
 
@@ -324,6 +338,7 @@ public final class Manager implements AutoCloseable {
         if (last != null) {
             last.abandon();
         }
+        helpers.stop();
         rms.forEach(ResourceManager::close);
     }
 }

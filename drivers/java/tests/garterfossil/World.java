@@ -59,8 +59,12 @@ final class World extends ExternalResource {
         return Files.readAllLines(folder.resolve("requests"));
     }
 
-    List<String> rows() throws IOException {
-        return Files.readAllLines(folder.resolve("rows"));
+    List<String> rows() {
+        try {
+            return Files.readAllLines(folder.resolve("rows"));
+        } catch (IOException error) {
+            throw new java.io.UncheckedIOException(error);
+        }
     }
 
     static void eventually(BooleanSupplier condition) throws InterruptedException {
