@@ -1,12 +1,10 @@
 package garterfossil;
 
+import java.util.ArrayDeque;
 import java.util.ArrayList;
 import java.util.List;
-import java.util.concurrent.LinkedBlockingQueue;
-import java.util.concurrent.Semaphore;
-import java.util.concurrent.ThreadPoolExecutor;
-import java.util.concurrent.TimeUnit;
 import java.util.concurrent.atomic.AtomicBoolean;
+import java.util.concurrent.atomic.AtomicInteger;
 import java.util.concurrent.locks.LockSupport;
 
 /**
@@ -19,23 +17,21 @@ final class Helpers {
         void make(Branch branch);
     }
 
-    private static final class Part implements Runnable {
+    /** A step for a branch, which is made once, by whichever thread comes first. */
+    private static final class Part {
         private final Step step;
         private final Branch branch;
-        private final Thread asking;
+        private final Thread asking = Thread.currentThread();
         private final AtomicBoolean isBegun = new AtomicBoolean();
         private volatile boolean isOver;
         private Throwable error;
 
-        Part(Step step, Branch branch, Thread asking) {
+        Part(Step step, Branch branch) {
             this.step = step;
             this.branch = branch;
-            this.asking = asking;
         }
 
-        /** Makes it, unless another thread has begun it. */
-        @Override
-        public void run() {
+        void makeUnlessBegun() {
             if (!isBegun.compareAndSet(false, true)) {
                 return;
             }
@@ -45,7 +41,9 @@ final class Helpers {
                 error = thrown;
             } finally {
                 isOver = true;
-                LockSupport.unpark(asking);
+                if (Thread.currentThread() != asking) {
+                    LockSupport.unpark(asking);
+                }
             }
         }
 
@@ -62,48 +60,97 @@ final class Helpers {
         }
     }
 
-    private final ThreadPoolExecutor threads;
-    private final Semaphore free;
+    private final class Helper extends Thread {
+        private volatile Part part;
 
-    Helpers(int count) {
-        free = new Semaphore(count);
-        threads = new ThreadPoolExecutor(Math.max(1, count), Math.max(1, count), 10, TimeUnit.SECONDS, new LinkedBlockingQueue<>(), work -> {
-            Thread thread = new Thread(work, "garterfossil helper");
-            thread.setDaemon(true);
-            return thread;
-        });
-        threads.allowCoreThreadTimeOut(true);
+        Helper(Part first) {
+            super("garterfossil helper");
+            setDaemon(true);
+            part = first;
+        }
+
+        @Override
+        public void run() {
+            while (!isOver) {
+                part.makeUnlessBegun();
+                part = null;
+                letIdle(this);
+                while (part == null && !isOver) {
+                    LockSupport.park(Helpers.this);
+                }
+            }
+        }
+
+        void take(Part next) {
+            part = next;
+            LockSupport.unpark(this);
+        }
+    }
+
+    private final int most;
+    // The helpers that wait, the one that was used last first; and how many there are. Under the monitor of this object.
+    private final ArrayDeque<Helper> idle = new ArrayDeque<>();
+    private int count;
+    // How many threads have steps made at this moment.
+    private final AtomicInteger asking = new AtomicInteger();
+    private volatile boolean isOver;
+
+    Helpers(int most) {
+        this.most = most;
     }
 
     /** Makes a step for each branch, and returns once all are made. A branch on a connection of the program's own stays in this thread. */
     void each(List<Branch> branches, Step step) {
         List<Part> parts = new ArrayList<>(branches.size());
-        for (Branch branch : branches) {
-            Part part = new Part(step, branch, Thread.currentThread());
-            parts.add(part);
-            if (parts.size() > 1 && branch.link() != null && free.tryAcquire()) {
-                threads.execute(() -> {
-                    try {
-                        part.run();
-                    } finally {
-                        free.release();
-                    }
-                });
+        boolean isHelped = asking.incrementAndGet() <= most;
+        try {
+            for (Branch branch : branches) {
+                Part part = new Part(step, branch);
+                parts.add(part);
+                if (isHelped && parts.size() > 1 && branch.link() != null) {
+                    give(part);
+                }
             }
+            parts.forEach(Part::makeUnlessBegun);
+            parts.forEach(Part::await);
+        } finally {
+            asking.decrementAndGet();
         }
-        parts.forEach(Part::run);
-        parts.forEach(Part::await);
-        for (Part part : parts) {
-            if (part.error instanceof Error) {
-                throw (Error) part.error;
-            }
-            if (part.error != null) {
-                throw (RuntimeException) part.error;
-            }
+        parts.forEach(Helpers::seeNoError);
+    }
+
+    private static void seeNoError(Part part) {
+        if (part.error instanceof Error) {
+            throw (Error) part.error;
+        }
+        if (part.error != null) {
+            throw (RuntimeException) part.error;
         }
     }
 
+    /** Gives the part to a helper, if one is free. */
+    private void give(Part part) {
+        Helper helper;
+        synchronized (this) {
+            helper = idle.pollFirst();
+            if (helper == null && count < most && !isOver) {
+                count++;
+                new Helper(part).start();
+            }
+        }
+        if (helper != null) {
+            helper.take(part);
+        }
+    }
+
+    private synchronized void letIdle(Helper helper) {
+        idle.addFirst(helper);
+    }
+
     void stop() {
-        threads.shutdown();
+        isOver = true;
+        synchronized (this) {
+            idle.forEach(LockSupport::unpark);
+        }
     }
 }
