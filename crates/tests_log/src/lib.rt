@@ -1,17 +1,12 @@
 //! Tests of the decision logs, of what no clause says: rows of each of them, in which a call that is refused memory once is
-//! made again; and of the one in files over disks in memory that stop, alone, under a whole system, and under ten processes
-//! of the manager one after another: at each call of either file a crash leaves what was there before or all that the one
-//! change makes.
+//! made again; and of the one in files over disks in memory that stop, where at each call of either file a crash leaves what was
+//! there before or all that the one change makes.
 #![tactic(auto)]
 
-#[cfg(test)]
-mod changes;
 #[cfg(test)]
 mod commands;
 #[cfg(test)]
 mod failing;
-#[cfg(test)]
-mod files;
 #[cfg(test)]
 mod labels;
 #[cfg(test)]
@@ -21,15 +16,7 @@ mod memory;
 #[cfg(test)]
 mod paths;
 #[cfg(test)]
-mod processes;
-#[cfg(test)]
-mod runs;
-#[cfg(test)]
-mod shown_tables;
-#[cfg(test)]
-mod starts;
-#[cfg(test)]
-mod system;
+mod stops;
 #[cfg(test)]
 mod tables;
 #[cfg(test)]

@@ -7,12 +7,12 @@ ghost use Rattle.xa_log.specs.Contract.{FitsRow};
 use crate::commands::{
     FIRST, FIRST_A, FIRST_B, SECOND, SECOND_A, THIRD, commit, contains, rows, was_refused,
 };
+use crate::tables::new_log;
 use std::alloc::Global;
 use std::process::Abort;
 use std::test::Fail;
 use xa_base::{Branch, Gtrid};
 use xa_log::{Decision, DecisionLog, FailLog, FailPlan, LogCall, LogFault, Logged, MemLog};
-use xa_sql_log::SqlLog;
 
 /// A decision with these participants. It is made again where memory is refused.
 fn decision(alloc: Global, g: Gtrid, participants: &[Branch]) -> Result<Decision, LogFault>
@@ -118,9 +118,7 @@ fn a_log_in_memory_writes_lists(rt: HostRuntime) -> Result<(), Fail> {
 
 #[test]
 fn a_log_in_tables_writes_lists(rt: HostRuntime) -> Result<(), Fail> {
-    let alloc = rt.alloc();
-    let log = SqlLog::open_in_memory(alloc).or_else(|_| SqlLog::open_in_memory(alloc));
-    write_lists(&rt, &mut log?, alloc)
+    write_lists(&rt, &mut new_log(rt.alloc())?, rt.alloc())
 }
 
 #[test]

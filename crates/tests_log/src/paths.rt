@@ -1,137 +1,149 @@
-//! Logs in files of the host, each opened again to look at it. What a call does with such a log or connection stands in
-//! a function over any files, as `files` says.
+//! Logs in files of the host, each opened again to look at it.
 
-use crate::files::{VERSION_1, execute_and_close, look_and_close};
-use crate::shown_tables::{EMPTY, MIGRATED, OLD, Seen};
-use sqlite::{Alter, Connection, FileStore};
-use sqlite_disk::Disk;
 use std::fs;
 use std::test::Fail;
-use xa_log::{DecisionLog, LogFault};
+use tests_disks::{
+    EMPTY, MIGRATED, OLD, Seen, VERSION_1, bump_at, gather_at, look_at, make_folder, opens_at,
+    run_at, seen_at,
+};
+use xa_log::LogFault;
 use xa_sql_log::SqlLog;
 
-/// Raises the incarnation and drops the log.
-fn bump_and_drop<S: Alter + Drop>(mut log: SqlLog<S>) -> Result<u64, LogFault> {
-    log.bump()
+/// What is done with a log, and what that answers.
+#[derive(Clone, Copy, Debug)]
+pub(crate) enum Act {
+    /// It is opened, or made, and dropped.
+    Open,
+    /// Its incarnation is raised.
+    Bump(Result<u64, LogFault>),
+    /// A statement runs in its tables.
+    Run(&'static str),
+    /// Its tables are looked at.
+    See(Seen),
+    /// It is made with a label.
+    Make(&'static str, Result<(), LogFault>),
+    /// Its label is read, where there is a log.
+    Label(Option<&'static str>),
+    /// No file is there.
+    IsGone,
 }
 
-/// The same over files.
-fn bump_in_files<D: Disk + Drop>(log: SqlLog<FileStore<D>>) -> Result<u64, LogFault> {
-    bump_and_drop(log)
+/// Whether an act at a path answers as it says.
+fn is_answered(rt: &HostRuntime, path: &str, act: &Act) -> Result<bool, Fail> {
+    Ok(match *act {
+        Act::Open => opens_at(rt, path),
+        Act::Bump(answer) => bump_at(rt, path) == answer,
+        Act::Run(sql) => run_at(rt, path, sql).is_ok(),
+        Act::See(seen) => seen_at(rt, path)? == seen,
+        Act::Make(label, answer) => SqlLog::make(rt, path, label) == answer,
+        Act::Label(label) => SqlLog::label(rt, path)?.as_deref() == label,
+        Act::IsGone => !fs::exists(rt, path)?,
+    })
 }
 
-/// Drops the log.
-fn drop_log<S: Alter + Drop>(_log: SqlLog<S>) {}
-
-/// The same over files.
-fn drop_in_files<D: Disk + Drop>(log: SqlLog<FileStore<D>>) {
-    drop_log(log);
-}
-
-/// Runs statements on the database at a path, which is made where there is none.
-pub(crate) fn run_at(rt: &HostRuntime, path: &str, sql: &str) -> Result<(), Fail> {
-    execute_and_close(Connection::open(rt, path)?, sql)?;
+/// Acts over a log that isn't there yet, in a new folder.
+pub(crate) fn play(rt: &HostRuntime, folder: &str, acts: &[Act]) -> Result<(), Fail> {
+    make_folder(rt, folder)?;
+    let path = format!(in rt.alloc(); "{folder}/log.db")?;
+    for act in acts {
+        if !is_answered(rt, path.as_str(), act)? {
+            return Err(Fail::from(*act));
+        }
+    }
+    fs::remove_dir_all(rt, folder)?;
     Ok(())
 }
 
-/// What the tables of the database at a path hold.
-pub(crate) fn seen_at(rt: &HostRuntime, path: &str) -> Result<Seen, Fail> {
-    let (seen, _) = look_and_close(Connection::open(rt, path)?);
-    Ok(seen)
-}
-
-/// Opens a log at a path, or makes it, and drops it.
-fn open_at(rt: &HostRuntime, path: &str) -> Result<(), LogFault> {
-    drop_in_files(SqlLog::open(rt, path)?);
-    Ok(())
-}
-
-/// What a log at a path answers to `bump`.
-pub(crate) fn bump_at(rt: &HostRuntime, path: &str) -> Result<u64, LogFault> {
-    bump_in_files(SqlLog::open(rt, path)?)
-}
-
-/// Closes the log into one file.
-fn close_in_files<D: Disk + Drop>(log: SqlLog<FileStore<D>>) -> Result<(), LogFault> {
-    log.close()
-}
-
-/// Looks at the log at a path.
-pub(crate) fn look_at(rt: &HostRuntime, path: &str) -> Result<(), LogFault> {
-    close_in_files(SqlLog::look(rt, path)?)
-}
-
-/// Opens a log at a path, or makes it, and closes it into one file.
-fn make_at(rt: &HostRuntime, path: &str) -> Result<(), LogFault> {
-    close_in_files(SqlLog::open(rt, path)?)
-}
-
-/// A folder with no files.
-pub(crate) fn make_folder(rt: &HostRuntime, folder: &str) -> Result<(), Fail> {
-    let _ = fs::remove_dir_all(rt, folder);
-    fs::create_dir(rt, folder)?;
-    Ok(())
+/// An empty log in this incarnation.
+pub(crate) fn empty_in(incarnation: i64) -> Act {
+    Act::See(Seen {
+        incarnation,
+        ..EMPTY
+    })
 }
 
 #[test]
 fn a_log_is_found_again(rt: HostRuntime) -> Result<(), Fail> {
-    make_folder(&rt, "found_again")?;
-    let path = "found_again/log.db";
-    open_at(&rt, path)?;
-    assert_eq!(rt; seen_at(&rt, path)?, EMPTY);
-    assert_eq!(rt; bump_at(&rt, path)?, 1);
-    assert_eq!(rt;
-        seen_at(&rt, path)?,
-        Seen {
-            incarnation: 1,
-            ..EMPTY
-        }
-    );
-    run_at(&rt, path, "UPDATE tm_meta SET incarnation = 3")?;
-    assert_eq!(rt; bump_at(&rt, path)?, 4);
-    assert_eq!(rt;
-        seen_at(&rt, path)?,
-        Seen {
-            incarnation: 4,
-            ..EMPTY
-        }
-    );
-    fs::remove_dir_all(&rt, "found_again")?;
-    Ok(())
+    play(
+        &rt,
+        "found_again",
+        &[
+            Act::Open,
+            Act::See(EMPTY),
+            Act::Bump(Ok(1)),
+            empty_in(1),
+            Act::Run("UPDATE tm_meta SET incarnation = 3"),
+            Act::Bump(Ok(4)),
+            empty_in(4),
+        ],
+    )
 }
 
 #[test]
 fn an_unknown_version_stays_as_it_is(rt: HostRuntime) -> Result<(), Fail> {
-    make_folder(&rt, "unknown_version")?;
-    let path = "unknown_version/log.db";
-    run_at(&rt, path, VERSION_1)?;
-    run_at(&rt, path, "UPDATE tm_meta SET version = 9")?;
-    assert_eq!(rt; bump_at(&rt, path), Err(LogFault::Version));
-    assert_eq!(rt; seen_at(&rt, path)?, Seen { version: 9, ..OLD });
-    fs::remove_dir_all(&rt, "unknown_version")?;
-    Ok(())
+    play(
+        &rt,
+        "unknown_version",
+        &[
+            Act::Run(VERSION_1),
+            Act::Run("UPDATE tm_meta SET version = 9"),
+            Act::Bump(Err(LogFault::Version)),
+            Act::See(Seen { version: 9, ..OLD }),
+        ],
+    )
 }
 
 #[test]
 fn a_spent_log_keeps_its_incarnation(rt: HostRuntime) -> Result<(), Fail> {
-    make_folder(&rt, "spent")?;
-    let path = "spent/log.db";
-    run_at(&rt, path, VERSION_1)?;
-    run_at(
+    play(
         &rt,
-        path,
-        "UPDATE tm_meta SET incarnation = 9223372036854775807",
-    )?;
-    assert_eq!(rt; bump_at(&rt, path), Err(LogFault::Spent));
-    assert_eq!(rt;
-        seen_at(&rt, path)?,
-        Seen {
-            incarnation: 9_223_372_036_854_775_807,
-            ..MIGRATED
-        }
-    );
-    fs::remove_dir_all(&rt, "spent")?;
-    Ok(())
+        "spent",
+        &[
+            Act::Run(VERSION_1),
+            Act::Run("UPDATE tm_meta SET incarnation = 9223372036854775807"),
+            Act::Bump(Err(LogFault::Spent)),
+            Act::See(Seen {
+                incarnation: 9_223_372_036_854_775_807,
+                ..MIGRATED
+            }),
+        ],
+    )
+}
+
+#[test]
+fn a_log_is_made_beside_other_tables(rt: HostRuntime) -> Result<(), Fail> {
+    play(
+        &rt,
+        "beside",
+        &[
+            Act::Run("CREATE TABLE other (a INTEGER)"),
+            Act::Bump(Ok(1)),
+            Act::Bump(Ok(2)),
+            Act::See(Seen {
+                tables: 5,
+                incarnation: 2,
+                ..EMPTY
+            }),
+        ],
+    )
+}
+
+/// The bytes of a file, if it is there.
+fn bytes_at(rt: &HostRuntime, path: &str) -> Result<Option<Vec<u8>>, Fail> {
+    if !fs::exists(rt, path)? {
+        return Ok(None);
+    }
+    Ok(Some(fs::read(rt, path)?))
+}
+
+/// What a look answers, and whether it leaves the file and its journal as they were, or not there.
+fn look_in_vain(rt: &HostRuntime, path: &str, journal: &str) -> Result<Option<LogFault>, Fail> {
+    let (file, noted) = (bytes_at(rt, path)?, bytes_at(rt, journal)?);
+    let fault = look_at(rt, path).err();
+    if bytes_at(rt, path)? != file || bytes_at(rt, journal)? != noted {
+        return Err(Fail::from("a look changes what is there"));
+    }
+    Ok(fault)
 }
 
 #[test]
@@ -139,37 +151,12 @@ fn a_look_makes_no_log(rt: HostRuntime) -> Result<(), Fail> {
     make_folder(&rt, "looked_at")?;
     let path = "looked_at/log.db";
     let journal = "looked_at/log.db-wal";
-    assert_eq!(rt; look_at(&rt, path), Err(LogFault::Store));
-    assert!(rt; !fs::exists(&rt, path)?);
+    assert_eq!(rt; look_in_vain(&rt, path, journal)?, Some(LogFault::Store));
     fs::write(&rt, path, b"")?;
-    assert_eq!(rt; look_at(&rt, path), Err(LogFault::Version));
-    assert!(rt; fs::read(&rt, path)?.is_empty());
-    assert!(rt; !fs::exists(&rt, journal)?);
+    assert_eq!(rt; look_in_vain(&rt, path, journal)?, Some(LogFault::Version));
     run_at(&rt, path, "CREATE TABLE other (a INTEGER)")?;
-    let (held, noted) = (fs::read(&rt, path)?, fs::read(&rt, journal)?);
-    assert_eq!(rt; look_at(&rt, path), Err(LogFault::Version));
-    assert!(rt; fs::read(&rt, path)? == held);
-    assert!(rt; fs::read(&rt, journal)? == noted);
+    assert_eq!(rt; look_in_vain(&rt, path, journal)?, Some(LogFault::Version));
     fs::remove_dir_all(&rt, "looked_at")?;
-    Ok(())
-}
-
-#[test]
-fn a_log_is_made_beside_other_tables(rt: HostRuntime) -> Result<(), Fail> {
-    make_folder(&rt, "beside")?;
-    let path = "beside/log.db";
-    run_at(&rt, path, "CREATE TABLE other (a INTEGER)")?;
-    assert_eq!(rt; bump_at(&rt, path), Ok(1));
-    assert_eq!(rt; bump_at(&rt, path), Ok(2));
-    assert_eq!(rt;
-        seen_at(&rt, path)?,
-        Seen {
-            tables: 5,
-            incarnation: 2,
-            ..EMPTY
-        }
-    );
-    fs::remove_dir_all(&rt, "beside")?;
     Ok(())
 }
 
@@ -178,7 +165,7 @@ fn a_log_that_was_closed_is_one_file(rt: HostRuntime) -> Result<(), Fail> {
     make_folder(&rt, "closed")?;
     let path = "closed/log.db";
     assert_eq!(rt; bump_at(&rt, path), Ok(1));
-    make_at(&rt, path)?;
+    gather_at(&rt, path)?;
     let copy = "closed/copy.db";
     fs::write(&rt, copy, fs::read(&rt, path)?.as_slice())?;
     look_at(&rt, copy)?;

@@ -10,14 +10,13 @@ use Rattle.xa_base.specs.HeldBranch.{new_branch}
 use Rattle.xa_base.specs.Scan.{Scan.NotOpen}
 use Rattle.xa_coordinator.proofs.LogLemmas.{replies_keep}
 use Rattle.xa_coordinator.proofs.SessionChains.{none_there, raised_from}
-use Rattle.xa_coordinator.proofs.SinceStart.{since_start}
 use Rattle.xa_coordinator.proofs.VoteLemmas.{split_replies}
 use Rattle.xa_coordinator.specs.Lines.{lines_of}
 use Rattle.xa_coordinator.specs.Replies.{greeting_of}
 use Rattle.xa_coordinator.specs.Serving.{HaveReplies, RepliesTo, Serves, text_of}
 use Rattle.xa_coordinator.specs.Sessions.{AreServed, AreServed.NoneYet, AreServed.OneMore, CommitStands, IsEmptyLog, IsHandedOn, IsLeft.AfterLine, IsSession, ServedCommitsStand, ServedLogsDecide, ServedSessionsAgree, ServedSessionsAreSeen, StartsOver, WasFoundDecided}
 use Rattle.xa_coordinator.specs.Telling.{HaveTold, is_log_fault}
-use Rattle.xa_coordinator.specs.Tracking.{ServedDatabasesAgree, SessionsAreTracked}
+use Rattle.xa_coordinator.specs.Tracking.{ServedDatabasesAgree}
 use Rattle.xa_coordinator.specs.Votes.{AreVotes, IsLogged, VotedCommitsAreLogged}
 use Rattle.xa_coordinator.specs.Rows.{is_among}
 use Rattle.xa_coordinator.specs.declared.coordinator.Coordinator.{Coordinator}
@@ -29,7 +28,6 @@ use Rattle.xa_requests.specs.declared.response.Response.{Response}
 use Rattle.xa_requests.specs.declared.response.Response.TheVariants as responses
 use Rattle.xa_serve.proofs.Logging.{later_sessions_are_newer}
 use Rattle.xa_serve.specs.Logging.{HoldsItsBook, KeepsLog}
-use Rattle.xa_serve.specs.Tracking.{KeepsTrack, StartsAreTracked}
 use Rattle.xa_standings.specs.Agreement.{MayAllStand, MayAllStand.AsTold}
 use Rattle.xa_standings.specs.Seen.{Seen, Seen.Start}
 use Rattle.xa_standings.specs.Sessions.{IsCommitting}

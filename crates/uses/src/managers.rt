@@ -5,7 +5,9 @@ ghost use Rattle.uses.specs.Managers.{AreServedApart, IsServedFrom};
 
 use crate::serve::{SessionFault, whole};
 use std::alloc::Global;
-use xa_coordinator::{Coordinator, managers_stay_apart, replies_are_tracked, served_databases_agree};
+use xa_coordinator::{
+    Coordinator, managers_stay_apart, replies_are_tracked, served_databases_agree,
+};
 use xa_log::DecisionLog;
 use xa_names::ManagerName;
 use xa_serve::starts_are_tracked;

@@ -20,7 +20,7 @@ final class Branch {
     private final ResourceManager.Lease lease;
     private final XAResource resource;
     private int may = S0;
-    private boolean isFailed, isLost, isOver, isCommitIssued;
+    private boolean isFailed, isLost, isOver, isVoteIssued, isCommitIssued;
     // Why it can only be rolled back, by a code of XA; 0 if it may still be committed.
     private int vote;
 
@@ -65,10 +65,13 @@ final class Branch {
 
     // ** work
 
-    /** xa_start. It is made before the coordinator says that it is issued: what is begun on a connection ends with it. */
-    void start() throws Fault {
+    void issueStart() {
         line.open();
         line.issue("xa_start " + name());
+    }
+
+    /** xa_start. It is made before the coordinator says that it is issued: what is begun on a connection ends with it. */
+    void start() throws Fault {
         line.flush();
         try {
             resource.start(xid, XAResource.TMNOFLAGS);
@@ -88,9 +91,20 @@ final class Branch {
 
     // ** the first phase
 
+    /** Issues xa_end and xa_prepare, unless that was done. */
     void issueVote() {
-        line.issue("xa_end " + name() + " TMSUCCESS");
-        line.issue("xa_prepare " + name());
+        if (!isVoteIssued) {
+            isVoteIssued = true;
+            line.issue("xa_end " + name() + " TMSUCCESS");
+            line.issue("xa_prepare " + name());
+        }
+    }
+
+    /** The same while the work goes on. If it fails, xa_prepare is answered by a no. The program itself may end its own connection's work. */
+    void issueVoteAhead() {
+        if (lease != null && !isLost) {
+            issueVote();
+        }
     }
 
     /** xa_end of a branch that is to be committed. It is made before the coordinator says that it is issued, as xa_start is. */
@@ -121,8 +135,12 @@ final class Branch {
 
     /** xa_prepare: the vote. Except after XA_OK the branch is over. */
     int prepare() throws Fault {
-        line.see();
-        int code = vote == Code.OK ? prepareResource() : rolledBackAtOnce();
+        line.flush();
+        line.seeIssued();
+        return voted(vote == Code.OK ? prepareResource() : rolledBackAtOnce());
+    }
+
+    private int voted(int code) {
         line.report("xa_prepare " + name(), code);
         if (code == Code.OK) {
             may = PREPARED;
@@ -164,7 +182,8 @@ final class Branch {
         line.issue("xa_end " + name() + " TMSUCCESS");
         line.issue("xa_commit " + name() + " TMONEPHASE");
         end();
-        line.see();
+        line.flush();
+        line.seeIssued();
         isCommitIssued = true;
         int code = vote == Code.OK ? commitResource() : rolledBackAtOnce();
         line.report("xa_commit " + name(), code);
@@ -226,35 +245,50 @@ final class Branch {
 
     /** Issues xa_end, if it is due; it is seen to with the rollback. */
     void issueEnd() {
-        if (may == ACTIVE && !isLost) {
+        if (may == ACTIVE && !isLost && !isVoteIssued) {
             line.issue("xa_end " + name() + (isFailed ? " TMFAIL" : " TMSUCCESS"));
         }
     }
 
     void issueRollback() {
-        if (!isLost && !isOver) {
+        if (!isLost && !isOver && !isVoteDue()) {
             line.issue("xa_rollback " + name());
         }
     }
 
-    /** xa_end, if it waits on the line. */
+    /** Whether xa_prepare waits on the line: then the branch is rolled back by a no to it. */
+    private boolean isVoteDue() {
+        return isVoteIssued && (may == ACTIVE || may == IDLE);
+    }
+
+    /** xa_end, if it waits on the line; and the no to xa_prepare, if that does. */
     void endToRollBack() throws Fault {
-        if (may != ACTIVE || isLost) {
-            return;
+        if (may == ACTIVE && !isLost) {
+            endWork();
         }
-        line.see();
+        if (isVoteDue()) {
+            line.flush();
+            line.seeIssued();
+            vote = vote == Code.OK ? Code.ROLLBACK : vote;
+            voted(rolledBackAtOnce());
+        }
+    }
+
+    private void endWork() throws Fault {
+        boolean isEndedAsFailed = isFailed && !isVoteIssued;
+        line.seeIssued();
+        line.flush();
         if (!gate.shut(NO_MORE_WORK, 0)) {
             throw lost(new Fault.Lost("work on the connection doesn't end", null), S0);
         }
-        endResource(isFailed ? XAResource.TMFAIL : XAResource.TMSUCCESS);
-        may = isFailed ? ROLLBACK_ONLY : IDLE;
-        line.report("xa_end " + name(), isFailed ? Code.ROLLBACK : Code.OK);
+        vote = endResource(isEndedAsFailed ? XAResource.TMFAIL : XAResource.TMSUCCESS);
+        may = isEndedAsFailed ? ROLLBACK_ONLY : IDLE;
+        line.report("xa_end " + name(), isEndedAsFailed ? Code.ROLLBACK : Code.OK);
     }
 
     /** xa_rollback, which waits on the line. */
     int rollback() throws Fault {
         line.see();
-        line.flush();
         int code;
         try {
             code = Answers.rollback(resource, xid, may);
@@ -295,7 +329,7 @@ final class Branch {
             return;
         }
         abandon(why, may != PREPARED);
-        may = may == PREPARED ? FOUND : S0;
+        may = may == PREPARED || may == IDLE && isVoteIssued ? FOUND : S0;
         try {
             line.crash();
         } catch (Fault error) {

@@ -55,6 +55,13 @@ final class BranchXid implements Xid {
         return isOwn ? Optional.of(of(gtrid.clone(), bqual.clone())) : Optional.empty();
     }
 
+    /** The name of the manager that the identifier is of, if it is that of a coordinator's branch; it may be empty. */
+    static Optional<String> managerOf(Xid xid) {
+        byte[] gtrid = xid.getGlobalTransactionId();
+        boolean isOne = xid.getFormatId() == FORMAT && gtrid.length >= TRANSACTION && xid.getBranchQualifier().length == QUALIFIER;
+        return isOne ? Optional.of(new String(gtrid, 0, gtrid.length - TRANSACTION, StandardCharsets.US_ASCII)) : Optional.empty();
+    }
+
     /** The transaction's 32 digits, as requests name it. */
     String transaction() {
         return transaction;

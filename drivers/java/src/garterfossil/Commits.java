@@ -2,6 +2,7 @@ package garterfossil;
 
 import java.util.ArrayList;
 import java.util.List;
+import java.util.concurrent.locks.LockSupport;
 import java.util.stream.Collectors;
 
 /**
@@ -19,12 +20,36 @@ final class Commits {
     private static final class Commit {
         final String gtrid;
         final Behind behind;
-        boolean isOver;
-        Fault fault;
+        private final Thread asking = Thread.currentThread();
+        // Whether its thread is to decide what was asked for, and whether that was done.
+        private volatile boolean isFirst, isOver;
+        private Fault fault;
 
         Commit(String gtrid, Behind behind) {
             this.gtrid = gtrid;
             this.behind = behind;
+        }
+
+        /** An interrupt waits: whether it is decided has to be known. */
+        void await() {
+            boolean isInterrupted = false;
+            while (!isFirst && !isOver) {
+                LockSupport.park(this);
+                isInterrupted |= Thread.interrupted();
+            }
+            if (isInterrupted) {
+                Thread.currentThread().interrupt();
+            }
+        }
+
+        void lead() {
+            isFirst = true;
+            LockSupport.unpark(asking);
+        }
+
+        void end() {
+            isOver = true;
+            LockSupport.unpark(asking);
         }
     }
 
@@ -39,48 +64,37 @@ final class Commits {
     /** Decides that the transaction commits. Once this returns, the decision is in the log. */
     void decide(String gtrid, Behind behind) throws Fault {
         Commit mine = new Commit(gtrid, behind);
-        List<Commit> group = List.of();
         synchronized (this) {
             asked.add(mine);
-            waitForTurn(mine);
-            if (!mine.isOver) {
-                group = asked;
-                asked = new ArrayList<>();
-                isDeciding = true;
-            }
+            mine.isFirst = !isDeciding;
+            isDeciding = true;
         }
-        if (!group.isEmpty()) {
-            decideAll(group);
+        mine.await();
+        if (!mine.isOver) {
+            decideAsked();
         }
         if (mine.fault != null) {
             throw mine.fault;
         }
     }
 
-    /** An interrupt waits: whether it is decided has to be known. */
-    private void waitForTurn(Commit mine) {
-        boolean isInterrupted = false;
-        while (isDeciding && !mine.isOver) {
-            try {
-                wait();
-            } catch (InterruptedException error) {
-                isInterrupted = true;
-            }
+    /** Decides what was asked for, and has the thread decide that asked first meanwhile. */
+    private void decideAsked() {
+        List<Commit> group;
+        synchronized (this) {
+            group = asked;
+            asked = new ArrayList<>();
         }
-        if (isInterrupted) {
-            Thread.currentThread().interrupt();
-        }
-    }
-
-    private void decideAll(List<Commit> group) {
         try {
             ask(group);
         } finally {
             synchronized (this) {
-                group.forEach(it -> it.isOver = true);
-                isDeciding = false;
-                notifyAll();
+                isDeciding = !asked.isEmpty();
+                if (isDeciding) {
+                    asked.get(0).lead();
+                }
             }
+            group.forEach(Commit::end);
         }
     }
 

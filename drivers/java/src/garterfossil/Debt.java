@@ -1,5 +1,6 @@
 package garterfossil;
 
+import java.util.List;
 import java.util.concurrent.CountDownLatch;
 import java.util.concurrent.TimeUnit;
 
@@ -41,8 +42,15 @@ final class Debt {
         return Code.isHeuristic(code) ? code : 0;
     }
 
-    /** Waits so long for it. */
-    void await(long millis) {
+    /** Waits so many milliseconds for all of them. */
+    static void awaitAll(List<Debt> debts, long millis) {
+        long until = System.nanoTime() + millis * 1_000_000;
+        for (Debt debt : debts) {
+            debt.await((until - System.nanoTime()) / 1_000_000);
+        }
+    }
+
+    private void await(long millis) {
         try {
             paid.await(Math.max(0, millis), TimeUnit.MILLISECONDS);
         } catch (InterruptedException error) {

@@ -6,6 +6,7 @@ import java.util.ArrayList;
 import java.util.HashSet;
 import java.util.List;
 import java.util.Set;
+import java.util.TreeSet;
 import java.util.concurrent.ConcurrentLinkedQueue;
 import javax.transaction.xa.XAException;
 import javax.transaction.xa.XAResource;
@@ -31,6 +32,7 @@ final class Keeper {
     private volatile boolean isOver;
     private long notBefore = System.nanoTime();
     private String noted;
+    private boolean areOthersNoted;
 
     Keeper(Session session, ResourceManager rm) {
         this.session = session;
@@ -215,6 +217,7 @@ final class Keeper {
     private List<BranchXid> listed() throws Fault {
         Set<BranchXid> found = new HashSet<>();
         List<BranchXid> own = new ArrayList<>();
+        Set<String> others = new TreeSet<>();
         try {
             Xid[] xids = resource.recover(XAResource.TMSTARTRSCAN);
             while (xids != null && xids.length > 0) {
@@ -224,6 +227,9 @@ final class Keeper {
                     if (branch != null && found.add(branch)) {
                         own.add(branch);
                         isNew = true;
+                    }
+                    if (branch == null) {
+                        BranchXid.managerOf(xid).ifPresent(others::add);
                     }
                 }
                 // Some list all of them again without a flag.
@@ -235,7 +241,17 @@ final class Keeper {
         } catch (RuntimeException error) {
             throw new Fault.Lost("xa_recover", error);
         }
+        noteOthers(others);
         return own;
+    }
+
+    /** What others have in doubt stays: those of managers that run, and of logs that are lost. A new log says so, once. */
+    private void noteOthers(Set<String> others) {
+        if (session.incarnation == 1 && !others.isEmpty() && !areOthersNoted) {
+            areOthersNoted = true;
+            Manager.LOG.log(Level.WARNING, () -> rm + " lists branches in doubt of other managers: " + others
+                + ". Where one of them doesn't run any more, its log ends them");
+        }
     }
 
     private int resolve() throws Fault {

@@ -10,6 +10,8 @@ final class Line {
     private final Coordinator coordinator;
     // The replies that weren't looked at yet, in the order of their requests.
     private final List<Coordinator.Reply> due = new ArrayList<>();
+    // How many of them come until that to the call that was issued last.
+    private int untilIssued;
     private Coordinator.Reply reported;
     private boolean isOpen;
 
@@ -31,11 +33,13 @@ final class Line {
     /** Lets a call wait on the line. */
     void issue(String call) {
         due.add(coordinator.post("issue " + thread + " " + rm.number + " " + call));
+        untilIssued = due.size();
     }
 
     /** The call that was issued last is refused, as another reply says: it doesn't wait. */
     void takeBack() {
         due.remove(due.size() - 1);
+        untilIssued = Math.min(untilIssued, due.size());
     }
 
     /** Sees that the answer before is written: no call may be made on the line before that. */
@@ -45,15 +49,26 @@ final class Line {
         }
     }
 
-    /** Sees that nothing that was posted is refused: then the calls that were issued may be made. */
+    /** Sees that nothing that was posted is refused. */
     void see() throws Fault {
+        see(due.size());
+    }
+
+    /** Sees that the calls that were issued aren't refused: then they may be made, once the answers before them are written. */
+    void seeIssued() throws Fault {
+        see(untilIssued);
+    }
+
+    private void see(int count) throws Fault {
+        List<Coordinator.Reply> first = due.subList(0, count);
         try {
             // The last reply is the one to wait for.
-            for (int at = due.size() - 1; at >= 0; at--) {
-                coordinator.await(due.get(at));
+            for (int at = count - 1; at >= 0; at--) {
+                coordinator.await(first.get(at));
             }
         } finally {
-            due.clear();
+            first.clear();
+            untilIssued = Math.max(0, untilIssued - count);
         }
     }
 
@@ -74,6 +89,7 @@ final class Line {
     /** The connection is lost, and what waits on the line with it. */
     void crash() throws Fault {
         due.clear();
+        untilIssued = 0;
         isOpen = false;
         coordinator.ask("crash line " + thread + " " + rm.number);
     }

@@ -14,8 +14,8 @@ import javax.transaction.xa.XAResource;
 /**
  * Runs transactions over several resources, by the coordinator {@code xatm serve}.
  *
- * <p>The log belongs to the resources for ever: another one, or a new one, would roll back what was decided. One manager at a time
- * has it. Where the coordinator ends, it is started again, and what was in doubt is ended first.
+ * <p>The log belongs to the resources for ever: an older one would roll back what was decided since, and a new one leaves all that is in doubt
+ * as it is. One manager at a time has it. Where the coordinator ends, it is started again, and what was in doubt is ended first.
  */
 public final class Manager implements AutoCloseable {
     static final Logger LOG = System.getLogger("garterfossil");
@@ -28,7 +28,7 @@ public final class Manager implements AutoCloseable {
         private final List<Resource> resources = new ArrayList<>();
         private String program = "xatm";
         private String name = "";
-        private int threads = 32;
+        private int threads = 32, helpers = Math.max(2, Runtime.getRuntime().availableProcessors());
         private Duration timeout = Duration.ofSeconds(60), patience = Duration.ofSeconds(20);
         private Coordinator.Starter starter = Coordinator::start;
 
@@ -36,8 +36,14 @@ public final class Manager implements AutoCloseable {
             this.log = log;
         }
 
-        /** A name, where several managers with a log each share resources: 1 to 16 letters, digits, _ and -. It stays as long as the log does. */
+        /**
+         * What the manager's name begins with, as that of a service: 1 to 9 letters, digits, _ and -. Behind it stands what is drawn for each
+         * new log. It stays as long as the log does.
+         */
         public Builder name(String given) {
+            if (!given.matches("[A-Za-z0-9_-]{1," + LogNames.LONGEST + "}")) {
+                throw new IllegalArgumentException("the name of a manager has letters, digits, _ and -, and so not: " + given);
+            }
             name = given;
             return this;
         }
@@ -60,6 +66,18 @@ public final class Manager implements AutoCloseable {
                 throw new IllegalArgumentException("threads: 1 to 1,023, and not " + count);
             }
             threads = count;
+            return this;
+        }
+
+        /**
+         * How many threads of the manager's own help those that commit: each calls one more resource at the same time. As many as there are
+         * processors, where none is given; with 0 all calls of a transaction are made by the thread that commits, one after the other.
+         */
+        public Builder helpers(int count) {
+            if (count < 0) {
+                throw new IllegalArgumentException("helpers: 0 or more, and not " + count);
+            }
+            helpers = count;
             return this;
         }
 
@@ -96,6 +114,7 @@ public final class Manager implements AutoCloseable {
     }
 
     final Decisions decisions = new Decisions();
+    final Helpers helpers;
     private final Builder made;
     private final List<ResourceManager> rms = new ArrayList<>();
     private final ScheduledThreadPoolExecutor clock = new ScheduledThreadPoolExecutor(4, work -> {
@@ -105,13 +124,14 @@ public final class Manager implements AutoCloseable {
     });
     private final ThreadLocal<GlobalTransaction> current = new ThreadLocal<>();
     private final Object starting = new Object();
-    // Of the resources that the log knows, by their numbers.
-    private List<String> names = List.of();
+    // As the log keeps them.
+    private LogNames names;
     private volatile Session session;
     private volatile boolean isClosed;
 
     private Manager(Builder made) {
         this.made = made;
+        helpers = new Helpers(made.helpers);
         clock.setRemoveOnCancelPolicy(true);
     }
 
@@ -121,18 +141,14 @@ public final class Manager implements AutoCloseable {
     }
 
     private void begin() throws Fault {
-        ResourceNumbers numbers = ResourceNumbers.of(made.log);
-        numbers.seeLog();
-        for (Resource resource : made.resources) {
-            resource.belongTo(made.name);
-            rms.add(new ResourceManager(numbers.of(resource.name()), resource));
-        }
-        names = numbers.names();
         try {
             synchronized (starting) {
-                Coordinator coordinator = coordinator();
-                numbers.save();
-                start(coordinator);
+                names = untilFree(() -> LogNames.of(made.log, made.starter, made.program, made.name, made.resources));
+                for (Resource resource : made.resources) {
+                    resource.belongTo(names.manager);
+                    rms.add(new ResourceManager(names.numberOf(resource.name(), made.log), resource));
+                }
+                start(coordinator());
             }
         } catch (Fault error) {
             close();
@@ -166,7 +182,7 @@ public final class Manager implements AutoCloseable {
     }
 
     private void start(Coordinator coordinator) throws Fault {
-        Session next = new Session(coordinator, made.name, List.copyOf(rms), made.threads);
+        Session next = new Session(coordinator, names.manager, List.copyOf(rms), made.threads);
         try {
             decisions.find(next.owed());
             session = next;
@@ -179,29 +195,42 @@ public final class Manager implements AutoCloseable {
     }
 
     private Coordinator coordinator() throws Fault {
-        List<String> words = new ArrayList<>(List.of(made.program, "serve"));
-        if (!made.name.isEmpty()) {
-            words.addAll(List.of("--name", made.name));
+        if (session != null) {
+            LogNames.seeThere(made.log);
         }
-        names.forEach(name -> words.addAll(List.of("--rm", name)));
-        words.addAll(List.of("--log", made.log.toString(), Integer.toString(made.threads + 1), Integer.toString(names.size())));
+        List<String> words = new ArrayList<>(List.of(made.program, "serve"));
+        words.addAll(names.options());
+        words.addAll(List.of("--log", made.log.toString(), Integer.toString(made.threads + 1), Integer.toString(names.resources.size())));
+        return untilFree(() -> new Coordinator(made.starter, words));
+    }
+
+    private interface Start<T> {
+        T make() throws Fault;
+    }
+
+    /** Starts the program, as soon as no other one has the log. */
+    private <T> T untilFree(Start<T> start) throws Fault {
         long until = System.nanoTime() + made.patience.toNanos();
         while (true) {
             try {
-                return new Coordinator(made.starter, words);
+                return start.make();
             } catch (Fault.Gone gone) {
-                if (gone.getMessage().contains("xatm: log: ") || gone.getMessage().contains("another protocol")) {
-                    throw new Fault.Unavailable("the log " + made.log + " isn't this manager's", gone);
-                }
-                if (System.nanoTime() > until) {
-                    throw new Fault.Unavailable(gone.getMessage() + ". Does another manager have the log " + made.log
-                        + ", and is the program right?", gone);
-                }
-                if (gone.getMessage().contains("doesn't start") || gone.getMessage().contains("failed to execute")) {
-                    throw new Fault.Unavailable("the program " + words.get(0) + " can't be started: give its path to Builder.program", gone);
-                }
+                seeWorthwhile(gone, until);
             }
             pause();
+        }
+    }
+
+    private void seeWorthwhile(Fault.Gone gone, long until) throws Fault.Unavailable {
+        String text = gone.getMessage();
+        if (text.contains("xatm: log: ") || text.contains("another protocol")) {
+            throw new Fault.Unavailable("the log " + made.log + " isn't this manager's", gone);
+        }
+        if (System.nanoTime() > until) {
+            throw new Fault.Unavailable(text + ". Does another manager have the log " + made.log + ", and is the program right?", gone);
+        }
+        if (text.contains("doesn't start") || text.contains("failed to execute")) {
+            throw new Fault.Unavailable("the program " + made.program + " can't be started: give its path to Builder.program", gone);
         }
     }
 
@@ -265,6 +294,11 @@ public final class Manager implements AutoCloseable {
         return List.copyOf(made.resources);
     }
 
+    /** Its name, as the identifiers of its branches have it; empty if the log was made without one. */
+    public String name() {
+        return names.manager;
+    }
+
     /** The time-out of a transaction that sets none of its own. */
     public Duration timeout() {
         return made.timeout;
@@ -324,6 +358,7 @@ public final class Manager implements AutoCloseable {
         if (last != null) {
             last.abandon();
         }
+        helpers.stop();
         rms.forEach(ResourceManager::close);
     }
 }

@@ -7,9 +7,11 @@ import java.util.HashMap;
 import java.util.HashSet;
 import java.util.List;
 import java.util.Map;
+import java.util.Queue;
 import java.util.Set;
 import java.util.concurrent.BlockingDeque;
 import java.util.concurrent.ConcurrentHashMap;
+import java.util.concurrent.ConcurrentLinkedQueue;
 import java.util.concurrent.LinkedBlockingDeque;
 import java.util.concurrent.TimeUnit;
 import java.util.concurrent.atomic.AtomicInteger;
@@ -18,7 +20,7 @@ import java.util.concurrent.atomic.AtomicLong;
 /** A session with the coordinator, which begins with the recovery of each resource that can be reached. */
 final class Session {
     /** So many rows leave the log by one request, which is one write of the log. */
-    private static final int DONE_AT_ONCE = 8;
+    private static final int DONE_AT_ONCE = 64;
 
     /** A thread of the coordinator, for one transaction at a time. */
     final class Slot {
@@ -70,6 +72,7 @@ final class Session {
     // Branches that were prepared and that this session rolled back: a resource may forget that in a crash of its own.
     private final Set<BranchXid> undone = ConcurrentHashMap.newKeySet();
     private List<String> done = new ArrayList<>();
+    private final Queue<Finish> finishing = new ConcurrentLinkedQueue<>();
     private volatile String fatal;
     private Coordinator.Reply oldest;
     private long oldestSince;
@@ -200,21 +203,10 @@ final class Session {
         finish(gtrids);
     }
 
+    /** Asks that the rows leave the log, and waits for nothing: the reply is looked at later. */
     private void finish(List<String> gtrids) {
-        if (gtrids.isEmpty()) {
-            return;
-        }
-        try {
-            coordinator.ask("done " + String.join(" ", gtrids));
-        } catch (Fault.Refused refused) {
-            // None of the rows left. The others may, without the one that can't.
-            if (gtrids.size() > 1) {
-                gtrids.forEach(gtrid -> finish(List.of(gtrid)));
-            } else {
-                Manager.LOG.log(Level.WARNING, () -> "a row stays in the log: " + refused.getMessage());
-            }
-        } catch (Fault fault) {
-            Manager.LOG.log(Level.DEBUG, "rows stay in the log until the next session", fault);
+        if (!gtrids.isEmpty()) {
+            finishing.add(new Finish(gtrids, coordinator.post("done " + String.join(" ", gtrids))));
         }
     }
 
@@ -225,6 +217,34 @@ final class Session {
             done = new ArrayList<>();
         }
         finish(gtrids);
+    }
+
+    private static final class Finish {
+        final List<String> gtrids;
+        final Coordinator.Reply reply;
+
+        Finish(List<String> gtrids, Coordinator.Reply reply) {
+            this.gtrids = gtrids;
+            this.reply = reply;
+        }
+    }
+
+    /** Looks whether rows did leave the log. */
+    private void seeFinished() {
+        for (Finish it = finishing.poll(); it != null; it = finishing.poll()) {
+            try {
+                coordinator.await(it.reply);
+            } catch (Fault.Refused refused) {
+                // None of the rows left. The others may, without the one that can't.
+                if (it.gtrids.size() > 1) {
+                    it.gtrids.forEach(gtrid -> finish(List.of(gtrid)));
+                } else {
+                    Manager.LOG.log(Level.WARNING, () -> "a row stays in the log: " + refused.getMessage());
+                }
+            } catch (Fault fault) {
+                Manager.LOG.log(Level.DEBUG, "rows stay in the log until the next session", fault);
+            }
+        }
     }
 
     // ** what must not be
@@ -272,6 +292,7 @@ final class Session {
             coordinator.kill("it didn't reply for " + TimeUnit.NANOSECONDS.toSeconds(patience) + " s");
         }
         finishAll();
+        seeFinished();
         try {
             coordinator.flush();
         } catch (Fault.Gone error) {
@@ -293,6 +314,7 @@ final class Session {
     void quit() {
         keepers.forEach(Keeper::stop);
         finishAll();
+        seeFinished();
         coordinator.quit();
     }
 

@@ -6,6 +6,7 @@ import static org.junit.Assert.assertThrows;
 import static org.junit.Assert.assertTrue;
 
 import garterfossil.jdbc.JdbcResource;
+import java.nio.file.Files;
 import java.sql.Connection;
 import java.sql.SQLException;
 import java.sql.Statement;
@@ -28,6 +29,7 @@ public class DataSourceTest {
     @Before
     public void start() throws Exception {
         world.manager.close();
+        Files.delete(world.folder.resolve("log"));
         JdbcResource resource = JdbcResource.of("database", database.source()).maxConnections(2);
         manager = world.builder().resource(resource).start();
         source = resource.dataSource(manager);

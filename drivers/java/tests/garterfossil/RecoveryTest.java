@@ -1,6 +1,7 @@
 package garterfossil;
 
 import static org.junit.Assert.assertEquals;
+import static org.junit.Assert.assertNotEquals;
 import static org.junit.Assert.assertThrows;
 import static org.junit.Assert.assertTrue;
 
@@ -94,7 +95,7 @@ public class RecoveryTest {
 
     @Test
     public void aRollbackThatTheResourceForgot() throws Exception {
-        BranchXid old = BranchXid.of("", "0000000000000001" + "0000000000000001", 1, 0);
+        BranchXid old = world.own(1, 1);
         GlobalTransaction transaction = world.overBoth();
         world.a.answer("prepare", StandInResource.LOST_AFTER);
         assertThrows(Fault.RolledBack.class, transaction::commit);
@@ -105,7 +106,7 @@ public class RecoveryTest {
         nothingIsLeft();
         world.overBoth().commit();
         // Another is nothing that anybody rolled back: then nothing goes on.
-        world.a.branches.put(BranchXid.of("", "0000000000000002" + "0000000000000001", 1, 0), StandInResource.State.PREPARED);
+        world.a.branches.put(world.own(2, 1), StandInResource.State.PREPARED);
         world.manager.session().keeper(world.manager.resourceManager(world.a)).scanLater();
         Session session = world.manager.session();
         World.eventually(() -> session.fatal() != null);
@@ -114,20 +115,56 @@ public class RecoveryTest {
     }
 
     @Test
-    public void aLogThatIsMissing() throws Exception {
-        world.manager.close();
+    public void aLogThatIsMissingWhileItIsUsed() throws Exception {
         Files.delete(world.folder.resolve("log"));
-        Fault.Unavailable error = assertThrows(Fault.Unavailable.class, () -> world.builder().start());
+        world.dieAt("begin");
+        assertThrows(Fault.class, () -> {
+            for (int count = 0; count < 5; count++) {
+                world.begin().enlist(world.a);
+            }
+        });
+        Fault.Unavailable error = assertThrows(Fault.Unavailable.class, () -> world.begin().enlist(world.a));
         assertTrue(error.getMessage(), error.getMessage().contains("missing"));
     }
 
     @Test
-    public void aNewLogBesideBranchesOfAnOldOne() throws Exception {
-        world.a.branches.put(BranchXid.of("", "0000000000000009" + "0000000000000001", 1, 0), StandInResource.State.PREPARED);
+    public void aNewLogLeavesBranchesOfAnOldOne() throws Exception {
+        String name = world.manager.name();
+        world.a.branches.put(world.own(1, 1), StandInResource.State.PREPARED);
+        world.manager.close();
+        Files.delete(world.folder.resolve("log"));
+        // Also from the second start on.
+        for (int count = 0; count < 2; count++) {
+            world.manager = world.builder().start();
+            assertNotEquals(name, world.manager.name());
+            world.manager.close();
+        }
+        assertEquals(1, world.a.branches.size());
+        assertTrue(world.a.rolledBack.isEmpty());
+    }
+
+    @Test
+    public void anOlderLogBesideBranchesOfALaterSession() throws Exception {
+        world.a.branches.put(world.own(9, 1), StandInResource.State.PREPARED);
         world.manager.close();
         Fault.Unavailable error = assertThrows(Fault.Unavailable.class, () -> world.builder().start());
         assertTrue(error.getMessage(), error.getMessage().contains("isn't that of a"));
         assertEquals(1, world.a.branches.size());
+    }
+
+    @Test
+    public void aLogKeepsTheNameThatWasDrawn() throws Exception {
+        world.manager.close();
+        Files.delete(world.folder.resolve("log"));
+        world.manager = world.builder().name("shop").start();
+        String name = world.manager.name();
+        assertTrue(name, name.matches("shop-[a-z0-9]{6}"));
+        world.manager.close();
+        world.manager = world.builder().start();
+        assertEquals(name, world.manager.name());
+        world.manager.close();
+        Fault.Unavailable error = assertThrows(Fault.Unavailable.class, () -> world.builder().name("bank").start());
+        assertTrue(error.getMessage(), error.getMessage().contains("manager " + name));
     }
 
     @Test
@@ -140,16 +177,39 @@ public class RecoveryTest {
         world.manager.close();
     }
 
-    @Test
-    public void resourcesKeepTheirNumbers() throws Exception {
-        world.manager.close();
-        assertEquals("a\nb\n", Files.readString(world.folder.resolve("log-resources")));
-        Manager other = Manager.over(world.folder.resolve("log")).starter(words -> new StandInCoordinator(world.folder)).threads(2).resource(world.b).start();
+    private Manager.Builder over(StandInResource... resources) {
+        Manager.Builder builder = Manager.over(world.folder.resolve("log")).starter(words -> StandInCoordinator.of(world.folder, words)).threads(2);
+        for (StandInResource resource : resources) {
+            builder.resource(resource);
+        }
+        return builder;
+    }
+
+    private void hasNumberOne(Manager.Builder builder) throws Exception {
+        Manager other = builder.start();
         GlobalTransaction transaction = other.begin(Duration.ofSeconds(5));
         transaction.enlist(world.b);
         assertTrue(world.b.branches.keySet().iterator().next().toString().endsWith("00000001"));
         transaction.rollback();
         other.close();
+    }
+
+    @Test
+    public void resourcesKeepTheirNumbers() throws Exception {
+        world.manager.close();
+        hasNumberOne(over(world.b));
+        hasNumberOne(over(world.b, world.a));
+        Fault.Unavailable error = assertThrows(Fault.Unavailable.class, () -> over(world.a, new StandInResource("c")).start());
+        assertTrue(error.getMessage(), error.getMessage().contains("c isn't one of them"));
+    }
+
+    @Test
+    public void namesInAFileBesideTheLog() throws Exception {
+        world.manager.close();
+        // The log was made with one resource, and a driver before this one added the other.
+        Files.writeString(world.folder.resolve("names"), "rm 0 a\n");
+        Files.writeString(world.folder.resolve("log-resources"), "a\nb\n");
+        hasNumberOne(over(world.b));
     }
 
     @Test

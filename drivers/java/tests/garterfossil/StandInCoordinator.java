@@ -19,6 +19,7 @@ import java.util.Arrays;
 import java.util.Deque;
 import java.util.HashMap;
 import java.util.HashSet;
+import java.util.HexFormat;
 import java.util.List;
 import java.util.Map;
 import java.util.Set;
@@ -34,7 +35,7 @@ import java.util.stream.Collectors;
  * <p>It writes each request that it reads to the file `requests` of its folder. Where the file `die-at` has a word, it ends at the
  * first request that begins with it, instead of a reply, and removes the file;
  * {@code decided} is a decision to commit that it makes and doesn't tell. It begins with the line of the protocol where the file
- * `protocol` has its words.
+ * `protocol` has its words. The file `names` has what {@code xatm log} prints of its log.
  */
 final class StandInCoordinator extends Process {
     private static final int S0 = 1, S1 = 2, S2 = 4, S3 = 8, S4 = 16, S5 = 32;
@@ -47,6 +48,8 @@ final class StandInCoordinator extends Process {
     private final Thread thread;
     private final Path folder;
     private final long incarnation;
+    // Of the manager, in hexadecimal digits.
+    private final String name;
     private final Map<String, List<String>> rows = new TreeMap<>();
     private final Map<String, List<String>> found;
     private final Map<String, Deque<String>> waiting = new HashMap<>();
@@ -58,8 +61,19 @@ final class StandInCoordinator extends Process {
     private final Set<String> recorded = new HashSet<>();
     private long sequence;
 
-    StandInCoordinator(Path folder) throws IOException {
+    /** The process of a command, as {@code xatm} has it. */
+    static Process of(Path folder, List<String> words) throws IOException {
+        if (words.get(1).equals("log")) {
+            return new ProcessBuilder("cat", folder.resolve("names").toString()).start();
+        }
+        return new StandInCoordinator(folder, words);
+    }
+
+    private StandInCoordinator(Path folder, List<String> command) throws IOException {
         this.folder = folder;
+        int named = command.indexOf("--name");
+        name = named < 0 ? "" : HexFormat.of().formatHex(command.get(named + 1).getBytes(StandardCharsets.US_ASCII));
+        keepNames(command);
         fromDriver = new PipedInputStream(input, 65536);
         toDriver = new PipedOutputStream(output);
         Path counter = folder.resolve("incarnation");
@@ -77,6 +91,23 @@ final class StandInCoordinator extends Process {
         thread = new Thread(this::serve, "a stand-in for the coordinator");
         thread.setDaemon(true);
         thread.start();
+    }
+
+    /** A new log keeps the names that it is made with. */
+    private void keepNames(List<String> words) throws IOException {
+        if (Files.exists(folder.resolve("log"))) {
+            return;
+        }
+        Files.writeString(folder.resolve("log"), "a log");
+        List<String> lines = new ArrayList<>();
+        for (int at = 0; at < words.size(); at++) {
+            if (words.get(at).equals("--name")) {
+                lines.add("name " + words.get(at + 1));
+            } else if (words.get(at).equals("--rm")) {
+                lines.add("rm " + (lines.size() - (name.isEmpty() ? 0 : 1)) + " " + words.get(at + 1));
+            }
+        }
+        Files.write(folder.resolve("names"), lines);
     }
 
     private void save() throws IOException {
@@ -345,7 +376,9 @@ final class StandInCoordinator extends Process {
             replies.flush();
             BufferedReader requests = new BufferedReader(new InputStreamReader(fromDriver, StandardCharsets.ISO_8859_1));
             for (String line = requests.readLine(); line != null; line = requests.readLine()) {
-                replies.print(reply(line) + "\n");
+                // The name stands in front of the transaction in each identifier that leaves.
+                String reply = reply(line.replaceAll("(^| )7:" + name, "$17:"));
+                replies.print(reply.replaceAll("(^| )7:", "$17:" + name) + "\n");
                 replies.flush();
                 if (line.equals("quit")) {
                     return;

@@ -75,7 +75,7 @@ public class TransactionsTest {
         for (int count = 0; count < 8; count++) {
             world.overBoth().commit();
         }
-        assertEquals(List.of(), world.rows());
+        World.eventually(() -> world.rows().isEmpty());
     }
 
     @Test

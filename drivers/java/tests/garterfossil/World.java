@@ -23,19 +23,23 @@ final class World extends ExternalResource {
     protected void before() throws Throwable {
         temporary.create();
         folder = temporary.getRoot().toPath();
-        Files.writeString(folder.resolve("log"), "a log");
         manager = builder().start();
         managers.add(manager);
     }
 
     Manager.Builder builder() {
-        return Manager.over(folder.resolve("log")).starter(words -> new StandInCoordinator(folder)).threads(4).patience(Duration.ofSeconds(8)).resource(a).resource(b);
+        return Manager.over(folder.resolve("log")).starter(words -> StandInCoordinator.of(folder, words)).threads(4).patience(Duration.ofSeconds(8)).resource(a).resource(b);
     }
 
     @Override
     protected void after() {
         managers.forEach(Manager::close);
         temporary.delete();
+    }
+
+    /** The identifier of a branch of the manager, at its first resource. */
+    BranchXid own(long incarnation, long sequence) {
+        return BranchXid.of(manager.name(), String.format("%016x%016x", incarnation, sequence), 1, 0);
     }
 
     GlobalTransaction begin() throws Fault {
@@ -59,8 +63,12 @@ final class World extends ExternalResource {
         return Files.readAllLines(folder.resolve("requests"));
     }
 
-    List<String> rows() throws IOException {
-        return Files.readAllLines(folder.resolve("rows"));
+    List<String> rows() {
+        try {
+            return Files.readAllLines(folder.resolve("rows"));
+        } catch (IOException error) {
+            throw new java.io.UncheckedIOException(error);
+        }
     }
 
     static void eventually(BooleanSupplier condition) throws InterruptedException {

@@ -1,6 +1,7 @@
 package garterfossil.jdbc;
 
 import garterfossil.Fault;
+import java.lang.reflect.Method;
 import java.nio.charset.StandardCharsets;
 import java.sql.Connection;
 import java.sql.PreparedStatement;
@@ -44,16 +45,27 @@ enum Dialect {
             execute(connection, "SELECT pg_terminate_backend(" + number + ")");
         }
 
+        // Of the driver's class that was met last.
+        private volatile Method stateOf;
+
         @Override
         boolean isGivenUp(Connection connection) throws SQLException {
             try {
                 // The driver knows it from the last answer of the server, so that it needn't be asked.
-                Class<?> face = Class.forName("org.postgresql.core.BaseConnection", false, connection.getClass().getClassLoader());
-                Object base = connection.unwrap(face);
-                return face.getMethod("getTransactionState").invoke(base).toString().equals("FAILED");
+                Method asked = stateMethod(connection.getClass().getClassLoader());
+                return asked.invoke(connection.unwrap(asked.getDeclaringClass())).toString().equals("FAILED");
             } catch (ReflectiveOperationException error) {
                 return isRefused(connection);
             }
+        }
+
+        private Method stateMethod(ClassLoader loader) throws ReflectiveOperationException {
+            Method known = stateOf;
+            if (known == null || known.getDeclaringClass().getClassLoader() != loader) {
+                known = Class.forName("org.postgresql.core.BaseConnection", false, loader).getMethod("getTransactionState");
+                stateOf = known;
+            }
+            return known;
         }
 
         private boolean isRefused(Connection connection) throws SQLException {

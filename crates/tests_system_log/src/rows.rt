@@ -4,6 +4,6 @@
 
 mod act;
 mod recovery;
-mod rows;
 mod stops;
 mod swaps;
+mod table;

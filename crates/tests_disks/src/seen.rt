@@ -2,10 +2,23 @@
 
 use sqlite::{Alter, Connection};
 
+/// A log of version 1 in its first incarnation, with the transaction (1, 1) and a branch of (1, 2).
+pub const VERSION_1: &str = "BEGIN; \
+    CREATE TABLE tm_meta (k INTEGER PRIMARY KEY CHECK (k = 1), version INTEGER NOT NULL, \
+    incarnation INTEGER NOT NULL); \
+    CREATE TABLE decision (inc INTEGER NOT NULL, seq INTEGER NOT NULL, PRIMARY KEY (inc, seq)); \
+    CREATE TABLE heuristic (inc INTEGER NOT NULL, seq INTEGER NOT NULL, thread INTEGER NOT NULL, \
+    rm INTEGER NOT NULL, how INTEGER NOT NULL, PRIMARY KEY (inc, seq, thread, rm), \
+    CHECK (how >= 5 AND how <= 8)); \
+    INSERT INTO tm_meta (k, version, incarnation) VALUES (1, 1, 1); \
+    INSERT INTO decision (inc, seq) VALUES (1, 1); \
+    INSERT INTO heuristic (inc, seq, thread, rm, how) VALUES (1, 2, 0, 3, 6); \
+    COMMIT";
+
 /// The tables of a database, how many rows they have, and whether a transaction is open. Of decisions and heuristics
 /// only the rows of `VERSION_1` count, and any other row counts as -1.
 #[derive(Clone, Copy, Debug, PartialEq, Eq)]
-pub(crate) struct Seen {
+pub struct Seen {
     pub in_transaction: bool,
     pub tables: i64,
     pub version: i64,
@@ -15,7 +28,7 @@ pub(crate) struct Seen {
     pub participants: i64,
 }
 
-pub(crate) const BLANK: Seen = Seen {
+pub const BLANK: Seen = Seen {
     in_transaction: false,
     tables: 0,
     version: 0,
@@ -26,13 +39,14 @@ pub(crate) const BLANK: Seen = Seen {
 };
 
 /// A new log.
-pub(crate) const EMPTY: Seen = Seen {
+pub const EMPTY: Seen = Seen {
     tables: 4,
     version: 2,
     ..BLANK
 };
 
-pub(crate) const OLD: Seen = Seen {
+/// The log of `VERSION_1`.
+pub const OLD: Seen = Seen {
     tables: 3,
     version: 1,
     incarnation: 1,
@@ -41,7 +55,8 @@ pub(crate) const OLD: Seen = Seen {
     ..BLANK
 };
 
-pub(crate) const MIGRATED: Seen = Seen {
+/// The same log once it is migrated.
+pub const MIGRATED: Seen = Seen {
     tables: 4,
     version: 2,
     ..OLD
@@ -55,7 +70,8 @@ fn number<S: Alter>(conn: &mut Connection<S>, sql: &str) -> i64 {
     }
 }
 
-pub(crate) fn look<S: Alter>(conn: &mut Connection<S>) -> Seen {
+/// What a connection shows.
+pub fn look<S: Alter>(conn: &mut Connection<S>) -> Seen {
     Seen {
         in_transaction: !conn.is_autocommit(),
         tables: number(

@@ -1,17 +1,17 @@
 //! Each row, with a stop at each call of either file.
 
-use crate::files::{Crashes, Stops, blank, log_over, stopping};
-use crate::system::act::{Act, meets_stop, perform};
-use crate::system::recovery::{count_of, end_as_the_log_says};
-use crate::system::rows::{
+use crate::crashes::Crashes;
+use crate::rows::act::{Act, meets_stop, perform};
+use crate::rows::recovery::{count_of, end_as_the_log_says};
+use crate::rows::table::{
     ABANDONED, ACKNOWLEDGED_LATER, CLAIM_ENDS_WITH_CRASH, CLAIMED_IS_KEPT, DECIDED_BEFORE_CRASH,
     HEURISTIC, OPEN_ROLLED_BACK, RESOURCE_MANAGER_CRASH, RETRIES, Row, TWO_PHASE_COMMIT,
 };
 use sqlite::Files;
-use sqlite_disk::Crash;
 use std::alloc::Global;
 use std::process::Abort;
 use std::test::Fail;
+use tests_disks::{Stops, StopsAfter, blank, log_over, stopping};
 use xa_base::{Fate, How, Refusal, Reply, Side, Step};
 use xa_log::DecisionLog;
 use xa_rm::MemRm;
@@ -113,7 +113,7 @@ fn run_over<L: Crashes>(rt: &impl Abort, alloc: Global, log: L, row: &Row) -> Re
     }
     let starts = starts_of(&system);
     if let Some(log) = log_of(rt, &mut system) {
-        let Some(log) = log.reopened(alloc) else {
+        let Some(log) = log.reopened(alloc, u64::MAX) else {
             return Err(Fail::from("the files don't open again"));
         };
         goes_on(rt, &mut system, log, row.rms, starts);
@@ -121,17 +121,27 @@ fn run_over<L: Crashes>(rt: &impl Abort, alloc: Global, log: L, row: &Row) -> Re
     Ok(Ended::Stopped)
 }
 
+/// The same where the log is there.
+fn run_where_open<L: Crashes>(
+    rt: &impl Abort,
+    alloc: Global,
+    log: Option<L>,
+    row: &Row,
+) -> Result<Ended, Fail> {
+    match log {
+        Some(log) => run_over(rt, alloc, log, row),
+        None => Ok(Ended::NotBegun),
+    }
+}
+
 /// A row over a log in files.
-fn run<D: Crash + Drop>(
+fn run<D: StopsAfter>(
     rt: &impl Abort,
     alloc: Global,
     files: Files<D>,
     row: &Row,
 ) -> Result<Ended, Fail> {
-    match log_over(alloc, files) {
-        Some(log) => run_over(rt, alloc, log, row),
-        None => Ok(Ended::NotBegun),
-    }
+    run_where_open(rt, alloc, log_over(alloc, files), row)
 }
 
 /// A row with a stop at each call of the one file, up to a run that meets none. Answers how many runs met a stop before the
@@ -144,7 +154,8 @@ fn stop_at_each_call(
 ) -> Result<(usize, usize), Fail> {
     let (mut before, mut stopped) = (0usize, 0usize);
     for calls in 0..2000u64 {
-        match run(rt, alloc, stopping(blank(alloc), which, calls), row)? {
+        let files = stopping(alloc, &blank(alloc), which, calls)?;
+        match run(rt, alloc, files, row)? {
             Ended::NotBegun => before = before.saturating_add(1),
             Ended::Stopped => stopped = stopped.saturating_add(1),
             Ended::Whole => {

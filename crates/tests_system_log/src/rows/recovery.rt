@@ -1,6 +1,6 @@
 //! What follows a stop: the log is given back, the manager is started again, and what is in doubt is ended.
 
-use crate::system::act::{Act, branch, perform};
+use crate::rows::act::{Act, branch, perform};
 use std::process::Abort;
 use xa_base::{Fate, How, Reply};
 use xa_log::DecisionLog;

@@ -1,16 +1,28 @@
 //! A commit in two phases whose log fails at a change, over logs that fail by plan; and logs that a manager doesn't take.
 
-use crate::runs::branch;
-use crate::system::act::{FIRST, meets_stop};
-use crate::system::recovery::end_as_the_log_says;
-use crate::system::rows::TWO_PHASE_COMMIT;
+ghost use Rattle.std.specs.Prelude.{◌≡◌};
+
+use crate::rows::act::{FIRST, meets_stop};
+use crate::rows::recovery::end_as_the_log_says;
+use crate::rows::table::TWO_PHASE_COMMIT;
 use std::alloc::Global;
 use std::process::Abort;
 use std::test::Fail;
-use xa_base::Gtrid;
+use xa_base::{Branch, Gtrid};
 use xa_log::{DecisionLog, FailLog, FailPlan, LogCall, MemLog};
 use xa_rm::MemRm;
 use xa_system::{SwapFault, System};
+
+/// The branch of a transaction at a resource manager.
+fn branch(gtrid: Gtrid, rm: u32) -> Branch
+    ensures { result.gtrid ≡ gtrid }
+{
+    Branch {
+        gtrid,
+        thread: 0,
+        rm,
+    }
+}
 
 /// A log in memory that fails once, at its first call of a kind.
 fn log_that_fails(alloc: Global, kind: LogCall, made: bool) -> FailLog {

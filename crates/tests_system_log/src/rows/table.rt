@@ -1,7 +1,7 @@
 //! The rows: what is done, and how it ends where nothing stops.
 
-use crate::system::act::Act;
-use crate::system::act::Act::{
+use crate::rows::act::Act;
+use crate::rows::act::Act::{
     Abandon, Answer, Begin, Busy, Claim, Commit, CrashManager, CrashRm, Decide, Done, End, Forget,
     Open, Prepare, Recover, Resolve, ResolveOpen, RestartManager, RestartRm, RollBackAlone,
     Rollback, Settle, Start,

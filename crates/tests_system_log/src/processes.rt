@@ -5,19 +5,18 @@ mod chance;
 mod moves;
 mod told;
 
-use crate::files::{blank, closed, copied, crashed, log_over};
+use crate::crashes::Crashes;
 use crate::processes::chance::Chance;
 use crate::processes::moves::Player;
 use crate::processes::told::{Ends, RMS, THREADS, Told};
-use sqlite::{FileStore, Files};
-use sqlite_disk::{Crash, Fuse, Memory};
+use sqlite::Files;
 use std::alloc::Global;
 use std::process::Abort;
 use std::test::Fail;
+use tests_disks::{Stops, StopsAfter, blank, log_over, stopping};
 use xa_base::{Side, Step};
-use xa_log::{DecisionLog, MemLog};
+use xa_log::MemLog;
 use xa_rm::MemRm;
-use xa_sql_log::SqlLog;
 use xa_system::{Remains, System};
 
 const PROCESSES: u32 = 10;
@@ -25,60 +24,21 @@ const PROCESSES: u32 = 10;
 /// How often a process does something.
 const MOVES: u32 = 40;
 
-/// A log that the next process finds.
-trait Found: DecisionLog + Drop + Sized {
-    /// The log as a crash leaves it. It stops again after so many calls of its journal, if it can.
-    fn found(self, alloc: Global, calls: u64) -> Result<Self, Fail>;
-}
-
-impl Found for MemLog {
-    fn found(self, _alloc: Global, _calls: u64) -> Result<MemLog, Fail> {
-        Ok(self)
-    }
-}
-
-/// A disk that stops after so many calls.
-trait StopsAfter: Crash + Drop + Sized {
-    /// The same disk, which stops after so many calls from now on.
-    fn after(self, alloc: Global, calls: u64) -> Result<Self, Fail>;
-}
-
-impl StopsAfter for Fuse<Memory> {
-    fn after(self, alloc: Global, calls: u64) -> Result<Fuse<Memory>, Fail> {
-        Ok(Fuse::new(copied(alloc, self.inner())?, calls))
-    }
-}
-
-impl<D: StopsAfter> Found for SqlLog<FileStore<D>> {
-    fn found(self, alloc: Global, calls: u64) -> Result<SqlLog<FileStore<D>>, Fail> {
-        let Files { log, db } = crashed(closed(self.into_connection()));
-        let log = log.after(alloc, calls)?;
-        let db = db.after(alloc, u64::MAX)?;
-        log_in(alloc, Files { log, db })
-    }
-}
-
-/// A log in files.
-fn log_in<D: StopsAfter>(alloc: Global, files: Files<D>) -> Result<SqlLog<FileStore<D>>, Fail> {
-    match log_over(alloc, files) {
-        Some(log) => Ok(log),
-        None => Err(Fail::from("the log stops before it is there")),
-    }
-}
-
 /// After how many calls of its journal a log stops: once it has been opened, and a process has begun.
 fn calls_by(chance: &mut Chance) -> u64 {
     70u64.saturating_add(u64::from(chance.below(150)))
 }
 
-impl<L: Found> Player<L> {
+impl<L: Crashes> Player<L> {
     /// Where the log has stopped it is taken out, found again, read, and given back. Tells whether it had stopped.
     fn mend(&mut self, rt: &impl Abort, alloc: Global) -> Result<bool, Fail> {
         let Some(log) = self.system.take_log() else {
             return Ok(false);
         };
         let calls = calls_by(&mut self.chance);
-        let mut log = log.found(alloc, calls)?;
+        let Some(mut log) = log.reopened(alloc, calls) else {
+            return Err(Fail::from("the log stops before it is there"));
+        };
         self.told.read(&mut log)?;
         assert!(rt; self.system.give_log(log).is_ok(), "the log isn't taken");
         let _up = self
@@ -109,7 +69,9 @@ impl<L: Found> Player<L> {
         let Some(log) = log else {
             return Err(Fail::from("the log is out"));
         };
-        let mut log = log.found(alloc, calls_by(&mut chance))?;
+        let Some(mut log) = log.reopened(alloc, calls_by(&mut chance)) else {
+            return Err(Fail::from("the log stops before it is there"));
+        };
         told.read(&mut log)?;
         Ok(Player {
             system: System::resume(alloc, THREADS, rms, log)?,
@@ -131,7 +93,7 @@ impl<L: Found> Player<L> {
 }
 
 /// Ten processes over a log. Tells how the branches ended, and how often the log had stopped.
-fn ten_processes<L: Found>(
+fn ten_processes<L: Crashes>(
     rt: &impl Abort,
     alloc: Global,
     log: L,
@@ -162,26 +124,29 @@ fn have_ended(rt: &impl Abort, ends: Ends) {
     assert!(rt; ends.committed > 20 && ends.rolled_back > 20, "{ends:?}");
 }
 
-/// Ten processes over a log in files. Tells how often the log had stopped.
-fn ten_over_files<D: StopsAfter>(
+/// Ten processes over a log that is there. Tells how often it had stopped.
+fn ten_where_open<L: Crashes>(
     rt: &impl Abort,
     alloc: Global,
-    files: Files<D>,
+    log: Option<L>,
     seed: u32,
 ) -> Result<u32, Fail> {
-    let log = log_in(alloc, files)?;
+    let Some(log) = log else {
+        return Err(Fail::from("the log stops before it is there"));
+    };
     let (ends, stops) = ten_processes(rt, alloc, log, seed)?;
     have_ended(rt, ends);
     Ok(stops)
 }
 
-/// Files with nothing in them, of which the journal stops after 200 calls.
-fn files_that_stop(alloc: Global) -> Files<Fuse<Memory>> {
-    let Files { log, db } = blank(alloc);
-    Files {
-        log: Fuse::new(log, 200),
-        db: Fuse::new(db, u64::MAX),
-    }
+/// The same over a log in files.
+fn ten_in_files<D: StopsAfter>(
+    rt: &impl Abort,
+    alloc: Global,
+    files: Files<D>,
+    seed: u32,
+) -> Result<u32, Fail> {
+    ten_where_open(rt, alloc, log_over(alloc, files), seed)
 }
 
 #[test]
@@ -197,7 +162,8 @@ fn over_a_log_in_memory(rt: HostRuntime) -> Result<(), Fail> {
 fn over_files_that_stop(rt: HostRuntime) -> Result<(), Fail> {
     let mut stopped = 0u32;
     for seed in 1..3u32 {
-        let stops = ten_over_files(&rt, rt.alloc(), files_that_stop(rt.alloc()), seed)?;
+        let files = stopping(rt.alloc(), &blank(rt.alloc()), Stops::Journal, 200)?;
+        let stops = ten_in_files(&rt, rt.alloc(), files, seed)?;
         stopped = stopped.saturating_add(stops);
     }
     assert!(rt; stopped > 0, "{stopped} stops");

@@ -1,30 +1,26 @@
-//! A run of a log over files: the log takes them, and may make a change.
+//! What is done over a connection: statements run, its tables are looked at, or a log takes it and may make a change.
 
 ghost use Rattle.std.specs.Prelude.{◌≡◌, ◌≤◌};
 ghost use Rattle.xa_log.specs.Contract.{FitsRow};
 
-use crate::files::{closed, crashed, look_in, open};
-use crate::shown_tables::Seen;
-use sqlite::{Alter, Connection, Files};
-use sqlite_disk::{Crash, Disk};
-use std::alloc::Global;
-use std::test::Fail;
+use crate::seen::{Seen, look};
+use sqlite::{Alter, Connection};
 use xa_base::{Branch, Gtrid, How};
 use xa_log::{DecisionLog, LogFault};
 use xa_sql_log::SqlLog;
 
 /// A call that changes the log.
 #[derive(Clone, Copy, Debug, PartialEq, Eq)]
-pub(crate) enum Change {
+pub enum Change {
     Commit,
     Done,
     Note,
     Bump,
 }
 
-/// How far a run came.
+/// How far a run of a log came.
 #[derive(Clone, Copy, Debug, PartialEq, Eq)]
-pub(crate) enum Reached {
+pub enum Reached {
     /// The files did not open.
     Nothing,
     /// The log refused them.
@@ -33,6 +29,28 @@ pub(crate) enum Reached {
     Adopted,
     /// The log has them, and made the change if there was one.
     End,
+}
+
+/// What is done.
+#[derive(Clone, Copy)]
+pub(crate) enum Task {
+    Execute(&'static str),
+    Look,
+    /// A log takes the connection, and makes the change if there is one.
+    Run(Option<Change>),
+    /// A transaction deletes the decisions, and a log takes the connection.
+    RunInTransaction,
+}
+
+/// What a task came to.
+#[derive(Clone, Copy)]
+pub(crate) enum Done {
+    /// There was no connection, or a statement was refused.
+    Nothing,
+    Executed,
+    Seen(Seen),
+    Ran(Reached),
+    RanInTransaction(Reached, Seen),
 }
 
 /// A transaction of the first incarnation.
@@ -47,7 +65,7 @@ fn gtrid(sequence: u64) -> Gtrid
 }
 
 /// The branch of a transaction at a resource manager.
-pub(crate) fn branch(gtrid: Gtrid, rm: u32) -> Branch
+fn branch(gtrid: Gtrid, rm: u32) -> Branch
     ensures { result.gtrid ≡ gtrid }
 {
     Branch {
@@ -79,7 +97,7 @@ fn make<L: DecisionLog>(log: &mut L, change: Change) -> Result<(), LogFault> {
 }
 
 /// A log takes the connection, makes the change if there is one, and gives the connection back.
-pub(crate) fn run_on<S: Alter + Drop>(
+fn run_on<S: Alter + Drop>(
     conn: Connection<S>,
     change: Option<Change>,
 ) -> (Reached, Connection<S>) {
@@ -99,28 +117,34 @@ pub(crate) fn run_on<S: Alter + Drop>(
     (reached, log.into_connection())
 }
 
-/// A log takes the files and makes the change if there is one. The files come back as they stand.
-pub(crate) fn run_in<D: Disk + Drop>(
-    alloc: Global,
-    files: Files<D>,
-    change: Option<Change>,
-) -> (Reached, Files<D>) {
-    match open(alloc, files, 7) {
-        Ok(conn) => {
-            let (reached, conn) = run_on(conn, change);
-            (reached, closed(conn))
-        }
-        Err(left) => (Reached::Nothing, left),
-    }
+fn execute<S: Alter + Drop>(mut conn: Connection<S>, sql: &str) -> (Done, Connection<S>) {
+    let done = match conn.execute_batch(sql) {
+        Ok(()) => Done::Executed,
+        Err(_) => Done::Nothing,
+    };
+    (done, conn)
 }
 
-/// How far such a run came, what a crash after it leaves, and the files after that.
-pub(crate) fn crash_after<D: Crash + Drop>(
-    alloc: Global,
-    files: Files<D>,
-    change: Option<Change>,
-) -> Result<(Reached, Seen, Files<D>), Fail> {
-    let (reached, files) = run_in(alloc, files, change);
-    let (left, files) = look_in(alloc, crashed(files))?;
-    Ok((reached, left, files))
+fn run_in_transaction<S: Alter + Drop>(mut conn: Connection<S>) -> (Done, Connection<S>) {
+    if conn.execute_batch("BEGIN; DELETE FROM decision").is_err() {
+        return (Done::Nothing, conn);
+    }
+    let (reached, mut conn) = run_on(conn, None);
+    (Done::RanInTransaction(reached, look(&mut conn)), conn)
+}
+
+/// Does it, and gives the connection back.
+pub(crate) fn perform<S: Alter + Drop>(
+    mut conn: Connection<S>,
+    task: Task,
+) -> (Done, Connection<S>) {
+    match task {
+        Task::Execute(sql) => execute(conn, sql),
+        Task::Look => (Done::Seen(look(&mut conn)), conn),
+        Task::Run(change) => {
+            let (reached, conn) = run_on(conn, change);
+            (Done::Ran(reached), conn)
+        }
+        Task::RunInTransaction => run_in_transaction(conn),
+    }
 }

@@ -1,15 +1,11 @@
 //! Systems that start over logs in files of the host, or don't. Each log is opened again to look at it.
 
-use crate::files::VERSION_1;
-use crate::paths::{make_folder, run_at, seen_at};
-use crate::shown_tables::{MIGRATED, Seen};
-use sqlite::{Alter, FileStore};
-use sqlite_disk::Disk;
 use std::alloc::Global;
 use std::fs;
 use std::test::Fail;
+use tests_disks::{MIGRATED, Seen, VERSION_1, make_folder, run_at, seen_at};
 use xa_base::{Gtrid, Refusal, Reply, Step};
-use xa_log::LogFault;
+use xa_log::{DecisionLog, LogFault};
 use xa_rm::MemRm;
 use xa_sql_log::SqlLog;
 use xa_system::{NewFault, System};
@@ -37,7 +33,7 @@ struct Answers {
 }
 
 /// What a system that starts over the log answers.
-fn answers_over<S: Alter + Drop>(alloc: Global, log: SqlLog<S>) -> Result<Answers, NewFault> {
+fn answers_over<L: DecisionLog + Drop>(alloc: Global, log: L) -> Result<Answers, NewFault> {
     let Ok(rms) = Vec::from_array(alloc, [MemRm::new(alloc)]) else {
         return Err(NewFault::Memory);
     };
@@ -52,82 +48,79 @@ fn answers_over<S: Alter + Drop>(alloc: Global, log: SqlLog<S>) -> Result<Answer
     })
 }
 
-/// The same over files.
-fn answers_in_files<D: Disk + Drop>(
+/// The same where the log is open.
+fn answers_where_open<L: DecisionLog + Drop>(
     alloc: Global,
-    log: SqlLog<FileStore<D>>,
-) -> Result<Answers, NewFault> {
-    answers_over(alloc, log)
+    log: Result<L, LogFault>,
+) -> Result<Result<Answers, NewFault>, LogFault> {
+    Ok(answers_over(alloc, log?))
 }
 
 /// The same over the log at a path.
 fn answers_at(rt: &HostRuntime, path: &str) -> Result<Result<Answers, NewFault>, LogFault> {
-    Ok(answers_in_files(rt.alloc(), SqlLog::open(rt, path)?))
+    answers_where_open(rt.alloc(), SqlLog::open(rt, path))
+}
+
+/// What a system that starts over a log of version 1 answers, in which this statement has run, and what its tables then hold. The
+/// log is in a new folder of the host.
+fn start_in(
+    rt: &HostRuntime,
+    folder: &str,
+    sql: &str,
+) -> Result<(Result<Answers, NewFault>, Seen), Fail> {
+    make_folder(rt, folder)?;
+    let path = format!(in rt.alloc(); "{folder}/log.db")?;
+    run_at(rt, path.as_str(), VERSION_1)?;
+    run_at(rt, path.as_str(), sql)?;
+    let answers = answers_at(rt, path.as_str())?;
+    let seen = seen_at(rt, path.as_str())?;
+    fs::remove_dir_all(rt, folder)?;
+    Ok((answers, seen))
 }
 
 #[test]
 fn no_system_starts_over_a_spent_log(rt: HostRuntime) -> Result<(), Fail> {
-    make_folder(&rt, "spent_start")?;
-    let path = "spent_start/log.db";
-    run_at(&rt, path, VERSION_1)?;
-    run_at(
-        &rt,
-        path,
-        "UPDATE tm_meta SET incarnation = 9223372036854775807",
-    )?;
-    assert!(rt; matches!(answers_at(&rt, path), Ok(Err(NewFault::Log))));
+    let sql = "UPDATE tm_meta SET incarnation = 9223372036854775807";
+    let (answers, seen) = start_in(&rt, "spent_start", sql)?;
+    assert!(rt; matches!(answers, Err(NewFault::Log)));
     assert_eq!(rt;
-        seen_at(&rt, path)?,
+        seen,
         Seen {
             incarnation: 9_223_372_036_854_775_807,
             ..MIGRATED
         }
     );
-    fs::remove_dir_all(&rt, "spent_start")?;
     Ok(())
 }
 
 #[test]
 fn no_system_starts_over_a_row_of_its_own_incarnation(rt: HostRuntime) -> Result<(), Fail> {
-    make_folder(&rt, "row_ahead")?;
-    let path = "row_ahead/log.db";
-    run_at(&rt, path, VERSION_1)?;
-    run_at(&rt, path, "UPDATE decision SET inc = 2")?;
-    assert!(rt; matches!(answers_at(&rt, path), Ok(Err(NewFault::Log))));
-    let seen = seen_at(&rt, path)?;
+    let (answers, seen) = start_in(&rt, "row_ahead", "UPDATE decision SET inc = 2")?;
+    assert!(rt; matches!(answers, Err(NewFault::Log)));
     assert!(rt; seen.version == 2 && seen.decisions == -1, "{seen:?}");
-    fs::remove_dir_all(&rt, "row_ahead")?;
     Ok(())
 }
 
 /// Such a row has no participants, and so waits for an answer that can't come.
 #[test]
 fn a_row_of_version_1_stays(rt: HostRuntime) -> Result<(), Fail> {
-    make_folder(&rt, "migrated_start")?;
-    let path = "migrated_start/log.db";
-    run_at(&rt, path, VERSION_1)?;
-    let Ok(answers) = answers_at(&rt, path)? else {
+    let (answers, seen) = start_in(&rt, "migrated_start", "")?;
+    let Ok(answers) = answers else {
         return Err(Fail::from("no system starts"));
     };
-    let Answers {
-        begun,
-        first,
-        second,
-    } = answers;
     let next = Gtrid {
         incarnation: 2,
         sequence: 1,
     };
-    assert!(rt; matches!(begun, Reply::Begun(gtrid) if gtrid == next));
-    assert!(rt; matches!(first, Reply::Refused(Refusal::Busy)));
-    assert!(rt; matches!(second, Reply::Refused(Refusal::UnknownTransaction)));
+    assert!(rt; matches!(answers.begun, Reply::Begun(gtrid) if gtrid == next));
+    assert!(rt; matches!(answers.first, Reply::Refused(Refusal::Busy)));
+    assert!(rt; matches!(answers.second, Reply::Refused(Refusal::UnknownTransaction)));
     assert_eq!(rt;
-        seen_at(&rt, path)?,
+        seen,
         Seen {
             incarnation: 2,
             ..MIGRATED
         }
     );
-    fs::remove_dir_all(&rt, "migrated_start")?;
     Ok(())
 }

@@ -1,0 +1,133 @@
+//! The two files of a log: a log over them, and what is done over a connection to them, which is closed then.
+
+use crate::seen::Seen;
+use crate::task::{Change, Done, Reached, Task, perform};
+use sqlite::{Alter, Connection, FileStore, Files, Options};
+use sqlite_disk::{Crash, Disk};
+use std::alloc::Global;
+use xa_log::LogFault;
+use xa_sql_log::SqlLog;
+
+/// A connection to the files, or the files again. There is little memory for pages, so that a run is short. Behind so many
+/// frames the journal is copied into the database file.
+fn open<D: Disk + Drop>(
+    alloc: Global,
+    files: Files<D>,
+    checkpoint_frames: usize,
+) -> Result<Connection<FileStore<D>>, Files<D>> {
+    if !files.may_be_used() {
+        return Err(files);
+    }
+    let options = Options {
+        cache_pages: 16,
+        spill_pages: 16,
+        checkpoint_frames,
+        seed: 7,
+    };
+    match Connection::open_files(alloc, files, options) {
+        Ok(conn) => Ok(conn),
+        Err((_, left)) => Err(left.into_files()),
+    }
+}
+
+/// The files, with no copy of the journal into the database file.
+fn closed<D: Disk + Drop>(conn: Connection<FileStore<D>>) -> Files<D> {
+    conn.into_store().close()
+}
+
+/// The files of a log, in the same way.
+pub fn files_of<D: Disk + Drop>(log: SqlLog<FileStore<D>>) -> Files<D> {
+    closed(log.into_connection())
+}
+
+/// What a task comes to over a connection to the files, and the files as they then stand. The journal has room for all that the
+/// task writes.
+fn perform_in<D: Disk + Drop>(alloc: Global, files: Files<D>, task: Task) -> (Done, Files<D>) {
+    match open(alloc, files, 1000) {
+        Ok(conn) => {
+            let (done, conn) = perform(conn, task);
+            (done, closed(conn))
+        }
+        Err(files) => (Done::Nothing, files),
+    }
+}
+
+/// The files once these statements have run. It is an `Err` where they don't open, or a statement is refused.
+pub fn files_after<D: Disk + Drop>(
+    alloc: Global,
+    files: Files<D>,
+    sql: &'static str,
+) -> Result<Files<D>, LogFault> {
+    match perform_in(alloc, files, Task::Execute(sql)) {
+        (Done::Executed, files) => Ok(files),
+        _ => Err(LogFault::Store),
+    }
+}
+
+/// What the tables in the files hold, and the files. It is an `Err` where they don't open.
+pub fn look_in<D: Disk + Drop>(
+    alloc: Global,
+    files: Files<D>,
+) -> Result<(Seen, Files<D>), LogFault> {
+    match perform_in(alloc, files, Task::Look) {
+        (Done::Seen(seen), files) => Ok((seen, files)),
+        _ => Err(LogFault::Store),
+    }
+}
+
+/// How far a log comes that takes the files and makes the change, if there is one, and the files.
+pub fn run_in<D: Disk + Drop>(
+    alloc: Global,
+    files: Files<D>,
+    change: Option<Change>,
+) -> (Reached, Files<D>) {
+    match perform_in(alloc, files, Task::Run(change)) {
+        (Done::Ran(reached), files) => (reached, files),
+        (_, files) => (Reached::Nothing, files),
+    }
+}
+
+/// How far a log comes that takes the files in a transaction that has deleted the decisions, and what they then show. It is an
+/// `Err` where they don't open.
+pub fn run_without_decisions<D: Disk + Drop>(
+    alloc: Global,
+    files: Files<D>,
+) -> Result<(Reached, Seen), LogFault> {
+    match perform_in(alloc, files, Task::RunInTransaction) {
+        (Done::RanInTransaction(reached, seen), _) => Ok((reached, seen)),
+        _ => Err(LogFault::Store),
+    }
+}
+
+/// The files as a crash leaves them.
+pub fn crashed<D: Crash + Drop>(mut files: Files<D>) -> Files<D> {
+    files.log.crash();
+    files.db.crash();
+    files
+}
+
+/// How far a run comes, what a crash after it leaves, and what the next log makes of that.
+pub fn crash_after<D: Crash + Drop>(
+    alloc: Global,
+    files: Files<D>,
+    change: Option<Change>,
+) -> Result<(Reached, Seen, Seen), LogFault> {
+    let (reached, files) = run_in(alloc, files, change);
+    let (left, files) = look_in(alloc, crashed(files))?;
+    let (_, files) = run_in(alloc, files, None);
+    let (next, _) = look_in(alloc, files)?;
+    Ok((reached, left, next))
+}
+
+fn adopted<S: Alter + Drop, F: Drop>(conn: Result<Connection<S>, F>) -> Option<SqlLog<S>> {
+    match conn {
+        Ok(conn) => SqlLog::adopt(conn).ok(),
+        Err(_) => None,
+    }
+}
+
+/// A log over the files, where they open and it can make its tables. With little room in the journal, so that the database file
+/// is written too.
+pub fn log_over<D: Disk + Drop>(alloc: Global, files: Files<D>) -> Option<SqlLog<FileStore<D>>> {
+    adopted(open(alloc, files, 4))
+}

@@ -1,0 +1,154 @@
+package garterfossil;
+
+import java.util.ArrayList;
+import java.util.List;
+import java.util.Optional;
+import java.util.concurrent.CopyOnWriteArrayList;
+import javax.transaction.xa.XAResource;
+
+/** The branches of a transaction, in the order in which they began, and the thread of the coordinator that it has from the first one on. */
+final class Branches {
+    private final GlobalTransaction transaction;
+    private final Manager manager;
+    // Another thread may look at them as the session or the time is over.
+    private final List<Branch> all = new CopyOnWriteArrayList<>();
+    private Session session;
+    private Session.Slot slot;
+    private String gtrid;
+
+    Branches(GlobalTransaction transaction, Manager manager) {
+        this.transaction = transaction;
+        this.manager = manager;
+    }
+
+    List<Branch> all() {
+        return all;
+    }
+
+    Session session() {
+        return session;
+    }
+
+    /** The transaction's 32 digits, or null where nothing takes part in it yet. */
+    String gtrid() {
+        return gtrid;
+    }
+
+    /** Whether the coordinator that began it has ended. */
+    boolean isSessionOver() {
+        return session != null && session.coordinator.isGone();
+    }
+
+    Optional<Branch> at(ResourceManager rm) {
+        return all.stream().filter(branch -> branch.rm() == rm).findFirst();
+    }
+
+    Optional<Branch> of(XAResource xaResource) {
+        return all.stream().filter(branch -> branch.resource() == xaResource).findFirst();
+    }
+
+    /** Those that voted XA_OK. */
+    List<Branch> prepared() {
+        List<Branch> found = new ArrayList<>(all);
+        found.removeIf(branch -> !branch.isPrepared());
+        return found;
+    }
+
+    // ** their beginning
+
+    /** Begins a branch, over a connection of the pool or one that the program brought. */
+    Branch begin(ResourceManager rm, XAResource brought) throws Fault {
+        join();
+        session.keeper(rm).usage.enter(transaction.left());
+        ResourceManager.Lease lease = brought == null ? lease(rm) : null;
+        XAResource resource = brought == null ? lease.link.xaResource() : brought;
+        Branch branch = new Branch(BranchXid.of(session.name, gtrid, slot.number, rm.number), slot.line(rm), lease, resource);
+        all.add(branch);
+        branch.issueStart();
+        if (all.size() > 1) {
+            // It will be committed in two phases: so the calls of the first are issued while the work goes on.
+            all.forEach(Branch::issueVoteAhead);
+            session.coordinator.flush();
+        }
+        branch.start();
+        return branch;
+    }
+
+    /** Has the coordinator begin the transaction, once something takes part. */
+    private void join() throws Fault {
+        if (slot != null) {
+            return;
+        }
+        Session up = manager.session();
+        Session.Slot taken = up.take(transaction.left());
+        try {
+            gtrid = taken.begin();
+        } catch (Fault error) {
+            up.giveBack(taken);
+            throw error;
+        }
+        session = up;
+        slot = taken;
+        session.add(transaction);
+    }
+
+    /** The coordinator is asked for the thread's next transaction, by the write of what is posted next. */
+    void beginNextAhead() {
+        slot.beginAhead();
+    }
+
+    private ResourceManager.Lease lease(ResourceManager rm) throws Fault {
+        try {
+            return rm.borrow(transaction.left());
+        } catch (Fault | RuntimeException error) {
+            session.keeper(rm).usage.leave();
+            if (error instanceof Fault.Lost) {
+                session.keeper(rm).scanLater();
+            }
+            throw error;
+        }
+    }
+
+    // ** their end
+
+    /** Cuts short what runs on their connections. */
+    void cancelWork() {
+        all.forEach(branch -> branch.gate.cancel());
+    }
+
+    /** Lets no work in any more, and cuts short what is inside. */
+    void shut(String why) {
+        all.forEach(branch -> branch.gate.shut(why, 0));
+    }
+
+    /** The session is over: their connections are closed, and work that isn't prepared is undone as far as that can be done here. */
+    void abandon(String why, boolean isUndone) {
+        all.forEach(branch -> branch.abandon(why, isUndone));
+    }
+
+    /** Leaves the end of a branch to the keeper of its resource. */
+    Debt owe(Branch branch, boolean isCommit, Runnable paid) {
+        branch.giveUp(transaction + " is over");
+        Debt debt = new Debt(branch.xid, isCommit, branch.may(), paid);
+        session.keeper(branch.rm()).owe(debt);
+        return debt;
+    }
+
+    /** The transaction is over: the connections go back to their pools, and its thread to the session. */
+    void release() {
+        if (slot == null) {
+            return;
+        }
+        for (Branch branch : all) {
+            if (session.coordinator.isGone()) {
+                branch.abandon("the coordinator ended", true);
+            } else {
+                branch.release();
+            }
+            session.keeper(branch.rm()).usage.leave();
+        }
+        session.remove(transaction);
+        session.giveBack(slot);
+        slot = null;
+    }
+}

@@ -1,0 +1,156 @@
+package garterfossil;
+
+import java.util.ArrayDeque;
+import java.util.ArrayList;
+import java.util.List;
+import java.util.concurrent.atomic.AtomicBoolean;
+import java.util.concurrent.atomic.AtomicInteger;
+import java.util.concurrent.locks.LockSupport;
+
+/**
+ * Threads that make calls at several resources at the same time: the thread that asks makes one, and each helper that is free another.
+ * What no helper has begun by then the thread makes itself, so it never waits for a helper to come free.
+ */
+final class Helpers {
+    /** What is done for each of several branches. */
+    interface Step {
+        void make(Branch branch);
+    }
+
+    /** A step for a branch, which is made once, by whichever thread comes first. */
+    private static final class Part {
+        private final Step step;
+        private final Branch branch;
+        private final Thread asking = Thread.currentThread();
+        private final AtomicBoolean isBegun = new AtomicBoolean();
+        private volatile boolean isOver;
+        private Throwable error;
+
+        Part(Step step, Branch branch) {
+            this.step = step;
+            this.branch = branch;
+        }
+
+        void makeUnlessBegun() {
+            if (!isBegun.compareAndSet(false, true)) {
+                return;
+            }
+            try {
+                step.make(branch);
+            } catch (RuntimeException | Error thrown) {
+                error = thrown;
+            } finally {
+                isOver = true;
+                if (Thread.currentThread() != asking) {
+                    LockSupport.unpark(asking);
+                }
+            }
+        }
+
+        /** Waits for its end. An interrupt waits, too: how it ended has to be known. */
+        void await() {
+            boolean isInterrupted = false;
+            while (!isOver) {
+                LockSupport.park(this);
+                isInterrupted |= Thread.interrupted();
+            }
+            if (isInterrupted) {
+                Thread.currentThread().interrupt();
+            }
+        }
+    }
+
+    private final class Helper extends Thread {
+        private volatile Part part;
+
+        Helper(Part first) {
+            super("garterfossil helper");
+            setDaemon(true);
+            part = first;
+        }
+
+        @Override
+        public void run() {
+            while (!isOver) {
+                part.makeUnlessBegun();
+                part = null;
+                letIdle(this);
+                while (part == null && !isOver) {
+                    LockSupport.park(Helpers.this);
+                }
+            }
+        }
+
+        void take(Part next) {
+            part = next;
+            LockSupport.unpark(this);
+        }
+    }
+
+    private final int most;
+    // The helpers that wait, the one that was used last first; and how many there are. Under the monitor of this object.
+    private final ArrayDeque<Helper> idle = new ArrayDeque<>();
+    private int count;
+    // How many threads have steps made at this moment.
+    private final AtomicInteger asking = new AtomicInteger();
+    private volatile boolean isOver;
+
+    Helpers(int most) {
+        this.most = most;
+    }
+
+    /** Makes a step for each branch, and returns once all are made. A branch on a connection of the program's own stays in this thread. */
+    void each(List<Branch> branches, Step step) {
+        List<Part> parts = new ArrayList<>(branches.size());
+        boolean isHelped = asking.incrementAndGet() <= most;
+        try {
+            for (Branch branch : branches) {
+                Part part = new Part(step, branch);
+                parts.add(part);
+                if (isHelped && parts.size() > 1 && branch.link() != null) {
+                    give(part);
+                }
+            }
+            parts.forEach(Part::makeUnlessBegun);
+            parts.forEach(Part::await);
+        } finally {
+            asking.decrementAndGet();
+        }
+        parts.forEach(Helpers::seeNoError);
+    }
+
+    private static void seeNoError(Part part) {
+        if (part.error instanceof Error) {
+            throw (Error) part.error;
+        }
+        if (part.error != null) {
+            throw (RuntimeException) part.error;
+        }
+    }
+
+    /** Gives the part to a helper, if one is free. */
+    private void give(Part part) {
+        Helper helper;
+        synchronized (this) {
+            helper = idle.pollFirst();
+            if (helper == null && count < most && !isOver) {
+                count++;
+                new Helper(part).start();
+            }
+        }
+        if (helper != null) {
+            helper.take(part);
+        }
+    }
+
+    private synchronized void letIdle(Helper helper) {
+        idle.addFirst(helper);
+    }
+
+    void stop() {
+        isOver = true;
+        synchronized (this) {
+            idle.forEach(LockSupport::unpark);
+        }
+    }
+}

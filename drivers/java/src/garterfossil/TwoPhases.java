@@ -1,0 +1,162 @@
+package garterfossil;
+
+import java.lang.System.Logger.Level;
+import java.util.ArrayList;
+import java.util.List;
+import java.util.Map;
+import java.util.concurrent.ConcurrentHashMap;
+
+/**
+ * The commit of a transaction of several branches: all vote, the coordinator decides, and those that are prepared commit (C193, section
+ * 2.3). The resources are asked at the same time in each phase: each has a line of its own to the coordinator.
+ */
+final class TwoPhases {
+    /** So many milliseconds a commit waits for the acknowledgement of a resource that has to be reached again. */
+    private static final long PATIENCE = 10_000;
+
+    private final GlobalTransaction transaction;
+    private final Branches branches;
+    private final Manager manager;
+
+    TwoPhases(GlobalTransaction transaction, Branches branches, Manager manager) {
+        this.transaction = transaction;
+        this.branches = branches;
+        this.manager = manager;
+    }
+
+    void commit() throws Fault {
+        collectVotes();
+        List<Branch> prepared = branches.prepared();
+        boolean isToldHere = decide(prepared);
+        transaction.become(Outcome.COMMITTED);
+        if (isToldHere) {
+            tell(prepared);
+        }
+    }
+
+    // ** the first phase
+
+    private void collectVotes() throws Fault {
+        transaction.become(Outcome.PREPARING);
+        Map<Branch, Fault> faults = new ConcurrentHashMap<>();
+        branches.all().forEach(Branch::issueVote);
+        manager.helpers.each(branches.all(), branch -> {
+            Fault fault = voteOf(branch);
+            if (fault != null) {
+                faults.put(branch, fault);
+            }
+        });
+        for (Branch branch : branches.all()) {
+            Fault fault = faults.get(branch);
+            if (fault != null) {
+                transaction.rollBack();
+                throw new Fault.RolledBack(transaction + " is rolled back: " + fault.getMessage(), fault);
+            }
+        }
+    }
+
+    /** xa_end and xa_prepare: why the branch can't be committed, or null. They are made also after a no of another, since they wait on the line. */
+    private static Fault voteOf(Branch branch) {
+        try {
+            branch.end();
+            int vote = branch.prepare();
+            return vote == Code.OK || vote == Code.RDONLY ? null : new Fault.RolledBack(branch.rm() + " voted " + Code.name(vote), null);
+        } catch (Fault error) {
+            branch.giveUp("its end failed: " + error.getMessage());
+            return error;
+        }
+    }
+
+    // ** the decision
+
+    /** Decides to commit. False if that was the end of the session, and the next one tells the branches. */
+    private boolean decide(List<Branch> prepared) throws Fault {
+        transaction.become(Outcome.COMMITTING);
+        String gtrid = branches.gtrid();
+        manager.decisions.expect(gtrid);
+        try {
+            if (branches.isSessionOver()) {
+                throw new Fault.RolledBack("the coordinator ended before the decision", null);
+            }
+            branches.session().commits.decide(gtrid, new Issues(prepared));
+            manager.decisions.forget(gtrid);
+            return true;
+        } catch (Fault.Gone error) {
+            findOut(error);
+            return false;
+        } catch (Fault error) {
+            // It was refused, and nothing has changed.
+            manager.decisions.forget(gtrid);
+            transaction.rollBack();
+            throw new Fault.RolledBack(transaction + " is rolled back: " + error.getMessage(), error);
+        }
+    }
+
+    /** What goes out with the decision: that the branches commit, and the next transaction of the thread. */
+    private final class Issues implements Commits.Behind {
+        private final List<Branch> prepared;
+
+        Issues(List<Branch> prepared) {
+            this.prepared = prepared;
+        }
+
+        @Override
+        public void post() {
+            prepared.forEach(Branch::issueCommit);
+            branches.beginNextAhead();
+        }
+
+        @Override
+        public void takeBack() {
+            prepared.forEach(Branch::takeBackCommit);
+        }
+    }
+
+    /** The coordinator ended before it said whether it decided: the next one knows. It ends the branches, too. */
+    private void findOut(Fault.Gone error) throws Fault {
+        transaction.leaveToNextSession();
+        Boolean isCommitted = manager.outcomeOf(branches.gtrid());
+        if (isCommitted == null) {
+            throw new Fault.OutcomeUnknown(transaction + ": " + error.getMessage() + ". The next session ends it everywhere alike", error);
+        }
+        if (!isCommitted) {
+            transaction.become(Outcome.ROLLED_BACK);
+            throw new Fault.RolledBack(transaction + " is rolled back: " + error.getMessage(), error);
+        }
+    }
+
+    // ** the second phase
+
+    private void tell(List<Branch> prepared) throws Fault {
+        Runnable paid = branches.session().paid(branches.gtrid(), prepared.size());
+        Map<Branch, Integer> answers = new ConcurrentHashMap<>();
+        manager.helpers.each(prepared, branch -> answers.put(branch, answerOf(branch)));
+        Map<Branch, Debt> debts = new ConcurrentHashMap<>();
+        for (Branch branch : prepared) {
+            if (branch.isOver()) {
+                paid.run();
+            } else {
+                debts.put(branch, branches.owe(branch, true, paid));
+            }
+        }
+        Debt.awaitAll(new ArrayList<>(debts.values()), PATIENCE);
+        HeuristicEnds ends = new HeuristicEnds();
+        for (Branch branch : prepared) {
+            int code = debts.containsKey(branch) ? debts.get(branch).heuristic() : answers.get(branch);
+            if (Code.isHeuristic(code) && code != Code.HEURCOM) {
+                ends.add(branch, code);
+            }
+        }
+        ends.seeNoneCommitting(transaction, prepared.size());
+    }
+
+    /** xa_commit: the answer. What goes wrong is left to the keeper. */
+    private static int answerOf(Branch branch) {
+        try {
+            return branch.isLost() ? Code.RETRY : branch.commit();
+        } catch (Fault error) {
+            Manager.LOG.log(Level.WARNING, () -> "xa_commit of " + branch.xid + " is made again: " + error.getMessage());
+            return Code.RETRY;
+        }
+    }
+}
