@@ -128,10 +128,12 @@ module _ {L : Type 0} (moment : L → Moment) (law : VotedCommitsAreLogged momen
       subst (λ ls. HaveReplies moment ls (end.first ++ (end.heard ++ responses.Decided ∷ [])) old new) end.lines_are
       (subst (λ rs. HaveReplies moment lines rs old new) end.replies_are have) in
       let one = split_replies moment end.before (end.votes ++ end.line ∷ []) end.first (end.heard ++ responses.Decided ∷ []) old new end.as_many all in
-      let two = split_replies moment end.votes (end.line ∷ []) end.heard (responses.Decided ∷ []) one.0 new (votes_fit end.votes end.heard gs end.are_votes) one.2 in
+      let fit = votes_fit end.votes end.heard gs end.are_votes in
+      let two = split_replies moment end.votes (end.line ∷ []) end.heard (responses.Decided ∷ []) one.0 new fit one.2 in
       let kept = replies_keep moment end.before end.first old one.0 one.1 in
       let later = replies_keep moment (end.votes ++ end.line ∷ []) (end.heard ++ responses.Decided ∷ []) one.0 new one.2 in
-      let last : RepliesTo moment end.line two.0 responses.Decided new = subst (λ c. RepliesTo moment end.line two.0 responses.Decided c) (sym two.2.2) two.2.1 in
+      let last : RepliesTo moment end.line two.0 responses.Decided new =
+      subst (λ c. RepliesTo moment end.line two.0 responses.Decided c) (sym two.2.2) two.2.1 in
       law true end.votes end.heard end.line gs one.0 two.0 new g end.are_votes two.1 end.asks last among (kept.order (starts.over.order order)) honest
       (kept.holds true (starts.over.order order) (later.honest honest)
       (starts.holds order ((replies_keep moment lines replies old new have).honest honest)))
@@ -232,8 +234,8 @@ module _ {L : Type 0} (moment : L → Moment) (agree : ServedSessionsAgree momen
       let s = seen_in handed is.first is.last [] [] is.starts none_have refl in (
         is.last,
         is.log,
-        OneMore None (λ c. Unstarted) (λ c. Unstarted) handed (start_of threads rms is.first) s.0 s.0 is.last is.last [] [] NoneYet (empty_handed handed order empty) s.2
-            AfterLine (subst (λ log. (moment log).is_honest) is.log honest)
+        OneMore None (λ c. Unstarted) (λ c. Unstarted) handed (start_of threads rms is.first) s.0 s.0 is.last is.last [] [] NoneYet
+            (empty_handed handed order empty) s.2 AfterLine (subst (λ log. (moment log).is_honest) is.log honest)
             (AsTold (λ c. Unstarted) (λ c. subst (λ seen. Comes seen c Unstarted Unstarted) (sym s.1) refl)),
       )
 
@@ -331,7 +333,8 @@ module _ {L : Type 0} (moment : L → Moment) (agree : ServedSessionsAgree momen
   ServesLeft handed first second first_written second_written log = Honestly (moment handed) (moment log)
       (IsSomeAnd (moment handed).content IsEmptyLog → IsServedTwice (moment log).content first second first_written second_written)
 
-  serves_left : ServedLogsDecide moment → ServedCommitsStand moment → VotedCommitsAreLogged moment → (handed mid left : L) (first second first_written second_written : List ℕ) → IsServedOver moment threads rms handed first first_written mid
+  serves_left : ServedLogsDecide moment → ServedCommitsStand moment → VotedCommitsAreLogged moment → (handed mid left : L)
+      (first second first_written second_written : List ℕ) → IsServedOver moment threads rms handed first first_written mid
       → (two : IsServedOver moment threads rms mid second second_written left)
       → ServesLeft handed first second first_written second_written (log_in two.last.session.manager)
   unfolding is_replied
@@ -339,12 +342,13 @@ module _ {L : Type 0} (moment : L → Moment) (agree : ServedSessionsAgree momen
     one = is_replied moment threads rms handed mid first first_written one;
     two = is_replied moment threads rms mid left second second_written two;
     served = λ one_well two_well.
-        are_served decide stand law handed order empty one.first one.last two.first two.last (lines_of one.serves.read) (lines_of two.serves.read) one.serves.replies
-        two.serves.replies one.starts (subst (λ log. StartsOver moment threads rms log two.first) one.log two.starts) one.serves.replied
+        are_served decide stand law handed order empty one.first one.last two.first two.last (lines_of one.serves.read) (lines_of two.serves.read)
+        one.serves.replies two.serves.replies one.starts (subst (λ log. StartsOver moment threads rms log two.first) one.log two.starts) one.serves.replied
         two.serves.replied one_well two_well honest;
   }
 
-  pub served_so : ServedLogsDecide moment → ServedCommitsStand moment → VotedCommitsAreLogged moment → (handed mid left : L) (first second first_written second_written : List ℕ) → IsServedOver moment threads rms handed first first_written mid
+  pub served_so : ServedLogsDecide moment → ServedCommitsStand moment → VotedCommitsAreLogged moment → (handed mid left : L)
+      (first second first_written second_written : List ℕ) → IsServedOver moment threads rms handed first first_written mid
       → IsServedOver moment threads rms mid second second_written left → Honestly (moment handed) (moment left)
       (IsSomeAnd (moment handed).content IsEmptyLog → IsServedTwice (moment left).content first second first_written second_written)
   served_so decide stand law handed mid left first second first_written second_written one two =

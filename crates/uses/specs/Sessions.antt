@@ -127,7 +127,8 @@ pub record AreServedTwice (log : Option Content) (one_lines two_lines : List (Li
   pub agree :
       (one_done one_cut two_done two_cut : List Line) (from to : Branch → Standing)
       → MayAllStand one one_seen (λ b. Comes one_seen b Unstarted) one_done one_cut from
-      → MayAllStand two two_seen (λ b. Comes two_seen b (broken (from b))) two_done two_cut to → StandAlike to × ((c : Content) → log ≡ Some c → LogDecides to c)
+      → MayAllStand two two_seen (λ b. Comes two_seen b (broken (from b))) two_done two_cut to
+      → StandAlike to × ((c : Content) → log ≡ Some c → LogDecides to c)
   pub commits :
       (gs : List Gtrid) → EndDecided one_lines one_replies gs → (one_done one_cut two_done two_cut : List Line) (from to : Branch → Standing)
       → MayAllStand one one_seen (λ b. Comes one_seen b Unstarted) one_done one_cut from

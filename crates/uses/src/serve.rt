@@ -3,7 +3,8 @@
 
 ghost use Rattle.std.specs.Prelude.{◌≡◌, IfOk, IsSomeAnd, Some};
 ghost use Rattle.std.specs.Io.Buffered.{reader_remaining};
-ghost use Rattle.uses.specs.Sessions.{AreServedTo, IsServed, IsServedOver, IsServedTwice, LogsCommits};
+ghost use Rattle.uses.specs.Sessions.{AreServedTo, IsServed, IsServedOver};
+ghost use Rattle.uses.specs.Sessions.{IsServedTwice, LogsCommits};
 ghost use Rattle.xa_base.specs.declared.state.Standing.TheVariants.{Unstarted};
 ghost use Rattle.xa_coordinator.specs.Sessions.{IsEmptyLog};
 ghost use Rattle.xa_log.specs.Contract.{Honestly};
