@@ -1,3 +1,4 @@
+pub mod Faults
 pub mod Headings
 pub mod LogLines
 pub mod Restored

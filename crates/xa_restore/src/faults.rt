@@ -41,8 +41,13 @@ pub enum RestoreFault {
 }
 
 impl RestoreFault {
+    ghost use Rattle.std.specs.Prelude.{◌≡◌};
+    ghost use Rattle.xa_restore.specs.Faults.{fault_behind};
+
     /// The same fault of lines behind so many others.
-    pub fn behind(self, count: usize) -> RestoreFault {
+    pub fn behind(self, count: usize) -> RestoreFault
+        ensures { result ≡ fault_behind self count }
+    {
         match self {
             RestoreFault::Line(number, fault) => {
                 RestoreFault::Line(number.saturating_add(count), fault)

@@ -112,9 +112,17 @@ pub fn read_heading<'a>(alloc: Global, lines: &[&'a str]) -> Result<Heading<'a>,
 }
 
 impl Heading<'_> {
+    ghost use Rattle.std.specs.Prelude.{◌≡◌, ◌+◌, length};
+    ghost use Rattle.xa_restore.specs.Headings.{name_lines};
+
     /// How many lines it takes.
-    pub fn line_count(&self) -> usize {
-        let own = usize::from(!self.name.as_slice().is_empty());
-        self.rms.len().saturating_add(own)
+    pub fn line_count(&self) -> usize
+        ensures { result ≡ length (name_lines self.now.name) + length self.now.rms.items }
+    {
+        if self.name.as_slice().is_empty() {
+            self.rms.len()
+        } else {
+            self.rms.len() + 1
+        }
     }
 }

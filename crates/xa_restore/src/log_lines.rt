@@ -1,6 +1,6 @@
 //! The lines of a log.
 
-ghost use Rattle.std.specs.Prelude.{◌≡◌, ◌≤◌, map, IfOk, IfSome};
+ghost use Rattle.std.specs.Prelude.{◌≡◌, ◌≤◌, map, IfNone, IfOk, IfSome};
 ghost use Rattle.std.specs.List.{AllByRecursion};
 ghost use Rattle.xa_log.specs.Contract.{FitsRow};
 ghost use Rattle.xa_names.specs.Lines.{line_renamed};
@@ -49,7 +49,9 @@ fn read_incarnation(alloc: Global, line: &str) -> Result<Option<u64>, Memory>
 }
 
 /// What is wrong with a decision behind the last one, in a log of this incarnation.
-fn fault_of(gtrid: Gtrid, last: Option<Gtrid>, incarnation: u64) -> Option<LineFault> {
+fn fault_of(gtrid: Gtrid, last: Option<Gtrid>, incarnation: u64) -> Option<LineFault>
+    ensures { IfNone result (gtrid.incarnation ≤ incarnation) }
+{
     if gtrid.incarnation > incarnation {
         return Some(LineFault::Later);
     }
@@ -71,6 +73,8 @@ fn read_decisions(
     ensures own { IfOk result (λ decisions. AllByRecursion OwnsBranches decisions.items) }
     ensures fits { IfOk result (λ decisions.
         AllByRecursion (λ d. FitsRow d.gtrid) decisions.items) }
+    ensures started { IfOk result (λ decisions.
+        AllByRecursion (λ d. d.gtrid.incarnation ≤ incarnation) decisions.items) }
 {
     let mut decisions: Vec<Decision> = Vec::with_capacity(alloc, lines.len())?;
     for (at, line) in lines.iter().enumerate() {
@@ -98,6 +102,8 @@ pub fn read_log(alloc: Global, name: &ManagerName, lines: &[&str]) -> Result<Log
         log.incarnation log.decisions.items) }
     ensures own { IfOk result (λ log. AllByRecursion OwnsBranches log.decisions.items) }
     ensures fits { IfOk result (λ log. AllByRecursion (λ d. FitsRow d.gtrid) log.decisions.items) }
+    ensures started { IfOk result (λ log.
+        AllByRecursion (λ d. d.gtrid.incarnation ≤ log.incarnation) log.decisions.items) }
     ensures most { IfOk result (λ log. log.incarnation ≤ MOST_STARTS) }
 {
     let [first, rows @ .., last] = lines else {

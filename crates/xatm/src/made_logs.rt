@@ -77,9 +77,10 @@ fn remove_file(rt: &HostRuntime, path: &str) -> Result<(), Failure> {
     }
 }
 
-/// Moves a closed log, which is one file, to another path, and sees that it is there for good.
+/// Moves a closed log, which is one file, to another path, and sees that it is there for good. A journal there is none of a log.
 fn move_log(rt: &HostRuntime, from: &str, to: &str) -> Result<(), Failure> {
     remove_file(rt, journal_of(rt, from)?.as_str())?;
+    remove_file(rt, journal_of(rt, to)?.as_str())?;
     match move_file(rt, from, to) {
         Ok(()) => Ok(()),
         Err(error) => Err(Failure::Run(RunFault::Log).caused_by(&error)),

@@ -1,4 +1,4 @@
-use Rattle.std.proofs.Common.{◌≡◌, map, take}
+use Rattle.std.proofs.Common.{◌≡◌, ◌≤◌, map, take}
 use Rattle.std.specs.List.{AllByRecursion}
 use Rattle.xa_log.specs.Contract.{FitsRow}
 use Rattle.xa_names.specs.Lines.{line_renamed}
@@ -10,4 +10,5 @@ invariant-loop-at l = record {
   lines : map (λ line. line_renamed l.name line.now) (take l.at l.lines) ≡ map decision_line l.decisions.items;
   own : AllByRecursion OwnsBranches l.decisions.items;
   fits : AllByRecursion (λ d. FitsRow d.gtrid) l.decisions.items;
+  started : AllByRecursion (λ d. d.gtrid.incarnation ≤ l.incarnation) l.decisions.items;
 }
