@@ -271,6 +271,7 @@ final class Branch {
             line.seeIssued();
             vote = vote == Code.OK ? Code.ROLLBACK : vote;
             voted(rolledBackAtOnce());
+            line.see();
         }
     }
 

@@ -123,6 +123,13 @@ final class Coordinator {
         return fault != null;
     }
 
+    /** Sees whether the process still runs, since nobody else does while nothing is asked. */
+    void seeRuns() {
+        if (!process.isAlive()) {
+            end("it ended");
+        }
+    }
+
     // ** requests
 
     /** The reply to a request. */

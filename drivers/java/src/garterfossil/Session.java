@@ -284,6 +284,7 @@ final class Session {
 
     /** Looks once in a while: what waits is written, and a coordinator that doesn't reply any more is ended. */
     void tick(long patience) {
+        coordinator.seeRuns();
         Coordinator.Reply first = coordinator.oldest();
         if (first == null || first != oldest) {
             oldest = first;

@@ -54,6 +54,16 @@ public class RecoveryTest {
     }
 
     @Test
+    public void theCoordinatorEndsWhileNothingIsAsked() throws Exception {
+        world.overBoth().commit();
+        world.coordinator.destroy();
+        Session session = world.manager.session();
+        World.eventually(session.coordinator::isGone);
+        world.overBoth().commit();
+        assertEquals(2, world.a.committed.size());
+    }
+
+    @Test
     public void theManagerEndsAfterTheDecision() throws Exception {
         world.b.answer("commit", StandInResource.LOST_BEFORE);
         GlobalTransaction transaction = world.overBoth();

@@ -6,6 +6,8 @@ import static org.junit.Assert.assertThrows;
 import static org.junit.Assert.assertTrue;
 
 import java.util.List;
+import java.util.concurrent.CyclicBarrier;
+import java.util.concurrent.TimeUnit;
 import java.util.stream.Collectors;
 import javax.transaction.xa.XAException;
 import javax.transaction.xa.XAResource;
@@ -188,6 +190,41 @@ public class TransactionsTest {
         } catch (java.io.IOException error) {
             return false;
         }
+    }
+
+    @Test
+    public void resourcesAreCalledAtTheSameTime() throws Exception {
+        for (String last : List.of("end", "prepare")) {
+            GlobalTransaction transaction = world.overBoth();
+            CyclicBarrier both = new CyclicBarrier(2);
+            world.a.before = () -> meetBehind(last, world.a, both);
+            world.b.before = () -> meetBehind(last, world.b, both);
+            transaction.commit();
+        }
+        assertEquals(2, world.a.committed.size());
+    }
+
+    /** The call behind that of this name is made once the other resource is called, too. */
+    private void meetBehind(String last, StandInResource resource, CyclicBarrier both) {
+        if (resource.calls.get(resource.calls.size() - 1).equals(last)) {
+            try {
+                both.await(5, TimeUnit.SECONDS);
+            } catch (Exception error) {
+                throw new AssertionError(error);
+            }
+        }
+    }
+
+    @Test
+    public void aRollbackWhileTheVotesWait() throws Exception {
+        world.overBoth().rollback();
+        assertEquals(List.of("start", "end", "rollback"), callsOf(world.a));
+        // The calls of the first phase were issued ahead: the work's end is told by a no.
+        assertTrue(world.requests().contains("answer 1 0 xa_prepare 00000000000000010000000000000001 100"));
+        world.a.answer("end", StandInResource.LOST_AFTER);
+        world.overBoth().rollback();
+        World.eventually(() -> world.manager.owing() == 0);
+        assertTrue(world.a.branches.isEmpty() && world.b.branches.isEmpty());
     }
 
     @Test

@@ -18,6 +18,8 @@ final class World extends ExternalResource {
     private final List<Manager> managers = new ArrayList<>();
     Path folder;
     Manager manager;
+    /** The process that was started last. */
+    Process coordinator;
 
     @Override
     protected void before() throws Throwable {
@@ -28,7 +30,7 @@ final class World extends ExternalResource {
     }
 
     Manager.Builder builder() {
-        return Manager.over(folder.resolve("log")).starter(words -> StandInCoordinator.of(folder, words)).threads(4).patience(Duration.ofSeconds(8)).resource(a).resource(b);
+        return Manager.over(folder.resolve("log")).starter(words -> coordinator = StandInCoordinator.of(folder, words)).threads(4).patience(Duration.ofSeconds(8)).resource(a).resource(b);
     }
 
     @Override

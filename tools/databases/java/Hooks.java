@@ -1,0 +1,69 @@
+import java.lang.reflect.InvocationTargetException;
+import java.lang.reflect.Method;
+import java.lang.reflect.Proxy;
+import java.sql.Connection;
+import javax.sql.XAConnection;
+import javax.sql.XADataSource;
+import javax.transaction.xa.XAResource;
+
+/** A database's XADataSource of which the next call of a name has something done before it or after it. */
+final class Hooks {
+    /** What is done: it gets the connection on which the call is made. */
+    interface Hook {
+        void run(Connection connection) throws Exception;
+    }
+
+    private final XADataSource source;
+    private volatile String moment = "";
+    private volatile Hook hook;
+
+    Hooks(XADataSource source) {
+        this.source = source;
+    }
+
+    /** At a moment, as "before prepare" or "after commit". Once. */
+    void at(String when, Hook what) {
+        hook = what;
+        moment = when;
+    }
+
+    private void reach(String when, Connection connection) throws Exception {
+        if (when.equals(moment)) {
+            moment = "";
+            hook.run(connection);
+        }
+    }
+
+    XADataSource source() {
+        return (XADataSource) Proxy.newProxyInstance(Hooks.class.getClassLoader(), new Class<?>[] {XADataSource.class}, (proxy, method, words) -> {
+            Object made = direct(source, method, words);
+            return made instanceof XAConnection ? hooked((XAConnection) made) : made;
+        });
+    }
+
+    private XAConnection hooked(XAConnection xa) throws Exception {
+        Connection connection = xa.getConnection();
+        XAResource resource = (XAResource) Proxy.newProxyInstance(Hooks.class.getClassLoader(), new Class<?>[] {XAResource.class}, (proxy, method, words) -> {
+            reach("before " + method.getName(), connection);
+            Object answer = direct(xa.getXAResource(), method, words);
+            reach("after " + method.getName(), connection);
+            return answer;
+        });
+        return (XAConnection) Proxy.newProxyInstance(Hooks.class.getClassLoader(), new Class<?>[] {XAConnection.class}, (proxy, method, words) -> {
+            switch (method.getName()) {
+                case "getXAResource": return resource;
+                // A new one would shut the first.
+                case "getConnection": return connection;
+                default: return direct(xa, method, words);
+            }
+        });
+    }
+
+    private static Object direct(Object target, Method method, Object[] words) throws Throwable {
+        try {
+            return method.invoke(target, words);
+        } catch (InvocationTargetException error) {
+            throw error.getCause();
+        }
+    }
+}

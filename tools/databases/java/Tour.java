@@ -1,0 +1,307 @@
+import garterfossil.Manager;
+import garterfossil.jdbc.JdbcResource;
+import garterfossil.jta.JtaTransactionManager;
+import java.nio.file.Path;
+import java.sql.Connection;
+import java.sql.ResultSet;
+import java.sql.SQLException;
+import java.sql.Statement;
+import java.time.Duration;
+import java.util.Arrays;
+import java.util.List;
+import java.util.UUID;
+import javax.sql.DataSource;
+import javax.sql.XADataSource;
+import javax.transaction.RollbackException;
+import javax.transaction.Transaction;
+
+/**
+ * Stories over two databases, by JTA over drivers/java: how a transaction ends where all goes well, and where something goes wrong at each
+ * of its moments. Each is looked at in the databases.
+ *
+ * <p>Usage: Tour FOLDER PROGRAM URL URL. Prints a line for each story, and at the end 'N stories, M wrong'.
+ */
+public class Tour {
+    private static final String ENDED = "committed", UNDONE = "rolled back";
+
+    private interface Work {
+        void on(String token) throws Exception;
+    }
+
+    private final XADataSource[] plain = new XADataSource[2];
+    private final Hooks[] hooks = new Hooks[2];
+    private final DataSource[] databases = new DataSource[2];
+    private final Manager manager;
+    private final JtaTransactionManager jta;
+    private int stories, wrong;
+
+    Tour(Path folder, String program, String[] urls) throws Exception {
+        Manager.Builder builder = Manager.over(folder.resolve("tour.db")).name("tour").program(program).threads(4).timeout(Duration.ofSeconds(20));
+        JdbcResource[] resources = new JdbcResource[2];
+        for (int number = 0; number < 2; number++) {
+            plain[number] = Speed.source(urls[number]);
+            hooks[number] = new Hooks(plain[number]);
+            resources[number] = JdbcResource.of("db" + number, hooks[number].source()).maxConnections(6);
+            builder.resource(resources[number]);
+        }
+        manager = builder.start();
+        jta = new JtaTransactionManager(manager);
+        for (int number = 0; number < 2; number++) {
+            databases[number] = resources[number].dataSource(manager);
+        }
+    }
+
+    // ** how it is worked, and what is looked at
+
+    private void run(int database, String... texts) throws SQLException {
+        try (Connection connection = databases[database].getConnection(); Statement statement = connection.createStatement()) {
+            for (String text : texts) {
+                statement.execute(text);
+            }
+        }
+    }
+
+    private void write(int database, String token) throws SQLException {
+        run(database, "INSERT INTO alone VALUES ('" + token + "')");
+    }
+
+    private void writeBoth(String token) throws SQLException {
+        write(0, token);
+        write(1, token);
+    }
+
+    /** A number that a query finds, by a connection of another program's. */
+    private long ask(int database, String query) throws SQLException {
+        javax.sql.XAConnection xa = plain[database].getXAConnection();
+        try (Connection connection = xa.getConnection(); Statement statement = connection.createStatement()) {
+            ResultSet rows = statement.executeQuery(query);
+            return rows.next() ? rows.getLong(1) : 0;
+        } finally {
+            xa.close();
+        }
+    }
+
+    private boolean isPostgreSQL(int database) {
+        return plain[database].getClass().getName().contains("PG");
+    }
+
+    /** The connection is ended by the server. */
+    private void lose(int database, Connection connection) throws Exception {
+        String own = isPostgreSQL(database) ? "SELECT pg_backend_pid()" : "SELECT CONNECTION_ID()";
+        long number;
+        try (Statement statement = connection.createStatement(); ResultSet rows = statement.executeQuery(own)) {
+            rows.next();
+            number = rows.getLong(1);
+        }
+        end(database, number);
+    }
+
+    private void end(int database, long number) throws Exception {
+        if (isPostgreSQL(database)) {
+            ask(database, "SELECT CASE WHEN pg_terminate_backend(" + number + ") THEN 1 ELSE 0 END");
+            return;
+        }
+        javax.sql.XAConnection xa = plain[database].getXAConnection();
+        try (Statement statement = xa.getConnection().createStatement()) {
+            statement.execute("KILL CONNECTION " + number);
+        } finally {
+            xa.close();
+        }
+    }
+
+    private static void endCoordinator() throws InterruptedException {
+        ProcessHandle.current().children().forEach(ProcessHandle::destroyForcibly);
+        Thread.sleep(50);
+    }
+
+    /** The manager sees once a second whether the coordinator is there. A transaction that begins before that is rolled back. */
+    private static void awaitNext() throws InterruptedException {
+        long until = System.nanoTime() + 20_000_000_000L;
+        while (ProcessHandle.current().children().count() == 0 && System.nanoTime() < until) {
+            Thread.sleep(100);
+        }
+        Thread.sleep(500);
+    }
+
+    /** Has a transaction worked and ended: how that came out. */
+    private String transact(String token, Work work) throws Exception {
+        jta.begin();
+        try {
+            work.on(token);
+        } catch (SQLException error) {
+            jta.rollback();
+            return UNDONE;
+        }
+        if (jta.getTransaction() == null) {
+            return UNDONE;
+        }
+        try {
+            jta.commit();
+            return ENDED;
+        } catch (RollbackException error) {
+            return UNDONE;
+        }
+    }
+
+    /** Tells a story: both databases hold the work where it was committed, else none does; or one of them alone, if only that took part. */
+    private void story(String name, String wanted, List<Integer> over, Work work) {
+        String token = UUID.randomUUID().toString().replace("-", ""), end;
+        try {
+            end = transact(token, work);
+            awaitNext();
+            for (int count = 0; count < 300 && manager.owing() > 0; count++) {
+                Thread.sleep(50);
+            }
+            for (int database = 0; database < 2; database++) {
+                boolean holds = ask(database, "SELECT COUNT(*) FROM alone WHERE gtrid = '" + token + "'") == 1;
+                if (holds != (end.equals(ENDED) && over.contains(database))) {
+                    end += ", and database " + database + (holds ? " has it" : " hasn't");
+                }
+            }
+        } catch (Exception error) {
+            end = error.toString();
+            jta.suspend();
+        }
+        stories++;
+        wrong += end.equals(wanted) ? 0 : 1;
+        System.out.println((end.equals(wanted) ? "ok    " : "WRONG ") + "Java: " + name + ": " + end);
+    }
+
+    private void story(String name, String wanted, Work work) {
+        story(name, wanted, List.of(0, 1), work);
+    }
+
+    // ** stories
+
+    private void withoutFaults() {
+        story("all goes well", ENDED, this::writeBoth);
+        for (int database = 0; database < 2; database++) {
+            int one = database;
+            story("database " + one + " alone: one phase", ENDED, List.of(one), token -> write(one, token));
+        }
+        story("the program rolls back", UNDONE, token -> {
+            writeBoth(token);
+            jta.rollback();
+        });
+        story("the program allows no commit", UNDONE, token -> {
+            writeBoth(token);
+            jta.setRollbackOnly();
+        });
+        story("one in another that is suspended", ENDED, token -> {
+            write(0, token);
+            Transaction outer = jta.suspend();
+            story("the one inside", UNDONE, inner -> {
+                write(1, inner);
+                throw new SQLException("on purpose");
+            });
+            jta.resume(outer);
+            write(1, token);
+        });
+    }
+
+    private void statementsFail() {
+        for (int database = 0; database < 2; database++) {
+            int one = database;
+            story("a key is there twice at database " + one, UNDONE, token -> {
+                writeBoth(token);
+                write(one, token);
+            });
+        }
+        story("the program goes on after a statement that failed at PostgreSQL", UNDONE, token -> {
+            writeBoth(token);
+            int one = isPostgreSQL(0) ? 0 : 1;
+            try {
+                run(one, "SELECT 1 / 0");
+            } catch (SQLException error) {
+                // It doesn't care, but the database has given the transaction up.
+            }
+        });
+        story("PostgreSQL votes no", UNDONE, token -> {
+            writeBoth(token);
+            run(isPostgreSQL(0) ? 0 : 1, "INSERT INTO once VALUES (1)");
+        });
+        story("it takes too long", UNDONE, token -> {
+            Transaction none = jta.suspend();
+            none.rollback();
+            jta.setTransactionTimeout(1);
+            jta.begin();
+            jta.setTransactionTimeout(0);
+            writeBoth(token);
+            run(isPostgreSQL(0) ? 0 : 1, "SELECT pg_sleep(6)");
+        });
+    }
+
+    private void connectionsAreLost() {
+        for (int database = 0; database < 2; database++) {
+            int one = database;
+            story("the connection to database " + one + " is lost in the work", UNDONE, token -> {
+                writeBoth(token);
+                try (Connection connection = databases[one].getConnection()) {
+                    lose(one, connection);
+                }
+                Thread.sleep(100);
+                run(one, "SELECT 1");
+            });
+            for (String moment : List.of("before end", "after end", "before prepare", "after prepare", "before commit", "after commit")) {
+                story("the connection to database " + one + " is lost " + moment, moment.endsWith("commit") || moment.equals("after prepare") ? ENDED : UNDONE,
+                    token -> {
+                        writeBoth(token);
+                        loseAt(one, moment);
+                    });
+            }
+        }
+    }
+
+    /** Its number is asked for before xa_end, after which MariaDB lets no statement through. */
+    private void loseAt(int one, String moment) throws SQLException {
+        try (Connection connection = databases[one].getConnection(); Statement statement = connection.createStatement()) {
+            ResultSet rows = statement.executeQuery(isPostgreSQL(one) ? "SELECT pg_backend_pid()" : "SELECT CONNECTION_ID()");
+            rows.next();
+            long number = rows.getLong(1);
+            hooks[one].at(moment, it -> {
+                end(one, number);
+                Thread.sleep(100);
+            });
+        }
+    }
+
+    private void coordinatorEnds() {
+        story("the coordinator ends in the work", UNDONE, token -> {
+            writeBoth(token);
+            endCoordinator();
+        });
+        for (String moment : List.of("before prepare", "after prepare")) {
+            story("the coordinator ends " + moment, UNDONE, token -> {
+                writeBoth(token);
+                hooks[0].at(moment, it -> endCoordinator());
+            });
+        }
+        for (String moment : List.of("before commit", "after commit")) {
+            story("the coordinator ends behind the decision, " + moment, ENDED, token -> {
+                writeBoth(token);
+                hooks[0].at(moment, it -> endCoordinator());
+            });
+        }
+        story("all goes well again", ENDED, this::writeBoth);
+    }
+
+    private long inDoubt() throws SQLException {
+        long count = 0;
+        for (int database = 0; database < 2; database++) {
+            count += isPostgreSQL(database) ? ask(database, "SELECT COUNT(*) FROM pg_prepared_xacts") : ask(database, "XA RECOVER") > 0 ? 1 : 0;
+        }
+        return count;
+    }
+
+    public static void main(String[] words) throws Exception {
+        Tour tour = new Tour(Path.of(words[0]), words[1], Arrays.copyOfRange(words, 2, 4));
+        tour.withoutFaults();
+        tour.statementsFail();
+        tour.connectionsAreLost();
+        tour.coordinatorEnds();
+        tour.manager.close();
+        long doubt = tour.inDoubt();
+        System.out.println("Java: " + tour.stories + " stories, " + tour.wrong + " wrong, " + doubt + " in doubt at the end");
+        System.exit(tour.wrong + doubt > 0 ? 1 : 0);
+    }
+}

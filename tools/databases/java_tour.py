@@ -1,0 +1,70 @@
+"""Stories from Java over both databases: those of java/Tour.java; and the program of drivers/java/examples, which was written against
+Bitronix, over Bitronix and over drivers/java."""
+
+import os
+import shutil
+import subprocess
+import tempfile
+
+from jdbc import BITRONIX, compiled, driver_of, paths_of
+from servers import MariaDBServer, Missing, PostgreSQLServer, free_port
+from world import TOP
+
+EXAMPLES = f"{TOP}/drivers/java/examples"
+
+
+def balances(world):
+    found = []
+    for database in world.databases():
+        connection = database.connect()
+        found.append(int(connection.run("SELECT balance FROM account WHERE id = 1").rows[0][0]))
+        connection.close()
+    return found
+
+
+def see_set_ups(world, folder, path):
+    """The same program over each set-up: 2 of 3 transfers are committed, of 30 together. How many were wrong."""
+    names = ["Transfers", "GarterfossilSetUp"]
+    try:
+        path = path + paths_of(BITRONIX)
+        names.append("BitronixSetUp")
+    except Missing as missing:
+        print(f"tour: without Bitronix: {missing}")
+    subprocess.run(["javac", "-cp", ":".join(path), "-d", folder, *(f"{EXAMPLES}/{name}.java" for name in names)], check=True)
+    wrong = 0
+    for name in names[1:]:
+        before = balances(world)
+        words = ["java", "-cp", ":".join(path), "Transfers", name, *(server.url() for server in world.servers), folder, world.coordinator]
+        it = subprocess.run(words, stdout=subprocess.PIPE, stderr=subprocess.DEVNULL, text=True)
+        moved = [now - old for now, old in zip(balances(world), before)]
+        is_right = it.returncode == 0 and moved == [-30, 30] and it.stdout.strip().endswith("2 of 3 committed")
+        wrong += not is_right
+        print(f"{'ok   ' if is_right else 'WRONG'} Java: a program written against Bitronix, by {name}: {it.stdout.strip()}, {moved}", flush=True)
+    return wrong
+
+
+def run(world):
+    """Prints each story. How many were wrong."""
+    if {type(server) for server in world.servers} != {PostgreSQLServer, MariaDBServer}:
+        print("tour: without Java: its stories are over PostgreSQL and MariaDB")
+        return 0
+    folder = tempfile.mkdtemp(dir=world.home)
+    os.chmod(folder, 0o755)
+    try:
+        path = [folder, *paths_of(dict(driver_of(server) for server in world.servers)), *compiled(folder, ["Tour", "Hooks", "Speed"])]
+    except Missing as missing:
+        print(f"tour: without Java: {missing}")
+        return 0
+    world.prepare()
+    for server in world.servers:
+        server.restart(free_port())
+    try:
+        urls = [server.url() for server in world.servers]
+        with open(f"{world.home}/driver.log", "a") as log:
+            words = ["java", "-cp", ":".join(path), "Tour", folder, world.coordinator, *urls]
+            wrong = subprocess.run(words, stderr=log).returncode != 0
+        return wrong + see_set_ups(world, folder, path)
+    finally:
+        for server in world.servers:
+            server.restart(None)
+        shutil.rmtree(folder)
