@@ -10,11 +10,14 @@ import sys
 import time
 
 from servers import processes_of
-from services import found_wrong, see_apart
+from services import await_coordinator, found_wrong, see_apart
 from world import HERE, TOP
 
-#: For how many seconds a machine lives.
-LIFE = 0.3, 1.5
+#: For how many seconds a machine lives once it has its coordinator: some of that is recovery.
+LIFE = 0.0, 2.0
+
+#: What a failover says before the first session has told the mirror of itself: nothing was begun, and a new log is right.
+NOTHING = "there is no log to be made"
 
 
 class Machine:
@@ -70,16 +73,18 @@ def run(world, machines, seed):
     world.prepare()
     begun, rng, failed, decided = time.monotonic(), random.Random(seed), 0, 0
     for mirror in (0, 1):
-        machine = None
+        has_begun = False
         for number in range(machines // 2):
-            before, machine = machine, Machine(world, f"{mirror}-{number}", mirror)
-            if before is not None:
-                done = machine.take_over()
-                if done.returncode != 0:
-                    print(f"machines: {done.stdout}{done.stderr}", file=sys.stderr)
-                    return 1
+            machine = Machine(world, f"{mirror}-{number}", mirror)
+            done = machine.take_over()
+            if done.returncode == 0:
+                has_begun = True
                 decided += int(done.stdout.rpartition(" decisions")[0].split()[-1])
+            elif has_begun or NOTHING not in done.stderr:
+                print(f"machines: {done.stdout}{done.stderr}", file=sys.stderr)
+                return 1
             machine.start()
+            await_coordinator(machine.process.pid)
             time.sleep(rng.uniform(*LIFE))
             failed += not machine.die()
         # One more, to the end.

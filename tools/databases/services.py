@@ -14,8 +14,8 @@ import traceback
 from servers import processes_of
 from world import HERE, SUM
 
-#: From one kill of a service to its next, in seconds.
-PAUSE = 0.1, 1.0
+#: From the moment when a service has its coordinator to its next kill, in seconds: some of that is recovery.
+PAUSE = 0.0, 2.0
 WORKERS = 4
 
 
@@ -27,13 +27,20 @@ class Service:
         self.kills = 0
         self.failed = 0
         self.process = None
-        self.next = 0.0
+        #: When it is killed next; None until it has its coordinator.
+        self.next = None
 
     def start(self, seconds=86400):
         with open(f"{self.world.home}/{self.name}.log", "a") as it:
             words = [sys.executable, f"{HERE}/bank.py", self.world.home, str(seconds), "2", f"{self.world.home}/{self.name}.db"]
             self.process = subprocess.Popen(words, stdout=subprocess.PIPE, stderr=it)
-        self.next = time.monotonic() + self.rng.uniform(*PAUSE)
+        self.next = None
+
+    def is_due(self):
+        """Whether it is to be killed now."""
+        if self.next is None and len(processes_of(self.process.pid)) > 1:
+            self.next = time.monotonic() + self.rng.uniform(*PAUSE)
+        return self.next is not None and time.monotonic() >= self.next
 
     def see(self):
         """One that has ended by itself failed: it is started again."""
@@ -61,7 +68,7 @@ class Service:
             self.process.wait()
             self.process.stdout.close()
             self.start()
-        self.next = time.monotonic() + self.rng.uniform(*PAUSE)
+        self.next = None
 
     def end(self):
         self.process.kill()
@@ -102,7 +109,7 @@ def run(world, kills, seed):
             time.sleep(0.02)
             for one in some:
                 one.see()
-                if one.kills < kills and time.monotonic() >= one.next:
+                if one.kills < kills and one.is_due():
                     one.kill()
     finally:
         for one in some:
@@ -140,6 +147,13 @@ def forked(world, seconds=86400):
     return number
 
 
+def await_coordinator(number):
+    """Waits until a worker has its coordinator, or is gone."""
+    until = time.monotonic() + 30
+    while len(processes_of(number)) < 2 and time.monotonic() < until:
+        time.sleep(0.02)
+
+
 def run_workers(world, kills, seed):
     """Workers of one service, of which one after the other is killed, so many in all. How much was wrong."""
     world.prepare()
@@ -147,8 +161,9 @@ def run_workers(world, kills, seed):
     alive = [forked(world) for _ in range(WORKERS)]
     try:
         for _ in range(kills):
-            time.sleep(rng.uniform(*PAUSE))
             at = rng.randrange(WORKERS)
+            await_coordinator(alive[at])
+            time.sleep(rng.uniform(*PAUSE))
             ended, _ = os.waitpid(alive[at], os.WNOHANG)
             failed += ended != 0
             if not ended:

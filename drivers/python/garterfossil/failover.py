@@ -5,7 +5,7 @@ from __future__ import annotations
 import os
 import re
 import subprocess
-from typing import Iterator, Optional, Tuple
+from typing import Dict, Iterator, Mapping, Optional, Tuple
 
 from .adapters.base import Database
 from .configuration import Configuration
@@ -21,17 +21,27 @@ def fail_over(configuration: Configuration, only: Optional[str] = None) -> Itera
     if mirror is None:
         raise SetupError("the file names no mirror: it needs a table [mirror]")
     patience = float(configuration.options.get("patience", 30.0))
-    made = 0
-    for name, path in managers_in(mirror, patience).items():
-        here = _path_here(configuration.log, path)
-        if here is None or only is not None and name != only or os.path.exists(here):
-            continue
+    wanted = _wanted(configuration.log, managers_in(mirror, patience), only)
+    if not wanted:
+        raise SetupError(f"there is no log to be made at {configuration.log}: the mirror knows none of such a name that isn't here")
+    for here, name in wanted.items():
         found = _take_over(mirror, name, patience)
         make_log(configuration.program, here, found)
-        made += 1
         yield here, name, len(found.decisions)
-    if not made:
-        raise SetupError(f"there is no log to be made at {configuration.log}: each that the mirror knows of such a name is there")
+
+
+def _wanted(pattern: str, managers: Mapping[str, str], only: Optional[str]) -> Dict[str, str]:
+    """The logs that are to be made here, each with its manager, of those that a mirror knows with the paths of their logs. Raises
+    SetupError if a log may be that of several: one of them may be at work elsewhere."""
+    wanted: Dict[str, str] = {}
+    for name, path in managers.items():
+        here = _path_here(pattern, path)
+        if here is None or only is not None and name != only or os.path.exists(here):
+            continue
+        if here in wanted:
+            raise SetupError(f"the mirror knows several managers whose log is {os.path.basename(here)}, as {wanted[here]} and {name}: give --name")
+        wanted[here] = name
+    return wanted
 
 
 def _path_here(pattern: str, path: str) -> Optional[str]:

@@ -117,3 +117,13 @@ class Mirrors(Case):
             pass
         with self.assertRaisesRegex(SetupError, "no log to be made"):
             self.fail_over()
+
+    def test_of_several_managers_one_is_to_be_named(self):
+        names = []
+        for _ in range(2):
+            with self.manager() as xa:
+                names.append(xa.name)
+            os.remove(self.log)
+        with self.assertRaisesRegex(SetupError, "--name"):
+            self.fail_over()
+        self.assertEqual([name for _, name, _ in self.fail_over(only=names[1])], names[1:])
