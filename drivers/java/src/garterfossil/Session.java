@@ -305,7 +305,11 @@ final class Session {
 
     /** Whether so many transactions are open that each write for one goes with some of others. */
     boolean isBusy() {
-        return live.size() > PROCESSORS;
+        return open() > PROCESSORS;
+    }
+
+    int open() {
+        return live.size();
     }
 
     int owing() {
