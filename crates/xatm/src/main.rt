@@ -20,9 +20,7 @@ use crate::log_names::{
 };
 use crate::made_logs::make_log;
 use crate::service::serve_in_files;
-use crate::stores::{
-    close_in_files, list_in_files, run_in_files, run_jobs_in_files, run_jobs_over, run_over,
-};
+use crate::stores::{close_in_files, list_in_files, run_in_files, run_jobs_in_files, run_over};
 use crate::stories::{check, draw, explain};
 use std::io::{BufReader, BufWriter, Input, Write};
 use std::process::ExitCode;
@@ -31,7 +29,8 @@ use std::thread::Threads;
 use std::time::Clock;
 use std::{env, fs, io};
 use xa_files::RunFault;
-use xa_log::LogFault;
+use xa_jobs::run_job_file;
+use xa_log::{LogFault, MemLog};
 use xa_names::ManagerName;
 use xa_sql_log::SqlLog;
 
@@ -155,13 +154,7 @@ fn run<W: Write>(
             }
             ran
         }
-        None => run_over(
-            alloc,
-            &texts,
-            SqlLog::open_in_memory(alloc)?,
-            with_trace,
-            out,
-        ),
+        None => run_over(alloc, &texts, MemLog::new(alloc), with_trace, out),
     };
     match ran {
         Ok(()) => Ok(()),
@@ -189,7 +182,7 @@ fn run_threads<T: Threads + Wait + Clock + Sync, W: Write>(
         Some(path) => {
             claim_log(rt, path, &ManagerName::none(), &[])?;
             match run_jobs_in_files(threads, alloc, text, SqlLog::open(rt, path)?, out) {
-                Ok(log) => close_in_files(log)?,
+                Ok(closed) => closed?,
                 Err(fault) => {
                     // What is told is why the run ended, also where its log can't be gathered.
                     let _gathered = gather(rt, path);
@@ -198,7 +191,7 @@ fn run_threads<T: Threads + Wait + Clock + Sync, W: Write>(
             }
         }
         None => {
-            let _log = run_jobs_over(threads, alloc, text, SqlLog::open_in_memory(alloc)?, out)?;
+            let _log = run_job_file(threads, alloc, text, MemLog::new(alloc), out)?;
         }
     }
     Ok(())

@@ -1,5 +1,5 @@
-//! What is done over a log in any store, and over one in files of any kind. Each step nearer to one kind of file makes a proof
-//! several times as long, so that a function does no more there than to call the one behind it.
+//! What is done over any log, and over one in files of any kind. Each step nearer to one kind of file makes a proof several times
+//! as long, so that a function does no more there than to call the one behind it.
 
 ghost use Rattle.std.specs.List.{AllByRecursion};
 ghost use Rattle.xa_log.specs.Contract.{FitsRow};
@@ -16,16 +16,16 @@ use std::time::Clock;
 use xa_files::RunFault;
 use xa_jobs::run_job_file;
 use xa_listing::{explain_log, list_log};
-use xa_log::LogFault;
+use xa_log::{DecisionLog, LogFault};
 use xa_restore::{LogLines, restore_log};
 use xa_scenario::{FileFault, read_scenarios, run_scenarios};
 use xa_sql_log::SqlLog;
 
 /// Runs scenarios, each as a process. A fault that is none of a file is given the place behind the last one.
-pub(crate) fn run_over<S: Alter + Drop, W: Write>(
+pub(crate) fn run_over<L: DecisionLog + Drop, W: Write>(
     alloc: Global,
     texts: &[Vec<u8>],
-    log: SqlLog<S>,
+    log: L,
     with_trace: bool,
     out: &mut W,
 ) -> Result<(), FileFault> {
@@ -50,31 +50,24 @@ pub(crate) fn run_in_files<D: Disk + Drop, W: Write>(
     run_over(alloc, texts, log, with_trace, out)
 }
 
-/// Runs the jobs of a file, and gives the log back.
-pub(crate) fn run_jobs_over<S: Alter + Drop, T: Threads + Wait + Clock + Sync, W: Write>(
-    threads: &T,
-    alloc: Global,
-    text: &[u8],
-    log: SqlLog<S>,
-    out: &mut W,
-) -> Result<SqlLog<S>, RunFault> {
-    run_job_file(threads, alloc, text, log, out)
-}
-
-/// The same over files.
+/// Runs the jobs of a file over a log in files, which is closed then. Tells why the run ended early, or whether the log could be
+/// closed.
 pub(crate) fn run_jobs_in_files<D: Disk + Drop, T: Threads + Wait + Clock + Sync, W: Write>(
     threads: &T,
     alloc: Global,
     text: &[u8],
     log: SqlLog<FileStore<D>>,
     out: &mut W,
-) -> Result<SqlLog<FileStore<D>>, RunFault> {
-    run_jobs_over(threads, alloc, text, log, out)
+) -> Result<Result<(), LogFault>, RunFault> {
+    match run_job_file(threads, alloc, text, log, out) {
+        Ok(log) => Ok(close_in_files(log)),
+        Err(fault) => Err(fault),
+    }
 }
 
 /// Lists a log, or tells what it asks of an operator.
-fn list_over<S: Alter, W: Write>(
-    log: &mut SqlLog<S>,
+fn list_over<L: DecisionLog, W: Write>(
+    log: &mut L,
     explains: bool,
     out: &mut W,
 ) -> Result<(), RunFault> {

@@ -28,6 +28,8 @@ import javax.transaction.xa.Xid;
  */
 public class Speed {
     static final int ACCOUNTS = 128, RMS = 2;
+    /** For so many seconds each way runs first: the machine compiles what runs often. */
+    private static final double WARM = 10;
 
     /** A way to make transfers. */
     interface Way {
@@ -243,8 +245,7 @@ public class Speed {
 
     private static void run(List<String> names, List<Way> ways, int threads, double seconds, int rounds) throws Exception {
         for (Way way : ways) {
-            // The machine compiles what runs often.
-            rate(way, threads, seconds / 2);
+            rate(way, threads, WARM);
         }
         for (int round = 0; round < rounds; round++) {
             for (int way = 0; way < ways.size(); way++) {
