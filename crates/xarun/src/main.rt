@@ -2,7 +2,7 @@
 //! so that `rt try` is soon done with it: `./xatm` has it run where that program isn't built.
 #![tactic(auto)]
 
-use std::alloc::AllocError;
+use std::alloc::{AllocError, AllocFailed};
 use std::process::ExitCode;
 use std::{env, fs, io};
 use xa_diagnostics::explain_check;
@@ -64,6 +64,12 @@ impl From<ChartFault> for Failure {
 
 impl From<AllocError> for Failure {
     fn from(_error: AllocError) -> Failure {
+        Failure::Run(RunFault::Memory)
+    }
+}
+
+impl<T: Drop> From<AllocFailed<T>> for Failure {
+    fn from(_failed: AllocFailed<T>) -> Failure {
         Failure::Run(RunFault::Memory)
     }
 }
