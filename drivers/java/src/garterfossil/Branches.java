@@ -68,7 +68,10 @@ final class Branches {
         if (all.size() > 1) {
             // It will be committed in two phases: so the calls of the first are issued while the work goes on.
             all.forEach(Branch::issueVoteAhead);
-            session.coordinator.flush();
+            if (!session.isBusy()) {
+                // Else others write it soon, with what is theirs.
+                session.coordinator.flush();
+            }
         }
         branch.start();
         return branch;

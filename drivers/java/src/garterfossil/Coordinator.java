@@ -13,7 +13,8 @@ import java.util.List;
 import java.util.Queue;
 import java.util.concurrent.ConcurrentLinkedQueue;
 import java.util.concurrent.TimeUnit;
-import java.util.concurrent.locks.Condition;
+import java.util.concurrent.atomic.AtomicBoolean;
+import java.util.concurrent.locks.LockSupport;
 import java.util.concurrent.locks.ReentrantLock;
 
 /**
@@ -36,8 +37,8 @@ final class Coordinator {
         private final String request;
         private volatile boolean isWritten;
         private volatile String line;
-        // What wakes the thread that waits for it, where another one reads.
-        private Condition arrival;
+        // The thread that waits for it, where another one reads.
+        private volatile Thread waiter;
 
         private Reply(String request) {
             this.request = request;
@@ -49,19 +50,18 @@ final class Coordinator {
     private final Process process;
     private final OutputStream output;
     private final InputStream input;
-    // What is to be written, under the lock `writing`; and the requests without a reply, in the same order.
-    private final Object writing = new Object();
-    private final ArrayDeque<Reply> unwritten = new ArrayDeque<>();
+    // What is to be written, and the requests without a reply, in the same order: whoever has the lock writes.
+    private final Queue<Reply> unwritten = new ConcurrentLinkedQueue<>();
+    private final ReentrantLock writing = new ReentrantLock();
     private final ByteArrayOutputStream block = new ByteArrayOutputStream(8192);
     private final Queue<Reply> waiting = new ConcurrentLinkedQueue<>();
-    private int ahead;
-    // Whether a thread reads, and those whose threads it is to wake; under the lock `reading`.
-    private final ReentrantLock reading = new ReentrantLock();
-    private final ArrayDeque<Reply> asleep = new ArrayDeque<>();
+    private long written;
+    // Whether a thread reads, and those whose threads sleep meanwhile. What follows is the reader's.
+    private final AtomicBoolean isRead = new AtomicBoolean();
+    private final Queue<Reply> asleep = new ConcurrentLinkedQueue<>();
     // The second line of the start, if it came with the first.
     private final ArrayDeque<String> early = new ArrayDeque<>();
-    private boolean isRead;
-    private int replied;
+    private volatile long replied;
     private byte[] came = new byte[8192];
     private int begun;
     private final Object ending = new Object();
@@ -103,7 +103,7 @@ final class Coordinator {
         Reply reply = new Reply("the start");
         reply.isWritten = true;
         waiting.add(reply);
-        ahead++;
+        written++;
         try {
             readUntil(reply);
         } catch (IOException error) {
@@ -140,9 +140,7 @@ final class Coordinator {
     /** Puts a request on its way. */
     Reply post(String request) {
         Reply reply = new Reply(request);
-        synchronized (writing) {
-            unwritten.add(reply);
-        }
+        unwritten.add(reply);
         return reply;
     }
 
@@ -155,12 +153,9 @@ final class Coordinator {
 
     /** Sees that all that was posted is written. */
     void flush() throws Fault.Gone {
-        synchronized (writing) {
-            if (unwritten.isEmpty()) {
-                return;
-            }
+        if (!unwritten.isEmpty()) {
+            write();
         }
-        write();
     }
 
     /** The reply to a request that was posted. */
@@ -195,15 +190,17 @@ final class Coordinator {
         return line;
     }
 
+    /** Writes all that was posted before. */
     private void write() throws Fault.Gone {
+        writing.lock();
         try {
-            synchronized (writing) {
-                while (!unwritten.isEmpty()) {
-                    writeSome();
-                }
+            while (!unwritten.isEmpty()) {
+                writeSome();
             }
         } catch (IOException error) {
             throw gone(error.getMessage());
+        } finally {
+            writing.unlock();
         }
     }
 
@@ -211,86 +208,87 @@ final class Coordinator {
         if (fault != null) {
             throw new IOException(fault);
         }
-        int count = Math.min(unwritten.size(), AHEAD / 2);
-        if (ahead + count > AHEAD) {
-            seeReplies(count);
-        }
         block.reset();
-        List<Reply> written = new ArrayList<>(count);
-        for (int at = 0; at < count; at++) {
-            Reply reply = unwritten.remove();
-            waiting.add(reply);
-            written.add(reply);
+        List<Reply> some = new ArrayList<>();
+        for (Reply reply = unwritten.peek(); reply != null && some.size() < AHEAD / 2; reply = unwritten.peek()) {
+            some.add(unwritten.remove());
             block.writeBytes(reply.request.getBytes(StandardCharsets.ISO_8859_1));
             block.write('\n');
         }
-        ahead += count;
+        seeReplies(some.size());
+        waiting.addAll(some);
+        written += some.size();
         block.writeTo(output);
         output.flush();
-        written.forEach(reply -> reply.isWritten = true);
+        some.forEach(reply -> reply.isWritten = true);
     }
 
     /** Waits until so many more requests may be written. */
     private void seeReplies(int count) throws IOException {
-        while (true) {
-            reading.lock();
-            ahead -= replied;
-            replied = 0;
-            reading.unlock();
+        while (written - replied + count > AHEAD) {
             Reply first = waiting.peek();
-            if (ahead + count <= AHEAD || first == null) {
+            if (first == null) {
                 return;
             }
             readUntil(first);
         }
     }
 
-    /** Waits for a reply: reads, or lets another thread read, which wakes this one. */
+    /** Waits for a reply: reads, or lets another thread read, which wakes this one. An interrupt waits: what was asked for is done. */
     private void readUntil(Reply reply) throws IOException {
-        reading.lock();
+        boolean isInterrupted = false;
+        while (reply.line == null && fault == null) {
+            if (isRead.compareAndSet(false, true)) {
+                readAsOnly(reply);
+            } else {
+                sleepUnlessRead(reply);
+                isInterrupted |= Thread.interrupted();
+            }
+        }
+        if (isInterrupted) {
+            Thread.currentThread().interrupt();
+        }
+        if (reply.line == null) {
+            throw new IOException(fault);
+        }
+    }
+
+    private void readAsOnly(Reply reply) throws IOException {
         try {
             while (reply.line == null) {
-                if (fault != null) {
-                    throw new IOException(fault);
-                }
-                if (isRead) {
-                    sleepUntil(reply);
-                } else {
-                    read();
-                }
+                read();
             }
         } finally {
-            // Somebody has to read on.
-            if (!isRead && !asleep.isEmpty()) {
-                asleep.peek().arrival.signal();
-            }
-            reading.unlock();
+            isRead.set(false);
+            wakeNext();
         }
     }
 
-    private void sleepUntil(Reply reply) {
-        if (reply.arrival == null) {
-            reply.arrival = reading.newCondition();
-        }
+    /** Sleeps while another thread reads, until that has the reply, or it is this one's turn to read. */
+    private void sleepUnlessRead(Reply reply) {
+        reply.waiter = Thread.currentThread();
         asleep.add(reply);
-        reply.arrival.awaitUninterruptibly();
-        asleep.remove(reply);
+        if (reply.line == null && fault == null && isRead.get()) {
+            LockSupport.park(this);
+        }
     }
 
-    /** Reads what has come, while the lock is free, and gives the replies out. */
-    private void read() throws IOException {
-        isRead = true;
-        reading.unlock();
-        int count = -1;
-        try {
-            if (begun == came.length) {
-                came = Arrays.copyOf(came, 2 * begun);
+    /** Somebody has to read on. */
+    private void wakeNext() {
+        for (Reply reply = asleep.poll(); reply != null; reply = asleep.poll()) {
+            if (reply.line == null) {
+                LockSupport.unpark(reply.waiter);
+                return;
             }
-            count = input.read(came, begun, came.length - begun);
-        } finally {
-            reading.lock();
-            isRead = false;
         }
+    }
+
+    /** Reads what has come, and gives the replies out. */
+    private void read() throws IOException {
+        if (begun == came.length) {
+            came = Arrays.copyOf(came, 2 * begun);
+        }
+        int count = input.read(came, begun, came.length - begun);
         if (count < 0) {
             throw new IOException("its output ended");
         }
@@ -313,8 +311,8 @@ final class Coordinator {
         }
         replied++;
         first.line = line;
-        if (first.arrival != null) {
-            first.arrival.signalAll();
+        if (first.waiter != null) {
+            LockSupport.unpark(first.waiter);
         }
     }
 
@@ -355,12 +353,7 @@ final class Coordinator {
                 fault = said.isEmpty() ? reason : reason + "; it said: " + said;
             }
         }
-        reading.lock();
-        try {
-            asleep.forEach(reply -> reply.arrival.signalAll());
-        } finally {
-            reading.unlock();
-        }
+        asleep.forEach(reply -> LockSupport.unpark(reply.waiter));
     }
 
     /** What it said as it ended. The end of its input ends it. */

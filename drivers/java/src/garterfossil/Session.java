@@ -22,6 +22,8 @@ final class Session {
     /** So many rows leave the log by one request, which is one write of the log. */
     private static final int DONE_AT_ONCE = 64;
 
+    private static final int PROCESSORS = Runtime.getRuntime().availableProcessors();
+
     /** A thread of the coordinator, for one transaction at a time. */
     final class Slot {
         final int number;
@@ -299,6 +301,11 @@ final class Session {
         } catch (Fault.Gone error) {
             // The next look begins the next session.
         }
+    }
+
+    /** Whether so many transactions are open that each write for one goes with some of others. */
+    boolean isBusy() {
+        return open() > PROCESSORS;
     }
 
     int open() {
