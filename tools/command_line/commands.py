@@ -23,7 +23,9 @@ class Argument:
     def shown(self):
         """How help writes it."""
         dots = "..." if self.is_repeated and not self.long else ""
-        value = "" if self.is_flag else f"<{self.value or self.id}>{dots}"
+        is_open = not self.long and not self.is_required
+        marks = "[]" if is_open else "<>"
+        value = "" if self.is_flag else f"{marks[0]}{self.value or self.id}{marks[1]}{dots}"
         return f"--{self.long} {value}".rstrip() if self.long else value
 
 
@@ -47,7 +49,11 @@ class Command:
 
 HELP = Argument("help", long="help", short="h", help="Print help", is_flag=True)
 VERSION = Argument("version", long="version", short="V", help="Print version", is_flag=True)
-HELP_COMMAND = Command("help", about="Print this message or the help of the given subcommand(s)")
+HELP_COMMAND = Command(
+    "help",
+    about="Print this message or the help of the given subcommand(s)",
+    arguments=[Argument("command", value="COMMAND", help="Print help for the subcommand(s)", is_repeated=True)],
+)
 
 
 def argument_of(made):

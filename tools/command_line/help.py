@@ -29,7 +29,8 @@ def help_text(names, command):
         parts.append(table("Commands", [(it.name, it.about) for it in command.commands]))
     if command.words():
         parts.append(table("Arguments", [(it.shown(), it.help) for it in command.words()]))
-    parts.append(table("Options", [option_row(it) for it in command.options()]))
+    if command.options():
+        parts.append(table("Options", [option_row(it) for it in command.options()]))
     if command.example:
         parts.append(command.example)
     return "\n\n".join(parts) + "\n"

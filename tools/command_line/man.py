@@ -36,8 +36,7 @@ def man_page(program):
     lines = [f'.TH {title} 1 "" "{name} {program.version}" "Garterfossil"', ".SH NAME", f"{name} \\- {plain(program.about)}"]
     lines += [".SH SYNOPSIS"]
     for it in program.commands:
-        if it.arguments:
-            lines += [".br", plain(usage([name, it.name], it))]
+        lines += [".br", plain(usage([name, it.name], it))]
     lines += [".SH OPTIONS", *section(program)]
     lines += [".SH COMMANDS"]
     for it in program.commands:

@@ -29,10 +29,10 @@ from .adapters.base import Database, Options
 from .block import Block
 from .counts import Counts
 from .databases import NAME, Databases
-from .errors import CoordinatorGone, LogInUse, NestedTransaction, XaError
+from .errors import CoordinatorGone, LogInUse, NestedTransaction, SetupError, XaError
 from .coordinator import serve_command
 from .line import PAUSE
-from .logs import Names, free_log, names_for
+from .logs import Names, free_log, is_new_log, names_for
 from .outcomes import Outcome, Outcomes
 from .session import Session, Settings
 from .transaction import Transaction
@@ -105,12 +105,15 @@ class TransactionManager:
         all_databases = Databases(databases)
         # A worker has its log as long as this is open.
         path, self._worker = free_log(os.fspath(log))
-        if command is None:
+
+        def settings() -> Settings:
+            if command is not None:
+                return Settings(command, all_databases, path, threads, patience, Names(name or "", tuple(all_databases.names)), mirror)
             names = names_for(program, path, name, all_databases.names, patience)
-            command = serve_command(program, path, names, threads, len(all_databases))
-        else:
-            names = Names(name or "", tuple(all_databases.names))
-        self._settings = Settings(command, all_databases, path, threads, patience, names, mirror)
+            words = serve_command(program, path, names, threads, len(all_databases))
+            return Settings(words, all_databases, path, threads, patience, names, mirror)
+
+        self._settings = settings()
         self._timeout = timeout
         self._ended = ended
         self._process = os.getpid()
@@ -122,7 +125,14 @@ class TransactionManager:
         self._counts = Counts()
         # The threads of Python that have a transaction, each once.
         self._busy: Set[int] = set()
-        self._current(is_first=True)
+        try:
+            self._current(is_first=True)
+        except SetupError:
+            # The coordinator of a program that was killed may have made the log since its names were looked for.
+            before, self._settings = self._settings.names, settings()
+            if name is not None or self._settings.names == before or is_new_log(path):
+                raise
+            self._current(is_first=True)
 
     def __repr__(self) -> str:
         state = "closed" if self._is_closed else "open"

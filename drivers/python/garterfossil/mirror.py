@@ -135,6 +135,8 @@ class Mirror:
         try:
             self._adding.make()
             with self._adding.at_once() as connection:
+                if connection.is_replicated() is False:
+                    log.warning("the mirror has no synchronous standby, and is no cluster: it is lost with its own machine")
                 before = self._adding.incarnation(connection)
                 if before is not None and before >= incarnation:
                     raise SetupError(

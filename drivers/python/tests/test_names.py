@@ -3,7 +3,9 @@
 import os
 import subprocess
 import sys
+from unittest import mock
 
+from garterfossil import manager
 from garterfossil import LogInUse, SetupError, TransactionManager
 from garterfossil.coordinator import Coordinator, serve_command
 from garterfossil.logs import Names, free_log, logs_of_workers, names_at_work
@@ -47,6 +49,14 @@ class Kept(Case):
         with self.manager() as xa:
             self.move(xa)
         self.assertEqual(len(self.left.prepared), 1)
+
+    def test_a_log_that_was_made_since_its_names_were_looked_for(self):
+        with self.manager() as xa:
+            name = xa.name
+        real, drawn = manager.names_for, Names.drawn(["bank", "shop"])
+        with mock.patch.object(manager, "names_for", side_effect=[drawn, real(self.program, self.log, None, ["bank", "shop"], 1.0)]):
+            with self.manager() as xa:
+                self.assertEqual(xa.name, name)
 
     def test_an_old_log_without_a_name_goes_on_without_one(self):
         with self.manager([self.left, self.right], name="") as xa:
@@ -112,8 +122,6 @@ class Kept(Case):
         its.close()
 
     def test_all_logs_of_workers_in_use(self):
-        from unittest import mock
-
         with mock.patch("garterfossil.logs.MOST_WORKERS", 1):
             _, it = free_log(f"{self.folder}/{{worker}}")
             with self.assertRaises(LogInUse):

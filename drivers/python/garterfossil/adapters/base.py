@@ -385,6 +385,10 @@ class Connection(abc.ABC):
         """The prepared branches of all places and managers."""
         return sorted(self._listed())
 
+    def is_replicated(self) -> Optional[bool]:
+        """Whether what the connection commits is on another machine once that is answered. None if that isn't known."""
+        return None
+
     def ages(self) -> Dict[Xid, float]:
         """For how many seconds branches have been prepared, as far as the database tells."""
         return {}

@@ -274,6 +274,9 @@ class MariaDBConnection(Connection):
     def _listed(self) -> List[Xid]:
         return xids_in(text_of(row) for row in self.run("XA RECOVER FORMAT='SQL'"))
 
+    def is_replicated(self) -> Optional[bool]:
+        return self.run("SHOW VARIABLES LIKE 'wsrep_on'").rows == [("wsrep_on", "ON")]
+
     # ** statements
 
     def send(self, call: Call) -> None:

@@ -283,6 +283,10 @@ class PostgreSQLConnection(Connection):
         rows = self.run("SELECT gid FROM pg_prepared_xacts WHERE database = current_database()")
         return xids_in(gid for gid, in rows)
 
+    def is_replicated(self) -> Optional[bool]:
+        waits = self.run("SHOW synchronous_commit").rows[0][0]
+        return bool(self.run("SHOW synchronous_standby_names").rows[0][0]) and waits in ("on", "remote_apply")
+
     def ages(self) -> Dict[Xid, float]:
         rows = self.run(
             "SELECT gid, extract(epoch FROM now() - prepared)::float8 FROM pg_prepared_xacts WHERE database = current_database()"
