@@ -108,10 +108,6 @@ enum Dialect {
             return numbers(connection, "SELECT GET_LOCK('" + lock(label, slot) + "', 0)").get(0) == 1;
         }
 
-        /** MariaDB doesn't know capital letters from others in it. */
-        private String lock(String label, int slot) {
-            return "garterfossil." + HexFormat.of().formatHex(label.getBytes(StandardCharsets.US_ASCII)) + "." + slot;
-        }
 
         /** The number of the connection that holds each lock, or 0. */
         private List<Long> holders(Connection connection, String label) throws SQLException {
@@ -154,6 +150,13 @@ enum Dialect {
         void end(Connection connection, long number) {
         }
     };
+
+    /** The name of one of the locks at MariaDB, which takes at most 192 letters there, and doesn't know capital ones from others. */
+    static String lock(String label, int slot) {
+        String digits = HexFormat.of().formatHex(label.getBytes(StandardCharsets.US_ASCII));
+        String text = digits.length() < 160 ? digits : String.format("%s~%08x", digits.substring(0, 150), label.hashCode());
+        return "garterfossil." + text + "." + slot;
+    }
 
     static Dialect of(Connection connection) throws SQLException {
         String product = connection.getMetaData().getDatabaseProductName().toLowerCase(java.util.Locale.ROOT);
