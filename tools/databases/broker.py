@@ -6,6 +6,10 @@ import socket
 from servers import Server, free_port
 
 
+#: What Java is started with that won't run for long: its start is most of what it does.
+QUICK = ["-Xmx256m", "-XX:TieredStopAtLevel=1", "-XX:+UseSerialGC"]
+
+
 class BrokerServer(Server):
     """A broker, which listens on a port of TCP from the start."""
 
@@ -20,7 +24,7 @@ class BrokerServer(Server):
         """Its store is made by its first start."""
 
     def words(self):
-        return ["java", "-Xmx256m", "-cp", ":".join(self.path), "Broker", self.home, str(self.port)]
+        return ["java", *QUICK, "-cp", ":".join(self.path), "Broker", self.home, str(self.port)]
 
     def answers(self):
         """It listens once its store is recovered."""

@@ -11,7 +11,7 @@ import tempfile
 import time
 
 import kills
-from broker import BrokerServer
+from broker import QUICK, BrokerServer
 from jdbc import compiled, driver_of, paths_of
 from servers import Missing, free_port
 from world import SUM
@@ -29,7 +29,7 @@ class JavaKills(kills.Kills):
         self.servers[broker.name] = broker
 
     def java(self, name, *words):
-        return ["java", "-Xmx256m", "-cp", ":".join(self.path), name, *words]
+        return ["java", *QUICK, "-cp", ":".join(self.path), name, *words]
 
     def start_driver(self, seconds=86400):
         urls = [server.url() for server in [*self.world.servers, self.broker]]

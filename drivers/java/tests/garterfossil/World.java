@@ -30,7 +30,8 @@ final class World extends ExternalResource {
     }
 
     Manager.Builder builder() {
-        return Manager.over(folder.resolve("log")).starter(words -> coordinator = StandInCoordinator.of(folder, words)).threads(4).patience(Duration.ofSeconds(8)).resource(a).resource(b);
+        return Manager.over(folder.resolve("log")).starter(words -> coordinator = StandInCoordinator.of(folder, words)).threads(4)
+            .patience(Duration.ofSeconds(8)).resource(a).resource(b);
     }
 
     @Override
