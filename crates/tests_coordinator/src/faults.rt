@@ -75,28 +75,17 @@ fn tells_that_output_failed(rt: HostRuntime) {
     }
 }
 
-/// Gives what is left of its lines, one at a time or all together.
+/// Gives what is left of its lines, so many bytes at a time.
 #[derive(Drop)]
 struct Lines<'a> {
     left: &'a [u8],
-    together: bool,
+    at_once: usize,
 }
 
 impl Read for Lines<'_> {
     fn read(&mut self, bytes: &mut [u8]) -> IoResult<usize> {
-        let mut count = 0;
-        for byte in self.left {
-            if count == bytes.len() {
-                break;
-            }
-            bytes[count] = *byte;
-            count += 1;
-            if *byte == b'\n' && !self.together {
-                break;
-            }
-        }
-        self.left = &self.left[count..];
-        Ok(count)
+        let count = bytes.len().min(self.at_once);
+        self.left.read(&mut bytes[..count])
     }
 }
 
@@ -117,11 +106,11 @@ impl Write for Flushed {
     }
 }
 
-/// How often the writer is flushed in a session of two lines, which are read one at a time or together.
-fn flushes(alloc: Global, together: bool) -> Option<u32> {
+/// How often the writer is flushed in a session of two lines, of which so many bytes are read at a time.
+fn flushes(alloc: Global, at_once: usize) -> Option<u32> {
     let lines = Lines {
         left: "status\nstatus\n".as_bytes(),
-        together,
+        at_once,
     };
     let mut input = BufReader::new(alloc, lines).ok()?;
     let mut output = Flushed { times: 0 };
@@ -133,7 +122,7 @@ fn flushes(alloc: Global, together: bool) -> Option<u32> {
 /// Before each read: of the first line, of the second, and of what comes after it.
 #[test]
 fn flushes_before_each_wait(rt: HostRuntime) {
-    if let Some(times) = flushes(rt.alloc(), false) {
+    if let Some(times) = flushes(rt.alloc(), 7) {
         assert_eq!(rt; times, 3);
     }
 }
@@ -141,7 +130,7 @@ fn flushes_before_each_wait(rt: HostRuntime) {
 /// Before both lines, and before what comes after them.
 #[test]
 fn replies_to_what_was_read_together_at_once(rt: HostRuntime) {
-    if let Some(times) = flushes(rt.alloc(), true) {
+    if let Some(times) = flushes(rt.alloc(), 14) {
         assert_eq!(rt; times, 2);
     }
 }
