@@ -1,16 +1,16 @@
 -- The table of branches and its index.
 use Rattle.std.proofs.Common.{◌≡◌, ◌==◌, ℕ, ℤ, ◌&&◌, Bool, true, false, if◌then◌else◌, cond, List, [], ◌∷◌, map, Option, Some, None, IsSome, Result, Ok, Err, IsOk, OnOk, OnErr, refl, sym, ◌∙◌, ap, subst}
 use Rattle.std.specs.Prelude.{Contains, ◌↔◌, ◌≢◌, ◌^◌, nat_lt, not}
-use Rattle.std.specs.List.{list_any}
-use Rattle.std.specs.BTreeMap as tree
-use Rattle.std.specs.BTreeMap.{BTreeMap, is_at}
+use Rattle.std.specs.List.{All, list_any}
 use Rattle.std.specs.BTreeSet as sorted
 use Rattle.std.specs.BTreeSet.{BTreeSet, contains}
+use Rattle.std.specs.HashMap as hashed
+use Rattle.std.specs.HashMap.{HashMap}
 use Rattle.std.specs.Map.{lookup}
 use Rattle.std.specs.Option.{option_map, option_map_or}
 use Rattle.std.specs.Ordering.{int_eq}
 use Rattle.std.proofs.lemmas.Map.Made.{lookup-map_values}
-use Rattle.std.proofs.lemmas.Map.Views.{All-found, btree_set_contains_iff}
+use Rattle.std.proofs.lemmas.Map.Views.{btree_set_contains_iff}
 use Rattle.std.proofs.lemmas.Bool.Decides.{Decides-int_eq}
 use Rattle.std.proofs.lemmas.List.Elements.{All-contains}
 use Rattle.std.proofs.lemmas.List.Folds.{Any-from_list_any}
@@ -39,7 +39,7 @@ flipped : {A B : Type 0} → A ↔ B → B ↔ A
 flipped e = (e.1, e.0)
 
 -- an index in order lists what is in doubt
-pub index_list : (table : BTreeMap Xid TableEntry) (index : BTreeSet Xid) → IsIndex table index → sorted.IsOrdered xid_cmp index
+pub index_list : {S : Type 0} (table : HashMap Xid TableEntry S) (index : BTreeSet Xid) → IsIndex table index → sorted.IsOrdered xid_cmp index
     → IsInDoubtList (held_at table) index.keys
 index_list table index is_index ordered = record {
   in_order = ordered;
@@ -56,13 +56,13 @@ put_at true b had h o e f = e
 put_at false b had h o e f = f
 
 -- the index goes along
-pub index_after_put : (table new_table : BTreeMap Xid TableEntry) (index new_index : BTreeSet Xid) (x : Xid) (h : TableEntry) (b : Bool) → IsIndex table index
-    → tree.Updates xid_cmp table new_table x (Some h) → Lists index new_index x b → b ≡ is_in_doubt h.standing
+pub index_after_put : {S : Type 0} (table new_table : HashMap Xid TableEntry S) (index new_index : BTreeSet Xid) (x : Xid) (h : TableEntry) (b : Bool) → IsIndex table index
+    → hashed.Updates xid_eq table new_table x (Some h) → Lists index new_index x b → b ≡ is_in_doubt h.standing
     → IsIndex new_table new_index
 index_after_put table new_table index new_index x h b is_index put listed e = record {
   indexed = λ q.
       listed q
-      ∙ put_at (is_at (xid_cmp x) q) b (contains xid_cmp index q) h (tree.get xid_cmp table q) e (is_index.indexed q)
+      ∙ put_at (xid_eq x q) b (contains xid_cmp index q) h (hashed.get xid_eq table q) e (is_index.indexed q)
       ∙ ap (λ (o : Option TableEntry). is_in_doubt (branch_or_new o).standing) (sym (put.0 q));
 }
 
@@ -76,25 +76,25 @@ lists_same index x b e y =
 
 -- the branches after an entry was put
 pub held_after_put :
-    (table new_table : BTreeMap Xid TableEntry) (x : Xid) (h : TableEntry) → tree.Updates xid_cmp table new_table x (Some h)
+    {S : Type 0} (table new_table : HashMap Xid TableEntry S) (x : Xid) (h : TableEntry) → hashed.Updates xid_eq table new_table x (Some h)
     → (y : Xid) → held_at new_table y ≡ (if xid_eq x y then held_branch h else held_at table y)
 held_after_put table new_table x h put y =
     ap branch_or_new (put.0 y)
-    ∙ (elim (xid_eq x y) as (λ t. branch_or_new (cond t (Some h) (tree.get xid_cmp table y)) ≡ (if t then held_branch h else held_at table y))
+    ∙ (elim (xid_eq x y) as (λ t. branch_or_new (cond t (Some h) (hashed.get xid_eq table y)) ≡ (if t then held_branch h else held_at table y))
     [ true ↦ refl | false ↦ refl ])
 
 -- the index stays where a new branch is put, or none was, that isn't in doubt
 pub index_after_new :
-    {T E : Type 0} (table new_table : BTreeMap Xid TableEntry) (index : BTreeSet Xid) (x : Xid) (h : TableEntry) (r : Result T E) → IsIndex table index
-    → tree.get xid_cmp table x ≡ None → is_in_doubt h.standing ≡ false → OnOk r (tree.Updates xid_cmp table new_table x (Some h))
-    → OnErr r (tree.IsUnchanged table new_table) → IsIndex new_table index
+    {S T E : Type 0} (table new_table : HashMap Xid TableEntry S) (index : BTreeSet Xid) (x : Xid) (h : TableEntry) (r : Result T E) → IsIndex table index
+    → hashed.get xid_eq table x ≡ None → is_in_doubt h.standing ≡ false → OnOk r (hashed.Updates xid_eq table new_table x (Some h))
+    → OnErr r (hashed.IsUnchanged table new_table) → IsIndex new_table index
 index_after_new table new_table index x h (Ok v) is_index none e put same =
     let unlisted = is_index.indexed x ∙ ap (λ (o : Option TableEntry). is_in_doubt (branch_or_new o).standing) none in
     index_after_put table new_table index index x h false is_index put (lists_same index x false unlisted) (sym e)
 index_after_new table new_table index x h (Err y) is_index none e put same = record {
   indexed = λ q.
       is_index.indexed q
-      ∙ ap (λ (es : List (Xid × TableEntry)). is_in_doubt (branch_or_new (lookup (is_at (xid_cmp q)) es)).standing) (sym same);
+      ∙ ap (λ (es : List (Xid × TableEntry)). is_in_doubt (branch_or_new (lookup (xid_eq q) es)).standing) (sym same);
 }
 
 -- what holds anyway holds at an error
@@ -126,16 +126,16 @@ at_entry g f same none (Some h) = same h
 -- a change of all entries is a change of all branches
 pub held_after_map : (g : TableEntry → TableEntry) (f : HeldBranch → HeldBranch) → ((h : TableEntry) → held_branch (g h) ≡ f (held_branch h))
     → new_branch ≡ f new_branch
-    → (table new_table : BTreeMap Xid TableEntry) → new_table.entries ≡ map (λ (e : Xid × TableEntry). (e.0, g e.1)) table.entries
+    → {S : Type 0} (table new_table : HashMap Xid TableEntry S) → new_table.entries ≡ map (λ (e : Xid × TableEntry). (e.0, g e.1)) table.entries
     → (x : Xid) → held_at new_table x ≡ f (held_at table x)
 held_after_map g f same none table new_table e x =
-    ap (λ (es : List (Xid × TableEntry)). branch_or_new (lookup (is_at (xid_cmp x)) es)) e
-    ∙ ap branch_or_new (lookup-map_values g (is_at (xid_cmp x)) table.entries)
-    ∙ at_entry g f same none (lookup (is_at (xid_cmp x)) table.entries)
+    ap (λ (es : List (Xid × TableEntry)). branch_or_new (lookup (xid_eq x) es)) e
+    ∙ ap branch_or_new (lookup-map_values g (xid_eq x) table.entries)
+    ∙ at_entry g f same none (lookup (xid_eq x) table.entries)
 
 -- a change that moves no branch in or out of doubt leaves the index
 pub index_after_map : (f : HeldBranch → HeldBranch) → ((b : HeldBranch) → is_in_doubt (f b).standing ≡ is_in_doubt b.standing)
-    → (table new_table : BTreeMap Xid TableEntry) (index : BTreeSet Xid) → ((x : Xid) → held_at new_table x ≡ f (held_at table x))
+    → {S : Type 0} (table new_table : HashMap Xid TableEntry S) (index : BTreeSet Xid) → ((x : Xid) → held_at new_table x ≡ f (held_at table x))
     → IsIndex table index → IsIndex new_table index
 index_after_map f keeps table new_table index changed is_index = record {
   indexed = λ x.
@@ -200,13 +200,13 @@ and-second true b h e = e
 and-second false b h e = let no : ⊥ = cc in absurd no
 
 -- an entry of the format that was started is of a branch that was
-pub format_held : (table : BTreeMap Xid TableEntry) → tree.IsOrdered xid_cmp table → (z : ℤ)
+pub format_held : {S : Type 0} (table : HashMap Xid TableEntry S) → All (λ (p : Xid × TableEntry). hashed.get xid_eq table p.0 ≡ Some p.1) table.entries → (z : ℤ)
     → list_any (is_of_format z) table.entries ≡ true → HoldsFormat (held_at table) z
-format_held table ordered z e =
+format_held table found_each z e =
     let some = Any-from_list_any (is_of_format z) table.entries e in
     let entry = some.1 in
     let found_there =
-    All-contains (λ (p : Xid × TableEntry). tree.get xid_cmp table p.0 ≡ Some p.1) table.entries entry (All-found xid_cmp_total table ordered)
+    All-contains (λ (p : Xid × TableEntry). hashed.get xid_eq table p.0 ≡ Some p.1) table.entries entry found_each
     (some.0, some.2, some.3) in
     let both = and_parts (int_eq entry.0.format z) (was_started entry.1.standing) some.4 in
     record {
@@ -217,12 +217,12 @@ format_held table ordered z e =
     }
 
 unstarted_at : (x : Xid) (z : ℤ) → x.format ≡ z → (es : List (Xid × TableEntry)) → list_any (is_of_format z) es ≡ false
-    → fate_of (branch_or_new (lookup (is_at (xid_cmp x)) es)).standing ≡ Fates.Unstarted
+    → fate_of (branch_or_new (lookup (xid_eq x) es)).standing ≡ Fates.Unstarted
 unstarted_at x z of [] none = refl
 unstarted_at x z of (e ∷ es) none =
     let neither = or_parts (is_of_format z e) (list_any (is_of_format z) es) none in
-    elim (is_at (xid_cmp x) e.0) as
-    (λ t. is_at (xid_cmp x) e.0 ≡ t → fate_of (branch_or_new (cond t (Some e.1) (lookup (is_at (xid_cmp x)) es))).standing ≡ Fates.Unstarted) [
+    elim (xid_eq x e.0) as
+    (λ t. xid_eq x e.0 ≡ t → fate_of (branch_or_new (cond t (Some e.1) (lookup (xid_eq x) es))).standing ≡ Fates.Unstarted) [
       | true ↦ λ at. unstarted_fate e.1.standing
           (and-second (int_eq e.0.format z) (was_started e.1.standing)
           ((Decides-int_eq e.0.format z).1 (ap (λ (y : Xid). y.format) (sym (xid_eq-same x e.0 at)) ∙ of)) neither.0)
@@ -230,7 +230,7 @@ unstarted_at x z of (e ∷ es) none =
     ] refl
 
 -- where there is no such entry, no branch of the format ever was
-pub format_not_held : (table : BTreeMap Xid TableEntry) (z : ℤ) → list_any (is_of_format z) table.entries ≡ false → HoldsNoFormat (held_at table) z
+pub format_not_held : {S : Type 0} (table : HashMap Xid TableEntry S) (z : ℤ) → list_any (is_of_format z) table.entries ≡ false → HoldsNoFormat (held_at table) z
 format_not_held table z none = record { unstarted = λ x of. unstarted_at x z of table.entries none }
 
 -- ** what earlier processes left
@@ -249,13 +249,13 @@ newer_by_branch r i x b valid read is = sym (λ j. not (own j && is_past r i b))
 abbrev pub is_newer_entry : (rm incarnation : ℕ) → Xid × TableEntry → Bool
 is_newer_entry r i e = names_newer r i e.0 && was_started e.1.standing
 
-pub newer_held : (table : BTreeMap Xid TableEntry) → tree.IsOrdered xid_cmp table → (r i : ℕ)
+pub newer_held : {S : Type 0} (table : HashMap Xid TableEntry S) → All (λ (p : Xid × TableEntry). hashed.get xid_eq table p.0 ≡ Some p.1) table.entries → (r i : ℕ)
     → list_any (is_newer_entry r i) table.entries ≡ true → HoldsNewer (held_at table) r i
-newer_held table ordered r i e =
+newer_held table found_each r i e =
     let some = Any-from_list_any (is_newer_entry r i) table.entries e in
     let entry = some.1 in
     let found_there =
-    All-contains (λ (p : Xid × TableEntry). tree.get xid_cmp table p.0 ≡ Some p.1) table.entries entry (All-found xid_cmp_total table ordered)
+    All-contains (λ (p : Xid × TableEntry). hashed.get xid_eq table p.0 ≡ Some p.1) table.entries entry found_each
     (some.0, some.2, some.3) in
     let both = and_parts (names_newer r i entry.0) (was_started entry.1.standing) some.4 in
     record {
@@ -266,17 +266,17 @@ newer_held table ordered r i e =
     }
 
 past_at : (x : Xid) (r i : ℕ) → names_newer r i x ≡ true → (es : List (Xid × TableEntry)) → list_any (is_newer_entry r i) es ≡ false
-    → fate_of (branch_or_new (lookup (is_at (xid_cmp x)) es)).standing ≡ Fates.Unstarted
+    → fate_of (branch_or_new (lookup (xid_eq x) es)).standing ≡ Fates.Unstarted
 past_at x r i of [] none = refl
 past_at x r i of (e ∷ es) none =
     let neither = or_parts (is_newer_entry r i e) (list_any (is_newer_entry r i) es) none in
-    elim (is_at (xid_cmp x) e.0) as
-    (λ t. is_at (xid_cmp x) e.0 ≡ t → fate_of (branch_or_new (cond t (Some e.1) (lookup (is_at (xid_cmp x)) es))).standing ≡ Fates.Unstarted) [
+    elim (xid_eq x e.0) as
+    (λ t. xid_eq x e.0 ≡ t → fate_of (branch_or_new (cond t (Some e.1) (lookup (xid_eq x) es))).standing ≡ Fates.Unstarted) [
       | true ↦ λ at. unstarted_fate e.1.standing
           (and-second (names_newer r i e.0) (was_started e.1.standing)
           (ap (names_newer r i) (sym (xid_eq-same x e.0 at)) ∙ of) neither.0)
       | false ↦ λ at. past_at x r i of es neither.1
     ] refl
 
-pub newer_not_held : (table : BTreeMap Xid TableEntry) (r i : ℕ) → list_any (is_newer_entry r i) table.entries ≡ false → HoldsPast (held_at table) r i
+pub newer_not_held : {S : Type 0} (table : HashMap Xid TableEntry S) (r i : ℕ) → list_any (is_newer_entry r i) table.entries ≡ false → HoldsPast (held_at table) r i
 newer_not_held table r i none = record { unstarted = λ x of. past_at x r i of table.entries none }

@@ -1,7 +1,7 @@
 -- The table of branches and its index.
 use Rattle.std.specs.Prelude.{◌≡◌, Bool, if◌then◌else◌, Option, Some, None}
-use Rattle.std.specs.BTreeMap.{BTreeMap, get}
 use Rattle.std.specs.BTreeSet.{BTreeSet, contains}
+use Rattle.std.specs.HashMap.{HashMap, get}
 use Rattle.xa_base.specs.HeldBranch.{HeldBranch, new_branch}
 use Rattle.xa_base.specs.Standing.{is_in_doubt}
 use Rattle.xa_base.specs.Xid.{Xid, xid_cmp, xid_eq}
@@ -14,11 +14,11 @@ branch_or_new None = new_branch
 branch_or_new (Some h) = held_branch h
 
 -- the branch that a table holds of an identifier
-abbrev pub held_at : BTreeMap Xid TableEntry → Xid → HeldBranch
-held_at table x = branch_or_new (get xid_cmp table x)
+abbrev pub held_at : {S : Type 0} → HashMap Xid TableEntry S → Xid → HeldBranch
+held_at table x = branch_or_new (get xid_eq table x)
 
 -- the index has just the identifiers in doubt
-pub record IsIndex (table : BTreeMap Xid TableEntry) (index : BTreeSet Xid) : Type 0 where
+pub record IsIndex {S : Type 0} (table : HashMap Xid TableEntry S) (index : BTreeSet Xid) : Type 0 where
   pub indexed : (x : Xid) → contains xid_cmp index x ≡ is_in_doubt (held_at table x).standing
 
 -- the index lists x if this holds, and every other identifier as before

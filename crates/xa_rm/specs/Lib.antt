@@ -1,4 +1,5 @@
 pub mod Branches
+pub mod Keys
 pub mod Look
 pub mod TableEntries
 pub mod Pages

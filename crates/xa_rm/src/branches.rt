@@ -10,10 +10,11 @@ ghost use Rattle.xa_rm.specs.Branches.{IsIndex, Lists};
 ghost use Rattle.xa_rm.specs.TableEntries.{held_branch};
 ghost use Rattle.xa_rm.specs.ResourceManager.{names_newer};
 
+use crate::key::Key;
 use crate::scans::Cursor;
 use crate::table_entry::TableEntry;
 use std::alloc::Global;
-use std::collections::{BTreeMap, BTreeSet};
+use std::collections::{BTreeSet, HashMap};
 use std::ops::Bound;
 use xa_base::{Call, Code, Memory, Xid};
 
@@ -90,14 +91,14 @@ fn list_in_doubt(
 /// The branches that were ever named, with an index of those in doubt: the prepared and the heuristically completed.
 #[derive(Drop)]
 pub(crate) struct Branches {
-    table: BTreeMap<Xid, TableEntry>,
+    table: HashMap<Key, TableEntry>,
     index: BTreeSet<Xid>,
     ghost indexed: { IsIndex table index },
 }
 
 impl Branches {
     ghost use Rattle.std.specs.Prelude.{◌≡◌, [], true, false, if◌then◌else◌, length, take, None, Some, IsSome, IfOk, IsOk, OnOk, OnErr};
-    ghost use Rattle.std.specs.BTreeMap.{get};
+    ghost use Rattle.std.specs.HashMap.{get};
     ghost use Rattle.xa_base.specs.Call.{xid_in};
     ghost use Rattle.xa_base.specs.HeldBranch.{new_branch, code_for, held_after, broken_by, crashed};
     ghost use Rattle.xa_base.specs.Recover.{IsInDoubtList};
@@ -115,7 +116,7 @@ impl Branches {
         ensures index { result.index.keys ≡ [] }
     {
         Branches {
-            table: BTreeMap::new(alloc),
+            table: HashMap::new(alloc),
             index: BTreeSet::new(alloc),
         }
     }
@@ -124,7 +125,7 @@ impl Branches {
     pub(crate) fn get(&self, xid: &Xid) -> TableEntry
         ensures { held_branch result ≡ held_at self.now.table xid.now }
     {
-        match self.table.get(xid) {
+        match self.table.get(&Key::of(xid)) {
             Some(held) => *held,
             None => TableEntry::NEW,
         }
@@ -134,7 +135,7 @@ impl Branches {
     ///
     /// A branch that isn't in the table can't go in doubt at once. So at most one of the table and the index grows.
     pub(crate) fn set(&mut self, xid: &Xid, held: TableEntry) -> Result<(), Memory>
-        requires { is_in_doubt held.standing ≡ true → IsSome (get xid_cmp self.old.table xid.now) }
+        requires { is_in_doubt held.standing ≡ true → IsSome (get xid_eq self.old.table xid.now) }
         ensures ok { OnOk result ((x : Xid) → held_at self.new.table x ≡
             (if xid_eq xid.now x then held_branch held else held_at self.old.table x)) }
         ensures err { OnErr result ((x : Xid)
@@ -142,10 +143,10 @@ impl Branches {
     {
         if held.is_in_doubt() {
             self.index.insert(xid.copy())?;
-            self.table.insert(xid.copy(), held)?;
+            self.table.insert(Key::of(xid), held)?;
             Ok(())
         } else {
-            self.table.insert(xid.copy(), held)?;
+            self.table.insert(Key::of(xid), held)?;
             self.index.remove(xid);
             Ok(())
         }
@@ -164,7 +165,7 @@ impl Branches {
         let Some(xid) = call.xid() else {
             return Ok(Code::Success);
         };
-        match self.table.get_mut(xid) {
+        match self.table.get_mut(&Key::of(xid)) {
             Some(held) => apply_held(held, &mut self.index, xid, thread, call),
             None => self.apply_new(xid, thread, call),
         }
@@ -173,7 +174,7 @@ impl Branches {
     /// Answers a call that names a branch which isn't in the table. None goes in doubt by its first call.
     fn apply_new(&mut self, xid: &Xid, thread: u32, call: &Call) -> Result<Code, Memory>
         requires named { xid_in call.now ≡ Some xid.now }
-        requires absent { get xid_cmp self.old.table xid.now ≡ None }
+        requires absent { get xid_eq self.old.table xid.now ≡ None }
         ensures answer { IfOk result (λ code. code ≡ code_for (held_at self.old.table) call.now) }
         ensures held { OnOk result ((x : Xid) →
             held_at self.new.table x ≡ held_after thread call.now x (held_at self.old.table x)) }
@@ -184,7 +185,7 @@ impl Branches {
         let mut held = TableEntry::NEW;
         let code = held.apply(thread, call);
         if code != Code::NotAnXid {
-            self.table.insert(xid.copy(), held)?;
+            self.table.insert(Key::of(xid), held)?;
         }
         Ok(code)
     }
@@ -221,7 +222,7 @@ impl Branches {
     {
         self.table
             .iter()
-            .any(|(xid, held)| xid.format() == format && held.was_started())
+            .any(|(key, held)| key.xid().format() == format && held.was_started())
     }
 
     /// Whether a branch of this manager was ever started that is of another resource manager than this number or of no
@@ -230,7 +231,9 @@ impl Branches {
         ensures newer { result ≡ true → HoldsNewer (held_at self.now.table) rm incarnation }
         ensures past { result ≡ false → HoldsPast (held_at self.now.table) rm incarnation }
     {
-        self.table.iter().any(|(xid, held)| names_newer(xid, rm, incarnation) && held.was_started())
+        self.table
+            .iter()
+            .any(|(key, held)| names_newer(key.xid(), rm, incarnation) && held.was_started())
     }
 
     /// How many identifiers are in doubt.

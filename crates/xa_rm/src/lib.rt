@@ -6,6 +6,7 @@
 
 mod branches;
 mod fault;
+mod key;
 mod mem_rm;
 mod pages;
 mod resource_manager;

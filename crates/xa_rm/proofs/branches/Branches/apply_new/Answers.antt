@@ -1,8 +1,8 @@
 use Rattle.std.proofs.Common.{◌≡◌, None, Some, rules, ap, sym, ◌∙◌, subst}
-use Rattle.std.specs.BTreeMap as tree
+use Rattle.std.specs.HashMap as hashed
 use Rattle.xa_base.specs.HeldBranch.{HeldBranch, answer_of, called, code_by, held_by}
 use Rattle.xa_base.specs.Standing.{is_in_doubt}
-use Rattle.xa_base.specs.Xid.{Xid, xid_cmp}
+use Rattle.xa_base.specs.Xid.{Xid, xid_eq}
 use Rattle.xa_base.specs.declared.code.Code.TheVariants as Codes
 use Rattle.xa_rm.proofs.CallLemmas.{asks_named, called_not_found, changed_there, not_at_once, unchanged_there}
 use Rattle.xa_rm.proofs.TableLemmas.{held_after_put, index_after_new}
@@ -15,8 +15,8 @@ invariant_of-self c = record {
       let asked = asks_named c.args.call.now c.args.xid.now c.requires.named in
       let after = c.apply-code.ensures.held asked.0 c.args.xid.now asked.1 in
       let clear = ap (λ (b : HeldBranch). is_in_doubt b.standing) after ∙ not_at_once c.args.thread asked.0 in
-      index_after_new c.args.self.now.table c.insert.new.self c.args.self.now.index c.copy.result c.apply-code.new.self c.insert.result
-      c.args.self.now.indexed (subst (λ (k : Xid). tree.get xid_cmp c.args.self.now.table k ≡ None) (sym c.copy.ensures) c.requires.absent)
+      index_after_new c.args.self.now.table c.insert.new.self c.args.self.now.index c.of.result c.apply-code.new.self c.insert.result
+      c.args.self.now.indexed (subst (λ (k : Xid). hashed.get xid_eq c.args.self.now.table k ≡ None) (sym c.of.ensures) c.requires.absent)
       clear c.insert.ensures.updates c.insert.ensures.err;
 }
 
@@ -41,8 +41,8 @@ returns-in_ok-insert-clause-held c = λ x.
     let asked = asks_named c.args.call.now c.args.xid.now c.requires.named in
     let new = ap branch_or_new (sym c.requires.absent) in
     let after = c.apply-code.ensures.held asked.0 c.args.xid.now asked.1 ∙ ap (called c.args.thread asked.0) new in
-    let put = subst (λ (k : Xid). tree.Updates xid_cmp c.args.self.now.table c.insert.new.self k (Some c.apply-code.new.self))
-    c.copy.ensures c.in_ok-insert.ensures.updates in
+    let put = subst (λ (k : Xid). hashed.Updates xid_eq c.args.self.now.table c.insert.new.self k (Some c.apply-code.new.self))
+    c.of.ensures c.in_ok-insert.ensures.updates in
     held_after_put c.args.self.now.table c.insert.new.self c.args.xid.now c.apply-code.new.self put x
     ∙ changed_there (held_at c.args.self.now.table) (called c.args.thread asked.0) c.args.xid.now _ after x
     ∙ sym (ap (λ asks. held_by c.args.thread asks x (held_at c.args.self.now.table x)) asked.1)

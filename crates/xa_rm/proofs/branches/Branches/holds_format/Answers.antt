@@ -9,7 +9,7 @@ returns-clause-held c = λ e.
     let any =
     any_from_yields_List (is_of_format c.args.format) _ _ c.any.result c.any.ensures.ran
     (YieldsList-from_rest c.args.self.now.table.entries c.iter.ensures.rest) (λ x b q k. search (rules, tests)) in
-    format_held c.args.self.now.table c.iter.ensures.ordered c.args.format (sym any ∙ e)
+    format_held c.args.self.now.table c.iter.ensures.found c.args.format (sym any ∙ e)
 
 pub returns-clause-clear : goal.returns-clause-clear
 returns-clause-clear c = λ e.

@@ -9,7 +9,7 @@ returns-clause-newer c = λ e.
     let any =
     any_from_yields_List (is_newer_entry c.args.rm c.args.incarnation) _ _ c.any.result c.any.ensures.ran
     (YieldsList-from_rest c.args.self.now.table.entries c.iter.ensures.rest) (λ x b q k. search (rules, tests)) in
-    newer_held c.args.self.now.table c.iter.ensures.ordered c.args.rm c.args.incarnation (sym any ∙ e)
+    newer_held c.args.self.now.table c.iter.ensures.found c.args.rm c.args.incarnation (sym any ∙ e)
 
 pub returns-clause-past : goal.returns-clause-past
 returns-clause-past c = λ e.
