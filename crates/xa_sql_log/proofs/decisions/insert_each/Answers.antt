@@ -3,7 +3,7 @@ use Rattle.sqlite.specs.Held.{state}
 use Rattle.sqlite.specs.State.{HasCleanDisk}
 use Rattle.sqlite.proofs.InsideLemmas.{keeps_then}
 use Rattle.xa_sql_log.proofs.Inside.{survives_none, written_more}
-use Rattle.xa_sql_log.proofs.decisions.insert_participants.Goals as goal
+use Rattle.xa_sql_log.proofs.decisions.insert_each.Goals as goal
 
 pub loop-branch-preserved : goal.loop-branch-preserved
 loop-branch-preserved g c =
