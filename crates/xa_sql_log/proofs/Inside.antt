@@ -1,5 +1,5 @@
 -- What a transaction leaves of a log: all that was written in it, or nothing.
-use Rattle.std.proofs.Common.{◌≡◌, ◌⊎◌, inl, inr, ℕ, ◌<◌, ◌+◌, List, length, take, get_or, true, false, Option, Some, None, Result, Ok, Err, OnOk, IsTrue, IsSomeAnd, cond, is_some, refl, sym, ap, subst, ◌∙◌, arith}
+use Rattle.std.proofs.Common.{◌≡◌, ◌⊎◌, inl, inr, ℕ, ◌<◌, ◌≤◌, ◌+◌, List, [], ◌∷◌, length, take, get_or, true, false, Option, Some, None, Result, Ok, Err, OnOk, IsTrue, IsSomeAnd, cond, is_some, refl, sym, ap, subst, ◌∙◌, arith}
 use Rattle.std.proofs.lemmas.Bool.{cases_Bool, true≢false}
 use Rattle.std.proofs.lemmas.List.{take_more}
 use Rattle.std.specs.List.{AllByRecursion}
@@ -39,6 +39,19 @@ written_more g xs i d low own before old new has step =
     sym (ap from_list (take_more xs i d low) ∙ from_list_push branches_total exact_branches (take i xs) (get_or xs i d)) in
     subst (λ s. HasWritten g s before new) set (subst (λ q. HasWritten q (insert (from_list (take i xs)) (get_or xs i d)) before new) mine
     (step (from_list (take i xs)) before (subst (λ q. HasWritten q (from_list (take i xs)) before old) (sym mine) has)))
+
+-- all participants, where they are two and were written by one statement
+pub written_both : {A E : Type 0} (g : Gtrid) (xs : List Branch) (d e : Branch) (r : Result A E) → 2 ≤ length xs → length xs < 3
+    → AllByRecursion (λ (b : Branch). b.gtrid ≡ g) xs → (before : Content) (old new : State) → HasWritten g empty before old
+    → (HasWritten (get_or xs 0 d).gtrid empty before old
+    → OnOk r (HasWritten (get_or xs 0 d).gtrid (from_list (get_or xs 0 d ∷ get_or xs 1 e ∷ [])) before new))
+    → OnOk r (HasWritten g (from_list xs) before new)
+written_both g [] d e r low high own before old new has step = absurd (omega (arith, low))
+written_both g (one ∷ []) d e r low high own before old new has step = absurd (omega (arith, low))
+written_both g (one ∷ other ∷ []) d e r low high own before old new has step =
+    subst (λ q. OnOk r (HasWritten q (from_list (one ∷ other ∷ [])) before new)) own.0
+    (step (subst (λ q. HasWritten q empty before old) (sym own.0) has))
+written_both g (one ∷ other ∷ more ∷ rest) d e r low high own before old new has step = absurd (omega (arith, high))
 
 -- ---- a transaction that is undone, whatever it counted
 

@@ -11,7 +11,6 @@ use Rattle.xa_sql_log.proofs.Inside.{again, from_kept, kept_anyway, on_ok_gives}
 use Rattle.xa_sql_log.proofs.States.{opened_clean}
 use Rattle.xa_sql_log.proofs.groups.commit_all.Goals as goal
 
-
 none_named : (ds : List Decision) (answers items : List Logged) (k : ℕ) → answers ≡ items → items ≡ replicate k New → (x : Content) → AreThere ds answers x
 none_named ds answers items k value is x = subst (λ l. AreThere ds l x) (sym (value ∙ is)) (new_are_there ds k x)
 
@@ -32,7 +31,7 @@ pub returns-in-Err-Store-clause-changes : goal.returns-in-Err-Store-clause-chang
 returns-in-Err-Store-clause-changes g c =
     let a = state g.S.Store c.args.conn.now in
     let b = state g.S.Store c.write_new.new.conn in
-    let there : AreThereIn c.args.decisions.now c.as_slice.result a =
+    let there : AreThereIn c.args.decisions.now c.as_slice.result.now a =
     λ x _. none_named c.args.decisions.now _ _ _ c.as_slice.ensures.value c.in_ok-answers.ensures.ok x in
     again (with_commits c.args.decisions.now) a b (state g.S.Store c.write_missing-in-Err-Store.new.conn) (c.in-Err-Store.ensures.changes there)
     (λ order. kept_anyway a b (opened_clean _ _ (g.met.S.Store.shut_if_dirty c.write_new.new.conn.store)) (c.in-Err-Store.ensures.kept there order))
@@ -43,7 +42,7 @@ returns-in-Err-Store-clause-ok g c order clean =
     let a = state g.S.Store c.args.conn.now in
     let b = state g.S.Store c.write_new.new.conn in
     let d = state g.S.Store c.write_missing-in-Err-Store.new.conn in
-    let there : AreThereIn c.args.decisions.now c.as_slice.result a =
+    let there : AreThereIn c.args.decisions.now c.as_slice.result.now a =
     λ x _. none_named c.args.decisions.now _ _ _ c.as_slice.ensures.value c.in_ok-answers.ensures.ok x in
     let early = c.write_missing-in-Err-Store.ensures.changes.honest clean in
     on_ok_gives c.write_missing-in-Err-Store.result _ _
@@ -55,12 +54,12 @@ returns-in-Err-Store-clause-answer g c order clean =
     let ds = c.args.decisions.now in
     let a = state g.S.Store c.args.conn.now in
     let b = state g.S.Store c.write_new.new.conn in
-    let there : AreThereIn ds c.as_slice.result a = λ x _. none_named ds _ _ _ c.as_slice.ensures.value c.in_ok-answers.ensures.ok x in
+    let there : AreThereIn ds c.as_slice.result.now a = λ x _. none_named ds _ _ _ c.as_slice.ensures.value c.in_ok-answers.ensures.ok x in
     let early = c.write_missing-in-Err-Store.ensures.changes.honest clean in
     if_ok c.write_missing-in-Err-Store.result _ _
     (λ list told. from_kept (λ x. list.items ≡ logged_each ds x) (content_in a) (content_in b) (c.in-Err-Store.ensures.kept there order early) told)
     (c.write_missing-in-Err-Store.ensures.answer ((c.in-Err-Store.ensures.changes there).order order) clean)
 
-pub returns-in-Err-clause-changes : goal.returns-in-Err-clause-changes
-returns-in-Err-clause-changes g c =
+pub returns-clause-changes : goal.returns-clause-changes
+returns-clause-changes g c =
     c.in-Err.ensures.changes (λ x _. none_named c.args.decisions.now _ _ _ c.as_slice.ensures.value c.in_ok-answers.ensures.ok x)

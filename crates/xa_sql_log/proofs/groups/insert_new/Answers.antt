@@ -7,7 +7,7 @@ use Rattle.sqlite.proofs.InsideLemmas.{keeps_then}
 use Rattle.xa_log.specs.contracts.decision_log.Logged.{the_type}
 use Rattle.xa_log.specs.declared.decision_log.Logged.{Logged}
 use Rattle.xa_log.specs.declared.decision_log.Logged.TheVariants.{New, Already}
-use Rattle.xa_sql_log.proofs.GroupedRows.{at_begin, inserts_one, inside_log, may_insert, passes_one, written_to_end}
+use Rattle.xa_sql_log.proofs.GroupedRows.{inserts_one, inside_log, may_insert, passes_one}
 use Rattle.xa_sql_log.proofs.Inside.{survives_none}
 use Rattle.xa_sql_log.proofs.groups.insert_new.Goals as goal
 use Rattle.xa_sql_log.proofs.groups.insert_new.Goals.{then-eq+in_ok-insert_one, else-eq}
