@@ -2,61 +2,54 @@
 
 use crate::seen::Seen;
 use crate::task::{Change, Done, Reached, Task, perform};
-use sqlite::{Alter, Connection, FileStore, Files, Options};
+use sqlite::{Connection, FileStore, Files, Options};
 use sqlite_disk::{Crash, Disk};
 use std::alloc::Global;
 use xa_log::LogFault;
 use xa_sql_log::SqlLog;
 
-/// A connection to the files, or the files again. There is little memory for pages, so that a run is short. Behind so many
-/// frames the journal is copied into the database file.
-fn open<D: Disk + Drop>(
-    alloc: Global,
-    files: Files<D>,
-    checkpoint_frames: usize,
-) -> Result<Connection<FileStore<D>>, Files<D>> {
-    if !files.may_be_used() {
-        return Err(files);
-    }
-    let options = Options {
+/// How files are opened: with little memory for pages, so that a run is short. Behind so many frames the journal is copied
+/// into the database file.
+fn options(checkpoint_frames: usize) -> Options {
+    Options {
         cache_pages: 16,
         spill_pages: 16,
         checkpoint_frames,
         seed: 7,
-    };
-    match Connection::open_files(alloc, files, options) {
-        Ok(conn) => Ok(conn),
-        Err((_, left)) => Err(left.into_files()),
     }
 }
 
-/// The files, with no copy of the journal into the database file.
-fn closed<D: Disk + Drop>(conn: Connection<FileStore<D>>) -> Files<D> {
-    conn.into_store().close()
+/// What a task comes to over a connection to files, and the files as they then stand, with no copy of the journal into the
+/// database file.
+pub(crate) fn perform_over<D: Disk + Drop>(
+    conn: Connection<FileStore<D>>,
+    task: Task<'_>,
+) -> (Done, Files<D>) {
+    let (done, conn) = perform(conn, task);
+    (done, conn.into_store().close())
 }
 
-/// The files of a log, in the same way.
+/// The same over the files. The journal has room for all that the task writes.
+fn perform_in<D: Disk + Drop>(alloc: Global, files: Files<D>, task: Task<'_>) -> (Done, Files<D>) {
+    if !files.may_be_used() {
+        return (Done::Nothing, files);
+    }
+    match Connection::open_files(alloc, files, options(1000)) {
+        Ok(conn) => perform_over(conn, task),
+        Err((_, left)) => (Done::Nothing, left.into_files()),
+    }
+}
+
+/// The files of a log as they stand, with no copy of the journal into the database file.
 pub fn files_of<D: Disk + Drop>(log: SqlLog<FileStore<D>>) -> Files<D> {
-    closed(log.into_connection())
-}
-
-/// What a task comes to over a connection to the files, and the files as they then stand. The journal has room for all that the
-/// task writes.
-fn perform_in<D: Disk + Drop>(alloc: Global, files: Files<D>, task: Task) -> (Done, Files<D>) {
-    match open(alloc, files, 1000) {
-        Ok(conn) => {
-            let (done, conn) = perform(conn, task);
-            (done, closed(conn))
-        }
-        Err(files) => (Done::Nothing, files),
-    }
+    log.into_connection().into_store().close()
 }
 
 /// The files once these statements have run. It is an `Err` where they don't open, or a statement is refused.
 pub fn files_after<D: Disk + Drop>(
     alloc: Global,
     files: Files<D>,
-    sql: &'static str,
+    sql: &str,
 ) -> Result<Files<D>, LogFault> {
     match perform_in(alloc, files, Task::Execute(sql)) {
         (Done::Executed, files) => Ok(files),
@@ -119,15 +112,11 @@ pub fn crash_after<D: Crash + Drop>(
     Ok((reached, left, next))
 }
 
-fn adopted<S: Alter + Drop, F: Drop>(conn: Result<Connection<S>, F>) -> Option<SqlLog<S>> {
-    match conn {
-        Ok(conn) => SqlLog::adopt(conn).ok(),
-        Err(_) => None,
-    }
-}
-
 /// A log over the files, where they open and it can make its tables. With little room in the journal, so that the database file
 /// is written too.
 pub fn log_over<D: Disk + Drop>(alloc: Global, files: Files<D>) -> Option<SqlLog<FileStore<D>>> {
-    adopted(open(alloc, files, 4))
+    if !files.may_be_used() {
+        return None;
+    }
+    SqlLog::open_files(alloc, files, options(4)).ok()
 }

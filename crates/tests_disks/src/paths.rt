@@ -1,46 +1,53 @@
 //! Logs at paths of the host.
 
-use crate::seen::{Seen, look};
-use sqlite::{Alter, Connection, Error, FileStore};
+use crate::files::perform_over;
+use crate::seen::Seen;
+use crate::task::{Done, Task};
+use sqlite::{Alter, Connection, FileStore};
 use sqlite_disk::Disk;
 use std::{fs, io};
 use xa_log::{DecisionLog, LogFault};
 use xa_sql_log::SqlLog;
 
-fn bumped<S: Alter + Drop>(log: Result<SqlLog<S>, LogFault>) -> Result<u64, LogFault> {
-    log?.bump()
+/// What is done with a log that is open.
+#[derive(Clone, Copy)]
+enum Use {
+    /// Nothing: it is let go.
+    Nothing,
+    Bump,
 }
 
-fn is_open<S: Alter + Drop>(log: Result<SqlLog<S>, LogFault>) -> bool {
-    log.is_ok()
+/// What it comes to: the number that `bump` answers, or 0.
+fn used<S: Alter + Drop>(mut log: SqlLog<S>, what: Use) -> Result<u64, LogFault> {
+    match what {
+        Use::Nothing => Ok(0),
+        Use::Bump => log.bump(),
+    }
+}
+
+fn used_in_files<D: Disk + Drop>(log: SqlLog<FileStore<D>>, what: Use) -> Result<u64, LogFault> {
+    used(log, what)
 }
 
 fn closed<D: Disk + Drop>(log: Result<SqlLog<FileStore<D>>, LogFault>) -> Result<(), LogFault> {
     log?.close()
 }
 
-fn ran<S: Alter + Drop>(conn: Result<Connection<S>, Error>, sql: &str) -> Result<(), LogFault> {
-    match conn {
-        Ok(mut conn) => conn.execute_batch(sql).map_err(|_| LogFault::Store),
-        Err(_) => Err(LogFault::Store),
-    }
-}
-
-fn shown<S: Alter + Drop>(conn: Result<Connection<S>, Error>) -> Result<Seen, LogFault> {
-    match conn {
-        Ok(mut conn) => Ok(look(&mut conn)),
-        Err(_) => Err(LogFault::Store),
-    }
-}
-
 /// Opens the log at a path, or makes it, and lets it go. Tells whether it did.
 pub fn opens_at(rt: &HostRuntime, path: &str) -> bool {
-    is_open(SqlLog::open(rt, path))
+    use_at(rt, path, Use::Nothing).is_ok()
 }
 
 /// What the log at a path answers to `bump`. It is made where there is none, and not closed.
 pub fn bump_at(rt: &HostRuntime, path: &str) -> Result<u64, LogFault> {
-    bumped(SqlLog::open(rt, path))
+    use_at(rt, path, Use::Bump)
+}
+
+fn use_at(rt: &HostRuntime, path: &str, what: Use) -> Result<u64, LogFault> {
+    match SqlLog::open(rt, path) {
+        Ok(log) => used_in_files(log, what),
+        Err(fault) => Err(fault),
+    }
 }
 
 /// Opens the log at a path, or makes it, and closes it into one file.
@@ -53,14 +60,31 @@ pub fn look_at(rt: &HostRuntime, path: &str) -> Result<(), LogFault> {
     closed(SqlLog::look(rt, path))
 }
 
+/// What a task comes to over the database at a path, which is made where there is none.
+fn perform_at(rt: &HostRuntime, path: &str, task: Task<'_>) -> Done {
+    match Connection::open(rt, path) {
+        Ok(conn) => {
+            let (done, _files) = perform_over(conn, task);
+            done
+        }
+        Err(_) => Done::Nothing,
+    }
+}
+
 /// Runs statements on the database at a path, which is made where there is none.
 pub fn run_at(rt: &HostRuntime, path: &str, sql: &str) -> Result<(), LogFault> {
-    ran(Connection::open(rt, path), sql)
+    match perform_at(rt, path, Task::Execute(sql)) {
+        Done::Executed => Ok(()),
+        _ => Err(LogFault::Store),
+    }
 }
 
 /// What the tables of the database at a path hold.
 pub fn seen_at(rt: &HostRuntime, path: &str) -> Result<Seen, LogFault> {
-    shown(Connection::open(rt, path))
+    match perform_at(rt, path, Task::Look) {
+        Done::Seen(seen) => Ok(seen),
+        _ => Err(LogFault::Store),
+    }
 }
 
 /// Makes a folder with no files.

@@ -33,8 +33,8 @@ pub enum Reached {
 
 /// What is done.
 #[derive(Clone, Copy)]
-pub(crate) enum Task {
-    Execute(&'static str),
+pub(crate) enum Task<'a> {
+    Execute(&'a str),
     Look,
     /// A log takes the connection, and makes the change if there is one.
     Run(Option<Change>),
@@ -136,7 +136,7 @@ fn run_in_transaction<S: Alter + Drop>(mut conn: Connection<S>) -> (Done, Connec
 /// Does it, and gives the connection back.
 pub(crate) fn perform<S: Alter + Drop>(
     mut conn: Connection<S>,
-    task: Task,
+    task: Task<'_>,
 ) -> (Done, Connection<S>) {
     match task {
         Task::Execute(sql) => execute(conn, sql),

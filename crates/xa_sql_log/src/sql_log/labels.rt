@@ -3,18 +3,27 @@ ghost use Rattle.std.specs.Prelude.{IsTrue, IfErr};
 ghost use Rattle.xa_log.specs.Contract.{IsStoreFault};
 
 use super::SqlLog;
-use super::looking::copies_of;
-use super::opening::connection_to;
+use super::files::{connection_to, copies_of, options_of};
 use crate::label::{find_label, is_label, labelled_text};
 use crate::statements::{of_store, store_fault};
 use crate::tables::make_tables;
-use sqlite::{Connection, FileFrom, FileStore, Files, Options, Unknown};
+use sqlite::{Alter, Connection, FileFrom, FileStore, Files, Unknown};
 use sqlite_disk::Disk;
 use std::alloc::Global;
 use std::fs;
 use xa_log::LogFault;
 
-/// The label of the log in these files.
+/// The label of the log in a database, which is closed.
+fn label_over<S: Alter + Drop>(
+    alloc: Global,
+    mut conn: Connection<S>,
+) -> Result<Option<String>, LogFault>
+    ensures cause { IfErr result IsStoreFault }
+{
+    find_label(alloc, &mut conn)
+}
+
+/// The same in these files.
 fn label_in_files<D: Disk + Drop>(
     alloc: Global,
     files: Files<D>,
@@ -23,24 +32,35 @@ fn label_in_files<D: Disk + Drop>(
     requires db { IsTrue (D.Disk.is_usable files.db) }
     ensures cause { IfErr result IsStoreFault }
 {
-    match Connection::open_files(alloc, files, Options::new(0)) {
-        Ok(mut conn) => find_label(alloc, &mut conn),
+    match Connection::open_files(alloc, files, options_of(0)) {
+        Ok(conn) => label_over(alloc, conn),
         Err((error, _files)) => Err(store_fault(error)),
     }
 }
 
-/// Makes the tables of a log over files, that of the participants by this statement, and closes it into one file.
-fn make_in_files<D: Disk + Drop>(
-    mut conn: Connection<FileStore<D>>,
+/// The database with the tables of an empty log, of which this statement makes that of the participants, where no transaction is
+/// open.
+fn with_log<S: Alter + Drop>(
+    mut conn: Connection<S>,
     participants: &str,
-) -> Result<(), LogFault>
+) -> Result<Connection<S>, LogFault>
     ensures cause { IfErr result IsStoreFault }
 {
     if !conn.is_autocommit() {
         return Err(LogFault::Store);
     }
     make_tables(&mut conn, participants)?;
-    of_store(conn.close())
+    Ok(conn)
+}
+
+/// The same over files, which are closed into one.
+fn make_in_files<D: Disk + Drop>(
+    conn: Connection<FileStore<D>>,
+    participants: &str,
+) -> Result<(), LogFault>
+    ensures cause { IfErr result IsStoreFault }
+{
+    of_store(with_log(conn, participants)?.close())
 }
 
 impl SqlLog<FileStore<FileFrom<Unknown>>> {
