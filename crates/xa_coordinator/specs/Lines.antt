@@ -1,7 +1,7 @@
 -- Lines that are read and written.
-use Rattle.std.specs.Prelude.{◌≡◌, ◌⊎◌, ◌≤◌, ◌<◌, ◌==◌, ◌&&◌, ℕ, Bool, true, false, not, if◌then◌else◌, nat_le, List, [], ◌∷◌, ◌++◌, codes, length, replicate, Option, Some, None}
+use Rattle.std.specs.Prelude.{◌≡◌, ◌⊎◌, ◌≤◌, ◌<◌, ◌==◌, ◌&&◌, ℕ, Bool, true, false, not, if◌then◌else◌, nat_le, List, [], ◌∷◌, ◌++◌, codes, length, Option, Some, None}
 use Rattle.std.specs.Io.KnownBytes.{Consumes, IsAtEnd, Keeps}
-use Rattle.std.specs.List.{list_any, slice_split}
+use Rattle.std.specs.List.{list_any, repeat, slice_split}
 use Rattle.std.specs.Str.{is_utf8}
 use Rattle.xa_coordinator.specs.declared.lines.LineReply.{LineReply}
 use Rattle.xa_coordinator.specs.declared.lines.TheConstants.{LINE_LIMIT}
@@ -82,7 +82,7 @@ pub record ReadsWholeLines (unread left : Option (List ℕ)) (read : List ℕ) :
 
 -- a `;` for each request that was done before the one that is replied
 abbrev pub marks : (before : ℕ) → List ℕ
-marks before = replicate before 59
+marks before = repeat before (codes ";")
 
 abbrev pub line_of : LineReply → List ℕ
 line_of told = marks told.before ++ response_text told.reply ++ codes "\n"

@@ -3,7 +3,7 @@
 ghost use Rattle.std.specs.Prelude.{◌≡◌, ◌<◌, length, map, IfOk, OnErr, OnOk};
 ghost use Rattle.std.specs.Io.KnownBytes.{Appends};
 ghost use Rattle.std.specs.String.{string_bytes};
-ghost use Rattle.xa_coordinator.specs.Lines.{KeepsShort, ReadsLine, ReadsOne, alone, asked_in, cut_at_marks, is_nothing, marks, requests_in};
+ghost use Rattle.xa_coordinator.specs.Lines.{KeepsShort, ReadsLine, ReadsOne, alone, asked_in, cut_at_marks, is_nothing, requests_in};
 ghost use Rattle.xa_coordinator.specs.NamedLines.{line_read, line_written};
 ghost use Rattle.xa_files.specs.Outputs.{AppendsBeginning};
 ghost use Rattle.xa_names.specs.Lines.{line_renamed};
@@ -188,24 +188,13 @@ fn meant_by(alloc: Global, name: &ManagerName, line: String) -> Result<String, M
     line_renamed(alloc, name, line.as_str())
 }
 
-/// A `;` for each request that was done before the one that is replied.
-fn marks(alloc: Global, before: usize) -> Result<String, Memory>
-    ensures { IfOk result (λ text. string_bytes text ≡ marks before) }
-{
-    let mut text = String::new(alloc);
-    for _ in 0..before {
-        text.push_str(";")?;
-    }
-    Ok(text)
-}
-
 /// The line of a reply of a manager of this name, with its line feed.
 fn line_written(alloc: Global, name: &ManagerName, told: &LineReply) -> Result<String, Memory>
     ensures { IfOk result (λ text. string_bytes text ≡ line_written name.now told.now) }
 {
     let line = response_text(alloc, &told.reply)?;
     let meant = meant_by(alloc, name, line)?;
-    let mut text = marks(alloc, told.before)?;
+    let mut text = ";".repeat(alloc, told.before)?;
     text.push_str(meant.as_str())?;
     text.push_str("\n")?;
     Ok(text)

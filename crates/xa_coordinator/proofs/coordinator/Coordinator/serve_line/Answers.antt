@@ -1,8 +1,8 @@
 use Rattle.std.proofs.Common.{◌∙◌, false, subst, sym}
 use Rattle.std.specs.Io.Buffered.{reader_remaining}
 use Rattle.xa_coordinator.proofs.ServingLemmas.{at_end, off_at_once, off_behind, on_err, one_line, served_behind_flush}
-use Rattle.xa_coordinator.specs.NamedLines.{line_read}
-use Rattle.xa_coordinator.specs.Serving.{RepliesTo}
+use Rattle.xa_coordinator.proofs.LineLemmas.{asks_of}
+use Rattle.xa_coordinator.specs.Serving.{RepliesToLine}
 use Rattle.xa_coordinator.specs.ServingLines.{BreaksOff, ServesLine}
 use Rattle.xa_coordinator.proofs.coordinator.Coordinator.serve_line.Goals as goal
 
@@ -22,13 +22,13 @@ returns-in_err-line-clause-err g c =
     on_err c.from_residual-in_err-line.result (BreaksOff g.L.DecisionLog.moment c.args.name.now unread written all c.args.self.now c.args.self.now)
     (off_at_once g.L.DecisionLog.moment c.args.name.now unread written all c.args.self.now c.flush_before_waiting.ensures)
 
-pub returns-in_err-reply-clause-err : goal.returns-in_err-reply-clause-err
-returns-in_err-reply-clause-err g c =
+pub returns-in_err-told-clause-err : goal.returns-in_err-told-clause-err
+returns-in_err-told-clause-err g c =
     let unread = reader_remaining g.R.Read.remaining c.args.input.now in
     let written = g.W.Write.contents c.args.output.now in
     let all = g.W.Write.contents c.flush_before_waiting.new.output in
-    on_err c.from_residual-in_err-reply.result (BreaksOff g.L.DecisionLog.moment c.args.name.now unread written all c.args.self.now c.reply_to.new.self)
-    (subst (λ s. BreaksOff g.L.DecisionLog.moment c.args.name.now unread written all c.args.self.now s) (sym c.in_err-reply.ensures.err)
+    on_err c.from_residual-in_err-told.result (BreaksOff g.L.DecisionLog.moment c.args.name.now unread written all c.args.self.now c.reply_to.new.self)
+    (subst (λ s. BreaksOff g.L.DecisionLog.moment c.args.name.now unread written all c.args.self.now s) (sym c.in_err-told.ensures.err)
     (off_at_once g.L.DecisionLog.moment c.args.name.now unread written all c.args.self.now c.flush_before_waiting.ensures))
 
 pub returns-in_err-write_reply-clause-err : goal.returns-in_err-write_reply-clause-err
@@ -40,9 +40,10 @@ returns-in_err-write_reply-clause-err g c =
     (BreaksOff g.L.DecisionLog.moment c.args.name.now (left c.args.input.now) (contents c.args.output.now) (contents c.write_reply.new.output) c.args.self.now c.reply_to.new.self)
     (off_behind g.L.DecisionLog.moment c.args.name.now (left c.args.input.now) (left c.read_line.new.input) (contents c.args.output.now) mid
     (contents c.write_reply.new.output)
-    c.in_ok-line.line.bytes.items c.in_ok-line.line.is_ended c.in_ok-reply.reply c.args.self.now c.reply_to.new.self
+    c.in_ok-line.line.bytes.items c.in_ok-line.line.is_ended c.in_ok-told.told c.args.self.now c.reply_to.new.self
     c.in_ok-line.ensures (sym c.is_nothing.ensures ∙ c.if-is_nothing.false)
-    (subst (λ l. RepliesTo g.L.DecisionLog.moment (line_read c.args.name.now l) c.args.self.now c.in_ok-reply.reply c.reply_to.new.self) c.deref.ensures.value c.in_ok-reply.ensures.ok)
+    (subst (λ l. RepliesToLine g.L.DecisionLog.moment (asks_of c.args.name.now l) c.args.self.now c.in_ok-told.told c.reply_to.new.self) c.deref.ensures.value
+    c.in_ok-told.ensures.ok)
     c.flush_before_waiting.ensures c.in_err-write_reply.ensures.err)
 
 pub returns-then-is_nothing-clause-ok : goal.returns-then-is_nothing-clause-ok
@@ -66,7 +67,8 @@ returns-clause-ok g c =
     (subst (ServesLine g.L.DecisionLog.moment c.args.name.now (left c.args.input.now) (left c.read_line.new.input) mid all c.args.self.now
     c.reply_to.new.self) (sym c.goes_on.ensures)
     (one_line g.L.DecisionLog.moment c.args.name.now (left c.args.input.now) (left c.read_line.new.input) mid all
-    c.in_ok-line.line.bytes.items c.in_ok-line.line.is_ended c.in_ok-reply.reply c.args.self.now c.reply_to.new.self
+    c.in_ok-line.line.bytes.items c.in_ok-line.line.is_ended c.in_ok-told.told c.args.self.now c.reply_to.new.self
     c.in_ok-line.ensures (sym c.is_nothing.ensures ∙ c.if-is_nothing.false)
-    (subst (λ l. RepliesTo g.L.DecisionLog.moment (line_read c.args.name.now l) c.args.self.now c.in_ok-reply.reply c.reply_to.new.self) c.deref.ensures.value c.in_ok-reply.ensures.ok)
+    (subst (λ l. RepliesToLine g.L.DecisionLog.moment (asks_of c.args.name.now l) c.args.self.now c.in_ok-told.told c.reply_to.new.self) c.deref.ensures.value
+    c.in_ok-told.ensures.ok)
     c.in_ok-write_reply.ensures.ok))

@@ -1,6 +1,7 @@
-use Rattle.std.proofs.Common.{subst}
+use Rattle.std.proofs.Common.{◌∙◌, ap, subst}
 use Rattle.std.specs.Io.Buffered.{reader_remaining}
 use Rattle.xa_coordinator.proofs.ServingLemmas.{broken_off, greeted, no_more, not_greeted, on_err, one_more, the_last}
+use Rattle.xa_coordinator.specs.Lines.{alone}
 use Rattle.xa_coordinator.specs.NamedLines.{BreaksSessionUnder, line_written}
 use Rattle.xa_coordinator.specs.Replies.{greeting_of}
 use Rattle.xa_coordinator.specs.ServingLines.{ServesLine}
@@ -14,7 +15,7 @@ returns-in_err-write_reply-clause-broken g c =
     let s = c.args.self.now in
     on_err c.from_residual.result (BreaksSessionUnder g.L.DecisionLog.moment c.args.name.now (greeting_of s) (reader_remaining g.R.Read.remaining c.args.input.now) (contents c.args.output.now) (contents c.write_reply.new.output) s s)
     (not_greeted g.L.DecisionLog.moment c.args.name.now (greeting_of s) (reader_remaining g.R.Read.remaining c.args.input.now) (contents c.args.output.now) (contents c.write_reply.new.output) s
-    (subst (λ r. AppendsBeginning (contents c.args.output.now) (contents c.write_reply.new.output) (line_written c.args.name.now r)) c.greeting-greeting.ensures
+    (subst (λ r. AppendsBeginning (contents c.args.output.now) (contents c.write_reply.new.output) (line_written c.args.name.now r)) (c.alone-greeting.ensures ∙ ap alone c.greeting.ensures)
     c.in_err-write_reply.ensures.err))
 
 pub loop-init : goal.loop-init
@@ -24,7 +25,7 @@ loop-init g c =
     record {
       ready = c.requires;
       some = greeted g.L.DecisionLog.moment c.args.name.now (greeting_of s) (reader_remaining g.R.Read.remaining c.args.input.now) (contents c.args.output.now) (contents c.write_reply.new.output) s
-          (subst (λ r. Appends (contents c.args.output.now) (contents c.write_reply.new.output) (line_written c.args.name.now r)) c.greeting-greeting.ensures
+          (subst (λ r. Appends (contents c.args.output.now) (contents c.write_reply.new.output) (line_written c.args.name.now r)) (c.alone-greeting.ensures ∙ ap alone c.greeting.ensures)
           c.in_ok-write_reply.ensures.ok);
     }
 
