@@ -72,7 +72,9 @@ pub is_served : {L : Type 0} (moment : L → Moment) (threads rms : ℕ) (handed
 is_served moment threads rms handed old new text unread before written starts order honest empty none serves agree =
     let start = start_of threads rms old in
     let begins = begins_so threads rms old in
-    let so = agree threads rms (requests_done serves.turns) (replies_given serves.turns) old new starts.stands serves.replied start begins (starts.old start begins) in
+    let so =
+    agree threads rms (requests_done serves.turns) (replies_given serves.turns) old new starts.stands serves.replied start begins
+    (starts.old start begins) in
     let there = none_there nothing start none_logged
     (raised_from moment threads rms handed old starts order honest nothing empty start begins nothing refl refl (omega arith)) in
     record {
@@ -343,7 +345,8 @@ module _ {L : Type 0} (moment : L → Moment) (agree : ServedSessionsAgree momen
     two = is_replied moment threads rms mid left second second_written two;
     served = λ one_well two_well.
         are_served decide stand law handed order empty one.first one.last two.first two.last (requests_done one.serves.turns) (requests_done two.serves.turns)
-        (replies_given one.serves.turns) (replies_given two.serves.turns) one.starts (subst (λ log. StartsOver moment threads rms log two.first) one.log two.starts) one.serves.replied
+        (replies_given one.serves.turns) (replies_given two.serves.turns) one.starts
+        (subst (λ log. StartsOver moment threads rms log two.first) one.log two.starts) one.serves.replied
         two.serves.replied one_well two_well honest;
   }
 

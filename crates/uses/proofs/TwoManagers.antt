@@ -78,8 +78,8 @@ module _ {L : Type 0} (moment : L → Moment) where
         let start = start_of threads rms is.first in
         let begins = begins_so threads rms is.first in
         let so =
-        agree threads rms (lines_read name (requests_done is.serves.turns)) (replies_given is.serves.turns) is.first is.last is.stands is.serves.replied start begins
-        (is.old start begins) in
+        agree threads rms (lines_read name (requests_done is.serves.turns)) (replies_given is.serves.turns) is.first is.last is.stands
+        is.serves.replied start begins (is.old start begins) in
         record {
           read = is.serves.read;
           unread = is.unread;
@@ -100,12 +100,13 @@ module _ {L : Type 0} (moment : L → Moment) where
         }
 
     module _ (first_tracked : StartsAreTracked L) (tracked : RepliesAreTracked moment) (law : ManagersAreApart moment) where
-      given_in : (name text written : List ℕ) (is : IsServedFrom moment name threads rms text written) → list_any is_log_fault (replies_given is.serves.turns) ≡ false
-          → AllByRecursion WasGiven (replies_given is.serves.turns)
+      given_in : (name text written : List ℕ) (is : IsServedFrom moment name threads rms text written)
+          → list_any is_log_fault (replies_given is.serves.turns) ≡ false → AllByRecursion WasGiven (replies_given is.serves.turns)
       given_in name text written is fine =
           let start = start_of threads rms is.first in
           let begins = begins_so threads rms is.first in
-          all_given tracked start (is.old start begins) (lines_read name (requests_done is.serves.turns)) (replies_given is.serves.turns) Start is.first is.last
+          all_given tracked start (is.old start begins) (lines_read name (requests_done is.serves.turns)) (replies_given is.serves.turns) Start
+          is.first is.last
           (first_tracked threads rms is.first.session is.stands start begins) is.serves.replied fine
 
       pub served_apart : (m n first second first_written second_written : List ℕ) → IsServedFrom moment m threads rms first first_written

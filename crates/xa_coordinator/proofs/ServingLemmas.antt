@@ -141,7 +141,8 @@ whole_or_end read more left first (inr end) = inr end
 
 -- Some lines were served behind the first line of the session, and it goes on.
 module _ {L : Type 0} (moment : L → Moment) where
-  pub record ServesSome (name : List ℕ) (greeting : Response) (unread left : Option (List ℕ)) (written all : Option (List ℕ)) (old new : Coordinator L) : Type 0 where
+  pub record ServesSome (name : List ℕ) (greeting : Response) (unread left : Option (List ℕ)) (written all : Option (List ℕ))
+      (old new : Coordinator L) : Type 0 where
     pub read : List ℕ
     pub turns : List Turn
     pub consumed : Consumes unread left read

@@ -30,17 +30,17 @@ module _ {L : Type 0} (moment : L → Moment) where
       (old now new : Coordinator L) (reply more : Response) → RepliesSoFar asked before old reply now (next ∷ left) → ends_line reply ≡ false
       → RepliesBy moment next now more new → RepliesSoFar asked (before ++ reply ∷ []) old more new left
   one_request_more [] before next left old now new reply more so_far on does = absurd so_far
-  one_request_more (a ∷ as) [] next left old now new reply more so_far on does =
+  one_request_more (q ∷ qs) [] next left old now new reply more so_far on does =
       (on, now, so_far.0, subst (λ others. RepliesSoFar others [] now more new left) (sym so_far.1) (does, refl))
-  one_request_more (a ∷ as) (first ∷ before) next left old now new reply more so_far on does =
-      (so_far.0, so_far.1.0, so_far.1.1, one_request_more as before next left so_far.1.0 now new reply more so_far.1.2 on does)
+  one_request_more (q ∷ qs) (first ∷ before) next left old now new reply more so_far on does =
+      (so_far.0, so_far.1.0, so_far.1.1, one_request_more qs before next left so_far.1.0 now new reply more so_far.1.2 on does)
 
   pub no_request_more : (asked : List (Option Request)) (before : List Response) (left : List (Option Request)) (old new : Coordinator L) (reply : Response)
       → RepliesSoFar asked before old reply new left → (left ≡ []) ⊎ (ends_line reply ≡ true) → RepliesInTurn moment asked before old reply new
   no_request_more [] before left old new reply so_far over = absurd so_far
-  no_request_more (a ∷ as) [] left old new reply so_far over = (so_far.0, subst (λ others. (others ≡ []) ⊎ (ends_line reply ≡ true)) (sym so_far.1) over)
-  no_request_more (a ∷ as) (first ∷ before) left old new reply so_far over =
-      (so_far.0, so_far.1.0, so_far.1.1, no_request_more as before left so_far.1.0 new reply so_far.1.2 over)
+  no_request_more (q ∷ qs) [] left old new reply so_far over = (so_far.0, subst (λ others. (others ≡ []) ⊎ (ends_line reply ≡ true)) (sym so_far.1) over)
+  no_request_more (q ∷ qs) (first ∷ before) left old new reply so_far over =
+      (so_far.0, so_far.1.0, so_far.1.1, no_request_more qs before left so_far.1.0 new reply so_far.1.2 over)
 
   -- what was asked for is done up to a place, and the line would be replied so
   abbrev pub HasReplied : (asked others : List (Option Request)) (i : ℕ) → LineReply → (old now : Coordinator L) → Type 0

@@ -33,42 +33,52 @@ returns-in_err-told-clause-err g c =
 
 pub returns-in_err-write_reply-clause-err : goal.returns-in_err-write_reply-clause-err
 returns-in_err-write_reply-clause-err g c =
+    let moment = g.L.DecisionLog.moment in
+    let name = c.args.name.now in
     let left = reader_remaining g.R.Read.remaining in
     let contents = g.W.Write.contents in
+    let written = contents c.args.output.now in
     let mid = contents c.flush_before_waiting.new.output in
-    on_err c.from_residual-in_err-write_reply.result
-    (BreaksOff g.L.DecisionLog.moment c.args.name.now (left c.args.input.now) (contents c.args.output.now) (contents c.write_reply.new.output) c.args.self.now c.reply_to.new.self)
-    (off_behind g.L.DecisionLog.moment c.args.name.now (left c.args.input.now) (left c.read_line.new.input) (contents c.args.output.now) mid
-    (contents c.write_reply.new.output)
-    c.in_ok-line.line.bytes.items c.in_ok-line.line.is_ended c.in_ok-told.told c.args.self.now c.reply_to.new.self
+    let all = contents c.write_reply.new.output in
+    let line = c.in_ok-line.line in
+    let told = c.in_ok-told.told in
+    let old = c.args.self.now in
+    let new = c.reply_to.new.self in
+    on_err c.from_residual-in_err-write_reply.result (BreaksOff moment name (left c.args.input.now) written all old new)
+    (off_behind moment name (left c.args.input.now) (left c.read_line.new.input) written mid all line.bytes.items line.is_ended told old new
     c.in_ok-line.ensures (sym c.is_nothing.ensures ∙ c.if-is_nothing.false)
-    (subst (λ l. RepliesToLine g.L.DecisionLog.moment (asks_of c.args.name.now l) c.args.self.now c.in_ok-told.told c.reply_to.new.self) c.deref.ensures.value
-    c.in_ok-told.ensures.ok)
+    (subst (λ l. RepliesToLine moment (asks_of name l) old told new) c.deref.ensures.value c.in_ok-told.ensures.ok)
     c.flush_before_waiting.ensures c.in_err-write_reply.ensures.err)
 
 pub returns-then-is_nothing-clause-ok : goal.returns-then-is_nothing-clause-ok
 returns-then-is_nothing-clause-ok g c =
-    let left = reader_remaining g.R.Read.remaining in
-    let contents = g.W.Write.contents in
-    let mid = contents c.flush_before_waiting.new.output in
-    served_behind_flush g.L.DecisionLog.moment c.args.name.now (left c.args.input.now) (left c.read_line.new.input) (contents c.args.output.now) mid mid
-    c.args.self.now c.args.self.now false c.flush_before_waiting.ensures
-    (at_end g.L.DecisionLog.moment c.args.name.now (left c.args.input.now) (left c.read_line.new.input) mid c.in_ok-line.line.bytes.items c.in_ok-line.line.is_ended
-    c.args.self.now c.in_ok-line.ensures (sym c.is_nothing.ensures ∙ c.if-is_nothing.true))
+    let moment = g.L.DecisionLog.moment in
+    let name = c.args.name.now in
+    let unread = reader_remaining g.R.Read.remaining c.args.input.now in
+    let rest = reader_remaining g.R.Read.remaining c.read_line.new.input in
+    let written = g.W.Write.contents c.args.output.now in
+    let mid = g.W.Write.contents c.flush_before_waiting.new.output in
+    let line = c.in_ok-line.line in
+    let s = c.args.self.now in
+    served_behind_flush moment name unread rest written mid mid s s false c.flush_before_waiting.ensures
+    (at_end moment name unread rest mid line.bytes.items line.is_ended s c.in_ok-line.ensures (sym c.is_nothing.ensures ∙ c.if-is_nothing.true))
 
 pub returns-clause-ok : goal.returns-clause-ok
 returns-clause-ok g c =
+    let moment = g.L.DecisionLog.moment in
+    let name = c.args.name.now in
     let left = reader_remaining g.R.Read.remaining in
     let contents = g.W.Write.contents in
+    let unread = left c.args.input.now in
+    let rest = left c.read_line.new.input in
     let mid = contents c.flush_before_waiting.new.output in
     let all = contents c.write_reply.new.output in
-    served_behind_flush g.L.DecisionLog.moment c.args.name.now (left c.args.input.now) (left c.read_line.new.input) (contents c.args.output.now) mid all
-    c.args.self.now c.reply_to.new.self c.goes_on.result c.flush_before_waiting.ensures
-    (subst (ServesLine g.L.DecisionLog.moment c.args.name.now (left c.args.input.now) (left c.read_line.new.input) mid all c.args.self.now
-    c.reply_to.new.self) (sym c.goes_on.ensures)
-    (one_line g.L.DecisionLog.moment c.args.name.now (left c.args.input.now) (left c.read_line.new.input) mid all
-    c.in_ok-line.line.bytes.items c.in_ok-line.line.is_ended c.in_ok-told.told c.args.self.now c.reply_to.new.self
-    c.in_ok-line.ensures (sym c.is_nothing.ensures ∙ c.if-is_nothing.false)
-    (subst (λ l. RepliesToLine g.L.DecisionLog.moment (asks_of c.args.name.now l) c.args.self.now c.in_ok-told.told c.reply_to.new.self) c.deref.ensures.value
-    c.in_ok-told.ensures.ok)
-    c.in_ok-write_reply.ensures.ok))
+    let line = c.in_ok-line.line in
+    let told = c.in_ok-told.told in
+    let old = c.args.self.now in
+    let new = c.reply_to.new.self in
+    served_behind_flush moment name unread rest (contents c.args.output.now) mid all old new c.goes_on.result c.flush_before_waiting.ensures
+    (subst (ServesLine moment name unread rest mid all old new) (sym c.goes_on.ensures)
+    (one_line moment name unread rest mid all line.bytes.items line.is_ended told old new c.in_ok-line.ensures
+    (sym c.is_nothing.ensures ∙ c.if-is_nothing.false)
+    (subst (λ l. RepliesToLine moment (asks_of name l) old told new) c.deref.ensures.value c.in_ok-told.ensures.ok) c.in_ok-write_reply.ensures.ok))
