@@ -1,5 +1,5 @@
 -- The requests of a line, in turn.
-use Rattle.std.proofs.Common.{◌≡◌, ◌∙◌, ◌⊎◌, inl, inr, ◌≤◌, ◌<◌, ◌+◌, ℕ, Bool, true, false, List, [], ◌∷◌, ◌++◌, map, length, get_or, take, drop, Option, refl, sym, ap, subst, ◌||◌}
+use Rattle.std.proofs.Common.{◌≡◌, ◌∙◌, ◌⊎◌, inl, inr, ◌≤◌, ◌<◌, ◌+◌, ℕ, zero, suc, Bool, true, false, List, [], ◌∷◌, ◌++◌, map, length, get_or, take, drop, Option, refl, sym, ap, subst, ◌||◌}
 use Rattle.std.proofs.Common.{add-one, drop-cons, drop_of_length-le, length-append}
 use Rattle.std.proofs.lemmas.Grind.{flat_map-append}
 use Rattle.std.proofs.lemmas.List.{append-nil, map-append}
@@ -31,16 +31,16 @@ module _ {L : Type 0} (moment : L → Moment) where
       → RepliesBy moment next now more new → RepliesSoFar asked (before ++ reply ∷ []) old more new left
   one_request_more [] before next left old now new reply more so_far on does = absurd so_far
   one_request_more (q ∷ qs) [] next left old now new reply more so_far on does =
-      (on, now, so_far.0, subst (λ others. RepliesSoFar others [] now more new left) (sym so_far.1) (does, refl))
+      (on, (now, so_far.0, subst (λ others. RepliesSoFar others [] now more new left) (sym so_far.1) (does, refl)))
   one_request_more (q ∷ qs) (first ∷ before) next left old now new reply more so_far on does =
-      (so_far.0, so_far.1.0, so_far.1.1, one_request_more qs before next left so_far.1.0 now new reply more so_far.1.2 on does)
+      (so_far.0, (so_far.1.0, so_far.1.1, one_request_more qs before next left so_far.1.0 now new reply more so_far.1.2 on does))
 
   pub no_request_more : (asked : List (Option Request)) (before : List Response) (left : List (Option Request)) (old new : Coordinator L) (reply : Response)
       → RepliesSoFar asked before old reply new left → (left ≡ []) ⊎ (ends_line reply ≡ true) → RepliesInTurn moment asked before old reply new
   no_request_more [] before left old new reply so_far over = absurd so_far
   no_request_more (q ∷ qs) [] left old new reply so_far over = (so_far.0, subst (λ others. (others ≡ []) ⊎ (ends_line reply ≡ true)) (sym so_far.1) over)
   no_request_more (q ∷ qs) (first ∷ before) left old new reply so_far over =
-      (so_far.0, so_far.1.0, so_far.1.1, no_request_more qs before left so_far.1.0 new reply so_far.1.2 over)
+      (so_far.0, (so_far.1.0, so_far.1.1, no_request_more qs before left so_far.1.0 new reply so_far.1.2 over))
 
   -- what was asked for is done up to a place, and the line would be replied so
   abbrev pub HasReplied : (asked others : List (Option Request)) (i : ℕ) → LineReply → (old now : Coordinator L) → Type 0
@@ -86,7 +86,7 @@ module _ {L : Type 0} (moment : L → Moment) (name : List ℕ) where
   -- the requests that were done or refused have these replies
   in_turn : (requests : List (List ℕ)) (before : List Response) (old new : Coordinator L) (reply : Response)
       → RepliesInTurn moment (asks requests) before old reply new
-      → HaveReplies moment (lines_read name (take (length before + 1) requests)) (before ++ reply ∷ []) old new
+      → HaveReplies moment (lines_read name (take (suc (length before)) requests)) (before ++ reply ∷ []) old new
   unfolding asks
   in_turn [] before old new reply replied = absurd replied
   in_turn (r ∷ rs) [] old new reply replied = (new, replied.0, refl)
@@ -101,18 +101,18 @@ module _ {L : Type 0} (moment : L → Moment) (name : List ℕ) where
       ap (λ b. b || list_any ends_line before) replied.0 ∙ none_ends rs before replied.1.0 new reply replied.1.2
 
   to_end : (requests : List (List ℕ)) (before : List Response) (old new : Coordinator L) (reply : Response)
-      → RepliesInTurn moment (asks requests) before old reply new → (length requests ≡ length before + 1) ⊎ (ends_line reply ≡ true)
+      → RepliesInTurn moment (asks requests) before old reply new → (length requests ≡ suc (length before)) ⊎ (ends_line reply ≡ true)
   unfolding asks
   to_end [] before old new reply replied = absurd replied
   to_end (r ∷ rs) [] old new reply replied = by_end replied.1
     where
-      by_end : (asks rs ≡ []) ⊎ (ends_line reply ≡ true) → (length (r ∷ rs) ≡ 1) ⊎ (ends_line reply ≡ true)
+      by_end : (asks rs ≡ []) ⊎ (ends_line reply ≡ true) → (length (r ∷ rs) ≡ suc zero) ⊎ (ends_line reply ≡ true)
       by_end (inl none) = inl (ap (λ xs. length (r ∷ xs)) (nothing_is_left _ rs none))
       by_end (inr ends) = inr ends
   to_end (r ∷ rs) (first ∷ before) old new reply replied = by_end (to_end rs before replied.1.0 new reply replied.1.2)
     where
-      by_end : (length rs ≡ length before + 1) ⊎ (ends_line reply ≡ true) → (length (r ∷ rs) ≡ length (first ∷ before) + 1) ⊎ (ends_line reply ≡ true)
-      by_end (inl whole) = inl (ap (λ n. 1 + n) whole)
+      by_end : (length rs ≡ suc (length before)) ⊎ (ends_line reply ≡ true) → (length (r ∷ rs) ≡ suc (length (first ∷ before))) ⊎ (ends_line reply ≡ true)
+      by_end (inl whole) = inl (ap (λ n. suc n) whole)
       by_end (inr ends) = inr ends
 
   -- A line was done so.

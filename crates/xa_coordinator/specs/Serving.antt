@@ -1,5 +1,5 @@
 -- What is written to the lines that are read.
-use Rattle.std.specs.Prelude.{◌≡◌, ◌⊎◌, ◌+◌, ℕ, Bool, true, false, MatchBool, All, List, [], ◌∷◌, ◌++◌, length, map, take, Option, Some, None}
+use Rattle.std.specs.Prelude.{◌≡◌, ◌⊎◌, ℕ, suc, Bool, true, false, MatchBool, All, List, [], ◌∷◌, ◌++◌, length, map, take, Option, Some, None}
 use Rattle.std.specs.Io.KnownBytes.{Appends, Consumes, IsAtEnd}
 use Rattle.std.specs.List.{flat_map, list_any}
 use Rattle.xa_coordinator.specs.Lines.{ReadsWholeLines, alone, asked_in, line_of, lines_of, requests_in}
@@ -68,7 +68,7 @@ told_of turn = record { before = length turn.before; reply = turn.reply }
 
 -- its requests that were done or refused, each as a line of its own, and the reply to each
 abbrev pub requests_of : Turn → List (List ℕ)
-requests_of turn = take (length turn.before + 1) (requests_in turn.line)
+requests_of turn = take (suc (length turn.before)) (requests_in turn.line)
 
 abbrev pub replies_of : Turn → List Response
 replies_of turn = turn.before ++ turn.reply ∷ []
@@ -76,7 +76,7 @@ replies_of turn = turn.before ++ turn.reply ∷ []
 -- up to the first that was refused, or to the last
 pub record IsTurn (turn : Turn) : Type 0 where
   pub done : list_any ends_line turn.before ≡ false
-  pub whole : (length (requests_in turn.line) ≡ length turn.before + 1) ⊎ (ends_line turn.reply ≡ true)
+  pub whole : (length (requests_in turn.line) ≡ suc (length turn.before)) ⊎ (ends_line turn.reply ≡ true)
 
 -- these lines were done so
 pub record AreTurns (lines : List (List ℕ)) (turns : List Turn) : Type 0 where
