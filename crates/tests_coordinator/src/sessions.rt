@@ -9,7 +9,7 @@ use xa_tm::StartFault;
 
 /// What a session over a log writes to these lines, of two threads and two resource managers; none, where memory was
 /// refused.
-fn written(alloc: Global, log: MemLog, lines: &str) -> Option<Vec<u8>> {
+pub(crate) fn written(alloc: Global, log: MemLog, lines: &str) -> Option<Vec<u8>> {
     let mut output = Vec::new(alloc);
     let mut input = BufReader::new(alloc, lines.as_bytes()).ok()?;
     match Coordinator::new(alloc, 2, 2, log) {

@@ -1,5 +1,5 @@
 -- A driver is served.
-use Rattle.std.proofs.Common.{◌≡◌, ◌≤◌, ◌<◌, ◌⊎◌, inl, inr, ℕ, true, false, List, [], ◌∷◌, ◌++◌, length, Option, Some, None, IsSomeAnd, refl, sym, subst, arith}
+use Rattle.std.proofs.Common.{◌≡◌, ◌≤◌, ◌<◌, ◌⊎◌, inl, inr, ℕ, true, false, List, [], ◌∷◌, ◌++◌, length, Option, Some, None, IsSomeAnd, refl, sym, ap, subst, arith}
 use Rattle.std.specs.FinMap.{len-empty}
 use Rattle.std.specs.List.{list_any}
 use Rattle.xa_base.specs.StateTable.{broken}
@@ -10,10 +10,11 @@ use Rattle.xa_base.specs.HeldBranch.{new_branch}
 use Rattle.xa_base.specs.Scan.{Scan.NotOpen}
 use Rattle.xa_coordinator.proofs.LogLemmas.{replies_keep}
 use Rattle.xa_coordinator.proofs.SessionChains.{none_there, raised_from}
+use Rattle.xa_coordinator.proofs.TurnLemmas.{nothing_is_left}
 use Rattle.xa_coordinator.proofs.VoteLemmas.{split_replies}
 use Rattle.xa_coordinator.specs.Lines.{lines_of}
 use Rattle.xa_coordinator.specs.Replies.{greeting_of}
-use Rattle.xa_coordinator.specs.Serving.{HaveReplies, RepliesTo, Serves, text_of}
+use Rattle.xa_coordinator.specs.Serving.{HaveReplies, RepliesTo, Serves, replies_given, requests_done, text_of, told_in}
 use Rattle.xa_coordinator.specs.Sessions.{AreServed, AreServed.NoneYet, AreServed.OneMore, CommitStands, IsEmptyLog, IsHandedOn, IsLeft.AfterLine, IsSession, ServedCommitsStand, ServedLogsDecide, ServedSessionsAgree, ServedSessionsAreSeen, StartsOver, WasFoundDecided}
 use Rattle.xa_coordinator.specs.Telling.{HaveTold, is_log_fault}
 use Rattle.xa_coordinator.specs.Tracking.{ServedDatabasesAgree}
@@ -71,7 +72,9 @@ pub is_served : {L : Type 0} (moment : L → Moment) (threads rms : ℕ) (handed
 is_served moment threads rms handed old new text unread before written starts order honest empty none serves agree =
     let start = start_of threads rms old in
     let begins = begins_so threads rms old in
-    let so = agree threads rms (lines_of serves.read) serves.replies old new starts.stands serves.replied start begins (starts.old start begins) in
+    let so =
+    agree threads rms (requests_done serves.turns) (replies_given serves.turns) old new starts.stands serves.replied start begins
+    (starts.old start begins) in
     let there = none_there nothing start none_logged
     (raised_from moment threads rms handed old starts order honest nothing empty start begins nothing refl refl (omega arith)) in
     record {
@@ -80,14 +83,15 @@ is_served moment threads rms handed old new text unread before written starts or
       start = start;
       decisions = old.decisions;
       heuristics = old.heuristics;
-      replies = serves.replies;
+      turns = serves.turns;
+      lines = serves.lines;
       seen = so.seen;
       threads_are = refl;
       rms_are = refl;
       no_rows = there.rows;
       no_records = there.records;
       whole = serves.consumed;
-      replied = subst (λ xs. written ≡ xs ++ text_of (greeting_of old ∷ serves.replies)) none serves.appended;
+      replied = subst (λ xs. written ≡ xs ++ text_of (told_in (greeting_of old) serves.turns)) none serves.appended;
       ends = serves.ends;
       told = so.told;
       explained = so.explained;
@@ -149,11 +153,13 @@ commits_left {L} moment threads rms handed left text written is law order honest
   read = is.serves.read;
   unread = is.unread;
   greeting = greeting_of is.first;
-  replies = is.serves.replies;
+  turns = is.serves.turns;
+  lines = is.serves.lines;
   whole = is.serves.consumed;
   replied = is.serves.appended;
   ends = is.serves.ends;
-  rows = rows_logged moment law threads rms handed is.first is.last (lines_of is.serves.read) is.serves.replies is.starts is.serves.replied order honest;
+  rows = rows_logged moment law threads rms handed is.first is.last (requests_done is.serves.turns) (replies_given is.serves.turns) is.starts
+      is.serves.replied order honest;
 }
 
 pub logs_commits : {L : Type 0} (moment : L → Moment) (threads rms : ℕ) (handed left : L) (text written : List ℕ)
@@ -170,7 +176,8 @@ is_replied moment threads rms handed left text written is = record {
   read = is.serves.read;
   unread = is.unread;
   greeting = greeting_of is.first;
-  replies = is.serves.replies;
+  turns = is.serves.turns;
+  lines = is.serves.lines;
   whole = is.serves.consumed;
   replied = is.serves.appended;
   ends = is.serves.ends;
@@ -207,10 +214,6 @@ module _ {L : Type 0} (moment : L → Moment) (agree : ServedSessionsAgree momen
   none_read [] unread e = refl
   none_read (x ∷ read) unread e = absurd (cc)
 
-  none_told : (replies : List Response) (first last : Coordinator L) → HaveReplies moment [] replies first last → replies ≡ []
-  none_told [] first last have = refl
-  none_told (r ∷ replies) first last have = absurd have
-
   empty_handed : (handed : L) → (moment handed).is_in_order → IsSomeAnd (moment handed).content IsEmptyLog → IsHandedOn moment None handed
   empty_handed handed order empty =
       let found = there_is (moment handed).content IsEmptyLog empty in
@@ -228,9 +231,8 @@ module _ {L : Type 0} (moment : L → Moment) (agree : ServedSessionsAgree momen
       (IsSomeAnd (moment handed).content IsEmptyLog → AreServedTo moment left (λ b. Unstarted))
   silent_so handed left written is order honest empty =
       let none = none_read is.serves.read is.unread is.serves.consumed in
-      let have = subst (λ text. HaveReplies moment (lines_of text) is.serves.replies is.first is.last) none is.serves.replied in
-      let silent = none_told is.serves.replies is.first is.last have in
-      let none_have = subst (λ rs. HaveReplies moment [] rs is.first is.last) silent have in
+      let silent = nothing_is_left (λ turn. turn.line) is.serves.turns (is.serves.lines.are ∙ ap lines_of none) in
+      let none_have = subst (λ turns. HaveReplies moment (requests_done turns) (replies_given turns) is.first is.last) silent is.serves.replied in
       let s = seen_in handed is.first is.last [] [] is.starts none_have refl in (
         is.last,
         is.log,
@@ -342,8 +344,9 @@ module _ {L : Type 0} (moment : L → Moment) (agree : ServedSessionsAgree momen
     one = is_replied moment threads rms handed mid first first_written one;
     two = is_replied moment threads rms mid left second second_written two;
     served = λ one_well two_well.
-        are_served decide stand law handed order empty one.first one.last two.first two.last (lines_of one.serves.read) (lines_of two.serves.read)
-        one.serves.replies two.serves.replies one.starts (subst (λ log. StartsOver moment threads rms log two.first) one.log two.starts) one.serves.replied
+        are_served decide stand law handed order empty one.first one.last two.first two.last (requests_done one.serves.turns) (requests_done two.serves.turns)
+        (replies_given one.serves.turns) (replies_given two.serves.turns) one.starts
+        (subst (λ log. StartsOver moment threads rms log two.first) one.log two.starts) one.serves.replied
         two.serves.replied one_well two_well honest;
   }
 

@@ -3,10 +3,10 @@ use Rattle.std.proofs.Common.{◌≡◌, ◌≢◌, ◌∙◌, ◌⊎◌, inl, i
 use Rattle.std.proofs.lemmas.Option.{none-some}
 use Rattle.std.specs.List.{AllByRecursion, list_any}
 use Rattle.xa_base.specs.Xid.{Xid}
-use Rattle.xa_coordinator.specs.Lines.{asked_in, lines_of}
+use Rattle.xa_coordinator.specs.Lines.{asked_in}
 use Rattle.xa_coordinator.specs.Managers.{ManagersAreApart, Replied, told_xid}
 use Rattle.xa_coordinator.specs.NamedLines.{ServesUnder, lines_read}
-use Rattle.xa_coordinator.specs.Serving.{HaveReplies, RepliesBy}
+use Rattle.xa_coordinator.specs.Serving.{HaveReplies, RepliesBy, replies_given, requests_done}
 use Rattle.xa_coordinator.specs.Telling.{is_log_fault}
 use Rattle.xa_coordinator.specs.Tracking.{RepliesAreTracked, ServedDatabasesAgree}
 use Rattle.xa_coordinator.specs.declared.coordinator.Coordinator.{Coordinator}
@@ -78,15 +78,16 @@ module _ {L : Type 0} (moment : L → Moment) where
         let start = start_of threads rms is.first in
         let begins = begins_so threads rms is.first in
         let so =
-        agree threads rms (lines_read name (lines_of is.serves.read)) is.serves.replies is.first is.last is.stands is.serves.replied start begins
-        (is.old start begins) in
+        agree threads rms (lines_read name (requests_done is.serves.turns)) (replies_given is.serves.turns) is.first is.last is.stands
+        is.serves.replied start begins (is.old start begins) in
         record {
           read = is.serves.read;
           unread = is.unread;
           start = start;
           decisions = is.first.decisions;
           heuristics = is.first.heuristics;
-          replies = is.serves.replies;
+          turns = is.serves.turns;
+          lines = is.serves.lines;
           seen = so.seen;
           threads_are = refl;
           rms_are = refl;
@@ -99,12 +100,13 @@ module _ {L : Type 0} (moment : L → Moment) where
         }
 
     module _ (first_tracked : StartsAreTracked L) (tracked : RepliesAreTracked moment) (law : ManagersAreApart moment) where
-      given_in : (name text written : List ℕ) (is : IsServedFrom moment name threads rms text written) → list_any is_log_fault is.serves.replies ≡ false
-          → AllByRecursion WasGiven is.serves.replies
+      given_in : (name text written : List ℕ) (is : IsServedFrom moment name threads rms text written)
+          → list_any is_log_fault (replies_given is.serves.turns) ≡ false → AllByRecursion WasGiven (replies_given is.serves.turns)
       given_in name text written is fine =
           let start = start_of threads rms is.first in
           let begins = begins_so threads rms is.first in
-          all_given tracked start (is.old start begins) (lines_read name (lines_of is.serves.read)) is.serves.replies Start is.first is.last
+          all_given tracked start (is.old start begins) (lines_read name (requests_done is.serves.turns)) (replies_given is.serves.turns) Start
+          is.first is.last
           (first_tracked threads rms is.first.session is.stands start begins) is.serves.replied fine
 
       pub served_apart : (m n first second first_written second_written : List ℕ) → IsServedFrom moment m threads rms first first_written
@@ -114,6 +116,6 @@ module _ {L : Type 0} (moment : L → Moment) where
         one = served_under m first first_written one;
         two = served_under n second second_written two;
         apart = λ differ fine well.
-            all_apart law m n differ one.serves.replies two.serves.replies (given_in m first first_written one fine)
+            all_apart law m n differ (replies_given one.serves.turns) (replies_given two.serves.turns) (given_in m first first_written one fine)
             (given_in n second second_written two well);
       }

@@ -1,5 +1,5 @@
 -- Two drivers are served by managers of two names, over the same resource managers.
-use Rattle.std.specs.Prelude.{◌≡◌, ◌≢◌, ℕ, false, List, [], ◌∷◌, ◌++◌, Some}
+use Rattle.std.specs.Prelude.{◌≡◌, ◌≢◌, ℕ, false, List, [], ◌++◌, map, Some}
 use Rattle.std.specs.List.{AllByRecursion, list_any}
 use Rattle.xa_base.specs.Xid.{Xid}
 use Rattle.xa_base.specs.declared.state.Standing.{Standing}
@@ -7,7 +7,7 @@ use Rattle.xa_coordinator.specs.Lines.{lines_of}
 use Rattle.xa_coordinator.specs.Managers.{told_xid}
 use Rattle.xa_coordinator.specs.NamedLines.{ServesUnder, lines_read, text_written}
 use Rattle.xa_coordinator.specs.Replies.{greeting_of}
-use Rattle.xa_coordinator.specs.Serving.{EndsBy}
+use Rattle.xa_coordinator.specs.Serving.{AreTurns, EndsBy, Turn, replies_given, requests_done, told_in}
 use Rattle.xa_coordinator.specs.Telling.{HaveTold, is_log_fault}
 use Rattle.xa_coordinator.specs.declared.coordinator.Coordinator.{Coordinator}
 use Rattle.xa_log.specs.Contract.{Moment}
@@ -39,14 +39,15 @@ pub record IsServedUnder (name : List ℕ) (threads rms : ℕ) (text written : L
   pub start : Origin
   pub decisions : ℕ
   pub heuristics : ℕ
-  pub replies : List Response
+  pub turns : List Turn
   pub seen : Seen
   pub threads_are : start.threads ≡ threads
   pub rms_are : start.rms ≡ rms
   pub whole : text ≡ read ++ unread
-  pub replied : written ≡ text_written name (responses.Restarted start.incarnation decisions heuristics ∷ replies)
-  pub ends : EndsBy replies (unread ≡ [])
-  pub told : HaveTold threads (lines_read name (lines_of read)) replies Start seen
+  pub lines : AreTurns (lines_of read) turns
+  pub replied : written ≡ text_written name (told_in (responses.Restarted start.incarnation decisions heuristics) turns)
+  pub ends : EndsBy (map (λ turn. turn.reply) turns) (unread ≡ [])
+  pub told : HaveTold threads (lines_read name (requests_done turns)) (replies_given turns) Start seen
   pub explained : IsExplained start seen
   pub agree : (f : Branch → Standing) → StandSo start seen f → OwnStandAlike start.incarnation f
 
@@ -59,4 +60,6 @@ TellApart m n ps qs = AllByRecursion (λ p. AllByRecursion (λ q. (x : Xid) → 
 pub record AreServedApart (m n : List ℕ) (threads rms : ℕ) (first second first_written second_written : List ℕ) : Type 0 where
   pub one : IsServedUnder m threads rms first first_written
   pub two : IsServedUnder n threads rms second second_written
-  pub apart : m ≢ n → list_any is_log_fault one.replies ≡ false → list_any is_log_fault two.replies ≡ false → TellApart m n one.replies two.replies
+  pub apart :
+      m ≢ n → list_any is_log_fault (replies_given one.turns) ≡ false → list_any is_log_fault (replies_given two.turns) ≡ false
+      → TellApart m n (replies_given one.turns) (replies_given two.turns)

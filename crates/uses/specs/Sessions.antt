@@ -1,6 +1,6 @@
 -- What a driver writes is served, and what a second one writes after it; databases that obey the branch state table agree, and the log has the rows of
 -- what is committed.
-use Rattle.std.specs.Prelude.{◌≡◌, ◌<◌, ◌⊎◌, ℕ, true, false, List, [], ◌∷◌, ◌++◌, length, Option, Some, is_some}
+use Rattle.std.specs.Prelude.{◌≡◌, ◌<◌, ◌⊎◌, ℕ, true, false, List, [], ◌∷◌, ◌++◌, length, map, Option, Some, is_some}
 use Rattle.std.specs.FinMap.{get}
 use Rattle.std.specs.List.{list_any}
 use Rattle.xa_base.specs.StateTable.{broken}
@@ -11,7 +11,7 @@ use Rattle.xa_base.specs.declared.step.Outcome.TheVariants as Outcomes
 use Rattle.xa_coordinator.specs.Lines.{asked_in, lines_of}
 use Rattle.xa_coordinator.specs.Rows.{is_among}
 use Rattle.xa_coordinator.specs.Replies.{greeting_of}
-use Rattle.xa_coordinator.specs.Serving.{EndsBy, Serves, text_of}
+use Rattle.xa_coordinator.specs.Serving.{AreTurns, EndsBy, Serves, Turn, replies_given, requests_done, text_of, told_in}
 use Rattle.xa_coordinator.specs.Sessions.{AreServed, LogDecides, StartsOver}
 use Rattle.xa_coordinator.specs.Telling.{HaveTold, is_log_fault}
 use Rattle.xa_coordinator.specs.Votes.{AreVotes, IsLogged}
@@ -38,16 +38,17 @@ pub record IsServed (threads rms : ℕ) (text written : List ℕ) : Type 0 where
   pub start : Origin
   pub decisions : ℕ
   pub heuristics : ℕ
-  pub replies : List Response
+  pub turns : List Turn
   pub seen : Seen
   pub threads_are : start.threads ≡ threads
   pub rms_are : start.rms ≡ rms
   pub no_rows : start.rows ≡ []
   pub no_records : start.heuristic_rows ≡ []
   pub whole : text ≡ read ++ unread
-  pub replied : written ≡ text_of (responses.Restarted start.incarnation decisions heuristics ∷ replies)
-  pub ends : EndsBy replies (unread ≡ [])
-  pub told : HaveTold threads (lines_of read) replies Start seen
+  pub lines : AreTurns (lines_of read) turns
+  pub replied : written ≡ text_of (told_in (responses.Restarted start.incarnation decisions heuristics) turns)
+  pub ends : EndsBy (map (λ turn. turn.reply) turns) (unread ≡ [])
+  pub told : HaveTold threads (requests_done turns) (replies_given turns) Start seen
   pub explained : IsExplained start seen
   pub agree : (f : Branch → Standing) → StandSo start seen f → OwnStandAlike start.incarnation f
 
@@ -70,11 +71,12 @@ pub record LogsCommits (log : Option Content) (text written : List ℕ) : Type 0
   pub read : List ℕ
   pub unread : List ℕ
   pub greeting : Response
-  pub replies : List Response
+  pub turns : List Turn
   pub whole : text ≡ read ++ unread
-  pub replied : written ≡ text_of (greeting ∷ replies)
-  pub ends : EndsBy replies (unread ≡ [])
-  pub rows : (gs : List Gtrid) (g : Gtrid) → EndDecided (lines_of read) replies gs → is_among gs g ≡ true → IsLogged log g
+  pub lines : AreTurns (lines_of read) turns
+  pub replied : written ≡ text_of (told_in greeting turns)
+  pub ends : EndsBy (map (λ turn. turn.reply) turns) (unread ≡ [])
+  pub rows : (gs : List Gtrid) (g : Gtrid) → EndDecided (requests_done turns) (replies_given turns) gs → is_among gs g ≡ true → IsLogged log g
 
 -- A driver of so many threads and resource managers that writes this text was served by a coordinator that started over a log, and this was
 -- written; this log is left.
@@ -95,10 +97,11 @@ pub record IsReplied (text written : List ℕ) : Type 0 where
   pub read : List ℕ
   pub unread : List ℕ
   pub greeting : Response
-  pub replies : List Response
+  pub turns : List Turn
   pub whole : text ≡ read ++ unread
-  pub replied : written ≡ text_of (greeting ∷ replies)
-  pub ends : EndsBy replies (unread ≡ [])
+  pub lines : AreTurns (lines_of read) turns
+  pub replied : written ≡ text_of (told_in greeting turns)
+  pub ends : EndsBy (map (λ turn. turn.reply) turns) (unread ≡ [])
 
 -- the database ended the branch by itself, which may be forgotten since
 abbrev pub EndedAlone : Standing → Type 0
@@ -140,5 +143,5 @@ pub record IsServedTwice (log : Option Content) (first second first_written seco
   pub one : IsReplied first first_written
   pub two : IsReplied second second_written
   pub served :
-      list_any is_log_fault one.replies ≡ false → list_any is_log_fault two.replies ≡ false
-      → AreServedTwice log (lines_of one.read) (lines_of two.read) one.replies two.replies
+      list_any is_log_fault (replies_given one.turns) ≡ false → list_any is_log_fault (replies_given two.turns) ≡ false
+      → AreServedTwice log (requests_done one.turns) (requests_done two.turns) (replies_given one.turns) (replies_given two.turns)

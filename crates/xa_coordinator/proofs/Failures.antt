@@ -79,7 +79,8 @@ module _ {L : Type 0} (o : Origin) (seen : Seen) (now left : Coordinator L) (ask
 
   -- a request that stood for one call of the session was replied that the log failed
   by_one_call : (why : Option Refusal) (taken : Response) (mid : Session L) (r : Result (Unit {0}) Refusal) → (why ≡ Some LogFault → ⊥)
-      → ((let told : Response = responses.Refused LogFault in told) ≡ taken → ⊥) → (let told : Response = responses.Refused LogFault in told) ≡ reply_of (λ _. taken) r
+      → ((let told : Response = responses.Refused LogFault in told) ≡ taken → ⊥)
+      → (let told : Response = responses.Refused LogFault in told) ≡ reply_of (λ _. taken) r
       → ((n : Refusal) → why ≡ Some n → (r ≡ Err n) × (mid ≡ now.session)) → (why ≡ None → IfErr r (FailsBy asked fault k (book_in mid.manager)))
       → left.session.manager ≡ mid.manager → (why ≡ None → r ≡ Err LogFault → IsFailedStep o seen now.session asked fault) → IsFailed o seen now left
   by_one_call why taken mid (Ok x) never other told refused fails same step = absurd (other told)
@@ -213,7 +214,8 @@ module _ {L : Type 0} (moment : L → Moment) (now left : Coordinator L) (t r : 
       by (inr fell) = fell.1
 
   heard_or_not : (mid : Coordinator L) (result : Result (Unit {0}) Unfit) → Hears t r (Ret code) now.session mid.session result
-      → (let x : Response = responses.Refused LogFault in x) ≡ answer_reply (responses.Heard name.kind (answer_number (let a : Answer Xid = Ret code in a))) result
+      → (let x : Response = responses.Refused LogFault in x)
+          ≡ answer_reply (responses.Heard name.kind (answer_number (let a : Answer Xid = Ret code in a))) result
       → left.session.manager ≡ mid.session.manager → IsFailedToHear t r code c now left
   heard_or_not mid (Ok x) does told same = absurd (answer_is_no_refusal name _ told)
   heard_or_not mid (Err (Unfits.Refused n)) does told same = not_heard mid.session n (Err (Unfits.Refused n)) refl (fault_is_told n told) does same

@@ -51,7 +51,8 @@ module _ {L : Type 0} (moment : L → Moment) (near : Bool) (old mid new : Coord
       (subst (λ (b : Book). HasAllOrNone b.doubt b.row c) failed (logs_have_all_or_none moment near new.session.manager c holds leaves))
 
   pub fault_leaves : (why : Option Refusal) (taken : Response) (r : Result (Unit {0}) Refusal)
-      → ((let told : Response = responses.Refused LogFault in told) ≡ taken → ⊥) → (let told : Response = responses.Refused LogFault in told) ≡ reply_of (λ _. taken) r
+      → ((let told : Response = responses.Refused LogFault in told) ≡ taken → ⊥)
+      → (let told : Response = responses.Refused LogFault in told) ≡ reply_of (λ _. taken) r
       → ((n : Refusal) → why ≡ Some n → (r ≡ Err n) × (mid.session ≡ old.session))
       → (why ≡ None → IfErr r (FailsBy asked f k (book_in mid.session.manager)))
       → new ≡ mid → k.up ≡ true → HoldsItsBook moment near new.session.manager → LeavesContent moment new.session.manager c → HasAllOrNone asked k.row c

@@ -13,5 +13,6 @@ pub mod SessionChains
 pub mod SinceStart
 pub mod StandingLemmas
 pub mod TrackLemmas
+pub mod TurnLemmas
 pub mod UnchangedLemmas
 pub mod VoteLemmas

@@ -1,19 +1,22 @@
 -- Lines that are read and written.
-use Rattle.std.proofs.Common.{◌≡◌, ◌≢◌, ◌∙◌, ◌≤◌, ◌<◌, ◌==◌, ◌&&◌, ℕ, Bool, true, false, cond, nat_le, List, [], ◌∷◌, ◌++◌, length, Option, Some, None, refl, sym, ap, subst, append_assoc, length-append, arith, rules, ◌||◌, ◌⊎◌, inl, inr}
+use Rattle.std.proofs.Common.{◌≡◌, ◌≢◌, ◌∙◌, ◌≤◌, ◌<◌, ◌+◌, ◌==◌, ◌&&◌, ℕ, Bool, true, false, cond, nat_le, List, [], ◌∷◌, ◌++◌, map, length, get_or, drop, Option, Some, None, refl, sym, ap, subst, append_assoc, add-one, drop-cons, drop_of_length-le, length-append, arith, rules, ◌||◌, ◌⊎◌, inl, inr}
 use Rattle.std.proofs.lemmas.Bool.{cases_lt}
 use Rattle.std.proofs.lemmas.Bool.Decides.{nat_tests}
-use Rattle.std.proofs.lemmas.List.{append-nil}
+use Rattle.std.proofs.lemmas.List.{append-nil, length-map}
+use Rattle.std.proofs.lemmas.List.Splits.{length-slice_split}
 use Rattle.std.proofs.lemmas.Str.{IsUtf8-from_is_utf8, is_utf8-from_IsUtf8}
 use Rattle.std.specs.Io.KnownBytes.{Appends, Consumes, Keeps}
-use Rattle.std.specs.List.{list_any}
+use Rattle.std.specs.Borrow.{Bor}
+use Rattle.std.specs.List.{list_any, slice_split}
 use Rattle.std.specs.Str.{IsUtf8, is_utf8}
 use Rattle.xa_files.specs.Outputs.{AppendsBeginning}
-use Rattle.xa_coordinator.specs.Lines.{IsKeptOf, IsPlain, KeepsShort, ReadsOne, asked_in}
+use Rattle.xa_coordinator.specs.Lines.{IsKeptOf, IsPlain, KeepsShort, ReadsOne, asked_in, cut_at_marks, requests_in}
 use Rattle.xa_coordinator.specs.NamedLines.{line_read}
 use Rattle.xa_coordinator.specs.declared.lines.TheConstants.{LINE_LIMIT}
 use Rattle.xa_names.specs.Laws.{LinesStay}
 use Rattle.xa_names.specs.Lines.{line_renamed}
 use Rattle.xa_requests.specs.Requests.{request_of}
+use Rattle.xa_requests.specs.declared.request.Request.{Request}
 
 -- ** what a line asks for
 
@@ -68,6 +71,66 @@ asked_without_name law name line none = ap (λ n. asked_in (line_read n line)) n
     by_test true = law line
     by_test false = refl
 
+-- ** the requests of a line
+
+pub one_request : (line : List ℕ) → LINE_LIMIT < length line → requests_in line ≡ line ∷ []
+one_request line long =
+    let no_fit : nat_le (length line) LINE_LIMIT ≡ false = grind (arith, nat_tests) in
+    rw no_fit refl
+
+pub all_requests : (line : List ℕ) → length line ≤ LINE_LIMIT → requests_in line ≡ cut_at_marks line
+all_requests line short =
+    let fits : nat_le (length line) LINE_LIMIT ≡ true = grind (arith, nat_tests) in
+    rw fits refl
+
+-- what the requests of a line ask for at a manager of this name
+abbrev pub asks_of : (name line : List ℕ) → List (Option Request)
+asks_of name line = map (λ request. asked_in (line_read name request)) (requests_in line)
+
+-- a line that is too long asks for nothing
+pub none_asked : (name line : List ℕ) → LINE_LIMIT < length line → asks_of name line ≡ None ∷ []
+none_asked name line long =
+    ap (map (λ request. asked_in (line_read name request))) (one_request line long)
+    ∙ ap (λ asked. asked ∷ []) (asked_of_too_long name line long)
+
+some_requests : (requests : List (List ℕ)) (line : List ℕ) → requests ≡ cut_at_marks line → 0 < length requests
+some_requests requests line are =
+    let many = length-slice_split (λ c. c == 59) line in
+    let as_many : length requests ≡ length (cut_at_marks line) = ap length are in
+    omega (arith, many, as_many)
+
+map_of_texts : {A : Type 0} (f : List ℕ → A) (xs : List (Bor (List ℕ))) → map (λ x. f x.now) xs ≡ map f (map (λ x. x.now) xs)
+map_of_texts f [] = refl
+map_of_texts f (x ∷ xs) = ap (λ ys. f x.now ∷ ys) (map_of_texts f xs)
+
+-- each of the requests of a line is asked for
+module _ (name line : List ℕ) (requests : List (Bor (List ℕ))) (asked : List (Option Request)) (short : length line ≤ LINE_LIMIT)
+    (are : map (λ request. request.now) requests ≡ cut_at_marks line) (all : asked ≡ map (λ request. asked_in (line_read name request.now)) requests) where
+  pub each_is_asked : asked ≡ asks_of name line
+  each_is_asked =
+      let read : List ℕ → Option Request = λ request. asked_in (line_read name request) in
+      all ∙ map_of_texts read requests ∙ ap (map read) (are ∙ sym (all_requests line short))
+
+  pub some_asked : 0 < length asked
+  some_asked =
+      let many = some_requests (map (λ request. request.now) requests) line are in
+      let first = length-map requests (λ request. request.now) in
+      let second = length-map requests (λ request. asked_in (line_read name request.now)) in
+      let as_many = ap length all in
+      omega (arith, many, first, second, as_many)
+
+module _ {A B : Type 0} (f : A → B) where
+  -- what was made of the first elements, and what is made of those that are left
+  pub mapped_on : (front : List B) (xs : List A) (i : ℕ) (d : A) (all : List B) → i < length xs → front ++ map f (drop i xs) ≡ all
+      → (front ++ f (get_or xs i d) ∷ []) ++ map f (drop (i + 1) xs) ≡ all
+  mapped_on front xs i d all within so_far =
+      let step : drop i xs ≡ get_or xs i d ∷ drop (i + 1) xs = rw (add-one, drop-cons xs i d) in
+      append_assoc front (f (get_or xs i d) ∷ []) (map f (drop (i + 1) xs)) ∙ ap (λ ys. front ++ map f ys) (sym step) ∙ so_far
+
+  pub mapped_all : (front : List B) (xs : List A) (i : ℕ) (all : List B) → length xs ≤ i → front ++ map f (drop i xs) ≡ all → front ≡ all
+  mapped_all front xs i all past so_far =
+      sym (append-nil front) ∙ ap (λ ys. front ++ map f ys) (sym (drop_of_length-le xs past)) ∙ so_far
+
 -- ** known bytes
 
 pub keeps_all : (a : Option (List ℕ)) → Keeps a a
@@ -113,12 +176,6 @@ begins_with_none a bs = (bs, record { written = []; whole = refl; appends = appe
 
 pub begins_with_all : (a b : Option (List ℕ)) (bs : List ℕ) → Appends a b bs → AppendsBeginning a b bs
 begins_with_all a b bs p = ([], record { written = bs; whole = sym (append-nil bs); appends = p })
-
-pub both_written : (a b c : Option (List ℕ)) (bs cs : List ℕ) → Appends a b bs → Appends b c cs → Appends a c (bs ++ cs)
-both_written None b c bs cs first second = tt
-both_written (Some x) None c bs cs first second = absurd first
-both_written (Some x) (Some y) None bs cs first second = absurd second
-both_written (Some x) (Some y) (Some z) bs cs first second = second ∙ ap (λ l. l ++ cs) first ∙ append_assoc x bs cs
 
 pub kept_then_written : (a b c : Option (List ℕ)) (bs : List ℕ) → Keeps a b → Appends b c bs → Appends a c bs
 kept_then_written None b c bs p q = tt
@@ -185,12 +242,12 @@ part_on a b c old new x so_far more not_end keeps = record {
 }
 
 -- what is asked of a line that may be too long is what is asked of what is kept of it, at a manager of any name
-pub asked_of_kept_by : (name line kept : List ℕ) → IsKeptOf line kept → asked_in (line_read name kept) ≡ asked_in (line_read name line)
-asked_of_kept_by name line kept keeps = by_cases (cases_lt LINE_LIMIT (length line))
+pub asks_of_kept : (name line kept : List ℕ) → IsKeptOf line kept → asks_of name kept ≡ asks_of name line
+asks_of_kept name line kept keeps = by_cases (cases_lt LINE_LIMIT (length line))
   where
-    by_cases : (LINE_LIMIT < length line) ⊎ (length line ≤ LINE_LIMIT) → asked_in (line_read name kept) ≡ asked_in (line_read name line)
-    by_cases (inl long) = asked_of_too_long name kept (keeps.long long) ∙ sym (asked_of_too_long name line long)
-    by_cases (inr short) = ap (λ l. asked_in (line_read name l)) (keeps.short short)
+    by_cases : (LINE_LIMIT < length line) ⊎ (length line ≤ LINE_LIMIT) → asks_of name kept ≡ asks_of name line
+    by_cases (inl long) = none_asked name kept (keeps.long long) ∙ sym (none_asked name line long)
+    by_cases (inr short) = ap (asks_of name) (keeps.short short)
 
 nothing_less : LINE_LIMIT < 0 → ⊥
 nothing_less h = omega (arith, h)

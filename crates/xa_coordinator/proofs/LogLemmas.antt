@@ -55,7 +55,8 @@ module _ {L : Type 0} (moment : L → Moment) where
 
   -- ** lines and their replies
 
-  reply_keeps : (request : Option Request) (old : Coordinator L) (reply : Response) (new : Coordinator L) → RepliesBy moment request old reply new → Keeps old new
+  reply_keeps : (request : Option Request) (old : Coordinator L) (reply : Response) (new : Coordinator L) → RepliesBy moment request old reply new
+      → Keeps old new
   reply_keeps None old reply new only = same_keeps old new only.1
   reply_keeps (Some request) old reply new performs = performs.keeps
 

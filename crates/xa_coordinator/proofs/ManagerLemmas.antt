@@ -198,7 +198,8 @@ module _ {L : Type 0} (law : OwnHaveName) (explained : SessionsAreExplained L) (
       told_plainly name reply _ does.told (answer_plain (responses.Heard call.kind (answer_number answer)) refl does.result)
   answered_own t r call answer new false (inr does) = told_plainly name reply _ does.0 refl
 
-  owed_told : (r : ℕ) (b : Bool) → MatchBool b (TellsOwed (owed_xids r old.owed.items) reply ⊎ (reply ≡ responses.Refused Memory)) (reply ≡ responses.Refused Limit)
+  owed_told : (r : ℕ) (b : Bool)
+      → MatchBool b (TellsOwed (owed_xids r old.owed.items) reply ⊎ (reply ≡ responses.Refused Memory)) (reply ≡ responses.Refused Limit)
       → TellsOwn name reply
   owed_told r true (inl told) = owed_own name r old.owed.items reply told
   owed_told r true (inr told) = told_plainly name reply _ told refl

@@ -4,17 +4,20 @@ use Rattle.std.specs.Prelude.{MatchBool, Result, Ok, Err, OnErr, OnOk}
 use Rattle.std.proofs.lemmas.List.{append-nil, map-append}
 use Rattle.std.specs.Io.KnownBytes.{Appends, Consumes, IsAtEnd, Keeps}
 use Rattle.std.specs.List.{list_any}
-use Rattle.xa_files.proofs.OutputLemmas.{written_then_kept}
+use Rattle.xa_files.proofs.OutputLemmas.{both_written, written_then_kept}
 use Rattle.xa_files.specs.Outputs.{AppendsBeginning}
 use Rattle.xa_log.specs.Contract.{Moment}
 use Rattle.xa_serve.proofs.Logging.{both_keep, kept}
 use Rattle.xa_coordinator.proofs.LogLemmas.{replies_keep}
-use Rattle.xa_coordinator.proofs.LineLemmas.{appends_none, asked_of_kept_by, kept_none, begins_with_all, both_consumed, both_written, consumed_none, kept_then_begun, kept_then_written, keeps_all}
-use Rattle.xa_coordinator.specs.Lines.{IsKeptOf, IsPlain, IsWholeLines, ReadsLine, ReadsWholeLines, is_nothing, line_of, lines_of, with_end, with_first}
+use Rattle.xa_coordinator.proofs.LineLemmas.{appends_none, asks_of, asks_of_kept, begins_with_all, both_consumed, consumed_none, keeps_all}
+use Rattle.xa_coordinator.proofs.LineLemmas.{kept_none, kept_then_begun, kept_then_written}
+use Rattle.xa_coordinator.proofs.TurnLemmas.{HaveTurns, TakesTurn, both_done, no_turns, one_done, one_turn, takes_turn, turns_both}
+use Rattle.xa_coordinator.specs.Lines.{IsKeptOf, IsPlain, IsWholeLines, ReadsLine, ReadsWholeLines, alone, is_nothing, line_of, lines_of, marks, with_end, with_first}
 use Rattle.xa_coordinator.specs.NamedLines.{BreaksSessionUnder, ServesUnder, line_read, line_written, lines_read, text_written}
-use Rattle.xa_coordinator.specs.Serving.{BreaksSession, EndsBy, HaveReplies, RepliesBy, RepliesTo, Serves, WritesUpToLast, is_bye, text_of}
+use Rattle.xa_coordinator.specs.Serving.{AreTurns, BreaksSession, EndsBy, HaveReplies, RepliesToLine, Serves, Turn, WritesUpToLast, is_bye, replies_given, requests_done, text_of, told_in, told_of}
 use Rattle.xa_coordinator.specs.ServingLines.{BreaksOff, LosesReply, ServesLine}
 use Rattle.xa_coordinator.specs.declared.coordinator.Coordinator.{Coordinator}
+use Rattle.xa_coordinator.specs.declared.lines.LineReply.{LineReply}
 use Rattle.xa_names.specs.Laws.{LinesStay}
 use Rattle.xa_names.specs.Lines.{line_renamed}
 use Rattle.xa_requests.specs.Responses.{response_text}
@@ -68,24 +71,11 @@ whole_both read more first second rest =
 
 -- ** replies
 
-pub text_of_both : (name : List ℕ) (rs ss : List Response) → text_written name (rs ++ ss) ≡ text_written name rs ++ text_written name ss
+pub text_of_both : (name : List ℕ) (rs ss : List LineReply) → text_written name (rs ++ ss) ≡ text_written name rs ++ text_written name ss
 text_of_both name [] ss = refl
 text_of_both name (r ∷ rs) ss =
     ap (λ t. line_written name r ++ t) (text_of_both name rs ss)
     ∙ sym (append_assoc (line_written name r) (text_written name rs) (text_written name ss))
-
--- the lines of both, as they are meant
-lines_both : (name : List ℕ) (read more : List ℕ) → IsWholeLines read
-    → lines_read name (lines_of (read ++ more)) ≡ lines_read name (lines_of read) ++ lines_read name (lines_of more)
-lines_both name read more whole = ap (lines_read name) (whole more) ∙ map-append (line_read name) (lines_of read) (lines_of more)
-
-module _ {L : Type 0} (moment : L → Moment) where
-  pub both_replied : (ls : List (List ℕ)) (rs : List Response) (ms : List (List ℕ)) (ss : List Response) (a b c : Coordinator L)
-      → HaveReplies moment ls rs a b → HaveReplies moment ms ss b c → HaveReplies moment (ls ++ ms) (rs ++ ss) a c
-  both_replied [] [] ms ss a b c first second = subst (λ x. HaveReplies moment ms ss x c) first second
-  both_replied [] (r ∷ rs) ms ss a b c first second = absurd first
-  both_replied (l ∷ ls) [] ms ss a b c first second = absurd first
-  both_replied (l ∷ ls) (r ∷ rs) ms ss a b c first second = (first.0, first.1, both_replied ls rs ms ss first.0 b c first.2 second)
 
 -- none of these ends the session, so that those behind them do
 pub ends_behind : (rs ss : List Response) (P : Type 0) → list_any is_bye rs ≡ false → EndsBy ss P → EndsBy (rs ++ ss) P
@@ -109,12 +99,13 @@ silent_both (r ∷ rs) ss first second = by_test (is_bye r) first (λ rest. sile
 -- ** a session in parts
 
 -- what is written by both
-texts : (name : List ℕ) (greeting : Response) (written mid all : Option (List ℕ)) (rs ss : List Response)
-    → Appends written mid (text_written name (greeting ∷ rs)) → Appends mid all (text_written name ss)
-    → Appends written all (text_written name (greeting ∷ rs ++ ss))
-texts name greeting written mid all rs ss first second =
-    subst (Appends written all) (sym (text_of_both name (greeting ∷ rs) ss))
-    (both_written written mid all (text_written name (greeting ∷ rs)) (text_written name ss) first second)
+texts : (name : List ℕ) (greeting : Response) (written mid all : Option (List ℕ)) (ts us : List Turn)
+    → Appends written mid (text_written name (told_in greeting ts)) → Appends mid all (text_written name (map told_of us))
+    → Appends written all (text_written name (told_in greeting (ts ++ us)))
+texts name greeting written mid all ts us first second =
+    subst (Appends written all)
+    (sym (text_of_both name (told_in greeting ts) (map told_of us)) ∙ ap (λ more. text_written name (alone greeting ∷ more)) (sym (map-append told_of ts us)))
+    (both_written written mid all (text_written name (told_in greeting ts)) (text_written name (map told_of us)) first second)
 
 -- what was written whole, in two parts
 written_in_two : (written all : Option (List ℕ)) (bs cs : List ℕ) → Appends written all (bs ++ cs)
@@ -123,11 +114,11 @@ written_in_two None all bs cs appended = (None, tt, tt)
 written_in_two (Some xs) None bs cs appended = absurd appended
 written_in_two (Some xs) (Some ys) bs cs appended = (Some (xs ++ bs), refl, appended ∙ sym (append_assoc xs bs cs))
 
-with_last : (r : Response) (rs : List Response) → (others : List Response) × (last : Response) × (r ∷ rs ≡ others ++ last ∷ [])
+with_last : (r : LineReply) (rs : List LineReply) → (others : List LineReply) × (last : LineReply) × (r ∷ rs ≡ others ++ last ∷ [])
 with_last r [] = ([], r, refl)
 with_last r (s ∷ rs) = let rest = with_last s rs in (r ∷ rest.0, rest.1, ap (λ xs. r ∷ xs) rest.2)
 
-pub all_written : (name : List ℕ) (written all : Option (List ℕ)) (r : Response) (rs : List Response)
+pub all_written : (name : List ℕ) (written all : Option (List ℕ)) (r : LineReply) (rs : List LineReply)
     → Appends written all (text_written name (r ∷ rs)) → WritesUpToLast (line_written name) written all (r ∷ rs)
 all_written name written all r rs appended =
     let parts = with_last r rs in
@@ -150,24 +141,27 @@ whole_or_end read more left first (inr end) = inr end
 
 -- Some lines were served behind the first line of the session, and it goes on.
 module _ {L : Type 0} (moment : L → Moment) where
-  pub record ServesSome (name : List ℕ) (greeting : Response) (unread left : Option (List ℕ)) (written all : Option (List ℕ)) (old new : Coordinator L) : Type 0 where
+  pub record ServesSome (name : List ℕ) (greeting : Response) (unread left : Option (List ℕ)) (written all : Option (List ℕ))
+      (old new : Coordinator L) : Type 0 where
     pub read : List ℕ
-    pub replies : List Response
+    pub turns : List Turn
     pub consumed : Consumes unread left read
-    pub replied : HaveReplies moment (lines_read name (lines_of read)) replies old new
-    pub appended : Appends written all (text_written name (greeting ∷ replies))
+    pub lines : AreTurns (lines_of read) turns
+    pub replied : HaveTurns moment name turns old new
+    pub appended : Appends written all (text_written name (told_in greeting turns))
     pub whole : IsWholeLines read
-    pub silent : list_any is_bye replies ≡ false
+    pub silent : list_any is_bye (map (λ turn. turn.reply) turns) ≡ false
 
 module _ {L : Type 0} (moment : L → Moment) (name : List ℕ) (greeting : Response) where
-  pub greeted : (unread : Option (List ℕ)) (written all : Option (List ℕ)) (c : Coordinator L) → Appends written all (line_written name greeting)
+  pub greeted : (unread : Option (List ℕ)) (written all : Option (List ℕ)) (c : Coordinator L) → Appends written all (line_written name (alone greeting))
       → ServesSome moment name greeting unread unread written all c c
   greeted unread written all c appended = record {
     read = [];
-    replies = [];
+    turns = [];
     consumed = consumed_none unread unread (keeps_all unread);
+    lines = no_turns;
     replied = refl;
-    appended = subst (Appends written all) (sym (append-nil (line_written name greeting))) appended;
+    appended = subst (Appends written all) (sym (append-nil (line_written name (alone greeting)))) appended;
     whole = whole_none;
     silent = refl;
   }
@@ -176,40 +170,46 @@ module _ {L : Type 0} (moment : L → Moment) (name : List ℕ) (greeting : Resp
       → ServesLine moment name part left mid all b c true → ServesSome moment name greeting unread left written all a c
   one_more unread part left written mid all a b c some next = record {
     read = some.read ++ next.read;
-    replies = some.replies ++ next.replies;
+    turns = some.turns ++ next.turns;
     consumed = both_consumed unread part left some.read next.read some.consumed next.consumed;
-    replied = subst (λ ls. HaveReplies moment ls (some.replies ++ next.replies) a c) (sym (lines_both name some.read next.read some.whole))
-        (both_replied moment (lines_read name (lines_of some.read)) some.replies (lines_read name (lines_of next.read)) next.replies a b c some.replied next.replied);
-    appended = texts name greeting written mid all some.replies next.replies some.appended next.appended;
+    lines = turns_both (lines_of some.read) (lines_of next.read) (lines_of (some.read ++ next.read)) some.turns next.turns some.lines next.lines
+        (some.whole next.read);
+    replied = both_done moment name some.turns next.turns a b c some.replied next.replied;
+    appended = texts name greeting written mid all some.turns next.turns some.appended next.appended;
     whole = whole_both some.read next.read some.whole (next.whole refl);
-    silent = silent_both some.replies next.replies some.silent (next.silent refl);
+    silent = subst (λ rs. list_any is_bye rs ≡ false) (sym (map-append (λ turn. turn.reply) some.turns next.turns))
+        (silent_both (map (λ turn. turn.reply) some.turns) (map (λ turn. turn.reply) next.turns) some.silent (next.silent refl));
   }
 
+  -- one line more, behind which it ends
   pub the_last : (unread part left written mid all : Option (List ℕ)) (a b c : Coordinator L) → ServesSome moment name greeting unread part written mid a b
       → ServesLine moment name part left mid all b c false → ServesUnder moment name greeting unread left written all a c
   the_last unread part left written mid all a b c some next = record {
     read = some.read ++ next.read;
-    replies = some.replies ++ next.replies;
+    turns = some.turns ++ next.turns;
     consumed = both_consumed unread part left some.read next.read some.consumed next.consumed;
-    replied = subst (λ ls. HaveReplies moment ls (some.replies ++ next.replies) a c) (sym (lines_both name some.read next.read some.whole))
-        (both_replied moment (lines_read name (lines_of some.read)) some.replies (lines_read name (lines_of next.read)) next.replies a b c some.replied next.replied);
-    appended = texts name greeting written mid all some.replies next.replies some.appended next.appended;
-    ends = ends_behind some.replies next.replies (IsAtEnd left) some.silent (next.ends refl);
+    lines = turns_both (lines_of some.read) (lines_of next.read) (lines_of (some.read ++ next.read)) some.turns next.turns some.lines next.lines
+        (some.whole next.read);
+    replied = both_done moment name some.turns next.turns a b c some.replied next.replied;
+    appended = texts name greeting written mid all some.turns next.turns some.appended next.appended;
+    ends = subst (λ rs. EndsBy rs (IsAtEnd left)) (sym (map-append (λ turn. turn.reply) some.turns next.turns))
+        (ends_behind (map (λ turn. turn.reply) some.turns) (map (λ turn. turn.reply) next.turns) (IsAtEnd left) some.silent (next.ends refl));
     keeps = both_keep moment a.session.manager b.session.manager c.session.manager
-        (replies_keep moment (lines_read name (lines_of some.read)) some.replies a b some.replied)
-        (replies_keep moment (lines_read name (lines_of next.read)) next.replies b c next.replied);
+        (replies_keep moment (lines_read name (requests_done some.turns)) (replies_given some.turns) a b some.replied)
+        (replies_keep moment (lines_read name (requests_done next.turns)) (replies_given next.turns) b c next.replied);
   }
 
   -- the first line couldn't be written
-  pub not_greeted : (unread written all : Option (List ℕ)) (c : Coordinator L) → AppendsBeginning written all (line_written name greeting)
+  pub not_greeted : (unread written all : Option (List ℕ)) (c : Coordinator L) → AppendsBeginning written all (line_written name (alone greeting))
       → BreaksSessionUnder moment name greeting unread written all c c
   not_greeted unread written all c begun = record {
     read = [];
     left = unread;
-    replies = [];
+    turns = [];
     reads = record { consumed = consumed_none unread unread (keeps_all unread); whole = inl whole_none };
+    lines = no_turns;
     replied = refl;
-    writes = record { others = []; last = greeting; are = refl; between = written; appended = appends_none written; begun = begun };
+    writes = record { others = []; last = alone greeting; are = refl; between = written; appended = appends_none written; begun = begun };
     keeps = kept moment c.session.manager;
   }
 
@@ -219,40 +219,40 @@ module _ {L : Type 0} (moment : L → Moment) (name : List ℕ) (greeting : Resp
   no_more unread part written all a b some = record {
     read = some.read;
     left = part;
-    replies = some.replies;
+    turns = some.turns;
     reads = record { consumed = some.consumed; whole = inl some.whole };
+    lines = some.lines;
     replied = some.replied;
-    writes = all_written name written all greeting some.replies some.appended;
-    keeps = replies_keep moment (lines_read name (lines_of some.read)) some.replies a b some.replied;
+    writes = all_written name written all (alone greeting) (map told_of some.turns) some.appended;
+    keeps = replies_keep moment (lines_read name (requests_done some.turns)) (replies_given some.turns) a b some.replied;
   }
 
   -- the reply to one line more wasn't written whole
   reply_lost : (unread part written mid all : Option (List ℕ)) (a b c : Coordinator L) → ServesSome moment name greeting unread part written mid a b
       → LosesReply moment name part mid all b c → BreaksSessionUnder moment name greeting unread written all a c
   reply_lost unread part written mid all a b c some loses =
-      let all_replies = some.replies ++ loses.reply ∷ [] in
       record {
         read = some.read ++ loses.read;
         left = loses.left;
-        replies = all_replies;
+        turns = some.turns ++ loses.turn ∷ [];
         reads = record {
           consumed = both_consumed unread part loses.left some.read loses.read some.consumed loses.reads.consumed;
           whole = whole_or_end some.read loses.read loses.left some.whole loses.reads.whole;
         };
-        replied = subst (λ ls. HaveReplies moment ls all_replies a c) (sym (lines_both name some.read loses.read some.whole))
-            (both_replied moment (lines_read name (lines_of some.read)) some.replies (lines_read name (lines_of loses.read)) (loses.reply ∷ []) a b c
-            some.replied loses.replied);
+        lines = turns_both (lines_of some.read) (lines_of loses.read) (lines_of (some.read ++ loses.read)) some.turns (loses.turn ∷ []) some.lines loses.lines
+            (some.whole loses.read);
+        replied = both_done moment name some.turns (loses.turn ∷ []) a b c some.replied loses.replied;
         writes = record {
-          others = greeting ∷ some.replies;
-          last = loses.reply;
-          are = refl;
+          others = told_in greeting some.turns;
+          last = told_of loses.turn;
+          are = ap (λ more. alone greeting ∷ more) (map-append told_of some.turns (loses.turn ∷ []));
           between = mid;
           appended = some.appended;
           begun = loses.begun;
         };
         keeps = both_keep moment a.session.manager b.session.manager c.session.manager
-            (replies_keep moment (lines_read name (lines_of some.read)) some.replies a b some.replied)
-            (replies_keep moment (lines_read name (lines_of loses.read)) (loses.reply ∷ []) b c loses.replied);
+            (replies_keep moment (lines_read name (requests_done some.turns)) (replies_given some.turns) a b some.replied)
+            (replies_keep moment (lines_read name (requests_done (loses.turn ∷ []))) (replies_given (loses.turn ∷ [])) b c loses.replied);
       }
 
   -- what was written was flushed then
@@ -260,10 +260,11 @@ module _ {L : Type 0} (moment : L → Moment) (name : List ℕ) (greeting : Resp
       → Keeps mid all → ServesSome moment name greeting unread part written all a b
   flushed unread part written mid all a b some keeps = record {
     read = some.read;
-    replies = some.replies;
+    turns = some.turns;
     consumed = some.consumed;
+    lines = some.lines;
     replied = some.replied;
-    appended = written_then_kept written mid all (text_written name (greeting ∷ some.replies)) some.appended keeps;
+    appended = written_then_kept written mid all (text_written name (told_in greeting some.turns)) some.appended keeps;
     whole = some.whole;
     silent = some.silent;
   }
@@ -281,9 +282,10 @@ bye_ends : (reply : Response) (c : Bool) (P : Type 0) → is_bye reply ≡ c →
 bye_ends reply true P is otherwise = subst (λ b. MatchBool b (◌≡◌ {A = List Response} [] []) P) (sym is) refl
 bye_ends reply false P is otherwise = subst (λ b. MatchBool b (◌≡◌ {A = List Response} [] []) P) (sym is) (otherwise refl)
 
-not_bye : (c : Bool) → not c ≡ true → (c || false) ≡ false
-not_bye true h = absurd (true_is_not_false (sym h))
-not_bye false h = refl
+not_bye_if_on : (is_ended c : Bool) → (is_ended && not c) ≡ true → (c || false) ≡ false
+not_bye_if_on true true h = absurd (true_is_not_false (sym h))
+not_bye_if_on true false h = refl
+not_bye_if_on false c h = absurd (true_is_not_false (sym h))
 
 kept_of_none : (line kept : List ℕ) → IsKeptOf line kept → line ≡ [] → kept ≡ []
 kept_of_none [] kept keeps none = keeps.short (omega arith)
@@ -294,18 +296,26 @@ module _ {L : Type 0} (moment : L → Moment) (name : List ℕ) where
   pub off_at_once : (unread written all : Option (List ℕ)) (c : Coordinator L) → Keeps written all → BreaksOff moment name unread written all c c
   off_at_once unread written all c keeps = inl (keeps, refl)
 
-  -- the line that was read was replied
-  line_replied : (unread left : Option (List ℕ)) (kept : List ℕ) (is_ended : Bool) (reply : Response) (a b : Coordinator L)
-      → (was : ReadsLine unread left kept is_ended) → is_nothing kept is_ended ≡ false → RepliesTo moment (line_read name kept) a reply b
-      → HaveReplies moment (lines_read name (lines_of (with_end was.line is_ended))) (reply ∷ []) a b
-  line_replied unread left kept true reply a b was some replied =
-      subst (λ ls. HaveReplies moment ls (reply ∷ []) a b) (sym (ap (lines_read name) (first_line was.line [] was.plain)))
-      (b, subst (λ q. RepliesBy moment q a reply b) (asked_of_kept_by name was.line kept was.keeps) replied, refl)
-  line_replied unread left kept false reply a b was some replied =
-      subst (λ ls. HaveReplies moment ls (reply ∷ []) a b)
-      (sym (ap (lines_read name) (last_line was.line was.plain (λ none. true_is_not_false
-      (subst (λ xs. is_nothing xs false ≡ false) (kept_of_none was.line kept was.keeps none) some)))))
-      (b, subst (λ q. RepliesBy moment q a reply b) (asked_of_kept_by name was.line kept was.keeps) replied, refl)
+  -- the line that was read was done
+  line_done : (unread left : Option (List ℕ)) (kept : List ℕ) (is_ended : Bool) (told : LineReply) (a b : Coordinator L)
+      → (was : ReadsLine unread left kept is_ended) → RepliesToLine moment (asks_of name kept) a told b → TakesTurn moment name was.line told a b
+  line_done unread left kept is_ended told a b was replied =
+      takes_turn moment name was.line told a b (subst (λ asks. RepliesToLine moment asks a told b) (asks_of_kept name was.line kept was.keeps) replied)
+
+  -- it is the one line that was read
+  only_line : (unread left : Option (List ℕ)) (kept : List ℕ) (is_ended : Bool) → (was : ReadsLine unread left kept is_ended)
+      → is_nothing kept is_ended ≡ false → lines_of (with_end was.line is_ended) ≡ was.line ∷ []
+  only_line unread left kept true was some = first_line was.line [] was.plain
+  only_line unread left kept false was some =
+      last_line was.line was.plain (λ none. true_is_not_false
+      (subst (λ xs. is_nothing xs false ≡ false) (kept_of_none was.line kept was.keeps none) some))
+
+  turn_lines : (unread left : Option (List ℕ)) (kept : List ℕ) (is_ended : Bool) (told : LineReply) (a b : Coordinator L)
+      → (was : ReadsLine unread left kept is_ended) → is_nothing kept is_ended ≡ false → (takes : TakesTurn moment name was.line told a b)
+      → AreTurns (lines_of (with_end was.line is_ended)) (takes.turn ∷ [])
+  turn_lines unread left kept is_ended told a b was some takes =
+      one_turn takes.turn (lines_of (with_end was.line is_ended)) takes.is
+      (only_line unread left kept is_ended was some ∙ ap (λ l. l ∷ []) (sym takes.line_is))
 
   line_is_whole : (unread left : Option (List ℕ)) (kept : List ℕ) (is_ended : Bool) (was : ReadsLine unread left kept is_ended)
       → IsWholeLines (with_end was.line is_ended) ⊎ IsAtEnd left
@@ -313,17 +323,21 @@ module _ {L : Type 0} (moment : L → Moment) (name : List ℕ) where
   line_is_whole unread left kept false was = inr (was.end refl)
 
   -- what was written was flushed, and then the reply couldn't be written whole
-  pub off_behind : (unread left written mid all : Option (List ℕ)) (kept : List ℕ) (is_ended : Bool) (reply : Response) (a b : Coordinator L)
-      → ReadsLine unread left kept is_ended → is_nothing kept is_ended ≡ false → RepliesTo moment (line_read name kept) a reply b
-      → Keeps written mid → AppendsBeginning mid all (line_written name reply) → BreaksOff moment name unread written all a b
-  off_behind unread left written mid all kept is_ended reply a b was some replied keeps begun = inr (record {
-    read = with_end was.line is_ended;
-    left = left;
-    reply = reply;
-    reads = record { consumed = was.consumed; whole = line_is_whole unread left kept is_ended was };
-    replied = line_replied unread left kept is_ended reply a b was some replied;
-    begun = kept_then_begun written mid all (line_written name reply) keeps begun;
-  })
+  pub off_behind : (unread left written mid all : Option (List ℕ)) (kept : List ℕ) (is_ended : Bool) (told : LineReply) (a b : Coordinator L)
+      → ReadsLine unread left kept is_ended → is_nothing kept is_ended ≡ false → RepliesToLine moment (asks_of name kept) a told b
+      → Keeps written mid → AppendsBeginning mid all (line_written name told) → BreaksOff moment name unread written all a b
+  off_behind unread left written mid all kept is_ended told a b was some replied keeps begun =
+      let takes = line_done unread left kept is_ended told a b was replied in
+      inr (record {
+        read = with_end was.line is_ended;
+        left = left;
+        turn = takes.turn;
+        reads = record { consumed = was.consumed; whole = line_is_whole unread left kept is_ended was };
+        lines = turn_lines unread left kept is_ended told a b was some takes;
+        replied = one_done moment name takes.turn a b takes.replied;
+        begun = subst (λ t. AppendsBeginning written all (line_written name t)) (sym takes.told_is)
+            (kept_then_begun written mid all (line_written name told) keeps begun);
+      })
 
   -- nothing is left
   pub at_end : (unread left all : Option (List ℕ)) (kept : List ℕ) (is_ended : Bool) (c : Coordinator L) → ReadsLine unread left kept is_ended
@@ -334,7 +348,8 @@ module _ {L : Type 0} (moment : L → Moment) (name : List ℕ) where
       let nothing : was.line ≡ [] = kept_none was.line [] was.keeps refl in
       record {
         read = [];
-        replies = [];
+        turns = [];
+        lines = no_turns;
         consumed = subst (Consumes unread left) nothing was.consumed;
         replied = refl;
         appended = appends_none all;
@@ -343,29 +358,35 @@ module _ {L : Type 0} (moment : L → Moment) (name : List ℕ) where
         ends = λ h. was.end refl;
       }
 
-  pub one_line : (unread left written all : Option (List ℕ)) (kept : List ℕ) (is_ended : Bool) (reply : Response) (a b : Coordinator L)
-      → ReadsLine unread left kept is_ended → is_nothing kept is_ended ≡ false → RepliesTo moment (line_read name kept) a reply b → Appends written all (line_written name reply)
-      → ServesLine moment name unread left written all a b (is_ended && not (is_bye reply))
-  one_line unread left written all kept true reply a b was some replied appended = record {
-    read = was.line ++ 10 ∷ [];
-    replies = reply ∷ [];
-    consumed = was.consumed;
-    replied = line_replied unread left kept true reply a b was some replied;
-    appended = subst (Appends written all) (sym (append-nil (line_written name reply))) appended;
-    whole = λ h. whole_line was.line was.plain;
-    silent = λ h. not_bye (is_bye reply) h;
-    ends = λ h. bye_ends reply (is_bye reply) (IsAtEnd left) refl (λ no_bye. absurd (true_is_not_false (subst (λ c. not c ≡ false) no_bye h)));
-  }
-  one_line unread left written all kept false reply a b was some replied appended = record {
-    read = was.line;
-    replies = reply ∷ [];
-    consumed = was.consumed;
-    replied = line_replied unread left kept false reply a b was some replied;
-    appended = subst (Appends written all) (sym (append-nil (line_written name reply))) appended;
-    whole = λ h. absurd (true_is_not_false (sym h));
-    silent = λ h. absurd (true_is_not_false (sym h));
-    ends = λ h. bye_ends reply (is_bye reply) (IsAtEnd left) refl (λ no_bye. was.end refl);
-  }
+  whole_if_on : (unread left : Option (List ℕ)) (kept : List ℕ) (is_ended : Bool) (reply : Response) → (was : ReadsLine unread left kept is_ended)
+      → (is_ended && not (is_bye reply)) ≡ true → IsWholeLines (with_end was.line is_ended)
+  whole_if_on unread left kept true reply was h = whole_line was.line was.plain
+  whole_if_on unread left kept false reply was h = absurd (true_is_not_false (sym h))
+
+  ends_if_over : (unread left : Option (List ℕ)) (kept : List ℕ) (is_ended : Bool) (reply : Response) → (was : ReadsLine unread left kept is_ended)
+      → (is_ended && not (is_bye reply)) ≡ false → EndsBy (reply ∷ []) (IsAtEnd left)
+  ends_if_over unread left kept true reply was h =
+      bye_ends reply (is_bye reply) (IsAtEnd left) refl (λ no_bye. absurd (true_is_not_false (subst (λ c. not c ≡ false) no_bye h)))
+  ends_if_over unread left kept false reply was h = bye_ends reply (is_bye reply) (IsAtEnd left) refl (λ no_bye. was.end refl)
+
+  pub one_line : (unread left written all : Option (List ℕ)) (kept : List ℕ) (is_ended : Bool) (told : LineReply) (a b : Coordinator L)
+      → ReadsLine unread left kept is_ended → is_nothing kept is_ended ≡ false → RepliesToLine moment (asks_of name kept) a told b
+      → Appends written all (line_written name told) → ServesLine moment name unread left written all a b (is_ended && not (is_bye told.reply))
+  one_line unread left written all kept is_ended told a b was some replied appended =
+      let takes = line_done unread left kept is_ended told a b was replied in
+      let same : takes.turn.reply ≡ told.reply = ap (λ t. t.reply) takes.told_is in
+      record {
+        read = with_end was.line is_ended;
+        turns = takes.turn ∷ [];
+        consumed = was.consumed;
+        lines = turn_lines unread left kept is_ended told a b was some takes;
+        replied = one_done moment name takes.turn a b takes.replied;
+        appended = subst (λ t. Appends written all (text_written name (t ∷ []))) (sym takes.told_is)
+            (subst (Appends written all) (sym (append-nil (line_written name told))) appended);
+        whole = whole_if_on unread left kept is_ended told.reply was;
+        silent = λ h. subst (λ r. (is_bye r || false) ≡ false) (sym same) (not_bye_if_on is_ended (is_bye told.reply) h);
+        ends = λ h. subst (λ r. EndsBy (r ∷ []) (IsAtEnd left)) (sym same) (ends_if_over unread left kept is_ended told.reply was h);
+      }
 
 -- ** behind a flush
 
@@ -374,10 +395,11 @@ module _ {L : Type 0} (moment : L → Moment) (name : List ℕ) where
       → ServesLine moment name unread left mid all a b goes_on → ServesLine moment name unread left written all a b goes_on
   served_behind_flush unread left written mid all a b goes_on keeps served = record {
     read = served.read;
-    replies = served.replies;
+    turns = served.turns;
     consumed = served.consumed;
+    lines = served.lines;
     replied = served.replied;
-    appended = kept_then_written written mid all (text_written name served.replies) keeps served.appended;
+    appended = kept_then_written written mid all (text_written name (map told_of served.turns)) keeps served.appended;
     whole = served.whole;
     silent = served.silent;
     ends = served.ends;
@@ -397,14 +419,14 @@ module _ (law : LinesStay) where
   lines_as_are [] = refl
   lines_as_are (line ∷ lines) = ap (λ l. l ∷ lines_read [] lines) (read_as_is line) ∙ ap (λ ls. line ∷ ls) (lines_as_are lines)
 
-  written_as_is : (reply : Response) → line_written [] reply ≡ line_of reply
-  written_as_is reply = ap (λ t. t ++ 10 ∷ []) (law (response_text reply))
+  written_as_is : (told : LineReply) → line_written [] told ≡ line_of told
+  written_as_is told = ap (λ t. marks told.before ++ t ++ 10 ∷ []) (law (response_text told.reply))
 
-  pub text_as_is : (replies : List Response) → text_written [] replies ≡ text_of replies
+  pub text_as_is : (replies : List LineReply) → text_written [] replies ≡ text_of replies
   text_as_is [] = refl
   text_as_is (r ∷ rs) = ap (λ t. t ++ text_written [] rs) (written_as_is r) ∙ ap (λ t. line_of r ++ t) (text_as_is rs)
 
-  writes_as_is : (written all : Option (List ℕ)) (replies : List Response) → WritesUpToLast (line_written []) written all replies
+  writes_as_is : (written all : Option (List ℕ)) (replies : List LineReply) → WritesUpToLast (line_written []) written all replies
       → WritesUpToLast line_of written all replies
   writes_as_is written all replies writes = record {
     others = writes.others;
@@ -420,10 +442,11 @@ module _ (law : LinesStay) where
         → ServesUnder moment [] greeting unread left written all a b → Serves moment greeting unread left written all a b
     serves_as_is greeting unread left written all a b serves = record {
       read = serves.read;
-      replies = serves.replies;
+      turns = serves.turns;
       consumed = serves.consumed;
-      replied = subst (λ ls. HaveReplies moment ls serves.replies a b) (lines_as_are (lines_of serves.read)) serves.replied;
-      appended = subst (Appends written all) (text_as_is (greeting ∷ serves.replies)) serves.appended;
+      lines = serves.lines;
+      replied = subst (λ ls. HaveReplies moment ls (replies_given serves.turns) a b) (lines_as_are (requests_done serves.turns)) serves.replied;
+      appended = subst (Appends written all) (text_as_is (told_in greeting serves.turns)) serves.appended;
       ends = serves.ends;
       keeps = serves.keeps;
     }
@@ -433,10 +456,11 @@ module _ (law : LinesStay) where
     breaks_as_is greeting unread written all a b breaks = record {
       read = breaks.read;
       left = breaks.left;
-      replies = breaks.replies;
+      turns = breaks.turns;
       reads = breaks.reads;
-      replied = subst (λ ls. HaveReplies moment ls breaks.replies a b) (lines_as_are (lines_of breaks.read)) breaks.replied;
-      writes = writes_as_is written all (greeting ∷ breaks.replies) breaks.writes;
+      lines = breaks.lines;
+      replied = subst (λ ls. HaveReplies moment ls (replies_given breaks.turns) a b) (lines_as_are (requests_done breaks.turns)) breaks.replied;
+      writes = writes_as_is written all (told_in greeting breaks.turns) breaks.writes;
       keeps = breaks.keeps;
     }
 

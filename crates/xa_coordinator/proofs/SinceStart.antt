@@ -22,9 +22,10 @@ either : (t : Bool) → (if t then new_branch else new_branch).standing ≡ Unst
 either true = refl
 either false = refl
 
-pub since_start : {L : Type 0} (moment : L → Moment) → StartsAreTracked L → SessionsAreTracked moment → (threads rms : ℕ) (lines : List (List ℕ)) (replies : List Response)
-    (old new : Coordinator L) → StandsAtStart threads rms old.session → HaveReplies moment lines replies old new
-    → (o : Origin) → BeginsWith threads rms old.session.manager o → IsOldLog o → TracksReplies o o.threads lines replies Start new
+pub since_start : {L : Type 0} (moment : L → Moment) → StartsAreTracked L → SessionsAreTracked moment → (threads rms : ℕ)
+    (lines : List (List ℕ)) (replies : List Response) (old new : Coordinator L) → StandsAtStart threads rms old.session
+    → HaveReplies moment lines replies old new → (o : Origin) → BeginsWith threads rms old.session.manager o → IsOldLog o
+    → TracksReplies o o.threads lines replies Start new
 since_start moment starts sessions threads rms lines replies old new stands have o begins is_old =
     let tracks = sessions o Start lines replies old new (starts threads rms old.session stands o begins) have in
     -- nothing is held at the resource managers of this start

@@ -296,7 +296,8 @@ module _ {L : Type 0} (laws : Laws L) (o : Origin) (moment : L → Moment) where
   done_and_forgot : (request : Request) (reply : Response) (seen : Seen) (old new : Coordinator L) → KeepsTrack o seen old.session
       → Performs moment request old reply new → is_log_fault reply ≡ false → Goes o (Tells old.session.lines.threads request reply seen) old.session new.session
   done_and_forgot request reply seen old new keeps does none =
-      forgot (Tells old.session.lines.threads request reply seen) _ old does.mid new (performed request reply seen old does.mid keeps does.does none) does.releases
+      forgot (Tells old.session.lines.threads request reply seen) _ old does.mid new
+      (performed request reply seen old does.mid keeps does.does none) does.releases
 
   pub reply_tracked : (seen : Seen) (request : Request) (reply : Response) (old new : Coordinator L) → KeepsTrack o seen old.session
       → Performs moment request old reply new → is_log_fault reply ≡ false → TracksReply o request reply seen old new

@@ -138,8 +138,9 @@ module _ {L : Type 0} where
       all_released hs next new g more (subst (λ (c : Coordinator L). Recalls (book_in c.session.manager) g) (sym same) was)
 
   -- an answer that is heard
-  heard_recalls : (t r : ℕ) (name : CallName) (answer : Answer Xid) (old new : Session L) (g : Gtrid) (x : Unit {0}) → waits_for_other old.lines t r name ≡ false
-      → Hears t r answer old new (Ok x) → VotesFor (requests.Answer t r name answer) g ⊎ Recalls (book_in old.manager) g → Recalls (book_in new.manager) g
+  heard_recalls : (t r : ℕ) (name : CallName) (answer : Answer Xid) (old new : Session L) (g : Gtrid) (x : Unit {0})
+      → waits_for_other old.lines t r name ≡ false → Hears t r answer old new (Ok x)
+      → VotesFor (requests.Answer t r name answer) g ⊎ Recalls (book_in old.manager) g → Recalls (book_in new.manager) g
   heard_recalls t r name answer old new g x same does was =
       let first = known_first old t r answer does.allowed in
       let c = first.known_so.0 in
@@ -185,7 +186,8 @@ module _ {L : Type 0} where
 
   -- a line that tells a vote, and is heard
   line_recalls : (moment : L → Moment) (request : Option Request) (h g : Gtrid) (old new : Coordinator L) (reply : Response) → VotesBy request h
-      → is_heard reply ≡ true → RepliesBy moment request old reply new → (h ≡ g) ⊎ Recalls (book_in old.session.manager) g → Recalls (book_in new.session.manager) g
+      → is_heard reply ≡ true → RepliesBy moment request old reply new → (h ≡ g) ⊎ Recalls (book_in old.session.manager) g
+      → Recalls (book_in new.session.manager) g
   line_recalls moment None h g old new reply votes heard replied was = absurd votes
   line_recalls moment (Some (requests.Answer t r name answer)) h g old new reply votes heard replied was =
       all_released _ replied.mid new g replied.releases
@@ -289,8 +291,8 @@ module _ {L : Type 0} (moment : L → Moment) (near : Bool) (gs : List Gtrid) (m
           recalled (inr gone) = absurd (no (sym opened.begun ∙ gone))
           recalled (inl said) =
               is_logged (moment (log_in new.session.manager)).content g (voted_yes (book_in mid.session.manager) g)
-              (row_written (book_in mid.session.manager) (book_in did.mid.session.manager) near (moment (log_in new.session.manager)).content gs g opened.up among
-              said does.decided.book
+              (row_written (book_in mid.session.manager) (book_in did.mid.session.manager) near (moment (log_in new.session.manager)).content gs g
+              opened.up among said does.decided.book
               (all_tied_back near _ did.mid new (moment (log_in new.session.manager)).content did.releases (did.keeps.holds near order honest holds).tied))
 
 pub voted_commits_are_logged : {L : Type 0} (moment : L → Moment) → VotedCommitsAreLogged moment

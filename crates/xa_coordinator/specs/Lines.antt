@@ -1,8 +1,9 @@
 -- Lines that are read and written.
 use Rattle.std.specs.Prelude.{◌≡◌, ◌⊎◌, ◌≤◌, ◌<◌, ◌==◌, ◌&&◌, ℕ, Bool, true, false, not, if◌then◌else◌, nat_le, List, [], ◌∷◌, ◌++◌, codes, length, Option, Some, None}
 use Rattle.std.specs.Io.KnownBytes.{Consumes, IsAtEnd, Keeps}
-use Rattle.std.specs.List.{list_any}
+use Rattle.std.specs.List.{list_any, repeat, slice_split}
 use Rattle.std.specs.Str.{is_utf8}
+use Rattle.xa_coordinator.specs.declared.lines.LineReply.{LineReply}
 use Rattle.xa_coordinator.specs.declared.lines.TheConstants.{LINE_LIMIT}
 use Rattle.xa_requests.specs.Requests.{request_of}
 use Rattle.xa_requests.specs.Responses.{response_text}
@@ -47,7 +48,15 @@ abbrev pub is_nothing : (kept : List ℕ) → (is_ended : Bool) → Bool
 is_nothing [] is_ended = not is_ended
 is_nothing (b ∷ bs) is_ended = false
 
--- what a line asks for: nothing, where it is too long or no text
+-- a line, cut at each `;`
+abbrev pub cut_at_marks : List ℕ → List (List ℕ)
+cut_at_marks line = slice_split (λ c. c == 59) line
+
+-- the requests of a line, each as a line of its own: a `;` stands between two. A line that is too long isn't cut
+abbrev pub requests_in : List ℕ → List (List ℕ)
+requests_in line = if nat_le (length line) LINE_LIMIT then cut_at_marks line else line ∷ []
+
+-- what a line of one request asks for: nothing, where it is too long or no text
 abbrev pub asked_in : List ℕ → Option Request
 asked_in line = if nat_le (length line) LINE_LIMIT && is_utf8 line then request_of line else None
 
@@ -71,5 +80,13 @@ pub record ReadsWholeLines (unread left : Option (List ℕ)) (read : List ℕ) :
 
 -- ** writing
 
-abbrev pub line_of : Response → List ℕ
-line_of reply = response_text reply ++ codes "\n"
+-- a `;` for each request that was done before the one that is replied
+abbrev pub marks : (before : ℕ) → List ℕ
+marks before = repeat before (codes ";")
+
+abbrev pub line_of : LineReply → List ℕ
+line_of told = marks told.before ++ response_text told.reply ++ codes "\n"
+
+-- the reply to a line of one request
+abbrev pub alone : Response → LineReply
+alone reply = record { before = 0; reply = reply }

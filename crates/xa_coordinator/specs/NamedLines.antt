@@ -3,9 +3,10 @@ use Rattle.std.specs.Prelude.{ℕ, ◌&&◌, if◌then◌else◌, nat_le, List, 
 use Rattle.std.specs.Io.KnownBytes.{Appends, Consumes, IsAtEnd}
 use Rattle.std.specs.List.{flat_map}
 use Rattle.std.specs.Str.{is_utf8}
-use Rattle.xa_coordinator.specs.Lines.{ReadsWholeLines, lines_of}
-use Rattle.xa_coordinator.specs.Serving.{EndsBy, HaveReplies, WritesUpToLast}
+use Rattle.xa_coordinator.specs.Lines.{ReadsWholeLines, lines_of, marks}
+use Rattle.xa_coordinator.specs.Serving.{AreTurns, EndsBy, HaveReplies, Turn, WritesUpToLast, replies_given, requests_done, told_in}
 use Rattle.xa_coordinator.specs.declared.coordinator.Coordinator.{Coordinator}
+use Rattle.xa_coordinator.specs.declared.lines.LineReply.{LineReply}
 use Rattle.xa_coordinator.specs.declared.lines.TheConstants.{LINE_LIMIT}
 use Rattle.xa_log.specs.Contract.{Moment}
 use Rattle.xa_names.specs.Lines.{line_renamed}
@@ -13,7 +14,7 @@ use Rattle.xa_requests.specs.Responses.{response_text}
 use Rattle.xa_requests.specs.declared.response.Response.{Response}
 use Rattle.xa_serve.specs.Logging.{KeepsLog}
 
--- a line of a driver, as a manager of this name means it; one that is too long, or no text, is as it is, and asks for nothing
+-- a line of one request, as a manager of this name means it; one that is too long, or no text, is as it is, and asks for nothing
 abbrev pub line_read : List ℕ → List ℕ → List ℕ
 line_read name line = if nat_le (length line) LINE_LIMIT && is_utf8 line then line_renamed name line else line
 
@@ -21,10 +22,10 @@ abbrev pub lines_read : List ℕ → List (List ℕ) → List (List ℕ)
 lines_read name lines = map (line_read name) lines
 
 -- the line of a reply, as a manager of this name means it
-abbrev pub line_written : List ℕ → Response → List ℕ
-line_written name reply = line_renamed name (response_text reply) ++ codes "\n"
+abbrev pub line_written : List ℕ → LineReply → List ℕ
+line_written name told = marks told.before ++ line_renamed name (response_text told.reply) ++ codes "\n"
 
-abbrev pub text_written : List ℕ → List Response → List ℕ
+abbrev pub text_written : List ℕ → List LineReply → List ℕ
 text_written name replies = flat_map (line_written name) replies
 
 module _ {L : Type 0} (moment : L → Moment) where
@@ -33,11 +34,12 @@ module _ {L : Type 0} (moment : L → Moment) where
   pub record ServesUnder (name : List ℕ) (greeting : Response) (unread left : Option (List ℕ)) (written all : Option (List ℕ))
       (old new : Coordinator L) : Type 0 where
     pub read : List ℕ
-    pub replies : List Response
+    pub turns : List Turn
     pub consumed : Consumes unread left read
-    pub replied : HaveReplies moment (lines_read name (lines_of read)) replies old new
-    pub appended : Appends written all (text_written name (greeting ∷ replies))
-    pub ends : EndsBy replies (IsAtEnd left)
+    pub lines : AreTurns (lines_of read) turns
+    pub replied : HaveReplies moment (lines_read name (requests_done turns)) (replies_given turns) old new
+    pub appended : Appends written all (text_written name (told_in greeting turns))
+    pub ends : EndsBy (map (λ turn. turn.reply) turns) (IsAtEnd left)
     -- the log has what the book says at the end, if it had at the start
     pub keeps : KeepsLog moment old.session.manager new.session.manager
 
@@ -46,8 +48,9 @@ module _ {L : Type 0} (moment : L → Moment) where
   pub record BreaksSessionUnder (name : List ℕ) (greeting : Response) (unread written all : Option (List ℕ)) (old new : Coordinator L) : Type 0 where
     pub read : List ℕ
     pub left : Option (List ℕ)
-    pub replies : List Response
+    pub turns : List Turn
     pub reads : ReadsWholeLines unread left read
-    pub replied : HaveReplies moment (lines_read name (lines_of read)) replies old new
-    pub writes : WritesUpToLast (line_written name) written all (greeting ∷ replies)
+    pub lines : AreTurns (lines_of read) turns
+    pub replied : HaveReplies moment (lines_read name (requests_done turns)) (replies_given turns) old new
+    pub writes : WritesUpToLast (line_written name) written all (told_in greeting turns)
     pub keeps : KeepsLog moment old.session.manager new.session.manager

@@ -1,11 +1,12 @@
 -- What is written to the lines that are read.
-use Rattle.std.specs.Prelude.{◌≡◌, ℕ, Bool, true, false, MatchBool, List, [], ◌∷◌, ◌++◌, Option, Some, None}
+use Rattle.std.specs.Prelude.{◌≡◌, ◌⊎◌, ℕ, suc, Bool, true, false, MatchBool, All, List, [], ◌∷◌, ◌++◌, length, map, take, Option, Some, None}
 use Rattle.std.specs.Io.KnownBytes.{Appends, Consumes, IsAtEnd}
-use Rattle.std.specs.List.{flat_map}
-use Rattle.xa_coordinator.specs.Lines.{ReadsWholeLines, asked_in, line_of, lines_of}
+use Rattle.std.specs.List.{flat_map, list_any}
+use Rattle.xa_coordinator.specs.Lines.{ReadsWholeLines, alone, asked_in, line_of, lines_of, requests_in}
 use Rattle.xa_coordinator.specs.Performing.{Performs}
 use Rattle.xa_coordinator.specs.Standing.{OnlyTells}
 use Rattle.xa_coordinator.specs.declared.coordinator.Coordinator.{Coordinator}
+use Rattle.xa_coordinator.specs.declared.lines.LineReply.{LineReply}
 use Rattle.xa_files.specs.Outputs.{AppendsBeginning}
 use Rattle.xa_log.specs.Contract.{Moment}
 use Rattle.xa_requests.specs.declared.request.Request.{Request}
@@ -14,30 +15,88 @@ use Rattle.xa_requests.specs.declared.response.Response.{Response}
 use Rattle.xa_requests.specs.declared.response.Response.TheVariants as responses
 use Rattle.xa_serve.specs.Logging.{KeepsLog}
 
--- ** lines and replies
-
--- the lines of these replies
-abbrev pub text_of : List Response → List ℕ
-text_of replies = flat_map line_of replies
+-- ** requests and replies
 
 abbrev pub is_bye : Response → Bool
 is_bye responses.Bye = true
 is_bye reply = false
+
+-- the requests behind this reply on its line aren't done: it is a refusal, or ends the session
+abbrev pub ends_line : Response → Bool
+ends_line (responses.Refused n) = true
+ends_line (responses.Fault fault) = true
+ends_line responses.Bye = true
+ends_line reply = false
 
 module _ {L : Type 0} (moment : L → Moment) where
   abbrev pub RepliesBy : Option Request → (old : Coordinator L) → Response → (new : Coordinator L) → Type 0
   RepliesBy None old reply new = OnlyTells (responses.Fault faults.NoRequest) old reply new
   RepliesBy (Some request) old reply new = Performs moment request old reply new
 
-  -- what a line asks for is done, and so replied; a line that asks for nothing is a fault
+  -- what a line of one request asks for is done, and so replied; a line that asks for nothing is a fault
   abbrev pub RepliesTo : List ℕ → (old : Coordinator L) → Response → (new : Coordinator L) → Type 0
   RepliesTo line old reply new = RepliesBy (asked_in line) old reply new
 
-  -- the lines have these replies, one each and in turn
+  -- the lines, of one request each, have these replies in turn
   abbrev pub HaveReplies : List (List ℕ) → List Response → (old new : Coordinator L) → Type 0
   HaveReplies [] [] old new = new ≡ old
   HaveReplies (line ∷ lines) (reply ∷ replies) old new = (next : Coordinator L) × RepliesTo line old reply next × HaveReplies lines replies next new
   HaveReplies lines replies old new = ⊥
+
+  -- What is asked for is done in turn, up to the first that is refused: the last that was done or refused is replied so, those before it so.
+  abbrev pub RepliesInTurn : List (Option Request) → (before : List Response) → (old : Coordinator L) → Response → (new : Coordinator L) → Type 0
+  RepliesInTurn [] before old reply new = ⊥
+  RepliesInTurn (asked ∷ others) [] old reply new = RepliesBy asked old reply new × ((others ≡ []) ⊎ (ends_line reply ≡ true))
+  RepliesInTurn (asked ∷ others) (first ∷ before) old reply new =
+      (ends_line first ≡ false) × ((mid : Coordinator L) × RepliesBy asked old first mid × RepliesInTurn others before mid reply new)
+
+  -- so what the requests of a line ask for is replied
+  abbrev pub RepliesToLine : List (Option Request) → (old : Coordinator L) → LineReply → (new : Coordinator L) → Type 0
+  RepliesToLine asked old told new = (before : List Response) × (length before ≡ told.before) × RepliesInTurn asked before old told.reply new
+
+-- ** lines
+
+-- A line that was read and done: the reply to the last of its requests that was done or refused, and those to the requests before it.
+pub record Turn : Type 0 where
+  pub line : List ℕ
+  pub before : List Response
+  pub reply : Response
+
+-- what is written of it
+abbrev pub told_of : Turn → LineReply
+told_of turn = record { before = length turn.before; reply = turn.reply }
+
+-- its requests that were done or refused, each as a line of its own, and the reply to each
+abbrev pub requests_of : Turn → List (List ℕ)
+requests_of turn = take (suc (length turn.before)) (requests_in turn.line)
+
+abbrev pub replies_of : Turn → List Response
+replies_of turn = turn.before ++ turn.reply ∷ []
+
+-- up to the first that was refused, or to the last
+pub record IsTurn (turn : Turn) : Type 0 where
+  pub done : list_any ends_line turn.before ≡ false
+  pub whole : (length (requests_in turn.line) ≡ suc (length turn.before)) ⊎ (ends_line turn.reply ≡ true)
+
+-- these lines were done so
+pub record AreTurns (lines : List (List ℕ)) (turns : List Turn) : Type 0 where
+  pub are : map (λ turn. turn.line) turns ≡ lines
+  pub each : All IsTurn turns
+
+-- of all of them
+abbrev pub requests_done : List Turn → List (List ℕ)
+requests_done turns = flat_map requests_of turns
+
+abbrev pub replies_given : List Turn → List Response
+replies_given turns = flat_map replies_of turns
+
+-- what is written of the first line of a session and of these lines
+abbrev pub told_in : (greeting : Response) → List Turn → List LineReply
+told_in greeting turns = alone greeting ∷ map told_of turns
+
+-- the lines of these replies
+abbrev pub text_of : List LineReply → List ℕ
+text_of replies = flat_map line_of replies
 
 -- the last reply, and no other, ends the session; or none does, and this holds
 abbrev pub EndsBy : List Response → Type 0 → Type 0
@@ -45,9 +104,9 @@ EndsBy [] P = P
 EndsBy (reply ∷ replies) P = MatchBool (is_bye reply) (replies ≡ []) (EndsBy replies P)
 
 -- of these replies each but the last was written, and of the last a beginning
-pub record WritesUpToLast (line_for : Response → List ℕ) (written all : Option (List ℕ)) (replies : List Response) : Type 0 where
-  pub others : List Response
-  pub last : Response
+pub record WritesUpToLast (line_for : LineReply → List ℕ) (written all : Option (List ℕ)) (replies : List LineReply) : Type 0 where
+  pub others : List LineReply
+  pub last : LineReply
   pub are : replies ≡ others ++ last ∷ []
   pub between : Option (List ℕ)
   pub appended : Appends written between (flat_map line_for others)
@@ -58,11 +117,12 @@ module _ {L : Type 0} (moment : L → Moment) where
   -- the input.
   pub record Serves (greeting : Response) (unread left : Option (List ℕ)) (written all : Option (List ℕ)) (old new : Coordinator L) : Type 0 where
     pub read : List ℕ
-    pub replies : List Response
+    pub turns : List Turn
     pub consumed : Consumes unread left read
-    pub replied : HaveReplies moment (lines_of read) replies old new
-    pub appended : Appends written all (text_of (greeting ∷ replies))
-    pub ends : EndsBy replies (IsAtEnd left)
+    pub lines : AreTurns (lines_of read) turns
+    pub replied : HaveReplies moment (requests_done turns) (replies_given turns) old new
+    pub appended : Appends written all (text_of (told_in greeting turns))
+    pub ends : EndsBy (map (λ turn. turn.reply) turns) (IsAtEnd left)
     -- the log has what the book says at the end, if it had at the start
     pub keeps : KeepsLog moment old.session.manager new.session.manager
 
@@ -71,8 +131,9 @@ module _ {L : Type 0} (moment : L → Moment) where
   pub record BreaksSession (greeting : Response) (unread written all : Option (List ℕ)) (old new : Coordinator L) : Type 0 where
     pub read : List ℕ
     pub left : Option (List ℕ)
-    pub replies : List Response
+    pub turns : List Turn
     pub reads : ReadsWholeLines unread left read
-    pub replied : HaveReplies moment (lines_of read) replies old new
-    pub writes : WritesUpToLast line_of written all (greeting ∷ replies)
+    pub lines : AreTurns (lines_of read) turns
+    pub replied : HaveReplies moment (requests_done turns) (replies_given turns) old new
+    pub writes : WritesUpToLast line_of written all (told_in greeting turns)
     pub keeps : KeepsLog moment old.session.manager new.session.manager

@@ -53,7 +53,7 @@ Tells n (requests.CrashLine t r) responses.Crashed seen more = (c : Option Known
 Tells n (requests.CrashRm r) reply seen more = TellsLost r 0 n reply seen more
 Tells n request reply seen more = more ≡ seen
 
--- ** lines and their replies
+-- ** lines of one request each, and their replies
 
 -- a line that asks for nothing tells nothing
 abbrev pub TellsBy : (threads : ℕ) → Option Request → Response → (seen more : Seen) → Type 0

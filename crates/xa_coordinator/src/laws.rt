@@ -48,8 +48,8 @@ pub fn sessions_are_tracked<L: DecisionLog + Drop>()
 /// are: of them it is only known what the driver says that they answered. The coordinator stands at a start (`stands` of
 /// [`Coordinator::new`](crate::Coordinator::new)), from an old log (`old`).
 ///
-/// What was told is read off the lines and their replies alone (`HaveTold`). It ends where the log failed: the manager is
-/// then down, and hears nothing more.
+/// What was told is read off the requests, each as a line of its own, and their replies alone (`HaveTold`). It ends where
+/// the log failed: the manager is then down, and hears nothing more.
 pub fn served_sessions_are_explained<L: DecisionLog + Drop>()
     ensures explained { ServedSessionsAreExplained L.moment }
 {

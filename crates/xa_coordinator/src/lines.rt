@@ -1,9 +1,9 @@
 //! How the lines of a driver are read, and those of the coordinator written.
 
-ghost use Rattle.std.specs.Prelude.{◌≡◌, IfOk, OnErr, OnOk};
+ghost use Rattle.std.specs.Prelude.{◌≡◌, ◌<◌, length, map, IfOk, OnErr, OnOk};
 ghost use Rattle.std.specs.Io.KnownBytes.{Appends};
 ghost use Rattle.std.specs.String.{string_bytes};
-ghost use Rattle.xa_coordinator.specs.Lines.{KeepsShort, ReadsLine, ReadsOne, asked_in, is_nothing};
+ghost use Rattle.xa_coordinator.specs.Lines.{KeepsShort, ReadsLine, ReadsOne, alone, asked_in, cut_at_marks, is_nothing, requests_in};
 ghost use Rattle.xa_coordinator.specs.NamedLines.{line_read, line_written};
 ghost use Rattle.xa_files.specs.Outputs.{AppendsBeginning};
 ghost use Rattle.xa_names.specs.Lines.{line_renamed};
@@ -27,6 +27,24 @@ pub(crate) struct Line {
     pub bytes: Vec<u8>,
     /// Whether a line feed ended it, and not the end of the input.
     pub is_ended: bool,
+}
+
+/// What a line is replied.
+#[derive(Drop)]
+pub(crate) struct LineReply {
+    /// How many of its requests were done before the last.
+    pub before: usize,
+    /// The reply to the last of its requests that was done, or was refused.
+    pub reply: Response,
+}
+
+impl LineReply {
+    /// The reply to a line of one request.
+    pub fn alone(reply: Response) -> LineReply
+        ensures { result ≡ alone reply }
+    {
+        LineReply { before: 0, reply }
+    }
 }
 
 /// Whether nothing was left to read.
@@ -128,6 +146,37 @@ pub(crate) fn asked_by(
     }
 }
 
+/// The requests of a line, each as a line of its own: a `;` stands between two.
+fn cut_at_marks(alloc: Global, line: &[u8]) -> Result<Vec<&[u8]>, AllocError>
+    ensures { IfOk result (λ requests. map (λ request. request.now) requests.items
+        ≡ cut_at_marks line.now) }
+{
+    line.split(|byte| *byte == b';').collect(alloc)
+}
+
+/// What the requests of a line ask a manager of this name for, in turn.
+pub(crate) fn all_asked_by(
+    alloc: Global,
+    name: &ManagerName,
+    line: &[u8],
+) -> Result<Vec<Option<Request>>, Memory>
+    ensures asked { IfOk result (λ asked. asked.items
+        ≡ map (λ request. asked_in (line_read name.now request)) (requests_in line.now)) }
+    ensures some { IfOk result (λ asked. 0 < length asked.items) }
+{
+    let mut asked = Vec::new(alloc);
+    if line.len() > LINE_LIMIT {
+        asked.push(None)?;
+        return Ok(asked);
+    }
+    let requests = cut_at_marks(alloc, line)?;
+    for request in requests.as_slice() {
+        let what = asked_by(alloc, name, request)?;
+        asked.push(what)?;
+    }
+    Ok(asked)
+}
+
 /// A line, as a manager of this name means it.
 fn meant_by(alloc: Global, name: &ManagerName, line: String) -> Result<String, Memory>
     ensures { IfOk result (λ text. string_bytes text ≡ line_renamed name.now (string_bytes line)) }
@@ -140,11 +189,13 @@ fn meant_by(alloc: Global, name: &ManagerName, line: String) -> Result<String, M
 }
 
 /// The line of a reply of a manager of this name, with its line feed.
-fn line_written(alloc: Global, name: &ManagerName, reply: &Response) -> Result<String, Memory>
-    ensures { IfOk result (λ text. string_bytes text ≡ line_written name.now reply.now) }
+fn line_written(alloc: Global, name: &ManagerName, told: &LineReply) -> Result<String, Memory>
+    ensures { IfOk result (λ text. string_bytes text ≡ line_written name.now told.now) }
 {
-    let line = response_text(alloc, reply)?;
-    let mut text = meant_by(alloc, name, line)?;
+    let line = response_text(alloc, &told.reply)?;
+    let meant = meant_by(alloc, name, line)?;
+    let mut text = ";".repeat(alloc, told.before)?;
+    text.push_str(meant.as_str())?;
     text.push_str("\n")?;
     Ok(text)
 }
@@ -153,15 +204,15 @@ fn line_written(alloc: Global, name: &ManagerName, reply: &Response) -> Result<S
 pub(crate) fn write_reply<W: Write>(
     alloc: Global,
     name: &ManagerName,
-    reply: &Response,
+    told: &LineReply,
     output: &mut W,
 ) -> Result<(), ServeFault>
     ensures ok { OnOk result (Appends (W.contents output.old) (W.contents output.new)
-        (line_written name.now reply.now)) }
+        (line_written name.now told.now)) }
     ensures err { OnErr result (AppendsBeginning (W.contents output.old)
-        (W.contents output.new) (line_written name.now reply.now)) }
+        (W.contents output.new) (line_written name.now told.now)) }
 {
-    let Ok(text) = line_written(alloc, name, reply) else {
+    let Ok(text) = line_written(alloc, name, told) else {
         return Err(ServeFault::Memory);
     };
     match write_unflushed(text.as_bytes(), output) {

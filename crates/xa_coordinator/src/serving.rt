@@ -1,22 +1,23 @@
 //! The loop over the lines of a driver.
 
-ghost use Rattle.std.specs.Prelude.{◌≡◌, ◌&&◌, not, IfOk, OnErr, OnOk};
+ghost use Rattle.std.specs.Prelude.{◌≡◌, ◌<◌, ◌&&◌, length, map, not, IfOk, OnErr, OnOk};
 ghost use Rattle.std.specs.Io.Buffered.{reader_remaining};
 ghost use Rattle.std.specs.Io.KnownBytes.{Keeps};
 ghost use Rattle.xa_coordinator.specs.Replies.{greeting_of};
+ghost use Rattle.xa_coordinator.specs.Lines.{asked_in, requests_in};
 ghost use Rattle.xa_coordinator.specs.NamedLines.{BreaksSessionUnder, ServesUnder, line_read};
-ghost use Rattle.xa_coordinator.specs.Serving.{BreaksSession, RepliesTo, Serves, is_bye};
+ghost use Rattle.xa_coordinator.specs.Serving.{BreaksSession, RepliesBy, RepliesInTurn, RepliesToLine, Serves, ends_line, is_bye};
 ghost use Rattle.xa_coordinator.specs.ServingLines.{BreaksOff, ServesLine};
 ghost use Rattle.xa_serve.specs.Session.{IsReady};
 
 use crate::coordinator::Coordinator;
-use crate::lines::{asked_by, is_nothing, read_line, write_reply};
+use crate::lines::{LineReply, all_asked_by, is_nothing, read_line, write_reply};
 use std::alloc::AllocError;
 use std::io::{BufReader, Read, Write};
 use thiserror::Error;
 use xa_log::DecisionLog;
 use xa_names::{ManagerName, without_a_name_nothing_changes};
-use xa_requests::{RequestFault, Response};
+use xa_requests::{Request, RequestFault, Response};
 
 /// Why a session ends early.
 #[derive(Clone, Copy, Debug, PartialEq, Eq, Error)]
@@ -49,6 +50,16 @@ fn goes_on(is_ended: bool, reply: &Response) -> bool
     is_ended && !matches!(reply, Response::Bye)
 }
 
+/// Whether the requests behind this reply on its line aren't done: it is a refusal, or ends the session.
+fn ends_line(reply: &Response) -> bool
+    ensures { result ≡ ends_line reply.now }
+{
+    matches!(
+        reply,
+        Response::Refused(_) | Response::Fault(_) | Response::Bye
+    )
+}
+
 /// Flushes what was written, unless a whole line was read ahead: then no input is waited for.
 fn flush_before_waiting<R: Read, W: Write>(
     input: &BufReader<R>,
@@ -66,17 +77,52 @@ fn flush_before_waiting<R: Read, W: Write>(
 }
 
 impl<L: DecisionLog + Drop> Coordinator<L> {
-    /// Does what a line asks for, and gives its reply.
-    fn reply_to(&mut self, name: &ManagerName, line: &[u8]) -> Result<Response, ServeFault>
+    /// Does what a request asks for, and gives its reply.
+    fn reply_by(&mut self, asked: &Option<Request>) -> Response
         requires { IsReady self.old.session }
         ensures ready { IsReady self.new.session }
-        ensures ok { IfOk result (λ reply.
-            RepliesTo L.moment (line_read name.now line.now) self.old reply self.new) }
+        ensures replies { RepliesBy L.moment asked.now self.old result self.new }
+    {
+        match asked {
+            Some(request) => self.perform(request),
+            None => Response::Fault(RequestFault::NoRequest),
+        }
+    }
+
+    /// Does what the requests of a line ask for, in turn, up to the first that is refused. Gives the reply to the last.
+    fn reply_in_turn(&mut self, asked: &[Option<Request>]) -> LineReply
+        requires ready { IsReady self.old.session }
+        requires some { 0 < length asked.now }
+        ensures ready { IsReady self.new.session }
+        ensures replies { RepliesToLine L.moment asked.now self.old result self.new }
+    {
+        let [first, others @ ..] = asked else {
+            return LineReply::alone(Response::Fault(RequestFault::NoRequest));
+        };
+        let mut told = LineReply::alone(self.reply_by(first));
+        for request in others {
+            if ends_line(&told.reply) {
+                return told;
+            }
+            told = LineReply {
+                before: told.before + 1,
+                reply: self.reply_by(request),
+            };
+        }
+        told
+    }
+
+    /// Does what a line asks for, and gives its reply.
+    fn reply_to(&mut self, name: &ManagerName, line: &[u8]) -> Result<LineReply, ServeFault>
+        requires { IsReady self.old.session }
+        ensures ready { IsReady self.new.session }
+        ensures ok { IfOk result (λ told. RepliesToLine L.moment
+            (map (λ request. asked_in (line_read name.now request)) (requests_in line.now))
+            self.old told self.new) }
         ensures err { OnErr result (self.new ≡ self.old) }
     {
-        match asked_by(self.alloc, name, line) {
-            Ok(Some(request)) => Ok(self.perform(&request)),
-            Ok(None) => Ok(Response::Fault(RequestFault::NoRequest)),
+        match all_asked_by(self.alloc, name, line) {
+            Ok(asked) => Ok(self.reply_in_turn(asked.as_slice())),
             Err(_) => Err(ServeFault::Memory),
         }
     }
@@ -102,15 +148,16 @@ impl<L: DecisionLog + Drop> Coordinator<L> {
         if is_nothing(&line) {
             return Ok(false);
         }
-        let reply = self.reply_to(name, &line.bytes)?;
-        write_reply(self.alloc, name, &reply, output)?;
-        Ok(goes_on(line.is_ended, &reply))
+        let told = self.reply_to(name, &line.bytes)?;
+        write_reply(self.alloc, name, &told, output)?;
+        Ok(goes_on(line.is_ended, &told.reply))
     }
 
     /// Serves a driver: first a line that says how the session starts, and then one line for each line that is read, in
-    /// their order, until `quit` or the end of the input. What was written is flushed before input is waited for: so what
-    /// was read together is replied by one write. What is written last the caller flushes. A line is ended by a line feed,
-    /// which the last one may lack.
+    /// their order, until `quit` or the end of the input. A line may hold several requests, with a `;` between two: they
+    /// are done in turn, up to the first that is refused, and the reply is that to the last of these, behind a `;` for
+    /// each before it. What was written is flushed before input is waited for: so what was read together is replied by
+    /// one write. What is written last the caller flushes. A line is ended by a line feed, which the last one may lack.
     ///
     /// Input comes if the requests can't be read, Output if a reply can't be written, and Memory if a request for memory
     /// was refused outside of a step. What was done then is what whole lines that were read ask for, in their order, and
@@ -151,7 +198,7 @@ impl<L: DecisionLog + Drop> Coordinator<L> {
             (reader_remaining R.remaining input.old)
             (W.contents output.old) (W.contents output.new) self.old self.new) }
     {
-        let greeting = self.greeting();
+        let greeting = LineReply::alone(self.greeting());
         write_reply(self.alloc, name, &greeting, output)?;
         for _ in 0..u64::MAX {
             if !self.serve_line(name, input, output)? {

@@ -20,7 +20,8 @@ returns-in-Ok-serve g c =
       last = last;
       unread = unread.0;
       starts = record { stands = made.stands; old = made.old; started = made.started; over = made.over; holds = made.holds true };
-      serves = subst (λ before. Serves g.L.DecisionLog.moment (greeting_of first) (Some c.args.text.now) (Some unread.0) (Some before) (Some written) first last)
-          c.new-written.ensures.items unread.1;
+      serves =
+          subst (λ before. Serves g.L.DecisionLog.moment (greeting_of first) (Some c.args.text.now) (Some unread.0) (Some before) (Some written)
+          first last) c.new-written.ensures.items unread.1;
       log = c.into_log.ensures;
     }

@@ -4,7 +4,9 @@ use Rattle.xa_coordinator.proofs.laws.served_databases_agree.Goals as goal
 pub returns : goal.returns
 returns g c = record {
   agree = λ threads rms lines replies old new stands have o begins is_old.
-      let tracks = since_start g.L.DecisionLog.moment c.starts_are_tracked.ensures c.sessions_are_tracked.ensures threads rms lines replies old new stands have o begins is_old in
+      let tracks =
+      since_start g.L.DecisionLog.moment c.starts_are_tracked.ensures c.sessions_are_tracked.ensures threads rms lines replies old new stands have
+      o begins is_old in
       record {
         seen = tracks.more;
         told = tracks.told;

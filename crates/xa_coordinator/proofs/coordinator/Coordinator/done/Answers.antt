@@ -8,7 +8,8 @@ returns-in-Ok-clause-performs g c =
     let e = c.in-Ok.ensures in
     record {
       result = Ok tt;
-      does = finishes_by c.args.gtrids.now c.args.self.now.session c.done_all.new.self _ e.refused e.allowed e.err e.stays e.lines e.fault_counted e.ok e.follows;
+      does = finishes_by c.args.gtrids.now c.args.self.now.session c.done_all.new.self _ e.refused e.allowed e.err e.stays e.lines e.fault_counted
+          e.ok e.follows;
       told = refl;
       owed = c.forgive.ensures;
       owed_stay = tt;
@@ -20,7 +21,8 @@ returns-in-Err-clause-performs g c =
     let e = c.in-Err.ensures in
     record {
       result = Err c.in-Err.refusal;
-      does = finishes_by c.args.gtrids.now c.args.self.now.session c.done_all.new.self _ e.refused e.allowed e.err e.stays e.lines e.fault_counted e.ok e.follows;
+      does = finishes_by c.args.gtrids.now c.args.self.now.session c.done_all.new.self _ e.refused e.allowed e.err e.stays e.lines e.fault_counted
+          e.ok e.follows;
       told = refl;
       owed = tt;
       owed_stay = refl;

@@ -8,6 +8,7 @@ use Rattle.xa_coordinator.proofs.coordinator.Coordinator.serve.Goals as goal
 
 pub returns : goal.returns
 returns g c =
+    let moment = g.L.DecisionLog.moment in
     let contents = g.W.Write.contents in
     let left = reader_remaining g.R.Read.remaining in
     let s = c.args.self.now in
@@ -15,19 +16,16 @@ returns g c =
     let result = c.serve_under.result in
     let new = c.serve_under.new in
     let greeting = greeting_of s in
+    let unread = left c.args.input.now in
+    let rest = left new.input in
+    let written = contents c.args.output.now in
+    let all = contents new.output in
     record {
       ready = c.serve_under.ensures.ready;
-      served = on_ok_as result
-          (ServesUnder g.L.DecisionLog.moment [] greeting (left c.args.input.now) (left new.input) (contents c.args.output.now) (contents new.output) s new.self)
-          (Serves g.L.DecisionLog.moment greeting (left c.args.input.now) (left new.input) (contents c.args.output.now) (contents new.output) s new.self)
-          (serves_as_is law g.L.DecisionLog.moment greeting (left c.args.input.now) (left new.input) (contents c.args.output.now) (contents new.output) s new.self)
-          (subst (λ n. OnOk result
-          (ServesUnder g.L.DecisionLog.moment n greeting (left c.args.input.now) (left new.input) (contents c.args.output.now) (contents new.output) s new.self))
-          c.none.ensures c.serve_under.ensures.served);
-      broken = on_err_as result
-          (BreaksSessionUnder g.L.DecisionLog.moment [] greeting (left c.args.input.now) (contents c.args.output.now) (contents new.output) s new.self)
-          (BreaksSession g.L.DecisionLog.moment greeting (left c.args.input.now) (contents c.args.output.now) (contents new.output) s new.self)
-          (breaks_as_is law g.L.DecisionLog.moment greeting (left c.args.input.now) (contents c.args.output.now) (contents new.output) s new.self)
-          (subst (λ n. OnErr result (BreaksSessionUnder g.L.DecisionLog.moment n greeting (left c.args.input.now) (contents c.args.output.now) (contents new.output) s new.self))
-          c.none.ensures c.serve_under.ensures.broken);
+      served = on_ok_as result (ServesUnder moment [] greeting unread rest written all s new.self)
+          (Serves moment greeting unread rest written all s new.self) (serves_as_is law moment greeting unread rest written all s new.self)
+          (subst (λ n. OnOk result (ServesUnder moment n greeting unread rest written all s new.self)) c.none.ensures c.serve_under.ensures.served);
+      broken = on_err_as result (BreaksSessionUnder moment [] greeting unread written all s new.self)
+          (BreaksSession moment greeting unread written all s new.self) (breaks_as_is law moment greeting unread written all s new.self)
+          (subst (λ n. OnErr result (BreaksSessionUnder moment n greeting unread written all s new.self)) c.none.ensures c.serve_under.ensures.broken);
     }

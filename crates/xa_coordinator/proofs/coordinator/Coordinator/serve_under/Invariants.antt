@@ -7,6 +7,7 @@ use Rattle.xa_coordinator.proofs.coordinator.Coordinator.serve_under.Given as go
 abbrev pub invariant-loop : goal.invariant-loop
 invariant-loop g l = record {
   ready : IsReady l.self.session;
-  some : ServesSome g.L.DecisionLog.moment l.fn.name (greeting_of l.fn.self) (reader_remaining g.R.Read.remaining l.fn.input) (reader_remaining g.R.Read.remaining l.input) (g.W.Write.contents l.fn.output)
-      (g.W.Write.contents l.output) l.fn.self l.self;
+  some :
+      ServesSome g.L.DecisionLog.moment l.fn.name (greeting_of l.fn.self) (reader_remaining g.R.Read.remaining l.fn.input)
+      (reader_remaining g.R.Read.remaining l.input) (g.W.Write.contents l.fn.output) (g.W.Write.contents l.output) l.fn.self l.self;
 }
