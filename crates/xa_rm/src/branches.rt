@@ -220,9 +220,7 @@ impl Branches {
         ensures held { result ≡ true → HoldsFormat (held_at self.now.table) format }
         ensures clear { result ≡ false → HoldsNoFormat (held_at self.now.table) format }
     {
-        self.table
-            .iter()
-            .any(|(key, held)| key.xid().format() == format && held.was_started())
+        self.table.iter().any(|(key, held)| key.xid().format() == format && held.was_started())
     }
 
     /// Whether a branch of this manager was ever started that is of another resource manager than this number or of no
@@ -231,9 +229,8 @@ impl Branches {
         ensures newer { result ≡ true → HoldsNewer (held_at self.now.table) rm incarnation }
         ensures past { result ≡ false → HoldsPast (held_at self.now.table) rm incarnation }
     {
-        self.table
-            .iter()
-            .any(|(key, held)| names_newer(key.xid(), rm, incarnation) && held.was_started())
+        self.table.iter().any(|(key, held)| names_newer(key.xid(), rm, incarnation)
+            && held.was_started())
     }
 
     /// How many identifiers are in doubt.
