@@ -215,7 +215,7 @@ module _ {L : Type 0} (moment : L → Moment) (now left : Coordinator L) (t r : 
 
   heard_or_not : (mid : Coordinator L) (result : Result (Unit {0}) Unfit) → Hears t r (Ret code) now.session mid.session result
       → (let x : Response = responses.Refused LogFault in x)
-          ≡ answer_reply (responses.Heard name.kind (answer_number (let a : Answer Xid = Ret code in a))) result
+      ≡ answer_reply (responses.Heard name.kind (answer_number (let a : Answer Xid = Ret code in a))) result
       → left.session.manager ≡ mid.session.manager → IsFailedToHear t r code c now left
   heard_or_not mid (Ok x) does told same = absurd (answer_is_no_refusal name _ told)
   heard_or_not mid (Err (Unfits.Refused n)) does told same = not_heard mid.session n (Err (Unfits.Refused n)) refl (fault_is_told n told) does same

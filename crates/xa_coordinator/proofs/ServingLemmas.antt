@@ -349,8 +349,8 @@ module _ {L : Type 0} (moment : L → Moment) (name : List ℕ) where
       record {
         read = [];
         turns = [];
-        lines = no_turns;
         consumed = subst (Consumes unread left) nothing was.consumed;
+        lines = no_turns;
         replied = refl;
         appended = appends_none all;
         whole = λ h. whole_none;

@@ -60,7 +60,7 @@ module _ {L : Type 0} (moment : L → Moment) where
         so_far.0 ++ told.reply ∷ [],
         length-append so_far.0 (told.reply ∷ []) ∙ ap (λ n. n + 1) so_far.1 ∙ sym count,
         one_request_more asked so_far.0 (get_or others i d) (drop (i + 1) others) old now new told.reply next.reply
-        (subst (RepliesSoFar asked so_far.0 old told.reply now) step so_far.2) on does,
+            (subst (RepliesSoFar asked so_far.0 old told.reply now) step so_far.2) on does,
       )
 
   pub refused_there : (asked others : List (Option Request)) (i : ℕ) (told : LineReply) (old now : Coordinator L) → HasReplied asked others i told old now
