@@ -84,13 +84,13 @@ is_served moment threads rms handed old new text unread before written starts or
       decisions = old.decisions;
       heuristics = old.heuristics;
       turns = serves.turns;
-      lines = serves.lines;
       seen = so.seen;
       threads_are = refl;
       rms_are = refl;
       no_rows = there.rows;
       no_records = there.records;
       whole = serves.consumed;
+      lines = serves.lines;
       replied = subst (λ xs. written ≡ xs ++ text_of (told_in (greeting_of old) serves.turns)) none serves.appended;
       ends = serves.ends;
       told = so.told;
@@ -154,8 +154,8 @@ commits_left {L} moment threads rms handed left text written is law order honest
   unread = is.unread;
   greeting = greeting_of is.first;
   turns = is.serves.turns;
-  lines = is.serves.lines;
   whole = is.serves.consumed;
+  lines = is.serves.lines;
   replied = is.serves.appended;
   ends = is.serves.ends;
   rows = rows_logged moment law threads rms handed is.first is.last (requests_done is.serves.turns) (replies_given is.serves.turns) is.starts
@@ -177,8 +177,8 @@ is_replied moment threads rms handed left text written is = record {
   unread = is.unread;
   greeting = greeting_of is.first;
   turns = is.serves.turns;
-  lines = is.serves.lines;
   whole = is.serves.consumed;
+  lines = is.serves.lines;
   replied = is.serves.appended;
   ends = is.serves.ends;
 }

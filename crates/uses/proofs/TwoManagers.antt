@@ -87,11 +87,11 @@ module _ {L : Type 0} (moment : L → Moment) where
           decisions = is.first.decisions;
           heuristics = is.first.heuristics;
           turns = is.serves.turns;
-          lines = is.serves.lines;
           seen = so.seen;
           threads_are = refl;
           rms_are = refl;
           whole = is.serves.consumed;
+          lines = is.serves.lines;
           replied = is.serves.appended;
           ends = is.serves.ends;
           told = so.told;

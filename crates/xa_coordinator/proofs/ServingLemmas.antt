@@ -1,5 +1,5 @@
 -- Lines and their replies, in turn.
-use Rattle.std.proofs.Common.{◌≡◌, ◌≢◌, ◌∙◌, ◌⊎◌, inl, inr, ◌==◌, ℕ, Bool, true, false, cond, List, [], ◌∷◌, ◌++◌, map, Option, Some, None, flat_map, refl, sym, ap, subst, append_assoc, arith, ◌||◌, ◌&&◌, not}
+use Rattle.std.proofs.Common.{◌≡◌, ◌≢◌, ◌∙◌, ◌⊎◌, inl, inr, ◌==◌, ℕ, Bool, true, false, cond, List, [], ◌∷◌, ◌++◌, map, Option, Some, None, refl, sym, ap, subst, append_assoc, arith, ◌||◌, ◌&&◌, not}
 use Rattle.std.specs.Prelude.{MatchBool, Result, Ok, Err, OnErr, OnOk}
 use Rattle.std.proofs.lemmas.List.{append-nil, map-append}
 use Rattle.std.specs.Io.KnownBytes.{Appends, Consumes, IsAtEnd, Keeps}
@@ -12,7 +12,7 @@ use Rattle.xa_coordinator.proofs.LogLemmas.{replies_keep}
 use Rattle.xa_coordinator.proofs.LineLemmas.{appends_none, asks_of, asks_of_kept, begins_with_all, both_consumed, consumed_none, keeps_all}
 use Rattle.xa_coordinator.proofs.LineLemmas.{kept_none, kept_then_begun, kept_then_written}
 use Rattle.xa_coordinator.proofs.TurnLemmas.{HaveTurns, TakesTurn, both_done, no_turns, one_done, one_turn, takes_turn, turns_both}
-use Rattle.xa_coordinator.specs.Lines.{IsKeptOf, IsPlain, IsWholeLines, ReadsLine, ReadsWholeLines, alone, is_nothing, line_of, lines_of, marks, with_end, with_first}
+use Rattle.xa_coordinator.specs.Lines.{IsKeptOf, IsPlain, IsWholeLines, ReadsLine, alone, is_nothing, line_of, lines_of, marks, with_end, with_first}
 use Rattle.xa_coordinator.specs.NamedLines.{BreaksSessionUnder, ServesUnder, line_read, line_written, lines_read, text_written}
 use Rattle.xa_coordinator.specs.Serving.{AreTurns, BreaksSession, EndsBy, HaveReplies, RepliesToLine, Serves, Turn, WritesUpToLast, is_bye, replies_given, requests_done, text_of, told_in, told_of}
 use Rattle.xa_coordinator.specs.ServingLines.{BreaksOff, LosesReply, ServesLine}
@@ -349,8 +349,8 @@ module _ {L : Type 0} (moment : L → Moment) (name : List ℕ) where
       record {
         read = [];
         turns = [];
-        lines = no_turns;
         consumed = subst (Consumes unread left) nothing was.consumed;
+        lines = no_turns;
         replied = refl;
         appended = appends_none all;
         whole = λ h. whole_none;
