@@ -6,6 +6,7 @@ ghost use Rattle.xa_sql_log.specs.OpenedDatabase.{IsFoundLog, IsKnownDatabase};
 ghost use Rattle.xa_sql_log.specs.PreparedDatabase.{Prepares};
 
 mod closing;
+mod files;
 mod halves;
 mod labels;
 mod looking;

@@ -4,7 +4,7 @@ ghost use Rattle.xa_log.specs.Contract.{IsStoreFault};
 ghost use Rattle.xa_sql_log.specs.Halves.{is_rest};
 
 use super::SqlLog;
-use super::looking::{bytes_at, read_fault};
+use super::files::{bytes_at, read_fault};
 use sqlite::{FileFrom, FileStore, Unknown};
 use std::fs;
 use std::io::ErrorKind;

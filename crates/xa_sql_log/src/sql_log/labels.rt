@@ -3,12 +3,11 @@ ghost use Rattle.std.specs.Prelude.{IsTrue, IfErr};
 ghost use Rattle.xa_log.specs.Contract.{IsStoreFault};
 
 use super::SqlLog;
-use super::looking::copies_of;
-use super::opening::connection_to;
+use super::files::{connection_to, copies_of, options_of};
 use crate::label::{find_label, is_label, labelled_text};
 use crate::statements::{of_store, store_fault};
 use crate::tables::make_tables;
-use sqlite::{Connection, FileFrom, FileStore, Files, Options, Unknown};
+use sqlite::{Connection, FileFrom, FileStore, Files, Unknown};
 use sqlite_disk::Disk;
 use std::alloc::Global;
 use std::fs;
@@ -23,7 +22,7 @@ fn label_in_files<D: Disk + Drop>(
     requires db { IsTrue (D.Disk.is_usable files.db) }
     ensures cause { IfErr result IsStoreFault }
 {
-    match Connection::open_files(alloc, files, Options::new(0)) {
+    match Connection::open_files(alloc, files, options_of(0)) {
         Ok(mut conn) => find_label(alloc, &mut conn),
         Err((error, _files)) => Err(store_fault(error)),
     }

@@ -10,13 +10,12 @@ ghost use Rattle.xa_sql_log.specs.OpenedDatabase.{FindsLog, HoldsLog, IsBlank};
 ghost use Rattle.xa_sql_log.specs.PreparedDatabase.{IsOver};
 
 use super::SqlLog;
+use super::files::{copies_of, options_of};
 use crate::statements::{of_store, store_fault};
 use crate::tables::has_log;
-use sqlite::{Alter, Connection, FileFrom, FileStore, Files, Options, Unknown};
-use sqlite_disk::{Disk, Memory, Start};
+use sqlite::{Alter, Connection, FileFrom, FileStore, Files, Unknown};
+use sqlite_disk::{Disk, Start};
 use std::alloc::Global;
-use std::fs;
-use std::io::{self, ErrorKind};
 use xa_log::{DecisionLog, LogFault};
 
 /// Whether a log takes a database that has the tables of one. No table is made.
@@ -37,62 +36,10 @@ fn try_files<D: Disk + Drop>(alloc: Global, files: Files<D>) -> Result<(), LogFa
     requires log { IsTrue (D.Disk.is_usable files.log) }
     requires db { IsTrue (D.Disk.is_usable files.db) }
 {
-    match Connection::open_files(alloc, files, Options::new(0)) {
+    match Connection::open_files(alloc, files, options_of(0)) {
         Ok(conn) => try_database(conn),
         Err((error, _files)) => Err(store_fault(error)),
     }
-}
-
-/// The fault of a file that wasn't read.
-pub(super) fn read_fault(error: io::Error) -> LogFault
-    ensures { IsStoreFault result }
-{
-    if error.kind() == ErrorKind::OutOfMemory {
-        LogFault::Memory
-    } else {
-        LogFault::Store
-    }
-}
-
-/// What the file at a path holds: nothing where there is none.
-pub(super) fn bytes_at(rt: &HostRuntime, path: &str) -> Result<Vec<u8>, LogFault>
-    ensures { IfErr result IsStoreFault }
-{
-    match fs::read(rt, path) {
-        Ok(bytes) => Ok(bytes),
-        Err(error) if error.kind() == ErrorKind::NotFound => Ok(Vec::new(rt.alloc())),
-        Err(error) => Err(read_fault(error)),
-    }
-}
-
-/// A copy of that file in memory.
-fn copy_of(rt: &HostRuntime, path: &str) -> Result<Memory, LogFault>
-    ensures usable { IfOk result (λ file. IsTrue (⟦<Memory as Disk>⟧.is_usable file)) }
-    ensures cause { IfErr result IsStoreFault }
-{
-    let bytes = bytes_at(rt, path)?;
-    let mut file = Memory::new(rt.alloc());
-    match file.write_at(0, bytes.as_slice()) {
-        Ok(()) => Ok(file),
-        Err(error) => Err(read_fault(error)),
-    }
-}
-
-/// Copies of the database file at a path and of its journal. As in SQLite, that lies where a link leads.
-pub(super) fn copies_of(rt: &HostRuntime, path: &str) -> Result<Files<Memory>, LogFault>
-    ensures log { IfOk result (λ files. IsTrue (⟦<Memory as Disk>⟧.is_usable files.log)) }
-    ensures db { IfOk result (λ files. IsTrue (⟦<Memory as Disk>⟧.is_usable files.db)) }
-    ensures cause { IfErr result IsStoreFault }
-{
-    let path = match fs::canonicalize(rt, path) {
-        Ok(path) => path,
-        Err(error) => return Err(read_fault(error)),
-    };
-    let journal = format!(in rt.alloc(); "{}-wal", path.as_str())?;
-    Ok(Files {
-        log: copy_of(rt, journal.as_str())?,
-        db: copy_of(rt, path.as_str())?,
-    })
 }
 
 impl SqlLog<FileStore<FileFrom<Unknown>>> {

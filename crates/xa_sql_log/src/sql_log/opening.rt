@@ -1,10 +1,9 @@
 //! A log that is opened: in memory, and in the file at a path.
-ghost use Rattle.std.specs.Prelude.{◌≡◌, false, codes, Ok, Err, IfErr, IfOk, IsErrAnd};
+ghost use Rattle.std.specs.Prelude.{◌≡◌, codes, Ok, IfOk, IsErrAnd};
 ghost use Rattle.sqlite.specs.State.{HasCleanDisk};
 ghost use Rattle.sqlite.specs.Held.{state};
 ghost use Rattle.sqlite.specs.Steps.{over_memory};
-ghost use Rattle.sqlite.specs.Files.{file_state, over_files, IsBlankAs, IsOpened};
-ghost use Rattle.sqlite.specs.Start.{FindsIn};
+ghost use Rattle.sqlite.specs.Files.{file_state};
 ghost use Rattle.sqlite_wal.specs.Files.{image_at};
 ghost use Rattle.xa_log.specs.Content.{nothing};
 ghost use Rattle.xa_log.specs.Contract.{IsStoreFault};
@@ -14,7 +13,7 @@ ghost use Rattle.xa_sql_log.specs.OpenedDatabase.{IsKnownDatabase, HoldsLog, Fin
 ghost use Rattle.xa_sql_log.specs.PreparedDatabase.{IsOver, Prepares};
 
 use super::SqlLog;
-use crate::statements::store_fault;
+use super::files::connection_to;
 use sqlite::{Alter, Connection, FileFrom, FileStore, MemStore, Start, Unknown};
 use sqlite_disk::Disk;
 use std::alloc::Global;
@@ -71,26 +70,6 @@ impl<D: Disk + Drop> SqlLog<FileStore<D>> {
             IsLasting (file_state log.conn)) }
     {
         SqlLog::adopt_or_close(conn)
-    }
-}
-
-/// Opens the file at a path with a journal beside it.
-pub(super) fn connection_to<S: Start>(
-    rt: &HostRuntime,
-    path: &str,
-    start: S,
-) -> Result<Connection<FileStore<FileFrom<S>>>, LogFault>
-    ensures memory { path.now ≡ codes ":memory:" → IsErrAnd result IsStoreFault }
-    ensures cause { IfErr result IsStoreFault }
-    ensures opened { IfOk result (λ conn. HasCleanDisk (file_state conn) → IsOpened conn) }
-    ensures found { IfOk result (λ conn. HasCleanDisk (file_state conn) →
-        FindsIn (image_at S.Start) (file_state conn)) }
-    ensures plain { IfOk result (λ conn. HasCleanDisk (file_state conn) →
-        IsBlankAs false (image_at S.Start) → (over_files.view conn.store).has_sums ≡ false) }
-{
-    match Connection::open_from(rt, path, false, start) {
-        Ok(conn) => Ok(conn),
-        Err((error, _)) => Err(store_fault(error)),
     }
 }
 

@@ -1,0 +1,146 @@
+//! The files of a log: opened at a path, and copied into memory.
+ghost use Rattle.std.specs.Prelude.{◌≡◌, true, false, codes, IfErr, IfOk, IsErrAnd, IsTrue};
+ghost use Rattle.sqlite.specs.State.{HasCleanDisk};
+ghost use Rattle.sqlite.specs.Files.{file_state, over_files, IsBlankAs, IsOpened};
+ghost use Rattle.sqlite.specs.Start.{FindsIn};
+ghost use Rattle.sqlite_std_file.specs.File.{file_is_usable, IsFresh};
+ghost use Rattle.sqlite_wal.specs.Files.{image_at};
+ghost use Rattle.xa_log.specs.Contract.{IsStoreFault};
+
+use crate::statements::store_fault;
+use sqlite::{Connection, FileFrom, FileStore, Files, Options, Start};
+use sqlite_disk::{Disk, Memory};
+use sqlite_std_file::OpenError;
+use std::fs;
+use std::hash::{BuildHasher, RandomState};
+use std::io::{self, ErrorKind};
+use xa_log::LogFault;
+
+/// How many pages a log keeps in memory. It reads few again, and each is made when the files are opened: 2,000 take longer
+/// than all else that an open does.
+const CACHE_PAGES: usize = 128;
+
+/// How a log uses its files, with this seed for the salts of its journal.
+pub(super) fn options_of(seed: u64) -> Options {
+    Options {
+        cache_pages: CACHE_PAGES,
+        ..Options::new(seed)
+    }
+}
+
+/// The options of a log with a seed by chance.
+fn options_by_chance(rt: &HostRuntime) -> Result<Options, LogFault>
+    ensures { IfErr result IsStoreFault }
+{
+    let Ok(state) = RandomState::new(rt) else {
+        return Err(LogFault::Store);
+    };
+    Ok(options_of(state.hash_one(&0u8)))
+}
+
+/// The fault of a file that wasn't read.
+pub(super) fn read_fault(error: io::Error) -> LogFault
+    ensures { IsStoreFault result }
+{
+    if error.kind() == ErrorKind::OutOfMemory {
+        LogFault::Memory
+    } else {
+        LogFault::Store
+    }
+}
+
+/// The fault of files that don't open.
+fn open_fault(error: OpenError) -> LogFault
+    ensures { IsStoreFault result }
+{
+    match error {
+        OpenError::OutOfMemory => LogFault::Memory,
+        OpenError::Io(error) => read_fault(error),
+        OpenError::Busy | OpenError::HotJournal => LogFault::Store,
+    }
+}
+
+/// The file at a path and its journal, each made where it is missing. Two paths that SQLite has another meaning for name
+/// none: that of a database in memory, and a URI.
+fn files_at<S: Start>(
+    rt: &HostRuntime,
+    path: &str,
+    start: S,
+) -> Result<Files<FileFrom<S>>, LogFault>
+    ensures memory { path.now ≡ codes ":memory:" → IsErrAnd result IsStoreFault }
+    ensures cause { IfErr result IsStoreFault }
+    ensures usable { IfOk result (λ files.
+        IsTrue (file_is_usable S.Start files.log) × IsTrue (file_is_usable S.Start files.db)) }
+    ensures fresh { IfOk result (λ files. IsFresh true files.log × IsFresh false files.db) }
+{
+    if path == ":memory:" || path.starts_with("file:") {
+        return Err(LogFault::Store);
+    }
+    match sqlite_std_file::open(rt, path, start) {
+        Ok(files) => Ok(files),
+        Err(error) => Err(open_fault(error)),
+    }
+}
+
+/// Opens the file at a path with a journal beside it.
+pub(super) fn connection_to<S: Start>(
+    rt: &HostRuntime,
+    path: &str,
+    start: S,
+) -> Result<Connection<FileStore<FileFrom<S>>>, LogFault>
+    ensures memory { path.now ≡ codes ":memory:" → IsErrAnd result IsStoreFault }
+    ensures cause { IfErr result IsStoreFault }
+    ensures opened { IfOk result (λ conn. HasCleanDisk (file_state conn) → IsOpened conn) }
+    ensures found { IfOk result (λ conn. HasCleanDisk (file_state conn) →
+        FindsIn (image_at S.Start) (file_state conn)) }
+    ensures plain { IfOk result (λ conn. HasCleanDisk (file_state conn) →
+        IsBlankAs false (image_at S.Start) → (over_files.view conn.store).has_sums ≡ false) }
+{
+    let files = files_at(rt, path, start)?;
+    let options = options_by_chance(rt)?;
+    match Connection::open_files(rt.alloc(), files, options) {
+        Ok(conn) => Ok(conn),
+        Err((error, _left)) => Err(store_fault(error)),
+    }
+}
+
+/// What the file at a path holds: nothing where there is none.
+pub(super) fn bytes_at(rt: &HostRuntime, path: &str) -> Result<Vec<u8>, LogFault>
+    ensures { IfErr result IsStoreFault }
+{
+    match fs::read(rt, path) {
+        Ok(bytes) => Ok(bytes),
+        Err(error) if error.kind() == ErrorKind::NotFound => Ok(Vec::new(rt.alloc())),
+        Err(error) => Err(read_fault(error)),
+    }
+}
+
+/// A copy of that file in memory.
+fn copy_of(rt: &HostRuntime, path: &str) -> Result<Memory, LogFault>
+    ensures usable { IfOk result (λ file. IsTrue (⟦<Memory as Disk>⟧.is_usable file)) }
+    ensures cause { IfErr result IsStoreFault }
+{
+    let bytes = bytes_at(rt, path)?;
+    let mut file = Memory::new(rt.alloc());
+    match file.write_at(0, bytes.as_slice()) {
+        Ok(()) => Ok(file),
+        Err(error) => Err(read_fault(error)),
+    }
+}
+
+/// Copies of the database file at a path and of its journal. As in SQLite, that lies where a link leads.
+pub(super) fn copies_of(rt: &HostRuntime, path: &str) -> Result<Files<Memory>, LogFault>
+    ensures log { IfOk result (λ files. IsTrue (⟦<Memory as Disk>⟧.is_usable files.log)) }
+    ensures db { IfOk result (λ files. IsTrue (⟦<Memory as Disk>⟧.is_usable files.db)) }
+    ensures cause { IfErr result IsStoreFault }
+{
+    let path = match fs::canonicalize(rt, path) {
+        Ok(path) => path,
+        Err(error) => return Err(read_fault(error)),
+    };
+    let journal = format!(in rt.alloc(); "{}-wal", path.as_str())?;
+    Ok(Files {
+        log: copy_of(rt, journal.as_str())?,
+        db: copy_of(rt, path.as_str())?,
+    })
+}
