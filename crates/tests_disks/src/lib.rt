@@ -2,8 +2,8 @@
 //! path of the host; and what the tables of a log show. Only tests use it, and no clause says what it does.
 //!
 //! A function takes ten times as long to prove where it borrows a connection to files, or takes it apart, by the type of its store:
-//! the proof ties that type to all that a store promises. Such functions are few here. What is done over a connection stands in
-//! functions over any store, which give it back.
+//! the proof ties that type to all that a store promises. Such functions are few here. What is done over a connection or a log
+//! stands in functions over any store, and one function calls them at files, for all that are at a path or in two files.
 #![tactic(auto)]
 
 mod disks;

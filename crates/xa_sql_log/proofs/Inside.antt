@@ -1,5 +1,5 @@
 -- What a transaction leaves of a log: all that was written in it, or nothing.
-use Rattle.std.proofs.Common.{◌≡◌, ◌⊎◌, inl, inr, ℕ, ◌<◌, ◌+◌, List, length, take, get_or, true, false, Option, Some, None, IsTrue, IsSomeAnd, cond, is_some, refl, sym, ap, subst, ◌∙◌, arith}
+use Rattle.std.proofs.Common.{◌≡◌, ◌⊎◌, inl, inr, ℕ, ◌<◌, ◌≤◌, ◌+◌, List, [], ◌∷◌, length, take, get_or, true, false, Option, Some, None, Result, Ok, Err, OnOk, IsTrue, IsSomeAnd, cond, is_some, refl, sym, ap, subst, ◌∙◌, arith}
 use Rattle.std.proofs.lemmas.Bool.{cases_Bool, true≢false}
 use Rattle.std.proofs.lemmas.List.{take_more}
 use Rattle.std.specs.List.{AllByRecursion}
@@ -17,7 +17,7 @@ use Rattle.xa_base.specs.declared.branch.Branch.{Branch}
 use Rattle.xa_base.specs.Branch.{branch_cmp}
 use Rattle.xa_base.proofs.BranchOrder.{branches_total, exact_branches}
 use Rattle.xa_log.specs.Content.{Content, with_decision, with_commit}
-use Rattle.xa_log.specs.Contract.{Makes, MayMake}
+use Rattle.xa_log.specs.Contract.{Keeps, Makes, MayMake}
 use Rattle.xa_sql_log.specs.Rows.{IsLog, content_of}
 use Rattle.xa_sql_log.specs.Sql.{AreLogTrees, HasLogTables, IsOrderly, content_in, OnlyReads, MayChange, HasMade, HasWritten, MayInsert, IsShutOrAsBefore}
 use Rattle.xa_sql_log.proofs.States.{Did, did_makes, changes_then}
@@ -39,6 +39,19 @@ written_more g xs i d low own before old new has step =
     sym (ap from_list (take_more xs i d low) ∙ from_list_push branches_total exact_branches (take i xs) (get_or xs i d)) in
     subst (λ s. HasWritten g s before new) set (subst (λ q. HasWritten q (insert (from_list (take i xs)) (get_or xs i d)) before new) mine
     (step (from_list (take i xs)) before (subst (λ q. HasWritten q (from_list (take i xs)) before old) (sym mine) has)))
+
+-- all participants, where they are two and were written by one statement
+pub written_both : {A E : Type 0} (g : Gtrid) (xs : List Branch) (d e : Branch) (r : Result A E) → 2 ≤ length xs → length xs < 3
+    → AllByRecursion (λ (b : Branch). b.gtrid ≡ g) xs → (before : Content) (old new : State) → HasWritten g empty before old
+    → (HasWritten (get_or xs 0 d).gtrid empty before old
+    → OnOk r (HasWritten (get_or xs 0 d).gtrid (from_list (get_or xs 0 d ∷ get_or xs 1 e ∷ [])) before new))
+    → OnOk r (HasWritten g (from_list xs) before new)
+written_both g [] d e r low high own before old new has step = absurd (omega (arith, low))
+written_both g (one ∷ []) d e r low high own before old new has step = absurd (omega (arith, low))
+written_both g (one ∷ other ∷ []) d e r low high own before old new has step =
+    subst (λ q. OnOk r (HasWritten q (from_list (one ∷ other ∷ [])) before new)) own.0
+    (step (subst (λ q. HasWritten q empty before old) (sym own.0) has))
+written_both g (one ∷ other ∷ more ∷ rest) d e r low high own before old new has step = absurd (omega (arith, high))
 
 -- ---- a transaction that is undone, whatever it counted
 
@@ -216,3 +229,38 @@ pub found_one : (x : Gtrid) (set : KeySet branch_cmp) (a b : Option Content)
     → IsSomeAnd a (λ y. (b ≡ Some y) × (true ≡ contains_key y.decisions x)) → Makes (with_commit x set) a b
 found_one x set None b h = h
 found_one x set (Some y) b h = h.0 ∙ ap Some (ap (λ t. cond t y (with_decision x set y)) h.1)
+
+-- ---- a change that was not made, and then one more attempt
+
+-- the content is kept, also where the log is shut
+pub kept_anyway : (a b : State) → (IsTrue b.is_open → HasCleanDisk b) → (HasCleanDisk b → Keeps (content_in a) (content_in b))
+    → Keeps (content_in a) (content_in b)
+kept_anyway a b opened kept = elim (cases_Bool b.is_open) [ inl is_open ↦ kept (opened is_open) | inr shut ↦ inl (rw shut refl) ]
+
+pub from_kept : (P : Content → Type 0) (a b : Option Content) → Keeps a b → IsSomeAnd b P → IsSomeAnd a P
+from_kept P a b (inl none) h = absurd (subst (λ o. IsSomeAnd o P) none h)
+from_kept P a b (inr same) h = subst (λ o. IsSomeAnd o P) same h
+
+pub on_ok_gives : {A E : Type 0} (r : Result A E) (P Q : Type 0) → (P → Q) → OnOk r P → OnOk r Q
+on_ok_gives (Ok x) P Q gives h = gives h
+on_ok_gives (Err e) P Q gives h = tt
+
+pub again : (change : Content → Content) (a b c : State) → MayChange change a b → (IsOrderly a → Keeps (content_in a) (content_in b))
+    → MayChange change b c → MayChange change a c
+again change a b c p kept q = record {
+  honest = λ clean. p.honest (q.honest clean);
+  order = λ order. q.order (p.order order);
+  kept = λ order. elim (kept order) [
+    | inl shut ↦ elim (q.kept (p.order order)) [
+      | inl none ↦ inl none
+      | inr (inl same) ↦ inl (same ∙ shut)
+      | inr (inr made) ↦ absurd (subst (λ o. IsSomeAnd o (λ x. content_in c ≡ Some (change x))) shut made)
+    ]
+    | inr same ↦ subst (λ o. MayMake change o (content_in c)) same (q.kept (p.order order))
+  ];
+  crash = λ order clean x h. elim (q.crash (p.order order) clean x h) [
+    | inl was ↦ p.crash order (q.honest clean) x was
+    | inr made ↦ inr (from_kept (λ y. x ≡ change y) (content_in a) (content_in b) (kept order) made)
+  ];
+  logs = λ order clean db h. elim (q.logs (p.order order) clean db h) [ inl was ↦ p.logs order (q.honest clean) db was | inr is ↦ inr is ];
+}

@@ -76,6 +76,9 @@ delete_decision_plain = (refl, refl)
 abbrev pub insert_participant : List ℕ
 insert_participant = codes "INSERT INTO participant (inc, seq, thread, rm) VALUES (?1, ?2, ?3, ?4)"
 
+abbrev pub insert_two : List ℕ
+insert_two = codes "INSERT INTO participant (inc, seq, thread, rm) VALUES (?1, ?2, ?3, ?4), (?5, ?6, ?7, ?8)"
+
 abbrev pub find_participants : List ℕ
 find_participants = codes "SELECT thread, rm FROM participant WHERE inc = ?1 AND seq = ?2"
 
@@ -86,6 +89,15 @@ insert_participant_is = refl
 pub insert_participant_plain : IsPlain (understood log_schema insert_participant)
 unfolding understood everything
 insert_participant_plain = (refl, refl)
+
+pub insert_two_is : command_of (understood log_schema insert_two)
+    ≡ Insert 3 (Values (lit Null ∷ col 0 0 ∷ col 0 1 ∷ col 0 2 ∷ col 0 3 ∷ lit Null ∷ col 0 4 ∷ col 0 5 ∷ col 0 6 ∷ col 0 7 ∷ []) 5)
+unfolding understood everything
+insert_two_is = refl
+
+pub insert_two_plain : IsPlain (understood log_schema insert_two)
+unfolding understood everything
+insert_two_plain = (refl, refl)
 
 pub find_participants_is : command_of (understood log_schema find_participants)
     ≡ Select (record { lets = []; body = over 5 (is 1 0 ∷ is 2 1 ∷ []) (col 1 3 ∷ col 1 4 ∷ []) }) (codes "thread" ∷ codes "rm" ∷ [])

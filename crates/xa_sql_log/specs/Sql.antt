@@ -1,5 +1,5 @@
 -- A log in the tables of a database.
-use Rattle.std.specs.Prelude.{◌≡◌, ◌⊎◌, false, if◌then◌else◌, Option, Some, None, Ok, IsTrue, ℕ, List}
+use Rattle.std.specs.Prelude.{◌≡◌, ◌⊎◌, false, if◌then◌else◌, Option, Some, None, Ok, IsTrue, ℕ, List, get_or}
 use Rattle.sqlite.specs.Order.{Row}
 use Rattle.sqlite.specs.Tree.{Trees}
 use Rattle.sqlite.specs.Store.{Ghosts}
@@ -13,6 +13,7 @@ use Rattle.xa_base.specs.Branch.{branch_cmp}
 use Rattle.xa_log.specs.Content.{Content, logged_each, with_commits, with_decision}
 use Rattle.xa_log.specs.declared.decision.Decision.{Decision}
 use Rattle.xa_log.specs.declared.decision_log.Logged.{Logged}
+use Rattle.xa_log.specs.declared.decision_log.Logged.TheVariants.{New, Already}
 use Rattle.xa_sql_log.specs.Tables.{log_schema}
 use Rattle.xa_log.specs.Contract.{MayMake, Moment, LeavesAlso, LeavesNoMore}
 use Rattle.sqlite.specs.Effect.{Database}
@@ -116,11 +117,15 @@ pub record MayInsert (g : Gtrid) (s : State) : Type 0 where
   pub now : IsLog s.now
   pub none : get (content_of s.now.trees).decisions g ≡ None
 
--- a transaction that began over a log, if that is open, of which the answers say whose rows are new
+-- each decision that is answered Already has a row at its turn
+abbrev pub AreThere : List Decision → List Logged → Content → Type 0
+AreThere ds answers c = (n : ℕ) → get_or answers n New ≡ Already → get_or (logged_each ds c) n Already ≡ Already
+
+-- a transaction that began over a log, if that is open, which has the rows that are answered as there
 pub record MayInsertAll (ds : List Decision) (answers : List Logged) (s : State) : Type 0 where
   pub inside : IsTrue s.in_transaction
   pub now : IsTrue s.is_open → IsLog s.now
-  pub told : IsTrue s.is_open → answers ≡ logged_each ds (content_of s.now.trees)
+  pub there : IsTrue s.is_open → AreThere ds answers (content_of s.now.trees)
 
 -- a transaction that began over a log, if that is open
 pub record IsInsideLog (s : State) : Type 0 where
@@ -136,13 +141,14 @@ pub record HasMade (change : Content → Content) (start s : State) : Type 0 whe
   pub sound : IsDatabase s.now
   pub content : content_of s.now.trees ≡ change (content_of start.now.trees)
 
--- in a transaction that began over a log, these decisions have been written
-abbrev pub HasWrittenAll : List Decision → State → State → Type 0
-HasWrittenAll ds begun s = HasMade (with_commits ds) begun s
+-- in a transaction that began over a log, these decisions have been written, and the answers say whose rows are new
+pub record HasWrittenAll (ds : List Decision) (answers : List Logged) (begun s : State) : Type 0 where
+  pub made : HasMade (with_commits ds) begun s
+  pub told : answers ≡ logged_each ds (content_of begun.now.trees)
 
--- the answers say whose rows are new in it, if it is open
-abbrev pub AreLoggedIn : List Decision → List Logged → State → Type 0
-AreLoggedIn ds answers s = (c : Content) → content_in s ≡ Some c → answers ≡ logged_each ds c
+-- it has the rows that are answered as there, if it is open
+abbrev pub AreThereIn : List Decision → List Logged → State → Type 0
+AreThereIn ds answers s = (c : Content) → content_in s ≡ Some c → AreThere ds answers c
 
 -- it doesn't hold the branch as heuristic, if it is open
 abbrev pub LacksHeuristic : Branch → State → Type 0

@@ -1,5 +1,5 @@
 //! The rows of decisions, with their participants: how they are written and taken away.
-ghost use Rattle.std.specs.Prelude.{◌≡◌, ◌⊎◌, true, false, if◌then◌else◌, None, Some, IsSomeAnd, IsTrue, IfOk, OnErr, OnOk, IfErr, ◌≢◌};
+ghost use Rattle.std.specs.Prelude.{◌≡◌, ◌⊎◌, [], ◌∷◌, true, false, if◌then◌else◌, None, Some, IsSomeAnd, IsTrue, IfOk, OnErr, OnOk, IfErr, ◌≢◌};
 ghost use Rattle.std.specs.List.{AllByRecursion};
 ghost use Rattle.std.specs.FinMap.{contains_key, get};
 ghost use Rattle.xa_log.specs.KeySet.{empty, insert, from_list, KeySet};
@@ -93,8 +93,43 @@ fn insert_participant<S: Alter>(tx: &mut Transaction<'_, S>, branch: Branch) -> 
     Ok(())
 }
 
-/// Writes the rows of all participants.
-pub(crate) fn insert_participants<S: Alter>(
+/// Writes the rows of two participants, the only ones of a transaction, by one statement.
+fn insert_two<S: Alter>(
+    tx: &mut Transaction<'_, S>,
+    one: Branch,
+    other: Branch,
+) -> Result<(), LogFault>
+    requires fits { FitsRow one.gtrid }
+    requires own { other.gtrid ≡ one.gtrid }
+    ensures same_reference { tx.new.conn.ghost_name ≡ tx.old.conn.ghost_name }
+    ensures written { HasCleanDisk (state S.Store tx.new.conn.now) → (before : Content)
+        → HasWritten one.gtrid empty before (state S.Store tx.old.conn.now)
+        → OnOk result (HasWritten one.gtrid (from_list (one ∷ other ∷ [])) before
+        (state S.Store tx.new.conn.now)) }
+    ensures kept { HasCleanDisk (state S.Store tx.new.conn.now)
+        → KeepsCommit (state S.Store tx.old.conn.now) (state S.Store tx.new.conn.now) }
+    ensures survives { Survives (state S.Store tx.old.conn.now)
+        (state S.Store tx.new.conn.now) (λ _. ⊥) }
+    ensures unspent { IfErr result (λ fault. fault ≢ LogFault.Spent) }
+{
+    of_store(tx.execute(
+        "INSERT INTO participant (inc, seq, thread, rm) VALUES (?1, ?2, ?3, ?4), (?5, ?6, ?7, ?8)",
+        params![
+            stored(one.gtrid.incarnation),
+            stored(one.gtrid.sequence),
+            i64::from(one.thread),
+            i64::from(one.rm),
+            stored(other.gtrid.incarnation),
+            stored(other.gtrid.sequence),
+            i64::from(other.thread),
+            i64::from(other.rm)
+        ],
+    ))?;
+    Ok(())
+}
+
+/// Writes the rows of all participants, one after another.
+fn insert_each<S: Alter>(
     tx: &mut Transaction<'_, S>,
     g: Gtrid,
     participants: &[Branch],
@@ -116,6 +151,31 @@ pub(crate) fn insert_participants<S: Alter>(
         insert_participant(tx, *branch)?;
     }
     Ok(())
+}
+
+/// Writes the rows of all participants: of two, as most transactions have, by one statement.
+pub(crate) fn insert_participants<S: Alter>(
+    tx: &mut Transaction<'_, S>,
+    g: Gtrid,
+    participants: &[Branch],
+) -> Result<(), LogFault>
+    requires fits { FitsRow g }
+    requires own { AllByRecursion (λ b. b.gtrid ≡ g) participants.now }
+    ensures same_reference { tx.new.conn.ghost_name ≡ tx.old.conn.ghost_name }
+    ensures written { HasCleanDisk (state S.Store tx.new.conn.now) → (before : Content)
+        → HasWritten g empty before (state S.Store tx.old.conn.now)
+        → OnOk result (HasWritten g (from_list participants.now) before
+        (state S.Store tx.new.conn.now)) }
+    ensures kept { HasCleanDisk (state S.Store tx.new.conn.now)
+        → KeepsCommit (state S.Store tx.old.conn.now) (state S.Store tx.new.conn.now) }
+    ensures survives { Survives (state S.Store tx.old.conn.now)
+        (state S.Store tx.new.conn.now) (λ _. ⊥) }
+    ensures unspent { IfErr result (λ fault. fault ≢ LogFault.Spent) }
+{
+    match participants {
+        [one, other] => insert_two(tx, *one, *other),
+        others => insert_each(tx, g, others),
+    }
 }
 
 /// Writes all rows of a transaction that has none, or none of them.

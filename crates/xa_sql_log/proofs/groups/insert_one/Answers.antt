@@ -21,6 +21,12 @@ returns-clause-live g c clean =
     let early : HasCleanDisk first = omega (arith, c.insert_participants.ensures.survives.clean) in
     on_ok _ _ (c.in_ok-insert_decision.ensures.live early)
 
+pub returns-clause-absent : goal.returns-clause-absent
+returns-clause-absent g c log inside clean =
+    let first = state g.S.Store c.insert_decision.new.tx.conn.now in
+    let early : HasCleanDisk first = omega (arith, c.insert_participants.ensures.survives.clean) in
+    on_ok _ _ (c.in_ok-insert_decision.ensures.absent log inside early)
+
 pub returns-clause-kept : goal.returns-clause-kept
 returns-clause-kept g c clean =
     let first = state g.S.Store c.insert_decision.new.tx.conn.now in

@@ -4,7 +4,7 @@ use Rattle.sqlite.specs.State.{HasCleanDisk, KeepsCommit, Survives}
 use Rattle.sqlite.specs.Held.{state}
 use Rattle.xa_log.specs.Content.{Content}
 use Rattle.xa_sql_log.specs.Sql.{HasWritten}
-use Rattle.xa_sql_log.proofs.decisions.insert_participants.Given as goal
+use Rattle.xa_sql_log.proofs.decisions.insert_each.Given as goal
 
 abbrev pub invariant-loop-branch : goal.invariant-loop-branch
 invariant-loop-branch g l =
