@@ -156,7 +156,8 @@ empty_log db schema meta decisions heuristics participants = (
       (ap (λ t. (content_of (λ _. t)).incarnation) meta),
 )
 
-pub made : (participants : List ℕ) → MakesParticipants participants → (a b c d e f : State) (k l m n o : ℕ) → a.now.schema ≡ no_tables → Executes meta_text [] a b (Ok k)
+pub made : (participants : List ℕ) → MakesParticipants participants → (a b c d e f : State) (k l m n o : ℕ) → a.now.schema ≡ no_tables
+    → Executes meta_text [] a b (Ok k)
     → Executes decision_text [] b c (Ok l) → Executes heuristic_text [] c d (Ok m)
     → Executes participants [] d e (Ok n) → Executes first_meta [] e f (Ok o) → IsNewLog nothing f.now
 made participants makes a b c d e f k l m n o has one two three four five =

@@ -78,7 +78,8 @@ pub adds : (text : List ℕ) → MakesParticipants text → (old new : State) (c
 adds text makes old new count has ran =
     let table = record participant { tree = 0 } in
     let w : Writes old new None CreateTable text [] count =
-    subst (λ t. Writes old new None CreateTable t [] count) makes.whole (runs_as text [] old new old_schema has CreateTable makes.command makes.plain count ran) in
+    subst (λ t. Writes old new None CreateTable t [] count) makes.whole
+    (runs_as text [] old new old_schema has CreateTable makes.command makes.plain count ran) in
     let all = went w.changed in
     let first = went all.1 in
     let made = first.1 in

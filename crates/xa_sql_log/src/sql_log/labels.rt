@@ -7,7 +7,7 @@ use super::files::{connection_to, copies_of, options_of};
 use crate::label::{find_label, is_label, labelled_text};
 use crate::statements::{of_store, store_fault};
 use crate::tables::make_tables;
-use sqlite::{Connection, FileFrom, FileStore, Files, Unknown};
+use sqlite::{Alter, Connection, FileFrom, FileStore, Files, Unknown};
 use sqlite_disk::Disk;
 use std::alloc::Global;
 use std::fs;
@@ -28,17 +28,24 @@ fn label_in_files<D: Disk + Drop>(
     }
 }
 
-/// Makes the tables of a log over files, that of the participants by this statement, and closes it into one file.
+/// Makes the tables of an empty log, that of the participants by this statement, where no transaction is open.
+fn make_log<S: Alter>(conn: &mut Connection<S>, participants: &str) -> Result<(), LogFault>
+    ensures cause { IfErr result IsStoreFault }
+{
+    if !conn.is_autocommit() {
+        return Err(LogFault::Store);
+    }
+    make_tables(conn, participants)
+}
+
+/// The same over files, which are closed into one.
 fn make_in_files<D: Disk + Drop>(
     mut conn: Connection<FileStore<D>>,
     participants: &str,
 ) -> Result<(), LogFault>
     ensures cause { IfErr result IsStoreFault }
 {
-    if !conn.is_autocommit() {
-        return Err(LogFault::Store);
-    }
-    make_tables(&mut conn, participants)?;
+    make_log(&mut conn, participants)?;
     of_store(conn.close())
 }
 

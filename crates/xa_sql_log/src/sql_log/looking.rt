@@ -73,6 +73,7 @@ impl<D: Disk + Drop> SqlLog<FileStore<D>> {
     pub fn close(self) -> Result<(), LogFault>
         ensures { IfErr result IsStoreFault }
     {
-        of_store(self.into_connection().close())
+        let SqlLog { conn, faults: _ } = self;
+        of_store(conn.close())
     }
 }

@@ -15,10 +15,12 @@ pub returns-clause-found : goal.returns-clause-found
 returns-clause-found c =
     let begins = strip_prefix_is Decides-eqb c.args.sql.now c.as_bytes.result.now (Some c.in_ok-strip_prefix.field-0) c.in_ok-strip_prefix.ensures.cases in
     let ends = strip_suffix_is Decides-eqb c.in_ok-strip_prefix.field-0.now c.as_bytes-2.result.now c.strip_suffix.result c.strip_suffix.ensures.cases in
-    rw (c.as_bytes.ensures.value, c.as_bytes-2.ensures.value) at (between c.args.sql.now c.as_bytes.result.now c.in_ok-strip_prefix.field-0.now c.as_bytes-2.result.now begins c.strip_suffix.result ends)
+    rw (c.as_bytes.ensures.value, c.as_bytes-2.ensures.value) at
+    (between c.args.sql.now c.as_bytes.result.now c.in_ok-strip_prefix.field-0.now c.as_bytes-2.result.now begins c.strip_suffix.result ends)
 
 pub returns-clause-none : goal.returns-clause-none
 returns-clause-none c =
     let begins = strip_prefix_is Decides-eqb c.args.sql.now c.as_bytes.result.now (Some c.in_ok-strip_prefix.field-0) c.in_ok-strip_prefix.ensures.cases in
     let ends = strip_suffix_is Decides-eqb c.in_ok-strip_prefix.field-0.now c.as_bytes-2.result.now c.strip_suffix.result c.strip_suffix.ensures.cases in
-    rw (c.as_bytes.ensures.value, c.as_bytes-2.ensures.value) at (none_between c.args.sql.now c.as_bytes.result.now c.in_ok-strip_prefix.field-0.now c.as_bytes-2.result.now begins c.strip_suffix.result ends)
+    rw (c.as_bytes.ensures.value, c.as_bytes-2.ensures.value) at
+    (none_between c.args.sql.now c.as_bytes.result.now c.in_ok-strip_prefix.field-0.now c.as_bytes-2.result.now begins c.strip_suffix.result ends)
