@@ -13,7 +13,17 @@ use std::alloc::Global;
 use std::fs;
 use xa_log::LogFault;
 
-/// The label of the log in these files.
+/// The label of the log in a database, which is closed.
+fn label_over<S: Alter + Drop>(
+    alloc: Global,
+    mut conn: Connection<S>,
+) -> Result<Option<String>, LogFault>
+    ensures cause { IfErr result IsStoreFault }
+{
+    find_label(alloc, &mut conn)
+}
+
+/// The same in these files.
 fn label_in_files<D: Disk + Drop>(
     alloc: Global,
     files: Files<D>,
@@ -23,30 +33,34 @@ fn label_in_files<D: Disk + Drop>(
     ensures cause { IfErr result IsStoreFault }
 {
     match Connection::open_files(alloc, files, options_of(0)) {
-        Ok(mut conn) => find_label(alloc, &mut conn),
+        Ok(conn) => label_over(alloc, conn),
         Err((error, _files)) => Err(store_fault(error)),
     }
 }
 
-/// Makes the tables of an empty log, that of the participants by this statement, where no transaction is open.
-fn make_log<S: Alter>(conn: &mut Connection<S>, participants: &str) -> Result<(), LogFault>
+/// The database with the tables of an empty log, of which this statement makes that of the participants, where no transaction is
+/// open.
+fn with_log<S: Alter + Drop>(
+    mut conn: Connection<S>,
+    participants: &str,
+) -> Result<Connection<S>, LogFault>
     ensures cause { IfErr result IsStoreFault }
 {
     if !conn.is_autocommit() {
         return Err(LogFault::Store);
     }
-    make_tables(conn, participants)
+    make_tables(&mut conn, participants)?;
+    Ok(conn)
 }
 
 /// The same over files, which are closed into one.
 fn make_in_files<D: Disk + Drop>(
-    mut conn: Connection<FileStore<D>>,
+    conn: Connection<FileStore<D>>,
     participants: &str,
 ) -> Result<(), LogFault>
     ensures cause { IfErr result IsStoreFault }
 {
-    make_log(&mut conn, participants)?;
-    of_store(conn.close())
+    of_store(with_log(conn, participants)?.close())
 }
 
 impl SqlLog<FileStore<FileFrom<Unknown>>> {
