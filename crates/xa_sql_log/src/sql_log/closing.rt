@@ -1,6 +1,7 @@
 //! The files of a log: copied into one and closed, and opened again.
 ghost use Rattle.std.specs.Prelude.{◌≡◌, Some, IsTrue, IfOk, IfErr};
-ghost use Rattle.sqlite.specs.State.{HasCleanDisk};
+ghost use Rattle.sqlite.specs.State.{HasCleanDisk, IsLive};
+ghost use Rattle.sqlite.specs.Held.{state};
 ghost use Rattle.sqlite.specs.Files.{file_state, image_of};
 ghost use Rattle.sqlite_wal.specs.Reads.{AreClean};
 ghost use Rattle.xa_log.specs.Content.{Content};
@@ -11,10 +12,19 @@ ghost use Rattle.xa_sql_log.specs.PreparedDatabase.{IsOver};
 
 use super::SqlLog;
 use crate::statements::store_fault;
-use sqlite::{Connection, FileStore, Files, Options};
+use sqlite::{Alter, Connection, FileStore, Files, Options};
 use sqlite_disk::Disk;
 use std::alloc::Global;
 use xa_log::{DecisionLog, LogFault};
+
+/// The connection as it is: its rows obey the tables.
+fn with_live_tables<S: Alter + Drop>(conn: Connection<S>) -> Connection<S>
+    ensures same { result ≡ conn }
+    ensures live { IsLive (state S.Store conn) }
+{
+    let _tables = conn.schema();
+    conn
+}
 
 impl<D: Disk + Drop> SqlLog<FileStore<D>> {
     /// Copies the journal into the database file, which then holds the whole log by itself, and gives the files back: of a
@@ -33,8 +43,7 @@ impl<D: Disk + Drop> SqlLog<FileStore<D>> {
         ensures cause { IfErr result (λ e. IsStoreFault e.0) }
     {
         let SqlLog { conn, faults: _ } = self;
-        // Read for its clause alone: the rows obey the tables.
-        let _tables = conn.schema();
+        let conn = with_live_tables(conn);
         match conn.close_files() {
             Ok(files) => Ok(files),
             Err((error, store)) => Err((store_fault(error), store)),
