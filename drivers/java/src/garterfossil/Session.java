@@ -303,7 +303,7 @@ final class Session {
         }
     }
 
-    /** Whether so many transactions are open that each write for one goes with some of others. */
+    /** Whether so many transactions are open that the processors are busy, and each write for one goes with some of others. */
     boolean isBusy() {
         return open() > PROCESSORS;
     }

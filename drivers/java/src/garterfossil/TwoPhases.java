@@ -40,7 +40,7 @@ final class TwoPhases {
         transaction.become(Outcome.PREPARING);
         Map<Branch, Fault> faults = new ConcurrentHashMap<>();
         branches.all().forEach(Branch::issueVote);
-        manager.helpers.each(branches.all(), branch -> {
+        manager.helpers.each(branches.all(), branches.session().isBusy(), branch -> {
             Fault fault = voteOf(branch);
             if (fault != null) {
                 faults.put(branch, fault);
@@ -130,7 +130,7 @@ final class TwoPhases {
     private void tell(List<Branch> prepared) throws Fault {
         Runnable paid = branches.session().paid(branches.gtrid(), prepared.size());
         Map<Branch, Integer> answers = new ConcurrentHashMap<>();
-        manager.helpers.each(prepared, branch -> answers.put(branch, answerOf(branch)));
+        manager.helpers.each(prepared, branches.session().isBusy(), branch -> answers.put(branch, answerOf(branch)));
         Map<Branch, Debt> debts = new ConcurrentHashMap<>();
         for (Branch branch : prepared) {
             if (branch.isOver()) {
