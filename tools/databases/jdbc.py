@@ -96,7 +96,7 @@ class Java:
 
 
 #: At so many threads.
-THREADS = [1, 8, 32, 64]
+THREADS = [1, 4, 8, 32, 64]
 
 
 def run(world, seconds, rounds):

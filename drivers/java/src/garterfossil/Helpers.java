@@ -99,10 +99,13 @@ final class Helpers {
         this.most = most;
     }
 
-    /** Makes a step for each branch, and returns once all are made. A branch on a connection of the program's own stays in this thread. */
-    void each(List<Branch> branches, Step step) {
+    /**
+     * Makes a step for each branch, and returns once all are made. Where the processors are busy, this thread makes them all: a helper
+     * would only cost one the time to change threads. A branch on a connection of the program's own stays in this thread, too.
+     */
+    void each(List<Branch> branches, boolean isBusy, Step step) {
         List<Part> parts = new ArrayList<>(branches.size());
-        boolean isHelped = asking.incrementAndGet() <= most;
+        boolean isHelped = asking.incrementAndGet() <= most && !isBusy;
         try {
             for (Branch branch : branches) {
                 Part part = new Part(step, branch);

@@ -226,6 +226,9 @@ public final class Manager implements AutoCloseable {
         if (text.contains("xatm: log: ") || text.contains("another protocol")) {
             throw new Fault.Unavailable("the log " + made.log + " isn't this manager's", gone);
         }
+        if (text.contains(Coordinator.OLDER)) {
+            throw new Fault.Unavailable("the program " + made.program + " can't be used: give Builder.program the one that this driver came with", gone);
+        }
         if (System.nanoTime() > until) {
             throw new Fault.Unavailable(text + ". Does another manager have the log " + made.log + ", and is the program right?", gone);
         }
