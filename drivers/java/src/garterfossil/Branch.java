@@ -65,14 +65,10 @@ final class Branch {
 
     // ** work
 
-    void issueStart() {
+    /** xa_start. It is made before the coordinator is asked: what is begun on a connection ends with it. */
+    void start() throws Fault {
         line.open();
         line.issue("xa_start " + name());
-    }
-
-    /** xa_start. It is made before the coordinator says that it is issued: what is begun on a connection ends with it. */
-    void start() throws Fault {
-        line.flush();
         try {
             resource.start(xid, XAResource.TMNOFLAGS);
         } catch (XAException error) {
@@ -107,9 +103,8 @@ final class Branch {
         }
     }
 
-    /** xa_end of a branch that is to be committed. It is made before the coordinator says that it is issued, as xa_start is. */
+    /** xa_end of a branch that is to be committed. It needs no reply of the coordinator, as xa_start doesn't. */
     void end() throws Fault {
-        line.flush();
         if (!gate.shut(NO_MORE_WORK, Manager.WORK_PATIENCE)) {
             throw lost(new Fault.Lost("work on the connection doesn't end", null), S0);
         }
@@ -133,10 +128,13 @@ final class Branch {
         }
     }
 
-    /** xa_prepare: the vote. Except after XA_OK the branch is over. */
+    /** Sees that the calls that wait on the line were issued. Only the transaction's thread does that, since branches share replies. */
+    void seeIssued() throws Fault {
+        line.see();
+    }
+
+    /** xa_prepare, which waits on the line: the vote. Except after XA_OK the branch is over. */
     int prepare() throws Fault {
-        line.flush();
-        line.seeIssued();
         return voted(vote == Code.OK ? prepareResource() : rolledBackAtOnce());
     }
 
@@ -177,13 +175,15 @@ final class Branch {
         return vote;
     }
 
-    /** xa_end, and xa_commit in one phase: XA_OK, or why it was rolled back. */
-    int commitInOnePhase() throws Fault {
+    void issueCommitInOnePhase() {
         line.issue("xa_end " + name() + " TMSUCCESS");
         line.issue("xa_commit " + name() + " TMONEPHASE");
+    }
+
+    /** xa_end, and xa_commit in one phase: XA_OK, or why it was rolled back. */
+    int commitInOnePhase() throws Fault {
         end();
-        line.flush();
-        line.seeIssued();
+        line.see();
         isCommitIssued = true;
         int code = vote == Code.OK ? commitResource() : rolledBackAtOnce();
         line.report("xa_commit " + name(), code);
@@ -227,7 +227,6 @@ final class Branch {
 
     /** xa_commit, which waits on the line. XA_RETRY is for the keeper. */
     int commit() throws Fault {
-        line.see();
         int code;
         try {
             code = Answers.commit(resource, xid, may);
@@ -236,7 +235,7 @@ final class Branch {
         }
         line.report("xa_commit " + name(), code);
         if (code != Code.OK) {
-            line.see();
+            line.ask();
         }
         isOver = code != Code.RETRY;
         forgetIf(code);
@@ -248,11 +247,13 @@ final class Branch {
         if (may == ACTIVE && !isLost && !isVoteIssued) {
             line.issue("xa_end " + name() + (isFailed ? " TMFAIL" : " TMSUCCESS"));
         }
+        line.post();
     }
 
     void issueRollback() {
         if (!isLost && !isOver && !isVoteDue()) {
             line.issue("xa_rollback " + name());
+            line.post();
         }
     }
 
@@ -267,18 +268,16 @@ final class Branch {
             endWork();
         }
         if (isVoteDue()) {
-            line.flush();
-            line.seeIssued();
+            line.ask();
             vote = vote == Code.OK ? Code.ROLLBACK : vote;
             voted(rolledBackAtOnce());
-            line.see();
+            line.ask();
         }
     }
 
     private void endWork() throws Fault {
         boolean isEndedAsFailed = isFailed && !isVoteIssued;
-        line.seeIssued();
-        line.flush();
+        line.see();
         if (!gate.shut(NO_MORE_WORK, 0)) {
             throw lost(new Fault.Lost("work on the connection doesn't end", null), S0);
         }
@@ -289,7 +288,7 @@ final class Branch {
 
     /** xa_rollback, which waits on the line. */
     int rollback() throws Fault {
-        line.see();
+        line.ask();
         int code;
         try {
             code = Answers.rollback(resource, xid, may);
@@ -297,7 +296,7 @@ final class Branch {
             throw lost(error, may == PREPARED ? FOUND : S0);
         }
         line.report("xa_rollback " + name(), code);
-        line.see();
+        line.ask();
         isOver = true;
         forgetIf(code);
         return code;

@@ -64,16 +64,16 @@ final class Branches {
         XAResource resource = brought == null ? lease.link.xaResource() : brought;
         Branch branch = new Branch(BranchXid.of(session.name, gtrid, slot.number, rm.number), slot.line(rm), lease, resource);
         all.add(branch);
-        branch.issueStart();
+        branch.start();
         if (all.size() > 1) {
             // It will be committed in two phases: so the calls of the first are issued while the work goes on.
             all.forEach(Branch::issueVoteAhead);
+            slot.post();
             if (!session.isBusy()) {
                 // Else others write it soon, with what is theirs.
                 session.coordinator.flush();
             }
         }
-        branch.start();
         return branch;
     }
 
@@ -95,9 +95,14 @@ final class Branches {
         session.add(transaction);
     }
 
-    /** The coordinator is asked for the thread's next transaction, by the write of what is posted next. */
-    void beginNextAhead() {
-        slot.beginAhead();
+    /** Posts what its branches have to ask and to tell. */
+    void post() {
+        slot.post();
+    }
+
+    /** The same, and asks for the thread's next transaction. */
+    void postAndBeginNext() {
+        slot.postAndBegin();
     }
 
     private ResourceManager.Lease lease(ResourceManager rm) throws Fault {
@@ -142,6 +147,8 @@ final class Branches {
         if (slot == null) {
             return;
         }
+        // The answers come before whatever a recovery tells from now on.
+        slot.post();
         for (Branch branch : all) {
             if (session.coordinator.isGone()) {
                 branch.abandon("the coordinator ended", true);

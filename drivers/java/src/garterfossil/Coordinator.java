@@ -18,30 +18,52 @@ import java.util.concurrent.locks.LockSupport;
 import java.util.concurrent.locks.ReentrantLock;
 
 /**
- * The coordinator: {@code xatm serve}, a process that this one starts and asks, one line a request (docs/SERVE.md).
+ * The coordinator: {@code xatm serve}, a process that this one starts and asks (docs/SERVE.md).
  *
- * <p>Any thread may ask. A request that is posted is written with the next one that is waited for, and the replies come in the
- * order of the requests: whichever thread waits reads what has come, and wakes the threads whose replies are among it.
+ * <p>Any thread may ask. What is posted is a line of one or several requests, with {@link #AND} between them. It is written with the
+ * next one that is waited for, and the replies come in the order of the lines: whichever thread waits reads what has come, and wakes the
+ * threads whose replies are among it.
  */
 final class Coordinator {
     /** The rules by which a step is refused because the manager is down, or the transaction is over. */
     static final int MANAGER_DOWN = 1, UNKNOWN_TRANSACTION = 5, LOG_FAULT = 15;
-    /** So many requests may be written without a reply that was read: their replies fit into the pipe, so neither side blocks the other. */
+    /** Stands between the requests of a line, and in its reply for each that was done before the one that it replies to. */
+    static final String AND = ";";
+    /** So many lines may be written without a reply that was read: their replies fit into the pipe, so neither side blocks the other. */
     private static final int AHEAD = 400;
     private static final String PROTOCOL = "1";
+    static final String OLDER = "older than this driver";
     /** So the coordinator gets a process group of its own: Ctrl-C in a terminal is for the program alone. */
     private static final File SETSID = new File("/usr/bin/setsid");
 
-    /** A request that is on its way, and the place of its reply. */
+    /** A line of requests that is on its way, and the place of its reply. */
     static final class Reply {
-        private final String request;
+        private final String requests;
         private volatile boolean isWritten;
         private volatile String line;
         // The thread that waits for it, where another one reads.
         private volatile Thread waiter;
 
-        private Reply(String request) {
-            this.request = request;
+        private Reply(String requests) {
+            this.requests = requests;
+        }
+
+        /** What it replies to: the first request that isn't done, or the last. */
+        private String request() {
+            return requests.split(AND)[done()];
+        }
+
+        /** How many requests were done before that. */
+        private int done() {
+            int count = 0;
+            while (line.startsWith(AND, count)) {
+                count++;
+            }
+            return count;
+        }
+
+        private String words() {
+            return line.substring(done());
         }
     }
 
@@ -93,6 +115,18 @@ final class Coordinator {
         if (!greeting.startsWith("restarted ")) {
             throw gone("it began with the line: " + greeting);
         }
+        seeSeveral();
+    }
+
+    /** Sees that it takes several requests on a line. */
+    private void seeSeveral() throws Fault.Gone {
+        try {
+            ask("status" + AND + "status");
+        } catch (Fault.Gone gone) {
+            throw gone;
+        } catch (Fault refused) {
+            throw gone("it is " + OLDER + ", and takes one request a line");
+        }
     }
 
     /** A line that it begins with. */
@@ -137,14 +171,14 @@ final class Coordinator {
         return await(post(request));
     }
 
-    /** Puts a request on its way. */
-    Reply post(String request) {
-        Reply reply = new Reply(request);
+    /** Puts a line of requests on its way. They are done in turn, up to the first that is refused. */
+    Reply post(String requests) {
+        Reply reply = new Reply(requests);
         unwritten.add(reply);
         return reply;
     }
 
-    /** Sees that what was posted until this request is written. */
+    /** Sees that what was posted until this line is written. */
     void flush(Reply reply) throws Fault.Gone {
         if (!reply.isWritten) {
             write();
@@ -158,7 +192,7 @@ final class Coordinator {
         }
     }
 
-    /** The reply to a request that was posted. */
+    /** The reply to a line that was posted: that to its last request. */
     String await(Reply reply) throws Fault {
         if (reply.line == null) {
             flush(reply);
@@ -172,20 +206,20 @@ final class Coordinator {
     }
 
     private String judged(Reply reply) throws Fault {
-        String line = reply.line;
+        String line = reply.words();
         if (line.startsWith("refused ")) {
             String[] words = line.split(" ");
             int number = Integer.parseInt(words[1]);
             if (number == MANAGER_DOWN || number == LOG_FAULT) {
                 throw gone("its log failed: " + line);
             }
-            throw new Fault.Refused(number, line + ", to the request: " + reply.request);
+            throw new Fault.Refused(number, line + ", to the request: " + reply.request());
         }
         if (line.equals("error the branch is in no such state")) {
-            throw new Fault.Unexplained(line + ", to the request: " + reply.request);
+            throw new Fault.Unexplained(line + ", to the request: " + reply.request());
         }
         if (line.startsWith("error ")) {
-            throw new Fault.Refused(0, line + ", to the request: " + reply.request);
+            throw new Fault.Refused(0, line + ", to the request: " + reply.request());
         }
         return line;
     }
@@ -212,7 +246,7 @@ final class Coordinator {
         List<Reply> some = new ArrayList<>();
         for (Reply reply = unwritten.peek(); reply != null && some.size() < AHEAD / 2; reply = unwritten.peek()) {
             some.add(unwritten.remove());
-            block.writeBytes(reply.request.getBytes(StandardCharsets.ISO_8859_1));
+            block.writeBytes(reply.requests.getBytes(StandardCharsets.ISO_8859_1));
             block.write('\n');
         }
         seeReplies(some.size());

@@ -140,7 +140,7 @@ final class Keeper {
             throw error;
         }
         line.open();
-        line.see();
+        line.ask();
     }
 
     private void disconnect() {
@@ -192,13 +192,13 @@ final class Keeper {
     /** How many calls end what it lists. */
     private int scanOnce() throws Fault {
         line.issue("xa_recover " + PAGE + " TMSTARTRSCAN");
-        line.see();
+        line.ask();
         List<BranchXid> listed = listed();
         session.seeListed(rm, listed);
         int made = reportPage(listed, 0);
         for (int from = PAGE; from <= listed.size(); from += PAGE) {
             line.issue("xa_recover " + PAGE);
-            line.see();
+            line.ask();
             made += reportPage(listed, from);
         }
         return made;
@@ -208,6 +208,7 @@ final class Keeper {
         List<BranchXid> page = listed.subList(from, Math.min(listed.size(), from + PAGE));
         try {
             line.report(page);
+            line.ask();
         } catch (Fault.Unexplained error) {
             session.unexplained(rm, page, error);
         }
@@ -271,16 +272,15 @@ final class Keeper {
 
     /** Makes the call that waits first, and reports its answer. */
     private int make(String call, BranchXid xid, int may) throws Fault {
-        line.flush();
         if (call.equals("xa_forget")) {
             forgetResource(resource, xid);
             line.report("xa_forget " + xid, Code.OK);
-            line.see();
+            line.ask();
             return Code.OK;
         }
         int code = call.equals("xa_commit") ? Answers.commit(resource, xid, may) : Answers.rollback(resource, xid, may);
         line.report(call + " " + xid, code);
-        line.see();
+        line.ask();
         if (call.equals("xa_rollback")) {
             session.noteUndone(xid);
         }
@@ -293,10 +293,10 @@ final class Keeper {
     /** xa_forget of a branch that ended by itself, once the log has a record of it. */
     static void forget(Line line, BranchXid xid, XAResource resource) throws Fault {
         line.issue("xa_forget " + xid);
-        line.see();
+        line.ask();
         forgetResource(resource, xid);
         line.report("xa_forget " + xid, Code.OK);
-        line.see();
+        line.ask();
     }
 
     private static void forgetResource(XAResource resource, BranchXid xid) throws Fault.Lost {
@@ -334,7 +334,7 @@ final class Keeper {
         int code;
         try {
             line.issue(debt.call() + " " + debt.xid);
-            line.see();
+            line.ask();
             code = make(debt.call(), debt.xid, debt.may);
         } catch (Fault.Refused refused) {
             if (refused.number != Coordinator.UNKNOWN_TRANSACTION) {

@@ -3,22 +3,25 @@ package garterfossil;
 import java.util.ArrayList;
 import java.util.List;
 
-/** The line of a thread of the coordinator to a resource manager: calls are issued, made, and their answers reported, one after the other. */
+/**
+ * The line of a thread of the coordinator to a resource manager: calls are issued, made, and their answers reported, one after the other.
+ * What is to be asked and told is kept until it is posted, mostly with what is kept on other lines of the thread.
+ */
 final class Line {
     final int thread;
     final ResourceManager rm;
     private final Coordinator coordinator;
-    // The replies that weren't looked at yet, in the order of their requests.
+    private final String place;
+    private final StringBuilder kept = new StringBuilder();
+    // The replies that weren't looked at yet, in the order of what was posted.
     private final List<Coordinator.Reply> due = new ArrayList<>();
-    // How many of them come until that to the call that was issued last.
-    private int untilIssued;
-    private Coordinator.Reply reported;
     private boolean isOpen;
 
     Line(Coordinator coordinator, int thread, ResourceManager rm) {
         this.coordinator = coordinator;
         this.thread = thread;
         this.rm = rm;
+        place = " " + thread + " " + rm.number + " ";
     }
 
     /** Opens it, if it isn't open. The connection is there already. */
@@ -32,64 +35,76 @@ final class Line {
 
     /** Lets a call wait on the line. */
     void issue(String call) {
-        due.add(coordinator.post("issue " + thread + " " + rm.number + " " + call));
-        untilIssued = due.size();
-    }
-
-    /** The call that was issued last is refused, as another reply says: it doesn't wait. */
-    void takeBack() {
-        due.remove(due.size() - 1);
-        untilIssued = Math.min(untilIssued, due.size());
-    }
-
-    /** Sees that the answer before is written: no call may be made on the line before that. */
-    void flush() throws Fault.Gone {
-        if (reported != null) {
-            coordinator.flush(reported);
-        }
-    }
-
-    /** Sees that nothing that was posted is refused. */
-    void see() throws Fault {
-        see(due.size());
-    }
-
-    /** Sees that the calls that were issued aren't refused: then they may be made, once the answers before them are written. */
-    void seeIssued() throws Fault {
-        see(untilIssued);
-    }
-
-    private void see(int count) throws Fault {
-        List<Coordinator.Reply> first = due.subList(0, count);
-        try {
-            // The last reply is the one to wait for.
-            for (int at = count - 1; at >= 0; at--) {
-                coordinator.await(first.get(at));
-            }
-        } finally {
-            first.clear();
-            untilIssued = Math.max(0, untilIssued - count);
-        }
+        begin("issue").append(call);
     }
 
     /** Reports how the call that waits first was answered. */
     void report(String call, int code) {
-        reported = coordinator.post("answer " + thread + " " + rm.number + " " + call + " " + code);
-        due.add(reported);
+        begin("answer").append(call).append(' ').append(code);
     }
 
     /** Reports the page that answers an xa_recover. */
-    void report(List<BranchXid> page) throws Fault {
-        StringBuilder words = new StringBuilder("answer " + thread + " " + rm.number + " xa_recover " + page.size());
-        page.forEach(xid -> words.append(' ').append(xid));
-        due.add(coordinator.post(words.toString()));
+    void report(List<BranchXid> page) {
+        begin("answer").append("xa_recover ").append(page.size());
+        page.forEach(xid -> kept.append(' ').append(xid));
+    }
+
+    private StringBuilder begin(String word) {
+        return kept.append(kept.length() == 0 ? "" : Coordinator.AND).append(word).append(place);
+    }
+
+    // ** posts, and their replies
+
+    /** Adds what is kept to a post. False if nothing is kept. */
+    boolean moveTo(StringBuilder post) {
+        if (kept.length() == 0) {
+            return false;
+        }
+        post.append(post.length() == 0 ? "" : Coordinator.AND).append(kept);
+        kept.setLength(0);
+        return true;
+    }
+
+    /** What was kept is posted: the reply is to be looked at. */
+    void expect(Coordinator.Reply reply) {
+        due.add(reply);
+    }
+
+    /** What was posted last is refused, as another reply says. */
+    void takeBack() {
+        due.remove(due.size() - 1);
+    }
+
+    /** Posts what is kept, alone. */
+    void post() {
+        StringBuilder post = new StringBuilder();
+        if (moveTo(post)) {
+            expect(coordinator.post(post.toString()));
+        }
+    }
+
+    /** Sees that nothing that was posted is refused: then the calls that were issued may be made. */
+    void see() throws Fault {
+        try {
+            // The last reply is the one to wait for.
+            for (int at = due.size() - 1; at >= 0; at--) {
+                coordinator.await(due.get(at));
+            }
+        } finally {
+            due.clear();
+        }
+    }
+
+    /** Posts what is kept, and sees that nothing is refused. */
+    void ask() throws Fault {
+        post();
         see();
     }
 
-    /** The connection is lost, and what waits on the line with it. */
+    /** The connection is lost, and what waits on the line with it. Answers that came are told before. */
     void crash() throws Fault {
+        post();
         due.clear();
-        untilIssued = 0;
         isOpen = false;
         coordinator.ask("crash line " + thread + " " + rm.number);
     }

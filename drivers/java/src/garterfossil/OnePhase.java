@@ -14,9 +14,11 @@ final class OnePhase {
 
     void commit() throws Fault {
         transaction.become(Outcome.COMMITTING);
-        branches.beginNextAhead();
         int code;
         try {
+            branch.issueCommitInOnePhase();
+            branches.postAndBeginNext();
+            branches.session().coordinator.flush();
             code = branch.commitInOnePhase();
         } catch (Fault error) {
             throw failed(error);

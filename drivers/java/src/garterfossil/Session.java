@@ -28,10 +28,12 @@ final class Session {
     final class Slot {
         final int number;
         private final Line[] lines;
+        private final String begin;
         private Coordinator.Reply next;
 
         Slot(int number) {
             this.number = number;
+            begin = "begin " + number;
             lines = new Line[rms.size()];
         }
 
@@ -43,21 +45,56 @@ final class Session {
             return lines[at];
         }
 
-        /** Asks for the thread's next transaction, unless that was done: the reply comes with others that are waited for. */
-        void beginAhead() {
-            if (next == null) {
-                next = coordinator.post("begin " + number);
+        /** Posts what is kept on the thread's lines, if anything is, by one line. */
+        void post() {
+            StringBuilder post = new StringBuilder();
+            List<Line> from = movedTo(post);
+            if (!from.isEmpty()) {
+                Coordinator.Reply reply = coordinator.post(post.toString());
+                from.forEach(line -> line.expect(reply));
             }
+        }
+
+        /** The same, and asks for the thread's next transaction behind it: the reply comes with others that are waited for. */
+        void postAndBegin() {
+            if (next != null) {
+                post();
+                return;
+            }
+            StringBuilder post = new StringBuilder();
+            List<Line> from = movedTo(post);
+            next = coordinator.post(post.append(from.isEmpty() ? "" : Coordinator.AND).append(begin).toString());
+            from.forEach(line -> line.expect(next));
+        }
+
+        private List<Line> movedTo(StringBuilder post) {
+            List<Line> from = new ArrayList<>(lines.length);
+            for (Line line : lines) {
+                if (line != null && line.moveTo(post)) {
+                    from.add(line);
+                }
+            }
+            return from;
         }
 
         /** A transaction begins: its 32 digits. */
         String begin() throws Fault {
-            beginAhead();
-            Coordinator.Reply reply = next;
-            next = null;
-            String gtrid = coordinator.await(reply).substring("begun ".length());
+            String gtrid = begun().substring("begun ".length());
             begun.accumulateAndGet(Long.parseLong(gtrid.substring(16), 16), Math::max);
             return gtrid;
+        }
+
+        private String begun() throws Fault {
+            Coordinator.Reply asked = next;
+            next = null;
+            if (asked != null) {
+                try {
+                    return coordinator.await(asked);
+                } catch (Fault.Refused refused) {
+                    // So is what stood before it on its line, whose branches are left to their keepers.
+                }
+            }
+            return coordinator.ask(begin);
         }
     }
 

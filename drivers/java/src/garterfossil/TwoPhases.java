@@ -38,9 +38,19 @@ final class TwoPhases {
 
     private void collectVotes() throws Fault {
         transaction.become(Outcome.PREPARING);
-        Map<Branch, Fault> faults = new ConcurrentHashMap<>();
         branches.all().forEach(Branch::issueVote);
-        manager.helpers.each(branches.all(), branches.session().isBusy(), branch -> {
+        branches.post();
+        Map<Branch, Fault> faults = new ConcurrentHashMap<>();
+        List<Branch> voting = new ArrayList<>();
+        for (Branch branch : branches.all()) {
+            try {
+                branch.seeIssued();
+                voting.add(branch);
+            } catch (Fault error) {
+                faults.put(branch, failed(branch, error));
+            }
+        }
+        manager.helpers.each(voting, branches.session().isBusy(), branch -> {
             Fault fault = voteOf(branch);
             if (fault != null) {
                 faults.put(branch, fault);
@@ -62,9 +72,13 @@ final class TwoPhases {
             int vote = branch.prepare();
             return vote == Code.OK || vote == Code.RDONLY ? null : new Fault.RolledBack(branch.rm() + " voted " + Code.name(vote), null);
         } catch (Fault error) {
-            branch.giveUp("its end failed: " + error.getMessage());
-            return error;
+            return failed(branch, error);
         }
+    }
+
+    private static Fault failed(Branch branch, Fault error) {
+        branch.giveUp("its end failed: " + error.getMessage());
+        return error;
     }
 
     // ** the decision
@@ -73,6 +87,7 @@ final class TwoPhases {
     private boolean decide(List<Branch> prepared) throws Fault {
         transaction.become(Outcome.COMMITTING);
         String gtrid = branches.gtrid();
+        branches.post();
         manager.decisions.expect(gtrid);
         try {
             if (branches.isSessionOver()) {
@@ -103,7 +118,7 @@ final class TwoPhases {
         @Override
         public void post() {
             prepared.forEach(Branch::issueCommit);
-            branches.beginNextAhead();
+            branches.postAndBeginNext();
         }
 
         @Override
@@ -130,7 +145,12 @@ final class TwoPhases {
     private void tell(List<Branch> prepared) throws Fault {
         Runnable paid = branches.session().paid(branches.gtrid(), prepared.size());
         Map<Branch, Integer> answers = new ConcurrentHashMap<>();
-        manager.helpers.each(prepared, branches.session().isBusy(), branch -> answers.put(branch, answerOf(branch)));
+        List<Branch> told = new ArrayList<>(prepared);
+        told.removeIf(branch -> !isIssued(branch));
+        prepared.forEach(branch -> answers.put(branch, Code.RETRY));
+        manager.helpers.each(told, branches.session().isBusy(), branch -> answers.put(branch, answerOf(branch)));
+        // The row may leave the log once the coordinator has read them.
+        branches.post();
         Map<Branch, Debt> debts = new ConcurrentHashMap<>();
         for (Branch branch : prepared) {
             if (branch.isOver()) {
@@ -150,13 +170,28 @@ final class TwoPhases {
         ends.seeNoneCommitting(transaction, prepared.size());
     }
 
+    /** Whether xa_commit waits on the line of the branch. Else it is left to the keeper. */
+    private static boolean isIssued(Branch branch) {
+        try {
+            branch.seeIssued();
+            return !branch.isLost();
+        } catch (Fault error) {
+            noteAgain(branch, error);
+            return false;
+        }
+    }
+
     /** xa_commit: the answer. What goes wrong is left to the keeper. */
     private static int answerOf(Branch branch) {
         try {
-            return branch.isLost() ? Code.RETRY : branch.commit();
+            return branch.commit();
         } catch (Fault error) {
-            Manager.LOG.log(Level.WARNING, () -> "xa_commit of " + branch.xid + " is made again: " + error.getMessage());
+            noteAgain(branch, error);
             return Code.RETRY;
         }
+    }
+
+    private static void noteAgain(Branch branch, Fault error) {
+        Manager.LOG.log(Level.WARNING, () -> "xa_commit of " + branch.xid + " is made again: " + error.getMessage());
     }
 }

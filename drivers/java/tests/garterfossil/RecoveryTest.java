@@ -235,6 +235,14 @@ public class RecoveryTest {
     }
 
     @Test
+    public void aCoordinatorThatTakesOneRequestALine() throws Exception {
+        world.manager.close();
+        Files.createFile(world.folder.resolve("one-a-line"));
+        Fault.Unavailable error = assertThrows(Fault.Unavailable.class, () -> world.builder().start());
+        assertTrue(error.getMessage(), error.getMessage().contains("older than this driver"));
+    }
+
+    @Test
     public void aProgramThatIsNotThere() {
         Fault.Unavailable error = assertThrows(Fault.Unavailable.class, () -> Manager.over(world.folder.resolve("other"))
             .program("/no/such/program").resource(new StandInResource("c")).start());

@@ -32,7 +32,8 @@ import java.util.stream.Collectors;
  * A stand-in for {@code xatm serve}: it replies as docs/SERVE.md says, keeps its rows in files of a folder, and takes an answer only
  * where XA's branch state table (C193, chapter 6) has a state that explains it.
  *
- * <p>It writes each request that it reads to the file `requests` of its folder. Where the file `die-at` has a word, it ends at the
+ * <p>It writes each request that it reads to the file `requests` of its folder. Where the file `one-a-line` is there, it takes no line of
+ * several. The file `refuse-at` has the beginning of a request that is refused once. Where the file `die-at` has a word, it ends at the
  * first request that begins with it, instead of a reply, and removes the file;
  * {@code decided} is a decision to commit that it makes and doesn't tell. It begins with the line of the protocol where the file
  * `protocol` has its words. The file `names` has what {@code xatm log} prints of its log.
@@ -123,12 +124,33 @@ final class StandInCoordinator extends Process {
         }
     }
 
+    /** The requests of a line are done in turn, up to the first that is refused. The reply is that to the last which was asked. */
+    private String replyToAll(String line) throws IOException {
+        if (Files.exists(folder.resolve("one-a-line")) && line.contains(";")) {
+            return "error not a request";
+        }
+        String reply = "";
+        for (String request : line.split(";")) {
+            reply = reply.replaceFirst("[^;].*", ";") + reply(request);
+            if (reply.matches(";*(refused|error) .*")) {
+                return reply;
+            }
+        }
+        return reply;
+    }
+
     private String reply(String line) throws IOException {
         Files.writeString(folder.resolve("requests"), line + "\n", StandardOpenOption.CREATE, StandardOpenOption.APPEND);
         dieAt(line);
+        Path refused = folder.resolve("refuse-at");
+        if (Files.exists(refused) && line.startsWith(Files.readString(refused))) {
+            Files.delete(refused);
+            return "refused 16 Memory";
+        }
         String[] words = line.split(" ");
         switch (words[0]) {
             case "begin": return begin();
+            case "status": return "status up 0";
             case "issue": return issue(words);
             case "answer": return answer(words);
             case "decide": return decide(words);
@@ -377,7 +399,7 @@ final class StandInCoordinator extends Process {
             BufferedReader requests = new BufferedReader(new InputStreamReader(fromDriver, StandardCharsets.ISO_8859_1));
             for (String line = requests.readLine(); line != null; line = requests.readLine()) {
                 // The name stands in front of the transaction in each identifier that leaves.
-                String reply = reply(line.replaceAll("(^| )7:" + name, "$17:"));
+                String reply = replyToAll(line.replaceAll("(^| )7:" + name, "$17:"));
                 replies.print(reply.replaceAll("(^| )7:", "$17:" + name) + "\n");
                 replies.flush();
                 if (line.equals("quit")) {

@@ -167,17 +167,12 @@ public class TransactionsTest {
     }
 
     @Test
-    public void noCallBeforeTheAnswerBeforeIsReported() throws Exception {
-        // The coordinator has read the answer to each call on a line before the resource gets the next one.
+    public void noVoteOrEndBeforeItIsIssued() throws Exception {
+        // Behind xa_end comes xa_prepare, and behind that xa_commit: the coordinator has read by then that it is to be issued.
         world.a.before = () -> {
             String last = world.a.calls.isEmpty() ? "" : world.a.calls.get(world.a.calls.size() - 1);
-            String name = last.equals("start") ? "xa_start" : last.equals("end") ? "xa_end" : last.equals("prepare") ? "xa_prepare" : null;
-            if (name != null) {
-                try {
-                    World.eventually(() -> isRead("answer 1 0 " + name));
-                } catch (InterruptedException error) {
-                    throw new AssertionError(error);
-                }
+            if (last.equals("end") || last.equals("prepare")) {
+                assertTrue(isRead("issue 1 0 " + (last.equals("end") ? "xa_prepare" : "xa_commit")));
             }
         };
         world.overBoth().commit();
@@ -189,6 +184,26 @@ public class TransactionsTest {
             return world.requests().stream().anyMatch(it -> it.startsWith(beginning));
         } catch (java.io.IOException error) {
             return false;
+        }
+    }
+
+    @Test
+    public void aRequestThatIsRefusedAmongOthersOfItsLine() throws Exception {
+        // The coordinator has no memory for it. Nothing that stands behind it on its line is done.
+        for (String refused : List.of("issue 1 0 xa_start", "answer 1 0 xa_start", "issue 1 1 xa_prepare", "answer 1 0 xa_prepare",
+            "decide")) {
+            GlobalTransaction transaction = world.overBothRefusing(refused);
+            assertThrows(refused, Fault.RolledBack.class, transaction::commit);
+            World.eventually(() -> world.manager.owing() == 0);
+            assertTrue(refused, world.a.branches.isEmpty() && world.b.branches.isEmpty());
+            assertTrue(refused, world.a.committed.isEmpty() && world.b.committed.isEmpty());
+        }
+        int committed = 0;
+        for (String refused : List.of("issue 1 0 xa_commit", "issue 1 1 xa_commit", "begin 1", "answer 1 0 xa_commit")) {
+            world.overBothRefusing(refused).commit();
+            committed++;
+            int count = committed;
+            World.eventually(() -> world.manager.owing() == 0 && world.a.committed.size() == count && world.b.committed.size() == count);
         }
     }
 

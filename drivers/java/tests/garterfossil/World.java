@@ -57,6 +57,21 @@ final class World extends ExternalResource {
         return transaction;
     }
 
+    /** The same on the coordinator's thread 1, whose next request that begins so is refused. */
+    GlobalTransaction overBothRefusing(String request) throws Exception {
+        // The threads go round.
+        GlobalTransaction transaction = begin();
+        transaction.enlist(a);
+        while (a.branches.keySet().stream().noneMatch(xid -> xid.toString().contains(":00000001"))) {
+            transaction.rollback();
+            transaction = begin();
+            transaction.enlist(a);
+        }
+        Files.writeString(folder.resolve("refuse-at"), request);
+        transaction.enlist(b);
+        return transaction;
+    }
+
     /** The coordinator ends at this request. */
     void dieAt(String moment) throws IOException {
         Files.writeString(folder.resolve("die-at"), moment);
