@@ -33,6 +33,8 @@ class Completion:
         self._prepare = Call("xa_prepare", xid)
         self._commit = Call("xa_commit", xid)
         self._is_active = False
+        # Whether xa_end and xa_prepare wait on the line or were made; and whether xa_prepare was.
+        self._is_vote_issued = False
         self._was_asked = False
         # Its vote, if that is a rollback.
         self._vote: Optional[Code] = None
@@ -83,15 +85,26 @@ class Completion:
         return self.line.connection is not self._connection
 
     def give_up(self) -> None:
-        """xa_end of a branch that is to be rolled back, if work may still go on."""
-        if self._is_active and not self._is_lost:
+        """xa_end of a branch that is to be rolled back, if work may still go on. Where xa_prepare waits behind it, a no is the rollback."""
+        if self._is_lost:
+            return
+        if self._is_active and not self._is_vote_issued:
             self._leave()
             self.line.call(Call("xa_end", self.xid, ("TMFAIL",)))
+            self.line.post()
+        elif self.line.waits_for(self._end) or self.line.waits_for(self._prepare):
+            self._connection.refuse()
+            if self._is_active:
+                self._leave()
+                self.line.make(self._end)
+            self.prepare()
+            self.line.see_heard()
 
     def issue_prepare(self) -> None:
-        """Issues xa_end and xa_prepare."""
-        self._was_asked = True
-        self.line.issue(self._end, self._prepare)
+        """Issues xa_end and xa_prepare, unless that was done. While the work goes on, too: if it fails, xa_prepare is answered by a no."""
+        if not self._is_vote_issued:
+            self._is_vote_issued = True
+            self.line.issue(self._end, self._prepare)
 
     def end(self) -> None:
         """xa_end, which waits."""
@@ -104,6 +117,7 @@ class Completion:
 
     def send_prepare(self) -> None:
         """Sends xa_prepare, which waits, if that can be sent ahead of `prepare`."""
+        self._was_asked = True
         self.line.send(self._prepare)
 
     def send_commit(self) -> None:
@@ -113,6 +127,7 @@ class Completion:
 
     def prepare(self) -> Code:
         """xa_prepare, which waits: the vote. Unless that is OK the branch is over."""
+        self._was_asked = True
         vote = self.line.make(self._prepare).code
         self.is_prepared = vote is Code.OK
         self._is_over = not self.is_prepared

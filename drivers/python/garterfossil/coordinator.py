@@ -1,4 +1,4 @@
-"""The coordinator: `xatm serve`, a process that this one starts and asks, one line a request (docs/SERVE.md)."""
+"""The coordinator: `xatm serve`, a process that this one starts and asks (docs/SERVE.md)."""
 
 from __future__ import annotations
 
@@ -7,9 +7,9 @@ import logging
 import subprocess
 import threading
 import time
-from typing import Deque, Dict, Iterable, List, Optional, Sequence, Tuple, Union
+from typing import Deque, Iterable, List, Optional, Sequence, Tuple
 
-from .calls import Answer, Call
+from .calls import Call
 from .errors import CoordinatorGone, LogInUse, Refused, RequestError, SetupError, Unexplained, XaError
 from .logs import Names, fault_of_log, is_log_in_use
 from .xid import Xid
@@ -26,6 +26,8 @@ REFUSED_LOG = "xatm: log: "
 OTHER_FAULTS = "it is of another version, or damaged, or the disk is full"
 #: The version of the protocol that this driver speaks.
 PROTOCOL = "1"
+#: Stands between the requests of a line, and in its reply for each that was done before the one that it replies to.
+AND = ";"
 #: How the reply to a request begins that wasn't done.
 UNDONE = ("refused ", "error ")
 UNEXPLAINED = "error the branch is in no such state"
@@ -41,22 +43,33 @@ def serve_command(program: str, log: str, names: Names, threads: int, databases:
 
 
 class Reply:
-    """A request that is on its way, and the place of its reply."""
+    """A line of requests that is on its way, and the place of its reply."""
 
-    __slots__ = ("request", "number", "line")
+    __slots__ = ("requests", "number", "line")
 
-    def __init__(self, request: str, number: int):
-        self.request = request
-        #: How many requests there were before it.
+    def __init__(self, requests: str, number: int):
+        self.requests = requests
+        #: How many lines there were before it.
         self.number = number
-        self.line: Optional[str] = None
+        self.line = ""
+
+    @property
+    def words(self) -> str:
+        """The reply to the last request, or to the first that wasn't done."""
+        return self.line.lstrip(AND)
+
+    @property
+    def request(self) -> str:
+        """What that replies to."""
+        return self.requests.split(AND)[len(self.line) - len(self.words)]
 
 
 class Coordinator:
     """The coordinator's process, and one session with it.
 
-    Any thread may ask. The coordinator replies in the order of the requests, so several may be under way at once: whichever
-    thread waits reads what has come: its lines are the replies to the requests that were posted first."""
+    Any thread may ask. What is posted is a line of one or several requests, which are done in turn, up to the first that is refused. The
+    coordinator replies in the order of the lines, so several may be under way at once: whichever thread waits reads what has come: its
+    lines are the replies to those that were posted first."""
 
     def __init__(self, command: Sequence[str]):
         try:
@@ -71,16 +84,14 @@ class Coordinator:
         self._posting = threading.Lock()
         self._writing = threading.Lock()
         self._reading = threading.Lock()
-        # Requests that are yet to be written, and how many there were: under the lock `_posting`. They are kept here and in no buffer of
+        # Lines that are yet to be written, and how many there were: under the lock `_posting`. They are kept here and in no buffer of
         # a file, which a process that is forked off would write once more at its end. How many of them are written: under `_writing`.
         self._unwritten: List[str] = []
         self._posted = self._written = 0
-        # The requests whose replies are yet to come, and how many have come. Of those whose reply says only that they were done, the text
-        # is kept, and behind it, by its number, the reply of one that wasn't.
-        self._waiting: Deque[Union[Reply, str]] = collections.deque()
+        # The lines whose replies are yet to come, and how many have come.
+        self._waiting: Deque[Reply] = collections.deque()
         self._arrived = 0
-        self._undone: Dict[int, Reply] = {}
-        # Whether a thread reads; and what wakes those that wait for the reply to a request, by the number of that. Both under the lock
+        # Whether a thread reads; and what wakes those that wait for the reply to a line, by the number of that. Both under the lock
         # `_reading`.
         self._is_read = False
         self._asleep: List[Tuple[int, threading.Lock]] = []
@@ -96,6 +107,7 @@ class Coordinator:
             raise self._gone(f"it began with the line: {self.greeting}")
         #: The number of the session, among those of its log.
         self.incarnation = int(self.greeting.split(" ")[1])
+        self._see_several(command[0])
 
     @classmethod
     def start(cls, command: Sequence[str], patience: float, path: Optional[str] = None) -> Coordinator:
@@ -133,23 +145,14 @@ class Coordinator:
 
     # ** requests
 
-    def begin(self, thread: int) -> Reply:
-        """A transaction of the thread begins (`begun_in`)."""
+    def begin(self, thread: int, before: Sequence[str] = ()) -> Reply:
+        """A transaction of the thread begins (`begun_in`), behind other requests."""
         self._is_logged = log.isEnabledFor(logging.DEBUG)
-        return self.post(f"begin {thread}")
+        return self.post(AND.join([*before, f"begin {thread}"]))
 
     def begun_in(self, reply: Reply) -> str:
         """The name of the transaction that began."""
         return self.wait(reply).split(" ")[1]
-
-    def issue(self, line: str, call: Call) -> int:
-        """Lets a call wait on a line, which is named by its thread and its resource manager, as `0 1`. Once it is done, the call may be
-        made."""
-        return self.tell(f"issue {line} {call}")
-
-    def answer(self, line: str, call: Call, answer: Answer) -> int:
-        """Tells how the call that waits first on a line was answered."""
-        return self.tell(f"answer {line} {answer.words_to(call)}")
 
     def waiting(self, thread: int, rm: int) -> Optional[Call]:
         """The call that waits first on the line."""
@@ -197,73 +200,52 @@ class Coordinator:
         """The reply to a request. Raises Refused, RequestError or CoordinatorGone."""
         return self.wait(self.post(request))
 
-    def post(self, request: str) -> Reply:
-        """Puts a request on its way: it is written with the next one that is waited for."""
+    def post(self, requests: str) -> Reply:
+        """Puts a line of requests on its way: it is written with the next one that is waited for."""
         with self._posting:
-            reply = Reply(request, self._posted)
-            self._put(request, reply)
+            if self._is_logged:
+                log.debug("> %s", requests)
+            if self._fault is not None:
+                raise self._gone(self._fault)
+            reply = Reply(requests, self._posted)
+            self._posted += 1
+            self._waiting.append(reply)
+            self._unwritten.append(requests)
         return reply
 
-    def tell(self, request: str) -> int:
-        """The same for a request whose reply says only that it was done (`see_done`). Its number."""
-        with self._posting:
-            number = self._posted
-            self._put(request, request)
-        return number
-
-    def _put(self, request: str, place: Union[Reply, str]) -> None:
-        if self._is_logged:
-            log.debug("> %s", request)
-        if self._fault is not None:
-            raise self._gone(self._fault)
-        self._posted += 1
-        self._waiting.append(place)
-        self._unwritten.append(request)
-
     def see_written(self, number: int) -> None:
-        """Sees that a request is written, so that the coordinator will read it whatever ends here."""
+        """Sees that a line is written, so that the coordinator will read it whatever ends here."""
         if number >= self._written:
             with self._writing:
                 # Another thread may have written it meanwhile.
                 if number >= self._written:
                     self._write()
 
-    def wait(self, reply: Reply) -> str:
-        """The reply to a request that was posted. Raises Refused, RequestError or CoordinatorGone."""
-        self._arrive(reply.number)
-        assert reply.line is not None
-        if reply.line.startswith(UNDONE):
-            raise self._refusal(reply)
-        return reply.line
+    def flush(self) -> None:
+        """Sees that all is written that was posted."""
+        self.see_written(self._posted - 1)
 
-    def see_done(self, numbers: Sequence[int]) -> None:
-        """Sees that these requests were done. Raises for the first that wasn't what `wait` would."""
-        self._arrive(numbers[-1])
-        if self._undone:
-            undone = [self._undone.pop(number) for number in numbers if number in self._undone]
-            if undone:
-                raise self._refusal(undone[0])
+    def wait(self, reply: Reply) -> str:
+        """The reply to a line that was posted: that to its last request. Raises Refused, RequestError or CoordinatorGone."""
+        self._arrive(reply.number)
+        words = reply.words
+        if words.startswith(UNDONE):
+            raise self._refusal(reply)
+        return words
 
     def see_arrived(self) -> None:
-        """Waits until the replies to all requests have come that were put on their way until now, or the coordinator is gone."""
+        """Waits until the replies to all lines have come that were put on their way until now, or the coordinator is gone."""
         try:
             self._arrive(self._posted - 1)
         except CoordinatorGone:
             # Those that have come stand.
             pass
 
-    def forget(self, numbers: Sequence[int]) -> None:
-        """It doesn't matter whether these requests were done."""
-        try:
-            self.see_done(numbers)
-        except XaError:
-            pass
-
     def _refusal(self, reply: Reply) -> XaError:
-        line = reply.line or ""
-        kind, _, rest = line.partition(" ")
+        words = reply.words
+        kind, _, rest = words.partition(" ")
         if kind == "error":
-            error = Unexplained if line == UNEXPLAINED else RequestError
+            error = Unexplained if words == UNEXPLAINED else RequestError
             return error(f"{rest}, to the request: {reply.request}")
         number, name = rest.split(" ")
         if int(number) in (MANAGER_DOWN, LOG_FAULT):
@@ -271,14 +253,13 @@ class Coordinator:
         return Refused(int(number), name, reply.request)
 
     def _arrive(self, number: int) -> None:
-        """Waits until the reply to a request has come, whatever it is, and with it those to all requests before. Raises
-        CoordinatorGone."""
+        """Waits until the reply to a line has come, whatever it is, and with it those to all lines before. Raises CoordinatorGone."""
         if number >= self._arrived:
             self.see_written(number)
             self._read_until(number)
 
     def _write(self) -> None:
-        """Writes what is unwritten. Requests are written whole, or the session is over: the replies would no longer fit them. Called
+        """Writes what is unwritten. Lines are written whole, or the session is over: the replies would no longer fit them. Called
         with the lock `_writing`."""
         with self._posting:
             requests, self._unwritten = self._unwritten, []
@@ -326,7 +307,7 @@ class Coordinator:
                 self._asleep.remove(mine)
 
     def _read(self) -> None:
-        """Reads what has come: the replies to the requests that were posted first. Called with the lock `_reading`, which is free
+        """Reads what has come: the replies to the lines that were posted first. Called with the lock `_reading`, which is free
         while it reads."""
         self._is_read = True
         self._reading.release()
@@ -341,15 +322,10 @@ class Coordinator:
             self._wake([mine for mine in self._asleep if mine[0] < self._arrived])
 
     def _take(self, line: str) -> None:
-        """Takes the reply to the request that was posted first."""
+        """Takes the reply to the line that was posted first."""
         if self._is_logged:
             log.debug("< %s", line)
-        place = self._waiting.popleft()
-        if isinstance(place, Reply):
-            place.line = line
-        elif line.startswith(UNDONE):
-            undone = self._undone[self._arrived] = Reply(place, self._arrived)
-            undone.line = line
+        self._waiting.popleft().line = line
         self._arrived += 1
 
     def _wake(self, some: List[Tuple[int, threading.Lock]]) -> None:
@@ -368,6 +344,14 @@ class Coordinator:
                 if version != PROTOCOL:
                     self.kill()
                     raise SetupError(f"the coordinator speaks the protocol {version}, and this driver {PROTOCOL}: they are to be of one version")
+
+    def _see_several(self, program: str) -> None:
+        """Sees that it takes several requests on a line."""
+        try:
+            self.ask(f"status{AND}status")
+        except RequestError:
+            self.kill()
+            raise SetupError(f"the coordinator {program} is older than this driver: program= is to be the xatm that it came with") from None
 
     def _read_lines(self) -> List[str]:
         """The lines of which the ends have come, at once; waits for something to come."""

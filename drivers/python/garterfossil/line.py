@@ -9,7 +9,7 @@ from typing import Callable, Deque, List, Optional, TypeVar
 from .adapters.base import Connection
 from .calls import Answer, Call
 from .codes import Code
-from .coordinator import Coordinator
+from .coordinator import AND, Coordinator, Reply
 from .errors import ConnectionLost, TransactionOver, Unanswered
 from .resource_manager import ResourceManager
 from .xid import Xid
@@ -32,12 +32,11 @@ class Line:
         self._patience = patience
         # The calls that wait on the line: they were issued, and are yet to be made.
         self._waiting: Deque[Call] = collections.deque()
-        # The requests of the line of which nobody has seen yet that they were done, by their numbers. So many of them have to be, before
-        # a call may be made.
-        self._unseen: List[int] = []
-        self._due = 0
-        # The request that told the last answer.
-        self._told = -1
+        # What is yet to be posted, mostly by one line with what other lines of the thread keep; and what was posted, of which nobody has
+        # seen yet that it was done. Before a call that was issued is made, that is due.
+        self._kept: List[str] = []
+        self._unseen: List[Reply] = []
+        self._is_due = False
 
     # ** the connection
 
@@ -46,7 +45,7 @@ class Line:
         if self.connection is not None:
             return self.connection
         call = Call("xa_open")
-        self._post(call)
+        self._issue(call)
         self._see_due()
         try:
             self.connection = connection = self.rm.connect()
@@ -60,13 +59,15 @@ class Line:
         """Gives the connection up, and tells the coordinator that it is lost, before anything else on the line."""
         connection, self.connection = self.connection, None
         self._waiting.clear()
-        unseen, self._unseen, self._due = self._unseen, [], 0
         if connection is not None:
             self.rm.drop(connection)
-        if not self._coordinator.is_gone:
-            self._coordinator.crash_line(self._route)
-            if unseen:
-                self._coordinator.forget(unseen)
+        try:
+            if not self._coordinator.is_gone:
+                # Answers that came are told before.
+                self.post()
+                self._coordinator.crash_line(self._route)
+        finally:
+            self._kept, self._unseen, self._is_due = [], [], False
 
     def let_go(self) -> None:
         """A transaction is over on the line. A branch or a call that it left there, as after an interrupt, is lost, and so is
@@ -98,7 +99,23 @@ class Line:
         """Lets calls wait on the line, which are then made in this order."""
         self._open()
         for call in calls:
-            self._post(call)
+            self._issue(call)
+
+    def move_to(self, requests: List[str]) -> bool:
+        """Adds what is to be posted to some requests. Whether there was something."""
+        kept, self._kept = self._kept, []
+        requests += kept
+        return bool(kept)
+
+    def expect(self, reply: Reply) -> None:
+        """What was to be posted is, by the line of this reply."""
+        self._unseen.append(reply)
+
+    def post(self) -> None:
+        """Posts what is to be posted, alone."""
+        requests: List[str] = []
+        if self.move_to(requests):
+            self.expect(self._coordinator.post(AND.join(requests)))
 
     def waits_for(self, call: Call) -> bool:
         """Whether it is the call that waits first on the line."""
@@ -107,8 +124,7 @@ class Line:
     def take_back(self) -> None:
         """The call that was issued last was refused, as is known by another reply: it doesn't wait."""
         self._waiting.pop()
-        self._coordinator.forget([self._unseen.pop()])
-        self._due = min(self._due, len(self._unseen))
+        self._unseen.pop()
 
     def see_issued(self) -> None:
         """Sees that the coordinator says that the calls are issued that wait on the line."""
@@ -121,7 +137,6 @@ class Line:
             return
         self._see_due()
         try:
-            self._see_told()
             self.connection.send(call)
         except BaseException:
             self.lose()
@@ -139,25 +154,19 @@ class Line:
             raise ConnectionLost(f"there is no connection to {self.rm.label}")
         return self.connection
 
-    def _post(self, call: Call) -> None:
+    def _issue(self, call: Call) -> None:
         self._waiting.append(call)
-        self._unseen.append(self._coordinator.issue(self._route, call))
-        self._due = len(self._unseen)
+        self._kept.append(f"issue {self._route} {call}")
+        self._is_due = True
 
     def _make(self, call: Call) -> Answer:
         try:
-            self._see_told()
             answer = self._answer_to(call)
-            self._tell(call, answer)
         except BaseException:
             self.lose()
             raise
+        self._tell(call, answer)
         return answer
-
-    def _see_told(self) -> None:
-        """Sees that the answer to the call before is written, before the next one is made: the coordinator takes for done of a line
-        that is lost no more than the call that waits first."""
-        self._coordinator.see_written(self._told)
 
     def insist(self, call: Call, patience: Optional[float] = None) -> Code:
         """A call on a prepared branch, issued unless it waits already, and made again until it is answered by something else
@@ -180,27 +189,28 @@ class Line:
 
     def see_heard(self) -> None:
         """Sees that the coordinator heard all that was told. Raises Unexplained where it can't be so; the line is lost then."""
-        self._due = len(self._unseen)
+        self._is_due = True
         self._see_due()
 
     def _see_due(self) -> None:
-        """Sees that nothing that was asked for until the last call was issued is refused."""
-        if not self._due:
+        """Sees that nothing that was asked for is refused, unless that was done since the last call was issued."""
+        if not self._is_due:
             return
-        due, self._unseen = self._unseen[: self._due], self._unseen[self._due :]
-        self._due = 0
+        self.post()
+        due, self._unseen, self._is_due = self._unseen, [], False
         try:
-            self._coordinator.see_done(due)
+            # The last reply is the one to wait for.
+            for reply in reversed(due):
+                self._coordinator.wait(reply)
         except BaseException:
             self.lose()
             raise
 
     def _tell(self, call: Call, answer: Answer) -> None:
-        """Tells an answer. The reply isn't waited for: it comes before that to the next request."""
+        """Tells an answer, by what is posted next."""
         if self._waiting:
             self._waiting.popleft()
-        self._told = self._coordinator.answer(self._route, call, answer)
-        self._unseen.append(self._told)
+        self._kept.append(f"answer {self._route} {answer.words_to(call)}")
 
     def _answer_to(self, call: Call) -> Answer:
         """The answer of the database. That it has none now isn't one: an end of a prepared branch is made again."""

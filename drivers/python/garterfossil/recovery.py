@@ -87,13 +87,14 @@ def scan(coordinator: Coordinator, line: Line) -> int:
     made, flags = 0, ["TMSTARTRSCAN"]
     while True:
         page = line.call(Call("xa_recover", count=PAGE, flags=tuple(flags))).page or ()
+        line.see_heard()
         flags.clear()
         for _ in range(coordinator.resolve(line.rm.number)):
             call = coordinator.waiting(0, line.rm.number)
             assert call is not None
             code = line.make(call).code
+            line.see_heard()
             log.info("recovery of %s: %s answered %s", line.rm.label, call, code.name)
             made += 1
-        line.see_heard()
         if len(page) < PAGE:
             return made

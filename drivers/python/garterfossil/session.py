@@ -11,10 +11,10 @@ from typing import Dict, List, Optional, Sequence
 from .adapters.base import Database
 from .calls import Call
 from .commits import Commits
-from .coordinator import Coordinator, Reply
+from .coordinator import AND, Coordinator, Reply
 from .databases import Databases
 from .debts import Debts
-from .errors import ConnectionLost, Overdue, Refused, RequestError, SetupError, XaError
+from .errors import ConnectionLost, CoordinatorGone, Overdue, Refused, RequestError, SetupError, XaError
 from .line import Line
 from .logs import Names, is_new_log
 from .mirror import Mirror
@@ -124,6 +124,7 @@ class Session:
     def let_go(self, thread: int) -> None:
         """The transaction of a thread is over, or none was begun: another one may have it."""
         try:
+            self._try_to_post(thread)
             for line in self._lines[thread]:
                 try:
                     line.let_go()
@@ -135,10 +136,18 @@ class Session:
 
     def begin(self, thread: int) -> str:
         """A transaction of the thread begins: its name."""
-        reply, self._begun[thread] = self._begun[thread] or self.coordinator.begin(thread), None
-        gtrid = self.coordinator.begun_in(reply)
+        gtrid = self._begun_ahead(thread) or self.coordinator.begun_in(self.coordinator.begin(thread))
         self._last[thread] = int(gtrid[16:], 16)
         return gtrid
+
+    def _begun_ahead(self, thread: int) -> Optional[str]:
+        """The thread's transaction that was asked for, if it was begun."""
+        reply, self._begun[thread] = self._begun[thread], None
+        try:
+            return None if reply is None else self.coordinator.begun_in(reply)
+        except Refused:
+            # So is what stood before it on its line, whose branches are left to the recovery.
+            return None
 
     def lets_go_of_ended(self, thread: int) -> bool:
         """Gives those connections of a thread up that the databases have ended while nothing was done on them. Whether there were
@@ -154,10 +163,39 @@ class Session:
         incarnation, sequence = int.from_bytes(xid.gtrid[-16:-8], "big"), int.from_bytes(xid.gtrid[-8:], "big")
         return (incarnation, sequence) <= (self.coordinator.incarnation, max(self._last))
 
-    def begin_ahead(self, thread: int) -> None:
-        """Asks for the thread's next transaction, unless that was done: the reply comes with others that are waited for."""
-        if self._begun[thread] is None:
-            self._begun[thread] = self.coordinator.begin(thread)
+    def post(self, thread: int) -> None:
+        """Posts what is to be posted on the lines of a thread, by one line of requests."""
+        requests: List[str] = []
+        lines = [line for line in self._lines[thread] if line.move_to(requests)]
+        if lines:
+            self._expect(lines, self.coordinator.post(AND.join(requests)))
+
+    def post_soon(self, thread: int) -> None:
+        """The same, and writes it, unless others will soon."""
+        self.post(thread)
+        if not self.threads.are_busy:
+            self.coordinator.flush()
+
+    def post_and_begin(self, thread: int) -> None:
+        """The same, and asks for the thread's next transaction behind it: the reply comes with others that are waited for."""
+        if self._begun[thread] is not None:
+            self.post(thread)
+            return
+        requests: List[str] = []
+        lines = [line for line in self._lines[thread] if line.move_to(requests)]
+        reply = self._begun[thread] = self.coordinator.begin(thread, requests)
+        self._expect(lines, reply)
+
+    @staticmethod
+    def _expect(lines: List[Line], reply: Reply) -> None:
+        for line in lines:
+            line.expect(reply)
+
+    def _try_to_post(self, thread: int) -> None:
+        try:
+            self.post(thread)
+        except CoordinatorGone as error:
+            log.warning("the thread %d is let go: %s", thread, error)
 
     def roll_back(self, gtrid: str) -> None:
         """Decides that the transaction rolls back."""

@@ -9,6 +9,9 @@ from typing import Callable, Iterator, List
 
 from .errors import Overdue
 
+#: Beyond so many transactions at a time somebody else writes soon.
+BUSY = 2
+
 
 class Threads:
     """The coordinator's threads: each is lent to one transaction at a time, or all of them to a recovery. Which thread of
@@ -25,6 +28,11 @@ class Threads:
         with self._change:
             self._wait(lambda: self._free and not self._whole_is_wanted, until)
             return self._free.pop()
+
+    @property
+    def are_busy(self) -> bool:
+        """Whether so many are lent that what one of them writes goes with something of others."""
+        return self._count - len(self._free) > BUSY
 
     def give_back(self, thread: int) -> None:
         """The thread is free again."""

@@ -47,7 +47,7 @@ class _Commits:
     def post(self) -> None:
         for branch in self._branches:
             branch.issue_commit()
-        self._session.begin_ahead(self._thread)
+        self._session.post_and_begin(self._thread)
 
     def take_back(self) -> None:
         for branch in self._branches:
@@ -106,6 +106,11 @@ class Transaction:
             # From now on it has to be ended, however far its beginning comes.
             self._branches[number] = completion
             completion.start()
+            if len(self._branches) > 1:
+                # It will be committed in two phases: so the calls of the first are issued while the work goes on.
+                for each in self._branches.values():
+                    each.issue_prepare()
+                self._session.post_soon(self._thread)
             return completion
         except BaseException as error:
             self._fault = XaError(f"no branch at {label}: {error}")
@@ -213,11 +218,12 @@ class Transaction:
     def _collect_votes(self, branches: List[Completion]) -> None:
         for branch in branches:
             branch.issue_prepare()
+        self._session.post(self._thread)
         faults: List[XaError] = []
-        # Also after a no: the calls wait on the lines already.
-        left = self._each(branches, Completion.end, faults)
         # Who waits for the last reply has all of them.
-        left = self._each(left[::-1], Completion.see_issued, faults)[::-1]
+        left = self._each(branches[::-1], Completion.see_issued, faults)[::-1]
+        # Also after a no: the calls wait on the lines already.
+        left = self._each(left, Completion.end, faults)
         left = self._each(left, Completion.send_prepare, faults)
         for branch in left:
             try:
@@ -245,7 +251,7 @@ class Transaction:
         line = branch.line
         self.outcome = Outcome.UNKNOWN
         try:
-            self._session.begin_ahead(self._thread)
+            self._session.post_and_begin(self._thread)
             code = line.make(call).code
         except XaError as error:
             # It is over, one way or the other; the coordinator is told so.
@@ -261,6 +267,7 @@ class Transaction:
     def _commit_in_two_phases(self, prepared: List[Completion]) -> None:
         self.outcome = Outcome.UNKNOWN
         try:
+            self._session.post(self._thread)
             self._session.commits.decide(self.gtrid, _Commits(self._session, self._thread, prepared))
         except CoordinatorGone as error:
             self._session.outcomes.ask(self.gtrid)
@@ -273,6 +280,8 @@ class Transaction:
         # What can't be sent ahead is asked for again.
         self._each(prepared, Completion.send_commit, [])
         told = [branch for branch in prepared if self._is_done("xa_commit", branch, branch.commit)]
+        # The row may leave the log once the coordinator has read the answers.
+        self._try(lambda: self._session.post(self._thread))
         if prepared and told == prepared:
             self._session.rows.add(self.gtrid)
         odd = [f"{branch.line.rm.label}: {branch.oddity}" for branch in prepared if branch.oddity]

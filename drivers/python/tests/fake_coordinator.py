@@ -36,11 +36,24 @@ class Coordinator:
             self.save()
             os._exit(9)
 
+    def reply_to_all(self, line):
+        """The requests of a line are done in turn, up to the first that isn't done."""
+        done = ""
+        for request in line.split(";"):
+            reply = self.reply(request)
+            if reply.startswith(("refused", "error")):
+                break
+            done += ";"
+        return done[: line.count(";")] + reply
+
     def reply(self, line):
         name, *words = line.split(" ")
         self.log["requests"].append(line)
         self.die(name)
         return getattr(self, f"do_{name}")(*words)
+
+    def do_status(self):
+        return "status up 0"
 
     def do_begin(self, thread):
         self.sequence += 1
@@ -119,7 +132,7 @@ def main():
     coordinator = Coordinator(sys.argv[1], sys.argv[2] if len(sys.argv) > 2 else None)
     print("restarted", coordinator.log["incarnation"], len(coordinator.found), 0, flush=True)
     for line in sys.stdin:
-        print(coordinator.reply(line.rstrip("\n")), flush=True)
+        print(coordinator.reply_to_all(line.rstrip("\n")), flush=True)
     coordinator.save()
 
 

@@ -7,12 +7,13 @@ import threading
 import unittest
 
 from garterfossil.coordinator import Coordinator
-from garterfossil.errors import CoordinatorGone, Refused, RequestError, Unexplained
+from garterfossil.errors import CoordinatorGone, Refused, RequestError, SetupError, Unexplained
 from garterfossil.xid import Xid
 
 ECHO = """
 import sys
 print("restarted 1 0 0", flush=True)
+print(";" + sys.stdin.readline(), end="", flush=True)
 for line in sys.stdin:
     print(line if line.startswith(("refused", "error")) else "echo " + line, end="", flush=True)
     if line == "quit\\n":
@@ -70,8 +71,18 @@ class Coordinators(unittest.TestCase):
             coordinator = Coordinator.start([sys.executable, "-c", program, os.path.join(folder, "mark")], 5)
             coordinator.quit()
 
+    def test_of_a_line_the_request_that_was_not_done_is_named(self):
+        coordinator = process(ECHO.replace('"echo " + line', '";;refused 16 Memory\\n"'))
+        with self.assertRaisesRegex(Refused, "the request: third"):
+            coordinator.ask("first;second;third;fourth")
+        coordinator.kill()
+
+    def test_one_that_takes_one_request_a_line_is_too_old(self):
+        with self.assertRaisesRegex(SetupError, "older than this driver"):
+            process("print('restarted 1 0 0', flush=True); input(); print('error not a request', flush=True); input()")
+
     def test_one_that_ends_is_gone_for_all(self):
-        coordinator = process("print('restarted 1 0 0', flush=True); input()")
+        coordinator = process("print('restarted 1 0 0', flush=True); input(); print(';status up 0', flush=True); input()")
         for _ in range(2):
             with self.assertRaises(CoordinatorGone):
                 coordinator.ask("status")

@@ -300,30 +300,26 @@ class Runs(Case):
         self.assertEqual([counts[name] for name in ("begun", "open", "committed", "rolled_back", "unknown")], [2, 0, 1, 1, 0])
         self.assertEqual([it.outcome for it in ended], [Outcome.COMMITTED, Outcome.ROLLED_BACK])
 
-    def test_an_answer_is_written_before_the_next_call_on_its_line(self):
-        """What docs/SERVE.md asks for: the coordinator takes for done of a lost line no more than the call that waits first."""
+    def test_no_vote_or_end_before_it_is_issued(self):
+        """What docs/SERVE.md asks for: only what is done on a connection alone, and ends with it, is done before."""
         events = []
         with self.manager(threads=1) as xa:
             coordinator = xa._session.coordinator
-            write = coordinator._write
+            take = coordinator._take
 
-            def writes():
-                events.extend(line.split(" ")[:4] for line in coordinator._unwritten)
-                write()
+            def takes(line):
+                requests = coordinator._waiting[0].requests.split(";")
+                events.extend(request.split(" ")[2:4] for request in requests if request.startswith("issue"))
+                take(line)
 
-            coordinator._write = writes
+            coordinator._take = takes
             for number, database in enumerate((self.left, self.right)):
-                database.called = lambda name, number=number: events.append(["call", "0", str(number), name])
+                database.called = lambda name, number=number: events.append([str(number), name])
             for _ in range(2):
                 self.move(xa)
-            with self.assertRaises(KeyError):
-                with xa.transaction() as t:
-                    t[0].execute("take")
-                    raise KeyError
-        for line in ("0", "1"):
-            mine = [event for event in events if event[0] in ("call", "answer") and event[2] == line and event[3] != "work"]
-            kinds = [event[0] for event in mine]
-            self.assertEqual(kinds, ["call", "answer"] * (len(kinds) // 2) + ["call"] * (len(kinds) % 2), mine)
+        for rm in ("0", "1"):
+            for call, made in (("xa_prepare", "prepare"), ("xa_commit", "commit_prepared")):
+                self.assertEqual([event[1] for event in events if event in ([rm, call], [rm, made])], [call, made] * 2)
 
 
 class Ends(Case):

@@ -86,8 +86,8 @@ class Transactions(Case):
             xa._session._rms[1]._tried = 0
             self.move(xa)
         self.assertEqual(self.written(), (["take"], ["give"]))
-        # The coordinator is told of each branch that it is over.
-        told = [line.split(" ")[4] for line in self.requests("answer") if " xa_rollback " in line]
+        # The coordinator is told of each branch that it is over: by a no to the vote that was issued, or by an end.
+        told = [line.split(" ")[4] for line in self.requests("answer") if " xa_rollback " in line or line.endswith(" 100")]
         self.assertEqual([xid[-1] for xid in told], ["0", "1"])
 
     def test_a_vote_that_is_lost(self):

@@ -202,6 +202,8 @@ class Connection(abc.ABC):
         self._state = State.NONE
         #: Why the branch can only be rolled back, if its work failed.
         self._fault: Optional[Code] = None
+        # Whether it is to be rolled back all the same.
+        self._is_refused = False
         #: The database's own error because of which it can, or because of which the last branch was rolled back.
         self.reason: Optional[BaseException] = None
         #: What the pages of a scan are yet to list, in the order of the identifiers. None where no scan is open.
@@ -276,6 +278,10 @@ class Connection(abc.ABC):
         """Why the branch can only be rolled back, if its work failed."""
         return self._fault
 
+    def refuse(self) -> None:
+        """The branch is to be rolled back: xa_prepare is answered so."""
+        self._is_refused = True
+
     # ** calls
 
     def do(self, call: Call) -> Answer:
@@ -324,12 +330,16 @@ class Connection(abc.ABC):
             return Code.NOTA
         if self._state is not State.IDLE:
             return Code.PROTO
-        vote = self._prepare(xid)
+        vote = self._refused(xid) if self._is_refused else self._prepare(xid)
         if vote is Code.OK:
             self._state = State.PREPARED
         else:
             self._is_over()
         return vote
+
+    def _refused(self, xid: Xid) -> Code:
+        self._roll_back(xid)
+        return self._fault or Code.RBROLLBACK
 
     def _commit_at_once(self, xid: Xid) -> Code:
         if xid != self._xid:
@@ -362,7 +372,7 @@ class Connection(abc.ABC):
         return code
 
     def _is_over(self) -> None:
-        self._xid, self._state, self._fault = None, State.NONE, None
+        self._xid, self._state, self._fault, self._is_refused = None, State.NONE, None, False
         self.options, self.limit = Options(), None
 
     def _recover(self, call: Call) -> Answer:
