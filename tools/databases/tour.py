@@ -57,22 +57,25 @@ class Tour:
         for rm in rms:
             t[rm].execute("INSERT INTO moved VALUES (%s, 1)", [t.gtrid])
 
-    def before(self, words, do, xa):
-        """Has something done before the first request of the session that has these words, one by one."""
-        coordinator = xa._session.coordinator
-        for name in ("post", "tell"):
-            setattr(coordinator, name, functools.partial(self.posted, getattr(coordinator, name), words, do))
+    def before(self, moment, do, xa):
+        """Has something done before the first call of this name at a database, or the first request of it to the coordinator."""
+        session = xa._session
+        places = [(session.coordinator, "post")]
+        if moment.startswith("xa_"):
+            places = [(line, name) for lines in session._lines for line in lines for name in ("send", "_answer_to")]
+        for place, name in places:
+            setattr(place, name, functools.partial(self.done_before, getattr(place, name), moment, do))
 
-    def posted(self, post, words, do, request):
-        if all(word in request for word in words) and do:
+    def done_before(self, step, moment, do, words):
+        if moment in str(words) and do:
             do.pop()()
-        return post(request)
+        return step(words)
 
     def at(self, moment, do, xa=None):
-        """Has something done at a moment: before the first request of this name or call, or behind the decision to commit."""
+        """Has something done at a moment: before the first call or request of this name, or behind the decision to commit."""
         xa = xa or self.xa
         if moment != BEHIND:
-            self.before([moment], [do], xa)
+            self.before(moment, [do], xa)
             return
         commits = xa._session.commits
         decide = commits.decide

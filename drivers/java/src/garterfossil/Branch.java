@@ -128,7 +128,7 @@ final class Branch {
         }
     }
 
-    /** Sees that the calls that wait on the line were issued. The thread of the transaction does that alone, since branches share replies. */
+    /** Sees that the calls that wait on the line were issued. Only the transaction's thread does that, since branches share replies. */
     void seeIssued() throws Fault {
         line.see();
     }

@@ -20,9 +20,9 @@ import java.util.concurrent.locks.ReentrantLock;
 /**
  * The coordinator: {@code xatm serve}, a process that this one starts and asks (docs/SERVE.md).
  *
- * <p>Any thread may ask. What is posted is a line of one or several requests, with {@link #AND} between them. It is written with the next one
- * that is waited for, and the replies come in the order of the lines: whichever thread waits reads what has come, and wakes the threads
- * whose replies are among it.
+ * <p>Any thread may ask. What is posted is a line of one or several requests, with {@link #AND} between them. It is written with the
+ * next one that is waited for, and the replies come in the order of the lines: whichever thread waits reads what has come, and wakes the
+ * threads whose replies are among it.
  */
 final class Coordinator {
     /** The rules by which a step is refused because the manager is down, or the transaction is over. */

@@ -227,7 +227,7 @@ public final class Manager implements AutoCloseable {
             throw new Fault.Unavailable("the log " + made.log + " isn't this manager's", gone);
         }
         if (text.contains(Coordinator.OLDER)) {
-            throw new Fault.Unavailable("the program " + made.program + " can't be used: give Builder.program the one that this driver came with", gone);
+            throw new Fault.Unavailable("Builder.program is to be the xatm of this driver's version, and not " + made.program, gone);
         }
         if (System.nanoTime() > until) {
             throw new Fault.Unavailable(text + ". Does another manager have the log " + made.log + ", and is the program right?", gone);

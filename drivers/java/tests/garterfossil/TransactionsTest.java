@@ -190,11 +190,13 @@ public class TransactionsTest {
     @Test
     public void aRequestThatIsRefusedAmongOthersOfItsLine() throws Exception {
         // The coordinator has no memory for it. Nothing that stands behind it on its line is done.
-        for (String refused : List.of("issue 1 0 xa_start", "answer 1 0 xa_start", "issue 1 1 xa_prepare", "answer 1 0 xa_prepare", "decide")) {
+        for (String refused : List.of("issue 1 0 xa_start", "answer 1 0 xa_start", "issue 1 1 xa_prepare", "answer 1 0 xa_prepare",
+            "decide")) {
             GlobalTransaction transaction = world.overBothRefusing(refused);
             assertThrows(refused, Fault.RolledBack.class, transaction::commit);
             World.eventually(() -> world.manager.owing() == 0);
-            assertTrue(refused, world.a.branches.isEmpty() && world.b.branches.isEmpty() && world.a.committed.isEmpty() && world.b.committed.isEmpty());
+            assertTrue(refused, world.a.branches.isEmpty() && world.b.branches.isEmpty());
+            assertTrue(refused, world.a.committed.isEmpty() && world.b.committed.isEmpty());
         }
         int committed = 0;
         for (String refused : List.of("issue 1 0 xa_commit", "issue 1 1 xa_commit", "begin 1", "answer 1 0 xa_commit")) {
