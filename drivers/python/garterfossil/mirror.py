@@ -54,14 +54,21 @@ class Tables:
     @contextlib.contextmanager
     def at_work(self) -> Iterator[Connection]:
         """The connection, which is made anew where it is lost, for as long as the patience lasts. Where something fails on it, it is
-        given up, and what was under way with it."""
-        if self._connection is None or not self._connection.is_there():
-            self.close()
-            self._connection = self._database.connect(self._place)
+        given up, and what was under way with it. So it is where the database warns: PostgreSQL answers a commit whose wait for the
+        standby was cancelled as any other, with a warning beside it."""
         connection = self._connection
+        is_new = connection is None or not connection.is_there()
+        if connection is None or is_new:
+            self.close()
+            connection = self._connection = self._database.connect(self._place)
         try:
             with connection.timed(self._place.patience):
+                if is_new:
+                    connection.hear_warnings()
                 yield connection
+                warnings = connection.warnings()
+                if warnings:
+                    raise ConnectionLost(f"it may be on one machine alone: {warnings[0]}")
         except BaseException:
             self.close()
             raise

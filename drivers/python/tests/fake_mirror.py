@@ -19,6 +19,8 @@ class FakeMirror(Database):
         self.is_up = True
         #: The first word of a statement that is done, and whose answer is lost.
         self.loses = None
+        #: A warning beside the next answer.
+        self.warns = None
         self.statements = []
 
     def connect(self, place=Place()):
@@ -61,6 +63,10 @@ class FakeMirrorConnection(Connection):
             self.database.loses = None
             raise ConnectionLost("the answer is lost")
         return Result(done.fetchall(), done.rowcount)
+
+    def warnings(self):
+        said, self.database.warns = self.database.warns, None
+        return [said] if said else []
 
     def _none(self, *_):
         raise NotImplementedError

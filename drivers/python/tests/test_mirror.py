@@ -70,6 +70,17 @@ class Mirrors(Case):
             self.assertIs(xa.outcome(gtrid), Outcome.COMMITTED)
         self.assertEqual(self.written(), (["take"], ["give"]))
 
+    def test_a_decision_that_may_be_on_one_machine_alone_is_told_to_no_database(self):
+        with self.manager() as xa:
+            self.left.before["prepare"] = lambda: setattr(self.mirror, "warns", "canceling wait for synchronous replication")
+            with self.assertRaisesRegex(OutcomeUnknown, "canceling wait") as raised:
+                self.move(xa)
+            self.left.before.clear()
+            self.assertEqual(self.written(), ([], []))
+            gtrid = str(raised.exception).split(":")[0]
+            self.assertIs(xa.outcome(gtrid), Outcome.COMMITTED)
+        self.assertEqual(self.written(), (["take"], ["give"]))
+
     def test_an_older_log_than_it_is_refused(self):
         with self.manager() as xa:
             name = xa.name

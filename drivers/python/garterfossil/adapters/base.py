@@ -389,6 +389,13 @@ class Connection(abc.ABC):
         """Whether what the connection commits is on another machine once that is answered. None if that isn't known."""
         return None
 
+    def hear_warnings(self) -> None:
+        """From now on `warnings` has what the database warns of."""
+
+    def warnings(self) -> List[str]:
+        """What the database has warned of since this was asked last."""
+        return []
+
     def ages(self) -> Dict[Xid, float]:
         """For how many seconds branches have been prepared, as far as the database tells."""
         return {}
