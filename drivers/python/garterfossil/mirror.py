@@ -64,14 +64,16 @@ class Tables:
         try:
             with connection.timed(self._place.patience):
                 if is_new:
-                    connection.hear_warnings()
+                    connection.serve_mirror()
                 yield connection
                 warnings = connection.warnings()
                 if warnings:
                     raise ConnectionLost(f"it may be on one machine alone: {warnings[0]}")
-        except BaseException:
+        except BaseException as error:
             self.close()
-            raise
+            if isinstance(error, XaError) or not isinstance(error, Exception):
+                raise
+            raise ConnectionLost(str(error).strip()) from error
 
     def close(self) -> None:
         """Closes the connection."""

@@ -19,6 +19,8 @@ class FakeMirror(Database):
         self.is_up = True
         #: The first word of a statement that is done, and whose answer is lost.
         self.loses = None
+        #: What the next statement that begins so is refused with.
+        self.refuses = {}
         #: A warning beside the next answer.
         self.warns = None
         self.statements = []
@@ -58,6 +60,8 @@ class FakeMirrorConnection(Connection):
         if not self.database.is_up:
             raise ConnectionLost("the mirror is down")
         self.database.statements.append(statement)
+        for begin in [begin for begin in self.database.refuses if statement.startswith(begin)]:
+            raise self.database.refuses.pop(begin)
         done = self.link.execute(statement.replace("%s", "?").replace("FOR UPDATE", ""), parameters)
         if statement.split(" ")[0] == self.database.loses:
             self.database.loses = None

@@ -81,6 +81,12 @@ class Mirrors(Case):
             self.assertIs(xa.outcome(gtrid), Outcome.COMMITTED)
         self.assertEqual(self.written(), (["take"], ["give"]))
 
+    def test_a_session_that_it_refuses_does_not_begin(self):
+        self.mirror.refuses["SELECT incarnation"] = sqlite3.OperationalError("canceling statement due to lock timeout")
+        with self.assertRaisesRegex(CoordinatorGone, "lock timeout"):
+            self.manager()
+        self.manager().close()
+
     def test_an_older_log_than_it_is_refused(self):
         with self.manager() as xa:
             name = xa.name

@@ -253,7 +253,7 @@ class PostgreSQLs(unittest.TestCase):
         self.assertLess(time.monotonic() - begun, 5)
 
     def test_warnings_are_heard_whatever_the_servers_settings_say(self):
-        self.connection.hear_warnings()
+        self.connection.serve_mirror()
         self.assertIn("SET client_min_messages = warning", self.link.statements)
         self.link.warn("canceling wait for synchronous replication")
         [warning] = self.connection.warnings()

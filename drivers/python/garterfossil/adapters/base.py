@@ -389,8 +389,9 @@ class Connection(abc.ABC):
         """Whether what the connection commits is on another machine once that is answered. None if that isn't known."""
         return None
 
-    def hear_warnings(self) -> None:
-        """From now on `warnings` has what the database warns of."""
+    def serve_mirror(self) -> None:
+        """Makes it a connection to a mirror: it reads all that was committed before, by whichever machine, and `warnings` has what the
+        database warns of."""
 
     def warnings(self) -> List[str]:
         """What the database has warned of since this was asked last."""

@@ -277,6 +277,11 @@ class MariaDBConnection(Connection):
     def is_replicated(self) -> Optional[bool]:
         return self.run("SHOW VARIABLES LIKE 'wsrep_on'").rows == [("wsrep_on", "ON")]
 
+    def serve_mirror(self) -> None:
+        if self.is_replicated():
+            # A node of Galera shows what another one has committed only a moment later, unless it is told to wait for that.
+            self.run("SET SESSION wsrep_sync_wait = 1")
+
     # ** statements
 
     def send(self, call: Call) -> None:

@@ -287,7 +287,7 @@ class PostgreSQLConnection(Connection):
         waits = self.run("SHOW synchronous_commit").rows[0][0]
         return bool(self.run("SHOW synchronous_standby_names").rows[0][0]) and waits in ("on", "remote_apply")
 
-    def hear_warnings(self) -> None:
+    def serve_mirror(self) -> None:
         self.run("SET client_min_messages = warning")
         self.warnings()
 

@@ -53,7 +53,7 @@ class PsycopgConnection(postgresql.PostgreSQLConnection):
     def _status(self) -> int:
         return int(self.link.info.transaction_status)
 
-    def hear_warnings(self) -> None:
+    def serve_mirror(self) -> None:
         self.run("SET client_min_messages = warning")
         self.link.add_notice_handler(lambda diagnostic: self._warned.append(str(diagnostic.message_primary)))
 
