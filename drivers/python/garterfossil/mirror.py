@@ -124,6 +124,15 @@ class Tables:
         return Mirrored(names, path, before + 1, {gtrid: branches.split() for gtrid, branches in rows})
 
 
+@contextlib.contextmanager
+def _as_gone() -> Iterator[None]:
+    """Without the mirror there is no session."""
+    try:
+        yield
+    except ConnectionLost as error:
+        raise CoordinatorGone(f"the mirror can't be reached: {error}") from error
+
+
 class Mirror:
     """The mirror of one session. A decision is in it before any xa_commit of it is made, and so a log that is made of it lacks no
     decision of which a database has heard."""
@@ -138,26 +147,29 @@ class Mirror:
         self._lock = threading.Lock()
         self._incarnation = 0
 
+    def look(self) -> None:
+        """Looks, before the coordinator starts, whether the mirror can be had, since each start uses up an incarnation. Raises
+        CoordinatorGone if not. Makes its tables."""
+        with _as_gone():
+            self._adding.make()
+        self._adding.close()
+
     def begin(self, incarnation: int, decisions: Mapping[str, Sequence[Xid]]) -> None:
         """A session begins, over a log that has these decisions: the mirror has just them then. Raises SetupError if the log is older
         than the mirror, and CoordinatorGone if the mirror can't be had."""
-        try:
-            self._adding.make()
-            with self._adding.at_once() as connection:
-                if connection.is_replicated() is False:
-                    log.warning("the mirror has no synchronous standby, and is no cluster: it is lost with its own machine")
-                before = self._adding.incarnation(connection)
-                if before is not None and before >= incarnation:
-                    raise SetupError(
-                        f"the log {self._path} is older than its mirror, in session {incarnation} and not behind {before}: put the right one"
-                        " back, or make it of the mirror (python -m garterfossil failover)"
-                    )
-                self._note(connection, incarnation, before is None)
-                connection.run("DELETE FROM garterfossil_decision WHERE name = %s", [self._names.manager])
-                if decisions:
-                    self._adding.insert(connection, list(decisions.items()), incarnation)
-        except ConnectionLost as error:
-            raise CoordinatorGone(f"the mirror can't be reached: {error}") from error
+        with _as_gone(), self._adding.at_once() as connection:
+            if connection.is_replicated() is False:
+                log.warning("the mirror has no synchronous standby, and is no cluster: it is lost with its own machine")
+            before = self._adding.incarnation(connection)
+            if before is not None and before >= incarnation:
+                raise SetupError(
+                    f"the log {self._path} is older than its mirror, in session {incarnation} and not behind {before}: put the right one"
+                    " back, or make it of the mirror (python -m garterfossil failover)"
+                )
+            self._note(connection, incarnation, before is None)
+            connection.run("DELETE FROM garterfossil_decision WHERE name = %s", [self._names.manager])
+            if decisions:
+                self._adding.insert(connection, list(decisions.items()), incarnation)
         self._incarnation = incarnation
 
     def _note(self, connection: Connection, incarnation: int, is_new: bool) -> None:

@@ -62,6 +62,8 @@ class Session:
         ]
         self._look(is_new_log(settings.log), is_first)
         self.mirror = settings.mirror and Mirror(settings.mirror, settings.names, settings.log, settings.patience)
+        if self.mirror is not None:
+            self.mirror.look()
         self.coordinator = Coordinator.start(settings.command, settings.patience, settings.log)
         self.commits = Commits(self.coordinator, self.mirror)
         self._lines = [[Line(self.coordinator, thread, rm, self.patience) for rm in self._rms] for thread in range(settings.threads)]

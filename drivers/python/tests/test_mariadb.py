@@ -298,13 +298,19 @@ class MariaDBs(unittest.TestCase):
         with self.assertRaises(ConnectionLost):
             self.do(f"xa_prepare {XID}")
 
+    def test_a_cluster_is_no_database_of_transactions(self):
+        self.server.is_in_cluster = True
+        with self.assertRaisesRegex(SetupError, "Galera"):
+            self.database.connect()
+
     def test_a_mirror_in_a_cluster_reads_what_other_nodes_have_committed(self):
         waits = "SET SESSION wsrep_sync_wait = 1"
         self.connection.serve_mirror()
         self.assertNotIn(waits, self.connection.link.statements)
         self.server.is_in_cluster = True
-        self.connection.serve_mirror()
-        self.assertIn(waits, self.connection.link.statements)
+        connection = self.database.connect(Place(threads=0))
+        connection.serve_mirror()
+        self.assertIn(waits, connection.link.statements)
 
 
 class Recovery(unittest.TestCase):

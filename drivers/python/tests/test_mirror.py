@@ -68,6 +68,8 @@ class Mirrors(Case):
             self.mirror.is_up = True
             gtrid = str(raised.exception).split(":")[0]
             self.assertIs(xa.outcome(gtrid), Outcome.COMMITTED)
+            # However often it was asked for meanwhile, a session that can't begin uses up no incarnation.
+            self.assertEqual(self.mirror.rows("incarnation", "garterfossil_manager"), [(2,)])
         self.assertEqual(self.written(), (["take"], ["give"]))
 
     def test_a_decision_that_may_be_on_one_machine_alone_is_told_to_no_database(self):

@@ -68,6 +68,10 @@ class MariaDB(Database):
         connection = self._connection(place)
         with connection.timed(place.patience):
             connection.take_lock()
+            in_cluster = place.threads > 0 and connection.is_replicated()
+        if in_cluster:
+            connection.close()
+            raise SetupError("a cluster of Galera has no XA transactions: it can be the mirror, and none of the databases")
         return connection
 
     def end_connections(self, kept: Collection[int], place: Place = Place()) -> int:
