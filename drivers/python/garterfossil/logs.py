@@ -58,7 +58,8 @@ def printed_log(program: str, path: str) -> List[str]:
         done = subprocess.run([program, "log", path], stdin=subprocess.DEVNULL, capture_output=True, text=True, check=False)
     except OSError as error:
         raise SetupError(f"the program {program} can't be run, which program= may give: {error.strerror}") from error
-    if done.returncode == 0:
+    # The status is 0 as well where the program takes the statuses of all its children itself.
+    if done.returncode == 0 and not done.stderr.startswith("xatm: "):
         return done.stdout.splitlines()
     if is_log_in_use(path):
         raise LogInUse(f"the log {path} is in use by another program")

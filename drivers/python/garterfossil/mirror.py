@@ -130,7 +130,7 @@ def _as_gone() -> Iterator[None]:
     try:
         yield
     except ConnectionLost as error:
-        raise CoordinatorGone(f"the mirror can't be reached: {error}") from error
+        raise CoordinatorGone(f"the mirror can't be used now: {error}") from error
 
 
 class Mirror:

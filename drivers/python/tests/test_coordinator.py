@@ -1,6 +1,7 @@
 """The coordinator's process: replies, refusals, and its end."""
 
 import os
+import signal
 import sys
 import tempfile
 import threading
@@ -11,6 +12,7 @@ from garterfossil.errors import CoordinatorGone, Refused, RequestError, Unexplai
 from garterfossil.xid import Xid
 
 ECHO = """
+import signal
 import sys
 print("restarted 1 0 0", flush=True)
 for line in sys.stdin:
@@ -69,6 +71,10 @@ class Coordinators(unittest.TestCase):
         with tempfile.TemporaryDirectory() as folder:
             coordinator = Coordinator.start([sys.executable, "-c", program, os.path.join(folder, "mark")], 5)
             coordinator.quit()
+
+    def test_the_log_is_waited_for_also_where_the_program_takes_the_statuses_of_its_children(self):
+        self.addCleanup(signal.signal, signal.SIGCHLD, signal.signal(signal.SIGCHLD, signal.SIG_IGN))
+        self.test_one_that_finds_the_log_in_use_is_started_again()
 
     def test_one_that_ends_is_gone_for_all(self):
         coordinator = process("print('restarted 1 0 0', flush=True); input()")

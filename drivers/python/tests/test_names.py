@@ -1,6 +1,7 @@
 """Whose log it is: the names that it keeps, those that are drawn, and the logs of workers."""
 
 import os
+import signal
 import subprocess
 import sys
 from unittest import mock
@@ -8,7 +9,7 @@ from unittest import mock
 from garterfossil import manager
 from garterfossil import LogInUse, SetupError, TransactionManager
 from garterfossil.coordinator import Coordinator, serve_command
-from garterfossil.logs import Names, free_log, logs_of_workers, names_at_work
+from garterfossil.logs import Names, free_log, logs_of_workers, names_at_work, printed_log
 from garterfossil.xid import Xid
 
 from . import fake_program
@@ -120,6 +121,15 @@ class Kept(Case):
         self.assertEqual(os.path.basename(path), "log-0")
         mine.close()
         its.close()
+
+    def test_a_log_that_cannot_be_read_has_no_names_also_where_the_program_takes_the_statuses_of_its_children(self):
+        self.addCleanup(signal.signal, signal.SIGCHLD, signal.signal(signal.SIGCHLD, signal.SIG_IGN))
+        program = os.path.join(self.folder, "refuses")
+        with open(program, "w") as it:
+            it.write("#!/bin/sh\necho 'xatm: log' >&2\nexit 2\n")
+        os.chmod(program, 0o755)
+        with self.assertRaises(SetupError):
+            printed_log(program, self.log)
 
     def test_all_logs_of_workers_in_use(self):
         with mock.patch("garterfossil.logs.MOST_WORKERS", 1):
