@@ -217,7 +217,7 @@ def managers_in(database: Database, patience: float) -> Dict[str, str]:
     try:
         tables.make()
         with tables.at_work() as connection:
-            return dict(connection.run("SELECT name, log FROM garterfossil_manager ORDER BY name").rows)
+            return {name: path for name, path in connection.run("SELECT name, log FROM garterfossil_manager ORDER BY name")}
     except XaError as error:
         raise SetupError(f"the mirror can't be read: {error}") from error
     finally:

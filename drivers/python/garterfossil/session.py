@@ -61,8 +61,9 @@ class Session:
             for database, place in settings.databases.placed(settings.names.manager, settings.threads, settings.patience)
         ]
         self._look(is_new_log(settings.log), is_first)
-        self.mirror = settings.mirror and Mirror(settings.mirror, settings.names, settings.log, settings.patience)
-        if self.mirror is not None:
+        self.mirror: Optional[Mirror] = None
+        if settings.mirror is not None:
+            self.mirror = Mirror(settings.mirror, settings.names, settings.log, settings.patience)
             self.mirror.look()
         self.coordinator = Coordinator.start(settings.command, settings.patience, settings.log)
         self.commits = Commits(self.coordinator, self.mirror)
