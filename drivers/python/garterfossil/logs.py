@@ -95,6 +95,21 @@ def names_at_work(path: str) -> Names:
     return Names(manager, tuple(rms))
 
 
+def kept_incarnation(program: str, path: str, patience: float) -> int:
+    """How often a coordinator has started over the log at a path: 0 where there is no log yet. While another program has it, looks again
+    for so many seconds. Raises LogInUse or SetupError."""
+    if kept_names(program, path, patience) is None:
+        if is_new_log(path):
+            return 0
+        raise SetupError(f"the log {path} can't be read, so nobody knows whether it is older than its mirror")
+    # The look has brought all that a coordinator which was killed has left into the one file.
+    try:
+        with contextlib.closing(sqlite3.connect(f"file:{urllib.parse.quote(path)}?immutable=1", uri=True)) as it:
+            return int(it.execute("SELECT incarnation FROM tm_meta").fetchone()[0])
+    except (sqlite3.Error, TypeError) as error:
+        raise SetupError(f"the log {path} can't be read: {error}") from error
+
+
 def names_for(program: str, path: str, name: Optional[str], rms: Sequence[str], patience: float) -> Names:
     """The names that a coordinator is started with over the log at a path: those that the log keeps, but for another name that is
     given, with which the log will be refused. A new log gets the given name, or if there is none, one that is drawn."""

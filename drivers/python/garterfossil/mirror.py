@@ -22,6 +22,10 @@ log = logging.getLogger("garterfossil")
 MANAGERS = "garterfossil_manager (name {16} PRIMARY KEY, log text NOT NULL, rms text NOT NULL, incarnation bigint NOT NULL)"
 DECISIONS = "garterfossil_decision (name {16} NOT NULL, gtrid {32} NOT NULL, branches text NOT NULL, PRIMARY KEY (name, gtrid))"
 
+#: By how much a failover raises the incarnation: more than the starts that the mirror may not have been told of, one for each process that
+#: waits for the log.
+MARGIN = 100
+
 
 @dataclass(frozen=True)
 class Mirrored:
@@ -110,18 +114,22 @@ class Tables:
         rows = connection.run("SELECT incarnation FROM garterfossil_manager WHERE name = %s FOR UPDATE", [self._place.manager]).rows
         return int(rows[0][0]) if rows else None
 
+    def set_incarnation(self, connection: Connection, incarnation: int) -> None:
+        """Sets the incarnation of the manager."""
+        connection.run("UPDATE garterfossil_manager SET incarnation = %s WHERE name = %s", [incarnation, self._place.manager])
+
     def take_over(self) -> Mirrored:
         """What the mirror holds of the manager. From now on the session that had it can't decide any more: its incarnation is over."""
         with self.at_once() as connection:
             before = self.incarnation(connection)
             if before is None:
                 raise SetupError(f"the mirror knows no manager {self._place.manager}")
-            connection.run("UPDATE garterfossil_manager SET incarnation = %s WHERE name = %s", [before + 1, self._place.manager])
+            self.set_incarnation(connection, before + MARGIN)
             where = "WHERE name = %s", [self._place.manager]
             path, rms = connection.run(f"SELECT log, rms FROM garterfossil_manager {where[0]}", where[1]).rows[0]
             rows = connection.run(f"SELECT gtrid, branches FROM garterfossil_decision {where[0]}", where[1]).rows
         names = Names(self._place.manager, tuple(rms.split()))
-        return Mirrored(names, path, before + 1, {gtrid: branches.split() for gtrid, branches in rows})
+        return Mirrored(names, path, before + MARGIN, {gtrid: branches.split() for gtrid, branches in rows})
 
 
 @contextlib.contextmanager
@@ -147,30 +155,41 @@ class Mirror:
         self._lock = threading.Lock()
         self._incarnation = 0
 
-    def look(self) -> None:
-        """Looks, before the coordinator starts, whether the mirror can be had, since each start uses up an incarnation. Raises
-        CoordinatorGone if not. Makes its tables."""
+    def look(self, started: int) -> None:
+        """Looks, before the coordinator starts, whether a session may begin over a log that has been started so often. A start that is
+        refused behind that has raised the log's incarnation, and after a few of them an older log would pass for a newer one. Raises
+        SetupError if the log is older than the mirror, and CoordinatorGone if the mirror can't be had. Makes its tables."""
         with _as_gone():
             self._adding.make()
+            with self._adding.at_once() as connection:
+                before = self._adding.incarnation(connection)
+                if before is not None and before > started:
+                    raise self._older(started, before)
+                if before is not None and before < started:
+                    # Starts that the mirror wasn't told of: so there is never more than one.
+                    self._adding.set_incarnation(connection, started)
         self._adding.close()
 
     def begin(self, incarnation: int, decisions: Mapping[str, Sequence[Xid]]) -> None:
-        """A session begins, over a log that has these decisions: the mirror has just them then. Raises SetupError if the log is older
-        than the mirror, and CoordinatorGone if the mirror can't be had."""
+        """A session begins, over a log that has these decisions: the mirror has just them then. Raises SetupError if another machine has
+        taken over since it was looked at, and CoordinatorGone if the mirror can't be had."""
         with _as_gone(), self._adding.at_once() as connection:
             if connection.is_replicated() is False:
                 log.warning("the mirror has no synchronous standby, and is no cluster: it is lost with its own machine")
             before = self._adding.incarnation(connection)
             if before is not None and before >= incarnation:
-                raise SetupError(
-                    f"the log {self._path} is older than its mirror, in session {incarnation} and not behind {before}: put the right one"
-                    " back, or make it of the mirror (python -m garterfossil failover)"
-                )
+                raise self._older(incarnation, before)
             self._note(connection, incarnation, before is None)
             connection.run("DELETE FROM garterfossil_decision WHERE name = %s", [self._names.manager])
             if decisions:
                 self._adding.insert(connection, list(decisions.items()), incarnation)
         self._incarnation = incarnation
+
+    def _older(self, incarnation: int, before: int) -> SetupError:
+        return SetupError(
+            f"the log {self._path} is older than its mirror, in session {incarnation} and not behind {before}: put the right one"
+            " back, or make it of the mirror (python -m garterfossil failover)"
+        )
 
     def _note(self, connection: Connection, incarnation: int, is_new: bool) -> None:
         known = [self._path, " ".join(self._names.rms), incarnation, self._names.manager]

@@ -1,7 +1,9 @@
 """Whose log it is: the names that it keeps, those that are drawn, and the logs of workers."""
 
+import contextlib
 import os
 import signal
+import sqlite3
 import subprocess
 import sys
 from unittest import mock
@@ -9,7 +11,7 @@ from unittest import mock
 from garterfossil import manager
 from garterfossil import LogInUse, SetupError, TransactionManager
 from garterfossil.coordinator import Coordinator, serve_command
-from garterfossil.logs import Names, free_log, logs_of_workers, names_at_work, printed_log
+from garterfossil.logs import Names, free_log, kept_incarnation, logs_of_workers, names_at_work, printed_log
 from garterfossil.xid import Xid
 
 from . import fake_program
@@ -130,6 +132,17 @@ class Kept(Case):
         os.chmod(program, 0o755)
         with self.assertRaises(SetupError):
             printed_log(program, self.log)
+
+    def test_how_often_a_log_was_started_stands_in_its_file(self):
+        program = os.path.join(self.folder, "looks")
+        with open(program, "w") as it:
+            it.write("#!/bin/sh\necho name shop-1\n")
+        os.chmod(program, 0o755)
+        self.assertEqual(kept_incarnation(program, self.log, 1.0), 0)
+        with contextlib.closing(sqlite3.connect(self.log)) as it, it:
+            it.execute("CREATE TABLE tm_meta (k INTEGER, version INTEGER, incarnation INTEGER)")
+            it.execute("INSERT INTO tm_meta VALUES (1, 2, 7)")
+        self.assertEqual(kept_incarnation(program, self.log, 1.0), 7)
 
     def test_all_logs_of_workers_in_use(self):
         with mock.patch("garterfossil.logs.MOST_WORKERS", 1):
