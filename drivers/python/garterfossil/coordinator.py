@@ -18,8 +18,9 @@ log = logging.getLogger("garterfossil")
 
 #: Refusals by their number (docs/PROTOCOL.md).
 MANAGER_DOWN, UNKNOWN_TRANSACTION, LOG_FAULT = 1, 5, 15
-#: The coordinator ends so where another one has the log, or the log can't be opened.
-LOG_STATUS = 2
+#: The coordinator ends so where another one has the log, or the log can't be opened. The status is told as 0 where the program takes
+#: those of all its children itself, as gunicorn does while `post_fork` runs.
+LOG_STATUSES = (2, 0)
 #: What it says of a log that is another's, or of which only a part is there, before the path and the reason.
 REFUSED_LOG = "xatm: log: "
 #: What the file doesn't tell.
@@ -118,7 +119,7 @@ class Coordinator:
             try:
                 return cls(command)
             except CoordinatorGone as gone:
-                if gone.status != LOG_STATUS:
+                if gone.status not in LOG_STATUSES:
                     raise
                 waited = time.monotonic() - begun
                 is_used = path is None or is_log_in_use(path)

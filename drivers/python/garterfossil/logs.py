@@ -58,7 +58,8 @@ def printed_log(program: str, path: str) -> List[str]:
         done = subprocess.run([program, "log", path], stdin=subprocess.DEVNULL, capture_output=True, text=True, check=False)
     except OSError as error:
         raise SetupError(f"the program {program} can't be run, which program= may give: {error.strerror}") from error
-    if done.returncode == 0:
+    # The status is 0 as well where the program takes the statuses of all its children itself.
+    if done.returncode == 0 and not done.stderr.startswith("xatm: "):
         return done.stdout.splitlines()
     if is_log_in_use(path):
         raise LogInUse(f"the log {path} is in use by another program")
@@ -92,6 +93,21 @@ def names_at_work(path: str) -> Names:
     found = KEPT.search(row[0]) if row else None
     manager, *rms = found.group(1).split(" ") if found else [""]
     return Names(manager, tuple(rms))
+
+
+def kept_incarnation(program: str, path: str, patience: float) -> int:
+    """How often a coordinator has started over the log at a path: 0 where there is no log yet. While another program has it, looks again
+    for so many seconds. Raises LogInUse or SetupError."""
+    if kept_names(program, path, patience) is None:
+        if is_new_log(path):
+            return 0
+        raise SetupError(f"the log {path} can't be read, so nobody knows whether it is older than its mirror")
+    # The look has brought all that a coordinator which was killed has left into the one file.
+    try:
+        with contextlib.closing(sqlite3.connect(f"file:{urllib.parse.quote(path)}?immutable=1", uri=True)) as it:
+            return int(it.execute("SELECT incarnation FROM tm_meta").fetchone()[0])
+    except (sqlite3.Error, TypeError) as error:
+        raise SetupError(f"the log {path} can't be read: {error}") from error
 
 
 def names_for(program: str, path: str, name: Optional[str], rms: Sequence[str], patience: float) -> Names:

@@ -108,10 +108,12 @@ class TransactionManager:
 
         def settings() -> Settings:
             if command is not None:
-                return Settings(command, all_databases, path, threads, patience, Names(name or "", tuple(all_databases.names)), mirror)
+                return Settings(
+                    command, all_databases, path, threads, patience, Names(name or "", tuple(all_databases.names)), mirror, program
+                )
             names = names_for(program, path, name, all_databases.names, patience)
             words = serve_command(program, path, names, threads, len(all_databases))
-            return Settings(words, all_databases, path, threads, patience, names, mirror)
+            return Settings(words, all_databases, path, threads, patience, names, mirror, program)
 
         self._settings = settings()
         self._timeout = timeout

@@ -22,6 +22,10 @@ log = logging.getLogger("garterfossil")
 MANAGERS = "garterfossil_manager (name {16} PRIMARY KEY, log text NOT NULL, rms text NOT NULL, incarnation bigint NOT NULL)"
 DECISIONS = "garterfossil_decision (name {16} NOT NULL, gtrid {32} NOT NULL, branches text NOT NULL, PRIMARY KEY (name, gtrid))"
 
+#: By how much a failover raises the incarnation: more than the starts that the mirror may not have been told of, one for each process that
+#: waits for the log.
+MARGIN = 100
+
 
 @dataclass(frozen=True)
 class Mirrored:
@@ -54,17 +58,26 @@ class Tables:
     @contextlib.contextmanager
     def at_work(self) -> Iterator[Connection]:
         """The connection, which is made anew where it is lost, for as long as the patience lasts. Where something fails on it, it is
-        given up, and what was under way with it."""
-        if self._connection is None or not self._connection.is_there():
-            self.close()
-            self._connection = self._database.connect(self._place)
+        given up, and what was under way with it. So it is where the database warns: PostgreSQL answers a commit whose wait for the
+        standby was cancelled as any other, with a warning beside it."""
         connection = self._connection
+        is_new = connection is None or not connection.is_there()
+        if connection is None or is_new:
+            self.close()
+            connection = self._connection = self._database.connect(self._place)
         try:
             with connection.timed(self._place.patience):
+                if is_new:
+                    connection.serve_mirror()
                 yield connection
-        except BaseException:
+                warnings = connection.warnings()
+                if warnings:
+                    raise ConnectionLost(f"it may be on one machine alone: {warnings[0]}")
+        except BaseException as error:
             self.close()
-            raise
+            if isinstance(error, XaError) or not isinstance(error, Exception):
+                raise
+            raise ConnectionLost(str(error).strip()) from error
 
     def close(self) -> None:
         """Closes the connection."""
@@ -101,18 +114,31 @@ class Tables:
         rows = connection.run("SELECT incarnation FROM garterfossil_manager WHERE name = %s FOR UPDATE", [self._place.manager]).rows
         return int(rows[0][0]) if rows else None
 
+    def set_incarnation(self, connection: Connection, incarnation: int) -> None:
+        """Sets the incarnation of the manager."""
+        connection.run("UPDATE garterfossil_manager SET incarnation = %s WHERE name = %s", [incarnation, self._place.manager])
+
     def take_over(self) -> Mirrored:
         """What the mirror holds of the manager. From now on the session that had it can't decide any more: its incarnation is over."""
         with self.at_once() as connection:
             before = self.incarnation(connection)
             if before is None:
                 raise SetupError(f"the mirror knows no manager {self._place.manager}")
-            connection.run("UPDATE garterfossil_manager SET incarnation = %s WHERE name = %s", [before + 1, self._place.manager])
+            self.set_incarnation(connection, before + MARGIN)
             where = "WHERE name = %s", [self._place.manager]
             path, rms = connection.run(f"SELECT log, rms FROM garterfossil_manager {where[0]}", where[1]).rows[0]
             rows = connection.run(f"SELECT gtrid, branches FROM garterfossil_decision {where[0]}", where[1]).rows
         names = Names(self._place.manager, tuple(rms.split()))
-        return Mirrored(names, path, before + 1, {gtrid: branches.split() for gtrid, branches in rows})
+        return Mirrored(names, path, before + MARGIN, {gtrid: branches.split() for gtrid, branches in rows})
+
+
+@contextlib.contextmanager
+def _as_gone() -> Iterator[None]:
+    """Without the mirror there is no session."""
+    try:
+        yield
+    except ConnectionLost as error:
+        raise CoordinatorGone(f"the mirror can't be used now: {error}") from error
 
 
 class Mirror:
@@ -129,27 +155,41 @@ class Mirror:
         self._lock = threading.Lock()
         self._incarnation = 0
 
-    def begin(self, incarnation: int, decisions: Mapping[str, Sequence[Xid]]) -> None:
-        """A session begins, over a log that has these decisions: the mirror has just them then. Raises SetupError if the log is older
-        than the mirror, and CoordinatorGone if the mirror can't be had."""
-        try:
+    def look(self, started: int) -> None:
+        """Looks, before the coordinator starts, whether a session may begin over a log that has been started so often. A start that is
+        refused behind that has raised the log's incarnation, and after a few of them an older log would pass for a newer one. Raises
+        SetupError if the log is older than the mirror, and CoordinatorGone if the mirror can't be had. Makes its tables."""
+        with _as_gone():
             self._adding.make()
             with self._adding.at_once() as connection:
-                if connection.is_replicated() is False:
-                    log.warning("the mirror has no synchronous standby, and is no cluster: it is lost with its own machine")
                 before = self._adding.incarnation(connection)
-                if before is not None and before >= incarnation:
-                    raise SetupError(
-                        f"the log {self._path} is older than its mirror, in session {incarnation} and not behind {before}: put the right one"
-                        " back, or make it of the mirror (python -m garterfossil failover)"
-                    )
-                self._note(connection, incarnation, before is None)
-                connection.run("DELETE FROM garterfossil_decision WHERE name = %s", [self._names.manager])
-                if decisions:
-                    self._adding.insert(connection, list(decisions.items()), incarnation)
-        except ConnectionLost as error:
-            raise CoordinatorGone(f"the mirror can't be reached: {error}") from error
+                if before is not None and before > started:
+                    raise self._older(started, before)
+                if before is not None and before < started:
+                    # Starts that the mirror wasn't told of: so there is never more than one.
+                    self._adding.set_incarnation(connection, started)
+        self._adding.close()
+
+    def begin(self, incarnation: int, decisions: Mapping[str, Sequence[Xid]]) -> None:
+        """A session begins, over a log that has these decisions: the mirror has just them then. Raises SetupError if another machine has
+        taken over since it was looked at, and CoordinatorGone if the mirror can't be had."""
+        with _as_gone(), self._adding.at_once() as connection:
+            if connection.is_replicated() is False:
+                log.warning("the mirror has no synchronous standby, and is no cluster: it is lost with its own machine")
+            before = self._adding.incarnation(connection)
+            if before is not None and before >= incarnation:
+                raise self._older(incarnation, before)
+            self._note(connection, incarnation, before is None)
+            connection.run("DELETE FROM garterfossil_decision WHERE name = %s", [self._names.manager])
+            if decisions:
+                self._adding.insert(connection, list(decisions.items()), incarnation)
         self._incarnation = incarnation
+
+    def _older(self, incarnation: int, before: int) -> SetupError:
+        return SetupError(
+            f"the log {self._path} is older than its mirror, in session {incarnation} and not behind {before}: put the right one"
+            " back, or make it of the mirror (python -m garterfossil failover)"
+        )
 
     def _note(self, connection: Connection, incarnation: int, is_new: bool) -> None:
         known = [self._path, " ".join(self._names.rms), incarnation, self._names.manager]
@@ -196,7 +236,7 @@ def managers_in(database: Database, patience: float) -> Dict[str, str]:
     try:
         tables.make()
         with tables.at_work() as connection:
-            return dict(connection.run("SELECT name, log FROM garterfossil_manager ORDER BY name").rows)
+            return {name: path for name, path in connection.run("SELECT name, log FROM garterfossil_manager ORDER BY name")}
     except XaError as error:
         raise SetupError(f"the mirror can't be read: {error}") from error
     finally:

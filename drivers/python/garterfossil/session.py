@@ -16,7 +16,7 @@ from .databases import Databases
 from .debts import Debts
 from .errors import ConnectionLost, CoordinatorGone, Overdue, Refused, RequestError, SetupError, XaError
 from .line import Line
-from .logs import Names, is_new_log
+from .logs import Names, is_new_log, kept_incarnation
 from .mirror import Mirror
 from .outcomes import Outcomes
 from .recovery import recover
@@ -43,6 +43,8 @@ class Settings:
     names: Names = Names()
     #: Where its decisions are mirrored, if they are.
     mirror: Optional[Database] = None
+    #: The program that reads the log while no coordinator has it.
+    program: str = "xatm"
 
 
 class Session:
@@ -61,7 +63,10 @@ class Session:
             for database, place in settings.databases.placed(settings.names.manager, settings.threads, settings.patience)
         ]
         self._look(is_new_log(settings.log), is_first)
-        self.mirror = settings.mirror and Mirror(settings.mirror, settings.names, settings.log, settings.patience)
+        self.mirror: Optional[Mirror] = None
+        if settings.mirror is not None:
+            self.mirror = Mirror(settings.mirror, settings.names, settings.log, settings.patience)
+            self.mirror.look(kept_incarnation(settings.program, settings.log, settings.patience))
         self.coordinator = Coordinator.start(settings.command, settings.patience, settings.log)
         self.commits = Commits(self.coordinator, self.mirror)
         self._lines = [[Line(self.coordinator, thread, rm, self.patience) for rm in self._rms] for thread in range(settings.threads)]

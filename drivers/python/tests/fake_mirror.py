@@ -19,6 +19,10 @@ class FakeMirror(Database):
         self.is_up = True
         #: The first word of a statement that is done, and whose answer is lost.
         self.loses = None
+        #: What the next statement that begins so is refused with.
+        self.refuses = {}
+        #: A warning beside the next answer.
+        self.warns = None
         self.statements = []
 
     def connect(self, place=Place()):
@@ -56,11 +60,17 @@ class FakeMirrorConnection(Connection):
         if not self.database.is_up:
             raise ConnectionLost("the mirror is down")
         self.database.statements.append(statement)
+        for begin in [begin for begin in self.database.refuses if statement.startswith(begin)]:
+            raise self.database.refuses.pop(begin)
         done = self.link.execute(statement.replace("%s", "?").replace("FOR UPDATE", ""), parameters)
         if statement.split(" ")[0] == self.database.loses:
             self.database.loses = None
             raise ConnectionLost("the answer is lost")
         return Result(done.fetchall(), done.rowcount)
+
+    def warnings(self):
+        said, self.database.warns = self.database.warns, None
+        return [said] if said else []
 
     def _none(self, *_):
         raise NotImplementedError

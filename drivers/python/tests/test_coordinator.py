@@ -1,6 +1,7 @@
 """The coordinator's process: replies, refusals, and its end."""
 
 import os
+import signal
 import sys
 import tempfile
 import threading
@@ -11,6 +12,7 @@ from garterfossil.errors import CoordinatorGone, Refused, RequestError, SetupErr
 from garterfossil.xid import Xid
 
 ECHO = """
+import signal
 import sys
 print("restarted 1 0 0", flush=True)
 print(";" + sys.stdin.readline(), end="", flush=True)
@@ -80,6 +82,10 @@ class Coordinators(unittest.TestCase):
     def test_one_that_takes_one_request_a_line_is_too_old(self):
         with self.assertRaisesRegex(SetupError, "older than this driver"):
             process("print('restarted 1 0 0', flush=True); input(); print('error not a request', flush=True); input()")
+
+    def test_the_log_is_waited_for_also_where_the_program_takes_the_statuses_of_its_children(self):
+        self.addCleanup(signal.signal, signal.SIGCHLD, signal.signal(signal.SIGCHLD, signal.SIG_IGN))
+        self.test_one_that_finds_the_log_in_use_is_started_again()
 
     def test_one_that_ends_is_gone_for_all(self):
         coordinator = process("print('restarted 1 0 0', flush=True); input(); print(';status up 0', flush=True); input()")

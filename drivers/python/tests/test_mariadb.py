@@ -44,6 +44,7 @@ class Server:
         self.branches, self.links, self.fails, self.done = {}, {}, {}, []
         #: By its name, the connection that holds a lock.
         self.locks = {}
+        self.is_in_cluster = False
 
     def connect(self, **parameters):
         link = Link(self, len(self.links) + 1)
@@ -126,6 +127,8 @@ class Cursor:
         xa = re.fullmatch(r"XA (\w+) (X'.*?',X'.*?',7)( ONE PHASE)?", statement)
         if statement == "XA RECOVER FORMAT='SQL'":
             self.rows = [(7, 16, 8, text) for text, (state, _) in self.server.branches.items() if state == "PREPARED"]
+        elif statement == "SHOW VARIABLES LIKE 'wsrep_on'":
+            self.rows = [("wsrep_on", "ON" if self.server.is_in_cluster else "OFF")]
         elif statement.startswith("SELECT GET_LOCK("):
             name = statement.split("'")[1]
             self.rows = [(int(self.server.locks.setdefault(name, self.link) is self.link),)]
@@ -294,6 +297,20 @@ class MariaDBs(unittest.TestCase):
         self.server.end(self.server.links[self.connection.number])
         with self.assertRaises(ConnectionLost):
             self.do(f"xa_prepare {XID}")
+
+    def test_a_cluster_is_no_database_of_transactions(self):
+        self.server.is_in_cluster = True
+        with self.assertRaisesRegex(SetupError, "Galera"):
+            self.database.connect()
+
+    def test_a_mirror_in_a_cluster_reads_what_other_nodes_have_committed(self):
+        waits = "SET SESSION wsrep_sync_wait = 1"
+        self.connection.serve_mirror()
+        self.assertNotIn(waits, self.connection.link.statements)
+        self.server.is_in_cluster = True
+        connection = self.database.connect(Place(threads=0))
+        connection.serve_mirror()
+        self.assertIn(waits, connection.link.statements)
 
 
 class Recovery(unittest.TestCase):

@@ -4,11 +4,13 @@ import json
 import os
 import shutil
 import sqlite3
+from unittest import mock
 
 from garterfossil import OutcomeUnknown, Outcome, SetupError, TransactionManager
 from garterfossil.configuration import Configuration
 from garterfossil.errors import CoordinatorGone
 from garterfossil.failover import fail_over
+from garterfossil.mirror import MARGIN
 
 from . import fake_program
 from .case import Case
@@ -20,10 +22,20 @@ class Mirrors(Case):
         super().setUp()
         self.mirror = FakeMirror(self.folder)
         self.program = fake_program.made_in(self.folder)
+        patch = mock.patch("garterfossil.session.kept_incarnation", self.started)
+        patch.start()
+        self.addCleanup(patch.stop)
         # What the machine has that is lost.
         self.machine = os.path.join(self.folder, "machine")
         os.mkdir(self.machine)
         self.log = os.path.join(self.machine, "log")
+
+    def started(self, program, path, patience):
+        """How often the stand-in's log has been started."""
+        if not os.path.exists(path):
+            return 0
+        with open(path) as it:
+            return json.load(it)["incarnation"]
 
     def manager(self, **options):
         named = {"bank": self.left, "shop": self.right}
@@ -68,7 +80,26 @@ class Mirrors(Case):
             self.mirror.is_up = True
             gtrid = str(raised.exception).split(":")[0]
             self.assertIs(xa.outcome(gtrid), Outcome.COMMITTED)
+            # However often it was asked for meanwhile, a session that can't begin uses up no incarnation.
+            self.assertEqual(self.mirror.rows("incarnation", "garterfossil_manager"), [(2,)])
         self.assertEqual(self.written(), (["take"], ["give"]))
+
+    def test_a_decision_that_may_be_on_one_machine_alone_is_told_to_no_database(self):
+        with self.manager() as xa:
+            self.left.before["prepare"] = lambda: setattr(self.mirror, "warns", "canceling wait for synchronous replication")
+            with self.assertRaisesRegex(OutcomeUnknown, "canceling wait") as raised:
+                self.move(xa)
+            self.left.before.clear()
+            self.assertEqual(self.written(), ([], []))
+            gtrid = str(raised.exception).split(":")[0]
+            self.assertIs(xa.outcome(gtrid), Outcome.COMMITTED)
+        self.assertEqual(self.written(), (["take"], ["give"]))
+
+    def test_a_session_that_it_refuses_does_not_begin(self):
+        self.mirror.refuses["SELECT incarnation"] = sqlite3.OperationalError("canceling statement due to lock timeout")
+        with self.assertRaisesRegex(CoordinatorGone, "lock timeout"):
+            self.manager()
+        self.manager().close()
 
     def test_an_older_log_than_it_is_refused(self):
         with self.manager() as xa:
@@ -98,7 +129,7 @@ class Mirrors(Case):
         with open(self.log) as it:
             made = json.load(it)
         gtrid = self.mirror.decided()[0]
-        self.assertEqual(made["made"][:4], [f"name {name}", "rm 0 bank", "rm 1 shop", "incarnation 2"])
+        self.assertEqual(made["made"][:4], [f"name {name}", "rm 0 bank", "rm 1 shop", f"incarnation {1 + MARGIN}"])
         self.assertEqual(made["made"][4].split(" ")[:2], [gtrid, "2"])
         with self.manager():
             pass
@@ -111,6 +142,26 @@ class Mirrors(Case):
         with self.assertRaises(OutcomeUnknown):
             self.move(xa)
         self.assertEqual(self.written(), ([], []))
+
+    def test_whoever_is_taken_over_begins_no_session_however_often_it_tries(self):
+        xa = self.manager()
+        shutil.move(self.log, self.log + ".lost")
+        self.fail_over()
+        os.replace(self.log + ".lost", self.log)
+        xa._session.coordinator.kill()
+        for _ in range(2 * MARGIN):
+            with self.assertRaisesRegex(SetupError, "older than its mirror"):
+                self.move(xa)
+        self.assertEqual(self.started(self.program, self.log, 1.0), 1)
+
+    def test_starts_that_the_mirror_was_not_told_of_are_fewer_than_a_failover_adds(self):
+        self.manager().close()
+        for _ in range(3):
+            self.mirror.refuses["UPDATE garterfossil_manager SET log"] = sqlite3.OperationalError("no standby")
+            with self.assertRaises(CoordinatorGone):
+                self.manager()
+            [(told,)] = self.mirror.rows("incarnation", "garterfossil_manager")
+            self.assertEqual(self.started(self.program, self.log, 1.0), told + 1)
 
     def test_a_log_that_is_there_is_left_alone(self):
         with self.manager():

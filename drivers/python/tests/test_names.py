@@ -1,6 +1,9 @@
 """Whose log it is: the names that it keeps, those that are drawn, and the logs of workers."""
 
+import contextlib
 import os
+import signal
+import sqlite3
 import subprocess
 import sys
 from unittest import mock
@@ -8,7 +11,7 @@ from unittest import mock
 from garterfossil import manager
 from garterfossil import LogInUse, SetupError, TransactionManager
 from garterfossil.coordinator import Coordinator, serve_command
-from garterfossil.logs import Names, free_log, logs_of_workers, names_at_work
+from garterfossil.logs import Names, free_log, kept_incarnation, logs_of_workers, names_at_work, printed_log
 from garterfossil.xid import Xid
 
 from . import fake_program
@@ -120,6 +123,26 @@ class Kept(Case):
         self.assertEqual(os.path.basename(path), "log-0")
         mine.close()
         its.close()
+
+    def test_a_log_that_cannot_be_read_has_no_names_also_where_the_program_takes_the_statuses_of_its_children(self):
+        self.addCleanup(signal.signal, signal.SIGCHLD, signal.signal(signal.SIGCHLD, signal.SIG_IGN))
+        program = os.path.join(self.folder, "refuses")
+        with open(program, "w") as it:
+            it.write("#!/bin/sh\necho 'xatm: log' >&2\nexit 2\n")
+        os.chmod(program, 0o755)
+        with self.assertRaises(SetupError):
+            printed_log(program, self.log)
+
+    def test_how_often_a_log_was_started_stands_in_its_file(self):
+        program = os.path.join(self.folder, "looks")
+        with open(program, "w") as it:
+            it.write("#!/bin/sh\necho name shop-1\n")
+        os.chmod(program, 0o755)
+        self.assertEqual(kept_incarnation(program, self.log, 1.0), 0)
+        with contextlib.closing(sqlite3.connect(self.log)) as it, it:
+            it.execute("CREATE TABLE tm_meta (k INTEGER, version INTEGER, incarnation INTEGER)")
+            it.execute("INSERT INTO tm_meta VALUES (1, 2, 7)")
+        self.assertEqual(kept_incarnation(program, self.log, 1.0), 7)
 
     def test_all_logs_of_workers_in_use(self):
         with mock.patch("garterfossil.logs.MOST_WORKERS", 1):

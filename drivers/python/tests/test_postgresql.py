@@ -41,6 +41,7 @@ class Link:
     def __init__(self):
         self.says = {"SHOW": [("64",)], "SELECT pg_current": [("700",)]}
         self.statements = []
+        self.notices = ["WARNING:  of the connection's start\n"]
         self.status, self.closed = IDLE, 0
         self.socket, self.server = socket.socketpair()
 
@@ -52,6 +53,9 @@ class Link:
 
     def get_transaction_status(self):
         return self.status
+
+    def warn(self, text):
+        self.notices.append(f"WARNING:  {text}\nDETAIL:  more\n")
 
     def close(self):
         self.closed = 1
@@ -247,6 +251,14 @@ class PostgreSQLs(unittest.TestCase):
         with self.assertRaisesRegex(ConnectionLost, "no answer came in 0.2 seconds"):
             self.do(f"xa_start {XID}")
         self.assertLess(time.monotonic() - begun, 5)
+
+    def test_warnings_are_heard_whatever_the_servers_settings_say(self):
+        self.connection.serve_mirror()
+        self.assertIn("SET client_min_messages = warning", self.link.statements)
+        self.link.warn("canceling wait for synchronous replication")
+        [warning] = self.connection.warnings()
+        self.assertIn("canceling wait for synchronous replication", warning)
+        self.assertEqual(self.connection.warnings(), [])
 
     def test_calls_that_do_not_fit_the_branch(self):
         self.do(f"xa_start {XID}")

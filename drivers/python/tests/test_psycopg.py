@@ -30,6 +30,12 @@ class Link(by_psycopg2.Link):
 
     get_backend_pid = get_transaction_status = None
 
+    def add_notice_handler(self, handler):
+        self.handler = handler
+
+    def warn(self, text):
+        self.handler(types.SimpleNamespace(message_primary=text))
+
     @property
     def info(self):
         return types.SimpleNamespace(backend_pid=4711, transaction_status=self.status)

@@ -399,6 +399,14 @@ class Connection(abc.ABC):
         """Whether what the connection commits is on another machine once that is answered. None if that isn't known."""
         return None
 
+    def serve_mirror(self) -> None:
+        """Makes it a connection to a mirror: it reads all that was committed before, by whichever machine, and `warnings` has what the
+        database warns of."""
+
+    def warnings(self) -> List[str]:
+        """What the database has warned of since this was asked last."""
+        return []
+
     def ages(self) -> Dict[Xid, float]:
         """For how many seconds branches have been prepared, as far as the database tells."""
         return {}

@@ -68,6 +68,10 @@ class MariaDB(Database):
         connection = self._connection(place)
         with connection.timed(place.patience):
             connection.take_lock()
+            in_cluster = place.threads > 0 and connection.is_replicated()
+        if in_cluster:
+            connection.close()
+            raise SetupError("a cluster of Galera has no XA transactions: it can be the mirror, and none of the databases")
         return connection
 
     def end_connections(self, kept: Collection[int], place: Place = Place()) -> int:
@@ -276,6 +280,11 @@ class MariaDBConnection(Connection):
 
     def is_replicated(self) -> Optional[bool]:
         return self.run("SHOW VARIABLES LIKE 'wsrep_on'").rows == [("wsrep_on", "ON")]
+
+    def serve_mirror(self) -> None:
+        if self.is_replicated():
+            # A node of Galera shows what another one has committed only a moment later, unless it is told to wait for that.
+            self.run("SET SESSION wsrep_sync_wait = 1")
 
     # ** statements
 

@@ -287,6 +287,15 @@ class PostgreSQLConnection(Connection):
         waits = self.run("SHOW synchronous_commit").rows[0][0]
         return bool(self.run("SHOW synchronous_standby_names").rows[0][0]) and waits in ("on", "remote_apply")
 
+    def serve_mirror(self) -> None:
+        self.run("SET client_min_messages = warning")
+        self.warnings()
+
+    def warnings(self) -> List[str]:
+        said = [" ".join(notice.split()) for notice in self.link.notices]
+        self.link.notices.clear()
+        return said
+
     def ages(self) -> Dict[Xid, float]:
         rows = self.run(
             "SELECT gid, extract(epoch FROM now() - prepared)::float8 FROM pg_prepared_xacts WHERE database = current_database()"

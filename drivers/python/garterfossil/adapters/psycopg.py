@@ -2,7 +2,7 @@
 
 from __future__ import annotations
 
-from typing import Any
+from typing import Any, List
 
 from . import postgresql
 from .base import Place
@@ -31,6 +31,10 @@ class PsycopgConnection(postgresql.PostgreSQLConnection):
 
     SHOWN = SHOWN
 
+    def __init__(self, link: Any, lock_timeout: float, place: Place = Place()):
+        self._warned: List[str] = []
+        super().__init__(link, lock_timeout, place)
+
     @property
     def errors(self) -> Any:
         import psycopg
@@ -48,6 +52,14 @@ class PsycopgConnection(postgresql.PostgreSQLConnection):
 
     def _status(self) -> int:
         return int(self.link.info.transaction_status)
+
+    def serve_mirror(self) -> None:
+        self.run("SET client_min_messages = warning")
+        self.link.add_notice_handler(lambda diagnostic: self._warned.append(str(diagnostic.message_primary)))
+
+    def warnings(self) -> List[str]:
+        said, self._warned = self._warned, []
+        return said
 
     def cursor(self, *words: Any, **options: Any) -> Any:
         return self.link.cursor(*words, **options)
