@@ -1,13 +1,12 @@
-//! What is told of a file that is refused.
+//! The line that tells of a fault of a file.
 
 ghost use Rattle.std.specs.Prelude.{◌≡◌, IfOk};
 ghost use Rattle.std.specs.String.{string_bytes};
-ghost use Rattle.xa_diagnostics.specs.Explanations.{place_text};
+ghost use Rattle.xa_diagnostics.specs.Explanations.{Tells, numbers_text, place_text};
 
-use crate::finding::InWords;
 use std::alloc::Global;
 use xa_base::Memory;
-use xa_files::{Finding, RunFault};
+use xa_files::RunFault;
 
 /// Where the fault of a file lies.
 pub fn place_text(alloc: Global, fault: RunFault) -> Result<String, Memory>
@@ -24,15 +23,33 @@ pub fn place_text(alloc: Global, fault: RunFault) -> Result<String, Memory>
     }
 }
 
-/// What is wrong, on which line, and what is allowed there.
-pub fn finding_text(
+/// The line and the column, as editors take them behind a path.
+pub fn numbers_text(
     alloc: Global,
     line: Option<usize>,
-    finding: Finding<'_>,
-) -> Result<String, Memory> {
-    let words = InWords(finding);
-    match line {
-        Some(line) => Ok(format!(in alloc; ", line {line}: {words}\n")?),
-        None => Ok(format!(in alloc; ": {words}\n")?),
+    column: Option<usize>,
+) -> Result<String, Memory>
+    ensures { IfOk result (λ text. string_bytes text ≡ numbers_text line column) }
+{
+    match (line, column) {
+        (None, _) => Ok(String::new(alloc)),
+        (Some(line), None) => Ok(format!(in alloc; ":{line}")?),
+        (Some(line), Some(column)) => Ok(format!(in alloc; ":{line}:{column}")?),
     }
+}
+
+/// What is told of the file at a path, which has this fault on a line, for a reason.
+pub fn told(
+    alloc: Global,
+    path: &str,
+    fault: RunFault,
+    line: Option<usize>,
+    column: Option<usize>,
+    reason: &str,
+) -> Result<String, Memory>
+    ensures { IfOk result (λ told. Tells path.now fault (string_bytes told)) }
+{
+    let numbers = numbers_text(alloc, line, column)?;
+    let place = place_text(alloc, fault)?;
+    Ok(format!(in alloc; "{path}{numbers}: {place}: {reason}")?)
 }
