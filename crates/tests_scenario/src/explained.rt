@@ -73,11 +73,7 @@ fn other_log(alloc: Global) -> Result<MemLog, LogFault> {
 }
 
 /// What is told of a log, or the fault of it.
-fn told_of<L: DecisionLog>(
-    alloc: Global,
-    log: &mut L,
-    manager: &[u8],
-) -> Result<String, RunFault> {
+fn told_of<L: DecisionLog>(alloc: Global, log: &mut L, manager: &[u8]) -> Result<String, RunFault> {
     let mut out = Vec::new(alloc);
     explain_log(log, manager, &mut out)?;
     String::from_utf8(out).map_err(|_| RunFault::Output)

@@ -1,23 +1,12 @@
 //! What to do about a fault, where it is plain what was meant.
 
 use crate::allowed::words_at;
-use crate::finding::{InWords, write_value};
+use crate::finding::InWords;
 use crate::nearest::nearest;
 use std::alloc::Global;
-use std::fmt;
 use toml::{Table, Value};
 use xa_base::{CallKind, Memory};
 use xa_files::{Finding, holds};
-
-/// A value as a text.
-#[derive(Clone, Copy)]
-struct Written<'a>(&'a Value);
-
-impl fmt::Display for Written<'_> {
-    fn fmt<W: fmt::Write>(&self, f: &mut fmt::Formatter<W>) -> fmt::Result {
-        write_value(f, self.0)
-    }
-}
 
 /// The keys of an entry of a scenario.
 const ENTRY_KEYS: [&str; 14] = [
@@ -78,7 +67,7 @@ fn of_text(alloc: Global, key: &str, text: &str) -> Result<Option<String>, Memor
             "{key} is {text:?}; it is an array, as in {key} = [{text:?}]"
         )?));
     }
-    let is_number = !text.is_empty() && text.bytes().all(|byte| byte.is_ascii_digit());
+    let is_number = !text.is_empty() && text.bytes().all(|byte| matches!(byte, b'0'..=b'9'));
     if is_number
         && matches!(
             key,

@@ -25,7 +25,7 @@ impl Diagnostic {
             self.fault,
             self.line,
             self.column,
-            &self.reason,
+            self.reason.as_str(),
         )?;
         text.push_str("\n")?;
         Ok(text)

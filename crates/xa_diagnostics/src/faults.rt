@@ -8,7 +8,7 @@ use crate::document::{
 use crate::places::{Wanted, line_of};
 use crate::syntax::explain_syntax;
 use std::alloc::Global;
-use toml::Table;
+use toml::{Table, Value};
 use xa_base::Memory;
 use xa_files::{Finding, Refusal, RunFault, document_of, holds};
 use xa_jobs::jobs_in;
@@ -18,6 +18,7 @@ use xa_scenario::scenario_in;
 const MOST_FAULTS: usize = 100;
 
 /// What is mended before the next fault is looked for.
+#[derive(Drop)]
 enum Mend {
     /// A key at the top.
     Key(String),
@@ -28,6 +29,7 @@ enum Mend {
 }
 
 /// A file whose faults are looked for.
+#[derive(Drop)]
 struct Search<'a> {
     alloc: Global,
     text: &'a [u8],
@@ -57,6 +59,14 @@ fn begun_names<'a>(alloc: Global, document: &'a Table) -> Result<Vec<&'a str>, M
         }
     }
     Ok(names)
+}
+
+/// Whether an item is a table with the key.
+fn has_key(item: &Value, key: &str) -> bool {
+    match item.as_table() {
+        Some(table) => holds(table, key),
+        None => false,
+    }
 }
 
 impl Search<'_> {

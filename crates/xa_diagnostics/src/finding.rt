@@ -26,7 +26,7 @@ fn write_list<W: fmt::Write>(f: &mut fmt::Formatter<W>, words: &[&str]) -> fmt::
 }
 
 /// Writes what a key holds: a text or a number as it is, else of which kind it is.
-pub fn write_value<W: fmt::Write>(f: &mut fmt::Formatter<W>, value: &Value) -> fmt::Result {
+fn write_value<W: fmt::Write>(f: &mut fmt::Formatter<W>, value: &Value) -> fmt::Result {
     match value {
         Value::String(text) => write!(f, "{text:?}"),
         Value::Integer(number) => write!(f, "{number}"),

@@ -30,8 +30,15 @@ fn quoted(alloc: Global, text: &str) -> Result<String, Memory> {
 
 /// Items in brackets.
 fn array(alloc: Global, items: &[String]) -> Result<String, Memory> {
-    let inner = items.join(alloc, ",")?;
-    Ok(format!(in alloc; "[{inner}]")?)
+    let mut told = String::from_str(alloc, "[")?;
+    for (i, item) in items.iter().enumerate() {
+        if i > 0 {
+            told.push_str(",")?;
+        }
+        told.push_str(item.as_str())?;
+    }
+    told.push_str("]")?;
+    Ok(told)
 }
 
 /// A branch with its fate, of a line that tells it.
@@ -106,7 +113,7 @@ fn fault(alloc: Global, found: &Diagnostic) -> Result<String, Memory> {
     let line = number(alloc, found.line)?;
     let column = number(alloc, found.column)?;
     let place = quoted(alloc, place_text(alloc, found.fault)?.as_str())?;
-    let reason = quoted(alloc, &found.reason)?;
+    let reason = quoted(alloc, found.reason.as_str())?;
     Ok(format!(in alloc;
         "{{\"line\":{line},\"column\":{column},\"place\":{place},\"reason\":{reason}}}"
     )?)

@@ -29,7 +29,7 @@ fn of_fault(
             Ok((
                 first.line,
                 first.column,
-                String::from_str(alloc, &first.reason)?,
+                String::from_str(alloc, first.reason.as_str())?,
             ))
         }
         _ => Ok((None, None, String::from_str(alloc, OTHER_SIZES)?)),

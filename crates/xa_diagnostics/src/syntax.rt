@@ -48,7 +48,9 @@ fn earlier_line(before: &[u8], key: &[u8]) -> Option<usize> {
     for (i, line) in before.split(|byte| *byte == b'\n').enumerate() {
         match first_token(line) {
             Some(token) if token.first() == b'[' => found = None,
-            Some(token) if token.text == key && found.is_none() => found = Some(i + 1),
+            Some(token) if token.text == key && found.is_none() => found = Some(i.saturating_add(
+                1,
+            )),
             _ => {}
         }
     }

@@ -12,6 +12,7 @@ use xa_scenario::{BranchEntry, Entry, Scenario, scenario_in};
 const MOST_WARNINGS: usize = 10;
 
 /// The numbers that an entry names, each with its key.
+#[derive(Clone, Copy)]
 struct Named {
     thread: Option<u32>,
     rm: Option<u32>,
@@ -144,8 +145,8 @@ pub fn warnings(alloc: Global, path: &str, text: &[u8]) -> Result<String, Memory
         if count == MOST_WARNINGS {
             break;
         }
-        count += 1;
-        let number = i + 1;
+        count = count.saturating_add(1);
+        let number = i.saturating_add(1);
         let wanted = Wanted {
             array: "step",
             number,

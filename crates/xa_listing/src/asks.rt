@@ -12,7 +12,8 @@ use xa_log::LogRows;
 const NOTHING: &str = "Nothing waits: the log has no row and no record.\n";
 
 /// What ends the branches that rows name.
-const ENDED_BY: &str = "A service over this log commits these branches at its next start, and each as \
+const ENDED_BY: &str =
+    "A service over this log commits these branches at its next start, and each as \
     soon as its database is back. By hand it is done only where that can't wait, and where the \
     database still lists the branch: in pg_prepared_xacts, or by XA RECOVER. Nothing waits for a \
     row that xatm run or xatm threads left: its branches ended with that program.\n";

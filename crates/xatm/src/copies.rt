@@ -88,6 +88,7 @@ fn adopted<S: Alter + Drop>(conn: Connection<S>) -> Result<SqlLog<S>, LogFault> 
 }
 
 /// Why no log is in some files.
+#[derive(Drop)]
 enum CopyFault {
     /// The store's own reason.
     Store(Error),

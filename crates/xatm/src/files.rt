@@ -41,7 +41,8 @@ pub(crate) fn told_path(path: &str) -> &str {
 /// All of standard input.
 fn input_bytes(rt: &HostRuntime) -> io::Result<Vec<u8>> {
     let mut bytes = Vec::new(rt.alloc());
-    rt.reader().read_to_end(&mut bytes)?;
+    let mut reader = rt.reader();
+    reader.read_to_end(&mut bytes)?;
     Ok(bytes)
 }
 

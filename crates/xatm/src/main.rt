@@ -99,19 +99,13 @@ fn perform<T: Threads + Wait + Clock + Sync>(
             files,
             log,
             with_trace,
-            as_json: false,
-        } => run(rt, files, log, with_trace, &mut out),
-        Command::Run {
-            files,
-            log,
-            with_trace,
-            as_json: true,
+            as_json,
         } => {
-            let mut printed = Vec::new(rt.alloc());
-            run(rt, files, log, with_trace, &mut printed)?;
-            let printed = String::from_utf8_lossy(rt.alloc(), printed.as_slice())?;
-            let json = run_json(rt.alloc(), printed.as_str(), with_trace)?;
-            Ok(write_text(json.as_bytes(), &mut out)?)
+            if as_json {
+                run_as_json(rt, files, log, with_trace, &mut out)
+            } else {
+                run(rt, files, log, with_trace, &mut out)
+            }
         }
         Command::Check {
             files,
@@ -148,14 +142,13 @@ fn perform<T: Threads + Wait + Clock + Sync>(
         Command::Log {
             path,
             explains,
-            as_json: false,
-        } => list(rt, path, explains, &mut out),
-        Command::Log { path, .. } => {
-            let mut printed = Vec::new(rt.alloc());
-            list(rt, path, false, &mut printed)?;
-            let printed = String::from_utf8_lossy(rt.alloc(), printed.as_slice())?;
-            let json = log_json(rt.alloc(), printed.as_str())?;
-            Ok(write_text(json.as_bytes(), &mut out)?)
+            as_json,
+        } => {
+            if as_json {
+                list_as_json(rt, path, &mut out)
+            } else {
+                list(rt, path, explains, &mut out)
+            }
         }
         Command::MakeLog { path } => make_log(rt, path),
     }
@@ -200,6 +193,22 @@ fn run<W: Write>(
         Some(path) => running_failure(rt, path, failure),
         None => failure,
     })
+}
+
+/// Does so, and prints JSON.
+fn run_as_json<W: Write>(
+    rt: &HostRuntime,
+    files: &[&str],
+    log: Option<&str>,
+    with_trace: bool,
+    out: &mut W,
+) -> Result<(), Failure> {
+    let alloc = rt.alloc();
+    let mut printed = Vec::new(alloc);
+    run(rt, files, log, with_trace, &mut printed)?;
+    let printed = String::from_utf8_lossy(alloc, printed.as_slice())?;
+    let json = run_json(alloc, printed.as_str(), with_trace)?;
+    Ok(write_text(json.as_bytes(), out)?)
 }
 
 /// Runs the jobs of a file over the log at a path, or over one in memory. The log is opened before the text is read
@@ -276,14 +285,19 @@ fn list<W: Write>(
         Err(fault) => return Err(opening_failure(rt, path, fault)),
     };
     let name = manager_in(label.as_str());
-    let explained_for = explains.then_some(name.as_slice());
+    let explained_for = if explains {
+        Some(name.as_slice())
+    } else {
+        None
+    };
     let mut text = Vec::new(alloc);
     match SqlLog::look(rt, path) {
         Ok(log) => list_in_files(log, explained_for, &mut text).map_err(|failure| running_failure(
             rt, path, failure,
         ))?,
         Err(LogFault::Store) => {
-            list_over(&mut copied_log(rt, path)?, explained_for, &mut text)?;
+            let mut copy = copied_log(rt, path)?;
+            list_over(&mut copy, explained_for, &mut text)?;
             // A note that can't be written changes no status.
             let _unwritten = eprintln!(rt;
                 "xatm: {path}: another process runs over it, or it can't be written: it is shown as a copy has it"
@@ -295,9 +309,21 @@ fn list<W: Write>(
     print_named(alloc, label.as_str(), text.as_str(), out)
 }
 
+/// Lists the log at a path, and prints JSON.
+fn list_as_json<W: Write>(rt: &HostRuntime, path: &str, out: &mut W) -> Result<(), Failure> {
+    let alloc = rt.alloc();
+    let mut printed = Vec::new(alloc);
+    list(rt, path, false, &mut printed)?;
+    let printed = String::from_utf8_lossy(alloc, printed.as_slice())?;
+    let json = log_json(alloc, printed.as_str())?;
+    Ok(write_text(json.as_bytes(), out)?)
+}
+
 /// Copies the journal of the log at a path into its file, once a run has ended.
 fn gather(rt: &HostRuntime, path: &str) -> Result<(), Failure> {
-    SqlLog::look(rt, path)
-        .and_then(close_in_files)
-        .map_err(|fault| opening_failure(rt, path, fault))
+    let gathered = match SqlLog::look(rt, path) {
+        Ok(log) => close_in_files(log),
+        Err(fault) => Err(fault),
+    };
+    gathered.map_err(|fault| opening_failure(rt, path, fault))
 }
