@@ -1,6 +1,6 @@
 //! One fault of a file.
 
-use crate::told::told;
+use crate::told::fault_line;
 use std::alloc::Global;
 use xa_base::Memory;
 use xa_files::RunFault;
@@ -19,7 +19,7 @@ pub struct Diagnostic {
 impl Diagnostic {
     /// The line that tells of it.
     pub fn told(&self, alloc: Global, path: &str) -> Result<String, Memory> {
-        let mut text = told(
+        let mut text = fault_line(
             alloc,
             path,
             self.fault,

@@ -14,14 +14,14 @@ mod jobs_check;
 mod json;
 mod nearest;
 mod places;
-mod report;
+mod reports;
 mod syntax;
 mod tokens;
 mod told;
-mod warnings;
+mod warning_lines;
 
 pub use document::{FileKind, kind_of};
 pub use jobs_check::check_jobs;
 pub use json::{check_json, log_json, run_json};
-pub use report::report;
-pub use warnings::warnings;
+pub use reports::report;
+pub use warning_lines::warnings;

@@ -39,7 +39,7 @@ pub fn numbers_text(
 }
 
 /// What is told of the file at a path, which has this fault on a line, for a reason.
-pub fn told(
+pub fn fault_line(
     alloc: Global,
     path: &str,
     fault: RunFault,

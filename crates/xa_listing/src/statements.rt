@@ -3,11 +3,21 @@
 ghost use Rattle.std.specs.Prelude.{◌≡◌, IfErr, IfOk};
 ghost use Rattle.std.specs.String.{string_bytes};
 ghost use Rattle.xa_files.specs.declared.fault.RunFault.TheVariants.{Memory};
-ghost use Rattle.xa_listing.specs.Statements.{mariadb_commit, postgresql_commit};
+ghost use Rattle.xa_listing.specs.Statements.{mariadb_commit, named_gtrid, postgresql_commit};
 
 use std::alloc::Global;
 use xa_base::Xid;
 use xa_files::RunFault;
+
+/// The identifier of the global transaction, as the manager of this name gives it out.
+fn named_gtrid(alloc: Global, manager: &[u8], xid: &Xid) -> Result<String, RunFault>
+    ensures text { IfOk result (λ text. string_bytes text ≡ named_gtrid manager.now xid.now) }
+    ensures fault { IfErr result (λ e. e ≡ Memory) }
+{
+    let name = hex::encode(alloc, manager)?;
+    let gtrid = hex::encode(alloc, xid.gtrid())?;
+    Ok(format!(in alloc; "{name}{gtrid}")?)
+}
 
 /// The statement of PostgreSQL for a branch, as the manager of this name names it.
 pub fn postgresql_commit(alloc: Global, manager: &[u8], xid: &Xid) -> Result<String, RunFault>
@@ -16,10 +26,9 @@ pub fn postgresql_commit(alloc: Global, manager: &[u8], xid: &Xid) -> Result<Str
     ensures fault { IfErr result (λ e. e ≡ Memory) }
 {
     let format = xid.format();
-    let name = hex::encode(alloc, manager)?;
-    let gtrid = hex::encode(alloc, xid.gtrid())?;
+    let gtrid = named_gtrid(alloc, manager, xid)?;
     let bqual = hex::encode(alloc, xid.bqual())?;
-    Ok(format!(in alloc; "COMMIT PREPARED '{format}:{name}{gtrid}:{bqual}';")?)
+    Ok(format!(in alloc; "COMMIT PREPARED '{format}:{gtrid}:{bqual}';")?)
 }
 
 /// The statement of MariaDB and MySQL for it.
@@ -29,8 +38,7 @@ pub fn mariadb_commit(alloc: Global, manager: &[u8], xid: &Xid) -> Result<String
     ensures fault { IfErr result (λ e. e ≡ Memory) }
 {
     let format = xid.format();
-    let name = hex::encode(alloc, manager)?;
-    let gtrid = hex::encode(alloc, xid.gtrid())?;
+    let gtrid = named_gtrid(alloc, manager, xid)?;
     let bqual = hex::encode(alloc, xid.bqual())?;
-    Ok(format!(in alloc; "XA COMMIT X'{name}{gtrid}',X'{bqual}',{format};")?)
+    Ok(format!(in alloc; "XA COMMIT X'{gtrid}',X'{bqual}',{format};")?)
 }

@@ -59,26 +59,16 @@ fn main(rt: HostRuntime) -> ExitCode {
 /// them.
 fn work<T: Threads + Wait + Clock + Sync>(rt: &HostRuntime, threads: &T) -> Result<(), Failure> {
     let alloc = rt.alloc();
-    let words: Vec<String> = env::args(rt)
+    let mut words: Vec<String> = env::args(rt)
         .map_err(|error| Failure::Words.caused_by(&error))?
         .collect(alloc)?;
+    // Without any word the help is asked for.
     if words.len() < 2 {
-        return print_help(rt);
+        words.push(String::from_str(alloc, "--help")?)?;
     }
     match parser(alloc)?.try_get_matches_from(words.as_slice()) {
         Ok(matches) => perform(rt, threads, command_of(&matches).ok_or(Failure::Words)?),
         // Help that was asked for comes as an error of status 0.
-        Err(error) if error.exit_code() == 0 => {
-            error.print(rt).map_err(|_| Failure::Run(RunFault::Output))
-        }
-        Err(error) => Err(Failure::from(error)),
-    }
-}
-
-/// Prints the help, as where it is asked for.
-fn print_help(rt: &HostRuntime) -> Result<(), Failure> {
-    match parser(rt.alloc())?.try_get_matches_from(&["xatm", "--help"]) {
-        Ok(_) => Ok(()),
         Err(error) if error.exit_code() == 0 => {
             error.print(rt).map_err(|_| Failure::Run(RunFault::Output))
         }

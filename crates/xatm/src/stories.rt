@@ -82,7 +82,12 @@ fn check_as_json<W: Write>(
         FileKind::Scenario => check_scenario(alloc, source.text, &mut unread),
         FileKind::Jobs => check_jobs(alloc, source.text, &mut unread),
     };
-    checked.map_err(|fault| Failure::Told(fault, String::new(alloc)))
+    match checked {
+        Ok(()) => Ok(()),
+        // The faults are told already.
+        Err(fault) if fault.status() == 1 => Err(Failure::Told(fault, String::new(alloc))),
+        Err(fault) => Err(Failure::Run(fault)),
+    }
 }
 
 /// Runs the scenario in a file over a log in memory, and tells its story.

@@ -7,7 +7,7 @@ ghost use Rattle.xa_diagnostics.specs.Explanations.{Tells};
 use crate::diagnostic::Diagnostic;
 use crate::document::FileKind;
 use crate::faults::faults_of;
-use crate::told::told;
+use crate::told::fault_line;
 use std::alloc::Global;
 use xa_base::Memory;
 use xa_files::RunFault;
@@ -73,5 +73,5 @@ pub fn report(
     let found = faults_of(alloc, text, earlier, kind)?;
     let (line, column, mut reason) = of_fault(alloc, found.as_slice(), fault)?;
     reason.push_str(later_lines(alloc, path, found.as_slice(), is_whole)?.as_str())?;
-    told(alloc, path, fault, line, column, reason.as_str())
+    fault_line(alloc, path, fault, line, column, reason.as_str())
 }
