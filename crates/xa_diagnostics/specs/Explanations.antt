@@ -15,11 +15,14 @@ place_text Memory = []
 place_text Work = []
 place_text Output = []
 
--- a line and a column, as editors take them behind a path
+-- a number, as editors take it behind a path
+abbrev pub number_text : Option ℕ → List ℕ
+number_text None = []
+number_text (Some n) = codes ":" ++ decimal n
+
+-- a line and a column, likewise
 abbrev pub numbers_text : (line column : Option ℕ) → List ℕ
-numbers_text None column = []
-numbers_text (Some line) None = codes ":" ++ decimal line
-numbers_text (Some line) (Some column) = codes ":" ++ decimal line ++ codes ":" ++ decimal column
+numbers_text line column = number_text line ++ number_text column
 
 -- What is told of the file at a path tells of this fault first: the path, perhaps a line, where the fault lies, and then a reason.
 pub record Tells (path : List ℕ) (fault : RunFault) (told : List ℕ) : Type 0 where

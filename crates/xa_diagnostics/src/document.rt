@@ -99,6 +99,15 @@ fn faultless(alloc: Global, kind: FileKind, rms: i64) -> Result<Value, Memory> {
     Ok(Value::Table(table))
 }
 
+/// Puts a value in the place of the item of a number.
+fn put_item(array: &mut Value, number: usize, value: Value) {
+    if let Some(items) = array.as_array_mut() {
+        if let Some(item) = items.get_mut(number.saturating_sub(1)) {
+            *item = value;
+        }
+    }
+}
+
 /// Mends the table of a number.
 pub fn mend_table(
     alloc: Global,
@@ -108,11 +117,8 @@ pub fn mend_table(
 ) -> Result<(), Memory> {
     let rms = value_at(document, "rms").and_then(|value| value.as_integer());
     let mended = faultless(alloc, kind, rms.unwrap_or(0))?;
-    let Some(Value::Array(items)) = document.get_mut(kind.array()) else {
-        return Ok(());
-    };
-    if let Some(item) = items.get_mut(number.saturating_sub(1)) {
-        *item = mended;
+    if let Some(array) = document.get_mut(kind.array()) {
+        put_item(array, number, mended);
     }
     Ok(())
 }

@@ -2,7 +2,7 @@
 
 ghost use Rattle.std.specs.Prelude.{◌≡◌, IfOk};
 ghost use Rattle.std.specs.String.{string_bytes};
-ghost use Rattle.xa_diagnostics.specs.Explanations.{Tells, numbers_text, place_text};
+ghost use Rattle.xa_diagnostics.specs.Explanations.{Tells, number_text, numbers_text, place_text};
 
 use std::alloc::Global;
 use xa_base::Memory;
@@ -23,7 +23,17 @@ pub fn place_text(alloc: Global, fault: RunFault) -> Result<String, Memory>
     }
 }
 
-/// The line and the column, as editors take them behind a path.
+/// A number, as editors take it behind a path.
+fn number_text(alloc: Global, number: Option<usize>) -> Result<String, Memory>
+    ensures { IfOk result (λ text. string_bytes text ≡ number_text number) }
+{
+    match number {
+        None => Ok(String::new(alloc)),
+        Some(number) => Ok(format!(in alloc; ":{number}")?),
+    }
+}
+
+/// The line and the column, likewise.
 pub fn numbers_text(
     alloc: Global,
     line: Option<usize>,
@@ -31,11 +41,10 @@ pub fn numbers_text(
 ) -> Result<String, Memory>
     ensures { IfOk result (λ text. string_bytes text ≡ numbers_text line column) }
 {
-    match (line, column) {
-        (None, _) => Ok(String::new(alloc)),
-        (Some(line), None) => Ok(format!(in alloc; ":{line}")?),
-        (Some(line), Some(column)) => Ok(format!(in alloc; ":{line}:{column}")?),
-    }
+    let mut text = number_text(alloc, line)?;
+    let column = number_text(alloc, column)?;
+    text.push_str(column.as_str())?;
+    Ok(text)
 }
 
 /// What is told of the file at a path, which has this fault on a line, for a reason.

@@ -101,6 +101,12 @@ fn past_text(
     })
 }
 
+/// A number that isn't one of the first so many.
+fn past(number: Option<u32>, count: u32) -> Option<u32> {
+    let number = number?;
+    if number < count { None } else { Some(number) }
+}
+
 /// What a run will refuse of an entry: its key, and why.
 fn warning_of(
     alloc: Global,
@@ -109,21 +115,19 @@ fn warning_of(
 ) -> Result<Option<(&'static str, String)>, Memory> {
     let named = named_in(entry);
     let (threads, rms) = (scenario.threads, scenario.rms);
-    match (named.thread, named.rm, named.of) {
-        (Some(thread), _, _) if thread >= threads => {
-            Ok(Some((
-                "thread",
-                past_text(alloc, "thread", "thread", thread, threads)?,
-            )))
-        }
-        (_, Some(rm), _) if rm >= rms => {
-            Ok(Some(("rm", past_text(alloc, "rm", "resource manager", rm, rms)?)))
-        }
-        (_, _, Some(of)) if of >= threads => {
-            Ok(Some(("of", past_text(alloc, "of", "thread", of, threads)?)))
-        }
-        _ => Ok(None),
+    if let Some(thread) = past(named.thread, threads) {
+        return Ok(Some((
+            "thread",
+            past_text(alloc, "thread", "thread", thread, threads)?,
+        )));
     }
+    if let Some(rm) = past(named.rm, rms) {
+        return Ok(Some(("rm", past_text(alloc, "rm", "resource manager", rm, rms)?)));
+    }
+    if let Some(of) = past(named.of, threads) {
+        return Ok(Some(("of", past_text(alloc, "of", "thread", of, threads)?)));
+    }
+    Ok(None)
 }
 
 /// A line for each entry of the scenario in a file that a run will refuse whatever is done before it, at most ten. Of a file
