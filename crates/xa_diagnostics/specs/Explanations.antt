@@ -24,9 +24,13 @@ number_text (Some n) = codes ":" ++ decimal n
 abbrev pub numbers_text : (line column : Option ℕ) → List ℕ
 numbers_text line column = number_text line ++ number_text column
 
+-- where a fault lies, and its reason
+abbrev pub reason_text : RunFault → List ℕ → List ℕ
+reason_text fault reason = place_text fault ++ codes ": " ++ reason
+
 -- What is told of the file at a path tells of this fault first: the path, perhaps a line, where the fault lies, and then a reason.
 pub record Tells (path : List ℕ) (fault : RunFault) (told : List ℕ) : Type 0 where
   pub line : Option ℕ
   pub column : Option ℕ
   pub reason : List ℕ
-  pub is : told ≡ path ++ numbers_text line column ++ codes ": " ++ place_text fault ++ codes ": " ++ reason
+  pub is : told ≡ path ++ numbers_text line column ++ codes ": " ++ reason_text fault reason

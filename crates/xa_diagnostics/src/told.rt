@@ -2,7 +2,7 @@
 
 ghost use Rattle.std.specs.Prelude.{◌≡◌, IfOk};
 ghost use Rattle.std.specs.String.{string_bytes};
-ghost use Rattle.xa_diagnostics.specs.Explanations.{Tells, number_text, numbers_text, place_text};
+ghost use Rattle.xa_diagnostics.specs.Explanations.{Tells, number_text, numbers_text, place_text, reason_text};
 
 use std::alloc::Global;
 use xa_base::Memory;
@@ -47,6 +47,14 @@ pub fn numbers_text(
     Ok(text)
 }
 
+/// Where a fault lies, and its reason.
+fn reason_text(alloc: Global, fault: RunFault, reason: &str) -> Result<String, Memory>
+    ensures { IfOk result (λ text. string_bytes text ≡ reason_text fault reason.now) }
+{
+    let place = place_text(alloc, fault)?;
+    Ok(format!(in alloc; "{place}: {reason}")?)
+}
+
 /// What is told of the file at a path, which has this fault on a line, for a reason.
 pub fn fault_line(
     alloc: Global,
@@ -59,6 +67,6 @@ pub fn fault_line(
     ensures { IfOk result (λ told. Tells path.now fault (string_bytes told)) }
 {
     let numbers = numbers_text(alloc, line, column)?;
-    let place = place_text(alloc, fault)?;
-    Ok(format!(in alloc; "{path}{numbers}: {place}: {reason}")?)
+    let text = reason_text(alloc, fault, reason)?;
+    Ok(format!(in alloc; "{path}{numbers}: {text}")?)
 }
