@@ -9,7 +9,7 @@ ghost use Rattle.xa_scenario.specs.Scenarios.{scenario_of};
 use std::alloc::Global;
 use std::io::Write;
 use xa_base::{Event, Memory};
-use xa_chart::chart_text;
+use xa_chart::{Run, chart_text};
 use xa_files::{RunFault, write_text};
 use xa_log::DecisionLog;
 use xa_scenario::{NamedScenario, read_named_scenario, system_after};
@@ -77,7 +77,13 @@ fn picture_of(
 ) -> Result<String, ChartFault> {
     let mut scene = Scene::new(alloc, &named.names);
     let lines = lines_of(alloc, &mut scene, events)?;
-    let (threads, rms) = (named.scenario.threads, named.scenario.rms);
-    let picture = chart_text(alloc, threads, rms, &scene, &lines, events)?;
-    Ok(picture)
+    let run = Run {
+        alloc,
+        threads: named.scenario.threads,
+        rms: named.scenario.rms,
+        scene: &scene,
+        lines: &lines,
+        events,
+    };
+    Ok(chart_text(&run)?)
 }

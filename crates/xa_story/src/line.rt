@@ -1,6 +1,6 @@
 //! One line of a story.
 
-use crate::party::{Sides, sides_text};
+use crate::party::{Party, Sides, sides_text};
 use crate::standings::Move;
 use crate::waits::Waiting;
 use std::alloc::Global;
@@ -40,10 +40,19 @@ pub struct Line {
     pub log: Option<LogChange>,
 }
 
+/// Who takes part, as it is told: the answers of a recovery, which wait on the lines of thread 0, go to the manager.
+fn told_sides(line: &Line) -> Sides {
+    match (line.sides, line.came) {
+        (Sides::Sends(Party::Rm(rm), _), Some(item)) => Sides::Sends(Party::Rm(rm), item.asker),
+        (Sides::Hears(_, rm), Some(item)) => Sides::Hears(item.asker, rm),
+        (sides, _) => sides,
+    }
+}
+
 /// The line as text, without spaces at its end.
 pub fn line_text(alloc: Global, line: &Line) -> Result<String, Memory> {
     let number = line.number;
-    let sides = sides_text(alloc, line.sides)?;
+    let sides = sides_text(alloc, told_sides(line))?;
     let asked = line.asked.as_str();
     let reply = line.reply.as_str();
     let change = line.change.as_str();

@@ -1,0 +1,27 @@
+//! What a picture is made of.
+
+use std::alloc::Global;
+use xa_base::Event;
+use xa_story::{Line, Party, Scene};
+
+/// A run that is drawn: its events, the line that the story has of each, and the scene after them.
+#[derive(Clone, Copy)]
+pub struct Run<'a, 'b> {
+    pub alloc: Global,
+    pub threads: u32,
+    pub rms: u32,
+    pub scene: &'a Scene<'b>,
+    pub lines: &'a [Line],
+    pub events: &'a [Event],
+}
+
+impl<'a, 'b> Run<'a, 'b> {
+    /// Where a part is drawn. A step that names a part which the system doesn't have is drawn at the manager, which refuses it.
+    pub fn shown(&self, party: Party) -> Party {
+        match party {
+            Party::Thread(thread) if thread < self.threads => party,
+            Party::Rm(rm) if rm < self.rms => party,
+            _ => Party::Manager,
+        }
+    }
+}
