@@ -13,14 +13,11 @@ fn are_together(one: &Waiting, other: &Waiting) -> bool {
     ends_of(one) == ends_of(other) && one.thread == other.thread
 }
 
-/// A place on the way from one lifeline to another: an answer comes less far than a call, so that both can be seen.
+/// Where the way of what doesn't arrive ends: a call goes less than half of it, and an answer a quarter, so that both can be seen.
 fn part_way(from: usize, to: usize, is_answer: bool) -> usize {
-    let middle = from.saturating_add(to) / 2;
-    if is_answer {
-        from.saturating_add(middle) / 2
-    } else {
-        middle
-    }
+    let eighths: usize = if is_answer { 2 } else { 3 };
+    let left = from.saturating_mul(8_usize.saturating_sub(eighths));
+    left.saturating_add(to.saturating_mul(eighths)) / 8
 }
 
 /// Where what is sent by an item ends, if that is at this height.
