@@ -1,8 +1,8 @@
 //! What lies where in a picture.
 
 use crate::canvas::Point;
-use crate::columns::{Columns, Lifeline, MARGIN, Side};
 use crate::classes::Lettering;
+use crate::columns::{Columns, Lifeline, MARGIN, Side};
 use crate::labels::Label;
 use crate::notes::Note;
 use crate::run::Run;
@@ -42,7 +42,7 @@ impl Layout {
         for span in spans {
             columns.hold(span.lifeline, span.place.saturating_add(1));
         }
-        columns.place();
+        columns.place(run.alloc)?;
         let width = columns.end().saturating_add(notes_width(notes)).max(LEAST);
         let timeline = Timeline::new(run.alloc, notes)?;
         Ok(Layout {
