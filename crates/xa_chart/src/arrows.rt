@@ -31,11 +31,7 @@ fn draw_arrival(
     } else {
         Stroke::Call
     };
-    canvas.arrow(
-        stroke,
-        layout.at(from, item.since),
-        layout.at(to, number),
-    )
+    canvas.arrow(stroke, layout.at(from, item.since), layout.at(to, number))
 }
 
 /// Draws that the manager writes to its log, or takes a row from it.

@@ -25,7 +25,13 @@ fn labels_of(run: &Run) -> Result<Vec<Label>, Memory> {
             let thread = Lifeline::Part(Party::Thread(thread));
             add_labels(&mut labels, run, line, event, thread)?;
         }
-        add_labels(&mut labels, run, line, event, Lifeline::Part(Party::Manager))?;
+        add_labels(
+            &mut labels,
+            run,
+            line,
+            event,
+            Lifeline::Part(Party::Manager),
+        )?;
         add_labels(&mut labels, run, line, event, Lifeline::Log)?;
         for rm in 0..run.rms {
             let rm = Lifeline::Part(Party::Rm(rm));

@@ -29,12 +29,7 @@ pub fn text_width(text: &str, size: usize) -> usize {
 }
 
 /// The lines of a text, broken between words. None is wider than this, except a word that is.
-pub fn broken(
-    alloc: Global,
-    text: &str,
-    size: usize,
-    width: usize,
-) -> Result<Vec<String>, Memory> {
+pub fn broken(alloc: Global, text: &str, size: usize, width: usize) -> Result<Vec<String>, Memory> {
     let mut lines = Vec::new(alloc);
     let mut line = String::new(alloc);
     for word in text.split(' ') {

@@ -16,11 +16,7 @@ pub fn draw_lifelines(canvas: &mut Canvas, layout: &Layout) -> Result<(), Memory
     let foot = layout.timeline.foot();
     for column in layout.columns.as_slice() {
         let x = column.x;
-        canvas.line(
-            Stroke::Lifeline,
-            Point { x, y: TOP },
-            Point { x, y: foot },
-        )?;
+        canvas.line(Stroke::Lifeline, Point { x, y: TOP }, Point { x, y: foot })?;
     }
     Ok(())
 }

@@ -155,12 +155,7 @@ fn log_text(run: &Run, line: &Line) -> Result<String, Memory> {
 }
 
 /// What is written right of a lifeline at an event.
-fn right_words(
-    run: &Run,
-    line: &Line,
-    event: &Event,
-    lifeline: Lifeline,
-) -> Result<Words, Memory> {
+fn right_words(run: &Run, line: &Line, event: &Event, lifeline: Lifeline) -> Result<Words, Memory> {
     let mut words = Words::new(run.alloc);
     if lifeline == Lifeline::Part(run.shown(first_of(line.sides))) {
         let own = own_text(run, line, event)?;
@@ -191,8 +186,8 @@ fn right_words(
 /// What is written left of a lifeline at an event: the call that is taken there.
 fn left_text<'a>(line: &'a Line, event: &Event, lifeline: Lifeline) -> &'a str {
     match event.step {
-        Step::Take { rm, .. } if line.came.is_some()
-            && lifeline == Lifeline::Part(Party::Rm(rm)) => line.asked.as_str(),
+        Step::Take { rm, .. } if line.came.is_some() && lifeline == Lifeline::Part(Party::Rm(rm)) =>
+            line.asked.as_str(),
         _ => "",
     }
 }

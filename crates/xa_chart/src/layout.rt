@@ -80,7 +80,10 @@ impl Layout {
 
     /// Where the number of a note ends.
     pub fn note_number_x(&self) -> usize {
-        self.columns.end().saturating_add(NOTE_STEP).saturating_sub(MARGIN)
+        self.columns
+            .end()
+            .saturating_add(NOTE_STEP)
+            .saturating_sub(MARGIN)
     }
 
     /// Where a note begins.
@@ -94,7 +97,11 @@ fn notes_width(notes: &[Note]) -> usize {
     let mut widest: usize = 0;
     for note in notes {
         for line in note.lines.iter() {
-            widest = widest.max(Lettering::Plain.width(line.as_str()).saturating_add(NOTE_STEP));
+            widest = widest.max(
+                Lettering::Plain
+                    .width(line.as_str())
+                    .saturating_add(NOTE_STEP),
+            );
         }
     }
     widest

@@ -40,10 +40,19 @@ const ITEMS: [(Sample, &str); 17] = [
     (Sample::Bar(Fill::Branch(Standing::Active)), "active"),
     (Sample::Bar(Fill::Branch(Standing::Idle)), "idle"),
     (Sample::Bar(Fill::Branch(Standing::Prepared)), "prepared"),
-    (Sample::Bar(Fill::Branch(Standing::RollbackOnly)), "rollback-only"),
+    (
+        Sample::Bar(Fill::Branch(Standing::RollbackOnly)),
+        "rollback-only",
+    ),
     (Sample::Bar(Fill::Branch(Standing::Committed)), "committed"),
-    (Sample::Bar(Fill::Branch(Standing::RolledBack)), "rolled back"),
-    (Sample::Bar(Fill::Branch(Standing::Completed(How::Mix))), "ended by the rm itself"),
+    (
+        Sample::Bar(Fill::Branch(Standing::RolledBack)),
+        "rolled back",
+    ),
+    (
+        Sample::Bar(Fill::Branch(Standing::Completed(How::Mix))),
+        "ended by the rm itself",
+    ),
     (Sample::Bar(Fill::Branch(Standing::ReadOnly)), "read only"),
     (Sample::Bar(Fill::Branch(Standing::Lost)), "lost"),
 ];

@@ -43,7 +43,9 @@ impl Timeline {
             }
             heights.push(y)?;
             let lines = note.lines.len().saturating_sub(1);
-            y = y.saturating_add(ROW).saturating_add(lines.saturating_mul(LINE));
+            y = y
+                .saturating_add(ROW)
+                .saturating_add(lines.saturating_mul(LINE));
         }
         Ok(Timeline {
             heights,
