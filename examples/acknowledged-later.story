@@ -30,8 +30,8 @@
  30  rm 0 → thread 0    xa_open                XA_OK
  31  thread 0 ← rm 0    xa_open                XA_OK
  32  manager → rm 0     xa_recover             waits
- 33  rm 0 → thread 0    xa_recover             XA_OK         in doubt here: a
- 34  thread 0 ← rm 0    xa_recover             XA_OK
+ 33  rm 0 → manager     xa_recover             1             in doubt here: a
+ 34  manager ← rm 0     xa_recover             1
  35  rm 0 → thread 0    take a call                          nothing waits there
  36  thread 0 ← rm 0    hear an answer                       nothing waits there
  37  manager → rm 0     resolve                1 call        each listed branch: commit with a row, rollback without
@@ -39,18 +39,18 @@
  39  rm 1 → thread 0    xa_open                XA_OK
  40  thread 0 ← rm 1    xa_open                XA_OK
  41  manager → rm 1     xa_recover             waits
- 42  rm 1 → thread 0    xa_recover             XA_OK         in doubt here: a
- 43  thread 0 ← rm 1    xa_recover             XA_OK
+ 42  rm 1 → manager     xa_recover             1             in doubt here: a
+ 43  manager ← rm 1     xa_recover             1
  44  rm 1 → thread 0    take a call                          nothing waits there
  45  thread 0 ← rm 1    hear an answer                       nothing waits there
  46  manager → rm 1     resolve                1 call        each listed branch: commit with a row, rollback without
- 47  rm 0 → thread 0    xa_commit a            XA_OK         committed: its transaction has a row in the log
- 48  thread 0 ← rm 0    xa_commit a            XA_OK         acknowledged: the row still waits for rm 1
+ 47  rm 0 → manager     xa_commit a            XA_OK         committed: its transaction has a row in the log
+ 48  manager ← rm 0     xa_commit a            XA_OK         acknowledged: the row still waits for rm 1
  49  rm 0 → thread 0    take a call                          nothing waits there
  50  thread 0 ← rm 0    hear an answer                       nothing waits there
  51  manager            done a                 refused 11 Busy: a branch of the transaction hasn't acknowledged yet (rm 1)
- 52  rm 1 → thread 0    xa_commit a            XA_OK         committed: its transaction has a row in the log
- 53  thread 0 ← rm 1    xa_commit a            XA_OK         acknowledged: the row waits for no more
+ 52  rm 1 → manager     xa_commit a            XA_OK         committed: its transaction has a row in the log
+ 53  manager ← rm 1     xa_commit a            XA_OK         acknowledged: the row waits for no more
  54  rm 1 → thread 0    take a call                          nothing waits there
  55  thread 0 ← rm 1    hear an answer                       nothing waits there
  56  manager            done a                 done          the row leaves the log

@@ -21,11 +21,11 @@
  21  rm 0 → thread 0    xa_open                XA_OK
  22  thread 0 ← rm 0    xa_open                XA_OK
  23  manager → rm 0     xa_recover             waits
- 24  rm 0 → thread 0    xa_recover             XA_OK         in doubt here: a
- 25  thread 0 ← rm 0    xa_recover             XA_OK
+ 24  rm 0 → manager     xa_recover             1             in doubt here: a
+ 25  manager ← rm 0     xa_recover             1
  26  manager → rm 0     resolve                1 call        each listed branch: commit with a row, rollback without
- 27  rm 0 → thread 0    xa_rollback a          XA_OK         rolled back: its transaction has no row in the log
- 28  thread 0 ← rm 0    xa_rollback a          XA_OK
+ 27  rm 0 → manager     xa_rollback a          XA_OK         rolled back: its transaction has no row in the log
+ 28  manager ← rm 0     xa_rollback a          XA_OK
 
       a at rm 0        rolled-back
       No decision to commit a is in the log, and what has no row there is never committed.

@@ -13,8 +13,8 @@
  13  thread 0 ← rm 0    xa_prepare a           XA_OK         votes yes
  14  manager            claim a                claimed       all votes are in: no recovery rolls it back now
  15  manager → rm 0     xa_recover             waits
- 16  rm 0 → thread 0    xa_recover             XA_OK         in doubt here: a
- 17  thread 0 ← rm 0    xa_recover             XA_OK
+ 16  rm 0 → manager     xa_recover             1             in doubt here: a
+ 17  manager ← rm 0     xa_recover             1
  18  manager → rm 0     resolve-open           0 calls
  19  manager            settle a               decided       row added to the log, waits for rm 0
  20  thread 0 → rm 0    xa_commit a            waits

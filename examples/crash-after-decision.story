@@ -30,20 +30,20 @@
  30  rm 0 → thread 0    xa_open                XA_OK
  31  thread 0 ← rm 0    xa_open                XA_OK
  32  manager → rm 0     xa_recover             waits
- 33  rm 0 → thread 0    xa_recover             XA_OK         in doubt here: a
- 34  thread 0 ← rm 0    xa_recover             XA_OK
+ 33  rm 0 → manager     xa_recover             1             in doubt here: a
+ 34  manager ← rm 0     xa_recover             1
  35  manager → rm 0     resolve                1 call        each listed branch: commit with a row, rollback without
- 36  rm 0 → thread 0    xa_commit a            XA_OK         committed: its transaction has a row in the log
- 37  thread 0 ← rm 0    xa_commit a            XA_OK         acknowledged: the row still waits for rm 1
+ 36  rm 0 → manager     xa_commit a            XA_OK         committed: its transaction has a row in the log
+ 37  manager ← rm 0     xa_commit a            XA_OK         acknowledged: the row still waits for rm 1
  38  thread 0 → rm 1    xa_open                waits
  39  rm 1 → thread 0    xa_open                XA_OK
  40  thread 0 ← rm 1    xa_open                XA_OK
  41  manager → rm 1     xa_recover             waits
- 42  rm 1 → thread 0    xa_recover             XA_OK         in doubt here: a
- 43  thread 0 ← rm 1    xa_recover             XA_OK
+ 42  rm 1 → manager     xa_recover             1             in doubt here: a
+ 43  manager ← rm 1     xa_recover             1
  44  manager → rm 1     resolve                1 call        each listed branch: commit with a row, rollback without
- 45  rm 1 → thread 0    xa_commit a            XA_OK         committed: its transaction has a row in the log
- 46  thread 0 ← rm 1    xa_commit a            XA_OK         acknowledged: the row waits for no more
+ 45  rm 1 → manager     xa_commit a            XA_OK         committed: its transaction has a row in the log
+ 46  manager ← rm 1     xa_commit a            XA_OK         acknowledged: the row waits for no more
  47  manager            done a                 done          the row leaves the log
 
       a at rm 0        committed

@@ -17,11 +17,11 @@
  17  rm 0 → thread 0    xa_open                XA_OK
  18  thread 0 ← rm 0    xa_open                XA_OK
  19  manager → rm 0     xa_recover             waits
- 20  rm 0 → thread 0    xa_recover             XA_OK         in doubt here: a
- 21  thread 0 ← rm 0    xa_recover             XA_OK
+ 20  rm 0 → manager     xa_recover             1             in doubt here: a
+ 21  manager ← rm 0     xa_recover             1
  22  manager → rm 0     resolve                1 call        each listed branch: commit with a row, rollback without
- 23  rm 0 → thread 0    xa_rollback a          XA_OK         rolled back: its transaction has no row in the log
- 24  thread 0 ← rm 0    xa_rollback a          XA_OK
+ 23  rm 0 → manager     xa_rollback a          XA_OK         rolled back: its transaction has no row in the log
+ 24  manager ← rm 0     xa_rollback a          XA_OK
  25  rm 0 → thread 0    take a call                          nothing waits there
  26  thread 0 ← rm 0    hear an answer                       nothing waits there
 

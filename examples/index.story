@@ -39,8 +39,8 @@
  39  rm 0 → thread 0    xa_prepare d           XA_OK         prepared
  40  thread 0 ← rm 0    xa_prepare d           XA_OK         votes yes
  41  thread 0 → rm 0    xa_recover             waits
- 42  rm 0 → thread 0    xa_recover             XA_OK         in doubt here: b
- 43  thread 0 ← rm 0    xa_recover             XA_OK
+ 42  rm 0 → thread 0    xa_recover             1             in doubt here: b
+ 43  thread 0 ← rm 0    xa_recover             1
  44  thread 0 → rm 0    xa_prepare a           waits
  45  rm 0 → thread 0    xa_prepare a           XA_OK         prepared
  46  thread 0 ← rm 0    xa_prepare a           XA_OK         votes yes
@@ -49,11 +49,11 @@
  49  rm 0 → thread 0    xa_commit b            XA_OK         committed
  50  thread 0 ← rm 0    xa_commit b            XA_OK         acknowledged: the row waits for no more
  51  thread 0 → rm 0    xa_recover             waits
- 52  rm 0 → thread 0    xa_recover             XA_OK         in doubt here: c, d
- 53  thread 0 ← rm 0    xa_recover             XA_OK
+ 52  rm 0 → thread 0    xa_recover             2             in doubt here: c, d
+ 53  thread 0 ← rm 0    xa_recover             2
  54  thread 0 → rm 0    xa_recover             waits
- 55  rm 0 → thread 0    xa_recover             XA_OK         in doubt here: a, c, d
- 56  thread 0 ← rm 0    xa_recover             XA_OK
+ 55  rm 0 → thread 0    xa_recover             3             in doubt here: a, c, d
+ 56  thread 0 ← rm 0    xa_recover             3
 
       a at rm 0        prepared: it waits to be told how it ends
       b at rm 0        committed

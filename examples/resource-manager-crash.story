@@ -34,11 +34,11 @@
  34  rm 1 → thread 0    xa_open                XA_OK
  35  thread 0 ← rm 1    xa_open                XA_OK
  36  manager → rm 1     xa_recover             waits
- 37  rm 1 → thread 0    xa_recover             XA_OK         in doubt here: a
- 38  thread 0 ← rm 1    xa_recover             XA_OK
+ 37  rm 1 → manager     xa_recover             1             in doubt here: a
+ 38  manager ← rm 1     xa_recover             1
  39  manager → rm 1     resolve                1 call        each listed branch: commit with a row, rollback without
- 40  rm 1 → thread 0    xa_commit a            XA_OK         committed: its transaction has a row in the log
- 41  thread 0 ← rm 1    xa_commit a            XA_OK         acknowledged: the row waits for no more
+ 40  rm 1 → manager     xa_commit a            XA_OK         committed: its transaction has a row in the log
+ 41  manager ← rm 1     xa_commit a            XA_OK         acknowledged: the row waits for no more
  42  manager            done a                 done          the row leaves the log
 
       a at rm 0        committed

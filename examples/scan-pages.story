@@ -52,21 +52,21 @@
  52  rm 0 → thread 0    xa_prepare e           XA_OK         prepared
  53  thread 0 ← rm 0    xa_prepare e           XA_OK         votes yes
  54  thread 0 → rm 0    xa_recover             waits
- 55  rm 0 → thread 0    xa_recover             XA_OK         in doubt here: a, b
- 56  thread 0 ← rm 0    xa_recover             XA_OK
+ 55  rm 0 → thread 0    xa_recover             2             in doubt here: a, b
+ 56  thread 0 ← rm 0    xa_recover             2
  57  manager → rm 0     resolve                0 calls
  58  thread 0 → rm 0    xa_recover             waits
- 59  rm 0 → thread 0    xa_recover             XA_OK         in doubt here: c, d
- 60  thread 0 ← rm 0    xa_recover             XA_OK
+ 59  rm 0 → thread 0    xa_recover             2             in doubt here: c, d
+ 60  thread 0 ← rm 0    xa_recover             2
  61  thread 0 → rm 0    xa_recover             waits
- 62  rm 0 → thread 0    xa_recover             XA_OK         in doubt here: e
- 63  thread 0 ← rm 0    xa_recover             XA_OK
+ 62  rm 0 → thread 0    xa_recover             1             in doubt here: e
+ 63  thread 0 ← rm 0    xa_recover             1
  64  thread 0 → rm 0    xa_recover             waits
  65  rm 0 → thread 0    xa_recover             XAER_INVAL
  66  thread 0 ← rm 0    xa_recover             XAER_INVAL
  67  thread 0 → rm 0    xa_recover             waits
- 68  rm 0 → thread 0    xa_recover             XA_OK         nothing is in doubt here
- 69  thread 0 ← rm 0    xa_recover             XA_OK
+ 68  rm 0 → thread 0    xa_recover             0             nothing is in doubt here
+ 69  thread 0 ← rm 0    xa_recover             0
  70  thread 0 → rm 0    xa_recover             waits
  71  rm 0 → thread 0    xa_recover             XAER_INVAL
  72  thread 0 ← rm 0    xa_recover             XAER_INVAL

@@ -1,13 +1,16 @@
-//! The calls and answers between the lifelines, and what is told of other events.
+//! The calls and answers between the lifelines, and what the manager does to its log.
 
 use crate::canvas::{Canvas, Point};
-use crate::lanes::{Lanes, y};
-use std::alloc::Global;
-use xa_base::{Memory, Part, Reply, Step};
-use xa_story::{Line, Party, Sides, Waiting};
+use crate::classes::Stroke;
+use crate::columns::Lifeline;
+use crate::labels::first_of;
+use crate::layout::Layout;
+use crate::run::Run;
+use xa_base::{Event, Memory, Part, Reply, Step};
+use xa_story::{Line, LogChange, Party, Waiting};
 
 /// Where something that waits begins, and where it is to arrive.
-fn ends_of(item: &Waiting) -> (Party, Party) {
+pub fn ends_of(item: &Waiting) -> (Party, Party) {
     if item.is_answer {
         (Party::Rm(item.rm), item.asker)
     } else {
@@ -15,174 +18,91 @@ fn ends_of(item: &Waiting) -> (Party, Party) {
     }
 }
 
-/// A place beside the end of an arrow, on the side from which it comes.
-fn beside(lanes: &Lanes, from: Party, to: Point) -> (&'static str, Point) {
-    let y = to.y.saturating_sub(10);
-    if lanes.x(from) < to.x {
-        let x = to.x.saturating_sub(10);
-        ("before", Point { x, y })
-    } else {
-        let x = to.x.saturating_add(10);
-        ("behind", Point { x, y })
-    }
-}
-
 /// Draws a call or an answer that arrives at an event.
-fn draw_arrow(
+fn draw_arrival(
     canvas: &mut Canvas,
-    lanes: &Lanes,
+    layout: &Layout,
     item: &Waiting,
-    line: &Line,
+    number: usize,
 ) -> Result<(), Memory> {
     let (from, to) = ends_of(item);
-    let start = lanes.at(from, item.since);
-    let end = lanes.at(to, line.number);
-    let (class, text) = if item.is_answer {
-        ("answer", line.reply.as_str())
+    let stroke = if item.is_answer {
+        Stroke::Answer
     } else {
-        ("call", line.asked.as_str())
+        Stroke::Call
     };
-    canvas.arrow(class, start, end)?;
-    let (place, at) = beside(lanes, from, end);
-    canvas.write(place, at, text)
+    canvas.arrow(stroke, layout.at(from, item.since), layout.at(to, number))
 }
 
-/// A place on the way from one lifeline to another: an answer comes less far than a call, so that both can be read.
-fn part_way(from: usize, to: usize, is_answer: bool) -> usize {
-    let middle = from.saturating_add(to) / 2;
-    if is_answer {
-        from.saturating_add(middle) / 2
-    } else {
-        middle
-    }
-}
-
-/// Draws a call or an answer that doesn't arrive: it ends on its way, at a height before the event that loses it.
-fn draw_lost(
+/// Draws that the manager writes to its log, or takes a row from it.
+fn draw_log_change(
     canvas: &mut Canvas,
-    alloc: Global,
-    lanes: &Lanes,
-    item: &Waiting,
-    lines: &[Line],
-    foot: usize,
+    layout: &Layout,
+    change: LogChange,
+    number: usize,
 ) -> Result<(), Memory> {
-    let (from, to) = ends_of(item);
-    let start = lanes.at(from, item.since);
+    let log = layout.on(Lifeline::Log, number);
+    let before = match change {
+        LogChange::Recorded(_) => 18,
+        LogChange::RowAdded(_) | LogChange::RowGone(_) => 5,
+    };
     let end = Point {
-        x: part_way(start.x, lanes.x(to), item.is_answer),
-        y: foot.max(start.y),
+        x: log.x.saturating_sub(before),
+        y: log.y,
     };
-    canvas.line("lost-way", start, end)?;
-    canvas.cross(end)?;
-    if let Some(line) = lines.get(item.since.saturating_sub(1)) {
-        let what = if item.is_answer {
-            line.reply.as_str()
-        } else {
-            line.asked.as_str()
-        };
-        let text = format!(in alloc; "lost: {what}")?;
-        let at = Point {
-            x: end.x.saturating_add(9),
-            y: end.y,
-        };
-        canvas.write("behind", at, text.as_str())?;
-    }
-    Ok(())
+    canvas.arrow(Stroke::Call, layout.at(Party::Manager, number), end)
 }
 
-/// Draws all that an event takes, hears or loses.
-pub fn draw_ways(
+/// Draws that the line between two parts breaks.
+fn draw_break(
     canvas: &mut Canvas,
-    alloc: Global,
-    lanes: &Lanes,
-    lines: &[Line],
-    line: &Line,
+    layout: &Layout,
+    thread: u32,
+    rm: u32,
+    number: usize,
 ) -> Result<(), Memory> {
-    if let Some(item) = line.came {
-        draw_arrow(canvas, lanes, &item, line)?;
-    }
-    for (i, item) in line.lost.iter().enumerate() {
-        // Each ends a little higher than the one before it, so that their texts can be read.
-        let foot = y(line.number).saturating_sub(i.saturating_mul(13).saturating_add(6));
-        draw_lost(canvas, alloc, lanes, item, lines, foot)?;
-    }
-    Ok(())
+    let start = layout.at(Party::Thread(thread), number);
+    let end = layout.at(Party::Rm(rm), number);
+    canvas.line(Stroke::Stray, start, end)?;
+    canvas.cross(Point {
+        x: start.x.saturating_add(end.x) / 2,
+        y: start.y,
+    })
 }
 
-/// Draws what still waits at the end.
-pub fn draw_waiting(canvas: &mut Canvas, lanes: &Lanes, waiting: &[Waiting]) -> Result<(), Memory> {
-    for item in waiting {
-        let (from, to) = ends_of(item);
-        let start = lanes.at(from, item.since);
-        let end = Point {
-            x: start.x.saturating_add(lanes.x(to)) / 2,
-            y: lanes.foot(),
-        };
-        canvas.line("lost-way", start, end)?;
-        canvas.write("behind", end, "waits")?;
-    }
-    Ok(())
-}
-
-/// The first of those who take part.
-fn first_of(sides: Sides) -> Party {
-    match sides {
-        Sides::Alone(party)
-        | Sides::Sends(party, _)
-        | Sides::Hears(party, _)
-        | Sides::Between(party, _) => party,
-    }
-}
-
-/// Tells of an event at the lifeline of the first that takes part.
-fn tell(
+/// Draws what an event does itself.
+fn draw_own(
     canvas: &mut Canvas,
-    lanes: &Lanes,
+    layout: &Layout,
     line: &Line,
-    class: &str,
-    text: &str,
+    event: &Event,
 ) -> Result<(), Memory> {
-    let at = lanes.at(first_of(line.sides), line.number);
-    let at = Point {
-        x: at.x.saturating_add(8),
-        y: at.y.saturating_sub(4),
-    };
-    canvas.write(class, at, text)
-}
-
-/// Draws the mark of an event that isn't an arrow, and tells of it.
-pub fn draw_note(
-    canvas: &mut Canvas,
-    alloc: Global,
-    lanes: &Lanes,
-    line: &Line,
-    step: &Step,
-    reply: &Reply,
-) -> Result<(), Memory> {
-    let asked = line.asked.as_str();
-    let at = lanes.at(first_of(line.sides), line.number);
-    if let Reply::Refused(_) = reply {
-        canvas.cross(at)?;
-        let reply = line.reply.as_str();
-        let text = format!(in alloc; "{asked}: {reply} {change}", change = line.change.as_str())?;
-        return tell(canvas, lanes, line, "refused", text.as_str());
-    }
-    match step {
-        Step::Crash(Part::Line { .. }) => tell(canvas, lanes, line, "crash", "the line breaks"),
-        Step::Crash(_) => {
-            canvas.cross(at)?;
-            tell(canvas, lanes, line, "crash", asked)
+    let number = line.number;
+    match (&event.step, &event.reply) {
+        (_, Reply::Refused(_)) => canvas.cross(layout.at(first_of(line.sides), number)),
+        (Step::Begin { thread }, _) => canvas.arrow(
+            Stroke::Call,
+            layout.at(Party::Thread(*thread), number),
+            layout.at(Party::Manager, number),
+        ),
+        (Step::Crash(Part::Line { thread, rm }), _) => {
+            draw_break(canvas, layout, *thread, *rm, number)
         }
-        Step::Hear { .. } if line.came.is_none() => {
-            tell(canvas, lanes, line, "note", line.change.as_str())
-        }
-        Step::Take { .. }
-        | Step::Hear { .. }
-        | Step::Issue { .. }
-        | Step::Recover { .. }
-        | Step::Done { .. }
-        | Step::Heuristic { .. } => Ok(()),
-        Step::Decide { .. } | Step::Settle { .. } if line.log.is_some() => Ok(()),
-        _ => tell(canvas, lanes, line, "note", asked),
+        (Step::Crash(_), _) => canvas.cross(layout.at(first_of(line.sides), number)),
+        _ => Ok(()),
     }
+}
+
+/// Draws the arrows that end at each event.
+pub fn draw_arrows(canvas: &mut Canvas, layout: &Layout, run: &Run) -> Result<(), Memory> {
+    for (line, event) in run.lines.iter().zip(run.events) {
+        if let Some(item) = line.came {
+            draw_arrival(canvas, layout, &item, line.number)?;
+        }
+        if let Some(change) = line.log {
+            draw_log_change(canvas, layout, change, line.number)?;
+        }
+        draw_own(canvas, layout, line, event)?;
+    }
+    Ok(())
 }

@@ -1,5 +1,6 @@
 //! The elements of a picture.
 
+use crate::classes::{Fill, Lettering, Stroke};
 use std::alloc::Global;
 use xa_base::Memory;
 
@@ -8,6 +9,13 @@ use xa_base::Memory;
 pub struct Point {
     pub x: usize,
     pub y: usize,
+}
+
+/// How large something is, in pixels.
+#[derive(Clone, Copy)]
+pub struct Size {
+    pub width: usize,
+    pub height: usize,
 }
 
 /// A picture that is being drawn: what is drawn later lies above.
@@ -31,9 +39,10 @@ impl Canvas {
         self.text.as_str()
     }
 
-    /// A line of a class.
-    pub fn line(&mut self, class: &str, from: Point, to: Point) -> Result<(), Memory> {
+    /// A line.
+    pub fn line(&mut self, stroke: Stroke, from: Point, to: Point) -> Result<(), Memory> {
         let (x1, y1, x2, y2) = (from.x, from.y, to.x, to.y);
+        let class = stroke.name();
         let line = format!(in self.alloc;
             "<line class=\"{class}\" x1=\"{x1}\" y1=\"{y1}\" x2=\"{x2}\" y2=\"{y2}\"/>\n"
         )?;
@@ -41,8 +50,9 @@ impl Canvas {
     }
 
     /// A line that ends with the head of an arrow.
-    pub fn arrow(&mut self, class: &str, from: Point, to: Point) -> Result<(), Memory> {
+    pub fn arrow(&mut self, stroke: Stroke, from: Point, to: Point) -> Result<(), Memory> {
         let (x1, y1, x2, y2) = (from.x, from.y, to.x, to.y);
+        let class = stroke.name();
         let line = format!(in self.alloc;
             "<line class=\"{class}\" marker-end=\"url(#head)\" x1=\"{x1}\" y1=\"{y1}\" \
             x2=\"{x2}\" y2=\"{y2}\"/>\n"
@@ -51,14 +61,10 @@ impl Canvas {
     }
 
     /// A bar with its upper left corner at a place.
-    pub fn bar(
-        &mut self,
-        class: &str,
-        at: Point,
-        width: usize,
-        height: usize,
-    ) -> Result<(), Memory> {
+    pub fn bar(&mut self, fill: Fill, at: Point, size: Size) -> Result<(), Memory> {
         let (x, y) = (at.x, at.y);
+        let Size { width, height } = size;
+        let class = fill.name();
         let bar = format!(in self.alloc;
             "<rect class=\"{class}\" x=\"{x}\" y=\"{y}\" width=\"{width}\" \
             height=\"{height}\"/>\n"
@@ -66,9 +72,10 @@ impl Canvas {
         Ok(self.text.push_str(bar.as_str())?)
     }
 
-    /// A text of a class, whose place the class says.
-    pub fn write(&mut self, class: &str, at: Point, content: &str) -> Result<(), Memory> {
-        let (x, y) = (at.x, at.y.saturating_add(4));
+    /// A text whose base line begins at a place, or ends there or has it in its middle, as its class says.
+    pub fn write(&mut self, lettering: Lettering, at: Point, content: &str) -> Result<(), Memory> {
+        let (x, y) = (at.x, at.y);
+        let class = lettering.name();
         let text = format!(in self.alloc;
             "<text class=\"{class}\" x=\"{x}\" y=\"{y}\">{content}</text>\n"
         )?;
@@ -82,12 +89,12 @@ impl Canvas {
         let top = at.y.saturating_sub(5);
         let foot = at.y.saturating_add(5);
         self.line(
-            "cross",
+            Stroke::Cross,
             Point { x: left, y: top },
             Point { x: right, y: foot },
         )?;
         self.line(
-            "cross",
+            Stroke::Cross,
             Point { x: left, y: foot },
             Point { x: right, y: top },
         )

@@ -1,15 +1,19 @@
 //! A scenario file is run, and drawn.
 
-ghost use Rattle.std.specs.Prelude.{◌≡◌, Err, IsErr};
+ghost use Rattle.std.specs.Prelude.{◌≡◌, ◌≢◌, Err, IsErr, IsOk};
 ghost use Rattle.std.specs.Io.KnownBytes.{Keeps};
 ghost use Rattle.xa_display.specs.declared.picture.ChartFault.TheVariants.{Run, TooLong};
+ghost use Rattle.xa_display.specs.Shown.{HasLongRun, HasShortRun};
+ghost use Rattle.xa_files.specs.Reading.{Explains};
+ghost use Rattle.xa_files.specs.declared.fault.RunFault.{RunFault};
 ghost use Rattle.xa_files.specs.declared.fault.RunFault.TheVariants as Faults;
+ghost use Rattle.xa_files.specs.declared.fault.RunFault.TheVariants.{Work};
 ghost use Rattle.xa_scenario.specs.Scenarios.{scenario_of};
 
 use std::alloc::Global;
 use std::io::Write;
 use xa_base::{Event, Memory};
-use xa_chart::chart_text;
+use xa_chart::{Run, chart_text};
 use xa_files::{RunFault, write_text};
 use xa_log::DecisionLog;
 use xa_scenario::{NamedScenario, read_named_scenario, system_after};
@@ -53,6 +57,11 @@ pub fn draw_scenario<L: DecisionLog + Drop, W: Write>(
     log: L,
     out: &mut W,
 ) -> Result<(), ChartFault>
+    ensures fault { (e : RunFault) → result ≡ Err (Run e) → Explains e (scenario_of text.now) }
+    ensures work { result ≢ Err (Run Work) }
+    // What is drawn is a run of at most 200 events, and TooLong comes only for one of more.
+    ensures short { IsOk result → HasShortRun text.now 200 }
+    ensures longer { result ≡ Err TooLong → HasLongRun text.now 200 }
     // A file that is no scenario writes nothing, and nor does a run that is too long.
     ensures unwritten { IsErr (scenario_of text.now)
         → Keeps (W.contents out.old) (W.contents out.new) }
@@ -77,7 +86,13 @@ fn picture_of(
 ) -> Result<String, ChartFault> {
     let mut scene = Scene::new(alloc, &named.names);
     let lines = lines_of(alloc, &mut scene, events)?;
-    let (threads, rms) = (named.scenario.threads, named.scenario.rms);
-    let picture = chart_text(alloc, threads, rms, &scene, &lines, events)?;
-    Ok(picture)
+    let run = Run {
+        alloc,
+        threads: named.scenario.threads,
+        rms: named.scenario.rms,
+        scene: &scene,
+        lines: &lines,
+        events,
+    };
+    Ok(chart_text(&run)?)
 }

@@ -1,2 +1,3 @@
 pub mod Parties
 pub mod Stories
+pub mod Texts

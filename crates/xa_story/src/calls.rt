@@ -8,7 +8,7 @@ use crate::party::Party;
 use crate::scene::Scene;
 use crate::standings::Move;
 use crate::waits::Waiting;
-use crate::words::{answer_name, standing_text};
+use crate::words::{answer_text, standing_text};
 use xa_base::{Answer, Call, Code, Gtrid, Memory, Step, Xid};
 
 /// The line of a step: its thread and its resource manager. A recovery has that of thread 0.
@@ -114,7 +114,8 @@ impl<'a> Scene<'a> {
         })?;
         let change = self.standings.answer(call, answer)?;
         let told = self.answered_text(call, answer, change, asker)?;
-        let mut effect = plain_effect(self.alloc, answer_name(answer), told.as_str())?;
+        let reply = answer_text(self.alloc, answer)?;
+        let mut effect = plain_effect(self.alloc, reply.as_str(), told.as_str())?;
         effect.came = came;
         if let Some(change) = change {
             effect.moves.push(change)?;
@@ -165,7 +166,8 @@ impl<'a> Scene<'a> {
         let meaning = meaning_of(call, answer);
         self.ledger.hear(meaning)?;
         let change = self.meaning_text(meaning)?;
-        let mut effect = plain_effect(self.alloc, answer_name(answer), change.as_str())?;
+        let reply = answer_text(self.alloc, answer)?;
+        let mut effect = plain_effect(self.alloc, reply.as_str(), change.as_str())?;
         effect.came = came;
         if let Meaning::Records(branch) = meaning {
             effect.log = Some(LogChange::Recorded(branch));

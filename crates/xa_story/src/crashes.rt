@@ -97,15 +97,15 @@ impl<'a> Scene<'a> {
 
     /// A step is refused.
     pub(crate) fn refuse(&mut self, step: &Step, refusal: Refusal) -> Result<Effect, Memory> {
-        if refusal == Refusal::LogFault {
-            self.ledger.crash();
-            let _lost = self.waits.lose(self.alloc, Part::Manager)?;
-            let _branches = self.standings.lose(self.alloc, Part::Manager)?;
-        }
         let number = refusal.number();
         let name = refusal.name();
         let reply = format!(in self.alloc; "refused {number} {name}:")?;
         let mut effect = plain_effect(self.alloc, reply.as_str(), refusal_text(step, refusal))?;
+        if refusal == Refusal::LogFault {
+            self.ledger.crash();
+            effect.lost = self.waits.lose(self.alloc, Part::Manager)?;
+            effect.moves = self.standings.lose(self.alloc, Part::Manager)?;
+        }
         if let (Refusal::Busy, Step::Done { gtrid }) = (refusal, step) {
             let left = self.ledger.waits_for(self.alloc, *gtrid)?;
             effect.change = self.unsettled_text(&left, refusal_text(step, refusal))?;

@@ -1,6 +1,7 @@
 //! The names that XA and the protocol give to calls, codes and states.
 
-use xa_base::{Answer, Call, Code, How, RbCode, Standing, Vote};
+use std::alloc::Global;
+use xa_base::{Answer, Call, Code, How, Memory, RbCode, Standing, Vote};
 
 /// The name of a call, with those flags of it that change what it does (XA, chapter 5).
 pub fn call_name(call: &Call) -> &'static str {
@@ -67,11 +68,14 @@ pub fn code_name(code: Code) -> &'static str {
     }
 }
 
-/// The name of an answer. A page counts as one that went well.
-pub fn answer_name(answer: &Answer) -> &'static str {
+/// An answer, as XA's calls return it: a code by its name, and what an xa_recover lists by its count (XA, chapter 5).
+pub fn answer_text(alloc: Global, answer: &Answer) -> Result<String, Memory> {
     match answer {
-        Answer::Ret(code) => code_name(*code),
-        Answer::Page(_) => "XA_OK",
+        Answer::Ret(code) => Ok(String::from_str(alloc, code_name(*code))?),
+        Answer::Page(page) => {
+            let count = page.xids().len();
+            Ok(format!(in alloc; "{count}")?)
+        }
     }
 }
 
