@@ -156,13 +156,8 @@ pub(crate) fn rows<L: DecisionLog>(log: &mut L, refused: &mut u64) -> Result<Log
     log.rows()
 }
 
-/// Runs each kind of call at an empty log of no incarnation. It takes the log, since a function that lends one in tables takes far
-/// longer to prove.
-pub(crate) fn run_each_call<L: DecisionLog + Drop>(
-    rt: &impl Abort,
-    mut log: L,
-) -> Result<(), Fail> {
-    let log = &mut log;
+/// Runs each kind of call at an empty log of no incarnation.
+pub(crate) fn run_each_call<L: DecisionLog>(rt: &impl Abort, log: &mut L) -> Result<(), Fail> {
     let refused = &mut 0;
     run_decisions(rt, log, refused)?;
     run_heuristics(rt, log, refused)?;

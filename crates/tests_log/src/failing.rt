@@ -51,7 +51,7 @@ fn answers_each_call(rt: HostRuntime) -> Result<(), Fail> {
         at: 3,
         made: true,
     };
-    run_each_call(&rt, FailLog::new(MemLog::new(rt.alloc()), plan))
+    run_each_call(&rt, &mut FailLog::new(MemLog::new(rt.alloc()), plan))
 }
 
 #[test]

@@ -93,12 +93,7 @@ fn take_lists<L: DecisionLog>(rt: &impl Abort, log: &mut L, refused: &mut u64) -
 }
 
 /// Writes lists at an empty log.
-fn write_lists<L: DecisionLog + Drop>(
-    rt: &impl Abort,
-    mut log: L,
-    alloc: Global,
-) -> Result<(), Fail> {
-    let log = &mut log;
+fn write_lists<L: DecisionLog>(rt: &impl Abort, log: &mut L, alloc: Global) -> Result<(), Fail> {
     let refused = &mut 0;
     assert_eq!(rt; commit(log, refused, SECOND, &[SECOND_A])?, Logged::New);
     let answers = write_four(log, refused, alloc)?;
@@ -118,12 +113,12 @@ fn write_lists<L: DecisionLog + Drop>(
 
 #[test]
 fn a_log_in_memory_writes_lists(rt: HostRuntime) -> Result<(), Fail> {
-    write_lists(&rt, MemLog::new(rt.alloc()), rt.alloc())
+    write_lists(&rt, &mut MemLog::new(rt.alloc()), rt.alloc())
 }
 
 #[test]
 fn a_log_in_tables_writes_lists(rt: HostRuntime) -> Result<(), Fail> {
-    write_lists(&rt, new_log(rt.alloc())?, rt.alloc())
+    write_lists(&rt, &mut new_log(rt.alloc())?, rt.alloc())
 }
 
 #[test]
@@ -131,8 +126,8 @@ fn a_log_that_fails_by_a_plan_writes_lists(rt: HostRuntime) -> Result<(), Fail> 
     let plan = FailPlan::Every {
         kind: LogCall::Bump,
     };
-    let log = FailLog::new(MemLog::new(rt.alloc()), plan);
-    write_lists(&rt, log, rt.alloc())
+    let mut log = FailLog::new(MemLog::new(rt.alloc()), plan);
+    write_lists(&rt, &mut log, rt.alloc())
 }
 
 /// Whether FIRST and THIRD are there after a list whose call fails, by the plan, with its change made or not.

@@ -10,7 +10,7 @@ use xa_log::{Command, LogFault, MemLog, Told, run_commands};
 
 #[test]
 fn answers_each_call(rt: HostRuntime) -> Result<(), Fail> {
-    run_each_call(&rt, MemLog::new(rt.alloc()))
+    run_each_call(&rt, &mut MemLog::new(rt.alloc()))
 }
 
 /// What commands are told that change nothing. They are made again after one refusal of memory.

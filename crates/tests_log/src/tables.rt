@@ -4,7 +4,7 @@ use crate::commands::{FIRST, FIRST_A, run_each_call};
 use sqlite::{Alter, MemStore};
 use std::alloc::Global;
 use std::test::Fail;
-use tests_disks::{EMPTY, Seen, look};
+use tests_disks::{EMPTY, look};
 use xa_log::{DecisionLog, LogFault};
 use xa_sql_log::SqlLog;
 
@@ -27,7 +27,7 @@ fn after<S: Alter + Drop>(log: SqlLog<S>, sql: &str) -> Result<SqlLog<S>, LogFau
 
 #[test]
 fn answers_each_call(rt: HostRuntime) -> Result<(), Fail> {
-    run_each_call(&rt, new_log(rt.alloc())?)
+    run_each_call(&rt, &mut new_log(rt.alloc())?)
 }
 
 /// What a log of the last incarnation but one answers to three calls of `bump`.
@@ -61,14 +61,9 @@ fn a_number_that_does_not_fit_is_told(rt: HostRuntime) -> Result<(), Fail> {
     Ok(())
 }
 
-/// What the tables of a log show.
-fn seen_in<S: Alter + Drop>(log: SqlLog<S>) -> Seen {
-    look(&mut log.into_connection())
-}
-
 #[test]
 fn a_log_in_memory_is_empty(rt: HostRuntime) -> Result<(), Fail> {
     let log = SqlLog::open_in_memory(rt.alloc())?;
-    assert_eq!(rt; seen_in(log), EMPTY);
+    assert_eq!(rt; look(&mut log.into_connection()), EMPTY);
     Ok(())
 }
