@@ -1,5 +1,5 @@
-//! How many identifiers a second the map finds on which the branches of a resource manager stand, among few and among many. A step of a
-//! system looks some up, so this shows how much of a step's time grows with what is in the map.
+//! How many identifiers a second the ordered map finds on which the manager's transactions and branches stand, among few and among many.
+//! A step of a system looks some up, so this shows how much of a step's time grows with what is in the map.
 
 use std::alloc::Global;
 use std::collections::BTreeMap;
