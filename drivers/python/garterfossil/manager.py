@@ -122,6 +122,8 @@ class TransactionManager:
         self._lock = threading.Lock()
         self._open = _Open()
         self._session: Optional[Session] = None
+        # When a session was last tried in vain, and why.
+        self._tried = 0.0, ""
         self._is_closed = False
         self._outcomes = Outcomes()
         self._counts = Counts()
@@ -320,12 +322,24 @@ class TransactionManager:
         return XaError(f"the transaction manager was made in process {self._process}: make one after the fork, in each process")
 
     def _current(self, is_first: bool = False) -> Session:
-        """The session that is up."""
+        """The session that is up. Where another thread has tried in vain to begin one since this was asked for, it isn't tried again."""
         if os.getpid() != self._process:
             raise self._forked()
+        asked = time.monotonic()
         with self._lock:
             if self._is_closed:
                 raise CoordinatorGone("the transaction manager is closed")
             if self._session is None or self._session.coordinator.is_gone:
-                self._session = Session(self._settings, self._outcomes, is_first)
+                tried, why = self._tried
+                if tried > asked:
+                    raise CoordinatorGone(why)
+                self._session = self._new_session(is_first)
             return self._session
+
+    def _new_session(self, is_first: bool) -> Session:
+        begun = time.monotonic()
+        try:
+            return Session(self._settings, self._outcomes, is_first)
+        except CoordinatorGone as gone:
+            self._tried = begun, str(gone)
+            raise

@@ -3,6 +3,7 @@
 import os
 import sqlite3
 import tempfile
+import time
 
 from garterfossil.adapters.base import Connection, Database, Place, Result
 from garterfossil.errors import ConnectionLost
@@ -17,6 +18,8 @@ class FakeMirror(Database):
     def __init__(self, folder=None):
         self.path = os.path.join(folder or tempfile.mkdtemp(), "mirror.db")
         self.is_up = True
+        #: How long a connection takes.
+        self.seconds = 0.0
         #: The first word of a statement that is done, and whose answer is lost.
         self.loses = None
         #: What the next statement that begins so is refused with.
@@ -26,6 +29,7 @@ class FakeMirror(Database):
         self.statements = []
 
     def connect(self, place=Place()):
+        time.sleep(self.seconds)
         if not self.is_up:
             raise ConnectionLost("the mirror is down")
         return FakeMirrorConnection(self, place)

@@ -4,6 +4,8 @@ import json
 import os
 import shutil
 import sqlite3
+import time
+from concurrent.futures import ThreadPoolExecutor
 from unittest import mock
 
 from garterfossil import OutcomeUnknown, Outcome, SetupError, TransactionManager
@@ -100,6 +102,17 @@ class Mirrors(Case):
         with self.assertRaisesRegex(CoordinatorGone, "lock timeout"):
             self.manager()
         self.manager().close()
+
+    def test_threads_do_not_wait_for_it_one_after_the_other(self):
+        with self.manager() as xa:
+            xa._session.coordinator.kill()
+            self.mirror.is_up, self.mirror.seconds = False, 1.0
+            begun = time.monotonic()
+            with ThreadPoolExecutor(8) as threads:
+                for done in [threads.submit(self.move, xa) for _ in range(8)]:
+                    self.assertIsInstance(done.exception(), CoordinatorGone)
+            self.assertLess(time.monotonic() - begun, 4)
+            self.mirror.is_up, self.mirror.seconds = True, 0
 
     def test_an_older_log_than_it_is_refused(self):
         with self.manager() as xa:
