@@ -1,8 +1,5 @@
 //! Where the lifelines lie, from left to right, so that no text lies on another.
 
-ghost use Rattle.std.specs.Prelude.{◌+◌, ◌<◌, ◌^◌, IfOk};
-ghost use Rattle.xa_chart.specs.Columns.{AreApart, room_of};
-
 use crate::classes::Lettering;
 use std::alloc::Global;
 use xa_base::Memory;
@@ -54,22 +51,6 @@ pub fn head_text(alloc: Global, lifeline: Lifeline) -> Result<String, Memory> {
         Lifeline::Part(party) => party_text(alloc, party),
         Lifeline::Log => Ok(String::from_str(alloc, "log")?),
     }
-}
-
-/// These columns, each at its place: right of the room of the one before it.
-fn placed(alloc: Global, columns: &[Column]) -> Result<Vec<Column>, Memory>
-    // No two reach into each other, in a picture whose width is a number of the machine.
-    ensures apart { IfOk result (λ placed. 40 + room_of 14 columns.now < 2 ^ 64
-        → AreApart 40 placed.items) }
-{
-    let mut placed = Vec::new(alloc);
-    let mut end = LEFT;
-    for column in columns {
-        let x = end.saturating_add(GAP).saturating_add(column.left);
-        placed.push(Column { x, ..*column })?;
-        end = x.saturating_add(column.bars).saturating_add(column.right);
-    }
-    Ok(placed)
 }
 
 /// The columns of a picture, from left to right.
@@ -151,9 +132,15 @@ impl Columns {
     }
 
     /// Gives each column its place, right of the room of the one before it.
-    pub fn place(&mut self, alloc: Global) -> Result<(), Memory> {
-        self.columns = placed(alloc, &self.columns)?;
-        Ok(())
+    pub fn place(&mut self) {
+        let mut end = LEFT;
+        for column in self.columns.iter_mut() {
+            column.x = end.saturating_add(GAP).saturating_add(column.left);
+            end = column
+                .x
+                .saturating_add(column.bars)
+                .saturating_add(column.right);
+        }
     }
 
     /// Where the room of the last one ends.

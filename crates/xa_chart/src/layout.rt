@@ -42,7 +42,7 @@ impl Layout {
         for span in spans {
             columns.hold(span.lifeline, span.place.saturating_add(1));
         }
-        columns.place(run.alloc)?;
+        columns.place();
         let width = columns.end().saturating_add(notes_width(notes)).max(LEAST);
         let timeline = Timeline::new(run.alloc, notes)?;
         Ok(Layout {

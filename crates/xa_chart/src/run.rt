@@ -1,13 +1,11 @@
 //! What a picture is made of.
 
-ghost use Rattle.std.specs.Prelude.{◌≡◌, map};
-ghost use Rattle.xa_story.specs.Stories.{heading, headings};
-
 use std::alloc::Global;
 use xa_base::Event;
 use xa_story::{Line, Party, Scene};
 
 /// A run that is drawn: its events, the line that the story has of each, and the scene after them.
+#[derive(Clone, Copy)]
 pub struct Run<'a, 'b> {
     pub alloc: Global,
     pub threads: u32,
@@ -15,8 +13,6 @@ pub struct Run<'a, 'b> {
     pub scene: &'a Scene<'b>,
     pub lines: &'a [Line],
     pub events: &'a [Event],
-    /// There is a line for each event, in turn, with its number and those who take part in its step.
-    pub ghost told: { map heading lines.now ≡ headings 1 events.now },
 }
 
 impl<'a, 'b> Run<'a, 'b> {

@@ -1,8 +1,7 @@
 //! A scenario file is run, and its story is told.
 
-ghost use Rattle.std.specs.Prelude.{◌≡◌, ◌≢◌, Err, IfErr, IsErr, OnOk};
+ghost use Rattle.std.specs.Prelude.{◌≡◌, ◌≢◌, Err, IfErr, IsErr};
 ghost use Rattle.std.specs.Io.KnownBytes.{Keeps};
-ghost use Rattle.xa_display.specs.Shown.{TellsRun};
 ghost use Rattle.xa_files.specs.Reading.{EndsWith, Explains};
 ghost use Rattle.xa_files.specs.declared.fault.RunFault.{RunFault};
 ghost use Rattle.xa_files.specs.declared.fault.RunFault.TheVariants.{Work};
@@ -27,7 +26,6 @@ pub fn explain_scenario<L: DecisionLog + Drop, W: Write>(
     log: L,
     out: &mut W,
 ) -> Result<(), RunFault>
-    ensures told { OnOk result (TellsRun text.now (W.contents out.old) (W.contents out.new)) }
     ensures fault { IfErr result (λ e. Explains e (scenario_of text.now)) }
     ensures work { IfErr result (λ e. e ≢ Work) }
     ensures refused { (e : RunFault) → scenario_of text.now ≡ Err e → EndsWith e result }

@@ -1,13 +1,9 @@
 //! A scenario file is run, and drawn.
 
-ghost use Rattle.std.specs.Prelude.{◌≡◌, ◌≢◌, Err, IsErr, IsOk};
+ghost use Rattle.std.specs.Prelude.{◌≡◌, Err, IsErr};
 ghost use Rattle.std.specs.Io.KnownBytes.{Keeps};
 ghost use Rattle.xa_display.specs.declared.picture.ChartFault.TheVariants.{Run, TooLong};
-ghost use Rattle.xa_display.specs.Shown.{HasLongRun, HasShortRun};
-ghost use Rattle.xa_files.specs.Reading.{Explains};
-ghost use Rattle.xa_files.specs.declared.fault.RunFault.{RunFault};
 ghost use Rattle.xa_files.specs.declared.fault.RunFault.TheVariants as Faults;
-ghost use Rattle.xa_files.specs.declared.fault.RunFault.TheVariants.{Work};
 ghost use Rattle.xa_scenario.specs.Scenarios.{scenario_of};
 
 use std::alloc::Global;
@@ -57,11 +53,6 @@ pub fn draw_scenario<L: DecisionLog + Drop, W: Write>(
     log: L,
     out: &mut W,
 ) -> Result<(), ChartFault>
-    ensures fault { (e : RunFault) → result ≡ Err (Run e) → Explains e (scenario_of text.now) }
-    ensures work { result ≢ Err (Run Work) }
-    // What is drawn is a run of at most 200 events, and TooLong comes only for one of more.
-    ensures short { IsOk result → HasShortRun text.now 200 }
-    ensures longer { result ≡ Err TooLong → HasLongRun text.now 200 }
     // A file that is no scenario writes nothing, and nor does a run that is too long.
     ensures unwritten { IsErr (scenario_of text.now)
         → Keeps (W.contents out.old) (W.contents out.new) }

@@ -1,9 +1,5 @@
 //! One line of a story.
 
-ghost use Rattle.std.specs.Prelude.{◌≡◌, IfOk};
-ghost use Rattle.std.specs.String.{string_bytes};
-ghost use Rattle.xa_story.specs.Texts.{asked_by, head_text, line_text, rest_text};
-
 use crate::party::{Party, Sides, sides_text};
 use crate::standings::Move;
 use crate::waits::Waiting;
@@ -45,48 +41,28 @@ pub struct Line {
 }
 
 /// Who takes part, as it is told: the answers of a recovery, which wait on the lines of thread 0, go to the manager.
-fn asked_by(sides: Sides, came: Option<Waiting>) -> Sides
-    ensures { result ≡ asked_by sides came }
-{
-    match (sides, came) {
+fn told_sides(line: &Line) -> Sides {
+    match (line.sides, line.came) {
         (Sides::Sends(Party::Rm(rm), _), Some(item)) => Sides::Sends(Party::Rm(rm), item.asker),
         (Sides::Hears(_, rm), Some(item)) => Sides::Hears(item.asker, rm),
         (sides, _) => sides,
     }
 }
 
-/// How a line begins: the number of its event, and who takes part.
-fn head_text(alloc: Global, line: &Line) -> Result<String, Memory>
-    ensures { IfOk result (λ text. string_bytes text ≡ head_text line.now) }
-{
+/// The line as text, without spaces at its end.
+pub fn line_text(alloc: Global, line: &Line) -> Result<String, Memory> {
     let number = line.number;
-    let sides = sides_text(alloc, asked_by(line.sides, line.came))?;
-    Ok(format!(in alloc; "{number:>3}  {sides:<18}")?)
-}
-
-/// How a line goes on: what was asked, what was answered, and what that has changed.
-fn rest_text(alloc: Global, asked: &str, reply: &str, change: &str) -> Result<String, Memory>
-    ensures { IfOk result (λ text. string_bytes text ≡ rest_text asked.now reply.now change.now) }
-{
+    let sides = sides_text(alloc, told_sides(line))?;
+    let asked = line.asked.as_str();
+    let reply = line.reply.as_str();
+    let change = line.change.as_str();
     if !change.is_empty() {
-        return Ok(format!(in alloc; "{asked:<22} {reply:<13} {change}")?);
+        return Ok(format!(in alloc;
+            "{number:>3}  {sides:<18} {asked:<22} {reply:<13} {change}\n"
+        )?);
     }
     if !reply.is_empty() {
-        return Ok(format!(in alloc; "{asked:<22} {reply}")?);
+        return Ok(format!(in alloc; "{number:>3}  {sides:<18} {asked:<22} {reply}\n")?);
     }
-    Ok(String::from_str(alloc, asked)?)
-}
-
-/// The line as text, without spaces at its end.
-pub fn line_text(alloc: Global, line: &Line) -> Result<String, Memory>
-    ensures { IfOk result (λ text. string_bytes text ≡ line_text line.now) }
-{
-    let head = head_text(alloc, line)?;
-    let rest = rest_text(
-        alloc,
-        line.asked.as_str(),
-        line.reply.as_str(),
-        line.change.as_str(),
-    )?;
-    Ok(format!(in alloc; "{head} {rest}\n")?)
+    Ok(format!(in alloc; "{number:>3}  {sides:<18} {asked}\n")?)
 }

