@@ -1,2 +1,1 @@
 pub mod Explanations
-pub mod JobsChecks

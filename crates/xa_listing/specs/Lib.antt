@@ -1,4 +1,3 @@
 pub mod Faults
 pub mod Lines
-pub mod Statements
 pub mod Texts
