@@ -8,7 +8,7 @@ from .machine import BYTES_A_JOB, jobs_for, processors
 
 # Minutes of one processor, from nothing: of the quick part, of all proofs of rt ci with the tests, of the checks that the edits
 # begin with, and of an edit.
-QUICK, PROOFS, SEEDS, EDIT = 10, 130, 85, 8 / 60
+QUICK, PROOFS, SEEDS, EDIT = 12, 190, 85, 8 / 60
 # Minutes that building, the tests and the programs take, whatever is kept.
 PROGRAMS = 5
 
