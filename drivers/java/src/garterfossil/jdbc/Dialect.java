@@ -108,7 +108,6 @@ enum Dialect {
             return numbers(connection, "SELECT GET_LOCK('" + lock(label, slot) + "', 0)").get(0) == 1;
         }
 
-
         /** The number of the connection that holds each lock, or 0. */
         private List<Long> holders(Connection connection, String label) throws SQLException {
             String asked = IntStream.range(0, LOCKS).mapToObj(slot -> "SELECT IS_USED_LOCK('" + lock(label, slot) + "')")
